@@ -1,0 +1,4 @@
+pub mod SpellingLaws
+pub mod ReadingLaws
+pub mod ListLaws
+pub mod WorkedExamples
