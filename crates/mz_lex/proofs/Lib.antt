@@ -1,0 +1,10 @@
+pub mod Runs
+pub mod Names
+pub mod Blanks
+pub mod OneLexeme
+pub mod OtherKinds
+pub mod OneAnswer
+pub mod OneKind
+pub mod SomeNext
+pub mod Lexing
+pub mod MathStrings
