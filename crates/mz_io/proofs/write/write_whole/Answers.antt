@@ -1,0 +1,18 @@
+use Rattle.std.proofs.Common.{◌∙◌, arith}
+use Rattle.mz_io.proofs.Written.{written_more, length-rest}
+use Rattle.mz_io.proofs.write.write_whole.Goals as goal
+
+pub loop-done-preserved : goal.loop-done-preserved
+loop-done-preserved g c =
+    let wrote = c.in_ok-done.ensures in
+    record {
+      within = omega (arith, wrote.bound);
+      front = λ told. written_more _ _ _ c.args.text.now c.loop-done.done c.in_ok-done.field-0 (c.loop-done.invariant.front told) (wrote.bytes told);
+      later = omega (arith, wrote.cause.later);
+      clear = λ clear. wrote.stays_clear (c.loop-done.invariant.clear clear);
+      room = λ clear. let before = c.loop-done.invariant.room clear in let now = wrote.lessens (c.loop-done.invariant.clear clear) in omega arith;
+      never = λ clear fits.
+          let before = c.loop-done.invariant.room clear in
+          let len = length-rest c.loop-done.done c.args.text.now in
+          wrote.only_full (c.loop-done.invariant.clear clear) (λ some. omega arith) ∙ c.loop-done.invariant.never clear fits;
+    }

@@ -1,0 +1,6 @@
+pub mod Outside
+pub mod Plan
+pub mod Memory
+pub mod MemFolder
+pub mod MemSink
+pub mod Read

@@ -1,0 +1,30 @@
+-- What `read_bounded` answers, case by case.
+use Rattle.std.specs.Prelude.{◌<◌, ℕ, List, length, Option, Some, None}
+use Rattle.mz_io.specs.declared.read.Read.{Read}
+use Rattle.mz_io.specs.declared.read.Read.TheVariants.{Bytes, TooLong, Fault, Mem}
+
+-- a fact of the bytes that were read
+abbrev pub IfBytes : Read → (List ℕ → Type 0) → Type 0
+IfBytes (Bytes bytes) P = P bytes.items
+IfBytes TooLong P = Unit {0}
+IfBytes Fault P = Unit {0}
+IfBytes Mem P = Unit {0}
+
+-- a fact, where the file was too long
+abbrev pub OnTooLong : Read → Type 0 → Type 0
+OnTooLong (Bytes bytes) P = Unit {0}
+OnTooLong TooLong P = P
+OnTooLong Fault P = Unit {0}
+OnTooLong Mem P = Unit {0}
+
+-- a fact, where a call on the folder failed
+abbrev pub OnFault : Read → Type 0 → Type 0
+OnFault (Bytes bytes) P = Unit {0}
+OnFault TooLong P = Unit {0}
+OnFault Fault P = P
+OnFault Mem P = Unit {0}
+
+-- there is a file, and it has more bytes than the limit
+abbrev pub IsLonger : ℕ → Option (List ℕ) → Type 0
+IsLonger limit None = ⊥
+IsLonger limit (Some bytes) = limit < length bytes

@@ -1,0 +1,27 @@
+//! Writing a whole text to a sink.
+ghost use Rattle.std.specs.Prelude.{◌≡◌, ◌≤◌, ◌+◌, ◌++◌, length, OnOk, OnErr};
+ghost use Rattle.mz_io.specs.Outside.{HasCause, AppendsPrefix};
+
+use crate::{Failed, Sink};
+
+/// Writes all of the text, in as many calls as the sink takes. After a failure a prefix of the text
+/// is written.
+pub fn write_whole<O: Sink>(out: &mut O, text: &[u8]) -> Result<(), Failed>
+    ensures whole { O.told → OnOk result (O.written out.new ≡ O.written out.old ++ text.now) }
+    ensures prefix { O.told → OnErr result (AppendsPrefix (O.written out.old) (O.written out.new) text.now) }
+
+    // A failure was counted.
+    ensures cause { HasCause (O.faults out.old) (O.faults out.new) result }
+
+    // While no coming call is listed to fail, only a want of room fails. A text that was written
+    // takes its own length of the room, so that a further one can be written.
+    ensures stays_clear { O.is_clear out.old → O.is_clear out.new }
+    ensures only_full { O.is_clear out.old → length text.now ≤ O.room out.old → O.faults out.new ≡ O.faults out.old }
+    ensures lessens { O.is_clear out.old → OnOk result (O.room out.new + length text.now ≡ O.room out.old) }
+{
+    let mut done = 0;
+    while done < text.len() {
+        done += out.write(&text[done..])?;
+    }
+    Ok(())
+}
