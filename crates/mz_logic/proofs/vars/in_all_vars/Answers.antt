@@ -1,0 +1,11 @@
+use Rattle.std.proofs.Common.{subst, sym, length}
+use Rattle.mz_logic.specs.Declaration.{signatures}
+use Rattle.mz_logic.specs.Legality.{InRange}
+use Rattle.mz_logic.specs.View.{tree}
+use Rattle.mz_logic.proofs.Rules.{range_of_sort}
+use Rattle.mz_logic.proofs.vars.in_all_vars.Goals as goal
+
+pub in_tree-requires : goal.in_tree-requires
+in_tree-requires c =
+    subst (λ ctx. InRange (signatures c.args.env.now) (length ctx) (tree c.args.expr.now)) (sym c.of.ensures)
+    (range_of_sort (signatures c.args.env.now) c.args.ctx.now (tree c.args.expr.now) c.requires.0 c.requires.1)

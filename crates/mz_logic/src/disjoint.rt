@@ -1,0 +1,85 @@
+ghost use Rattle.std.specs.Prelude.{ℕ, ◌≡◌, ◌↔◌, ◌<◌, IsTrue, length};
+ghost use Rattle.mz_logic.specs.Declaration.{signatures};
+ghost use Rattle.mz_logic.specs.Legality.{AllInRange};
+ghost use Rattle.mz_logic.specs.Sorts.{Fits};
+ghost use Rattle.mz_logic.specs.Variables.{Apart, ApartAt, InV};
+ghost use Rattle.mz_logic.specs.Tree.{listed, operand};
+
+use crate::binder::Binder;
+use crate::context::Context;
+use crate::env::Env;
+use crate::expr::{Expr, Exprs};
+use crate::vars::{has_place, in_tree};
+
+/// Whether operands that fit the parameters are apart: where the operand of a bound parameter is in
+/// V of another operand, the other one's parameter depends on it.
+pub fn are_apart(env: &Env, ctx: &Context, es: &Exprs, params: &[Binder]) -> bool
+    requires { Fits (signatures env.now) ctx.now es.now params.now }
+    ensures { IsTrue result ↔ Apart ctx.now es.now params.now }
+{
+    are_all_apart(env, ctx, es, params)
+}
+
+fn are_all_apart(env: &Env, ctx: &Context, es: &Exprs, params: &[Binder]) -> bool
+    requires there { AllInRange (signatures env.now) (length ctx.now) es.now }
+    requires many { length (listed es.now) ≡ length params.now }
+    ensures { IsTrue result ↔ Apart ctx.now es.now params.now }
+{
+    for i in 0..params.len() {
+        if !is_apart_from_all(env, ctx, es, params, i) {
+            return false;
+        }
+    }
+    true
+}
+
+/// Whether the i-th operand is apart from each.
+fn is_apart_from_all(env: &Env, ctx: &Context, es: &Exprs, params: &[Binder], i: usize) -> bool
+    requires there { AllInRange (signatures env.now) (length ctx.now) es.now }
+    requires many { length (listed es.now) ≡ length params.now }
+    requires within { i < length params.now }
+    ensures { IsTrue result ↔ ((j : ℕ) → ApartAt ctx.now es.now params.now i j) }
+{
+    for j in 0..params.len() {
+        if !is_apart_from(env, ctx, es, params, i, j) {
+            return false;
+        }
+    }
+    true
+}
+
+/// Whether the j-th operand, if its parameter is bound, may be in V of the i-th one or isn't.
+fn is_apart_from(
+    env: &Env,
+    ctx: &Context,
+    es: &Exprs,
+    params: &[Binder],
+    i: usize,
+    j: usize,
+) -> bool
+    requires there { AllInRange (signatures env.now) (length ctx.now) es.now }
+    requires many { length (listed es.now) ≡ length params.now }
+    requires within { i < length params.now }
+    requires within_too { j < length params.now }
+    ensures { IsTrue result ↔ ApartAt ctx.now es.now params.now i j }
+{
+    if !params[j].bound || i == j || has_place(&params[i].deps, j) {
+        return true;
+    }
+    match es.get(j) {
+        Some(Expr::Var(x)) => !is_in_operand(env, ctx, es, i, *x),
+        _ => true,
+    }
+}
+
+/// Whether the variable `x` is in V of the i-th operand.
+fn is_in_operand(env: &Env, ctx: &Context, es: &Exprs, i: usize, x: u32) -> bool
+    requires there { AllInRange (signatures env.now) (length ctx.now) es.now }
+    requires within { i < length (listed es.now) }
+    ensures { IsTrue result ↔ InV ctx.now x (operand es.now i) }
+{
+    match es.get(i) {
+        None => false,
+        Some(e) => in_tree(env, ctx, e, x as usize),
+    }
+}

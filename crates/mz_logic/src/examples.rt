@@ -1,0 +1,35 @@
+//! Worked examples of the definitions. Each function does nothing; its contract is the example.
+ghost use Rattle.mz_logic.specs.Examples.{A1iDerives, A1iTurnedFails, FourAreLegal, LocalAxiomFails, NotApart, ApartWhereItDepends, NotApartThoughNotFree, MissingDependency, LaterDependency, NnUnfolds};
+
+/// From `a` follows `b -> a`, by modus ponens and the first axiom; with the subproofs exchanged it
+/// doesn't.
+pub fn implication_is_derived()
+    ensures holds { A1iDerives }
+    ensures turned { A1iTurnedFails }
+{}
+
+/// A sort, a term, an axiom and a theorem are a legal list; with the axiom marked local they aren't.
+pub fn four_statements_are_legal()
+    ensures holds { FourAreLegal }
+    ensures local { LocalAxiomFails }
+{}
+
+/// Operands are apart by all variables: one that depends on another asks that its parameter does
+/// too, and a bound variable in it that isn't free counts.
+pub fn operands_are_apart()
+    ensures depends { ApartWhereItDepends }
+    ensures fails { NotApart }
+    ensures not_free { NotApartThoughNotFree }
+{}
+
+/// The first fault of a declaration: a dependency that is no variable is a missing name, and one
+/// that is a later parameter is a wrong binder.
+pub fn dependencies_come_before()
+    ensures missing { MissingDependency }
+    ensures later { LaterDependency }
+{}
+
+/// A definition unfolds to its body.
+pub fn definition_unfolds()
+    ensures { NnUnfolds }
+{}

@@ -1,0 +1,41 @@
+//! The logic of Metamath Zero: declarations and expressions, and what makes a declaration legal.
+//!
+//! The definitions that the whole project cites stand in `specs/`; docs/DEFINITIONS.md reads them in
+//! order. The code here checks declarations and tells the variables of expressions.
+#![tactic(auto)]
+
+mod binder;
+mod check;
+mod context;
+mod decl;
+mod disjoint;
+mod env;
+mod examples;
+mod expr;
+mod laws;
+mod sorts;
+#[cfg(test)]
+mod tests;
+mod vars;
+mod word;
+
+pub use binder::{Binder, Binders, Deps, ResultType, SortMods};
+pub use check::check_decl;
+pub use context::Context;
+pub use decl::{Decl, DeclFault, TermDecl, TermForm, ThmDecl, ThmForm};
+pub use disjoint::are_apart;
+pub use env::Env;
+pub use examples::{
+    definition_unfolds, dependencies_come_before, four_statements_are_legal,
+    implication_is_derived, operands_are_apart,
+};
+pub use expr::{Expr, Exprs, copy_of, same_expr, same_exprs};
+pub use laws::{
+    conversions_keep_sorts, derived_is_provable, instances_have_what_is_put_in,
+    instances_keep_sorts, instances_stay_apart, legal_declarations_are_sorted,
+    legal_lists_are_closed, legal_lists_are_legal_envs, longer_ones_keep, sorts_are_unique,
+    words_say_binders,
+};
+pub use sorts::is_bound_var;
+pub use vars::{has_place, in_all_vars, in_free_tree, in_free_vars, in_tree, is_bound_at};
+pub use word::{Terms, Word};

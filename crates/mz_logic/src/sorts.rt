@@ -1,0 +1,191 @@
+ghost use Rattle.std.specs.Prelude.{◌≡◌, ◌↔◌, ◌<◌, ◌≤◌, ℕ, length, drop, IsTrue};
+ghost use Rattle.mz_logic.specs.Declaration.{signatures};
+ghost use Rattle.mz_logic.specs.Legality.{InRange, AllInRange, HasOperandSorts, OperandsOf, HasBoundOperands, SortsFit, BoundFit, sort_of, EachTree, IsClaim};
+ghost use Rattle.mz_logic.specs.Tree.{listed};
+ghost use Rattle.mz_logic.specs.Sorts.{IsBoundVar};
+ghost use Rattle.mz_logic.specs.View.{tree};
+
+use crate::binder::Binder;
+use crate::context::Context;
+use crate::env::Env;
+use crate::expr::{Expr, Exprs};
+
+/// Whether all terms of the expression are there, with as many operands as parameters, and its
+/// variables are places below `end`.
+#[cycle(in_range)]
+pub fn in_range(env: &Env, end: usize, expr: &Expr) -> bool
+    ensures { IsTrue result ↔ InRange (signatures env.now) end (tree expr.now) }
+{
+    match expr {
+        Expr::Var(x) => (*x as usize) < end,
+        Expr::App(t, es) => match env.term(*t) {
+            None => false,
+            Some(term) => es.len() == term.params.len() && all_in_range(env, end, es),
+        },
+    }
+}
+
+/// The same of each expression.
+#[cycle(in_range)]
+pub fn all_in_range(env: &Env, end: usize, es: &Exprs) -> bool
+    ensures { IsTrue result ↔ AllInRange (signatures env.now) end es.now }
+{
+    for e in es.as_slice() {
+        if !in_range(env, end, e) {
+            return false;
+        }
+    }
+    true
+}
+
+/// The sort of an expression whose names are there.
+pub fn sort_of_expr(env: &Env, ctx: &Context, expr: &Expr) -> u32
+    requires { InRange (signatures env.now) (length ctx.now) (tree expr.now) }
+    ensures { result ≡ sort_of (signatures env.now) ctx.now (tree expr.now) }
+{
+    match expr {
+        Expr::Var(x) => match ctx.get(*x) {
+            None => unreachable!(),
+            Some(binder) => binder.sort,
+        },
+        Expr::App(t, _) => match env.term(*t) {
+            None => unreachable!(),
+            Some(term) => term.result.sort,
+        },
+    }
+}
+
+/// Whether each operand in the expression has its parameter's sort.
+#[cycle(have_operand_sorts)]
+pub fn has_operand_sorts(env: &Env, ctx: &Context, expr: &Expr) -> bool
+    requires { InRange (signatures env.now) (length ctx.now) (tree expr.now) }
+    ensures { IsTrue result ↔ HasOperandSorts (signatures env.now) ctx.now (tree expr.now) }
+{
+    match expr {
+        Expr::Var(_) => true,
+        Expr::App(t, es) => match env.term(*t) {
+            None => unreachable!(),
+            Some(term) => have_operand_sorts(env, ctx, es, term.params.as_slice()),
+        },
+    }
+}
+
+/// Whether each of these operands has its parameter's sort, and each operand in them too.
+#[cycle(have_operand_sorts)]
+fn have_operand_sorts(env: &Env, ctx: &Context, es: &Exprs, params: &[Binder]) -> bool
+    requires there { AllInRange (signatures env.now) (length ctx.now) es.now }
+    requires many { length (listed es.now) ≡ length params.now }
+    ensures { IsTrue result ↔ OperandsOf (signatures env.now) (SortsFit (signatures env.now) ctx.now) es.now params.now }
+{
+    let items = es.as_slice();
+    for i in 0..items.len() {
+        let e = &items[i];
+        if !(sort_of_expr(env, ctx, e) == params[i].sort && has_operand_sorts(env, ctx, e)) {
+            return false;
+        }
+    }
+    true
+}
+
+/// Whether each operand of a bound parameter in the expression is a bound variable.
+#[cycle(have_bound_operands)]
+pub fn has_bound_operands(env: &Env, ctx: &Context, expr: &Expr) -> bool
+    requires { InRange (signatures env.now) (length ctx.now) (tree expr.now) }
+    ensures { IsTrue result ↔ HasBoundOperands (signatures env.now) ctx.now (tree expr.now) }
+{
+    match expr {
+        Expr::Var(_) => true,
+        Expr::App(t, es) => match env.term(*t) {
+            None => unreachable!(),
+            Some(term) => have_bound_operands(env, ctx, es, term.params.as_slice()),
+        },
+    }
+}
+
+/// Whether each of these operands is a bound variable where its parameter is bound, and each in
+/// them too.
+#[cycle(have_bound_operands)]
+fn have_bound_operands(env: &Env, ctx: &Context, es: &Exprs, params: &[Binder]) -> bool
+    requires there { AllInRange (signatures env.now) (length ctx.now) es.now }
+    requires many { length (listed es.now) ≡ length params.now }
+    ensures { IsTrue result ↔ OperandsOf (signatures env.now) (BoundFit ctx.now) es.now params.now }
+{
+    let items = es.as_slice();
+    for i in 0..items.len() {
+        let e = &items[i];
+        if !(fits_bound(ctx, e, &params[i]) && has_bound_operands(env, ctx, e)) {
+            return false;
+        }
+    }
+    true
+}
+
+/// Whether the operand is a bound variable if the parameter is bound.
+fn fits_bound(ctx: &Context, operand: &Expr, param: &Binder) -> bool
+    ensures { IsTrue result ↔ BoundFit ctx.now (tree operand.now) param.now }
+{
+    !param.bound || is_bound_var(ctx, operand)
+}
+
+/// Whether the expression is a bound variable.
+pub fn is_bound_var(ctx: &Context, expr: &Expr) -> bool
+    ensures { IsTrue result ↔ IsBoundVar ctx.now (tree expr.now) }
+{
+    match expr {
+        Expr::App(_, _) => false,
+        Expr::Var(x) => match ctx.get(*x) {
+            None => false,
+            Some(binder) => binder.bound,
+        },
+    }
+}
+
+/// The rule on operands' sorts for each expression.
+pub fn all_have_operand_sorts(env: &Env, ctx: &Context, es: &Exprs) -> bool
+    requires { AllInRange (signatures env.now) (length ctx.now) es.now }
+    ensures { IsTrue result ↔ EachTree (HasOperandSorts (signatures env.now) ctx.now) es.now }
+{
+    for e in es.as_slice() {
+        if !has_operand_sorts(env, ctx, e) {
+            return false;
+        }
+    }
+    true
+}
+
+/// The rule on bound operands for each expression.
+pub fn all_have_bound_operands(env: &Env, ctx: &Context, es: &Exprs) -> bool
+    requires { AllInRange (signatures env.now) (length ctx.now) es.now }
+    ensures { IsTrue result ↔ EachTree (HasBoundOperands (signatures env.now) ctx.now) es.now }
+{
+    for e in es.as_slice() {
+        if !has_bound_operands(env, ctx, e) {
+            return false;
+        }
+    }
+    true
+}
+
+/// Whether each expression has a provable sort.
+pub fn all_are_claims(env: &Env, ctx: &Context, es: &Exprs) -> bool
+    requires { AllInRange (signatures env.now) (length ctx.now) es.now }
+    ensures { IsTrue result ↔ EachTree (IsClaim env.now ctx.now) es.now }
+{
+    for e in es.as_slice() {
+        if !is_claim(env, ctx, e) {
+            return false;
+        }
+    }
+    true
+}
+
+/// Whether the expression has a provable sort.
+pub fn is_claim(env: &Env, ctx: &Context, expr: &Expr) -> bool
+    requires { InRange (signatures env.now) (length ctx.now) (tree expr.now) }
+    ensures { IsTrue result ↔ IsClaim env.now ctx.now (tree expr.now) }
+{
+    match env.mods(sort_of_expr(env, ctx, expr)) {
+        None => false,
+        Some(mods) => mods.is_provable(),
+    }
+}

@@ -1,0 +1,207 @@
+ghost use Rattle.std.specs.Prelude.{◌≡◌, ◌↔◌, ℕ, ◌<◌, length, drop, Contains, IsTrue, true, false, ◌⊎◌};
+ghost use Rattle.mz_logic.specs.DeclView.{term_of};
+ghost use Rattle.mz_logic.specs.Declaration.{signatures};
+ghost use Rattle.mz_logic.specs.Legality.{InRange, AllInRange, Each, NamesThere, BindersRight, DepsRight};
+ghost use Rattle.mz_logic.specs.Sorts.{HasSort};
+ghost use Rattle.mz_logic.specs.Variables.{InV, InSomeV, InFV, InSomeFV, IsBoundAt, IsOperandAt, IsFreeOperand};
+ghost use Rattle.mz_logic.specs.Tree.{var, operand, listed};
+ghost use Rattle.mz_logic.specs.View.{tree};
+
+use crate::binder::{Binder, Binders, Deps};
+use crate::context::Context;
+use crate::decl::TermDecl;
+use crate::env::Env;
+use crate::expr::{Expr, Exprs};
+
+/// Whether the bound variable `x` of the context is in V, the variables of the expression.
+pub fn in_all_vars(env: &Env, ctx: &Binders, expr: &Expr, x: u32) -> bool
+    requires { (s : ℕ) × HasSort (signatures env.now) ctx.now (tree expr.now) s }
+    ensures { IsTrue result ↔ InV ctx.now x (tree expr.now) }
+{
+    in_tree(env, &Context::of(ctx), expr, x as usize)
+}
+
+/// The same over a context of parameters and dummies.
+#[cycle(in_tree)]
+pub fn in_tree(env: &Env, ctx: &Context, expr: &Expr, x: usize) -> bool
+    requires { InRange (signatures env.now) (length ctx.now) (tree expr.now) }
+    ensures { IsTrue result ↔ InV ctx.now x (tree expr.now) }
+{
+    match expr {
+        Expr::Var(y) => in_variable(ctx, *y, x),
+        Expr::App(_, es) => in_some_tree(env, ctx, es, x),
+    }
+}
+
+#[cycle(in_tree)]
+fn in_some_tree(env: &Env, ctx: &Context, es: &Exprs, x: usize) -> bool
+    requires { AllInRange (signatures env.now) (length ctx.now) es.now }
+    ensures { IsTrue result ↔ InSomeV ctx.now x es.now }
+{
+    for e in es.as_slice() {
+        if in_tree(env, ctx, e, x) {
+            return true;
+        }
+    }
+    false
+}
+
+/// Whether `x` is in V of the variable `y`.
+fn in_variable(ctx: &Context, y: u32, x: usize) -> bool
+    requires { y < length ctx.now }
+    ensures { IsTrue result ↔ InV ctx.now x (var y) }
+{
+    match ctx.get(y) {
+        None => unreachable!(),
+        Some(binder) => is_in_binder(binder, y, x),
+    }
+}
+
+/// Whether `x` is in V of the variable `y` with this binder.
+fn is_in_binder(binder: &Binder, y: u32, x: usize) -> bool
+    ensures { IsTrue result ↔ (((binder.now.bound ≡ true) × (x ≡ y)) ⊎ ((binder.now.bound ≡ false) × Contains binder.now.deps x)) }
+{
+    if binder.bound {
+        x == y as usize
+    } else {
+        has_place(&binder.deps, x)
+    }
+}
+
+/// Whether `x` is one of the places.
+pub fn has_place(places: &Deps, x: usize) -> bool
+    ensures { IsTrue result ↔ Contains places.now x }
+{
+    for place in places.as_slice() {
+        if *place as usize == x {
+            return true;
+        }
+    }
+    false
+}
+
+/// Whether the bound variable `x` of the context is in FV, the free variables of the expression.
+pub fn in_free_vars(env: &Env, ctx: &Binders, expr: &Expr, x: u32) -> bool
+    requires { (s : ℕ) × HasSort (signatures env.now) ctx.now (tree expr.now) s }
+    ensures { IsTrue result ↔ InFV (signatures env.now) ctx.now x (tree expr.now) }
+{
+    in_free_tree(env, &Context::of(ctx), expr, x as usize)
+}
+
+/// The same over a context of parameters and dummies.
+#[cycle(in_free_tree)]
+pub fn in_free_tree(env: &Env, ctx: &Context, expr: &Expr, x: usize) -> bool
+    requires { InRange (signatures env.now) (length ctx.now) (tree expr.now) }
+    ensures { IsTrue result ↔ InFV (signatures env.now) ctx.now x (tree expr.now) }
+{
+    match expr {
+        Expr::Var(y) => in_variable(ctx, *y, x),
+        Expr::App(t, es) => match env.term(*t) {
+            None => unreachable!(),
+            Some(term) => {
+                let params = term.params.as_slice();
+                in_some_free_tree(env, ctx, es, params, x)
+                    || is_operand_at(params, es, &term.result.deps, x)
+            }
+        },
+    }
+}
+
+#[cycle(in_free_tree)]
+fn in_some_free_tree(env: &Env, ctx: &Context, es: &Exprs, params: &[Binder], x: usize) -> bool
+    requires there { AllInRange (signatures env.now) (length ctx.now) es.now }
+    requires many { length (listed es.now) ≡ length params.now }
+    ensures { IsTrue result ↔ InSomeFV (signatures env.now) ctx.now x params.now es.now params.now es.now }
+{
+    let items = es.as_slice();
+    for i in 0..items.len() {
+        if is_free_operand(env, ctx, es, params, &params[i], &items[i], x) {
+            return true;
+        }
+    }
+    false
+}
+
+/// Whether `x` is free in the operand of this parameter, a regular one that does not bind it.
+#[cycle(in_free_tree)]
+fn is_free_operand(
+    env: &Env,
+    ctx: &Context,
+    es: &Exprs,
+    params: &[Binder],
+    param: &Binder,
+    operand: &Expr,
+    x: usize,
+) -> bool
+    requires { InRange (signatures env.now) (length ctx.now) (tree operand.now) }
+    ensures { IsTrue result ↔ IsFreeOperand (signatures env.now) ctx.now x params.now es.now param.now (tree operand.now) }
+{
+    !param.bound && !is_operand_at(params, es, &param.deps, x) && in_free_tree(env, ctx, operand, x)
+}
+
+/// Whether the variable `x` is the operand of a bound parameter at one of the places.
+fn is_operand_at(params: &[Binder], es: &Exprs, places: &Deps, x: usize) -> bool
+    ensures { IsTrue result ↔ IsOperandAt params.now es.now places.now x }
+{
+    for place in places.as_slice() {
+        if is_bound_at(params, *place) && is_variable_at(es, *place, x) {
+            return true;
+        }
+    }
+    false
+}
+
+/// Whether a bound parameter stands at the place.
+pub fn is_bound_at(params: &[Binder], place: u32) -> bool
+    ensures { IsTrue result ↔ IsBoundAt params.now place }
+{
+    match params.get(place as usize) {
+        None => false,
+        Some(param) => param.bound,
+    }
+}
+
+/// Whether the variable `x` is the operand at the place.
+fn is_variable_at(es: &Exprs, place: u32, x: usize) -> bool
+    ensures { IsTrue result ↔ (operand es.now place ≡ var x) }
+{
+    match es.get(place as usize) {
+        None => false,
+        Some(e) => is_variable(e, x),
+    }
+}
+
+/// Whether the expression is the variable `x`.
+fn is_variable(expr: &Expr, x: usize) -> bool
+    ensures { IsTrue result ↔ (tree expr.now ≡ var x) }
+{
+    match expr {
+        Expr::Var(y) => *y as usize == x,
+        Expr::App(_, _) => false,
+    }
+}
+
+/// Whether the result depends on each variable of FV of the body.
+pub fn body_deps_are_right(env: &Env, term: &TermDecl) -> bool
+    requires { NamesThere env.now (term_of term.now) }
+    ensures { IsTrue result ↔ DepsRight env.now (term_of term.now) }
+{
+    match term.form.body() {
+        None => true,
+        Some(e) => free_vars_are_in(env, &term.context(), e, &term.result.deps),
+    }
+}
+
+/// Whether the places hold all variables of FV of the expression.
+fn free_vars_are_in(env: &Env, ctx: &Context, expr: &Expr, places: &Deps) -> bool
+    requires there { InRange (signatures env.now) (length ctx.now) (tree expr.now) }
+    requires scoped { Each ctx.now (λ _ b. (x : ℕ) → Contains b.deps x → x < length ctx.now) }
+    ensures { IsTrue result ↔ ((x : ℕ) → InFV (signatures env.now) ctx.now x (tree expr.now) → Contains places.now x) }
+{
+    for x in 0..ctx.len() {
+        if in_free_tree(env, ctx, expr, x) && !has_place(places, x) {
+            return false;
+        }
+    }
+    true
+}
