@@ -1,0 +1,11 @@
+pub mod Levels
+pub mod Numbered
+pub mod RowLemmas
+pub mod Deciding
+pub mod ByteSteps
+pub mod Accessors
+pub mod Nesting
+pub mod Asked
+pub mod Pieces
+pub mod AskedOfPieces
+pub mod Readings

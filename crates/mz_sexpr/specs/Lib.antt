@@ -1,0 +1,12 @@
+pub mod Node
+pub mod Number
+pub mod Token
+pub mod NodesCode
+pub mod Grammar
+pub mod Order
+pub mod Scan
+pub mod Rows
+pub mod RowsRead
+pub mod Reading
+pub mod RuleText
+pub mod Laws

@@ -1,0 +1,79 @@
+ghost use Rattle.std.specs.Prelude.{◌≡◌, ◌≤◌, ◌<◌, ◌+◌, ◌-◌, ◌^◌, IsTrue, length, map, drop};
+ghost use Rattle.mz_sexpr.specs.Node.{is_atom, word, parts, place};
+ghost use Rattle.mz_sexpr.specs.Number.{node_count, node_at, nodes_after, StandsFor};
+ghost use Rattle.mz_sexpr.specs.Rows.{entry, level, Steps, IsShallow};
+
+use crate::sexprs::{Row, Sexprs};
+
+/// The n-th row, if it stands at this depth.
+fn row_of_depth(rows: &[Row], n: usize, depth: u32) -> Option<u32>
+    requires short { length rows.now < 2 ^ 32 }
+    requires steps { Steps 0 (map entry rows.now) }
+    requires shallow { IsShallow (map entry rows.now) n depth }
+    ensures { StandsFor (level (map entry rows.now) 0) result (level (drop n (map entry rows.now)) depth) }
+{
+    if n < rows.len() && rows[n].depth == depth {
+        Some(n as u32)
+    } else {
+        None
+    }
+}
+
+impl<'a> Sexprs<'a> {
+    /// The first top form; none where the text has no form. The other top forms are those that
+    /// follow it.
+    pub fn roots(&self) -> Option<u32>
+        ensures { StandsFor self.now result self.now }
+    {
+        row_of_depth(&self.rows, 0, 0)
+    }
+
+    /// Is the node an atom?
+    pub fn is_atom(&self, n: u32) -> bool
+        requires { n < node_count self.now }
+        ensures { result ≡ Rattle.mz_sexpr.specs.Node.is_atom (node_at self.now n) }
+    {
+        self.rows[n as usize].word.is_some()
+    }
+
+    /// The bytes of an atom, as they stand in the text.
+    pub fn atom(&self, n: u32) -> &'a [u8]
+        requires within { n < node_count self.now }
+        requires atom { IsTrue (Rattle.mz_sexpr.specs.Node.is_atom (node_at self.now n)) }
+        ensures { result.now ≡ word (node_at self.now n) }
+    {
+        self.rows[n as usize].word.unwrap_or(&[])
+    }
+
+    /// The first part of a list; none for a list without parts and for an atom.
+    pub fn first(&self, n: u32) -> Option<u32>
+        requires { n < node_count self.now }
+        ensures { StandsFor self.now result (parts (node_at self.now n)) }
+    {
+        let row = &self.rows[n as usize];
+        match row.word {
+            Some(_) => None,
+            None => row_of_depth(&self.rows, n as usize + 1, row.depth + 1),
+        }
+    }
+
+    /// The next node of the same list, the top forms being one list; none for the last.
+    pub fn next(&self, n: u32) -> Option<u32>
+        requires { n < node_count self.now }
+        ensures { StandsFor self.now result (nodes_after self.now n) }
+    {
+        row_of_depth(
+            &self.rows,
+            self.ends[n as usize] as usize,
+            self.rows[n as usize].depth,
+        )
+    }
+
+    /// The place of the node's first byte, from 0.
+    pub fn at(&self, n: u32) -> u32
+        requires { n < node_count self.now }
+        ensures { result ≡ place (node_at self.now n) }
+    {
+        self.rows[n as usize].at
+    }
+}

@@ -1,0 +1,155 @@
+ghost use Rattle.std.specs.Prelude.{◌≡◌, ◌++◌, OnOk, ◌≤◌, ◌<◌, ◌^◌, length, drop};
+ghost use Rattle.std.specs.List.{take_while};
+ghost use Rattle.std.specs.Option.{option_to_list};
+ghost use Rattle.mz_sexpr.specs.Grammar.{is_letter};
+ghost use Rattle.mz_sexpr.specs.Scan.{token_of};
+ghost use Rattle.mz_sexpr.specs.Rows.{entries, option_entry};
+ghost use Rattle.mz_sexpr.specs.RowsRead.{AreRows};
+ghost use Rattle.mz_sexpr.specs.Reading.{IsReading};
+
+use crate::ends::ends_of;
+use crate::rule::{TextRefusal, U};
+use crate::scan::{Class, Seen, class_at, fault_at};
+use std::alloc::{AllocError, Global};
+use std::marker::Model;
+
+/// A node: how many lists are around it, the place of its first byte, and an atom's bytes (a list
+/// has none).
+#[derive(Clone, Copy)]
+pub(crate) struct Row<'a> {
+    pub(crate) depth: u32,
+    pub(crate) at: u32,
+    pub(crate) word: Option<&'a [u8]>,
+}
+
+/// The nodes of a text. They lie flat, in the order of their first bytes, and are spoken of by
+/// their numbers from 0. An atom is a slice of the text itself.
+#[derive(Drop)]
+pub struct Sexprs<'a> {
+    pub(crate) rows: Vec<Row<'a>>,
+    // for each node, the number of the first later one that is no part of it
+    pub(crate) ends: Vec<u32>,
+}
+
+impl<'a> Model for Sexprs<'a> {
+    ghost use Rattle.std.specs.Prelude.{map};
+    ghost use Rattle.mz_sexpr.specs.Node.{Nodes};
+    ghost use Rattle.mz_sexpr.specs.NodesCode.{nodes_code};
+
+    ghost Value = { Nodes };
+
+    ghost coded = { nodes_code };
+
+    ghost use Rattle.mz_sexpr.specs.Rows.{entry, level, IsLinked};
+
+    ghost view = { λ a. level (map entry a.rows.items) 0 };
+
+    ghost invariant = { λ a. IsLinked (map entry a.rows.items) a.ends.items };
+}
+
+/// What reading a text answers.
+#[derive(Drop)]
+pub enum SexprRead<'a> {
+    /// The nodes.
+    Nodes(Sexprs<'a>),
+    /// The first byte that may not stand where it does, or the end with a list unclosed.
+    Refused(TextRefusal),
+    /// No memory was left.
+    Mem,
+}
+
+/// The rows of a text, before their ends are known.
+#[derive(Drop)]
+pub(crate) enum RowsRead<'a> {
+    Rows(Vec<Row<'a>>),
+    Refused(TextRefusal),
+    Mem,
+}
+
+fn is_letter(byte: u8) -> bool
+    ensures { result ≡ Rattle.mz_sexpr.specs.Grammar.is_letter byte }
+{
+    !matches!(byte, b'(' | b')' | b' ' | b'\n')
+}
+
+/// The longest run of letters in front.
+fn word_of(rest: &[u8]) -> &[u8]
+    ensures { result.now ≡ take_while Rattle.mz_sexpr.specs.Grammar.is_letter rest.now }
+{
+    for n in 0..rest.len() {
+        if !is_letter(rest[n]) {
+            return &rest[..n];
+        }
+    }
+    rest
+}
+
+/// The node that begins at the byte, if one does.
+fn row_at<'a>(text: &'a [u8], at: usize, seen: Seen, class: Class) -> Option<Row<'a>>
+    requires within { at ≤ length text.now }
+    requires short { length text.now < 2 ^ 32 }
+    ensures { option_to_list (option_entry result)
+        ≡ entries seen.depth (token_of at seen.last class (drop at text.now)) }
+{
+    let word = match (seen.last, class) {
+        (_, Class::Opening) => None,
+        (Class::Letter, _) => return None,
+        (_, Class::Letter) => Some(word_of(&text[at..])),
+        _ => return None,
+    };
+    Some(Row {
+        depth: seen.depth,
+        at: at as u32,
+        word,
+    })
+}
+
+fn push_if_any<'a>(rows: &mut Vec<Row<'a>>, row: Option<Row<'a>>) -> Result<(), AllocError>
+    ensures { OnOk result (rows.new.items ≡ rows.old.items ++ option_to_list row.entry) }
+{
+    if let Some(row) = row {
+        rows.push(row)?;
+    }
+    Ok(())
+}
+
+/// The rows of a text, or the first of its bytes that may not stand where it does.
+fn read_rows<'a>(alloc: Global, text: &'a [u8]) -> RowsRead<'a>
+    requires { length text.now < 2 ^ 32 }
+    ensures { AreRows text.now result }
+{
+    let mut rows: Vec<Row<'a>> = Vec::new(alloc);
+    let mut seen = Seen::nothing();
+    for i in 0..text.len() {
+        let class = class_at(seen.last, text, i);
+        if let Some(refusal) = fault_at(seen, i, text[i], class) {
+            return RowsRead::Refused(refusal);
+        }
+        let row = row_at(text, i, seen, class);
+        let Ok(()) = push_if_any(&mut rows, row) else {
+            return RowsRead::Mem;
+        };
+        seen = seen.with(class);
+    }
+    if seen.depth == 0 {
+        RowsRead::Rows(rows)
+    } else {
+        RowsRead::Refused(seen.refusal(text.len(), U::Parenthesis))
+    }
+}
+
+/// The nodes of a text, or the first of its bytes that may not stand where it does. The text has
+/// at most 4,294,967,295 bytes.
+pub fn read_sexprs<'a>(alloc: Global, text: &'a [u8]) -> SexprRead<'a>
+    requires { length text.now < 2 ^ 32 }
+    ensures { IsReading text.now result }
+{
+    match read_rows(alloc, text) {
+        RowsRead::Rows(rows) => match ends_of(alloc, &rows) {
+            Ok(ends) => SexprRead::Nodes(Sexprs { rows, ends }),
+            Err(_) => SexprRead::Mem,
+        },
+        RowsRead::Refused(refusal) => SexprRead::Refused(refusal),
+        RowsRead::Mem => SexprRead::Mem,
+    }
+}
