@@ -1,0 +1,37 @@
+-- The tables as lists of their rows.
+use Rattle.std.proofs.Common.{◌≡◌, ◌<◌, ◌≤◌, ◌+◌, ℕ, zero, suc, List, length, map, get_or, slice_get, Some, refl, ap, ◌∙◌, sym, arith}
+use Rattle.std.specs.List.{range_with_len}
+use Rattle.std.proofs.lemmas.List.FromFn.{length-map-range_with_len, get_or-map-range_with_len}
+use Rattle.mz_logic.specs.declared.word.Word.{Word}
+use Rattle.mz_logic.specs.Words.{TermWords, term_at}
+use Rattle.mz_layout.specs.Tables.{mods_of, tables_of, term_words, term_row, term_record, thm_row, thm_record, params_of, param_count, word_at, sort_count, term_count, thm_count}
+
+slice_get-from : {A : Type 0} → (f : ℕ → A) (from n i : ℕ) → i < n → slice_get (map f (range_with_len from n)) i ≡ Some (f (from + i))
+slice_get-from f from zero i below = absurd (omega arith)
+slice_get-from f from (suc n) zero below = ap (λ k. Some (f k)) (let e : from ≡ from + 0 = omega arith in e)
+slice_get-from f from (suc n) (suc i) below = slice_get-from f (from + 1) n i (omega arith) ∙ ap (λ k. Some (f k)) (let e : (from + 1) + i ≡ from + suc i = omega arith in e)
+
+-- the row at a place of a table
+pub slice_get-rows : {A : Type 0} → (f : ℕ → A) (n i : ℕ) → i < n → slice_get (map f (range_with_len 0 n)) i ≡ Some (f i)
+slice_get-rows f n i below = slice_get-from f 0 n i below ∙ ap (λ k. Some (f k)) (let e : 0 + i ≡ i = omega arith in e)
+
+pub length-sorts : (file : List ℕ) → length (tables_of file).sorts ≡ sort_count file
+length-sorts file = length-map-range_with_len (mods_of file) 0 (sort_count file)
+
+pub length-term_words : (file : List ℕ) → length (term_words file) ≡ term_count file
+length-term_words file = length-map-range_with_len (λ t. (term_row file t).words) 0 (term_count file)
+
+pub term_at-words : (file : List ℕ) (t : ℕ) → t < length (term_words file) → term_at (term_words file) t ≡ (term_row file t).words
+term_at-words file t below =
+    get_or-map-range_with_len (λ t. (term_row file t).words) 0 (term_count file) t t _ (omega (arith, length-term_words file)) (omega arith)
+
+pub length-params : (file : List ℕ) (at : ℕ) → length (params_of file at) ≡ param_count file at
+length-params file at = length-map-range_with_len (word_at file at) 0 (param_count file at)
+
+pub slice_get-params : (file : List ℕ) (at i : ℕ) → i < param_count file at → slice_get (params_of file at) i ≡ Some (word_at file at i)
+slice_get-params file at i below = slice_get-rows (word_at file at) (param_count file at) i below
+
+pub slice_get-sorts : (file : List ℕ) (s : ℕ) → s < sort_count file → slice_get (tables_of file).sorts s ≡ Some (mods_of file s)
+slice_get-sorts file s below = slice_get-rows (mods_of file) (sort_count file) s below
+
+pub ruleset row_facts = (length-sorts, length-term_words, term_at-words, length-params, slice_get-params, slice_get-sorts)
