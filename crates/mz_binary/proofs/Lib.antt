@@ -1,0 +1,9 @@
+pub mod Heads
+pub mod Places
+pub mod Declared
+pub mod ChainLaws
+pub mod SpellingLaws
+pub mod LegalLaws
+pub mod Passing
+pub mod Decisions
+pub mod FaultLaws

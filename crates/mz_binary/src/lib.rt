@@ -1,0 +1,23 @@
+//! The statements of a binary, checked in order.
+//!
+//! After header and tables a binary is a list of statements. Each names, by its command, a kind, and
+//! takes the next row of that kind's table, which says what is declared. A checker goes through the
+//! list, statement by statement, and tells each one or the first rule that fails, at its place.
+#![tactic(auto)]
+
+mod checker;
+mod laws;
+mod line;
+mod place;
+mod statement;
+#[cfg(test)]
+mod tests;
+mod whole;
+
+pub use checker::{Checker, Next};
+pub use laws::{
+    each_file_is_good_or_has_one_fault, each_file_spells_one_list, good_files_are_legal,
+};
+pub use line::refusal_line;
+pub use statement::{Rows, Statement};
+pub use whole::{Checked, check_all};

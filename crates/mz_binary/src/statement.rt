@@ -1,0 +1,24 @@
+// What is told of a statement.
+
+/// How many rows of each table have had their statement.
+#[derive(Clone, Copy, Debug, PartialEq, Eq)]
+pub struct Rows {
+    pub sorts: u32,
+    pub terms: u32,
+    pub thms: u32,
+}
+
+/// A good statement.
+#[derive(Clone, Copy, Debug, PartialEq, Eq)]
+pub struct Statement {
+    /// Its number in the list, from 1.
+    pub number: u32,
+    /// The place of its command in the file, in bytes.
+    pub at: u32,
+    /// The code of its kind: 02 an axiom, 04 a sort, 05 a term or definition, 06 a theorem.
+    pub kind: u8,
+    /// Its row in the table of its kind.
+    pub row: u32,
+    /// Whether it is local: a definition with code 0D, or a theorem with code 0E.
+    pub local: bool,
+}

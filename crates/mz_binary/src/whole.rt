@@ -1,0 +1,50 @@
+// A whole binary.
+ghost use Rattle.std.specs.Prelude.{◌≡◌, ◌<◌, ◌^◌, List, [], length};
+ghost use Rattle.mz_binary.specs.Progress.{HasPassed};
+ghost use Rattle.mz_binary.specs.Judging.{IsChecked};
+
+use crate::checker::{Checker, Next};
+use crate::statement::Rows;
+use mz_cmd::{Refusal, Steps};
+use mz_layout::Mmb;
+use std::sync::ledger::Ledger;
+
+/// What is said of a whole binary.
+#[derive(Clone, Copy, Debug, PartialEq, Eq)]
+pub enum Checked {
+    /// It is good, and has so many rows of each kind.
+    Good(Rows),
+    /// Its first fault.
+    Refused(Refusal),
+    /// Want of memory. No statement that is read yet takes any.
+    Mem,
+}
+
+/// Checks header, tables and the whole list of statements.
+pub fn check_all<L: Ledger>(file: &[u8], steps: &mut Steps<L>) -> Checked
+    requires { length file.now < 2 ^ 32 }
+    ensures checked { IsChecked file.now result }
+    ensures steps { steps.new ≡ steps.old }
+{
+    match Mmb::read(file) {
+        Ok(mmb) => check_list(Checker::new(&mmb), steps),
+        Err(refusal) => Checked::Refused(refusal),
+    }
+}
+
+/// Checks the list of statements from its first one on.
+fn check_list<L: Ledger>(first: Checker, steps: &mut Steps<L>) -> Checked
+    requires { HasPassed first [] [] }
+    ensures checked { IsChecked first.entry.file result }
+    ensures steps { steps.new ≡ steps.old }
+{
+    let mut checker = first;
+    'statements: loop {
+        match checker.check_next(steps) {
+            Next::Statement(after, _) => checker = after,
+            Next::End(rows) => return Checked::Good(rows),
+            Next::Refused(refusal) => return Checked::Refused(refusal),
+            Next::Mem => return Checked::Mem,
+        }
+    }
+}
