@@ -1,0 +1,89 @@
+-- Reading a text statement by statement.
+use Rattle.std.proofs.Common.{◌∙◌, ◌++◌, ◌+◌, ℕ, List, [], ◌∷◌, length, None, ap, sym, refl, subst, inl, inr, append_assoc, arith, length-append}
+use Rattle.std.proofs.lemmas.List.{append-nil}
+use Rattle.mz_lex.specs.Lexemes.{Lexeme, IsBlank, LexemesTo}
+use Rattle.mz_lex.proofs.Lexing.{ended, begun, some-lexing}
+use Rattle.mz_checks.specs.Checks.{AllHold, FailsFirst}
+use Rattle.mz_spec.specs.declared.refusal.Fault.{Fault}
+use Rattle.mz_spec.specs.declared.reader.StatementRead.{StatementRead}
+use Rattle.mz_spec.specs.Code.{statement}
+use Rattle.mz_spec.specs.Statement.{Statement, Spells}
+use Rattle.mz_spec.specs.State.{State, nothing}
+use Rattle.mz_spec.specs.Rules.{statement_checks}
+use Rattle.mz_spec.specs.Spec.{Stand, SpecMakes, SpecFault, After, IsGood, place_of_first}
+use Rattle.mz_spec.specs.Reading.{IsRead, StopsFrom, StandTo}
+
+lexemes-append : (text : List ℕ) (from at to : ℕ) (ls ms : List Lexeme) → LexemesTo text from ls at → LexemesTo text at ms to → LexemesTo text from (ls ++ ms) to
+lexemes-append text from at to [] ms first second = subst (λ i. LexemesTo text i ms to) first second
+lexemes-append text from at to (l ∷ ls) ms (is, first) second = (is, lexemes-append text l.to at to ls ms first second)
+
+-- further lexemes behind good statements
+pub stand-rest : (σ τ : State) (ss : List Statement) (ls rest : List Lexeme) → Stand σ ss ls τ [] → Stand σ ss (ls ++ rest) τ rest
+stand-rest σ τ [] ls rest (same, none) = (same, ap (λ xs. xs ++ rest) none)
+stand-rest σ τ (s ∷ ss) ls rest (front, back, ρ, is, spells, good, after, more) =
+    (front, back ++ rest, ρ, ap (λ xs. xs ++ rest) is ∙ append_assoc front back rest, spells, good, after, stand-rest ρ τ ss back rest more)
+
+-- one more good statement
+pub stand-more : (σ τ ρ : State) (ss : List Statement) (ls front : List Lexeme) (s : Statement) → Stand σ ss ls τ [] → Spells s front → IsGood τ (place_of_first front) s
+    → After τ (place_of_first front) s ρ → Stand σ (ss ++ s ∷ []) (ls ++ front) ρ []
+stand-more σ τ ρ [] ls front s (same, none) spells good after = (
+  front,
+  [],
+  ρ,
+  ap (λ xs. xs ++ front) (sym none) ∙ sym (append-nil front),
+  spells,
+  subst (λ x. IsGood x (place_of_first front) s) same good,
+  subst (λ x. After x (place_of_first front) s ρ) same after,
+  (refl, refl),
+)
+stand-more σ τ ρ (r ∷ rs) ls front s (first, back, ω, is, spells_r, good_r, after_r, more) spells good after =
+    (first, back ++ front, ω, ap (λ xs. xs ++ front) is ∙ append_assoc first back front, spells_r, good_r, after_r, stand-more ω τ ρ rs back front s more spells good after)
+
+pub stand-begins : (text : List ℕ) → StandTo text 0 0 nothing
+stand-begins text = ([], [], refl, (refl, refl), refl)
+
+pub stand-next : (text : List ℕ) (count at : ℕ) (σ τ : State) (read : StatementRead) → StandTo text count at σ → IsRead text at read
+    → AllHold (statement_checks σ read.place (statement read.statement)) → After σ read.place (statement read.statement) τ → StandTo text (count + 1) read.end τ
+stand-next text count at σ τ read (ls, ss, lexes, stand, many) (front, lexes_f, spells, begins) good after = (
+  ls ++ front,
+  ss ++ statement read.statement ∷ [],
+  lexemes-append text 0 at read.end ls front lexes lexes_f,
+  stand-more nothing σ τ ss ls front (statement read.statement) stand spells (subst (λ i. IsGood σ i (statement read.statement)) (sym begins) good)
+      (subst (λ i. After σ i (statement read.statement) τ) (sym begins) after),
+  length-append ss (statement read.statement ∷ []) ∙ ap (λ n. n + 1) many,
+)
+
+pub spec-made : (text : List ℕ) (count at : ℕ) (σ : State) → StandTo text count at σ → IsBlank text at (length text) → SpecMakes text σ.entries
+spec-made text count at σ (ls, ss, lexes, stand, many) end = (ls, ss, σ, ended text 0 at ls None lexes end, stand, refl)
+
+pub spec-stops : (text : List ℕ) (count at : ℕ) (σ : State) (fault : Fault) → StandTo text count at σ → StopsFrom text at fault
+    → SpecFault text (record { statement = count + 1; at = fault.at; rule = fault.rule })
+spec-stops text count at σ fault (ls, ss, lexes, stand, many) stops =
+    let lexing = some-lexing text 0 (omega arith) in
+    let rest = begun text 0 at ls lexing.0 lexing.1 lexes lexing.2 in (
+      lexing.0,
+      lexing.1,
+      ss,
+      σ,
+      rest.0,
+      lexing.2,
+      subst (λ xs. Stand nothing ss xs σ rest.0) (sym rest.1) (stand-rest nothing σ ss ls rest.0 stand),
+      ap (λ n. n + 1) (sym many),
+      inl (stops rest.0 lexing.1 rest.2),
+    )
+
+pub spec-breaks : (text : List ℕ) (count at : ℕ) (σ : State) (read : StatementRead) (fault : Fault) → StandTo text count at σ → IsRead text at read
+    → FailsFirst (statement_checks σ read.place (statement read.statement)) fault → SpecFault text (record { statement = count + 1; at = fault.at; rule = fault.rule })
+spec-breaks text count at σ read fault (ls, ss, lexes, stand, many) (front, lexes_f, spells, begins) fails =
+    let lexing = some-lexing text 0 (omega arith) in
+    let rest = begun text 0 read.end (ls ++ front) lexing.0 lexing.1 (lexemes-append text 0 at read.end ls front lexes lexes_f) lexing.2 in (
+      lexing.0,
+      lexing.1,
+      ss,
+      σ,
+      front ++ rest.0,
+      lexing.2,
+      subst (λ xs. Stand nothing ss xs σ (front ++ rest.0)) (sym (rest.1 ∙ append_assoc ls front rest.0)) (stand-rest nothing σ ss ls (front ++ rest.0) stand),
+      ap (λ n. n + 1) (sym many),
+      inr (statement read.statement, front, rest.0, refl, spells, subst (λ i. FailsFirst (statement_checks σ i (statement read.statement)) fault) (sym begins) fails),
+    )

@@ -1,0 +1,5 @@
+use Rattle.mz_spec.proofs.SomeSpec.{declares-legally}
+use Rattle.mz_spec.proofs.laws.specifications_are_legal.Goals as goal
+
+pub returns : goal.returns
+returns c = declares-legally

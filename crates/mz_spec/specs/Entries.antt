@@ -1,0 +1,12 @@
+-- What the code's entries and states stand for.
+use Rattle.std.specs.Prelude.{map}
+use Rattle.mz_logic.specs.DeclView.{declaration}
+use Rattle.mz_spec.specs.declared.spec.Declared.{Declared}
+use Rattle.mz_spec.specs.declared.state.State.{State as StateRead}
+use Rattle.mz_spec.specs.State.{Entry, State}
+
+abbrev pub entry : Declared → Entry
+entry e = record { decl = declaration e.decl; from = e.name.0; to = e.name.1; place = e.place }
+
+abbrev pub state : StateRead → State
+state s = record { sort_names = s.sort_names; entries = map entry s.entries.items }

@@ -1,0 +1,13 @@
+pub mod Word
+pub mod Names
+pub mod Statement
+pub mod Progress
+pub mod Code
+pub mod View
+pub mod State
+pub mod Rules
+pub mod Spec
+pub mod Entries
+pub mod Reading
+pub mod Answers
+pub mod Laws

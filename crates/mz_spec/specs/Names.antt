@@ -1,0 +1,11 @@
+-- Names and their numbers.
+use Rattle.std.specs.Prelude.{◌≡◌, ℕ, suc, List, [], ◌∷◌, Option, Some, None, option_map, if◌then◌else◌, bytes_eq}
+
+-- the number of a name among names, if it is one of them
+abbrev pub number_of : List (List ℕ) → List ℕ → Option ℕ
+number_of [] name = None
+number_of (other ∷ names) name = if bytes_eq other name then Some 0 else option_map suc (number_of names name)
+
+-- it is none of them
+abbrev pub IsNew : List (List ℕ) → List ℕ → Type 0
+IsNew names name = number_of names name ≡ None

@@ -1,0 +1,17 @@
+// Why a text is no specification.
+use mz_lex::S;
+
+/// The first rule that fails, and the byte at which it is told.
+#[derive(Clone, Copy, Debug, PartialEq, Eq)]
+pub struct Fault {
+    pub at: u32,
+    pub rule: S,
+}
+
+/// The statement at fault, counted from 1, the byte at which it is told, and the rule.
+#[derive(Clone, Copy, Debug, PartialEq, Eq)]
+pub struct SpecRefusal {
+    pub statement: u32,
+    pub at: u32,
+    pub rule: S,
+}
