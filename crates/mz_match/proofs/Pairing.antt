@@ -1,0 +1,226 @@
+-- One statement more, beside the declarations.
+use Rattle.std.proofs.Common.{◌≡◌, ◌<◌, ◌≤◌, ◌+◌, ◌^◌, ◌∙◌, ℕ, zero, suc, Bool, true, false, List, [], ◌∷◌, ◌++◌, length, drop, Ok, refl, sym, ap, subst, inl, inr, arith, length-append}
+use Rattle.std.specs.Prelude.{if◌then◌else◌}
+use Rattle.mz_checks.specs.Checks.{AllHold, FailsFirst}
+use Rattle.mz_cmd.specs.declared.rule.Refusal.{Refusal}
+use Rattle.mz_cmd.specs.declared.statement.StmtAt.TheVariants.{End}
+use Rattle.mz_logic.specs.Declaration.{Declaration, sort_decl, term_decl, assertion_decl, terms}
+use Rattle.mz_logic.specs.LegalLists.{Statement, declarations}
+use Rattle.mz_layout.specs.Layout.{Layout}
+use Rattle.mz_layout.specs.Tables.{list_at}
+use Rattle.mz_layout.proofs.Parts.{parts-of_layout}
+use Rattle.mz_binary.specs.declared.statement.Statement.{Statement as Told}
+use Rattle.mz_binary.specs.Checking.{AllRowsTaken, checks_of}
+use Rattle.mz_binary.specs.Chains.{IsGoodStatement, GoodTo}
+use Rattle.mz_binary.specs.Good.{Good, FailsAfter}
+use Rattle.mz_binary.specs.Progress.{Progress, HasPassed, Tells, kind_code, row_after}
+use Rattle.mz_binary.specs.Judging.{Passes}
+use Rattle.mz_binary.proofs.ChainLaws.{chain-declares}
+use Rattle.mz_binary.proofs.LegalLaws.{good-legal}
+use Rattle.mz_binary.proofs.FaultLaws.{good-spelled}
+use Rattle.mz_spec.specs.Spec.{SpecMakes}
+use Rattle.mz_spec.specs.State.{Entry, env_of}
+use Rattle.mz_match.specs.declared.matching.Matching.{Matching}
+use Rattle.mz_match.specs.declared.rule.M.{M}
+use Rattle.mz_match.specs.declared.rule.M.TheVariants as rules
+use Rattle.mz_match.specs.declared.verdict.Verdict.{Verdict}
+use Rattle.mz_match.specs.declared.verdict.Verdict.TheVariants as verdicts
+use Rattle.mz_match.specs.Match.{publics, term_row_of, term_rows, Agrees, Leaves, partner_checks}
+use Rattle.mz_match.specs.Told.{IsTold, IsMatched}
+use Rattle.mz_match.specs.Verdict.{counts_of, IsSoundIfAccepted, IsVerdict}
+use Rattle.mz_match.proofs.Lists.{append-nil, publics-append, publics-local, publics-public, term_rows-append, drop-further, drop-past, kinds-total, length-declarations, length-env, leaves-nothing, leaves-local, leaves-public, partner-there}
+
+abbrev assertion_code : Bool → ℕ
+assertion_code b = if b then 0x02 else 0x06
+
+assertion-code : (b : Bool) → assertion_code b ≡ 0x05 → ⊥
+assertion-code true e = absurd (omega arith)
+assertion-code false e = absurd (omega arith)
+
+publics-fewer : (ss : List Statement) → length (publics ss) ≤ length ss
+publics-fewer [] = omega arith
+publics-fewer (s ∷ ss) = by s.is_local (publics-fewer ss)
+  where
+    by : (local : Bool) → length (publics ss) ≤ length ss → length (if local then publics ss else s.decl ∷ publics ss) ≤ length (s ∷ ss)
+    by true few = omega arith
+    by false few = omega arith
+
+-- before the first statement
+pub matched-nothing : (p : Progress) (ds : List Declaration) (m : Matching) → Layout p.file → HasPassed p [] [] → m.done ≡ 0 → m.passed ≡ 0 → m.publics ≡ [] → IsMatched p ds m [] []
+matched-nothing p ds m layout passed none no_statements no_rows = record {
+  layout = layout;
+  passed = passed;
+  leaves = subst (λ k. Leaves ds [] (drop k ds)) (sym none) (leaves-nothing ds);
+  within = omega (arith, none);
+  done_is = none;
+  passed_is = no_statements;
+  rows_are = no_rows;
+}
+
+-- what is told is the next statement
+pub told-next : (p : Progress) (ds : List Declaration) (m : Matching) (ss : List Statement) (env : List Declaration) (after : Progress) (told : Told)
+    → IsMatched p ds m ss env → (passes : Passes p ss env after told) → IsTold p.file m.publics told ss env passes.statement after.at
+told-next p ds m ss env after told matched passes =
+    let here : p.at ≡ told.at = sym passes.tells.place in
+    record {
+      before = subst (λ at. GoodTo p.file [] (list_at p.file) ss env at) here matched.passed.statements;
+      good = subst (λ at. IsGoodStatement p.file env at passes.statement after.at) here passes.good;
+      tells = subst (λ at. Tells told (length ss + 1) at env passes.statement) here passes.tells;
+      rows_are = matched.rows_are;
+    }
+
+module _ (p : Progress) (ds : List Declaration) (m : Matching) (ss : List Statement) (env : List Declaration) (after : Progress) (told : Told)
+    (matched : IsMatched p ds m ss env) (passes : Passes p ss env after told) (later : Matching) (number : later.passed ≡ told.number) where
+  abbrev s : Statement
+  s = passes.statement
+
+  many : later.passed ≡ length (ss ++ s ∷ [])
+  many = omega (arith, number, passes.tells.number, length-append ss (s ∷ []))
+
+  layout : Layout after.file
+  layout = subst Layout (sym passes.same_file) matched.layout
+
+  -- the rows that were taken before
+  taken : length (terms (declarations ss)) ≡ length (terms env)
+  taken = ap (λ ds. length (terms ds)) (sym (chain-declares (IsGoodStatement p.file) [] (list_at p.file) ss env p.at matched.passed.statements))
+
+  rows-more : term_rows 0 (ss ++ s ∷ []) ≡ m.publics ++ term_rows (length (terms env)) (s ∷ [])
+  rows-more =
+      let place : 0 + length (terms (declarations ss)) ≡ length (terms env) = omega (arith, taken) in
+      term_rows-append 0 ss (s ∷ []) ∙ ap (λ xs. xs ++ term_rows (0 + length (terms (declarations ss))) (s ∷ [])) (sym matched.rows_are)
+      ∙ ap (λ n. m.publics ++ term_rows n (s ∷ [])) place
+
+  -- a local statement changes nothing
+  pub matched-local : s.is_local ≡ true → later.done ≡ m.done → later.publics ≡ m.publics → IsMatched after ds later (ss ++ s ∷ []) (env ++ s.decl ∷ [])
+  matched-local is_local same_done same_rows = record {
+    layout = layout;
+    passed = passes.passed;
+    leaves = subst (λ k. Leaves ds (ss ++ s ∷ []) (drop k ds)) (sym same_done) (leaves-local ds (drop m.done ds) ss s is_local matched.leaves);
+    within = omega (arith, same_done, matched.within);
+    done_is = same_done ∙ matched.done_is ∙ ap length (sym (publics-append ss (s ∷ []) ∙ ap (λ ps. publics ss ++ ps) (publics-local s is_local) ∙ append-nil (publics ss)));
+    passed_is = many;
+    rows_are = same_rows ∙ sym (rows-more ∙ ap (λ (b : Bool). m.publics ++ ((if b then [] else term_row_of (length (terms env)) s.decl) ++ [])) is_local ∙ append-nil m.publics);
+  }
+
+  -- a public one has its partner
+  pub matched-public : s.is_local ≡ false → AllHold (partner_checks (drop m.done ds) s.decl) → later.done ≡ m.done + 1 → later.publics ≡ m.publics ++ term_row_of (length (terms env)) s.decl
+      → IsMatched after ds later (ss ++ s ∷ []) (env ++ s.decl ∷ [])
+  matched-public is_public agrees one_more rows =
+      let there = partner-there (drop m.done ds) s.decl agrees in
+      let further = drop-further ds m.done there.0 there.1 there.2 in
+      let next : later.done ≡ suc m.done = omega (arith, one_more) in
+      let counted : length (publics (ss ++ s ∷ [])) ≡ length (publics ss) + 1 =
+      ap length (publics-append ss (s ∷ []) ∙ ap (λ ps. publics ss ++ ps) (publics-public s [] is_public)) ∙ length-append (publics ss) (s.decl ∷ []) in
+      record {
+        layout = layout;
+        passed = passes.passed;
+        leaves = subst (λ k. Leaves ds (ss ++ s ∷ []) (drop k ds)) (sym next) (subst (Leaves ds (ss ++ s ∷ [])) (sym further.0)
+            (leaves-public ds there.1 there.0 ss s is_public there.3 (subst (Leaves ds ss) there.2 matched.leaves)));
+        within = omega (arith, one_more, further.1);
+        done_is = omega (arith, one_more, matched.done_is, counted);
+        passed_is = many;
+        rows_are = rows ∙ sym (rows-more ∙ ap (λ (b : Bool). m.publics ++ ((if b then [] else term_row_of (length (terms env)) s.decl) ++ [])) is_public
+            ∙ ap (λ xs. m.publics ++ xs) (append-nil (term_row_of (length (terms env)) s.decl)));
+      }
+
+-- the rows that a declaration told as a term takes, and another
+pub term-row : (env : List Declaration) (d : Declaration) → kind_code d ≡ 0x05 → term_row_of (length (terms env)) d ≡ row_after env d ∷ []
+term-row env (sort_decl m) is = absurd (omega arith)
+term-row env (term_decl d) is = refl
+term-row env (assertion_decl a) is = absurd (assertion-code a.is_axiom is)
+
+pub no-term-row : (n : ℕ) (d : Declaration) → (kind_code d ≡ 0x05 → ⊥) → term_row_of n d ≡ []
+no-term-row n (sort_decl m) is = refl
+no-term-row n (term_decl d) is = absurd (is refl)
+no-term-row n (assertion_decl a) is = refl
+
+-- fewer declarations are done than statements were told
+pub done-fewer : (p : Progress) (ds : List Declaration) (m : Matching) (ss : List Statement) (env : List Declaration) (after : Progress) (told : Told)
+    → IsMatched p ds m ss env → Passes p ss env after told → m.done + 1 ≤ told.number
+done-fewer p ds m ss env after told matched passes = omega (arith, matched.done_is, passes.tells.number, publics-fewer ss)
+
+-- ---- verdicts
+
+-- a public statement differs
+pub differs-here : (text : List ℕ) (es : List Entry) (p : Progress) (m : Matching) (ss : List Statement) (env : List Declaration) (after : Progress) (told : Told) (rule : M)
+    → SpecMakes text es → IsMatched p (env_of es) m ss env → (passes : Passes p ss env after told) → told.local ≡ false → FailsFirst (partner_checks (drop m.done (env_of es)) passes.statement.decl) rule
+    → IsVerdict text p.file (verdicts.Match (m.done + 1) told.number rule)
+differs-here text es p m ss env after told rule makes matched passes is_public fails = (
+  env_of es,
+  (es, makes, refl),
+  record {
+    layout = matched.layout;
+    before = ss;
+    env = env;
+    at = p.at;
+    left = drop m.done (env_of es);
+    statements = matched.passed.statements;
+    leaves = matched.leaves;
+    declaration_is = ap (λ n. n + 1) matched.done_is;
+    statement_is = passes.tells.number;
+    fails = inr (passes.statement, after.at, passes.good, sym passes.tells.mark ∙ is_public, fails);
+  },
+)
+
+-- a rule of the binary fails
+pub fails-here : (text : List ℕ) (es : List Entry) (p : Progress) (m : Matching) (ss : List Statement) (env : List Declaration) (r : Refusal)
+    → SpecMakes text es → IsMatched p (env_of es) m ss env → FailsAfter p.file ss env p.at r → IsVerdict text p.file (verdicts.Binary r)
+fails-here text es p m ss env r makes matched fails =
+    (env_of es, (es, makes, refl), inr (ss, env, p.at, drop m.done (env_of es), fails, matched.leaves))
+
+-- a declaration is left
+pub missing-here : (text : List ℕ) (es : List Entry) (p : Progress) (m : Matching) (ss : List Statement) (env : List Declaration)
+    → SpecMakes text es → IsMatched p (env_of es) m ss env → Good p.file ss → m.done < length es → IsVerdict text p.file (verdicts.Match (m.done + 1) (m.passed + 1) rules.Missing)
+missing-here text es p m ss env makes matched good short = (
+  env_of es,
+  (es, makes, refl),
+  record {
+    layout = matched.layout;
+    before = ss;
+    env = good.env;
+    at = good.to;
+    left = drop m.done (env_of es);
+    statements = good.statements;
+    leaves = matched.leaves;
+    declaration_is = ap (λ n. n + 1) matched.done_is;
+    statement_is = ap (λ n. n + 1) matched.passed_is;
+    fails = inl (good.ends, inl (some-left (env_of es) m.done (omega (arith, length-env es, short)), refl));
+  },
+)
+  where
+    some-left : (ds : List Declaration) (i : ℕ) → i < length ds → drop i ds ≡ [] → ⊥
+    some-left [] i below none = absurd (omega arith)
+    some-left (d ∷ ds) zero below none = absurd cc
+    some-left (d ∷ ds) (suc i) below none = some-left ds i (omega arith) none
+
+-- none is left
+pub accepted-here : (text : List ℕ) (es : List Entry) (p : Progress) (m : Matching) (ss : List Statement) (env : List Declaration)
+    → SpecMakes text es → IsMatched p (env_of es) m ss env → Good p.file ss → m.done ≡ length es → IsVerdict text p.file (verdicts.Accepted (counts_of (env_of es)))
+accepted-here text es p m ss env makes matched good all =
+    let none : drop m.done (env_of es) ≡ [] = drop-past (env_of es) m.done (omega (arith, length-env es, all)) in
+    let done : env_of es ≡ matched.leaves.done = matched.leaves.all ∙ ap (λ xs. matched.leaves.done ++ xs) none ∙ append-nil matched.leaves.done in
+    (record { declared = env_of es; statements = ss; is_spec = (es, makes, refl); is_good = good; agrees = subst (λ ds. Agrees ds (publics ss)) (sym done) matched.leaves.agrees }, refl)
+
+-- the number of a good list's statements
+pub few-statements : (file : List ℕ) (ss : List Statement) → length file < 2 ^ 32 → Good file ss → length ss + 1 < 2 ^ 32
+few-statements file ss small good =
+    let parts = parts-of_layout file good.layout in
+    let at_end : AllHold (checks_of file good.env good.to (Ok End)) = subst (λ r. AllHold (checks_of file good.env good.to r)) good.ends.ends good.ends.passes.1 in
+    let taken : AllRowsTaken file good.env = at_end.0 in
+    let declares : length good.env ≡ length (declarations ss) = ap length (chain-declares (IsGoodStatement file) [] (list_at file) ss good.env good.to good.statements) in
+    omega (arith, small, parts.few_sorts, parts.few_terms, parts.few_thms, taken.sorts_taken, taken.terms_taken, taken.thms_taken, declares, kinds-total good.env, length-declarations ss)
+
+-- what is accepted is sound
+pub sound : (spec bin : List ℕ) (v : Verdict) → IsVerdict spec bin v → IsSoundIfAccepted spec bin v
+sound spec bin (verdicts.Accepted counts) (a, is) = record {
+  declared = a.declared;
+  statements = a.statements;
+  is_spec = a.is_spec;
+  spelled = good-spelled bin a.statements a.is_good;
+  legal = good-legal bin a.statements a.is_good;
+  agrees = a.agrees;
+}
+sound spec bin (verdicts.Spec refusal) is = tt
+sound spec bin (verdicts.Binary refusal) is = tt
+sound spec bin (verdicts.Match declaration statement rule) is = tt
+sound spec bin verdicts.Mem is = tt

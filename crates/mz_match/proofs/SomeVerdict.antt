@@ -1,0 +1,176 @@
+-- Two files are accepted or have a first refusal.
+use Rattle.std.proofs.Common.{◌≡◌, ◌⊎◌, ◌+◌, ◌∙◌, ℕ, Bool, true, false, List, [], ◌∷◌, ◌++◌, length, refl, sym, ap, subst, inl, inr, append_assoc}
+use Rattle.std.specs.Prelude.{◌==◌, if◌then◌else◌}
+use Rattle.std.proofs.lemmas.Bool.{cases_eq}
+use Rattle.mz_checks.specs.Checks.{AreDecided}
+use Rattle.mz_checks.proofs.CheckLaws.{all_hold-or_fails}
+use Rattle.mz_cmd.specs.declared.rule.Refusal.{Refusal}
+use Rattle.mz_logic.specs.Declaration.{Declaration, sort_decl, term_decl, assertion_decl}
+use Rattle.mz_logic.specs.declared.binder.SortMods.{SortMods}
+use Rattle.mz_logic.specs.LegalLists.{Statement}
+use Rattle.mz_layout.specs.Layout.{Layout}
+use Rattle.mz_layout.specs.Tables.{list_at}
+use Rattle.mz_binary.specs.Chains.{IsGoodStatement, GoodTo}
+use Rattle.mz_binary.specs.Good.{Good, FailsAfter, BinaryFault}
+use Rattle.mz_binary.proofs.ChainLaws.{chain-more}
+use Rattle.mz_binary.proofs.FaultLaws.{good-or-fault}
+use Rattle.mz_spec.specs.Spec.{SpecOf, SpecMakes, SpecFault}
+use Rattle.mz_spec.specs.State.{Entry, env_of}
+use Rattle.mz_spec.specs.declared.refusal.SpecRefusal.{SpecRefusal}
+use Rattle.mz_spec.proofs.SomeSpec.{one-of-both}
+use Rattle.mz_match.specs.declared.kind.Kind.{Kind}
+use Rattle.mz_match.specs.declared.kind.Kind.TheVariants as kinds
+use Rattle.mz_match.specs.declared.rule.M.{M}
+use Rattle.mz_match.specs.declared.rule.M.TheVariants as rules
+use Rattle.mz_match.specs.declared.verdict.Counts.{Counts}
+use Rattle.mz_match.specs.declared.verdict.Verdict.{Verdict}
+use Rattle.mz_match.specs.declared.verdict.Verdict.TheVariants as verdicts
+use Rattle.mz_match.specs.Match.{publics, number_of, kind_of, part_checks, Agrees, Leaves, partner_checks}
+use Rattle.mz_match.specs.Verdict.{counts_of, AcceptsWith, MatchFails, FirstRefusal}
+use Rattle.mz_match.proofs.Lists.{append-nil, leaves-nothing, leaves-local, leaves-public, partner-there}
+
+-- ---- whether a declaration and its partner agree can be found out
+
+abbrev kind_numbered : ℕ → Kind
+kind_numbered n = if n == 0 then kinds.Sort else (if n == 1 then kinds.Term else (if n == 2 then kinds.Axiom else (if n == 3 then kinds.Definition else kinds.Theorem)))
+
+numbered : (k : Kind) → kind_numbered (number_of k) ≡ k
+numbered kinds.Sort = refl
+numbered kinds.Term = refl
+numbered kinds.Axiom = refl
+numbered kinds.Definition = refl
+numbered kinds.Theorem = refl
+
+kind-decided : (k l : Kind) → (k ≡ l) ⊎ (k ≡ l → ⊥)
+kind-decided k l = elim (cases_eq (number_of k) (number_of l)) [
+  | inl same ↦ inl (sym (numbered k) ∙ ap kind_numbered same ∙ numbered l)
+  | inr differ ↦ inr (λ same. differ (ap number_of same))
+]
+
+mods-decided : (m n : SortMods) → (m ≡ n) ⊎ (m ≡ n → ⊥)
+mods-decided m n = elim (cases_eq m.0 n.0) [
+  | inl same ↦ inl (ap (λ x. record { 0 = x }) same)
+  | inr differ ↦ inr (λ same. differ (ap (λ (x : SortMods). x.0) same))
+]
+
+part-decided : (d p : Declaration) → AreDecided (part_checks d p)
+part-decided (sort_decl m) (sort_decl n) = (mods-decided m n, λ _. tt)
+part-decided (sort_decl m) (term_decl e) = tt
+part-decided (sort_decl m) (assertion_decl b) = tt
+part-decided (term_decl d) (sort_decl n) = tt
+part-decided (term_decl d) (term_decl e) = (inr (λ h. h), λ _. tt)
+part-decided (term_decl d) (assertion_decl b) = tt
+part-decided (assertion_decl a) (sort_decl n) = tt
+part-decided (assertion_decl a) (term_decl e) = tt
+part-decided (assertion_decl a) (assertion_decl b) = (inr (λ h. h), λ _. tt)
+
+partner-decided : (left : List Declaration) (p : Declaration) → AreDecided (partner_checks left p)
+partner-decided [] p = (inr (λ h. h), λ _. tt)
+partner-decided (d ∷ left) p = (kind-decided (kind_of d) (kind_of p), λ _. part-decided d p)
+
+-- ---- along good statements
+
+-- their public ones agree with the first declarations, or one of them differs
+abbrev pub Walked : List ℕ → List Declaration → List Statement → Type 0
+Walked bin ds ss = ((left : List Declaration) × Leaves ds ss left) ⊎ ((d : ℕ) × (s : ℕ) × (rule : M) × MatchFails bin ds d s rule)
+
+module _ (bin : List ℕ) (layout : Layout bin) (ds : List Declaration) where
+  -- a statement is local or public
+  mark : (s : Statement) → (s.is_local ≡ true) ⊎ (s.is_local ≡ false)
+  mark s = by s.is_local
+    where
+      by : (b : Bool) → (b ≡ true) ⊎ (b ≡ false)
+      by true = inl refl
+      by false = inr refl
+
+  walk : (before : List Statement) (env : List Declaration) (at : ℕ) (ss : List Statement) (env' : List Declaration) (to : ℕ) (left : List Declaration)
+      → GoodTo bin [] (list_at bin) before env at → Leaves ds before left → GoodTo bin env at ss env' to → Walked bin ds (before ++ ss)
+  walk before env at [] env' to left passed leaves chain = subst (Walked bin ds) (sym (append-nil before)) (inl (left, leaves))
+  walk before env at (s ∷ ss) env' to left passed leaves chain =
+      let go : (rest : List Declaration) → Leaves ds (before ++ s ∷ []) rest → Walked bin ds ((before ++ s ∷ []) ++ ss) = λ rest more.
+      walk (before ++ s ∷ []) (env ++ s.decl ∷ []) chain.0 ss env' to rest (chain-more (IsGoodStatement bin) [] (list_at bin) before env at s chain.0 passed chain.1) more chain.2 in
+      subst (Walked bin ds) (append_assoc before (s ∷ []) ss) (elim (mark s) [
+        | inl is_local ↦ go left (leaves-local ds left before s is_local leaves)
+        | inr is_public ↦ elim (all_hold-or_fails (partner_checks left s.decl) (partner-decided left s.decl)) [
+          | inl agrees ↦ (
+              let there = partner-there left s.decl agrees in
+              go there.1 (leaves-public ds there.1 there.0 before s is_public there.3 (subst (Leaves ds before) there.2 leaves)))
+          | inr fails ↦ inr (
+            length (publics before) + 1,
+            length before + 1,
+            fails.0,
+            record {
+              layout = layout;
+              before = before;
+              env = env;
+              at = at;
+              left = left;
+              statements = passed;
+              leaves = leaves;
+              declaration_is = refl;
+              statement_is = refl;
+              fails = inr (s, chain.0, chain.1, is_public, fails.1);
+            },
+          )
+        ]
+      ])
+
+  pub walked : (ss : List Statement) (env : List Declaration) (to : ℕ) → GoodTo bin [] (list_at bin) ss env to → Walked bin ds ss
+  walked ss env to chain = walk [] [] (list_at bin) ss env to ds (refl, refl) (leaves-nothing ds) chain
+
+-- ---- either
+
+abbrev pub Either : List ℕ → List ℕ → Type 0
+Either spec bin = ((counts : Counts) × AcceptsWith spec bin counts) ⊎ ((verdict : Verdict) × FirstRefusal spec bin verdict)
+
+module _ (spec bin : List ℕ) (ds : List Declaration) (is_spec : SpecOf spec ds) where
+  differs : (d s : ℕ) (rule : M) → MatchFails bin ds d s rule → Either spec bin
+  differs d s rule fails = inr (verdicts.Match d s rule, (ds, is_spec, fails))
+
+  -- at a good end
+  at-end : (ss : List Statement) (left : List Declaration) → Good bin ss → Leaves ds ss left → Either spec bin
+  at-end ss [] good leaves = inl (
+    counts_of ds,
+    (
+      record {
+        declared = ds;
+        statements = ss;
+        is_spec = is_spec;
+        is_good = good;
+        agrees = subst (λ xs. Agrees xs (publics ss)) (sym (leaves.all ∙ append-nil leaves.done)) leaves.agrees;
+      },
+      refl,
+    ),
+  )
+  at-end ss (d ∷ left) good leaves = differs (length (publics ss) + 1) (length ss + 1) rules.Missing (record {
+    layout = good.layout;
+    before = ss;
+    env = good.env;
+    at = good.to;
+    left = d ∷ left;
+    statements = good.statements;
+    leaves = leaves;
+    declaration_is = refl;
+    statement_is = refl;
+    fails = inl (good.ends, inl (λ none. absurd cc, refl));
+  })
+
+  over-good : (ss : List Statement) → Good bin ss → Walked bin ds ss → Either spec bin
+  over-good ss good (inl (left, leaves)) = at-end ss left good leaves
+  over-good ss good (inr (d, s, rule, fails)) = differs d s rule fails
+
+  over-fault : (ss : List Statement) (env : List Declaration) (at : ℕ) (r : Refusal) → FailsAfter bin ss env at r → Walked bin ds ss → Either spec bin
+  over-fault ss env at r fault (inl (left, leaves)) = inr (verdicts.Binary r, (ds, is_spec, inr (ss, env, at, left, fault, leaves)))
+  over-fault ss env at r fault (inr (d, s, rule, fails)) = differs d s rule fails
+
+  over-binary : ((ss : List Statement) × Good bin ss) ⊎ ((r : Refusal) × BinaryFault bin r) → Either spec bin
+  over-binary (inl (ss, good)) = over-good ss good (walked bin good.layout ds ss good.env good.to good.statements)
+  over-binary (inr (r, inl layout)) = inr (verdicts.Binary r, (ds, is_spec, inl layout))
+  over-binary (inr (r, inr (ss, env, at, fault))) = over-fault ss env at r fault (walked bin fault.layout ds ss env at fault.statements)
+
+over-spec : (spec bin : List ℕ) → ((entries : List Entry) × SpecMakes spec entries) ⊎ ((r : SpecRefusal) × SpecFault spec r) → Either spec bin
+over-spec spec bin (inl (entries, makes)) = over-binary spec bin (env_of entries) (entries, makes, refl) (good-or-fault bin)
+over-spec spec bin (inr (r, fault)) = inr (verdicts.Spec r, fault)
+
+pub verdict-or-refusal : (spec bin : List ℕ) → Either spec bin
+verdict-or-refusal spec bin = over-spec spec bin (one-of-both spec)

@@ -1,0 +1,4 @@
+pub mod Match
+pub mod Lines
+pub mod Verdict
+pub mod Told

@@ -1,0 +1,120 @@
+-- What is said of a specification and a binary together.
+use Rattle.std.specs.Prelude.{◌≡◌, ◌⊎◌, ◌+◌, ⊤, ℕ, List, [], ◌∷◌, length, false, if◌then◌else◌}
+use Rattle.mz_checks.specs.Checks.{FailsFirst}
+use Rattle.mz_cmd.specs.declared.rule.Refusal.{Refusal}
+use Rattle.mz_logic.specs.Declaration.{Declaration}
+use Rattle.mz_logic.specs.LegalLists.{Statement, Legal}
+use Rattle.mz_layout.specs.Layout.{Layout, layout_checks}
+use Rattle.mz_layout.specs.Tables.{list_at}
+use Rattle.mz_binary.specs.Chains.{Statements, IsGoodStatement, GoodTo, EndsAt}
+use Rattle.mz_binary.specs.Good.{Good, FailsAfter}
+use Rattle.mz_spec.specs.Spec.{SpecOf, SpecFault}
+use Rattle.mz_match.specs.declared.kind.Kind.{Kind}
+use Rattle.mz_match.specs.declared.kind.Kind.TheVariants as kinds
+use Rattle.mz_match.specs.declared.rule.M.{M}
+use Rattle.mz_match.specs.declared.verdict.Counts.{Counts}
+use Rattle.mz_match.specs.declared.verdict.Verdict.{Verdict}
+use Rattle.mz_match.specs.declared.verdict.Verdict.TheVariants as verdicts
+use Rattle.mz_binary.specs.RefusalLine.{refusal_line}
+use Rattle.mz_match.specs.Lines.{accepted_line, spec_line, match_line}
+use Rattle.mz_match.specs.Match.{publics, kind_of, is_kind, Agrees, Leaves, partner_checks, end_checks}
+
+-- ---- accepted
+
+-- how many declarations there are of a kind
+abbrev pub count : Kind → List Declaration → ℕ
+count k [] = 0
+count k (d ∷ ds) = (if is_kind (kind_of d) k then 1 else 0) + count k ds
+
+abbrev pub counts_of : List Declaration → Counts
+counts_of ds = record {
+  sorts = count kinds.Sort ds;
+  terms = count kinds.Term ds;
+  axioms = count kinds.Axiom ds;
+  definitions = count kinds.Definition ds;
+  theorems = count kinds.Theorem ds;
+}
+
+-- the specification declares something, the binary is good, and its public statements agree
+pub record Accepts (spec bin : List ℕ) : Type 0 where
+  pub declared : List Declaration
+  pub statements : List Statement
+  pub is_spec : SpecOf spec declared
+  pub is_good : Good bin statements
+  pub agrees : Agrees declared (publics statements)
+
+-- so many of each kind are declared
+abbrev pub AcceptsWith : List ℕ → List ℕ → Counts → Type 0
+AcceptsWith spec bin counts = (accepts : Accepts spec bin) × (counts ≡ counts_of accepts.declared)
+
+-- the binary's statements are a legal list, and its public ones agree with what the specification declares
+pub record IsSound (spec bin : List ℕ) : Type 0 where
+  pub declared : List Declaration
+  pub statements : List Statement
+  pub is_spec : SpecOf spec declared
+  pub spelled : Statements bin statements
+  pub legal : Legal statements
+  pub agrees : Agrees declared (publics statements)
+
+abbrev pub IsSoundIfAccepted : List ℕ → List ℕ → Verdict → Type 0
+IsSoundIfAccepted spec bin (verdicts.Accepted counts) = IsSound spec bin
+IsSoundIfAccepted spec bin (verdicts.Spec refusal) = ⊤
+IsSoundIfAccepted spec bin (verdicts.Binary refusal) = ⊤
+IsSoundIfAccepted spec bin (verdicts.Match declaration statement rule) = ⊤
+IsSoundIfAccepted spec bin verdicts.Mem = ⊤
+
+-- ---- refused
+
+-- the binary's first fault comes before anything differs from the declarations: header and tables fail, or the
+-- statements before are good and agree, and after them a rule fails
+abbrev pub BinaryFails : List ℕ → List Declaration → Refusal → Type 0
+BinaryFails bin ds refusal =
+    ((refusal.statement ≡ 0) × FailsFirst (layout_checks bin) (refusal.at, refusal.rule))
+    ⊎ ((ss : List Statement) × (env : List Declaration) × (at : ℕ) × (left : List Declaration) × FailsAfter bin ss env at refusal × Leaves ds ss left)
+
+-- after good statements that agree, the list ends before the declarations do, or a good public statement stands there
+-- that differs from the next declaration
+abbrev pub Differs : List ℕ → List Declaration → ℕ → List Declaration → M → Type 0
+Differs bin env at left rule =
+    (EndsAt bin env at × FailsFirst (end_checks left) rule)
+    ⊎ ((s : Statement) × (next : ℕ) × IsGoodStatement bin env at s next × (s.is_local ≡ false) × FailsFirst (partner_checks left s.decl) rule)
+
+-- the first difference: at which declaration, and at which statement
+pub record MatchFails (bin : List ℕ) (ds : List Declaration) (declaration statement : ℕ) (rule : M) : Type 0 where
+  pub layout : Layout bin
+  pub before : List Statement
+  pub env : List Declaration
+  pub at : ℕ
+  pub left : List Declaration
+  pub statements : GoodTo bin [] (list_at bin) before env at
+  pub leaves : Leaves ds before left
+  pub declaration_is : declaration ≡ length (publics before) + 1
+  pub statement_is : statement ≡ length before + 1
+  pub fails : Differs bin env at left rule
+
+-- the first refusal: of the specification, else of the binary or of the match, whichever comes first
+abbrev pub FirstRefusal : List ℕ → List ℕ → Verdict → Type 0
+FirstRefusal spec bin (verdicts.Accepted counts) = ⊥
+FirstRefusal spec bin (verdicts.Spec refusal) = SpecFault spec refusal
+FirstRefusal spec bin (verdicts.Binary refusal) = (ds : List Declaration) × SpecOf spec ds × BinaryFails bin ds refusal
+FirstRefusal spec bin (verdicts.Match declaration statement rule) = (ds : List Declaration) × SpecOf spec ds × MatchFails bin ds declaration statement rule
+FirstRefusal spec bin verdicts.Mem = ⊥
+
+-- ---- either
+
+abbrev pub IsVerdict : List ℕ → List ℕ → Verdict → Type 0
+IsVerdict spec bin (verdicts.Accepted counts) = AcceptsWith spec bin counts
+IsVerdict spec bin (verdicts.Spec refusal) = FirstRefusal spec bin (verdicts.Spec refusal)
+IsVerdict spec bin (verdicts.Binary refusal) = FirstRefusal spec bin (verdicts.Binary refusal)
+IsVerdict spec bin (verdicts.Match declaration statement rule) = FirstRefusal spec bin (verdicts.Match declaration statement rule)
+IsVerdict spec bin verdicts.Mem = ⊤
+
+-- ---- its line
+
+-- want of memory has none
+abbrev pub line_of : Verdict → List ℕ
+line_of (verdicts.Accepted counts) = accepted_line counts
+line_of (verdicts.Spec refusal) = spec_line refusal
+line_of (verdicts.Binary refusal) = refusal_line refusal
+line_of (verdicts.Match declaration statement rule) = match_line declaration statement rule
+line_of verdicts.Mem = []

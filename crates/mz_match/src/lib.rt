@@ -1,0 +1,27 @@
+//! A specification and a binary together: whether the binary proves what the specification
+//! declares, or the first refusal of the two.
+//!
+//! `specs/Match.antt` says when a declaration and its partner agree, `specs/Verdict.antt` what is
+//! accepted and what the first refusal is, and `specs/Lines.antt` the printed lines.
+#![tactic(auto)]
+
+mod count;
+mod kind;
+mod laws;
+mod line;
+mod matching;
+mod pair;
+mod publics;
+mod rule;
+#[cfg(test)]
+mod tests;
+mod verdict;
+mod verify;
+
+pub use laws::each_pair_has_one_verdict;
+pub use line::verdict_line;
+pub use pair::match_statement;
+pub use publics::Publics;
+pub use rule::M;
+pub use verdict::{Counts, Verdict};
+pub use verify::verify_bytes;

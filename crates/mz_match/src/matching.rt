@@ -1,0 +1,94 @@
+// How far the match has come.
+ghost use Rattle.std.specs.Prelude.{◌≡◌, ◌≤◌, ◌<◌, ◌+◌, ◌^◌, ℕ, List, [], length, IfErr, OnOk};
+ghost use Rattle.mz_logic.specs.Declaration.{Declaration};
+ghost use Rattle.mz_logic.specs.LegalLists.{Statement as Declared};
+ghost use Rattle.mz_layout.specs.Layout.{Layout};
+ghost use Rattle.mz_binary.specs.Judging.{Passes};
+ghost use Rattle.mz_binary.specs.Progress.{HasPassed, Progress};
+ghost use Rattle.mz_spec.specs.Spec.{SpecMakes};
+ghost use Rattle.mz_spec.specs.State.{Entry, env_of};
+ghost use Rattle.mz_match.specs.Told.{IsMatched, IsMatchedMore, IsNextTold};
+ghost use Rattle.mz_match.specs.Verdict.{IsVerdict, counts_of};
+
+use crate::count::count_all;
+use crate::pair::match_statement;
+use crate::publics::Publics;
+use crate::rule::M;
+use crate::verdict::Verdict;
+use mz_binary::Statement;
+use mz_layout::Mmb;
+use mz_spec::Spec;
+use std::alloc::Global;
+
+/// The code of a term's or definition's statement.
+const TERM: u8 = 0x05;
+
+/// How many declarations have their partner, how many statements have passed, and the public terms
+/// among them.
+#[derive(Drop)]
+pub struct Matching {
+    pub done: u32,
+    pub passed: u32,
+    pub publics: Publics,
+}
+
+impl Matching {
+    /// Before the first statement.
+    pub fn new(alloc: Global) -> Matching
+        ensures nothing { (p : Progress) (ds : List Declaration) → Layout p.file → HasPassed p [] [] → IsMatched p ds result [] [] }
+    {
+        Matching {
+            done: 0,
+            passed: 0,
+            publics: Publics::new(alloc),
+        }
+    }
+
+    /// Past the next statement.
+    ///
+    /// # Errors
+    ///
+    /// The verdict where a public statement differs from its declaration, or where memory is
+    /// wanting.
+    pub fn pass(&mut self, spec: &Spec, mmb: &Mmb, told: &Statement) -> Result<(), Verdict>
+        requires told { IsNextTold mmb.now (env_of spec.now) self.old told.now }
+        ensures passed { (p after : Progress) (ss : List Declared) (env : List Declaration) → p.file ≡ mmb.now → IsMatched p (env_of spec.now) self.old ss env
+            → Passes p ss env after told.now → OnOk result (IsMatchedMore (env_of spec.now) self.new after) }
+        ensures stops { (text : List ℕ) → SpecMakes text spec.now → IfErr result (λ verdict. IsVerdict text mmb.now verdict) }
+    {
+        if !told.local {
+            if let Err(rule) = match_statement(spec, self.done, mmb, told, &self.publics) {
+                return Err(Verdict::Match {
+                    declaration: self.done + 1,
+                    statement: told.number,
+                    rule,
+                });
+            }
+            self.done += 1;
+            if told.kind == TERM {
+                let Ok(()) = self.publics.push(told.row) else {
+                    return Err(Verdict::Mem);
+                };
+            }
+        }
+        self.passed = told.number;
+        Ok(())
+    }
+
+    /// At the end of a good list.
+    pub fn end(&self, spec: &Spec) -> Verdict
+        requires done { self.now.done ≤ length spec.now }
+        requires passed { self.now.passed + 1 < 2 ^ 32 }
+        ensures missing { self.now.done < length spec.now → result ≡ Verdict.Match (self.now.done + 1) (self.now.passed + 1) M.Missing }
+        ensures accepted { self.now.done ≡ length spec.now → result ≡ Verdict.Accepted (counts_of (env_of spec.now)) }
+    {
+        if self.done < spec.len() {
+            return Verdict::Match {
+                declaration: self.done + 1,
+                statement: self.passed + 1,
+                rule: M::Missing,
+            };
+        }
+        Verdict::Accepted(count_all(spec))
+    }
+}
