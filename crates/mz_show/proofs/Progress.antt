@@ -1,0 +1,147 @@
+-- What has been written of a listing so far.
+use Rattle.std.proofs.Common.{◌≡◌, ◌≤◌, ◌<◌, ◌+◌, ◌++◌, ◌∙◌, ℕ, List, [], ◌∷◌, length, take, drop, codes, refl, sym, ap, subst, inl, inr, arith, append_assoc, append-nil, length-append}
+use Rattle.std.proofs.lemmas.List.{take_at, take-append-drop}
+use Rattle.mz_checks.specs.Checks.{AllHold}
+use Rattle.mz_cmd.specs.declared.code.StatementCode.{StatementCode}
+use Rattle.mz_cmd.specs.declared.code.StatementCode.TheVariants as codes_of
+use Rattle.mz_io.specs.Outside.{AppendsPrefix}
+use Rattle.mz_layout.specs.Layout.{Layout}
+use Rattle.mz_show.specs.declared.place.Place.{Place}
+use Rattle.mz_show.specs.Statements.{Statement, Stands, first_place, place_after, after, statement_checks, statement_text}
+use Rattle.mz_show.specs.Listing.{Chain, chain_text, EndsAt, IsListed}
+use Rattle.mz_show.specs.Answers.{IsWithin}
+use Rattle.mz_show.proofs.Heads.{head-ahead}
+use Rattle.mz_show.proofs.OneListing.{Rest, rest-some, after-at, chain-snoc, chain-append, text-append}
+
+-- ---- places
+
+after-number : (place : Place) (code : StatementCode) (next : ℕ) → (place_after place code next).number ≡ place.number + 1
+after-number place codes_of.Sort next = refl
+after-number place codes_of.Term next = refl
+after-number place codes_of.LocalDefinition next = refl
+after-number place codes_of.Axiom next = refl
+after-number place codes_of.Theorem next = refl
+after-number place codes_of.LocalTheorem next = refl
+
+-- a step leads further on, within the file
+pub record StepsOn (file : List ℕ) (place to : Place) : Type 0 where
+  pub within : IsWithin file to
+  pub further : place.at < to.at
+
+pub steps-on : (file : List ℕ) (place : Place) (s : Statement) (to : Place) → IsWithin file place → Stands file place s → to ≡ after place s → StepsOn file place to
+steps-on file place s to w stands e =
+    let h = head-ahead file place.at stands.head.0 s.body s.next stands.head.1 in
+    let at = after-at place s.code s.next in
+    let number = after-number place s.code s.next in
+    subst (λ (q : Place). StepsOn file place q) (sym e) (record {
+      within = record { at = omega (arith, h.within, at); number = omega (arith, h.ahead, at, number, w.number) };
+      further = omega (arith, h.ahead, at);
+    })
+
+-- ---- the whole text
+
+-- a text that the file is listed with, of which this is a front
+pub record Front (file front : List ℕ) : Type 0 where
+  pub text : List ℕ
+  pub rest : List ℕ
+  pub listed : IsListed file text
+  pub parts : text ≡ front ++ rest
+
+-- ---- progress: what was written before the statement at a place
+
+pub record Progress (file : List ℕ) (told clear_before clear : Type 0) (before now : List ℕ) (room_before room faults_before faults : ℕ) (place : Place) : Type 0 where
+  pub within : IsWithin file place
+  pub statements : List Statement
+  pub chain : Chain file (first_place file) statements place
+  pub bytes : told → now ≡ before ++ chain_text file (first_place file) statements
+  pub room_left : clear_before → room + length (chain_text file (first_place file) statements) ≡ room_before
+  pub later : faults_before ≤ faults
+  pub stays_clear : clear_before → clear
+  pub only_full : clear_before → ((text : List ℕ) → IsListed file text → length text ≤ room_before) → faults ≡ faults_before
+
+module _ (file : List ℕ) (layout : Layout file) where
+  with-rest : (ss : List Statement) (place : Place) → Chain file (first_place file) ss place → Rest file place → Front file (chain_text file (first_place file) ss)
+  with-rest ss place chain (ts, to, tail, inl ends) = record {
+    text = chain_text file (first_place file) (ss ++ ts) ++ codes "end\n";
+    rest = chain_text file place ts ++ codes "end\n";
+    listed = inl (record { layout = layout; statements = ss ++ ts; last = to; chain = chain-append file (first_place file) ss place ts to chain tail; ends = ends; text_is = refl });
+    parts = ap (λ front. front ++ codes "end\n") (text-append file (first_place file) ss place ts chain)
+        ∙ append_assoc (chain_text file (first_place file) ss) (chain_text file place ts) (codes "end\n");
+  }
+  with-rest ss place chain (ts, to, tail, inr stop) = record {
+    text = chain_text file (first_place file) (ss ++ ts);
+    rest = chain_text file place ts;
+    listed = inr (stop.0, inr (record { layout = layout; statements = ss ++ ts; last = to; chain = chain-append file (first_place file) ss place ts to chain tail; stops = stop.1; text_is = refl }));
+    parts = text-append file (first_place file) ss place ts chain;
+  }
+
+  pub front-so_far : (ss : List Statement) (place : Place) → Chain file (first_place file) ss place → Front file (chain_text file (first_place file) ss)
+  front-so_far ss place chain = with-rest ss place chain (rest-some file (length file) place (omega arith))
+
+  one-more-text : (ss : List Statement) (place : Place) (s : Statement) → Chain file (first_place file) ss place →
+      chain_text file (first_place file) (ss ++ s ∷ []) ≡ chain_text file (first_place file) ss ++ statement_text file place s
+  one-more-text ss place s chain =
+      text-append file (first_place file) ss place (s ∷ []) chain ∙ ap (λ last. chain_text file (first_place file) ss ++ last) (append-nil (statement_text file place s))
+
+  pub front-one_more : (ss : List Statement) (place : Place) (s : Statement) → Chain file (first_place file) ss place → Stands file place s → AllHold (statement_checks file place s) →
+      Front file (chain_text file (first_place file) ss ++ statement_text file place s)
+  front-one_more ss place s chain stands all =
+      subst (λ (front : List ℕ). Front file front) (one-more-text ss place s chain)
+      (front-so_far (ss ++ s ∷ []) (after place s) (chain-snoc file (first_place file) ss place s chain stands all))
+
+  pub front-end : (ss : List Statement) (place : Place) → Chain file (first_place file) ss place → EndsAt file place → Front file (chain_text file (first_place file) ss ++ codes "end\n")
+  front-end ss place chain ends = record {
+    text = chain_text file (first_place file) ss ++ codes "end\n";
+    rest = [];
+    listed = inl (record { layout = layout; statements = ss; last = place; chain = chain; ends = ends; text_is = refl });
+    parts = sym (append-nil (chain_text file (first_place file) ss ++ codes "end\n"));
+  }
+
+  -- a text that is a front of what is to be written has room
+  pub has-room : (front more : List ℕ) (room room_before : ℕ) → Front file (front ++ more) → room + length front ≡ room_before →
+      ((text : List ℕ) → IsListed file text → length text ≤ room_before) → length more ≤ room
+  has-room front more room room_before f left all =
+      let whole = all f.text f.listed in
+      let parts = ap length f.parts ∙ length-append (front ++ more) f.rest in
+      let both = length-append front more in
+      omega (arith, whole, parts, both, left)
+
+  -- a prefix of what the file is listed with is written
+  pub front-written : (before now front : List ℕ) → (f : Front file front) → now ≡ before ++ front → AppendsPrefix before now f.text
+  front-written before now front f e =
+      let taken : take (length front) f.text ≡ front = ap (λ text. take (length front) text) f.parts ∙ take_at front f.rest (length front) refl in
+      (length front, e ∙ ap (λ part. before ++ part) (sym taken))
+
+  pub more-written : (before now later front more : List ℕ) → (f : Front file (front ++ more)) → now ≡ before ++ front → AppendsPrefix now later more → AppendsPrefix before later f.text
+  more-written before now later front more f e w =
+      let all : later ≡ before ++ (front ++ take w.0 more) = w.1 ∙ ap (λ part. part ++ take w.0 more) e ∙ append_assoc before front (take w.0 more) in
+      front-written before later (front ++ take w.0 more) (record {
+        text = f.text;
+        rest = drop w.0 more ++ f.rest;
+        listed = f.listed;
+        parts = f.parts ∙ ap (λ part. (front ++ part) ++ f.rest) (sym (take-append-drop w.0 more)) ∙ simp append_assoc;
+      }) all
+
+  -- a statement's lines were written
+  pub progress-more : (told clear_before clear clear_after : Type 0) (before now later : List ℕ) (room_before room room_after faults_before faults faults_after : ℕ)
+      (place : Place) (s : Statement) (to : Place) (piece : List ℕ) →
+      Progress file told clear_before clear before now room_before room faults_before faults place →
+      Stands file place s → AllHold (statement_checks file place s) → piece ≡ statement_text file place s → to ≡ after place s →
+      (told → later ≡ now ++ piece) → (clear → room_after + length piece ≡ room) → faults ≤ faults_after → (clear → clear_after) →
+      (clear → length piece ≤ room → faults_after ≡ faults) →
+      Progress file told clear_before clear_after before later room_before room_after faults_before faults_after to
+  progress-more told clear_before clear clear_after before now later room_before room room_after faults_before faults faults_after place s to piece p stands all text_is to_is wrote left rise stays full =
+      let front : List ℕ = chain_text file (first_place file) p.statements in
+      let longer : chain_text file (first_place file) (p.statements ++ s ∷ []) ≡ front ++ piece =
+      one-more-text p.statements place s p.chain ∙ ap (λ more. front ++ more) (sym text_is) in
+      let f : Front file (front ++ piece) = subst (λ (more : List ℕ). Front file (front ++ more)) (sym text_is) (front-one_more p.statements place s p.chain stands all) in
+      record {
+        within = (steps-on file place s to p.within stands to_is).within;
+        statements = p.statements ++ s ∷ [];
+        chain = subst (λ (q : Place). Chain file (first_place file) (p.statements ++ s ∷ []) q) (sym to_is) (chain-snoc file (first_place file) p.statements place s p.chain stands all);
+        bytes = λ t. wrote t ∙ ap (λ x. x ++ piece) (p.bytes t) ∙ append_assoc before front piece ∙ ap (λ x. before ++ x) (sym longer);
+        room_left = λ c. (let a = left (p.stays_clear c) in let b = p.room_left c in omega (arith, a, b, ap length longer ∙ length-append front piece));
+        later = omega (arith, p.later, rise);
+        stays_clear = λ c. stays (p.stays_clear c);
+        only_full = λ c fits. full (p.stays_clear c) (has-room front piece room room_before f (p.room_left c) fits) ∙ p.only_full c fits;
+      }

@@ -1,0 +1,40 @@
+use Rattle.std.proofs.Common.{◌≡◌, ◌+◌, ℕ, List, [], refl, sym, subst, inl, append-nil, arith}
+use Rattle.mz_checks.proofs.CheckLaws.{all_hold-excludes}
+use Rattle.mz_cmd.specs.declared.rule.Refusal.{Refusal}
+use Rattle.mz_layout.specs.Layout.{layout_checks}
+use Rattle.mz_show.specs.Listing.{IsListing, IsListedUpTo, IsListed, IsNoBinary}
+use Rattle.mz_show.proofs.OneListing.{listing-excludes}
+use Rattle.mz_show.proofs.writing.listing.Goals as goal
+
+pub returns-in-Ok-clause-prefix : goal.returns-in-Ok-clause-prefix
+returns-in-Ok-clause-prefix g c = λ which.
+    let p = c.list_statements.ensures.prefix which in
+    (p.0, subst (λ (file : List ℕ). IsListed file p.0) c.in-Ok.ensures.0 p.1, p.2)
+
+pub returns-in-Ok-clause-listed : goal.returns-in-Ok-clause-listed
+returns-in-Ok-clause-listed g c = λ text refusal l is.
+    let r = c.list_statements.ensures.refused refusal is in
+    listing-excludes c.args.file.now text r.0 refusal l (subst (λ (file : List ℕ). IsListedUpTo file r.0 refusal) c.in-Ok.ensures.0 r.1)
+
+pub returns-in-Ok-clause-stopped : goal.returns-in-Ok-clause-stopped
+returns-in-Ok-clause-stopped g c = λ text refusal l is.
+    let d = c.list_statements.ensures.listing is in
+    listing-excludes c.args.file.now d.0 text refusal (subst (λ (file : List ℕ). IsListing file d.0) c.in-Ok.ensures.0 d.1) l
+
+pub returns-in-Ok-clause-only_full : goal.returns-in-Ok-clause-only_full
+returns-in-Ok-clause-only_full g c = λ clear fits.
+    c.list_statements.ensures.only_full clear (λ text l. fits text (subst (λ (file : List ℕ). IsListed file text) c.in-Ok.ensures.0 l))
+
+pub returns-in-Err-clause-refused : goal.returns-in-Err-clause-refused
+returns-in-Err-clause-refused g c = λ refusal is.
+    let same : c.in-Err.refusal ≡ refusal = cc in
+    let none : IsNoBinary c.args.file.now [] c.in-Err.refusal = record { number = c.in-Err.ensures.0; fails = c.in-Err.ensures.1; text_is = refl } in (
+      [],
+      inl (subst (λ (r : Refusal). IsNoBinary c.args.file.now [] r) same none),
+      λ told. sym (append-nil (g.O.Sink.written c.args.out.now)),
+      λ clear. (let e : g.O.Sink.room c.args.out.now + 0 ≡ g.O.Sink.room c.args.out.now = omega arith in e),
+    )
+
+pub returns-in-Err-clause-listed : goal.returns-in-Err-clause-listed
+returns-in-Err-clause-listed g c = λ text refusal l is.
+    all_hold-excludes (layout_checks c.args.file.now) (c.in-Err.refusal.at, c.in-Err.refusal.rule) l.layout c.in-Err.ensures.1

@@ -1,0 +1,5 @@
+pub mod Words
+pub mod Streams
+pub mod Statements
+pub mod Listing
+pub mod Answers
