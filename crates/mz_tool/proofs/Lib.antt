@@ -1,0 +1,4 @@
+mod Requests
+mod Answered
+mod Listed
+mod ShortLists

@@ -1,0 +1,52 @@
+-- What was listed is the answer to the request, or a prefix of it.
+use Rattle.std.proofs.Common.{◌≡◌, ◌≤◌, ◌+◌, ◌∙◌, ◌++◌, ℕ, List, Some, length, take, min, sym, subst, inl, inr, refl, ap, arith}
+use Rattle.std.proofs.lemmas.List.{take-append-le, take_min, length-append, append_assoc}
+use Rattle.std.proofs.Math.Seq.{take-append-add}
+use Rattle.mz_io.specs.Outside.{Rose, AppendsPrefix}
+use Rattle.mz_cmd.specs.declared.rule.Refusal.{Refusal}
+use Rattle.mz_binary.specs.RefusalLine.{refusal_line as refusal_text}
+use Rattle.mz_show.specs.Listing.{IsListing, IsListedUpTo, IsListed}
+use Rattle.mz_tool.specs.Request.{Files, show}
+use Rattle.mz_tool.specs.Run.{IsYes, IsNo, IsAnswer}
+
+-- a prefix of a text is one of a longer text
+take-longer : (n : ℕ) (xs ys : List ℕ) → (m : ℕ) × (take n xs ≡ take m (xs ++ ys))
+take-longer n xs ys =
+    let within : min n (length xs) ≤ length xs = omega arith in
+    (min n (length xs), sym (take_min n xs) ∙ sym (take-append-le (min n (length xs)) xs ys within))
+
+pub prefix-longer : (old new xs ys : List ℕ) → AppendsPrefix old new xs → AppendsPrefix old new (xs ++ ys)
+prefix-longer old new xs ys (n, e) = let (m, same) = take-longer n xs ys in (m, e ∙ ap (λ part. old ++ part) same)
+
+-- a text, and then a prefix of a further one
+pub prefix-further : (old mid new xs ys : List ℕ) → mid ≡ old ++ xs → AppendsPrefix mid new ys → AppendsPrefix old new (xs ++ ys)
+prefix-further old mid new xs ys first (n, e) =
+    (length xs + n, e ∙ ap (λ front. front ++ take n ys) first ∙ append_assoc old xs (take n ys) ∙ ap (λ part. old ++ part) (sym (take-append-add xs ys n)))
+
+-- a count that has risen later has risen
+pub rose-later : (a b c : ℕ) → a ≤ b → Rose b c → Rose a c
+rose-later a b c le rose = omega arith
+
+module _ (file : Files) (name bin read : List ℕ) (bin_is : file name ≡ Some bin) (same : read ≡ bin) where
+  pub listing-is_yes : (text : List ℕ) → IsListing read text → IsYes file (show name) text
+  listing-is_yes text listing = let P : List ℕ → Type 0 = λ bytes. IsListing bytes text in (bin, bin_is, subst P same listing)
+
+  pub listed-is_no : (text : List ℕ) (refusal : Refusal) → IsListedUpTo read text refusal → IsNo file (show name) (text ++ refusal_text refusal)
+  listed-is_no text refusal listed =
+      let P : List ℕ → Type 0 = λ bytes. IsListedUpTo bytes text refusal in (bin, bin_is, (text, refusal, subst P same listed, refl))
+
+  -- a prefix of what is listed is one of the answer
+  pub prefix-of_answer : (old new text : List ℕ) → IsListed read text → AppendsPrefix old new text →
+      (whole : List ℕ) × IsAnswer file (show name) whole × AppendsPrefix old new whole
+  prefix-of_answer old new text (inl listing) front = (text, inl (listing-is_yes text listing), front)
+  prefix-of_answer old new text (inr (refusal, listed)) front =
+      (text ++ refusal_text refusal, inr (listed-is_no text refusal listed), prefix-longer old new text (refusal_text refusal) front)
+
+  -- where each answer has room, so has what is listed
+  pub room-of_listed : (room : ℕ) → ((text : List ℕ) → IsAnswer file (show name) text → length text ≤ room) →
+      (text : List ℕ) → IsListed read text → length text ≤ room
+  room-of_listed room fits text (inl listing) = fits text (inl (listing-is_yes text listing))
+  room-of_listed room fits text (inr (refusal, listed)) =
+      let whole : length (text ++ refusal_text refusal) ≤ room = fits _ (inr (listed-is_no text refusal listed)) in
+      let lengths : length (text ++ refusal_text refusal) ≡ length text + length (refusal_text refusal) = length-append text (refusal_text refusal) in
+      omega arith

@@ -1,0 +1,42 @@
+use Rattle.std.proofs.Common.{subst}
+use Rattle.std.specs.Prelude.{map, string_bytes}
+use Rattle.mz_tool.specs.Request.{Request}
+use Rattle.mz_tool.specs.Asked.{request}
+use Rattle.mz_tool.specs.Run.{IsYes, IsNo, IsProved}
+use Rattle.mz_tool.proofs.Requests.{one-request}
+use Rattle.mz_tool.proofs.program.run.Goals as goal
+
+pub returns-in-Some-clause-done : goal.returns-in-Some-clause-done
+returns-in-Some-clause-done g c = λ told is.
+    ((request c.in-Some.command), c.in-Some.ensures.asked, c.answer.ensures.done told is)
+
+pub returns-in-Some-clause-refused : goal.returns-in-Some-clause-refused
+returns-in-Some-clause-refused g c = λ told is.
+    ((request c.in-Some.command), c.in-Some.ensures.asked, c.answer.ensures.refused told is)
+
+pub returns-in-Some-clause-too_long : goal.returns-in-Some-clause-too_long
+returns-in-Some-clause-too_long g c = λ told is.
+    ((request c.in-Some.command), c.in-Some.ensures.asked, c.answer.ensures.too_long told is)
+
+pub returns-in-Some-clause-front : goal.returns-in-Some-clause-front
+returns-in-Some-clause-front g c = λ told told_out is.
+    ((request c.in-Some.command), c.in-Some.ensures.asked, c.answer.ensures.front told told_out is)
+
+pub returns-in-Some-clause-yes : goal.returns-in-Some-clause-yes
+returns-in-Some-clause-yes g c = λ told asked text asks is ends.
+    let P : Request → Type 0 = λ r. IsYes (g.F.Folder.file c.args.folder.now) r text in
+    c.answer.ensures.yes told text (subst P (one-request (map string_bytes c.args.words.now) asked (request c.in-Some.command) asks c.in-Some.ensures.asked) is) ends
+
+pub returns-in-Some-clause-no : goal.returns-in-Some-clause-no
+returns-in-Some-clause-no g c = λ told asked text asks is ends.
+    let P : Request → Type 0 = λ r. IsNo (g.F.Folder.file c.args.folder.now) r text in
+    c.answer.ensures.no told text (subst P (one-request (map string_bytes c.args.words.now) asked (request c.in-Some.command) asks c.in-Some.ensures.asked) is) ends
+
+pub returns-in-Some-clause-only_full : goal.returns-in-Some-clause-only_full
+returns-in-Some-clause-only_full g c = λ told clear fits.
+    c.answer.ensures.only_full told clear (λ text answer. fits (request c.in-Some.command) text c.in-Some.ensures.asked answer)
+
+pub returns-in-Some-clause-sound : goal.returns-in-Some-clause-sound
+returns-in-Some-clause-sound g c = λ told asked asks done.
+    let P : Request → Type 0 = λ r. IsProved (g.F.Folder.file c.args.folder.now) r in
+    subst P (one-request (map string_bytes c.args.words.now) (request c.in-Some.command) asked c.in-Some.ensures.asked asks) (c.answer.ensures.sound told done)

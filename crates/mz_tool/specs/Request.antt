@@ -1,0 +1,46 @@
+-- What the words given to the program ask for.
+use Rattle.std.specs.Prelude.{◌≡◌, ◌≤◌, ℕ, ⊤, List, [], ◌∷◌, length, Option, Some, codes, Any}
+use Rattle.mz_io.specs.Read.{IsLonger}
+
+-- a command of the program, with the names of its files
+pub data Request : Type 0 where
+  verify : (spec bin : List ℕ) → Request
+  show : (bin : List ℕ) → Request
+
+abbrev pub words_of : Request → List (List ℕ)
+words_of (verify spec bin) = codes "verify" ∷ spec ∷ bin ∷ []
+words_of (show bin) = codes "show" ∷ bin ∷ []
+
+-- the words ask for it
+abbrev pub Asks : List (List ℕ) → Request → Type 0
+Asks words request = words ≡ words_of request
+
+-- the names of the files that it reads, in order
+abbrev pub names_read : Request → List (List ℕ)
+names_read (verify spec bin) = spec ∷ bin ∷ []
+names_read (show bin) = bin ∷ []
+
+-- what stands under each name
+abbrev pub Files : Type 0
+Files = List ℕ → Option (List ℕ)
+
+-- the bytes of the longest file that is read
+abbrev pub longest : ℕ
+longest = 4294967295
+
+-- a file of this name is there, and no longer than any that is read
+abbrev pub IsReadable : Files → List ℕ → Type 0
+IsReadable file name = (bytes : List ℕ) × (file name ≡ Some bytes) × (length bytes ≤ longest)
+
+abbrev pub AreReadable : Files → List (List ℕ) → Type 0
+AreReadable file [] = ⊤
+AreReadable file (name ∷ names) = IsReadable file name × AreReadable file names
+
+-- each of the files is there
+abbrev pub AreThere : Files → List (List ℕ) → Type 0
+AreThere file [] = ⊤
+AreThere file (name ∷ names) = ((bytes : List ℕ) × (file name ≡ Some bytes)) × AreThere file names
+
+-- one of the files is there, and longer than any that is read
+abbrev pub HasLong : Files → List (List ℕ) → Type 0
+HasLong file names = Any (λ name. IsLonger longest (file name)) names

@@ -1,0 +1,110 @@
+// The program, over any folder and sink.
+ghost use Rattle.std.specs.Prelude.{◌≡◌, ◌≤◌, ◌++◌, ◌⊎◌, ℕ, List, length, map, string_bytes};
+ghost use Rattle.mz_io.specs.Outside.{Rose, SameFiles, AppendsPrefix};
+ghost use Rattle.mz_tool.specs.Request.{Request, Asks, names_read, AreReadable, AreThere, HasLong};
+ghost use Rattle.mz_tool.specs.Run.{IsYes, IsNo, IsAnswer, IsProved, IsQuiet, IsShow};
+ghost use Rattle.mz_tool.specs.Asked.{request};
+
+use crate::command::Command;
+use crate::show::show;
+use crate::status::Status;
+use crate::verify::verify;
+use mz_io::{Folder, Sink};
+use std::alloc::Global;
+
+/// Does what the words ask for, with the folder's files, and writes the answer to `out`.
+///
+/// Want of memory may come in place of any answer but `Usage`.
+pub fn run<F: Folder, O: Sink>(
+    alloc: Global,
+    words: &[String],
+    folder: &mut F,
+    out: &mut O,
+) -> Status
+    // The answer is that of the definitions for the files that the words name, and its text is written.
+    ensures done { F.told → result ≡ Status.Done → (asked : Request) × Asks (map string_bytes words.now) asked
+        × ((text : List ℕ) × IsYes (F.file folder.old) asked text × (O.told → O.written out.new ≡ O.written out.old ++ text)) }
+    ensures refused { F.told → result ≡ Status.Refused → (asked : Request) × Asks (map string_bytes words.now) asked
+        × ((text : List ℕ) × IsNo (F.file folder.old) asked text × (O.told → O.written out.new ≡ O.written out.old ++ text)) }
+
+    // What is accepted is proved: the binary's statements are a legal list of the logic.
+    ensures sound { F.told → (asked : Request) → Asks (map string_bytes words.now) asked → result ≡ Status.Done → IsProved (F.file folder.old) asked }
+
+    // Where the files are there and nothing fails, the answer comes, or no memory was left.
+    ensures answers { F.told → (asked : Request) → Asks (map string_bytes words.now) asked
+        → AreReadable (F.file folder.old) (names_read asked)
+        → (Rose (F.faults folder.old) (F.faults folder.new) → ⊥) → (Rose (F.put_faults folder.old) (F.put_faults folder.new) → ⊥)
+        → (Rose (O.faults out.old) (O.faults out.new) → ⊥)
+        → (result ≡ Status.Done) ⊎ ((result ≡ Status.Refused) ⊎ (result ≡ Status.Memory)) }
+    ensures yes { F.told → (asked : Request) (text : List ℕ) → Asks (map string_bytes words.now) asked
+        → IsYes (F.file folder.old) asked text → result ≡ Status.Refused → ⊥ }
+    ensures no { F.told → (asked : Request) (text : List ℕ) → Asks (map string_bytes words.now) asked
+        → IsNo (F.file folder.old) asked text → result ≡ Status.Done → ⊥ }
+
+    // Each other answer has its cause.
+    ensures usage { result ≡ Status.Usage → (asked : Request) → Asks (map string_bytes words.now) asked → ⊥ }
+    ensures only_usage { ((asked : Request) → Asks (map string_bytes words.now) asked → ⊥) → result ≡ Status.Usage }
+    ensures read_fault { result ≡ Status.ReadFault → Rose (F.faults folder.old) (F.faults folder.new) }
+    ensures write_fault { result ≡ Status.WriteFault → Rose (F.put_faults folder.old) (F.put_faults folder.new) }
+    ensures out_fault { result ≡ Status.OutFault → Rose (O.faults out.old) (O.faults out.new) }
+    ensures too_long { F.told → result ≡ Status.TooLong
+        → (asked : Request) × Asks (map string_bytes words.now) asked × HasLong (F.file folder.old) (names_read asked) }
+
+    // What is written besides, and what stays.
+    ensures front { F.told → O.told → result ≡ Status.OutFault → (asked : Request) × Asks (map string_bytes words.now) asked
+        × ((text : List ℕ) × IsAnswer (F.file folder.old) asked text × AppendsPrefix (O.written out.old) (O.written out.new) text) }
+    ensures quiet { O.told → IsQuiet result → O.written out.new ≡ O.written out.old }
+    ensures memory { O.told → result ≡ Status.Memory → ((asked : Request) → Asks (map string_bytes words.now) asked → IsShow asked → ⊥)
+        → O.written out.new ≡ O.written out.old }
+    ensures memory_front { F.told → O.told → result ≡ Status.Memory → O.written out.new ≡ O.written out.old
+        ⊎ ((asked : Request) × Asks (map string_bytes words.now) asked
+        × ((text : List ℕ) × IsAnswer (F.file folder.old) asked text × AppendsPrefix (O.written out.old) (O.written out.new) text)) }
+    ensures files { F.told → SameFiles (F.file folder.old) (F.file folder.new) }
+    ensures put_faults { F.put_faults folder.new ≡ F.put_faults folder.old }
+
+    // Where no coming call is listed to fail, only a missing file and a full sink are faults.
+    ensures only_missing { F.is_clear folder.old → ((asked : Request) → Asks (map string_bytes words.now) asked → AreThere (F.file folder.old) (names_read asked))
+        → F.faults folder.new ≡ F.faults folder.old }
+    ensures only_full { F.told → O.is_clear out.old → ((asked : Request) (text : List ℕ) → Asks (map string_bytes words.now) asked → IsAnswer (F.file folder.old) asked text
+        → length text ≤ O.room out.old) → O.faults out.new ≡ O.faults out.old }
+{
+    match Command::read(words) {
+        Some(command) => answer(alloc, command, folder, out),
+        None => Status::Usage,
+    }
+}
+
+/// Answers a command.
+fn answer<F: Folder, O: Sink>(
+    alloc: Global,
+    command: Command,
+    folder: &mut F,
+    out: &mut O,
+) -> Status
+    ensures done { F.told → result ≡ Status.Done → (text : List ℕ) × IsYes (F.file folder.old) (request command.entry) text × (O.told → O.written out.new ≡ O.written out.old ++ text) }
+    ensures refused { F.told → result ≡ Status.Refused → (text : List ℕ) × IsNo (F.file folder.old) (request command.entry) text × (O.told → O.written out.new ≡ O.written out.old ++ text) }
+    ensures sound { F.told → result ≡ Status.Done → IsProved (F.file folder.old) (request command.entry) }
+    ensures yes { F.told → (text : List ℕ) → IsYes (F.file folder.old) (request command.entry) text → result ≡ Status.Refused → ⊥ }
+    ensures no { F.told → (text : List ℕ) → IsNo (F.file folder.old) (request command.entry) text → result ≡ Status.Done → ⊥ }
+    ensures usage { result ≡ Status.Usage → ⊥ }
+    ensures read_fault { result ≡ Status.ReadFault → Rose (F.faults folder.old) (F.faults folder.new) }
+    ensures write_fault { result ≡ Status.WriteFault → ⊥ }
+    ensures out_fault { result ≡ Status.OutFault → Rose (O.faults out.old) (O.faults out.new) }
+    ensures too_long { F.told → result ≡ Status.TooLong → HasLong (F.file folder.old) (names_read (request command.entry)) }
+    ensures front { F.told → O.told → result ≡ Status.OutFault
+        → (text : List ℕ) × IsAnswer (F.file folder.old) (request command.entry) text × AppendsPrefix (O.written out.old) (O.written out.new) text }
+    ensures quiet { O.told → IsQuiet result → O.written out.new ≡ O.written out.old }
+    ensures memory { O.told → result ≡ Status.Memory → (IsShow (request command.entry) → ⊥) → O.written out.new ≡ O.written out.old }
+    ensures memory_front { F.told → O.told → result ≡ Status.Memory → O.written out.new ≡ O.written out.old
+        ⊎ ((text : List ℕ) × IsAnswer (F.file folder.old) (request command.entry) text × AppendsPrefix (O.written out.old) (O.written out.new) text) }
+    ensures files { F.told → SameFiles (F.file folder.old) (F.file folder.new) }
+    ensures put_faults { F.put_faults folder.new ≡ F.put_faults folder.old }
+    ensures only_missing { F.is_clear folder.old → AreThere (F.file folder.old) (names_read (request command.entry)) → F.faults folder.new ≡ F.faults folder.old }
+    ensures only_full { F.told → O.is_clear out.old → ((text : List ℕ) → IsAnswer (F.file folder.old) (request command.entry) text → length text ≤ O.room out.old)
+        → O.faults out.new ≡ O.faults out.old }
+{
+    match command {
+        Command::Verify { spec, bin } => verify(alloc, spec, bin, folder, out),
+        Command::Show { bin } => show(alloc, bin, folder, out),
+    }
+}

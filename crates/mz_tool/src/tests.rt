@@ -1,0 +1,430 @@
+// Runs of the program over a folder and a sink in memory.
+use crate::program::run;
+use crate::status::Status;
+use mz_io::{MemFolder, MemSink};
+use std::alloc::{AllocError, Global};
+use std::process::Abort;
+use std::test::Fail;
+
+/// `provable sort wff;` as a file.
+const ONE: &[u8] = &[
+    0x4d, 0x4d, 0x30, 0x42, 1, 1, 0, 0, 0, 0, 0, 0, 0, 0, 0, 0, 0x30, 0, 0, 0, 0x30, 0, 0, 0, 0x30,
+    0, 0, 0, 0, 0, 0, 0, 0, 0, 0, 0, 0, 0, 0, 0, 4, 0, 0, 0, 0, 0, 0, 0, 0x44, 2, 0,
+];
+
+/// The same, the distance to the next statement written in two bytes.
+const ONE_IN_TWO: &[u8] = &[
+    0x4d, 0x4d, 0x30, 0x42, 1, 1, 0, 0, 0, 0, 0, 0, 0, 0, 0, 0, 0x30, 0, 0, 0, 0x30, 0, 0, 0, 0x30,
+    0, 0, 0, 0, 0, 0, 0, 0, 0, 0, 0, 0, 0, 0, 0, 4, 0, 0, 0, 0, 0, 0, 0, 0x84, 3, 0, 0,
+];
+
+/// The same in four.
+const ONE_IN_FOUR: &[u8] = &[
+    0x4d, 0x4d, 0x30, 0x42, 1, 1, 0, 0, 0, 0, 0, 0, 0, 0, 0, 0, 0x30, 0, 0, 0, 0x30, 0, 0, 0, 0x30,
+    0, 0, 0, 0, 0, 0, 0, 0, 0, 0, 0, 0, 0, 0, 0, 4, 0, 0, 0, 0, 0, 0, 0, 0xc4, 5, 0, 0, 0, 0,
+];
+
+/// A file of no statements.
+const EMPTY: &[u8] = &[
+    0x4d, 0x4d, 0x30, 0x42, 1, 0, 0, 0, 0, 0, 0, 0, 0, 0, 0, 0, 0x28, 0, 0, 0, 0x28, 0, 0, 0, 0x28,
+    0, 0, 0, 0, 0, 0, 0, 0, 0, 0, 0, 0, 0, 0, 0, 0,
+];
+
+/// Two sorts, a term and a definition with a dummy.
+const DUMMY: &[u8] = &[
+    0x4d, 0x4d, 0x30, 0x42, 1, 2, 0, 0, 2, 0, 0, 0, 0, 0, 0, 0, 0x30, 0, 0, 0, 0x40, 0, 0, 0, 0x68,
+    0, 0, 0, 0, 0, 0, 0, 0, 0, 0, 0, 0, 0, 0, 0, 4, 0, 0, 0, 0, 0, 0, 0, 2, 0, 0, 0, 0x40, 0, 0, 0,
+    0, 0, 0x80, 0, 0x58, 0, 0, 0, 0, 0, 0, 0, 0, 0, 0, 1, 0, 0, 0, 0, 0, 0, 0, 1, 0, 0, 0, 0, 0, 0,
+    0, 0, 0, 0, 0, 0, 0, 0, 0, 0, 0x30, 0x73, 1, 0x32, 0, 0, 0, 0, 0x44, 2, 0x44, 2, 0x45, 2, 0x45,
+    7, 0x53, 1, 0x12, 0x10, 0, 0,
+];
+
+const ACCEPTED_ONE: &str = "accepted: 1 sorts, 0 terms, 0 axioms, 0 definitions, 0 theorems\n";
+
+/// A file made of another: its front of `keep` bytes, with one byte changed.
+#[derive(Clone, Copy)]
+struct Variant {
+    base: &'static [u8],
+    keep: usize,
+    change: Option<(usize, u8)>,
+}
+
+/// The file as it is.
+const fn whole(base: &'static [u8]) -> Variant {
+    Variant {
+        base,
+        keep: base.len(),
+        change: None,
+    }
+}
+
+/// The file with one byte changed.
+const fn with(base: &'static [u8], at: usize, byte: u8) -> Variant {
+    Variant {
+        base,
+        keep: base.len(),
+        change: Some((at, byte)),
+    }
+}
+
+/// The first bytes of the file.
+const fn front(base: &'static [u8], keep: usize) -> Variant {
+    Variant {
+        base,
+        keep,
+        change: None,
+    }
+}
+
+impl Variant {
+    fn bytes(&self, alloc: Global) -> Result<Vec<u8>, AllocError> {
+        let mut bytes = Vec::new(alloc);
+        bytes.extend_from_slice(self.base)?;
+        bytes.truncate(self.keep);
+        if let Some((at, byte)) = self.change {
+            if let Some(place) = bytes.get_mut(at) {
+                *place = byte;
+            }
+        }
+        Ok(bytes)
+    }
+}
+
+/// The words of a command line, separated by single spaces; no words where it is empty.
+fn words_of(alloc: Global, line: &str) -> Result<Vec<String>, AllocError> {
+    let mut words = Vec::new(alloc);
+    for word in line.split_whitespace() {
+        words.push(word.to_string(alloc)?)?;
+    }
+    Ok(words)
+}
+
+/// Runs a command over the files `spec` and `bin`, and compares what it writes and how it ends.
+fn expect(
+    rt: &(impl Abort + AllocGlobal),
+    line: &str,
+    spec: &[u8],
+    bin: &[u8],
+    status: Status,
+    text: &str,
+) -> Result<(), Fail> {
+    let alloc = rt.alloc();
+    let mut folder = MemFolder::new(alloc);
+    folder.add("spec", spec)?;
+    folder.add("bin", bin)?;
+    let mut out = MemSink::new(alloc, 4096)?;
+    let ended = run(alloc, &words_of(alloc, line)?, &mut folder, &mut out);
+    assert!(rt; out.bytes() == text.as_bytes(), "the text for {text}");
+    assert!(rt; ended == status, "the status for {text}");
+    Ok(())
+}
+
+#[test]
+fn verify_answers_by_the_first_refusal(rt: HostRuntime) -> Result<(), Fail> {
+    let one = b"provable sort wff;".as_slice();
+    let accepted = [
+        (one, whole(ONE), ACCEPTED_ONE),
+        (
+            b"-- a sort\nprovable sort wff; -- its end".as_slice(),
+            whole(ONE),
+            ACCEPTED_ONE,
+        ),
+        (one, whole(ONE_IN_TWO), ACCEPTED_ONE),
+        (one, whole(ONE_IN_FOUR), ACCEPTED_ONE),
+        (
+            b"".as_slice(),
+            whole(EMPTY),
+            "accepted: 0 sorts, 0 terms, 0 axioms, 0 definitions, 0 theorems\n",
+        ),
+    ];
+    for (spec, bin, text) in &accepted {
+        expect(
+            &rt,
+            "verify spec bin",
+            spec,
+            &bin.bytes(rt.alloc())?,
+            Status::Done,
+            text,
+        )?;
+    }
+    let refused = [
+        // The specification.
+        (
+            b"output string x: $ a $;".as_slice(),
+            whole(ONE),
+            "specification statement 1 at byte 0: S16 left out",
+        ),
+        (
+            b"input".as_slice(),
+            whole(ONE),
+            "specification statement 1 at byte 0: S16 left out",
+        ),
+        (
+            b"provable sort w\x7f;".as_slice(),
+            whole(ONE),
+            "specification statement 1 at byte 15: S1 character",
+        ),
+        (
+            b"-- \x09\nprovable sort wff;".as_slice(),
+            whole(ONE),
+            "specification statement 1 at byte 3: S1 character",
+        ),
+        (
+            b"provable sort - ;".as_slice(),
+            whole(ONE),
+            "specification statement 1 at byte 14: S2 token",
+        ),
+        (
+            b"sort wff".as_slice(),
+            whole(ONE),
+            "specification statement 1 at byte 8: S3 statement",
+        ),
+        (
+            b"sort wff; sort".as_slice(),
+            front(ONE, 39),
+            "specification statement 2 at byte 14: S3 statement",
+        ),
+        (
+            b"strict pure sort wff;".as_slice(),
+            whole(ONE),
+            "specification statement 1 at byte 7: S3 statement",
+        ),
+        (
+            b"theorem t: $ a $;".as_slice(),
+            whole(ONE),
+            "specification statement 1 at byte 0: S3 statement",
+        ),
+        (
+            b"sort a; sort a;".as_slice(),
+            whole(ONE),
+            "specification statement 2 at byte 13: S4 name twice",
+        ),
+        // The binary.
+        (
+            one,
+            front(ONE, 39),
+            "binary statement 0 at byte 39: K1 header",
+        ),
+        (
+            one,
+            with(ONE, 24, 0x34),
+            "binary statement 0 at byte 24: K2 table",
+        ),
+        (
+            one,
+            with(ONE, 27, 1),
+            "binary statement 0 at byte 24: K2 table",
+        ),
+        (
+            one,
+            front(ONE, 49),
+            "binary statement 1 at byte 48: K3 command",
+        ),
+        (
+            one,
+            with(ONE, 24, 0x33),
+            "binary statement 1 at byte 51: K3 command",
+        ),
+        (
+            one,
+            with(ONE, 49, 0),
+            "binary statement 1 at byte 48: K4 statement length",
+        ),
+        (
+            one,
+            with(ONE, 49, 4),
+            "binary statement 1 at byte 48: K4 statement length",
+        ),
+        (
+            one,
+            front(ONE, 50),
+            "binary statement 2 at byte 50: K3 command",
+        ),
+        (
+            one,
+            with(ONE, 50, 0x42),
+            "binary statement 2 at byte 50: K3 command",
+        ),
+        (
+            one,
+            with(ONE, 48, 0x42),
+            "binary statement 1 at byte 48: K5 statement kind",
+        ),
+        (
+            one,
+            with(ONE, 48, 0),
+            "binary statement 1 at byte 48: K7 rows left",
+        ),
+        (
+            b"".as_slice(),
+            front(ONE, 49),
+            "binary statement 1 at byte 48: K3 command",
+        ),
+        // The match.
+        (
+            b"provable sort wff; sort nat;".as_slice(),
+            whole(ONE),
+            "match declaration 2 statement 2: M1 missing public",
+        ),
+        (
+            b"".as_slice(),
+            whole(ONE),
+            "match declaration 1 statement 1: M2 extra public",
+        ),
+        (
+            b"sort wff;".as_slice(),
+            whole(ONE),
+            "match declaration 1 statement 1: M4 modifiers",
+        ),
+    ];
+    for (spec, bin, text) in &refused {
+        let line = format!(in rt.alloc(); "refused: {text}\n")?;
+        expect(
+            &rt,
+            "verify spec bin",
+            spec,
+            &bin.bytes(rt.alloc())?,
+            Status::Refused,
+            &line,
+        )?;
+    }
+    Ok(())
+}
+
+#[test]
+fn show_lists_a_file_as_far_as_it_goes(rt: HostRuntime) -> Result<(), Fail> {
+    let cases = [
+        (whole(ONE), Status::Done, "sort 0 4\nend\n"),
+        (whole(EMPTY), Status::Done, "end\n"),
+        (
+            whole(DUMMY),
+            Status::Done,
+            "sort 0 4\nsort 1 0\nterm 0 2\n param 0100000000000000\n param 0100000000000000\n result 0000000000000000\ndef 1 0\n result 0000000000000000\n u term 0\n u dummy 1\n u ref 0\n u end\n p dummy 1\n p ref 0\n p term 0\n p end\nend\n",
+        ),
+        (
+            front(ONE, 39),
+            Status::Refused,
+            "refused: binary statement 0 at byte 39: K1 header\n",
+        ),
+        (
+            front(ONE, 49),
+            Status::Refused,
+            "refused: binary statement 1 at byte 48: K3 command\n",
+        ),
+        (
+            front(ONE, 50),
+            Status::Refused,
+            "sort 0 4\nrefused: binary statement 2 at byte 50: K3 command\n",
+        ),
+    ];
+    for (bin, status, text) in &cases {
+        expect(&rt, "show bin", b"", &bin.bytes(rt.alloc())?, *status, text)?;
+    }
+    Ok(())
+}
+
+#[test]
+fn other_words_are_refused(rt: HostRuntime) -> Result<(), Fail> {
+    let lines = [
+        "",
+        "verify",
+        "verify spec",
+        "verify spec bin bin",
+        "Verify spec bin",
+        "show",
+        "show bin bin",
+        "spec bin",
+    ];
+    for line in lines {
+        expect(&rt, line, b"provable sort wff;", ONE, Status::Usage, "")?;
+    }
+    Ok(())
+}
+
+#[test]
+fn a_missing_file_is_a_read_fault(rt: HostRuntime) -> Result<(), Fail> {
+    let alloc = rt.alloc();
+    for line in ["verify other bin", "verify bin other", "show other"] {
+        let mut folder = MemFolder::new(alloc);
+        folder.add("bin", b"")?;
+        let mut out = MemSink::new(alloc, 100)?;
+        let status = run(alloc, &words_of(alloc, line)?, &mut folder, &mut out);
+        assert!(rt; status == Status::ReadFault, "{line}");
+        assert!(rt; out.bytes().is_empty(), "{line}");
+    }
+    Ok(())
+}
+
+#[test]
+fn each_failing_call_has_its_status(rt: HostRuntime) -> Result<(), Fail> {
+    let alloc = rt.alloc();
+    // A start and two pulls for each file.
+    for call in 1..8u64 {
+        let mut folder = MemFolder::new(alloc);
+        folder.add("spec", b"provable sort wff;")?;
+        folder.add("bin", ONE)?;
+        folder.fail_call(call)?;
+        let mut out = MemSink::new(alloc, 100)?;
+        let status = run(
+            alloc,
+            &words_of(alloc, "verify spec bin")?,
+            &mut folder,
+            &mut out,
+        );
+        let wanted = if call <= 6 {
+            Status::ReadFault
+        } else {
+            Status::Done
+        };
+        assert!(rt; status == wanted, "where call {call} on the folder fails");
+        assert!(rt;
+            (call <= 6) == out.bytes().is_empty(),
+            "where call {call} on the folder fails"
+        );
+    }
+    // The line has 64 bytes, and the sink takes ten at a time.
+    for call in 1..9u64 {
+        let mut folder = MemFolder::new(alloc);
+        folder.add("spec", b"provable sort wff;")?;
+        folder.add("bin", ONE)?;
+        let mut out = MemSink::new(alloc, 100)?;
+        out.take_at_most(10);
+        out.fail_call(call)?;
+        let status = run(
+            alloc,
+            &words_of(alloc, "verify spec bin")?,
+            &mut folder,
+            &mut out,
+        );
+        let wanted = if call <= 7 {
+            Status::OutFault
+        } else {
+            Status::Done
+        };
+        assert!(rt; status == wanted, "where write {call} fails");
+        assert!(rt;
+            ACCEPTED_ONE.as_bytes().starts_with(out.bytes()),
+            "where write {call} fails"
+        );
+    }
+    Ok(())
+}
+
+#[test]
+fn a_full_sink_holds_a_prefix(rt: HostRuntime) -> Result<(), Fail> {
+    let alloc = rt.alloc();
+    let mut folder = MemFolder::new(alloc);
+    folder.add("bin", DUMMY)?;
+    let mut out = MemSink::new(alloc, 11)?;
+    out.take_at_most(1);
+    let status = run(alloc, &words_of(alloc, "show bin")?, &mut folder, &mut out);
+    assert!(rt;
+        status == Status::OutFault,
+        "the room is less than the listing"
+    );
+    assert!(rt;
+        out.bytes() == b"sort 0 4\nso".as_slice(),
+        "the room is used"
+    );
+    Ok(())
+}
