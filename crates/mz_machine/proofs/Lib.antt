@@ -1,0 +1,14 @@
+pub mod Outcomes
+pub mod BodyRuns
+pub mod Stacks
+pub mod Declared
+pub mod Operands
+pub mod Rows
+pub mod WholeBody
+pub mod FreeVarLaws
+pub mod Renaming
+pub mod Assertions
+pub mod Definitions
+pub mod Growing
+pub mod Lists
+pub mod ListSteps

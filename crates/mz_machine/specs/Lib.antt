@@ -1,0 +1,10 @@
+pub mod Tables
+pub mod FreeVars
+pub mod Premises
+pub mod ProofMachine
+pub mod Bodies
+pub mod Facts
+pub mod Laws
+pub mod Sound
+pub mod Lists
+pub mod Examples

@@ -1,0 +1,20 @@
+// Worked bodies, computed.
+ghost use Rattle.mz_machine.specs.Examples.{AllVariables, CitesItself, ConversionSaved, CutOrLong, Dependency, Dummies, FiftyFive, Folding, Gap, HypothesesLastFirst, Implications, ObligationLeft, OfAnotherBody, OfAnotherRow};
+
+/// Bodies whose outcome is known from outside: the verdict, and where a rule fails its place.
+pub fn worked_bodies()
+    ensures implications { Implications }
+    ensures hypotheses_last_first { HypothesesLastFirst }
+    ensures cites_itself { CitesItself }
+    ensures dependency { Dependency }
+    ensures all_variables { AllVariables }
+    ensures folding { Folding }
+    ensures obligation_left { ObligationLeft }
+    ensures conversion_saved { ConversionSaved }
+    ensures dummies { Dummies }
+    ensures fifty_five { FiftyFive }
+    ensures gap { Gap }
+    ensures of_another_body { OfAnotherBody }
+    ensures of_another_row { OfAnotherRow }
+    ensures cut_or_long { CutOrLong }
+{}

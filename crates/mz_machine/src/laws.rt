@@ -1,0 +1,35 @@
+// Laws on the definitions: the contract of each function is one, and its body is empty.
+ghost use Rattle.mz_machine.specs.Lists.{StepsOfLists};
+ghost use Rattle.mz_machine.specs.Laws.{BodiesAreChecked, BoundNeverEnds, NothingAtFirst, OneOutcome, SortsGrow, StepsBounded, TermsGrow, ThmsGrow};
+ghost use Rattle.mz_unify.specs.Profile.{strict};
+
+/// A body runs to its END, or stops at one place by one rule.
+pub fn one_outcome()
+    ensures { OneOutcome strict }
+{}
+
+/// A body as ordered checks: all hold where it runs, and else the first that fails is its rule at its
+/// place.
+pub fn bodies_are_checked()
+    ensures { BodiesAreChecked strict }
+{}
+
+/// The bound that makes a run a function never ends it: each command takes a byte.
+pub fn bound_never_ends()
+    ensures { BoundNeverEnds strict }
+{}
+
+/// A body executes at most its own commands, and for each at most one unify command a byte of a
+/// stream; so a file of n bytes at most n * n + n.
+pub fn steps_bounded()
+    ensures bodies { StepsBounded strict }
+    ensures lists { StepsOfLists }
+{}
+
+/// The rows so far declare the environment so far, row by row.
+pub fn tables_grow()
+    ensures nothing_at_first { NothingAtFirst }
+    ensures sorts { SortsGrow }
+    ensures terms { TermsGrow }
+    ensures assertions { ThmsGrow }
+{}

@@ -1,0 +1,16 @@
+//! The proof machine: definitions with their laws.
+//!
+//! `specs/ProofMachine.antt` has the machine's rows, one clause a command, `specs/Bodies.antt` whole
+//! bodies, and `specs/Facts.antt` the fact that every row keeps. A body runs or stops at one place by
+//! one rule; what it accepts is legal and derivable (`specs/Sound.antt`).
+#![tactic(auto)]
+
+mod examples;
+mod laws;
+mod soundness;
+
+pub use examples::worked_bodies;
+pub use laws::{bodies_are_checked, bound_never_ends, one_outcome, steps_bounded, tables_grow};
+pub use soundness::{
+    axioms_are_legal, definitions_are_legal, good_entries_are_legal, theorems_are_proved,
+};

@@ -1,0 +1,15 @@
+pub mod Inverting
+pub mod Turning
+pub mod UnifyRuns
+pub mod Trees
+pub mod TestLaws
+pub mod Matching
+pub mod Citations
+pub mod Unfolding
+pub mod Spelled
+pub mod OwnStream
+pub mod Below
+pub mod OneSpelling
+pub mod FreshVars
+pub mod Completing
+pub mod Exactness

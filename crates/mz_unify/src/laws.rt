@@ -1,0 +1,42 @@
+// Laws on the definitions: the contract of each function is one, and its body is empty.
+ghost use Rattle.mz_unify.specs.Laws.{AssertionsAreSpelled, BoundNeverEnds, CitationsAreExact, DefinitionsAreSpelled, LongerSpellTerms, LongerSpellThms, OneAssertion, OneStepAByte, OneTerm, OnlyWhatWasMet, UnfoldingsAreExact};
+ghost use Rattle.mz_unify.specs.Profile.{strict};
+
+/// A row spells at most one thing.
+pub fn one_spelling()
+    ensures assertions { OneAssertion }
+    ensures terms { OneTerm }
+{}
+
+/// Over more terms a row spells what it did.
+pub fn longer_spell_the_same()
+    ensures assertions { LongerSpellThms }
+    ensures terms { LongerSpellTerms }
+{}
+
+/// What is spelled has only the parameters and the dummies that were met.
+pub fn only_what_was_met()
+    ensures { OnlyWhatWasMet }
+{}
+
+/// The bound that makes a run a function never ends it: each command takes a byte.
+pub fn bound_never_ends()
+    ensures { BoundNeverEnds strict }
+{}
+
+/// A stream executes at most one command a byte.
+pub fn one_step_a_byte()
+    ensures { OneStepAByte strict }
+{}
+
+/// A stream runs exactly on the instances of what it spells.
+pub fn matches_are_exact()
+    ensures citations { CitationsAreExact }
+    ensures unfoldings { UnfoldingsAreExact }
+{}
+
+/// A stream that runs against its own parameters spells its target.
+pub fn own_streams_are_spelled()
+    ensures assertions { AssertionsAreSpelled }
+    ensures definitions { DefinitionsAreSpelled }
+{}
