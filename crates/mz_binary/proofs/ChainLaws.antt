@@ -4,7 +4,6 @@ use Rattle.mz_logic.specs.Declaration.{Declaration}
 use Rattle.mz_logic.specs.LegalLists.{Statement, declarations}
 use Rattle.mz_binary.specs.Chains.{Chain}
 
-
 -- one statement more at the end
 pub chain-more : (Step : List Declaration → ℕ → Statement → ℕ → Type 0) (env : List Declaration) (from : ℕ) (ss : List Statement) (env' : List Declaration) (mid : ℕ) (s : Statement) (to : ℕ)
     → Chain Step env from ss env' mid → Step env' mid s to → Chain Step env from (ss ++ s ∷ []) (env' ++ s.decl ∷ []) to

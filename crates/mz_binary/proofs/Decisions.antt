@@ -24,13 +24,13 @@ read-decided (Ok c) = is_false (is_unread c.code)
 
 pub empty-decided : (bytes : List ℕ) → IsEmptyBody bytes ⊎ (IsEmptyBody bytes → ⊥)
 empty-decided bytes = elim (bytes-decided bytes []) [
-  inl e ↦ inl (inl e)
+  | inl e ↦ inl (inl e)
   | inr n ↦ elim (bytes-decided bytes (0 ∷ [])) [ inl e ↦ inl (inr e) | inr m ↦ inr (λ h. elim h [ inl e ↦ n e | inr e ↦ m e ]) ]
 ]
 
 taken-decided : (file : List ℕ) (env : List Declaration) → AllRowsTaken file env ⊎ (AllRowsTaken file env → ⊥)
 taken-decided file env = elim (both-decided (cases_eq (length (sorts env)) (sort_count file)) (both-decided (cases_eq (length (terms env)) (term_count file)) (cases_eq (length (assertions env)) (thm_count file)))) [
-  inl all ↦ inl (record { sorts_taken = all.0; terms_taken = all.1.0; thms_taken = all.1.1 })
+  | inl all ↦ inl (record { sorts_taken = all.0; terms_taken = all.1.0; thms_taken = all.1.1 })
   | inr out ↦ inr (λ all. out (all.sorts_taken, (all.terms_taken, all.thms_taken)))
 ]
 

@@ -31,9 +31,9 @@ no-end file env at s next spelled ends =
 
 pub one-list : (file : List ℕ) (ss ts : List Statement) → Statements file ss → Statements file ts → ss ≡ ts
 one-list file ss ts a b = elim (compare (IsSpelled file) (one-spelled file) [] (list_at file) ss ts a.env b.env a.to b.to a.spelled b.spelled) [
-  inl same ↦ same.statements
+  | inl same ↦ same.statements
   | inr on ↦ elim on [
-    inl goes ↦ absurd (no-end file a.env a.to goes.0 goes.1 goes.2 a.ends)
+    | inl goes ↦ absurd (no-end file a.env a.to goes.0 goes.1 goes.2 a.ends)
     | inr goes ↦ absurd (no-end file b.env b.to goes.0 goes.1 goes.2 b.ends)
   ]
 ]
@@ -54,10 +54,10 @@ pub good-excludes : (file : List ℕ) (ss : List Statement) (refusal : Refusal) 
 good-excludes file ss refusal good (inl f) = all_hold-excludes (layout_checks file) (refusal.at, refusal.rule) good.layout f.1
 good-excludes file ss refusal good (inr (ts, env, at, f)) =
     elim (compare (IsGoodStatement file) (one-good file) [] (list_at file) ss ts good.env env good.to at good.statements f.statements) [
-      inl same ↦ all_hold-excludes (list_checks file env at) (refusal.at, refusal.rule)
+      | inl same ↦ all_hold-excludes (list_checks file env at) (refusal.at, refusal.rule)
           (subst (λ e. AllHold (list_checks file e at)) same.declared (subst (λ to. AllHold (list_checks file good.env to)) same.place good.ends.passes)) f.fails
       | inr on ↦ elim on [
-        inl goes ↦ no-end file good.env good.to goes.0 goes.1 goes.2.spelled good.ends.ends
+        | inl goes ↦ no-end file good.env good.to goes.0 goes.1 goes.2.spelled good.ends.ends
         | inr goes ↦ no-fault file env at goes.0 goes.1 (refusal.at, refusal.rule) goes.2 f.fails
       ]
     ]
@@ -77,11 +77,11 @@ one-fault file r s (inl f) (inr (ts, env, at, g)) = absurd (all_hold-excludes (l
 one-fault file r s (inr (ss, env, at, f)) (inl g) = absurd (all_hold-excludes (layout_checks file) (s.at, s.rule) f.layout g.1)
 one-fault file r s (inr (ss, env, at, f)) (inr (ts, env', at', g)) =
     elim (compare (IsGoodStatement file) (one-good file) [] (list_at file) ss ts env env' at at' f.statements g.statements) [
-      inl same ↦ same-refusal r s (f.number ∙ ap (λ xs. length xs + 1) same.statements ∙ sym g.number)
+      | inl same ↦ same-refusal r s (f.number ∙ ap (λ xs. length xs + 1) same.statements ∙ sym g.number)
           (fails_first-unique (list_checks file env' at') (r.at, r.rule) (s.at, s.rule)
           (subst (λ e. FailsFirst (list_checks file e at') (r.at, r.rule)) same.declared (subst (λ to. FailsFirst (list_checks file env to) (r.at, r.rule)) same.place f.fails)) g.fails)
       | inr on ↦ elim on [
-        inl goes ↦ absurd (no-fault file env at goes.0 goes.1 (r.at, r.rule) goes.2 f.fails)
+        | inl goes ↦ absurd (no-fault file env at goes.0 goes.1 (r.at, r.rule) goes.2 f.fails)
         | inr goes ↦ absurd (no-fault file env' at' goes.0 goes.1 (s.at, s.rule) goes.2 g.fails)
       ]
     ]

@@ -79,13 +79,13 @@ unread n code e u r = let same : n ≡ code = eqb-true n code e in let both : is
 -- of the statements that are read, each is a sort
 pub read-code : (code : ℕ) → begins_statement code ≡ true → is_unread code ≡ false → code ≡ 0x04
 read-code code begins r = elim (six (0x02 == code) (0x04 == code) (0x05 == code) (0x06 == code) (0x0D == code) (0x0E == code) begins) [
-  inl e ↦ absurd (unread 0x02 code e refl r)
+  | inl e ↦ absurd (unread 0x02 code e refl r)
   | inr f ↦ elim f [
-    inl e ↦ sym (eqb-true 0x04 code e)
+    | inl e ↦ sym (eqb-true 0x04 code e)
     | inr g ↦ elim g [
-      inl e ↦ absurd (unread 0x05 code e refl r)
+      | inl e ↦ absurd (unread 0x05 code e refl r)
       | inr h ↦ elim h [
-        inl e ↦ absurd (unread 0x06 code e refl r)
+        | inl e ↦ absurd (unread 0x06 code e refl r)
         | inr k ↦ elim k [ inl e ↦ absurd (unread 0x0D code e refl r) | inr e ↦ absurd (unread 0x0E code e refl r) ]
       ]
     ]

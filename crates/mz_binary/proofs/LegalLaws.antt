@@ -18,7 +18,7 @@ legal-decl file env (sort_decl m) local code kind mark read row =
     ((tt, (tt, (tt, (tt, (tt, (tt, (tt, (tt, tt)))))))), λ e. absurd cc, tt)
 legal-decl file env (term_decl d) local code kind mark read row =
     elim kind [
-      inl e ↦ absurd (let both : is_unread code ≡ true = ap is_unread e in cc)
+      | inl e ↦ absurd (let both : is_unread code ≡ true = ap is_unread e in cc)
       | inr e ↦ absurd (let both : is_unread code ≡ true = ap is_unread e in cc)
     ]
 legal-decl file env (assertion_decl a) local code kind mark read row = absurd row

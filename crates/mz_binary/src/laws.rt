@@ -9,19 +9,16 @@ ghost use Rattle.mz_binary.specs.Good.{BinaryFault, Good};
 pub fn each_file_spells_one_list()
     ensures one { (file : List ℕ) (ss ts : List Declared) → Statements file ss → Statements file ts → ss ≡ ts }
     ensures good { (file : List ℕ) (ss : List Declared) → Good file ss → Statements file ss }
-{
-}
+{}
 
 /// Each file is good, or has exactly one first fault.
 pub fn each_file_is_good_or_has_one_fault()
     ensures either { (file : List ℕ) → ((ss : List Declared) × Good file ss) ⊎ ((refusal : Refusal) × BinaryFault file refusal) }
     ensures not_both { (file : List ℕ) (ss : List Declared) (refusal : Refusal) → Good file ss → BinaryFault file refusal → ⊥ }
     ensures one_fault { (file : List ℕ) (refusal other : Refusal) → BinaryFault file refusal → BinaryFault file other → refusal ≡ other }
-{
-}
+{}
 
 /// The statements of a good file are a legal list.
 pub fn good_files_are_legal()
     ensures { (file : List ℕ) (ss : List Declared) → Good file ss → Legal ss }
-{
-}
+{}

@@ -10,6 +10,9 @@ use std::alloc::Global;
 pub fn refusal_line(alloc: Global, refusal: &Refusal) -> Result<Vec<u8>, Mem>
     ensures { IfOk result (λ line. line.items ≡ line_of refusal.now) }
 {
-    let text = format!(in alloc; "refused: binary statement {} at byte {}: {}\n", refusal.statement, refusal.at, refusal.rule)?;
+    let text = format!(in alloc;
+        "refused: binary statement {} at byte {}: {}\n",
+        refusal.statement, refusal.at, refusal.rule
+    )?;
     Ok(text.into_bytes())
 }

@@ -40,7 +40,11 @@ pub fn found_at(mmb: &Mmb, rows: Rows, at: u32) -> Result<Found, Fault>
     };
     match there {
         StmtAt::End => check_end(mmb, rows, at),
-        StmtAt::Head { kind: _, body, next } => check_sort(mmb, rows, at, body, next),
+        StmtAt::Head {
+            kind: _,
+            body,
+            next,
+        } => check_sort(mmb, rows, at, body, next),
     }
 }
 

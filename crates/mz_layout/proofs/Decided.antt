@@ -15,9 +15,16 @@ words : (file : List ℕ) (further at : ℕ) → HoldsWords file further at ⊎ 
 words file further at = at_most-decided (words_at file at + 8 * (param_count file at + further)) (length file)
 
 header : (file : List ℕ) → AreDecided (header_checks file)
-header file =
-    (at_most-decided 40 (length file), λ _. (bytes-decided (take 4 file) (codes "MM0B"), λ _. (cases_eq (byte_at file 4) 1,
-    λ _. (at_most-decided (sort_count file) 128, λ _. (at_most-decided (40 + sort_count file) (length file), λ _. tt)))))
+header file = (
+  at_most-decided 40 (length file),
+  λ _. (
+    bytes-decided (take 4 file) (codes "MM0B"),
+    λ _. (
+      cases_eq (byte_at file 4) 1,
+      λ _. (at_most-decided (sort_count file) 128, λ _. (at_most-decided (40 + sort_count file) (length file), λ _. tt)),
+    ),
+  ),
+)
 
 tables : (file : List ℕ) → AreDecided (table_checks file)
 tables file =

@@ -9,5 +9,4 @@ pub fn each_file_has_one_layout()
     ensures one { (file : List ℕ) → Layout file ⊎ ((fault : ℕ × K) × FailsFirst (layout_checks file) fault) }
     ensures not_both { (file : List ℕ) (fault : ℕ × K) → Layout file → FailsFirst (layout_checks file) fault → ⊥ }
     ensures only { (file : List ℕ) (fault other : ℕ × K) → FailsFirst (layout_checks file) fault → FailsFirst (layout_checks file) other → fault ≡ other }
-{
-}
+{}
