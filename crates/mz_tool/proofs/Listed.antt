@@ -1,13 +1,13 @@
 -- What was listed is the answer to the request, or a prefix of it.
 use Rattle.std.proofs.Common.{◌≡◌, ◌≤◌, ◌+◌, ◌∙◌, ◌++◌, ℕ, List, Some, length, take, min, sym, subst, inl, inr, refl, ap, arith}
 use Rattle.std.proofs.lemmas.List.{take-append-le, take_min, length-append, append_assoc}
-use Rattle.std.proofs.Math.Seq.{take-append-add}
+use Rattle.std.proofs.Math.Seq.{take-append-add, take-length}
 use Rattle.mz_io.specs.Outside.{Rose, AppendsPrefix}
 use Rattle.mz_cmd.specs.declared.rule.Refusal.{Refusal}
 use Rattle.mz_binary.specs.RefusalLine.{refusal_line as refusal_text}
 use Rattle.mz_show.specs.Listing.{IsListing, IsListedUpTo, IsListed}
 use Rattle.mz_tool.specs.Request.{Files, show}
-use Rattle.mz_tool.specs.Run.{IsYes, IsNo, IsAnswer}
+use Rattle.mz_tool.specs.Run.{IsYes, IsNo, IsAnswer, IsListedFor}
 
 -- a prefix of a text is one of a longer text
 take-longer : (n : ℕ) (xs ys : List ℕ) → (m : ℕ) × (take n xs ≡ take m (xs ++ ys))
@@ -23,6 +23,10 @@ pub prefix-further : (old mid new xs ys : List ℕ) → mid ≡ old ++ xs → Ap
 prefix-further old mid new xs ys first (n, e) =
     (length xs + n, e ∙ ap (λ front. front ++ take n ys) first ∙ append_assoc old xs (take n ys) ∙ ap (λ part. old ++ part) (sym (take-append-add xs ys n)))
 
+-- a text is a prefix of itself
+pub whole-prefix : (old new text : List ℕ) → new ≡ old ++ text → AppendsPrefix old new text
+whole-prefix old new text e = (length text, e ∙ ap (λ part. old ++ part) (sym (take-length text)))
+
 -- a count that has risen later has risen
 pub rose-later : (a b c : ℕ) → a ≤ b → Rose b c → Rose a c
 rose-later a b c le rose = omega arith
@@ -34,6 +38,10 @@ module _ (file : Files) (name bin read : List ℕ) (bin_is : file name ≡ Some 
   pub listed-is_no : (text : List ℕ) (refusal : Refusal) → IsListedUpTo read text refusal → IsNo file (show name) (text ++ refusal_text refusal)
   listed-is_no text refusal listed =
       let P : List ℕ → Type 0 = λ bytes. IsListedUpTo bytes text refusal in (bin, bin_is, (text, refusal, subst P same listed, refl))
+
+  -- what is listed of the bytes is listed for the request
+  pub listed-is_listed : (text : List ℕ) → IsListed read text → IsListedFor file (show name) text
+  listed-is_listed text listed = let P : List ℕ → Type 0 = λ bytes. IsListed bytes text in (bin, bin_is, subst P same listed)
 
   -- a prefix of what is listed is one of the answer
   pub prefix-of_answer : (old new text : List ℕ) → IsListed read text → AppendsPrefix old new text →

@@ -6,14 +6,14 @@ use Rattle.mz_match.specs.declared.verdict.Verdict.{Verdict}
 use Rattle.mz_match.specs.declared.verdict.Verdict.TheVariants as verdicts
 use Rattle.mz_match.specs.Verdict.{AcceptsWith, FirstRefusal, IsSound, line_of}
 use Rattle.mz_binary.specs.RefusalLine.{refusal_line}
-use Rattle.mz_show.specs.Listing.{IsListing, IsListedUpTo}
+use Rattle.mz_show.specs.Listing.{IsListing, IsListedUpTo, IsListed}
 use Rattle.mz_tool.specs.Request.{Request, verify, show, Files}
 use Rattle.mz_tool.specs.declared.status.Status.{Status}
 use Rattle.mz_tool.specs.declared.status.Status.TheVariants as statuses
 
 -- ---- the answers of each command, over the bytes of the files
 
--- the proof file is accepted against the specification
+-- the binary is accepted against the specification
 abbrev pub IsVerified : List ℕ → List ℕ → List ℕ → Type 0
 IsVerified spec bin text = (counts : Counts) × AcceptsWith spec bin counts × (text ≡ line_of (verdicts.Accepted counts))
 
@@ -60,7 +60,12 @@ IsQuiet statuses.WriteFault = Unit {0}
 IsQuiet statuses.TooLong = Unit {0}
 IsQuiet statuses.Memory = ⊥
 
--- a listing is written as it is made, so that a part of it may stand there before want of memory
+-- this is listed in the course of the answer: only of a listing, which is written as it is made, a prefix may stand
+-- there before want of memory
+abbrev pub IsListedFor : Files → Request → List ℕ → Type 0
+IsListedFor file (verify spec_name bin_name) text = ⊥
+IsListedFor file (show bin_name) text = (bin : List ℕ) × (file bin_name ≡ Some bin) × IsListed bin text
+
 abbrev pub IsShow : Request → Type 0
 IsShow (verify spec bin) = ⊥
 IsShow (show bin) = Unit {0}

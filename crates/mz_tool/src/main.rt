@@ -1,4 +1,4 @@
-//! The program: verifies proof files against specifications.
+//! The program: verifies binaries against specifications, and lists them.
 #![tactic(auto)]
 
 mod command;

@@ -2,7 +2,7 @@
 ghost use Rattle.std.specs.Prelude.{◌≡◌, ◌≤◌, ◌++◌, ◌⊎◌, ℕ, List, length, map, string_bytes};
 ghost use Rattle.mz_io.specs.Outside.{Rose, SameFiles, AppendsPrefix};
 ghost use Rattle.mz_tool.specs.Request.{Request, Asks, names_read, AreReadable, AreThere, HasLong};
-ghost use Rattle.mz_tool.specs.Run.{IsYes, IsNo, IsAnswer, IsProved, IsQuiet, IsShow};
+ghost use Rattle.mz_tool.specs.Run.{IsYes, IsNo, IsAnswer, IsListedFor, IsProved, IsQuiet, IsShow};
 ghost use Rattle.mz_tool.specs.Asked.{request};
 
 use crate::command::Command;
@@ -58,7 +58,7 @@ pub fn run<F: Folder, O: Sink>(
         → O.written out.new ≡ O.written out.old }
     ensures memory_front { F.told → O.told → result ≡ Status.Memory → O.written out.new ≡ O.written out.old
         ⊎ ((asked : Request) × Asks (map string_bytes words.now) asked
-        × ((text : List ℕ) × IsAnswer (F.file folder.old) asked text × AppendsPrefix (O.written out.old) (O.written out.new) text)) }
+        × ((text : List ℕ) × IsListedFor (F.file folder.old) asked text × AppendsPrefix (O.written out.old) (O.written out.new) text)) }
     ensures files { F.told → SameFiles (F.file folder.old) (F.file folder.new) }
     ensures put_faults { F.put_faults folder.new ≡ F.put_faults folder.old }
 
@@ -96,7 +96,7 @@ fn answer<F: Folder, O: Sink>(
     ensures quiet { O.told → IsQuiet result → O.written out.new ≡ O.written out.old }
     ensures memory { O.told → result ≡ Status.Memory → (IsShow (request command.entry) → ⊥) → O.written out.new ≡ O.written out.old }
     ensures memory_front { F.told → O.told → result ≡ Status.Memory → O.written out.new ≡ O.written out.old
-        ⊎ ((text : List ℕ) × IsAnswer (F.file folder.old) (request command.entry) text × AppendsPrefix (O.written out.old) (O.written out.new) text) }
+        ⊎ ((text : List ℕ) × IsListedFor (F.file folder.old) (request command.entry) text × AppendsPrefix (O.written out.old) (O.written out.new) text) }
     ensures files { F.told → SameFiles (F.file folder.old) (F.file folder.new) }
     ensures put_faults { F.put_faults folder.new ≡ F.put_faults folder.old }
     ensures only_missing { F.is_clear folder.old → AreThere (F.file folder.old) (names_read (request command.entry)) → F.faults folder.new ≡ F.faults folder.old }

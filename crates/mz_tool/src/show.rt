@@ -3,7 +3,7 @@ ghost use Rattle.std.specs.Prelude.{◌≡◌, ◌≤◌, ◌<◌, ◌++◌, ◌
 ghost use Rattle.mz_io.specs.Outside.{Rose, SameFiles, AppendsPrefix};
 ghost use Rattle.mz_binary.specs.RefusalLine.{refusal_line as refusal_text};
 ghost use Rattle.mz_tool.specs.Request.{show as show_file, AreThere, HasLong, names_read};
-ghost use Rattle.mz_tool.specs.Run.{IsYes, IsNo, IsAnswer, IsProved, IsQuiet};
+ghost use Rattle.mz_tool.specs.Run.{IsYes, IsNo, IsAnswer, IsListedFor, IsProved, IsQuiet};
 ghost use Rattle.mz_tool.specs.Reported.{IsReported};
 
 use crate::status::{LONGEST, Status};
@@ -34,7 +34,7 @@ pub fn show<F: Folder, O: Sink>(
         → (text : List ℕ) × IsAnswer (F.file folder.old) (show_file bin_name.now) text × AppendsPrefix (O.written out.old) (O.written out.new) text }
     ensures quiet { O.told → IsQuiet result → O.written out.new ≡ O.written out.old }
     ensures memory { F.told → O.told → result ≡ Status.Memory → O.written out.new ≡ O.written out.old
-        ⊎ ((text : List ℕ) × IsAnswer (F.file folder.old) (show_file bin_name.now) text × AppendsPrefix (O.written out.old) (O.written out.new) text) }
+        ⊎ ((text : List ℕ) × IsListedFor (F.file folder.old) (show_file bin_name.now) text × AppendsPrefix (O.written out.old) (O.written out.new) text) }
     ensures files { F.told → SameFiles (F.file folder.old) (F.file folder.new) }
     ensures put_faults { F.put_faults folder.new ≡ F.put_faults folder.old }
     ensures only_missing { F.is_clear folder.old → AreThere (F.file folder.old) (names_read (show_file bin_name.now)) → F.faults folder.new ≡ F.faults folder.old }

@@ -1,7 +1,7 @@
 // Runs of the program over a folder and a sink in memory.
 use crate::program::run;
 use crate::status::Status;
-use mz_io::{MemFolder, MemSink};
+use mz_io::{Folder, MemFolder, MemSink};
 use std::alloc::{AllocError, Global};
 use std::process::Abort;
 use std::test::Fail;
@@ -427,4 +427,41 @@ fn a_full_sink_holds_a_prefix(rt: HostRuntime) -> Result<(), Fail> {
         "the room is used"
     );
     Ok(())
+}
+
+#[test]
+fn what_is_not_wanted_is_not_read(rt: HostRuntime) -> Result<(), Fail> {
+    let alloc = rt.alloc();
+    // Where the specification is missing, its start is the one call; words of no command make none.
+    for (line, status, calls) in [
+        ("verify other bin", Status::ReadFault, 1u64),
+        ("verify spec", Status::Usage, 0),
+    ] {
+        let mut folder = MemFolder::new(alloc);
+        folder.add("bin", ONE)?;
+        folder.fail_call(calls + 1)?;
+        let mut out = MemSink::new(alloc, 100)?;
+        let ended = run(alloc, &words_of(alloc, line)?, &mut folder, &mut out);
+        assert!(rt; ended == status, "{line}");
+        assert!(rt; folder.start("bin").is_err(), "the next call after {line}");
+    }
+    Ok(())
+}
+
+#[test]
+fn each_status_has_its_number_and_name(rt: HostRuntime) {
+    let statuses = [
+        (Status::Done, 0, None),
+        (Status::Refused, 1, None),
+        (Status::Usage, 2, Some("Usage")),
+        (Status::ReadFault, 3, Some("ReadFault")),
+        (Status::Memory, 4, Some("Memory")),
+        (Status::WriteFault, 5, Some("WriteFault")),
+        (Status::OutFault, 6, Some("OutFault")),
+        (Status::TooLong, 7, Some("TooLong")),
+    ];
+    for (status, number, name) in statuses {
+        assert!(rt; status.number() == number, "the number {number}");
+        assert!(rt; status.name() == name, "the name of {number}");
+    }
 }

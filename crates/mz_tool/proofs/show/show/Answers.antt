@@ -2,7 +2,7 @@ use Rattle.std.proofs.Common.{inl, inr, ◌≡◌, ◌∙◌, ◌≤◌, ◌++�
 use Rattle.std.proofs.lemmas.List.{length-append, append-nil}
 use Rattle.mz_binary.specs.RefusalLine.{refusal_line as refusal_text}
 use Rattle.mz_show.specs.Listing.{IsListing, IsListedUpTo}
-use Rattle.mz_tool.proofs.Listed.{listing-is_yes, listed-is_no, prefix-of_answer, room-of_listed, prefix-further, rose-later}
+use Rattle.mz_tool.proofs.Listed.{listing-is_yes, listed-is_no, listed-is_listed, prefix-of_answer, room-of_listed, prefix-further, rose-later, whole-prefix}
 use Rattle.mz_tool.proofs.Answered.{some-same}
 use Rattle.mz_tool.proofs.show.show.Goals as goal
 
@@ -49,11 +49,8 @@ returns-in-Refused-clause-front g c = λ told told_out is.
 pub returns-in-Refused-clause-memory : goal.returns-in-Refused-clause-memory
 returns-in-Refused-clause-memory g c = λ told told_out is.
     let listed = c.in-Refused.ensures.refused c.in-Refused.refusal refl in
-    inr (
-      listed.0 ++ refusal_text c.in-Refused.refusal,
-      inr (listed-is_no (g.F.Folder.file c.args.folder.now) c.args.bin_name.now c.in-Bytes.bytes.items c.deref.result.now (c.in-Bytes.ensures.bytes told) c.deref.ensures.value listed.0 c.in-Refused.refusal listed.1),
-      prefix-further _ _ _ listed.0 (refusal_text c.in-Refused.refusal) (listed.2 told_out) (0, c.report_refusal.ensures.memory told_out is ∙ sym (append-nil _)),
-    )
+    let whole = c.report_refusal.ensures.memory told_out is ∙ listed.2 told_out in
+    inr (listed.0, listed-is_listed (g.F.Folder.file c.args.folder.now) c.args.bin_name.now c.in-Bytes.bytes.items c.deref.result.now (c.in-Bytes.ensures.bytes told) c.deref.ensures.value listed.0 (inr (c.in-Refused.refusal, listed.1)), whole-prefix _ _ listed.0 whole)
 
 pub returns-in-Refused-clause-only_full : goal.returns-in-Refused-clause-only_full
 returns-in-Refused-clause-only_full g c = λ told clear fits.
@@ -77,7 +74,7 @@ returns-in-Fault-listing-clause-only_full g c = λ told clear fits.
 pub returns-clause-memory : goal.returns-clause-memory
 returns-clause-memory g c = λ told told_out is.
     let listed = c.in-Mem-listing.ensures.prefix (inr refl) in
-    inr (prefix-of_answer (g.F.Folder.file c.args.folder.now) c.args.bin_name.now c.in-Bytes.bytes.items c.deref.result.now (c.in-Bytes.ensures.bytes told) c.deref.ensures.value _ _ listed.0 listed.1 (listed.2 told_out))
+    inr (listed.0, listed-is_listed (g.F.Folder.file c.args.folder.now) c.args.bin_name.now c.in-Bytes.bytes.items c.deref.result.now (c.in-Bytes.ensures.bytes told) c.deref.ensures.value listed.0 listed.1, listed.2 told_out)
 
 pub returns-clause-only_full : goal.returns-clause-only_full
 returns-clause-only_full g c = λ told clear fits.
