@@ -54,15 +54,17 @@ fn listed(cmd: Cmd, pos: u32, end: usize) -> Result<StmtAt, StmtFault>
 }
 
 /// What stands at a place of the list of statements. The end may be spelled with an operand, which
-/// isn't looked at.
+/// isn't looked at. Past the end of the bytes no command stands.
 pub fn stmt_at(bytes: &[u8], pos: u32) -> Result<StmtAt, StmtFault>
-    requires room { pos ≤ length bytes.now }
     requires fits { length bytes.now < 2 ^ 32 }
     ensures stands { (s : StmtAt) → (result ≡ Ok s) ↔ IsListedAt bytes.now pos s }
     ensures fault { Judges result (statement_checks bytes.now pos) }
     // The same as a function of the bytes.
     ensures computed { result ≡ statement_at bytes.now pos }
 {
+    if pos as usize > bytes.len() {
+        return Err(StmtFault::Command);
+    }
     match cmd_at(bytes, pos) {
         Ok(cmd) => listed(cmd, pos, bytes.len()),
         Err(_) => Err(StmtFault::Command),

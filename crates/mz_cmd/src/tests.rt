@@ -101,7 +101,7 @@ fn statements_are_found(rt: HostRuntime) {
     let head = |kind, body, next| Ok(StmtAt::Head { kind, body, next });
     let mut no_distance = ONE;
     no_distance[49] = 0;
-    let cases: [(&[u8], u32, Result<StmtAt, StmtFault>); 21] = [
+    let cases: [(&[u8], u32, Result<StmtAt, StmtFault>); 23] = [
         (&ONE, 48, head(0x04, 50, 50)),
         (&ONE, 50, Ok(StmtAt::End)),
         (&ONE[..49], 48, Err(StmtFault::Command)),
@@ -127,9 +127,12 @@ fn statements_are_found(rt: HostRuntime) {
         (&[0x0C], 0, Err(StmtFault::Kind)),
         (&[0x52, 0x09], 0, Err(StmtFault::Kind)),
         (&[0x48, 0x02], 0, Err(StmtFault::Command)),
+        // past the end of the bytes
+        (&[0x00], 2, Err(StmtFault::Command)),
+        (&ONE, u32::MAX, Err(StmtFault::Command)),
     ];
     for (bytes, pos, wanted) in cases {
-        assert!(rt; pos as usize <= bytes.len() && bytes.len() < 100);
+        assert!(rt; bytes.len() < 100);
         assert_eq!(rt; stmt_at(bytes, pos), wanted, "{bytes:?} at {pos}");
     }
 }

@@ -5,7 +5,7 @@ use Rattle.mz_cmd.proofs.statement.stmt_at.Goals as goal
 pub listed-requires-clause-room : goal.listed-requires-clause-room
 listed-requires-clause-room c =
     let begins = (c.cmd_at.ensures.stands c.in-Ok.cmd).0 c.in-Ok.is in
-    omega (arith, begins.whole, length-drop c.args.pos c.args.bytes.now, c.requires.room)
+    omega (arith, begins.whole, length-drop c.args.pos c.args.bytes.now, c.if-pos-bytes.false)
 
 pub returns-in-Ok-clause-stands : goal.returns-in-Ok-clause-stands
 returns-in-Ok-clause-stands c s =
