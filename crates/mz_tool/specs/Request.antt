@@ -41,6 +41,10 @@ abbrev pub AreThere : Files → List (List ℕ) → Type 0
 AreThere file [] = ⊤
 AreThere file (name ∷ names) = ((bytes : List ℕ) × (file name ≡ Some bytes)) × AreThere file names
 
+-- one of the files is there, and longer than the limit
+abbrev pub HasLonger : ℕ → Files → List (List ℕ) → Type 0
+HasLonger limit file names = Any (λ name. IsLonger limit (file name)) names
+
 -- one of the files is there, and longer than any that is read
 abbrev pub HasLong : Files → List (List ℕ) → Type 0
-HasLong file names = Any (λ name. IsLonger longest (file name)) names
+HasLong file names = HasLonger longest file names

@@ -1,13 +1,13 @@
 // The program, over any folder and sink.
-ghost use Rattle.std.specs.Prelude.{◌≡◌, ◌≤◌, ◌++◌, ◌⊎◌, ℕ, List, length, map, string_bytes};
+ghost use Rattle.std.specs.Prelude.{◌≡◌, ◌≤◌, ◌<◌, ◌^◌, ◌++◌, ◌⊎◌, ℕ, List, length, map, string_bytes};
 ghost use Rattle.mz_io.specs.Outside.{Rose, SameFiles, AppendsPrefix};
-ghost use Rattle.mz_tool.specs.Request.{Request, Asks, names_read, AreReadable, AreThere, HasLong};
+ghost use Rattle.mz_tool.specs.Request.{Request, Asks, names_read, AreReadable, AreThere, HasLong, HasLonger};
 ghost use Rattle.mz_tool.specs.Run.{IsYes, IsNo, IsAnswer, IsListedFor, IsProved, IsQuiet, IsShow};
 ghost use Rattle.mz_tool.specs.Asked.{request};
 
 use crate::command::Command;
 use crate::show::show;
-use crate::status::Status;
+use crate::status::{LONGEST, Status};
 use crate::verify::verify;
 use mz_io::{Folder, Sink};
 use std::alloc::Global;
@@ -69,18 +69,20 @@ pub fn run<F: Folder, O: Sink>(
         → length text ≤ O.room out.old) → O.faults out.new ≡ O.faults out.old }
 {
     match Command::read(words) {
-        Some(command) => answer(alloc, command, folder, out),
+        Some(command) => answer(alloc, LONGEST, command, folder, out),
         None => Status::Usage,
     }
 }
 
-/// Answers a command.
-fn answer<F: Folder, O: Sink>(
+/// Answers a command, with files of at most `limit` bytes.
+pub fn answer<F: Folder, O: Sink>(
     alloc: Global,
+    limit: u64,
     command: Command,
     folder: &mut F,
     out: &mut O,
 ) -> Status
+    requires limit { limit < 2 ^ 32 }
     ensures done { F.told → result ≡ Status.Done → (text : List ℕ) × IsYes (F.file folder.old) (request command.entry) text × (O.told → O.written out.new ≡ O.written out.old ++ text) }
     ensures refused { F.told → result ≡ Status.Refused → (text : List ℕ) × IsNo (F.file folder.old) (request command.entry) text × (O.told → O.written out.new ≡ O.written out.old ++ text) }
     ensures sound { F.told → result ≡ Status.Done → IsProved (F.file folder.old) (request command.entry) }
@@ -90,7 +92,7 @@ fn answer<F: Folder, O: Sink>(
     ensures read_fault { result ≡ Status.ReadFault → Rose (F.faults folder.old) (F.faults folder.new) }
     ensures write_fault { result ≡ Status.WriteFault → ⊥ }
     ensures out_fault { result ≡ Status.OutFault → Rose (O.faults out.old) (O.faults out.new) }
-    ensures too_long { F.told → result ≡ Status.TooLong → HasLong (F.file folder.old) (names_read (request command.entry)) }
+    ensures too_long { F.told → result ≡ Status.TooLong → HasLonger limit (F.file folder.old) (names_read (request command.entry)) }
     ensures front { F.told → O.told → result ≡ Status.OutFault
         → (text : List ℕ) × IsAnswer (F.file folder.old) (request command.entry) text × AppendsPrefix (O.written out.old) (O.written out.new) text }
     ensures quiet { O.told → IsQuiet result → O.written out.new ≡ O.written out.old }
@@ -104,7 +106,7 @@ fn answer<F: Folder, O: Sink>(
         → O.faults out.new ≡ O.faults out.old }
 {
     match command {
-        Command::Verify { spec, bin } => verify(alloc, spec, bin, folder, out),
-        Command::Show { bin } => show(alloc, bin, folder, out),
+        Command::Verify { spec, bin } => verify(alloc, limit, spec, bin, folder, out),
+        Command::Show { bin } => show(alloc, limit, bin, folder, out),
     }
 }

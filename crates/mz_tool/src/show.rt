@@ -2,24 +2,26 @@
 ghost use Rattle.std.specs.Prelude.{◌≡◌, ◌≤◌, ◌<◌, ◌++◌, ◌⊎◌, ◌^◌, ℕ, List, length, IfOk};
 ghost use Rattle.mz_io.specs.Outside.{Rose, SameFiles, AppendsPrefix};
 ghost use Rattle.mz_binary.specs.RefusalLine.{refusal_line as refusal_text};
-ghost use Rattle.mz_tool.specs.Request.{show as show_file, AreThere, HasLong, names_read};
+ghost use Rattle.mz_tool.specs.Request.{show as show_file, AreThere, HasLonger, names_read};
 ghost use Rattle.mz_tool.specs.Run.{IsYes, IsNo, IsAnswer, IsListedFor, IsProved, IsQuiet};
 ghost use Rattle.mz_tool.specs.Reported.{IsReported};
 
-use crate::status::{LONGEST, Status};
+use crate::status::Status;
 use mz_binary::refusal_line;
 use mz_cmd::Refusal;
 use mz_io::{Folder, Read, Sink, read_bounded, write_whole};
 use mz_show::{Shown, listing};
 use std::alloc::Global;
 
-/// Writes the listing of a file, by its name, and after a refusal its line.
+/// Writes the listing of a file of at most `limit` bytes, by its name, and after a refusal its line.
 pub fn show<F: Folder, O: Sink>(
     alloc: Global,
+    limit: u64,
     bin_name: &str,
     folder: &mut F,
     out: &mut O,
 ) -> Status
+    requires limit { limit < 2 ^ 32 }
     ensures done { F.told → result ≡ Status.Done → (text : List ℕ) × IsYes (F.file folder.old) (show_file bin_name.now) text × (O.told → O.written out.new ≡ O.written out.old ++ text) }
     ensures refused { F.told → result ≡ Status.Refused → (text : List ℕ) × IsNo (F.file folder.old) (show_file bin_name.now) text × (O.told → O.written out.new ≡ O.written out.old ++ text) }
     ensures sound { F.told → result ≡ Status.Done → IsProved (F.file folder.old) (show_file bin_name.now) }
@@ -29,7 +31,7 @@ pub fn show<F: Folder, O: Sink>(
     ensures read_fault { result ≡ Status.ReadFault → Rose (F.faults folder.old) (F.faults folder.new) }
     ensures write_fault { result ≡ Status.WriteFault → ⊥ }
     ensures out_fault { result ≡ Status.OutFault → Rose (O.faults out.old) (O.faults out.new) }
-    ensures too_long { F.told → result ≡ Status.TooLong → HasLong (F.file folder.old) (names_read (show_file bin_name.now)) }
+    ensures too_long { F.told → result ≡ Status.TooLong → HasLonger limit (F.file folder.old) (names_read (show_file bin_name.now)) }
     ensures front { F.told → O.told → result ≡ Status.OutFault
         → (text : List ℕ) × IsAnswer (F.file folder.old) (show_file bin_name.now) text × AppendsPrefix (O.written out.old) (O.written out.new) text }
     ensures quiet { O.told → IsQuiet result → O.written out.new ≡ O.written out.old }
@@ -41,7 +43,7 @@ pub fn show<F: Folder, O: Sink>(
     ensures only_full { F.told → O.is_clear out.old → ((text : List ℕ) → IsAnswer (F.file folder.old) (show_file bin_name.now) text → length text ≤ O.room out.old)
         → O.faults out.new ≡ O.faults out.old }
 {
-    let bin = match read_bounded(alloc, folder, bin_name, LONGEST) {
+    let bin = match read_bounded(alloc, folder, bin_name, limit) {
         Read::Bytes(bytes) => bytes,
         Read::TooLong => return Status::TooLong,
         Read::Fault => return Status::ReadFault,

@@ -1,5 +1,6 @@
 // Runs of the program over a folder and a sink in memory.
-use crate::program::run;
+use crate::command::Command;
+use crate::program::{answer, run};
 use crate::status::Status;
 use mz_io::{Folder, MemFolder, MemSink};
 use std::alloc::{AllocError, Global};
@@ -444,6 +445,79 @@ fn what_is_not_wanted_is_not_read(rt: HostRuntime) -> Result<(), Fail> {
         let ended = run(alloc, &words_of(alloc, line)?, &mut folder, &mut out);
         assert!(rt; ended == status, "{line}");
         assert!(rt; folder.start("bin").is_err(), "the next call after {line}");
+    }
+    Ok(())
+}
+
+#[test]
+fn a_file_past_the_limit_is_too_long(rt: HostRuntime) -> Result<(), Fail> {
+    let alloc = rt.alloc();
+    // The specification has 18 bytes, the binary 51.
+    let verify = Command::Verify {
+        spec: "spec",
+        bin: "bin",
+    };
+    let show = Command::Show { bin: "bin" };
+    for (limit, command, wanted) in [
+        (17, verify, Status::TooLong),
+        (18, verify, Status::TooLong),
+        (50, verify, Status::TooLong),
+        (51, verify, Status::Done),
+        (50, show, Status::TooLong),
+        (51, show, Status::Done),
+    ] {
+        let mut folder = MemFolder::new(alloc);
+        folder.add("spec", b"provable sort wff;")?;
+        folder.add("bin", ONE)?;
+        let mut out = MemSink::new(alloc, 100)?;
+        let status = answer(alloc, limit, command, &mut folder, &mut out);
+        assert!(rt; status == wanted, "within {limit} bytes");
+        assert!(rt;
+            (wanted == Status::TooLong) == out.bytes().is_empty(),
+            "within {limit} bytes"
+        );
+    }
+    Ok(())
+}
+
+/// Takes memory in ever smaller pieces until no more is given. None where it can't be used up, as
+/// under a checking allocator.
+fn take_all(alloc: Global) -> Result<Option<Vec<Vec<u8>>>, AllocError> {
+    let mut held = Vec::with_capacity(alloc, 1 << 18)?;
+    for power in (3..47u32).rev() {
+        let mut refused = false;
+        for _ in 0..1 << 14 {
+            let Ok(piece) = Vec::with_capacity(alloc, 1 << power) else {
+                refused = true;
+                break;
+            };
+            held.push(piece)?;
+        }
+        if !refused {
+            return Ok(None);
+        }
+    }
+    Ok(Some(held))
+}
+
+#[test]
+fn want_of_memory_is_told(rt: HostRuntime) -> Result<(), Fail> {
+    let alloc = rt.alloc();
+    for line in ["verify spec bin", "show bin"] {
+        let words = words_of(alloc, line)?;
+        let mut folder = MemFolder::new(alloc);
+        folder.add("spec", b"provable sort wff;")?;
+        folder.add("bin", ONE)?;
+        let mut out = MemSink::new(alloc, 100)?;
+        let Some(held) = take_all(alloc)? else {
+            return Ok(());
+        };
+        let status = run(alloc, &words, &mut folder, &mut out);
+        drop(held);
+        assert!(rt; status == Status::Memory, "{line} without memory");
+        assert!(rt; out.bytes().is_empty(), "{line} without memory");
+        let status = run(alloc, &words, &mut folder, &mut out);
+        assert!(rt; status == Status::Done, "{line} with memory again");
     }
     Ok(())
 }

@@ -2,11 +2,11 @@
 ghost use Rattle.std.specs.Prelude.{◌≡◌, ◌≤◌, ◌<◌, ◌++◌, ◌⊎◌, ◌^◌, ℕ, List, length};
 ghost use Rattle.mz_io.specs.Outside.{Rose, SameFiles, AppendsPrefix};
 ghost use Rattle.mz_match.specs.Verdict.{IsVerdict, IsSoundIfAccepted, AcceptsWith, FirstRefusal, line_of};
-ghost use Rattle.mz_tool.specs.Request.{verify as verify_files, AreThere, HasLong, names_read};
+ghost use Rattle.mz_tool.specs.Request.{verify as verify_files, AreThere, HasLonger, names_read};
 ghost use Rattle.mz_tool.specs.Run.{IsYes, IsNo, IsAnswer, IsProved, IsQuiet};
 ghost use Rattle.mz_tool.specs.Reported.{IsAccepted, IsRefused, IsReported};
 
-use crate::status::{LONGEST, Status};
+use crate::status::Status;
 use mz_cmd::Steps;
 use mz_io::{Folder, Read, Sink, read_bounded, write_whole};
 use mz_match::{Counts, Verdict, verdict_line, verify_bytes};
@@ -14,14 +14,17 @@ use std::alloc::Global;
 use std::marker::Brand;
 use std::sync::ledger::{Blank, Ledger};
 
-/// Judges a file against a specification, both named, and writes the verdict's line.
+/// Judges a file against a specification, both named and of at most `limit` bytes, and writes the
+/// verdict's line.
 pub fn verify<F: Folder, O: Sink>(
     alloc: Global,
+    limit: u64,
     spec_name: &str,
     bin_name: &str,
     folder: &mut F,
     out: &mut O,
 ) -> Status
+    requires limit { limit < 2 ^ 32 }
     ensures done { F.told → result ≡ Status.Done → (text : List ℕ) × IsYes (F.file folder.old) (verify_files spec_name.now bin_name.now) text × (O.told → O.written out.new ≡ O.written out.old ++ text) }
     ensures refused { F.told → result ≡ Status.Refused → (text : List ℕ) × IsNo (F.file folder.old) (verify_files spec_name.now bin_name.now) text × (O.told → O.written out.new ≡ O.written out.old ++ text) }
     ensures sound { F.told → result ≡ Status.Done → IsProved (F.file folder.old) (verify_files spec_name.now bin_name.now) }
@@ -31,7 +34,7 @@ pub fn verify<F: Folder, O: Sink>(
     ensures read_fault { result ≡ Status.ReadFault → Rose (F.faults folder.old) (F.faults folder.new) }
     ensures write_fault { result ≡ Status.WriteFault → ⊥ }
     ensures out_fault { result ≡ Status.OutFault → Rose (O.faults out.old) (O.faults out.new) }
-    ensures too_long { F.told → result ≡ Status.TooLong → HasLong (F.file folder.old) (names_read (verify_files spec_name.now bin_name.now)) }
+    ensures too_long { F.told → result ≡ Status.TooLong → HasLonger limit (F.file folder.old) (names_read (verify_files spec_name.now bin_name.now)) }
     ensures front { F.told → O.told → result ≡ Status.OutFault
         → (text : List ℕ) × IsAnswer (F.file folder.old) (verify_files spec_name.now bin_name.now) text × AppendsPrefix (O.written out.old) (O.written out.new) text }
     ensures quiet { O.told → IsQuiet result → O.written out.new ≡ O.written out.old }
@@ -42,13 +45,13 @@ pub fn verify<F: Folder, O: Sink>(
     ensures only_full { F.told → O.is_clear out.old → ((text : List ℕ) → IsAnswer (F.file folder.old) (verify_files spec_name.now bin_name.now) text → length text ≤ O.room out.old)
         → O.faults out.new ≡ O.faults out.old }
 {
-    let spec = match read_bounded(alloc, folder, spec_name, LONGEST) {
+    let spec = match read_bounded(alloc, folder, spec_name, limit) {
         Read::Bytes(bytes) => bytes,
         Read::TooLong => return Status::TooLong,
         Read::Fault => return Status::ReadFault,
         Read::Mem => return Status::Memory,
     };
-    let bin = match read_bounded(alloc, folder, bin_name, LONGEST) {
+    let bin = match read_bounded(alloc, folder, bin_name, limit) {
         Read::Bytes(bytes) => bytes,
         Read::TooLong => return Status::TooLong,
         Read::Fault => return Status::ReadFault,
