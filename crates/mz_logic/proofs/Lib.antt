@@ -19,3 +19,4 @@ pub mod Longer
 pub mod WorkedExamples
 pub mod WordsAsParams
 pub mod WordBits
+pub mod NearMisses

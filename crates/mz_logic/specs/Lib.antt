@@ -17,3 +17,4 @@ pub mod Codes
 pub mod Falls
 pub mod Laws
 pub mod Examples
+pub mod NearMisses

@@ -1,4 +1,5 @@
 //! Worked examples of the definitions. Each function does nothing; its contract is the example.
+ghost use Rattle.mz_logic.specs.NearMisses.{NotApartThoughLater, FreeByTheResult, BoundByTheTerm, CitesWhereItDepends, CitesNotApart, UnfoldsWithFresh, UnfoldsWithOperand, UnfoldsWithOneForTwo, NoSortNoConversion, FreeDummy, CitesItself};
 ghost use Rattle.mz_logic.specs.Examples.{A1iDerives, A1iTurnedFails, FourAreLegal, LocalAxiomFails, NotApart, ApartWhereItDepends, NotApartThoughNotFree, MissingDependency, LaterDependency, NnUnfolds};
 
 /// From `a` follows `b -> a`, by modus ponens and the first axiom; with the subproofs exchanged it
@@ -32,4 +33,44 @@ pub fn dependencies_come_before()
 /// A definition unfolds to its body.
 pub fn definition_unfolds()
     ensures { NnUnfolds }
+{}
+
+/// A bound operand counts also for a parameter that comes before its own.
+pub fn apart_in_any_order()
+    ensures { NotApartThoughLater }
+{}
+
+/// The operand of a bound parameter is free exactly where the result depends on it.
+pub fn results_free_their_operands()
+    ensures free { FreeByTheResult }
+    ensures bound { BoundByTheTerm }
+{}
+
+/// A citation derives its instance where its operands are apart, and derives nothing where they
+/// aren't.
+pub fn citations_are_apart()
+    ensures holds { CitesWhereItDepends }
+    ensures fails { CitesNotApart }
+{}
+
+/// The variables of an unfolding are fresh, and different from each other.
+pub fn unfoldings_are_fresh()
+    ensures holds { UnfoldsWithFresh }
+    ensures operand { UnfoldsWithOperand }
+    ensures twice { UnfoldsWithOneForTwo }
+{}
+
+/// Both sides of a conversion have a sort.
+pub fn conversions_are_sorted()
+    ensures { NoSortNoConversion }
+{}
+
+/// A dummy's sort isn't free.
+pub fn dummies_are_not_free()
+    ensures { FreeDummy }
+{}
+
+/// A theorem isn't proved by itself.
+pub fn no_theorem_cites_itself()
+    ensures { CitesItself }
 {}

@@ -1,0 +1,122 @@
+-- The examples of the rules on variables hold.
+use Rattle.std.proofs.Common.{ℕ, zero, ◌≡◌, ◌⊎◌, true, false, true≢false, List, [], ◌∷◌, slice_get, Some, refl, sym, ap, ◌∙◌, subst, inl, inr, not-suc-le-zero, zero-lt-suc, arith}
+use Rattle.mz_logic.specs.Tree.{Tree, var, app, none, more}
+use Rattle.mz_logic.specs.Declaration.{Term, defined, signatures}
+use Rattle.mz_logic.specs.Modifiers.{IsFree}
+use Rattle.mz_logic.specs.Sorts.{HasSort}
+use Rattle.mz_logic.specs.Variables.{InFV, InSomeFV, InSomeV, IsOperandAt, Apart}
+use Rattle.mz_logic.specs.Conversions.{AreFresh}
+use Rattle.mz_logic.specs.Derivations.{Derivation, hypothesis, cite, convert, Derives}
+use Rattle.mz_logic.specs.Examples.{wff, wff_sort, nat, wff_x, y_and_q}
+use Rattle.mz_logic.specs.NearMisses.{NotApartThoughLater, of_nat, at_y, FreeByTheResult, BoundByTheTerm, generalized, CitesWhereItDepends, CitesNotApart, rel, relation, result_wff, UnfoldsWithFresh, UnfoldsWithOperand, UnfoldsWithOneForTwo, NoSortNoConversion, FreeDummy, CitesItself}
+use Rattle.mz_logic.specs.declared.binder.Binder.{Binder}
+use Rattle.mz_logic.specs.declared.binder.SortMods.{SortMods}
+use Rattle.mz_logic.proofs.Instance.{one_at, none_some}
+use Rattle.mz_logic.proofs.WorkedExamples.{apart_where_it_depends, not_apart}
+
+pub not_apart_though_later : NotApartThoughLater
+not_apart_though_later h = elim (h 0 1 0 wff nat refl refl refl refl (wff_x, refl, inr (refl, (zero, zero-lt-suc 0, refl)))) [
+  | inl same ↦ (let e : ◌≡◌ {A = ℕ} 0 1 = same in cc)
+  | inr (k, below, is) ↦ not-suc-le-zero below
+]
+
+pub free_by_the_result : FreeByTheResult
+free_by_the_result = (of_nat (0 ∷ []), refl, inr (0, (zero, zero-lt-suc 0, refl), (nat, refl, refl), refl))
+
+pub bound_by_the_term : BoundByTheTerm
+bound_by_the_term = (not_free, inl (nat, refl, inl (refl, refl)))
+  where
+    go : InSomeFV (of_nat [] ∷ []) (nat ∷ []) 0 (nat ∷ []) (more (var 0) none) (nat ∷ []) (more (var 0) none) ⊎ IsOperandAt (nat ∷ []) (more (var 0) none) [] 0 → ⊥
+    go (inl (inl (bound, _, _))) = true≢false bound
+    go (inl (inr h)) = h
+    go (inr (j, (k, below, _), _, _)) = not-suc-le-zero below
+
+    not_free : InFV (of_nat [] ∷ []) (nat ∷ []) 0 at_y → ⊥
+    not_free (d, at, h) = go (subst (λ s. InSomeFV (of_nat [] ∷ []) (nat ∷ []) 0 s.params (more (var 0) none) s.params (more (var 0) none) ⊎ IsOperandAt s.params (more (var 0) none) s.result.deps 0) (one_at at refl) h)
+
+-- ---- citations
+
+reg : {A : Type 0} → false ≡ true → A
+reg h = absurd (true≢false (sym h))
+
+pub cites_where_it_depends : CitesWhereItDepends
+cites_where_it_depends = (
+  generalized wff_x,
+  refl,
+  refl,
+  ((nat, refl, refl), (λ _. (zero, nat, refl, refl, refl)), ((wff_x, refl, refl), reg, tt)),
+  apart_where_it_depends,
+  (refl, tt),
+)
+
+pub cites_not_apart : CitesNotApart
+cites_not_apart (a, at, is, fits, apart, derives) = not_apart (subst (λ b. Apart y_and_q (more (var 0) (more (var 1) none)) b.params) (one_at at refl) apart)
+
+-- ---- unfoldings
+
+nat_var : (x : ℕ) → slice_get (nat ∷ nat ∷ []) x ≡ Some nat → (b : Binder) × (slice_get (nat ∷ nat ∷ []) x ≡ Some b) × (b.sort ≡ 1)
+nat_var x at = (nat, at, refl)
+
+rel_sorted : (x y : ℕ) → slice_get (nat ∷ nat ∷ []) x ≡ Some nat → slice_get (nat ∷ nat ∷ []) y ≡ Some nat → HasSort (signatures relation) (nat ∷ nat ∷ []) (rel x y) 0
+rel_sorted x y is_x is_y =
+    (result_wff [] (nat ∷ nat ∷ []), refl, refl, (nat_var x is_x, (λ _. (x, nat, refl, is_x, refl)), (nat_var y is_y, (λ _. (y, nat, refl, is_y, refl)), tt)))
+
+pub unfolds_with_fresh : UnfoldsWithFresh
+unfolds_with_fresh = (
+  (0, one_sorted),
+  (0, rel_sorted 0 1 refl refl),
+  refl,
+  (
+    _,
+    nat ∷ [],
+    rel 0 1,
+    (refl, refl),
+    (nat_var 0 refl, (λ _. (zero, nat, refl, refl, refl)), tt),
+    ((nat, refl, refl, refl), apart, (λ h. not-suc-le-zero h.1), tt),
+    ((0, rel_sorted 0 1 refl refl), (0, rel_sorted 0 1 refl refl), refl, refl),
+  ),
+)
+  where
+    one_sorted : HasSort (signatures relation) (nat ∷ nat ∷ []) (app 1 (more (var 0) none)) 0
+    one_sorted = (result_wff [] (nat ∷ []), refl, refl, (nat_var 0 refl, (λ _. (zero, nat, refl, refl, refl)), tt))
+
+    apart : InSomeV (nat ∷ nat ∷ []) 1 (more (var 0) none) → ⊥
+    apart (inl (b, at, inl (_, is))) = (let e : ◌≡◌ {A = ℕ} 1 0 = is in cc)
+    apart (inl (b, at, inr (regular, _))) = true≢false (ap (λ c. c.bound) (one_at refl at) ∙ regular)
+    apart (inr h) = h
+
+same_form : (bs cs : List Binder) (b c : Tree) → defined bs b ≡ defined cs c → bs ≡ cs
+same_form bs cs b c e = cc
+
+some_dummies : (d e : Term) (bs cs : List Binder) (b c : Tree) → Some d ≡ Some e → d.form ≡ defined bs b → e.form ≡ defined cs c → bs ≡ cs
+some_dummies d e bs cs b c same left right =
+    let one : d ≡ e = sym (one_at same refl) in
+    same_form bs cs b c (sym left ∙ (ap (λ t. t.form) one ∙ right))
+
+pub unfolds_with_operand : UnfoldsWithOperand
+unfolds_with_operand (_, _, _, (d, dummies, body, (at, form), fits, fresh, _)) =
+    (subst (AreFresh (nat ∷ nat ∷ []) (more (var 0) none) (0 ∷ [])) (some_dummies d _ dummies (nat ∷ []) body (rel 0 1) (sym at) form refl) fresh).1 (inl (nat, refl, inl (refl, refl)))
+
+pub unfolds_with_one_for_two : UnfoldsWithOneForTwo
+unfolds_with_one_for_two (_, _, _, (d, dummies, body, (at, form), fits, fresh, _)) =
+    (subst (AreFresh (nat ∷ nat ∷ []) none (0 ∷ 0 ∷ [])) (some_dummies d _ dummies (nat ∷ nat ∷ []) body (rel 0 1) (sym at) form refl) fresh).2 (zero, zero-lt-suc 0, refl)
+
+-- ---- what doesn't hold
+
+pub no_sort_no_conversion : NoSortNoConversion
+no_sort_no_conversion (left, _, _, _) = none_some left.1.1
+
+pub free_dummy : FreeDummy
+free_dummy h = let (m, at, strict, free) = (h 0 (record { sort = 0; bound = true; deps = [] }) refl).1 in
+    free (subst (λ (n : SortMods). IsFree n) (one_at refl at) (λ is. (let e : 8 ≡ 0 = is in absurd (omega (arith, e)))))
+
+-- from no hypotheses and no assertions nothing is derived
+nothing_derived : (ctx : List Binder) (d : Derivation) (e : Tree) → Derives (wff_sort ∷ []) ctx none d e → ⊥
+nothing_derived ctx (hypothesis i) e at = none_some at
+nothing_derived ctx (cite T es ds) e (a, at, _, _, _, _) = none_some at
+nothing_derived ctx (convert f c d) e (_, (g, _, derives)) = nothing_derived ctx d g derives
+
+pub cites_itself : CitesItself
+cites_itself h =
+    let proved = h.1.0.2 refl in
+    nothing_derived (wff ∷ proved.0) proved.2.0 (var 0) proved.2.2
