@@ -21,7 +21,7 @@ use Rattle.mz_unify.specs.UnifyMachine.{UnifyMode, at_end, Matching, UnifyState,
 use Rattle.mz_unify.proofs.Inverting.{from_bind, from_need, rule_of-ok, taken-is}
 use Rattle.mz_unify.proofs.Trees.{listed-trees_of}
 use Rattle.mz_unify.proofs.OwnStream.{assertion-spelled}
-use Rattle.mz_unify.proofs.Below.{Below, EachBelow, text-below}
+use Rattle.mz_unify.proofs.Below.{Below, EachBelow, text-met}
 use Rattle.mz_machine.specs.Tables.{Tables, signatures_in, State, Kind, is_axiom, is_theorem, Heading, Declares}
 use Rattle.mz_machine.specs.ProofMachine.{last_item, ending, own_variables, own_stream, as_proofs, has_provable_sort, matched_by, ends_with, proof_end}
 use Rattle.mz_machine.specs.Bodies.{body_run}
@@ -101,7 +101,7 @@ made-legal tables env declares h without_proof P last e m u (there, params-right
     let (dummies, ctx-is, _) = fact.context in
     let text : Text of_assertion (signatures env) h.params h.stream (trees_of last.hyps) e [] =
     assertion-spelled (signatures env) last.ctx h.params h.stream e last.hyps u (own-run tables env declares h last.ctx at_end e (as_proofs last.hyps) m u m-is ran) (s, e-sort) (claims-sorted env last.ctx last.hyps fact.hyps_provable) in
-    let (e-below, hyps-below) = text-below of_assertion (signatures env) h.params h.stream (trees_of last.hyps) e [] text in
+    let (e-below, hyps-below) = text-met of_assertion (signatures env) h.params h.stream (trees_of last.hyps) e [] text in
     let n-is : length h.params + 0 ≡ length h.params = omega arith in
     let e-below' : Below (length h.params) e = subst (λ (n : ℕ). Below n e) n-is e-below in
     let hyps-below' : EachBelow (length h.params) last.hyps =

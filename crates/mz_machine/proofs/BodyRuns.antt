@@ -12,7 +12,7 @@ use Rattle.mz_unify.specs.Steps.{◌>>=◌, ◌>>◌, need, Turn, over, goes_on}
 use Rattle.mz_unify.specs.Profile.{Profile, Item}
 use Rattle.mz_unify.specs.Spells.{TermRow}
 use Rattle.mz_unify.specs.UnifyMachine.{in_citation, at_end, in_definition, Matching, is_empty, at_start}
-use Rattle.mz_unify.proofs.Turning.{command-long, follow-same, goes_to-le, if_read-le, drop-less}
+use Rattle.mz_unify.proofs.Turning.{command-long, follow-same, goes_to-le, if_read-le, goes_to-same, if_read-same, drop-less}
 use Rattle.mz_unify.proofs.Inverting.{from_bind, from_then, from_want, taken-is}
 use Rattle.mz_unify.proofs.UnifyRuns.{steps-bounded}
 use Rattle.mz_machine.specs.Tables.{Tables, signatures_in, State, Kind, is_axiom, is_theorem, is_definition, Heading}
@@ -141,3 +141,20 @@ module _ (P : Profile) (tables : Tables) (h : Heading) where
       (goes_to-le (body_turn P tables h at bytes st (Ok c)) _ (m * (n + 1)) λ len s turn.
       steps-le n within fuel m (at + len) (drop len bytes) s
       (drop-less bytes len m (went-on at bytes st s len (subst (λ (r : Result Cmd CmdFault). body_turn P tables h at bytes st r ≡ Ok (goes_on len s)) (sym read) turn)).0 le))
+
+  both-counts : (n m at : ℕ) (bytes : List ℕ) (st : State P.T) → length bytes ≤ n → length bytes ≤ m → body_steps_from P tables h n at bytes st ≡ body_steps_from P tables h m at bytes st
+  unfolding body_steps_from
+  both-counts zero zero at bytes st a b = refl
+  both-counts zero (suc m) at [] st a b = refl
+  both-counts zero (suc m) at (x ∷ bytes) st a b = absurd (omega arith)
+  both-counts (suc n) zero at [] st a b = refl
+  both-counts (suc n) zero at (x ∷ bytes) st a b = absurd (omega arith)
+  both-counts (suc n) (suc m) at bytes st a b =
+      if_read-same (first_command bytes) _ _ λ c read.
+      ap (λ (z : ℕ). command_steps P tables h (drop c.len bytes) st (body_command P h.kind c.code c.value) + z)
+      (goes_to-same (body_turn P tables h at bytes st (Ok c)) _ _ λ len s turn.
+      let longer : 1 ≤ len = (went-on at bytes st s len (subst (λ (r : Result Cmd CmdFault). body_turn P tables h at bytes st r ≡ Ok (goes_on len s)) (sym read) turn)).0 in
+      both-counts n m (at + len) (drop len bytes) s (drop-less bytes len n longer a) (drop-less bytes len m longer b))
+
+  pub count-is-whole : (n at : ℕ) (bytes : List ℕ) (st : State P.T) → length bytes ≤ n → body_steps_from P tables h n at bytes st ≡ body_steps_from P tables h (length bytes) at bytes st
+  count-is-whole n at bytes st le = both-counts n (length bytes) at bytes st le (omega arith)

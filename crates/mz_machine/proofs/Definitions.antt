@@ -34,7 +34,7 @@ use Rattle.mz_unify.proofs.Matching.{FreshList}
 use Rattle.mz_unify.proofs.Unfolding.{unfolding-is}
 use Rattle.mz_unify.proofs.Spelled.{place_from, renamed}
 use Rattle.mz_unify.proofs.OwnStream.{definition-spelled}
-use Rattle.mz_unify.proofs.Below.{Below, text-below}
+use Rattle.mz_unify.proofs.Below.{Below, text-met}
 use Rattle.mz_machine.specs.Tables.{Tables, signatures_in, State, Kind, is_definition, Heading, Declares}
 use Rattle.mz_machine.specs.FreeVars.{free_within}
 use Rattle.mz_machine.specs.ProofMachine.{last_item, ending, own_stream}
@@ -237,7 +237,7 @@ built-legal env h mds e u (sorts-there, right) (result-sort, result-deps) are e-
     let (ys, _, fresh-list, (fresh, e-is)) = unfolding-is sigs ctx h.params h.stream ds p (variables_from 0 h.params) e u text (vars-long 0 h.params) (h.result.sort, e-sort) ran in
     let plain-ds = dummies-are sigs ctx (variables_from 0 h.params) ys ds fresh-list in
     let e-named : e ≡ instance (trees_of (variables_from 0 h.params ++ map var ys)) p = e-is ∙ ap (λ (z : Trees). instance z p) (sym (followed-by-variables (variables_from 0 h.params) ys)) in
-    let below : Below (length (h.params ++ ds)) p = subst (λ (n : ℕ). Below n p) (sym (length-append h.params ds)) (text-below of_definition sigs h.params h.stream none p ds text).0 in
+    let below : Below (length (h.params ++ ds)) p = subst (λ (n : ℕ). Below n p) (sym (length-append h.params ds)) (text-met of_definition sigs h.params h.stream none p ds text).0 in
     let p-sort : HasSort sigs (h.params ++ ds) p h.result.sort =
     spelled-sort sigs (sorts env) h.params mds right ys ds fresh plain-ds p h.result.sort below (subst (λ (z : Tree). HasSort sigs ctx z h.result.sort) e-named e-sort) in
     let free : (x : ℕ) → InFV sigs (h.params ++ ds) x p → Contains h.result.deps x =

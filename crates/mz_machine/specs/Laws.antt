@@ -7,7 +7,7 @@ use Rattle.mz_logic.specs.declared.binder.SortMods.{SortMods}
 use Rattle.mz_unify.specs.Profile.{Profile}
 use Rattle.mz_unify.specs.Spells.{TermRow, ThmRow, SpellsTerm, SpellsThm}
 use Rattle.mz_machine.specs.Tables.{Tables, Heading, State, Declares}
-use Rattle.mz_machine.specs.Bodies.{body_from, Runs, Stops, body_steps, body_checks}
+use Rattle.mz_machine.specs.Bodies.{body_from, Runs, Stops, body_steps_from, body_checks}
 
 -- a body runs, or stops at one place by one rule
 abbrev pub OneOutcome : Profile → Type 0
@@ -21,15 +21,21 @@ abbrev pub BoundNeverEnds : Profile → Type 0
 BoundNeverEnds P = (tables : Tables) (h : Heading) (n at : ℕ) (bytes : List ℕ) (st : State P.T)
     → length bytes ≤ n → body_from P tables h n at bytes st ≡ body_from P tables h (length bytes) at bytes st
 
+-- nor the count of the commands executed
+abbrev pub CountsAreWhole : Profile → Type 0
+CountsAreWhole P = (tables : Tables) (h : Heading) (n at : ℕ) (bytes : List ℕ) (st : State P.T)
+    → length bytes ≤ n → body_steps_from P tables h n at bytes st ≡ body_steps_from P tables h (length bytes) at bytes st
+
 -- every stream that the body may run has at most n bytes
 pub record StreamsWithin (tables : Tables) (h : Heading) (n : ℕ) : Type 0 where
   pub own : length h.stream ≤ n
   pub of_terms : (t : ℕ) (row : TermRow) (stream : List ℕ) → slice_get tables.terms t ≡ Some row → row.stream ≡ Some stream → length stream ≤ n
   pub of_thms : (t : ℕ) (row : ThmRow) → slice_get tables.thms t ≡ Some row → length row.stream ≤ n
 
--- a command executes itself and at most one unify command a byte of a stream
+-- each command of what is left of a body executes itself and at most one unify command a byte of a stream
 abbrev pub StepsBounded : Profile → Type 0
-StepsBounded P = (tables : Tables) (h : Heading) (at : ℕ) (bytes : List ℕ) (n : ℕ) → StreamsWithin tables h n → body_steps P tables h at bytes ≤ length bytes * (n + 1)
+StepsBounded P = (tables : Tables) (h : Heading) (n : ℕ) → StreamsWithin tables h n
+    → (bound at : ℕ) (bytes : List ℕ) (st : State P.T) → body_steps_from P tables h bound at bytes st ≤ length bytes * (n + 1)
 
 -- ---- tables that grow by a row
 

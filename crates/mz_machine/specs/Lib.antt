@@ -8,3 +8,4 @@ pub mod Laws
 pub mod Sound
 pub mod Lists
 pub mod Examples
+pub mod Cases

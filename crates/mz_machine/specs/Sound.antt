@@ -1,9 +1,11 @@
 -- Soundness of bodies: what a body that runs makes of its row.
 use Rattle.std.specs.Prelude.{◌≡◌, ℕ, zero, suc, ◌<◌, ◌⊎◌, true, false, List, length, drop, All, Some, Ok}
 use Rattle.mz_cmd.specs.declared.command.Cmd.{Cmd}
+use Rattle.mz_cmd.specs.declared.code.ProofCode.{ProofCode}
 use Rattle.mz_cmd.specs.declared.code.ProofCode.TheVariants.{Thm, ThmSave}
 use Rattle.mz_cmd.specs.Codes.{proof_code}
 use Rattle.mz_cmd.specs.Reading.{first_command}
+use Rattle.mz_logic.specs.Tree.{Tree}
 use Rattle.mz_logic.specs.Declaration.{Term, Assertion, Declaration, term_decl, assertion_decl, sorts, signatures, assertions}
 use Rattle.mz_logic.specs.Modifiers.{MayBeResultSort}
 use Rattle.mz_logic.specs.Variables.{IsBoundAt}
@@ -16,7 +18,9 @@ use Rattle.mz_logic.specs.declared.binder.ResultType.{ResultType}
 use Rattle.mz_logic.specs.declared.binder.SortMods.{SortMods}
 use Rattle.mz_unify.specs.Profile.{strict}
 use Rattle.mz_unify.specs.Spells.{TermRow, ThmRow, SpellsTerm, SpellsThm}
-use Rattle.mz_machine.specs.Tables.{Tables, is_axiom, is_theorem, is_definition, Heading, Declares}
+use Rattle.mz_machine.specs.Tables.{Tables, State, is_axiom, is_theorem, is_definition, Heading, Declares}
+use Rattle.mz_machine.specs.ProofMachine.{proof_row}
+use Rattle.mz_machine.specs.Facts.{Keeps}
 use Rattle.mz_machine.specs.Bodies.{Runs}
 
 -- the command cites assertion T
@@ -35,6 +39,13 @@ IsCited env bytes T = CitesWithin (length bytes) bytes T × (T < length (asserti
 -- the derivation cites only what the body does
 abbrev pub cites_as : List ℕ → List Declaration → Derivation → Type 0
 cites_as bytes env d = CitesOnly (IsCited env bytes) d
+
+-- each row of the machine keeps the fact, in each full context that begins with the next state's, where
+-- what it cites is cited in the body
+abbrev pub RowsKeepTheFact : Type 0
+RowsKeepTheFact = (tables : Tables) (env : List Declaration) → Declares tables env → (bytes : List ℕ) (params full : List Binder)
+    → (at : ℕ) (c : ProofCode) (n : ℕ) (st st' : State Tree) → (((c ≡ Thm) ⊎ (c ≡ ThmSave)) → CitesWithin (length bytes) bytes n)
+    → proof_row strict tables at c n st ≡ Ok st' → Keeps (IsCited env bytes) env params full st st'
 
 -- the parameters that the words of a row give
 abbrev pub AreRowParams : List SortMods → List Binder → Type 0

@@ -1,4 +1,5 @@
 // Worked bodies, computed.
+ghost use Rattle.mz_machine.specs.Cases.{CodesChanged, Counts, CountsToFault, LongEnd, Run, StreamsChanged};
 ghost use Rattle.mz_machine.specs.Examples.{AllVariables, CitesItself, ConversionSaved, CutOrLong, Dependency, Dummies, FiftyFive, Folding, Gap, HypothesesLastFirst, Implications, ObligationLeft, OfAnotherBody, OfAnotherRow};
 
 /// Bodies whose outcome is known from outside: the verdict, and where a rule fails its place.
@@ -17,4 +18,18 @@ pub fn worked_bodies()
     ensures of_another_body { OfAnotherBody }
     ensures of_another_row { OfAnotherRow }
     ensures cut_or_long { CutOrLong }
+{}
+
+/// How many commands worked bodies execute.
+pub fn counted_steps()
+    ensures whole { Counts }
+    ensures to_fault { CountsToFault }
+{}
+
+/// Worked bodies with one byte changed: the rule that fails, and its place.
+pub fn changed_bodies()
+    ensures unchanged { Run }
+    ensures codes { CodesChanged }
+    ensures streams { StreamsChanged }
+    ensures long_end { LongEnd }
 {}

@@ -1,6 +1,6 @@
 // Laws on the definitions: the contract of each function is one, and its body is empty.
 ghost use Rattle.mz_machine.specs.Lists.{StepsOfLists};
-ghost use Rattle.mz_machine.specs.Laws.{BodiesAreChecked, BoundNeverEnds, NothingAtFirst, OneOutcome, SortsGrow, StepsBounded, TermsGrow, ThmsGrow};
+ghost use Rattle.mz_machine.specs.Laws.{BodiesAreChecked, BoundNeverEnds, CountsAreWhole, NothingAtFirst, OneOutcome, SortsGrow, StepsBounded, TermsGrow, ThmsGrow};
 ghost use Rattle.mz_unify.specs.Profile.{strict};
 
 /// A body runs to its END, or stops at one place by one rule.
@@ -14,9 +14,11 @@ pub fn bodies_are_checked()
     ensures { BodiesAreChecked strict }
 {}
 
-/// The bound that makes a run a function never ends it: each command takes a byte.
+/// The bound that makes a run a function never ends it, nor the count of its steps: each command takes
+/// a byte.
 pub fn bound_never_ends()
-    ensures { BoundNeverEnds strict }
+    ensures runs { BoundNeverEnds strict }
+    ensures steps { CountsAreWhole strict }
 {}
 
 /// A body executes at most its own commands, and for each at most one unify command a byte of a

@@ -9,8 +9,9 @@ mod examples;
 mod laws;
 mod soundness;
 
-pub use examples::worked_bodies;
+pub use examples::{changed_bodies, counted_steps, worked_bodies};
 pub use laws::{bodies_are_checked, bound_never_ends, one_outcome, steps_bounded, tables_grow};
 pub use soundness::{
-    axioms_are_legal, definitions_are_legal, good_entries_are_legal, theorems_are_proved,
+    axioms_are_legal, definitions_are_legal, good_entries_are_legal, rows_keep_the_fact,
+    theorems_are_proved,
 };

@@ -1,6 +1,11 @@
 // Soundness: what a body that runs makes of its row, and a list of such rows.
 ghost use Rattle.mz_machine.specs.Lists.{GoodEntriesAreLegal, OneListOfStatements};
-ghost use Rattle.mz_machine.specs.Sound.{AxiomsAreLegal, DefinitionsAreLegal, TheoremsAreProved};
+ghost use Rattle.mz_machine.specs.Sound.{AxiomsAreLegal, DefinitionsAreLegal, RowsKeepTheFact, TheoremsAreProved};
+
+/// Each row of the machine keeps the fact that makes it sound.
+pub fn rows_keep_the_fact()
+    ensures { RowsKeepTheFact }
+{}
 
 /// An axiom whose body runs is legal, as its row spells it.
 pub fn axioms_are_legal()

@@ -6,7 +6,7 @@ use Rattle.mz_logic.specs.Signature.{Signature}
 use Rattle.mz_logic.specs.Variables.{Occurs, OccursIn}
 use Rattle.mz_logic.specs.declared.binder.Binder.{Binder}
 use Rattle.mz_unify.specs.Streams.{StreamKind, UnifyCommand}
-use Rattle.mz_unify.specs.Spells.{dummy_of, Marks, marked, Spells, SpellsAll, SpellsHyps, variables_from, at_first, Text}
+use Rattle.mz_unify.specs.Spells.{dummy_of, Marks, marked, Spells, SpellsAll, SpellsHyps, variables_from, at_first, SpellsText, Text}
 
 -- each variable is below n
 abbrev mutual
@@ -23,7 +23,7 @@ EachBelow n [] = Unit {0}
 EachBelow n (e ∷ es) = Below n e × EachBelow n es
 
 -- the marks of at most this size are below
-abbrev MarksBelow : ℕ → List Tree → ℕ → Type 0
+abbrev pub MarksBelow : ℕ → List Tree → ℕ → Type 0
 MarksBelow top marks k = (i : ℕ) (q : Tree) → slice_get marks i ≡ Some q → size q ≤ k → Below top q
 
 marks-push : (top : ℕ) (marks : List Tree) (k : ℕ) (e : Tree) → MarksBelow top marks k → (size e ≤ k → Below top e) → MarksBelow top (marks ++ e ∷ []) k
@@ -73,26 +73,34 @@ module _ (n : ℕ) (sigs : List Signature) where
     hyps-grow [] m last us (_, is) = omega (arith, ap (λ (z : Marks). length z.dummies) is)
     hyps-grow (e ∷ hs) m last us (rest, mid, us', _, first, others) = omega (arith, grows e m mid rest us' first, hyps-grow hs mid last us' others)
 
-    hyps-below : (hs : List Tree) (m last : Marks) (us : List UnifyCommand) → SpellsHyps n sigs m us hs last → n + length last.dummies ≤ top → ((k : ℕ) → MarksBelow top m.trees k) → EachBelow top hs
-    hyps-below [] m last us h le ok = tt
+    hyps-below : (hs : List Tree) (m last : Marks) (us : List UnifyCommand) → SpellsHyps n sigs m us hs last → n + length last.dummies ≤ top → ((k : ℕ) → MarksBelow top m.trees k)
+        → EachBelow top hs × ((k : ℕ) → MarksBelow top last.trees k)
+    hyps-below [] m last us (_, is) le ok = (tt, λ k. subst (λ (z : Marks). MarksBelow top z.trees k) (sym is) (ok k))
     hyps-below (e ∷ hs) m last us (rest, mid, us', _, first, others) le ok =
         let (e-below, keep) = below e m mid rest us' first (omega (arith, hyps-grow hs mid last us' others)) (ok (size e)) in
-        (e-below, hyps-below hs mid last us' others le λ k. keep k (ok k))
+        let (hs-below, marks-below) = hyps-below hs mid last us' others le (λ k. keep k (ok k)) in
+        ((e-below, hs-below), marks-below)
 
 first-below : (j : ℕ) (ps : List Binder) (top k : ℕ) → j + length ps ≤ top → MarksBelow top (variables_from j ps) k
 first-below j [] top k le i q at small = absurd cc
 first-below j (p ∷ ps) top k le zero q at small = let is : var j ≡ q = cc in subst (Below top) is (omega arith)
 first-below j (p ∷ ps) top k le (suc i) q at small = first-below (suc j) ps top k (omega arith) i q at small
 
--- an assertion or body that is spelled has only parameters and dummies that were met
-pub text-below : (kind : StreamKind) (sigs : List Signature) (params : List Binder) (stream : List ℕ) (hyps : Trees) (e : Tree) (dummies : List Binder) → Text kind sigs params stream hyps e dummies
-    → Below (length params + length dummies) e × EachBelow (length params + length dummies) (reverse (listed hyps))
-text-below kind sigs params stream hyps e dummies (us, _, mid, rest, spells, last, others, are) =
-    let top : ℕ = length params + length dummies in
-    let le : length params + length last.dummies ≤ top = omega (arith, ap (λ (z : List Binder). length z) are) in
+-- an assertion or body that is spelled, and its marks, have only parameters and dummies that were met
+pub text-below : (kind : StreamKind) (sigs : List Signature) (params : List Binder) (stream : List ℕ) (hyps : Trees) (e : Tree) (last : Marks) → SpellsText kind sigs params stream hyps e last
+    → Below (length params + length last.dummies) e × EachBelow (length params + length last.dummies) (reverse (listed hyps)) × ((k : ℕ) → MarksBelow (length params + length last.dummies) last.trees k)
+text-below kind sigs params stream hyps e last (us, _, mid, rest, spells, others) =
+    let top : ℕ = length params + length last.dummies in
     let start : (k : ℕ) → MarksBelow top (variables_from 0 params) k = λ k. first-below 0 params top k (omega arith) in
     let (e-below, keep) = below (length params) sigs top e (at_first params) mid us rest spells (omega (arith, hyps-grow (length params) sigs top (reverse (listed hyps)) mid last rest others)) (start (size e)) in
-    (e-below, hyps-below (length params) sigs top (reverse (listed hyps)) mid last rest others le λ k. keep k (start k))
+    let (hs-below, marks-below) = hyps-below (length params) sigs top (reverse (listed hyps)) mid last rest others (omega arith) (λ k. keep k (start k)) in
+    (e-below, hs-below, marks-below)
+
+pub text-met : (kind : StreamKind) (sigs : List Signature) (params : List Binder) (stream : List ℕ) (hyps : Trees) (e : Tree) (dummies : List Binder) → Text kind sigs params stream hyps e dummies
+    → Below (length params + length dummies) e × EachBelow (length params + length dummies) (reverse (listed hyps))
+text-met kind sigs params stream hyps e dummies (last, text, are) =
+    let (e-below, hs-below, _) = text-below kind sigs params stream hyps e last text in
+    subst (λ (z : List Binder). Below (length params + length z) e × EachBelow (length params + length z) (reverse (listed hyps))) are (e-below, hs-below)
 
 mutual
   pub below-occurs : (n : ℕ) (e : Tree) → Below n e → (y : ℕ) → Occurs y e → y < n

@@ -46,7 +46,7 @@ map-reverse g [] = refl
 map-reverse g (x ∷ xs) =
     ap (map g) (reverse-append (x ∷ []) xs) ∙ map-append g (reverse xs) (x ∷ []) ∙ ap (λ (z : List Tree). z ++ g x ∷ []) (map-reverse g xs) ∙ sym (reverse-append (g x ∷ []) (map g xs))
 
-hypothesis-is : (items : List (Item Tree)) (r : Tree × List (Item Tree)) → next_hypothesis in_citation items ≡ Ok r → items ≡ proof r.0 ∷ r.1
+pub hypothesis-is : (items : List (Item Tree)) (r : Tree × List (Item Tree)) → next_hypothesis in_citation items ≡ Ok r → items ≡ proof r.0 ∷ r.1
 hypothesis-is [] r e = absurd cc
 hypothesis-is (expr x ∷ xs) r e = absurd cc
 hypothesis-is (proof x ∷ xs) r e = ap (λ (p : Tree × List (Item Tree)). proof p.0 ∷ p.1) (taken-is (x, xs) r e)
@@ -95,7 +95,7 @@ pub citation-is : (sigs : List Signature) (ctx : List Binder) (row : ThmRow) (a 
     → unify strict sigs ctx (record { mode = in_citation; stream = row.stream; operands = es; target = e; items = items }) ≡ Ok u
     → (hs : List Tree) × (trees_of hs ≡ instances (trees_of es) a.hyps) × (e ≡ instance (trees_of es) a.conclusion) × (items ≡ map proof (reverse hs) ++ u.items)
 unfolding unify Matched
-citation-is sigs ctx row a (params, (us, stream, mid, rest, spells, last, hyps, no-dummies)) es e items u len sorted items-sorted done =
+citation-is sigs ctx row a (params, (last, (us, stream, mid, rest, spells, hyps), no-dummies)) es e items u len sorted items-sorted done =
     let f : Trees = trees_of u.apart in
     let st : UnifyState Tree = record { heap = es; apart = es; targets = e ∷ []; items = items } in
     let ran = run-from sigs ctx in_citation (length row.stream) 0 row.stream us st u stream done in

@@ -196,27 +196,32 @@ module _ (sigs : List Signature) (ctx : List Binder) (mode : UnifyMode) where
 
     -- ---- hypotheses, and the end
 
+    -- the heap is the marks' instances
+    pub heap-grown : (st st' : UnifyState Tree) (m m' : Marks) (new : List Tree) → st.heap ≡ map (instance f) m.trees → st'.heap ≡ st.heap ++ map (instance f) new → m'.trees ≡ m.trees ++ new → st'.heap ≡ map (instance f) m'.trees
+    heap-grown st st' m m' new heap grew marks =
+        grew ∙ ap (λ (z : List Tree). z ++ map (instance f) new) heap ∙ sym (map-append (instance f) m.trees new) ∙ ap (map (instance f)) (sym marks)
+
     module _ (rest : List (Item Tree)) (end-is : nothing_left mode rest ≡ true) where
       hyp-row : (st : UnifyState Tree) (t : Tree) (xs : List (Item Tree)) → st.targets ≡ [] → st.items ≡ proof t ∷ xs → unify_row strict sigs ctx mode u_hyp st ≡ Ok (record st { targets = t ∷ []; items = xs })
       unfolding unify_row
       hyp-row st t xs top items = rw (top, items) refl
 
-      abbrev Ends : List UnifyCommand → UnifyState Tree → Type 0
-      Ends us st = (u : UnifyState Tree) × (run sigs ctx mode us st ≡ Ok u) × (u.items ≡ rest)
+      abbrev Ends : List UnifyCommand → UnifyState Tree → Marks → Type 0
+      Ends us st last = (u : UnifyState Tree) × (run sigs ctx mode us st ≡ Ok u) × (u.heap ≡ map (instance f) last.trees) × (u.items ≡ rest)
 
       end-row : (st : UnifyState Tree) → st.targets ≡ [] → st.items ≡ rest → unify_row strict sigs ctx mode u_end st ≡ Ok st
       unfolding unify_row
       end-row st top items = rw (top, items, end-is) refl
 
       pub hyps-onward : (rs : List Tree) (m last : Marks) (us : List UnifyCommand) (st : UnifyState Tree) → SpellsHyps n sigs m us rs last → Within last → st.targets ≡ [] → st.items ≡ map proof (map (instance f) rs) ++ rest
-          → length m.trees ≡ length st.heap → ((k : ℕ) → Agrees f m.trees st.heap k) → ApartIs m st → Ends us st
-      hyps-onward [] m last us st (u, is) w top items long agrees apart =
-          (st, ap (λ (z : List UnifyCommand). run sigs ctx mode z st) u ∙ end-row st top items, items)
-      hyps-onward (h ∷ rs) m last us st (mid-us, mid, us', u, first, others) w top items long agrees apart =
+          → st.heap ≡ map (instance f) m.trees → length m.trees ≡ length st.heap → ((k : ℕ) → Agrees f m.trees st.heap k) → ApartIs m st → Ends us st last
+      hyps-onward [] m last us st (u, is) w top items heap long agrees apart =
+          (st, ap (λ (z : List UnifyCommand). run sigs ctx mode z st) u ∙ end-row st top items, heap ∙ ap (λ (z : Marks). map (instance f) z.trees) (sym is), items)
+      hyps-onward (h ∷ rs) m last us st (mid-us, mid, us', u, first, others) w top items heap long agrees apart =
           let st' : UnifyState Tree = record st { targets = instance f h ∷ []; items = map proof (map (instance f) rs) ++ rest } in
           let a = onward h m mid mid-us us' st' [] first (hyps-grown rs mid last us' others w) refl long (agrees (size h)) apart in
           let long-mid : length mid.trees ≡ length a.state.heap = ap length a.marks ∙ same-length f m.trees st.heap a.new long ∙ sym (ap length a.heap) in
           let agrees-mid : (k : ℕ) → Agrees f mid.trees a.state.heap k =
           λ k. subst (λ (z : List Tree). Agrees f z a.state.heap k) (sym a.marks) (subst (λ (z : List Tree). Agrees f (m.trees ++ a.new) z k) (sym a.heap) (agrees-append f m.trees st.heap a.new k long (agrees k))) in
-          let (v, ran, left) = hyps-onward rs mid last us' a.state others w a.targets a.items long-mid agrees-mid a.apart in
-          (v, ap (λ (z : List UnifyCommand). run sigs ctx mode z st) u ∙ ap (λ (r : Result (UnifyState Tree) K). r >>= run sigs ctx mode mid-us) (hyp-row st (instance f h) (map proof (map (instance f) rs) ++ rest) top items) ∙ a.runs ∙ ran, left)
+          let (v, ran, heap-is, left) = hyps-onward rs mid last us' a.state others w a.targets a.items (heap-grown st' a.state m mid a.new heap a.heap a.marks) long-mid agrees-mid a.apart in
+          (v, ap (λ (z : List UnifyCommand). run sigs ctx mode z st) u ∙ ap (λ (r : Result (UnifyState Tree) K). r >>= run sigs ctx mode mid-us) (hyp-row st (instance f h) (map proof (map (instance f) rs) ++ rest) top items) ∙ a.runs ∙ ran, heap-is, left)

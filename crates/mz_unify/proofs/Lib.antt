@@ -6,6 +6,7 @@ pub mod TestLaws
 pub mod Matching
 pub mod Citations
 pub mod Unfolding
+pub mod NoDummies
 pub mod Spelled
 pub mod OwnStream
 pub mod Below
@@ -13,3 +14,5 @@ pub mod OneSpelling
 pub mod FreshVars
 pub mod Completing
 pub mod Exactness
+pub mod SomeText
+pub mod Exact

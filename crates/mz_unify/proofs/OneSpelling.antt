@@ -204,7 +204,7 @@ module _ (n : ℕ) (sigs : List Signature) where
 -- a stream spells one text
 pub one-text : (kind : StreamKind) (sigs : List Signature) (params : List Binder) (stream : List ℕ) (hyps hyps' : Trees) (e e' : Tree) (ds ds' : List Binder)
     → Text kind sigs params stream hyps e ds → Text kind sigs params stream hyps' e' ds' → (hyps ≡ hyps') × (e ≡ e') × (ds ≡ ds')
-one-text kind sigs params stream hyps hyps' e e' ds ds' (us, is, mid, rest, a, last, alls, d) (us', is', mid', rest', b, last', bs, d') =
+one-text kind sigs params stream hyps hyps' e e' ds ds' (last, (us, is, mid, rest, a, alls), d) (last', (us', is', mid', rest', b, bs), d') =
     let same : us ≡ us' = one-stream kind stream us us' is is' in
     let (e-is, mids, rests) = spells-one (length params) sigs e e' (at_first params) mid mid' us rest rest' a (subst (λ (z : List UnifyCommand). Spells (length params) sigs (at_first params) z e' mid' rest') (sym same) b) in
     let (hs-are, lasts) = hyps-one (length params) sigs (reverse (listed hyps)) (reverse (listed hyps')) mid last last' rest alls
@@ -261,8 +261,8 @@ module _ (n : ℕ) (sigs sigs' : List Signature) (longer : Extends sigs sigs') w
   hyps-longer (h ∷ hs) m last us (rest, mid, us', u, a, alls) = (rest, mid, us', u, spells-longer h m mid rest us' a, hyps-longer hs mid last us' alls)
 
 text-longer : (kind : StreamKind) (sigs sigs' : List Signature) → Extends sigs sigs' → (params : List Binder) (stream : List ℕ) (hyps : Trees) (e : Tree) (ds : List Binder) → Text kind sigs params stream hyps e ds → Text kind sigs' params stream hyps e ds
-text-longer kind sigs sigs' longer params stream hyps e ds (us, is, mid, rest, a, last, alls, d) =
-    (us, is, mid, rest, spells-longer (length params) sigs sigs' longer e (at_first params) mid us rest a, last, hyps-longer (length params) sigs sigs' longer (reverse (listed hyps)) mid last rest alls, d)
+text-longer kind sigs sigs' longer params stream hyps e ds (last, (us, is, mid, rest, a, alls), d) =
+    (last, (us, is, mid, rest, spells-longer (length params) sigs sigs' longer e (at_first params) mid us rest a, hyps-longer (length params) sigs sigs' longer (reverse (listed hyps)) mid last rest alls), d)
 
 pub assertion-longer : (sigs sigs' : List Signature) → Extends sigs sigs' → (row : ThmRow) (a : Assertion) → SpellsThm sigs row a → SpellsThm sigs' row a
 assertion-longer sigs sigs' longer row a (ps, s) = (ps, text-longer of_assertion sigs sigs' longer row.params row.stream a.hyps a.conclusion [] s)

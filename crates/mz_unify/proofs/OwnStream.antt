@@ -1,108 +1,23 @@
 -- A row's own stream, run at the END of its body, spells what the body made.
-use Rattle.std.proofs.Common.{◌≡◌, ℕ, suc, ◌+◌, ◌≤◌, ◌<◌, Bool, true, false, cond, eqb, List, [], ◌∷◌, ◌++◌, length, drop, map, Option, Some, None, Ok, refl, sym, ap, subst, ◌∙◌, arith}
-use Rattle.std.specs.Prelude.{slice_get, reverse, ◌&&◌}
+use Rattle.std.proofs.Common.{◌≡◌, ℕ, suc, ◌+◌, ◌≤◌, ◌<◌, Bool, true, false, cond, eqb, List, [], ◌∷◌, ◌++◌, length, drop, map, Ok, refl, sym, ap, subst, ◌∙◌, arith}
+use Rattle.std.specs.Prelude.{reverse, ◌&&◌}
 use Rattle.std.proofs.lemmas.Bool.{eqb-true, eqb-false}
 use Rattle.std.proofs.lemmas.List.{reverse-append}
 use Rattle.mz_cmd.specs.declared.rule.K.TheVariants as k
-use Rattle.mz_cmd.specs.declared.code.UnifyCode.{UnifyCode}
-use Rattle.mz_cmd.specs.declared.code.UnifyCode.TheVariants as code
-use Rattle.mz_cmd.specs.Codes.{unify_code}
 use Rattle.mz_logic.specs.Tree.{Tree, Trees, var, app, none, more, listed}
 use Rattle.mz_logic.specs.Signature.{Signature}
 use Rattle.mz_logic.specs.declared.binder.Binder.{Binder}
 use Rattle.mz_unify.specs.Steps.{need}
-use Rattle.mz_unify.specs.Streams.{StreamKind, of_assertion, of_definition, UnifyCommand, u_term, u_term_save, u_ref, u_dummy, u_hyp, u_end, command_in, unify_command, IsEnd, StreamIs}
+use Rattle.mz_unify.specs.Streams.{StreamKind, of_assertion, of_definition, UnifyCommand, u_term, u_term_save, u_ref, u_dummy, u_hyp, u_end, IsEnd, StreamIs}
 use Rattle.mz_unify.specs.Spells.{trees_of, Marks, Spells, SpellsHyps, variables_from, at_first, Text}
-use Rattle.mz_unify.specs.Profile.{strict, tree_parts, Item, proof}
+use Rattle.mz_unify.specs.Profile.{strict, Item, proof}
 use Rattle.mz_unify.specs.Sorted.{Sorted, AllSorted}
-use Rattle.mz_unify.specs.Tests.{same_tree}
-use Rattle.mz_unify.specs.UnifyMachine.{UnifyMode, at_end, in_definition, UnifyState, top_target, is_empty, operands_of, next_hypothesis, nothing_left, unify_row, unify}
-use Rattle.mz_unify.proofs.Inverting.{from_bind, from_then, from_need, from_want, need-not, taken-is}
+use Rattle.mz_unify.specs.UnifyMachine.{at_end, in_definition, UnifyState, top_target, is_empty, next_hypothesis, nothing_left, unify_row, unify}
+use Rattle.mz_unify.proofs.Inverting.{from_bind, from_then, from_need, need-not, taken-is}
 use Rattle.mz_unify.proofs.Trees.{listed-trees_of, apart-is, all-sorted-append}
 use Rattle.mz_unify.proofs.Matching.{run, run-grows}
+use Rattle.mz_unify.proofs.NoDummies.{plain-stream, plain-apart}
 use Rattle.mz_unify.proofs.Spelled.{reads, place_from, renamed, all_renamed, spelled}
-
--- ---- a theorem's stream has no dummies
-
-abbrev Plain : List UnifyCommand → Type 0
-Plain [] = Unit {0}
-Plain (u_dummy s ∷ us) = ⊥
-Plain (u ∷ us) = Plain us
-
-NotDummy : UnifyCommand → Type 0
-NotDummy (u_dummy s) = ⊥
-NotDummy u = Unit {0}
-
-some-not : (v u : UnifyCommand) → Some v ≡ Some u → NotDummy v → NotDummy u
-some-not v u e h = let is : v ≡ u = cc in subst NotDummy is h
-
-no-dummy-in : (value : ℕ) (o : Option UnifyCode) (u : UnifyCommand) → command_in of_assertion value o ≡ Some u → NotDummy u
-unfolding NotDummy
-no-dummy-in value None u e = absurd cc
-no-dummy-in value (Some code.Term) u e = some-not (u_term value) u e tt
-no-dummy-in value (Some code.TermSave) u e = some-not (u_term_save value) u e tt
-no-dummy-in value (Some code.Ref) u e = some-not (u_ref value) u e tt
-no-dummy-in value (Some code.Dummy) u e = absurd cc
-no-dummy-in value (Some code.Hyp) u e = some-not u_hyp u e tt
-
-no-dummy : (byte value : ℕ) (u : UnifyCommand) → unify_command of_assertion byte value ≡ Some u → NotDummy u
-unfolding NotDummy
-no-dummy byte value u e = go (eqb byte 0x00) e
-  where
-    go : (a : Bool) → cond a (Some u_end) (command_in of_assertion value (unify_code byte)) ≡ Some u → NotDummy u
-    go true h = some-not u_end u h tt
-    go false h = no-dummy-in value (unify_code byte) u h
-
-plain-cons : (u : UnifyCommand) (us : List UnifyCommand) → NotDummy u → Plain us → Plain (u ∷ us)
-unfolding NotDummy
-plain-cons (u_dummy s) us h p = h
-plain-cons u us h p = p
-
-plain-stream : (bytes : List ℕ) (us : List UnifyCommand) → StreamIs of_assertion bytes us → Plain us
-plain-stream bytes [] s = tt
-plain-stream bytes (u ∷ us) (c, read, is, no-end, s) = plain-cons u us (no-dummy c.code c.value u is) (plain-stream (drop c.len bytes) us s)
-
-plain-head : (v : UnifyCommand) (us : List UnifyCommand) → Plain (v ∷ us) → NotDummy v × Plain us
-unfolding NotDummy
-plain-head (u_dummy s) us h = absurd h
-plain-head (u_term t) us h = (tt, h)
-plain-head (u_term_save t) us h = (tt, h)
-plain-head (u_ref i) us h = (tt, h)
-plain-head u_hyp us h = (tt, h)
-plain-head u_end us h = (tt, h)
-
--- a run without dummies keeps what they are kept apart from
-same-apart : (sigs : List Signature) (ctx : List Binder) (mode : UnifyMode) (v : UnifyCommand) (st s : UnifyState Tree) → NotDummy v → unify_row strict sigs ctx mode v st ≡ Ok s → s.apart ≡ st.apart
-unfolding unify_row NotDummy
-same-apart sigs ctx mode (u_term t) st s plain e =
-    from_bind (top_target st.targets) _ s e λ r r-is e1.
-    from_want (operands_of t (tree_parts r.0)) k.UnifyTerm _ s e1 λ es at e2.
-    sym (ap (λ (z : UnifyState Tree). z.apart) (taken-is (record st { targets = es ++ r.1 }) s e2))
-same-apart sigs ctx mode (u_term_save t) st s plain e =
-    from_bind (top_target st.targets) _ s e λ r r-is e1.
-    from_want (operands_of t (tree_parts r.0)) k.UnifyTerm _ s e1 λ es at e2.
-    sym (ap (λ (z : UnifyState Tree). z.apart) (taken-is (record st { targets = es ++ r.1; heap = st.heap ++ r.0 ∷ [] }) s e2))
-same-apart sigs ctx mode (u_ref i) st s plain e =
-    from_bind (top_target st.targets) _ s e λ r r-is e1.
-    from_want (slice_get st.heap i) k.UnifyReference _ s e1 λ x x-at e2.
-    from_need (same_tree x r.0) k.UnifyReference _ s e2 λ same e3.
-    sym (ap (λ (z : UnifyState Tree). z.apart) (taken-is (record st { targets = r.1 }) s e3))
-same-apart sigs ctx mode (u_dummy d) st s plain e = absurd plain
-same-apart sigs ctx mode u_hyp st s plain e =
-    from_need (is_empty st.targets) k.UnifyRest _ s e λ done e1.
-    from_bind (next_hypothesis mode st.items) _ s e1 λ r next e2.
-    sym (ap (λ (z : UnifyState Tree). z.apart) (taken-is (record st { targets = r.0 ∷ []; items = r.1 }) s e2))
-same-apart sigs ctx mode u_end st s plain e =
-    from_then (need (is_empty st.targets && nothing_left mode st.items) k.UnifyRest) _ s e λ x done e1.
-    sym (ap (λ (z : UnifyState Tree). z.apart) (taken-is st s e1))
-
-plain-apart : (sigs : List Signature) (ctx : List Binder) (mode : UnifyMode) (us : List UnifyCommand) (st u : UnifyState Tree) → Plain us → run sigs ctx mode us st ≡ Ok u → u.apart ≡ st.apart
-unfolding NotDummy
-plain-apart sigs ctx mode [] st u plain e = same-apart sigs ctx mode u_end st u tt e
-plain-apart sigs ctx mode (v ∷ us) st u plain e =
-    from_bind (unify_row strict sigs ctx mode v st) _ u e λ s row later.
-    let (head, rest) = plain-head v us plain in
-    plain-apart sigs ctx mode us s u rest later ∙ same-apart sigs ctx mode v st s head row
 
 -- ---- no variable is renamed
 
@@ -134,19 +49,19 @@ length-variables j (p ∷ ps) = ap suc (length-variables (suc j) ps)
 -- ---- the hypotheses
 
 -- no command of these is an END
-abbrev Middle : List UnifyCommand → Type 0
+abbrev pub Middle : List UnifyCommand → Type 0
 Middle [] = Unit {0}
 Middle (v ∷ us) = (IsEnd v → ⊥) × Middle us
 
-middle-after : (front rest : List UnifyCommand) → Middle (front ++ rest) → Middle rest
+pub middle-after : (front rest : List UnifyCommand) → Middle (front ++ rest) → Middle rest
 middle-after [] rest h = h
 middle-after (v ∷ front) rest (_, h) = middle-after front rest h
 
-middle-stream : (kind : StreamKind) (bytes : List ℕ) (us : List UnifyCommand) → StreamIs kind bytes us → Middle us
+pub middle-stream : (kind : StreamKind) (bytes : List ℕ) (us : List UnifyCommand) → StreamIs kind bytes us → Middle us
 middle-stream kind bytes [] s = tt
 middle-stream kind bytes (u ∷ us) (c, read, is, no-end, s) = (no-end, middle-stream kind (drop c.len bytes) us s)
 
-no-target : {T : Type 0} (r : T × List T) (ts : List T) → ts ≡ [] → top_target ts ≡ Ok r → ⊥
+pub no-target : {T : Type 0} (r : T × List T) (ts : List T) → ts ≡ [] → top_target ts ≡ Ok r → ⊥
 no-target r [] e h = cc
 no-target r (t ∷ ts) e h = cc
 
@@ -220,7 +135,7 @@ assertion-spelled sigs ctx params stream e hyps u done sorted hyps-sorted =
     let none-left : last.dummies ≡ [] = no-elements last.dummies (omega (arith, count, ap length apart-is, length-variables 0 params)) in
     let e-spells : Spells (length params) sigs (at_first params) us e a.after a.rest = subst (λ (z : Tree). Spells (length params) sigs (at_first params) us z a.after a.rest) (kept e) a.spells in
     let order : map (renamed (place_from 0 u.apart)) (reverse hyps) ≡ reverse (listed (trees_of hyps)) = map-kept (renamed (place_from 0 u.apart)) kept (reverse hyps) ∙ ap reverse (sym (listed-trees_of hyps)) in
-    (us, is-stream, a.after, a.rest, e-spells, last, subst (λ (z : List Tree). SpellsHyps (length params) sigs a.after a.rest z last) order hyps-are, none-left)
+    (last, (us, is-stream, a.after, a.rest, e-spells, subst (λ (z : List Tree). SpellsHyps (length params) sigs a.after a.rest z last) order hyps-are), none-left)
 
 -- ---- a definition
 
@@ -240,7 +155,7 @@ first-kept g j (p ∷ ps) kept =
     ∙ ap (λ (z : List Tree). var (g j) ∷ z) (first-kept g (suc j) ps (λ y low high. kept y (omega arith) (omega arith)))
 
 -- nothing follows where no target is left
-nothing-follows : (sigs : List Signature) (ctx : List Binder) (us : List UnifyCommand) (st u : UnifyState Tree) → Middle us → run sigs ctx in_definition us st ≡ Ok u → st.targets ≡ [] → st.items ≡ [] → us ≡ []
+pub nothing-follows : (sigs : List Signature) (ctx : List Binder) (us : List UnifyCommand) (st u : UnifyState Tree) → Middle us → run sigs ctx in_definition us st ≡ Ok u → st.targets ≡ [] → st.items ≡ [] → us ≡ []
 unfolding unify_row
 nothing-follows sigs ctx [] st u middle ran top items = refl
 nothing-follows sigs ctx (u_end ∷ us) st u (no-end, middle) ran top items = absurd (no-end tt)
@@ -277,4 +192,4 @@ definition-spelled sigs ctx params stream e u done sorted =
     let long : length vars ≡ length params + 0 = length-variables 0 params ∙ omega arith in
     let a = spelled sigs ctx in_definition (length params) u e us (at_first params) st [] ran refl sorted (first-kept g 0 params kept) long in
     let ended : a.rest ≡ [] = nothing-follows sigs ctx a.rest a.state u (middle-after a.suffix.0 a.rest (subst Middle a.suffix.1 (middle-stream of_definition stream us is-stream))) a.runs a.targets a.items in
-    (a.after.dummies, (us, is-stream, a.after, a.rest, a.spells, a.after, (ended, refl), refl))
+    (a.after.dummies, (a.after, (us, is-stream, a.after, a.rest, a.spells, (ended, refl)), refl))

@@ -131,10 +131,10 @@ pub not-empty : {A : Type 0} (xs : List A) (y : A) (ys : List A) → xs ≡ y �
 not-empty [] y ys e = absurd cc
 not-empty (x ∷ xs) y ys e = refl
 
-app-terms : (h t : ℕ) (es fs : Trees) → app h es ≡ app t fs → h ≡ t
+pub app-terms : (h t : ℕ) (es fs : Trees) → app h es ≡ app t fs → h ≡ t
 app-terms h t es fs e = cc
 
-app-operands : (h t : ℕ) (es fs : Trees) → app h es ≡ app t fs → es ≡ fs
+pub app-operands : (h t : ℕ) (es fs : Trees) → app h es ≡ app t fs → es ≡ fs
 app-operands h t es fs e = cc
 
 count-fits : (sigs : List Signature) (ctx : List Binder) (es : Trees) (ps : List Binder) → Fits sigs ctx es ps → length (listed es) ≡ length ps
@@ -177,7 +177,7 @@ module _ (sigs : List Signature) (ctx : List Binder) (mode : UnifyMode) (n : ℕ
     pub long : length state.apart ≡ n + length after.dummies
     pub items : state.items ≡ st.items
 
-  spells-ref : (p : Tree) (m : Marks) (us : List UnifyCommand) (i : ℕ) → slice_get m.trees i ≡ Some p → Spells n sigs m (u_ref i ∷ us) p m us
+  pub spells-ref : (p : Tree) (m : Marks) (us : List UnifyCommand) (i : ℕ) → slice_get m.trees i ≡ Some p → Spells n sigs m (u_ref i ∷ us) p m us
   spells-ref (var x) m us i at = inl (i, refl, at, refl)
   spells-ref (app h es) m us i at = inl (i, refl, at, refl)
 
@@ -205,7 +205,7 @@ module _ (sigs : List Signature) (ctx : List Binder) (mode : UnifyMode) (n : ℕ
         items = refl;
       }
 
-  no-app : (h : ℕ) (es : Trees) (d : ℕ) (us : List UnifyCommand) (st : UnifyState Tree) (ts : List Tree) → run sigs ctx mode (u_dummy d ∷ us) st ≡ Ok u → st.targets ≡ app h es ∷ ts → ⊥
+  pub no-app : (h : ℕ) (es : Trees) (d : ℕ) (us : List UnifyCommand) (st : UnifyState Tree) (ts : List Tree) → run sigs ctx mode (u_dummy d ∷ us) st ≡ Ok u → st.targets ≡ app h es ∷ ts → ⊥
   unfolding unify_row
   no-app h es d us st ts ran top =
       from_bind (unify_row strict sigs ctx mode (u_dummy d) st) _ u ran λ s row later.

@@ -51,6 +51,17 @@ pub if_read-le : {A F : Type 0} (r : Result A F) (f : A → ℕ) (n : ℕ) → (
 if_read-le (Err k) f n le = omega arith
 if_read-le (Ok x) f n le = le x refl
 
+-- the same is counted where the rests agree on what it goes on to
+pub goes_to-same : {S F : Type 0} (r : Result (Turn S) F) (f g : ℕ → S → ℕ)
+    → ((len : ℕ) (s : S) → r ≡ Ok (goes_on len s) → f len s ≡ g len s) → goes_to r f ≡ goes_to r g
+goes_to-same (Err k) f g same = refl
+goes_to-same (Ok (over s)) f g same = refl
+goes_to-same (Ok (goes_on len s)) f g same = same len s refl
+
+pub if_read-same : {A F : Type 0} (r : Result A F) (f g : A → ℕ) → ((x : A) → r ≡ Ok x → f x ≡ g x) → if_read r f ≡ if_read r g
+if_read-same (Err k) f g same = refl
+if_read-same (Ok x) f g same = same x refl
+
 -- less is left after a command
 pub drop-less : (bytes : List ℕ) (len n : ℕ) → 1 ≤ len → length bytes ≤ suc n → length (drop len bytes) ≤ n
 drop-less bytes len n one le = omega (arith, length-drop len bytes)

@@ -83,7 +83,7 @@ pub unfolding-is : (sigs : List Signature) (ctx params : List Binder) (stream : 
     → unify strict sigs ctx (record { mode = in_definition; stream = stream; operands = es; target = e; items = [] }) ≡ Ok u
     → (ys : List ℕ) × (u.apart ≡ es ++ map var ys) × FreshList sigs ctx es ys dummies × IsUnfolding ctx es e dummies b ys
 unfolding unify unify_row Matched
-unfolding-is sigs ctx params stream dummies b es e u (us, stream-is, mid, rest, spells, last, (rest-are, last-is), dummies-are) len sorted done =
+unfolding-is sigs ctx params stream dummies b es e u (last, (us, stream-is, mid, rest, spells, (rest-are, last-is)), dummies-are) len sorted done =
     let st : UnifyState Tree = record { heap = es; apart = es; targets = e ∷ []; items = [] } in
     let ran = run-from sigs ctx in_definition (length stream) 0 stream us st u stream-is done in
     let grown = run-grows sigs ctx in_definition us st u ran in

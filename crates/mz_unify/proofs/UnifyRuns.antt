@@ -1,5 +1,5 @@
 -- A stream's run doesn't end by its bound, and executes at most a command a byte.
-use Rattle.std.proofs.Common.{◌≡◌, ℕ, zero, suc, ◌+◌, ◌-◌, ◌≤◌, List, [], ◌∷◌, length, drop, Option, Some, None, Result, Ok, Err, refl, sym, subst, arith}
+use Rattle.std.proofs.Common.{◌≡◌, ℕ, zero, suc, ◌+◌, ◌-◌, ◌≤◌, List, [], ◌∷◌, length, drop, Option, Some, None, Result, Ok, Err, refl, sym, ap, subst, arith}
 use Rattle.std.proofs.lemmas.List.{length-drop}
 use Rattle.mz_cmd.specs.declared.rule.K.{K}
 use Rattle.mz_cmd.specs.declared.command.Cmd.{Cmd}
@@ -11,7 +11,7 @@ use Rattle.mz_unify.specs.Steps.{◌>>=◌, Turn, over, goes_on, goes_to}
 use Rattle.mz_unify.specs.Streams.{UnifyCommand, u_end, unify_command}
 use Rattle.mz_unify.specs.Profile.{Profile}
 use Rattle.mz_unify.specs.UnifyMachine.{UnifyMode, kind_of, UnifyState, unify_row, unify_turn_by, unify_turn, unify_from, unify_steps_from}
-use Rattle.mz_unify.proofs.Turning.{command-long, follow-same, goes_to-le, if_read-le, drop-less}
+use Rattle.mz_unify.proofs.Turning.{command-long, follow-same, goes_to-le, if_read-le, goes_to-same, if_read-same, drop-less}
 
 module _ (P : Profile) (sigs : List Signature) (ctx : List Binder) (mode : UnifyMode) where
   abbrev turned : Turn (UnifyState P.T) → Result (Turn (UnifyState P.T)) K
@@ -65,3 +65,19 @@ module _ (P : Profile) (sigs : List Signature) (ctx : List Binder) (mode : Unify
       let longer : (1 ≤ len) × (len ≤ length bytes) = went-on bytes st s len (subst (λ (r : Result Cmd CmdFault). unify_turn P sigs ctx mode st r ≡ Ok (goes_on len s)) (sym read) turn) in
       omega (arith, steps-bounded n (drop len bytes) s, length-drop len bytes, longer.0, longer.1) in
       omega arith
+
+  both-counts : (n m : ℕ) (bytes : List ℕ) (st : UnifyState P.T) → length bytes ≤ n → length bytes ≤ m → unify_steps_from P sigs ctx mode n bytes st ≡ unify_steps_from P sigs ctx mode m bytes st
+  unfolding unify_steps_from
+  both-counts zero zero bytes st a b = refl
+  both-counts zero (suc m) [] st a b = refl
+  both-counts zero (suc m) (x ∷ bytes) st a b = absurd (omega arith)
+  both-counts (suc n) zero [] st a b = refl
+  both-counts (suc n) zero (x ∷ bytes) st a b = absurd (omega arith)
+  both-counts (suc n) (suc m) bytes st a b =
+      if_read-same (first_command bytes) _ _ λ c read.
+      ap suc (goes_to-same (unify_turn P sigs ctx mode st (Ok c)) _ _ λ len s turn.
+      let longer : 1 ≤ len = (went-on bytes st s len (subst (λ (r : Result Cmd CmdFault). unify_turn P sigs ctx mode st r ≡ Ok (goes_on len s)) (sym read) turn)).0 in
+      both-counts n m (drop len bytes) s (drop-less bytes len n longer a) (drop-less bytes len m longer b))
+
+  pub count-is-whole : (n : ℕ) (bytes : List ℕ) (st : UnifyState P.T) → length bytes ≤ n → unify_steps_from P sigs ctx mode n bytes st ≡ unify_steps_from P sigs ctx mode (length bytes) bytes st
+  count-is-whole n bytes st le = both-counts n (length bytes) bytes st le (omega arith)

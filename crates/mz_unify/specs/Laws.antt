@@ -7,10 +7,10 @@ use Rattle.mz_logic.specs.Variables.{Occurs}
 use Rattle.mz_logic.specs.Conversions.{AreFresh}
 use Rattle.mz_logic.specs.declared.binder.Binder.{Binder}
 use Rattle.mz_unify.specs.Streams.{StreamKind, of_assertion, of_definition}
-use Rattle.mz_unify.specs.Spells.{trees_of, variables_from, Text, TermRow, ThmRow, SpellsThm, SpellsTerm}
+use Rattle.mz_unify.specs.Spells.{trees_of, variables_from, Marks, SpellsText, Text, TermRow, ThmRow, SpellsThm, SpellsTerm}
 use Rattle.mz_unify.specs.Profile.{Profile, strict, Item, proof}
 use Rattle.mz_unify.specs.Sorted.{Sorted, AllSorted, ItemsSorted}
-use Rattle.mz_unify.specs.UnifyMachine.{UnifyMode, in_citation, at_end, in_definition, Matching, UnifyState, unify_from, unify, unify_steps}
+use Rattle.mz_unify.specs.UnifyMachine.{UnifyMode, in_citation, at_end, in_definition, Matching, UnifyState, unify_from, unify, unify_steps_from}
 
 -- ---- spellings
 
@@ -40,44 +40,85 @@ abbrev pub BoundNeverEnds : Profile → Type 0
 BoundNeverEnds P = (sigs : List Signature) (ctx : List Binder) (mode : UnifyMode) (n at : ℕ) (bytes : List ℕ) (st : UnifyState P.T)
     → length bytes ≤ n → unify_from P sigs ctx mode n at bytes st ≡ unify_from P sigs ctx mode (length bytes) at bytes st
 
--- a stream executes at most one command a byte
-abbrev pub OneStepAByte : Profile → Type 0
-OneStepAByte P = (sigs : List Signature) (ctx : List Binder) (m : Matching P.T) → unify_steps P sigs ctx m ≤ length m.stream
+-- nor the count of the commands executed
+abbrev pub CountsAreWhole : Profile → Type 0
+CountsAreWhole P = (sigs : List Signature) (ctx : List Binder) (mode : UnifyMode) (n : ℕ) (bytes : List ℕ) (st : UnifyState P.T)
+    → length bytes ≤ n → unify_steps_from P sigs ctx mode n bytes st ≡ unify_steps_from P sigs ctx mode (length bytes) bytes st
 
--- the stream runs, and leaves these items
-abbrev pub RunsLeaving : List Signature → List Binder → Matching Tree → List (Item Tree) → Type 0
-RunsLeaving sigs ctx m rest = (u : UnifyState Tree) × (unify strict sigs ctx m ≡ Ok u) × (u.items ≡ rest)
+-- what is left of a stream executes at most one command a byte
+abbrev pub OneStepAByte : Profile → Type 0
+OneStepAByte P = (sigs : List Signature) (ctx : List Binder) (mode : UnifyMode) (n : ℕ) (bytes : List ℕ) (st : UnifyState P.T)
+    → unify_steps_from P sigs ctx mode n bytes st ≤ length bytes
+
+-- the stream runs to its END, and leaves this heap and these items
+abbrev pub RunsLeaving : List Signature → List Binder → Matching Tree → List Tree → List (Item Tree) → Type 0
+RunsLeaving sigs ctx m heap rest = (u : UnifyState Tree) × (unify strict sigs ctx m ≡ Ok u) × (u.heap ≡ heap) × (u.items ≡ rest)
+
+-- the instances of the marks, in order: the operands, and after them what was saved and what was put
+-- in for dummies
+abbrev pub instances_of : Trees → Marks → List Tree
+instances_of f marks = map (instance f) marks.trees
 
 -- e is the instance of the conclusion under the operands, and of the items those before the rest are
 -- proofs of the instances of the hypotheses, the last one first
-abbrev pub IsCitedAs : Assertion → List Tree → Tree → List (Item Tree) → List (Item Tree) → Type 0
-IsCitedAs a es e items rest =
-    (hs : List Tree) × (trees_of hs ≡ instances (trees_of es) a.hyps) × (e ≡ instance (trees_of es) a.conclusion) × (items ≡ map proof (reverse hs) ++ rest)
+abbrev pub IsCitedAs : Trees → Tree → List Tree → Tree → List (Item Tree) → List (Item Tree) → Type 0
+IsCitedAs hyps conclusion es e items rest =
+    (hs : List Tree) × (trees_of hs ≡ instances (trees_of es) hyps) × (e ≡ instance (trees_of es) conclusion) × (items ≡ map proof (reverse hs) ++ rest)
+
+-- the stream of an assertion, in a citation
+abbrev pub citing : List ℕ → List Tree → Tree → List (Item Tree) → Matching Tree
+citing stream es e items = record { mode = in_citation; stream = stream; operands = es; target = e; items = items }
 
 -- in a citation the stream of an assertion runs exactly on its instances
 abbrev pub CitationsAreExact : Type 0
-CitationsAreExact = (sigs : List Signature) (ctx : List Binder) (row : ThmRow) (a : Assertion) → SpellsThm sigs row a
-    → (es : List Tree) (e : Tree) (items rest : List (Item Tree)) → length es ≡ length row.params → Sorted sigs ctx e → ItemsSorted sigs ctx items
-    → RunsLeaving sigs ctx (record { mode = in_citation; stream = row.stream; operands = es; target = e; items = items }) rest ↔ IsCitedAs a es e items rest
+CitationsAreExact = (sigs : List Signature) (ctx params : List Binder) (stream : List ℕ) (hyps : Trees) (conclusion : Tree) (marks : Marks)
+    → SpellsText of_assertion sigs params stream hyps conclusion marks
+    → (es : List Tree) (e : Tree) (items rest : List (Item Tree)) (heap : List Tree) → length es ≡ length params → Sorted sigs ctx e → ItemsSorted sigs ctx items
+    → RunsLeaving sigs ctx (citing stream es e items) heap rest ↔ (IsCitedAs hyps conclusion es e items rest × (heap ≡ instances_of (trees_of es) marks))
 
--- e is the body with the operands for its parameters, and fresh variables for its dummies
-abbrev pub IsUnfolded : List Binder → List Tree → List Binder → Tree → Tree → Type 0
-IsUnfolded ctx es dummies body e = (ys : List ℕ) × AreFresh ctx (trees_of es) ys dummies × (e ≡ instance (followed_by (trees_of es) (variables ys)) body)
+-- and where any stream of an assertion runs in a citation, it spells something
+abbrev pub CitedStreamsSpell : Type 0
+CitedStreamsSpell = (sigs : List Signature) (ctx params : List Binder) (stream : List ℕ) (es : List Tree) (e : Tree) (items rest : List (Item Tree)) (heap : List Tree)
+    → length es ≡ length params → Sorted sigs ctx e → ItemsSorted sigs ctx items
+    → RunsLeaving sigs ctx (citing stream es e items) heap rest → (hyps : Trees) × (conclusion : Tree) × Text of_assertion sigs params stream hyps conclusion []
+
+-- e is the body with the operands for its parameters, and fresh variables for its dummies; the heap
+-- holds the instances of the marks
+abbrev pub IsUnfolded : List Binder → List Tree → Tree → Marks → Tree → List Tree → Type 0
+IsUnfolded ctx es body marks e heap = (ys : List ℕ) × AreFresh ctx (trees_of es) ys marks.dummies
+    × (e ≡ instance (followed_by (trees_of es) (variables ys)) body) × (heap ≡ instances_of (followed_by (trees_of es) (variables ys)) marks)
+
+-- the stream of a definition
+abbrev pub unfolding_by : List ℕ → List Tree → Tree → Matching Tree
+unfolding_by stream es e = record { mode = in_definition; stream = stream; operands = es; target = e; items = [] }
 
 -- the stream of a definition runs exactly on the instances of its body
 abbrev pub UnfoldingsAreExact : Type 0
-UnfoldingsAreExact = (sigs : List Signature) (ctx params : List Binder) (stream : List ℕ) (dummies : List Binder) (body : Tree) → Text of_definition sigs params stream none body dummies
-    → (es : List Tree) (e : Tree) → length es ≡ length params → Sorted sigs ctx e
-    → RunsLeaving sigs ctx (record { mode = in_definition; stream = stream; operands = es; target = e; items = [] }) [] ↔ IsUnfolded ctx es dummies body e
+UnfoldingsAreExact = (sigs : List Signature) (ctx params : List Binder) (stream : List ℕ) (body : Tree) (marks : Marks) → SpellsText of_definition sigs params stream none body marks
+    → (es : List Tree) (e : Tree) (heap : List Tree) → length es ≡ length params → Sorted sigs ctx e
+    → RunsLeaving sigs ctx (unfolding_by stream es e) heap [] ↔ IsUnfolded ctx es body marks e heap
 
--- where an assertion's stream runs against its parameters, it spells the target and the hypotheses
+-- and where any stream of a definition runs, it spells a body
+abbrev pub UnfoldedStreamsSpell : Type 0
+UnfoldedStreamsSpell = (sigs : List Signature) (ctx params : List Binder) (stream : List ℕ) (es : List Tree) (e : Tree) (heap : List Tree)
+    → length es ≡ length params → Sorted sigs ctx e
+    → RunsLeaving sigs ctx (unfolding_by stream es e) heap [] → (body : Tree) × (marks : Marks) × SpellsText of_definition sigs params stream none body marks
+
+-- ---- a row's own stream
+
+-- an assertion's stream on what its body made, with the parameters as operands
+abbrev pub own_assertion : List Binder → List ℕ → Tree → List Tree → Matching Tree
+own_assertion params stream e hyps = record { mode = at_end; stream = stream; operands = variables_from 0 params; target = e; items = map proof (reverse hyps) }
+
+-- it runs exactly where it spells the target and the hypotheses, without dummies; then the heap holds the marks
 abbrev pub AssertionsAreSpelled : Type 0
-AssertionsAreSpelled = (sigs : List Signature) (ctx params : List Binder) (stream : List ℕ) (e : Tree) (hyps : List Tree) (u : UnifyState Tree) → Sorted sigs ctx e → AllSorted sigs ctx hyps
-    → unify strict sigs ctx (record { mode = at_end; stream = stream; operands = variables_from 0 params; target = e; items = map proof (reverse hyps) }) ≡ Ok u
-    → Text of_assertion sigs params stream (trees_of hyps) e []
+AssertionsAreSpelled = (sigs : List Signature) (ctx params : List Binder) (stream : List ℕ) (e : Tree) (hyps heap : List Tree) → Sorted sigs ctx e → AllSorted sigs ctx hyps
+    → RunsLeaving sigs ctx (own_assertion params stream e hyps) heap []
+    ↔ ((marks : Marks) × SpellsText of_assertion sigs params stream (trees_of hyps) e marks × (heap ≡ marks.trees))
 
--- where a definition's stream does, it spells a body, which the target renames in its dummies
+-- a definition's stream runs with the parameters as operands exactly where it spells a body, which the
+-- target renames in its dummies
 abbrev pub DefinitionsAreSpelled : Type 0
-DefinitionsAreSpelled = (sigs : List Signature) (ctx params : List Binder) (stream : List ℕ) (e : Tree) (u : UnifyState Tree) → Sorted sigs ctx e
-    → unify strict sigs ctx (record { mode = in_definition; stream = stream; operands = variables_from 0 params; target = e; items = [] }) ≡ Ok u
-    → (body : Tree) × (dummies : List Binder) × Text of_definition sigs params stream none body dummies × IsUnfolded ctx (variables_from 0 params) dummies body e
+DefinitionsAreSpelled = (sigs : List Signature) (ctx params : List Binder) (stream : List ℕ) (e : Tree) (heap : List Tree) → Sorted sigs ctx e
+    → RunsLeaving sigs ctx (unfolding_by stream (variables_from 0 params) e) heap []
+    ↔ ((body : Tree) × (marks : Marks) × SpellsText of_definition sigs params stream none body marks × IsUnfolded ctx (variables_from 0 params) body marks e heap)

@@ -65,12 +65,18 @@ variables_from i (b ∷ bs) = var i ∷ variables_from (suc i) bs
 abbrev pub at_first : List Binder → Marks
 at_first params = record { trees = variables_from 0 params; dummies = [] }
 
--- The stream spells the conclusion, then the hypotheses from the last to the first, and meets these dummies.
-abbrev pub Text : StreamKind → List Signature → List Binder → List ℕ → Trees → Tree → List Binder → Type 0
-Text kind sigs params stream hyps conclusion dummies =
+-- The stream spells the conclusion, then the hypotheses from the last to the first, and these are the
+-- marks in the end: the parameters, then the saved applications and the dummies, in order.
+abbrev pub SpellsText : StreamKind → List Signature → List Binder → List ℕ → Trees → Tree → Marks → Type 0
+SpellsText kind sigs params stream hyps conclusion last =
     (us : List UnifyCommand) × StreamIs kind stream us
     × (mid : Marks) × (rest : List UnifyCommand) × Spells (length params) sigs (at_first params) us conclusion mid rest
-    × (last : Marks) × SpellsHyps (length params) sigs mid rest (reverse (listed hyps)) last × (last.dummies ≡ dummies)
+    × SpellsHyps (length params) sigs mid rest (reverse (listed hyps)) last
+
+-- and meets these dummies
+abbrev pub Text : StreamKind → List Signature → List Binder → List ℕ → Trees → Tree → List Binder → Type 0
+Text kind sigs params stream hyps conclusion dummies =
+    (last : Marks) × SpellsText kind sigs params stream hyps conclusion last × (last.dummies ≡ dummies)
 
 -- ---- rows of the tables
 

@@ -1,5 +1,5 @@
 // Laws on the definitions: the contract of each function is one, and its body is empty.
-ghost use Rattle.mz_unify.specs.Laws.{AssertionsAreSpelled, BoundNeverEnds, CitationsAreExact, DefinitionsAreSpelled, LongerSpellTerms, LongerSpellThms, OneAssertion, OneStepAByte, OneTerm, OnlyWhatWasMet, UnfoldingsAreExact};
+ghost use Rattle.mz_unify.specs.Laws.{AssertionsAreSpelled, BoundNeverEnds, CitationsAreExact, CitedStreamsSpell, CountsAreWhole, DefinitionsAreSpelled, LongerSpellTerms, LongerSpellThms, OneAssertion, OneStepAByte, OneTerm, OnlyWhatWasMet, UnfoldedStreamsSpell, UnfoldingsAreExact};
 ghost use Rattle.mz_unify.specs.Profile.{strict};
 
 /// A row spells at most one thing.
@@ -19,9 +19,11 @@ pub fn only_what_was_met()
     ensures { OnlyWhatWasMet }
 {}
 
-/// The bound that makes a run a function never ends it: each command takes a byte.
+/// The bound that makes a run a function never ends it, nor the count of its steps: each command takes
+/// a byte.
 pub fn bound_never_ends()
-    ensures { BoundNeverEnds strict }
+    ensures runs { BoundNeverEnds strict }
+    ensures steps { CountsAreWhole strict }
 {}
 
 /// A stream executes at most one command a byte.
@@ -29,13 +31,20 @@ pub fn one_step_a_byte()
     ensures { OneStepAByte strict }
 {}
 
-/// A stream runs exactly on the instances of what it spells.
+/// A stream runs exactly on the instances of what it spells, and its heap then holds the instances of
+/// the marks, in order.
 pub fn matches_are_exact()
     ensures citations { CitationsAreExact }
     ensures unfoldings { UnfoldingsAreExact }
 {}
 
-/// A stream that runs against its own parameters spells its target.
+/// A stream that runs spells something, whatever the operands are.
+pub fn streams_that_run_spell()
+    ensures assertions { CitedStreamsSpell }
+    ensures definitions { UnfoldedStreamsSpell }
+{}
+
+/// A stream runs against its own parameters exactly where it spells its target.
 pub fn own_streams_are_spelled()
     ensures assertions { AssertionsAreSpelled }
     ensures definitions { DefinitionsAreSpelled }

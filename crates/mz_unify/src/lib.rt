@@ -10,5 +10,5 @@ mod laws;
 
 pub use laws::{
     bound_never_ends, longer_spell_the_same, matches_are_exact, one_spelling, one_step_a_byte,
-    only_what_was_met, own_streams_are_spelled,
+    only_what_was_met, own_streams_are_spelled, streams_that_run_spell,
 };
