@@ -1,0 +1,15 @@
+mod KeyLaws
+mod Places
+mod Longer
+mod Growing
+mod Entering
+mod Adding
+mod Beginning
+mod OverTerms
+mod Gathering
+mod Params
+mod AllVariables
+mod BoundOperands
+mod FreeVariables
+mod Taking
+mod Meeting

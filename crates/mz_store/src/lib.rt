@@ -1,0 +1,16 @@
+//! Shared expressions: each expression of a context is kept once, so that comparing two of them is
+//! comparing two numbers.
+#![tactic(auto)]
+
+mod deps;
+mod item;
+mod laws;
+mod node;
+mod store;
+mod table;
+#[cfg(test)]
+mod tests;
+
+pub use item::{DepsMode, Id, Item};
+pub use laws::{old_ids_keep_their_trees, words_meet};
+pub use store::Store;

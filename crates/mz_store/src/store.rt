@@ -1,0 +1,291 @@
+//! The store.
+ghost use Rattle.std.specs.Prelude.{ℕ, ◌≡◌, ◌↔◌, ◌<◌, ◌≤◌, ◌∷◌, [], ◌++◌, List, map, OnOk, OnErr, IfOk, IfSome, IfNone, IsTrue, length};
+ghost use Rattle.mz_logic.specs.Sorts.{HasSort, IsBoundVar};
+ghost use Rattle.mz_logic.specs.Signature.{Signature};
+ghost use Rattle.mz_logic.specs.Tree.{var, app};
+ghost use Rattle.mz_logic.specs.Words.{BitsRight, BitsRightAfter, binders_of, signatures_of};
+ghost use Rattle.mz_store.specs.Bits.{Tells, bound_vars};
+ghost use Rattle.mz_store.specs.Sharing.{IsIn, AreIn, Holds, tree_of, trees_of, sort_of, deps_of, head_of, operands_of, IsOver, IsTold, CanTake, KeepsIds, IsEmpty, dummy_binder};
+ghost use Rattle.mz_store.specs.Nodes.{IsVariableWord, variable_node, entered, entered_all};
+ghost use Rattle.mz_store.specs.Keys.{IsOf};
+ghost use Rattle.mz_store.specs.declared.node.Form.TheVariants.{Variable};
+
+use crate::deps::deps_of_term;
+use crate::item::{DepsMode, Id};
+use crate::node::{Form, Node};
+use crate::table::{Key, Table};
+use mz_logic::{Terms, Word};
+use std::alloc::{AllocError, Global};
+use std::marker::Model;
+
+/// Expressions over the variables of one context, each kept once: two ids are equal exactly where
+/// their trees are.
+///
+/// The trees are nowhere written out, so that an expression of very many parts takes only as much
+/// memory as it has different ones.
+#[derive(Drop)]
+pub struct Store {
+    alloc: Global,
+    mode: DepsMode,
+    bound_count: u32,
+    nodes: Vec<Node>,
+    table: Table,
+}
+
+impl Model for Store {
+    ghost use Rattle.mz_store.specs.Sharing.{Sharing};
+    ghost use Rattle.mz_store.specs.Codes.{sharing_code};
+
+    ghost Value = { Sharing };
+
+    ghost coded = { sharing_code };
+
+    ghost use Rattle.mz_store.specs.Nodes.{sharing_of};
+    ghost use Rattle.mz_store.specs.Kept.{IsKept};
+
+    ghost view = { λ s. sharing_of s.mode s.nodes.items };
+
+    ghost invariant = { λ s. IsKept (sharing_of s.mode s.nodes.items) s.bound_count s.nodes.items s.table };
+}
+
+impl Store {
+    /// A store of nothing.
+    pub fn new(alloc: Global) -> Store
+        ensures { IsEmpty result }
+    {
+        Store {
+            alloc,
+            mode: DepsMode::All,
+            bound_count: 0,
+            nodes: Vec::new(alloc),
+            table: Table::new(alloc),
+        }
+    }
+
+    /// Takes all expressions out, and enters the parameters that the words say, the i-th with the
+    /// id i. The bits of the words must say exactly a list of binders.
+    ///
+    /// # Errors
+    ///
+    /// Where there is no memory. The store is empty then.
+    pub fn begin(&mut self, params: &[Word], mode: DepsMode) -> Result<(), AllocError>
+        requires { BitsRight params.now }
+        ensures mode { OnOk result (self.new.mode ≡ mode) }
+        ensures context { OnOk result (self.new.context ≡ binders_of params.now) }
+        ensures many { OnOk result (length self.new.entries ≡ length params.now) }
+        ensures trees { OnOk result ((i : ℕ) → i < length params.now → tree_of self.new i ≡ var i) }
+        ensures over { OnOk result ((sigs : List Signature) → IsOver sigs self.new) }
+        ensures err { OnErr result (IsEmpty self.new) }
+    {
+        self.clear(mode);
+        match self.enter_all(params) {
+            Ok(()) => Ok(()),
+            Err(failed) => {
+                self.clear(mode);
+                Err(failed)
+            }
+        }
+    }
+
+    fn clear(&mut self, mode: DepsMode)
+        ensures empty { IsEmpty self.new }
+        ensures mode { self.new.mode ≡ mode }
+    {
+        self.mode = mode;
+        self.bound_count = 0;
+        self.nodes.clear();
+        self.table.clear();
+    }
+
+    /// Enters the variables that the words say.
+    fn enter_all(&mut self, params: &[Word]) -> Result<(), AllocError>
+        requires { BitsRightAfter (length (bound_vars self.old.context)) params.now }
+        ensures ok { OnOk result (self.new ≡ entered_all self.old (map variable_node params.now)) }
+        ensures over { OnOk result ((sigs : List Signature) → IsOver sigs self.old → IsOver sigs self.new) }
+    {
+        for param in params {
+            self.enter(param.sort(), param.deps(), param.bound())?;
+        }
+        Ok(())
+    }
+
+    /// Adds a variable, whose word must say exactly what a variable after the present ones is.
+    fn enter(&mut self, sort: u32, deps: u64, bound: bool) -> Result<(), AllocError>
+        requires { IsVariableWord (length (bound_vars self.old.context)) deps bound }
+        ensures ok { OnOk result (self.new ≡ entered self.old (record { sort = sort; deps = deps; form = Variable bound })) }
+        ensures over { OnOk result ((sigs : List Signature) → IsOver sigs self.old → IsOver sigs self.new) }
+        ensures err { OnErr result (self.new ≡ self.old) }
+    {
+        self.nodes.push(Node {
+            sort,
+            deps,
+            form: Form::Variable(bound),
+        })?;
+        self.bound_count += u32::from(bound);
+        Ok(())
+    }
+
+    /// Adds a bound variable without dependencies. There must be fewer than 55 bound ones.
+    ///
+    /// # Errors
+    ///
+    /// Where there is no memory. The store is unchanged then.
+    pub fn dummy(&mut self, sort: u32) -> Result<Id, AllocError>
+        requires { length (bound_vars self.old.context) < 55 }
+        ensures holds { IfOk result (λ id. Holds self.new id.0 (var (length self.old.context))) }
+        ensures context { OnOk result (self.new.context ≡ self.old.context ++ dummy_binder sort ∷ []) }
+        ensures mode { OnOk result (self.new.mode ≡ self.old.mode) }
+        ensures kept { OnOk result (KeepsIds self.old self.new) }
+        ensures over { OnOk result ((sigs : List Signature) → IsOver sigs self.old → IsOver sigs self.new) }
+        ensures err { OnErr result (self.new ≡ self.old) }
+    {
+        let id = Id(self.nodes.len() as u64);
+        self.enter(sort, 1 << self.bound_count, true)?;
+        Ok(id)
+    }
+
+    /// The term `t` over these expressions: the id that it has already, or a new one.
+    ///
+    /// The terms are those over which the store's expressions were made since `begin`; `t` is one of
+    /// them, and the operands have the sorts of its parameters, a bound variable for each bound one.
+    ///
+    /// # Errors
+    ///
+    /// Where there is no memory. The store is unchanged then.
+    pub fn app<T: Terms>(&mut self, terms: &T, t: u32, args: &[Id]) -> Result<Id, AllocError>
+        requires over { IsOver (signatures_of (T.all_terms terms.now)) self.old }
+        requires ids { AreIn self.old args.now }
+        requires fit { CanTake (T.all_terms terms.now) self.old.context t (trees_of self.old args.now) }
+        ensures holds { IfOk result (λ id. Holds self.new id.0 (app t (trees_of self.old args.now))) }
+        ensures context { self.new.context ≡ self.old.context }
+        ensures mode { self.new.mode ≡ self.old.mode }
+        ensures kept { OnOk result (KeepsIds self.old self.new) }
+        ensures over { OnOk result (IsOver (signatures_of (T.all_terms terms.now)) self.new) }
+        ensures err { OnErr result (self.new ≡ self.old) }
+    {
+        let key = Key::new(self.alloc, t, args)?;
+        if let Some(id) = self.find(&key) {
+            return Ok(id);
+        }
+        let operands = Vec::from_slice(self.alloc, args)?;
+        let node = Node {
+            sort: terms.result(t).sort(),
+            deps: deps_of_term(self, terms, t, args),
+            form: Form::Application(t, operands),
+        };
+        self.add(key, node)
+    }
+
+    /// The id of the term over operands that has this key, if there is one.
+    fn find(&self, key: &Key) -> Option<Id>
+        requires { AreIn self.now key.now.operands.items }
+        ensures some { IfSome result (λ id. Holds self.now id.0 (app key.now.head (trees_of self.now key.now.operands.items))) }
+        ensures none { IfNone result ((i : ℕ) → Holds self.now i (app key.now.head (trees_of self.now key.now.operands.items)) → ⊥) }
+    {
+        self.table.find(key)
+    }
+
+    /// Adds the term over operands that has this key, which isn't there.
+    fn add(&mut self, key: Key, node: Node) -> Result<Id, AllocError>
+        requires ids { AreIn self.old key.operands.items }
+        requires form { IsOf node.form key.head key.operands.items }
+        requires fresh { (i : ℕ) → Holds self.old i (app key.head (trees_of self.old key.operands.items)) → ⊥ }
+        ensures id { IfOk result (λ id. id.0 ≡ length self.old.entries) }
+        ensures ok { OnOk result (self.new ≡ entered self.old node) }
+        ensures err { OnErr result (self.new ≡ self.old) }
+    {
+        let id = Id(self.nodes.len() as u64);
+        self.nodes.push(node)?;
+        match self.table.insert(key, id) {
+            Ok(()) => Ok(id),
+            Err(failed) => {
+                self.nodes.pop();
+                Err(failed)
+            }
+        }
+    }
+
+    /// How many expressions there are: their ids are the numbers below.
+    pub(crate) fn len(&self) -> usize
+        ensures { result ≡ length self.now.entries }
+    {
+        self.nodes.len()
+    }
+
+    /// Which variables the words tell.
+    pub(crate) fn mode(&self) -> DepsMode
+        ensures { result ≡ self.now.mode }
+    {
+        self.mode
+    }
+
+    /// Whether two expressions are the same.
+    pub fn same(&self, a: Id, b: Id) -> bool
+        requires left { IsIn self.now a.0 }
+        requires right { IsIn self.now b.0 }
+        ensures trees { IsTrue result ↔ (tree_of self.now a.0 ≡ tree_of self.now b.0) }
+        ensures ids { IsTrue result ↔ (a ≡ b) }
+    {
+        // Different ids have different trees: the store's invariant.
+        let _ = &self.table;
+        a == b
+    }
+
+    /// The expression's sort.
+    pub fn sort_of(&self, id: Id) -> u32
+        requires { IsIn self.now id.0 }
+        ensures kept { result ≡ sort_of self.now id.0 }
+        ensures sort { (sigs : List Signature) → IsOver sigs self.now → HasSort sigs self.now.context (tree_of self.now id.0) result }
+    {
+        self.nodes[id.0 as usize].sort
+    }
+
+    /// The word of the expression's variables: bit k is set exactly where the k-th bound variable is
+    /// among all its variables, or among the free ones, as `begin` was told.
+    pub fn deps(&self, id: Id) -> u64
+        requires { IsIn self.now id.0 }
+        ensures kept { result ≡ deps_of self.now id.0 }
+        ensures variables { (sigs : List Signature) → IsOver sigs self.now → Tells (bound_vars self.now.context) result (IsTold self.now.mode sigs self.now.context (tree_of self.now id.0)) }
+    {
+        self.nodes[id.0 as usize].deps
+    }
+
+    /// Whether the expression is a bound variable.
+    pub fn is_bound(&self, id: Id) -> bool
+        requires { IsIn self.now id.0 }
+        ensures { IsTrue result ↔ IsBoundVar self.now.context (tree_of self.now id.0) }
+    {
+        matches!(self.nodes[id.0 as usize].form, Form::Variable(true))
+    }
+
+    /// The number of the term that the expression is an application of, and `None` for a variable.
+    pub fn head(&self, id: Id) -> Option<u32>
+        requires { IsIn self.now id.0 }
+        ensures { result ≡ head_of (tree_of self.now id.0) }
+    {
+        match &self.nodes[id.0 as usize].form {
+            Form::Variable(_) => None,
+            Form::Application(head, _) => Some(*head),
+        }
+    }
+
+    /// The operands of the expression, none for a variable.
+    pub fn args(&self, id: Id) -> &[Id]
+        requires { IsIn self.now id.0 }
+        ensures ids { AreIn self.now result.now }
+        ensures trees { trees_of self.now result.now ≡ operands_of (tree_of self.now id.0) }
+    {
+        match &self.nodes[id.0 as usize].form {
+            Form::Variable(_) => &[],
+            Form::Application(_, operands) => operands,
+        }
+    }
+
+    /// How many bound variables there are, at most 55.
+    pub fn bound_count(&self) -> u32
+        ensures many { result ≡ length (bound_vars self.now.context) }
+        ensures small { result ≤ 55 }
+    {
+        self.bound_count
+    }
+}
