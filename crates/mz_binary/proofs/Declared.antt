@@ -1,5 +1,5 @@
 -- One declaration more.
-use Rattle.std.proofs.Common.{◌≡◌, ◌+◌, ◌∙◌, ℕ, List, [], ◌∷◌, ◌++◌, length, refl, ap, arith, length-append}
+use Rattle.std.proofs.Common.{◌≡◌, ◌+◌, ◌∙◌, List, [], ◌∷◌, ◌++◌, length, refl, ap, arith, length-append}
 use Rattle.mz_logic.specs.Declaration.{Declaration, sort_decl, term_decl, assertion_decl, Term, sorts, terms, assertions}
 use Rattle.mz_logic.specs.declared.binder.SortMods.{SortMods}
 use Rattle.mz_binary.specs.declared.statement.Rows.{Rows}
@@ -40,6 +40,19 @@ counts-sort rows after env m counts sorts_are terms_are thms_are =
     let one : length (sorts (env ++ sort_decl m ∷ [])) ≡ length (sorts env) + 1 = sorts-many env (sort_decl m ∷ []) in
     let none : length (terms (env ++ sort_decl m ∷ [])) ≡ length (terms env) + 0 = terms-many env (sort_decl m ∷ []) in
     let neither : length (assertions (env ++ sort_decl m ∷ [])) ≡ length (assertions env) + 0 = assertions-many env (sort_decl m ∷ []) in
+    record {
+      sorts_are = omega (arith, counts.sorts_are);
+      terms_are = omega (arith, counts.terms_are);
+      thms_are = omega (arith, counts.thms_are);
+    }
+
+-- a term takes a row of terms
+pub counts-term : (rows after : Rows) (env : List Declaration) (d : Term) → CountsRows rows env
+    → after.sorts ≡ rows.sorts → after.terms ≡ rows.terms + 1 → after.thms ≡ rows.thms → CountsRows after (env ++ term_decl d ∷ [])
+counts-term rows after env d counts sorts_are terms_are thms_are =
+    let none : length (sorts (env ++ term_decl d ∷ [])) ≡ length (sorts env) + 0 = sorts-many env (term_decl d ∷ []) in
+    let one : length (terms (env ++ term_decl d ∷ [])) ≡ length (terms env) + 1 = terms-many env (term_decl d ∷ []) in
+    let neither : length (assertions (env ++ term_decl d ∷ [])) ≡ length (assertions env) + 0 = assertions-many env (term_decl d ∷ []) in
     record {
       sorts_are = omega (arith, counts.sorts_are);
       terms_are = omega (arith, counts.terms_are);

@@ -1,20 +1,19 @@
 -- The command of a statement that stands at a place.
-use Rattle.std.proofs.Common.{◌≡◌, ◌<◌, ◌≤◌, ◌+◌, ◌/◌, ◌%◌, ◌⊎◌, ℕ, List, [], ◌∷◌, length, drop, Bool, true, false, cond, Option, Some, None, Result, Ok, Err, refl, sym, ap, ◌∙◌, inl, inr, arith, ltb, subst}
-use Rattle.std.specs.Prelude.{◌==◌, ◌||◌, is_some}
+use Rattle.std.proofs.Common.{◌≡◌, ◌<◌, ◌≤◌, ◌+◌, ◌/◌, ◌%◌, ℕ, List, [], ◌∷◌, length, drop, Bool, true, false, cond, Some, Result, Ok, Err, refl, sym, ap, ◌∙◌, arith, ltb, subst}
+use Rattle.std.specs.Prelude.{◌==◌, ◌||◌, find}
 use Rattle.std.proofs.lemmas.Bool.{ltb-false, eqb-true}
-use Rattle.mz_cmd.specs.declared.code.StatementCode.TheVariants as codes
+use Rattle.mz_cmd.specs.declared.code.StatementCode.{StatementCode}
 use Rattle.mz_cmd.specs.declared.command.Cmd.{Cmd}
 use Rattle.mz_cmd.specs.declared.command.CmdFault.{CmdFault}
 use Rattle.mz_cmd.specs.declared.command.CmdFault.TheVariants.{Cut, Unknown}
 use Rattle.mz_cmd.specs.declared.statement.StmtAt.{StmtAt}
 use Rattle.mz_cmd.specs.declared.statement.StmtAt.TheVariants.{End, Head}
 use Rattle.mz_cmd.specs.declared.statement.StmtFault.{StmtFault}
-use Rattle.mz_cmd.specs.declared.statement.StmtFault.TheVariants.{Command, Kind, Length}
-use Rattle.mz_cmd.specs.Codes.{begins_statement, is_known}
+use Rattle.mz_cmd.specs.declared.statement.StmtFault.TheVariants.{Kind, Length}
+use Rattle.mz_cmd.specs.Codes.{begins_statement, is_known, statement_byte, statement_code, statement_codes}
 use Rattle.mz_cmd.specs.Spelling.{operand_len}
 use Rattle.mz_cmd.specs.Reading.{first_command, command_at}
 use Rattle.mz_cmd.specs.StatementList.{statement_of, statement_at}
-use Rattle.mz_binary.specs.Checking.{is_unread, IsRead}
 
 pub record IsCommandOf (end at kind body next : ℕ) (c : Cmd) : Type 0 where
   pub code : kind ≡ c.code
@@ -62,53 +61,32 @@ command-len (head ∷ rest) c e = whole head _ c (ltb (length rest) (operand_len
 
 -- ---- the codes
 
-six : (a b c d e f : Bool)
-    → is_some (cond a (Some codes.Axiom) (cond b (Some codes.Sort) (cond c (Some codes.Term) (cond d (Some codes.Theorem) (cond e (Some codes.LocalDefinition) (cond f (Some codes.LocalTheorem) None)))))) ≡ true
-    → (a ≡ true) ⊎ ((b ≡ true) ⊎ ((c ≡ true) ⊎ ((d ≡ true) ⊎ ((e ≡ true) ⊎ (f ≡ true)))))
-six true b c d e f h = inl refl
-six false true c d e f h = inr (inl refl)
-six false false true d e f h = inr (inr (inl refl))
-six false false false true e f h = inr (inr (inr (inl refl)))
-six false false false false true f h = inr (inr (inr (inr (inl refl))))
-six false false false false false true h = inr (inr (inr (inr (inr refl))))
-six false false false false false false h = absurd cc
+find-passes : {A : Type 0} → (p : A → Bool) (xs : List A) (x : A) → find p xs ≡ Some x → p x ≡ true
+find-passes p [] x e = absurd cc
+find-passes p (y ∷ ys) x e = by (p y) refl e (find-passes p ys x)
+  where
+    by : (b : Bool) → p y ≡ b → cond b (Some y) (find p ys) ≡ Some x → (find p ys ≡ Some x → p x ≡ true) → p x ≡ true
+    by true passes e rest = let same : y ≡ x = cc in subst (λ z. p z ≡ true) same passes
+    by false passes e rest = rest e
 
-unread : (n code : ℕ) → (n == code) ≡ true → is_unread n ≡ true → is_unread code ≡ false → ⊥
-unread n code e u r = let same : n ≡ code = eqb-true n code e in let both : is_unread n ≡ is_unread code = ap is_unread same in absurd cc
-
--- of the statements that are read, each is a sort
-pub read-code : (code : ℕ) → begins_statement code ≡ true → is_unread code ≡ false → code ≡ 0x04
-read-code code begins r = elim (six (0x02 == code) (0x04 == code) (0x05 == code) (0x06 == code) (0x0D == code) (0x0E == code) begins) [
-  | inl e ↦ absurd (unread 0x02 code e refl r)
-  | inr f ↦ elim f [
-    | inl e ↦ sym (eqb-true 0x04 code e)
-    | inr g ↦ elim g [
-      | inl e ↦ absurd (unread 0x05 code e refl r)
-      | inr h ↦ elim h [
-        | inl e ↦ absurd (unread 0x06 code e refl r)
-        | inr k ↦ elim k [ inl e ↦ absurd (unread 0x0D code e refl r) | inr e ↦ absurd (unread 0x0E code e refl r) ]
-      ]
-    ]
-  ]
-]
+pub code-is : (k : StatementCode) (code : ℕ) → statement_code code ≡ Some k → code ≡ statement_byte k
+code-is k code e = sym (eqb-true (statement_byte k) code (find-passes (λ c. statement_byte c == code) statement_codes k e))
 
 -- ---- a statement that stands at a place
 
 pub record IsHeadAt (file : List ℕ) (at kind body next : ℕ) : Type 0 where
-  pub begins : begins_statement kind ≡ true
+  pub before : at ≤ body
   pub order : body ≤ next
   pub within : next ≤ length file
   pub further : at < next
-  pub read : IsRead (command_at file at) → is_unread kind ≡ false
 
 pub head-at : (file : List ℕ) (at kind body next : ℕ) → statement_at file at ≡ Ok (Head kind body next) → IsHeadAt file at kind body next
 head-at file at kind body next e =
     let f = found (length file) at (command_at file at) kind body next e in
     let len : 1 ≤ f.0.len = command-len (drop at file) f.0 f.1 in
     record {
-      begins = f.2.begins;
+      before = omega (arith, f.2.body_is);
       order = f.2.order;
       within = f.2.within;
       further = omega (arith, f.2.body_is, f.2.order, len);
-      read = λ r. ap is_unread f.2.code ∙ subst IsRead f.1 r;
     }

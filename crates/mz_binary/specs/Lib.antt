@@ -1,7 +1,14 @@
+pub mod RowWords
+pub mod FileRows
 pub mod Spelling
 pub mod Checking
 pub mod Chains
 pub mod Good
+pub mod FileRun
+pub mod WholeLaws
+pub mod Files
+pub mod WholeExamples
 pub mod Progress
 pub mod Judging
 pub mod RefusalLine
+pub mod Laws

@@ -1,15 +1,16 @@
 -- How far a checker has come, and what it answers.
-use Rattle.std.specs.Prelude.{◌≡◌, ◌≤◌, ◌<◌, ℕ, ◌+◌, List, [], length, Ok, if◌then◌else◌}
+use Rattle.std.specs.Prelude.{◌≡◌, ◌≤◌, ◌<◌, ℕ, ◌+◌, List, [], length, false, Ok, if◌then◌else◌}
 use Rattle.mz_cmd.specs.declared.statement.StmtAt.TheVariants.{Head}
 use Rattle.mz_cmd.specs.StatementList.{statement_at}
 use Rattle.mz_logic.specs.Declaration.{Declaration, sort_decl, term_decl, assertion_decl, sorts, terms, assertions}
 use Rattle.mz_logic.specs.LegalLists.{Statement}
-use Rattle.mz_layout.specs.Tables.{list_at, sort_count, term_count, thm_count}
+use Rattle.mz_layout.specs.Tables.{list_at, sort_count, term_count, thm_count, term_row}
 use Rattle.mz_layout.specs.Layout.{IsBinary}
+use Rattle.mz_binary.specs.RowWords.{first_sorts}
 use Rattle.mz_binary.specs.declared.statement.Rows.{Rows}
 use Rattle.mz_binary.specs.declared.statement.Statement.{Statement as Told}
 use Rattle.mz_binary.specs.declared.place.Found.{Found}
-use Rattle.mz_binary.specs.declared.place.Found.TheVariants.{End, Sort}
+use Rattle.mz_binary.specs.declared.place.Found.TheVariants.{End, Sort, Term}
 use Rattle.mz_binary.specs.Chains.{GoodTo, IsListEnd}
 
 -- what env declares has taken these rows
@@ -17,6 +18,11 @@ pub record CountsRows (rows : Rows) (env : List Declaration) : Type 0 where
   pub sorts_are : rows.sorts ≡ length (sorts env)
   pub terms_are : rows.terms ≡ length (terms env)
   pub thms_are : rows.thms ≡ length (assertions env)
+
+-- what env declares has taken these rows of the file: its sorts are the first so many of the file's
+pub record HasTaken (file : List ℕ) (rows : Rows) (env : List Declaration) : Type 0 where
+  pub counts : CountsRows rows env
+  pub sorts_are : sorts env ≡ first_sorts file rows.sorts
 
 -- ---- what is found at a place
 
@@ -27,9 +33,18 @@ pub record IsSortAt (file : List ℕ) (rows : Rows) (at next : ℕ) : Type 0 whe
   pub row : rows.sorts < sort_count file
   pub within : next ≤ length file
 
+-- a plain term's statement stands there
+pub record IsTermAt (file : List ℕ) (rows : Rows) (at next : ℕ) : Type 0 where
+  pub body : ℕ
+  pub stands : statement_at file at ≡ Ok (Head 0x05 body next)
+  pub row : rows.terms < term_count file
+  pub is_plain : (term_row file rows.terms).words.has_body ≡ false
+  pub within : next ≤ length file
+
 abbrev pub IsFound : List ℕ → Rows → ℕ → Found → Type 0
 IsFound file rows at End = IsListEnd file at
 IsFound file rows at (Sort next) = IsSortAt file rows at next
+IsFound file rows at (Term next) = IsTermAt file rows at next
 
 -- ---- how far the checker has come
 

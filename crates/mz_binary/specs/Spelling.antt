@@ -1,12 +1,13 @@
 -- What a statement of the list declares: its command's code says its kind and its mark, and its row, the next of its
 -- kind, spells its declaration (the .mmb format, its list of statements).
-use Rattle.std.specs.Prelude.{◌≡◌, ◌⊎◌, ℕ, Bool, true, false, ◌==◌, ◌||◌, if◌then◌else◌, List, length, slice_get, Some, Ok, MatchBool}
+use Rattle.std.specs.Prelude.{◌≡◌, ◌<◌, ◌⊎◌, ℕ, Bool, ◌==◌, ◌||◌, List, length, slice_get, Some, Ok, MatchBool}
 use Rattle.mz_cmd.specs.declared.statement.StmtAt.TheVariants.{Head}
 use Rattle.mz_cmd.specs.StatementList.{statement_at}
-use Rattle.mz_logic.specs.Declaration.{Declaration, sort_decl, term_decl, assertion_decl, Term, plain_form, sorts, terms, assertions}
+use Rattle.mz_logic.specs.Declaration.{Declaration, sort_decl, term_decl, assertion_decl, sorts, terms, signatures, assertions}
 use Rattle.mz_logic.specs.LegalLists.{Statement}
-use Rattle.mz_logic.specs.Words.{signature_of}
-use Rattle.mz_layout.specs.Tables.{TermRow, tables_of}
+use Rattle.mz_layout.specs.Tables.{tables_of, term_count, thm_count}
+use Rattle.mz_unify.specs.Spells.{SpellsTerm, SpellsThm}
+use Rattle.mz_binary.specs.FileRows.{term_of_file, thm_of_file}
 
 -- ---- kinds
 
@@ -24,17 +25,11 @@ HasKind code s = IsKindOf code s.decl × (s.is_local ≡ is_local_code code)
 
 -- ---- rows
 
--- a plain term's words say its parameters and its result
-pub record SpellsTerm (row : TermRow) (d : Term) : Type 0 where
-  pub is_plain : row.words.has_body ≡ false
-  pub form : d.form ≡ plain_form
-  pub signature : d.signature ≡ signature_of row.words
-
--- the row of the declaration's kind that follows those of env spells it; no assertion's row is read yet
+-- the row of the declaration's kind that follows those of env spells it
 abbrev pub SpellsRow : List ℕ → List Declaration → Declaration → Type 0
 SpellsRow file env (sort_decl m) = slice_get (tables_of file).sorts (length (sorts env)) ≡ Some m
-SpellsRow file env (term_decl d) = (row : TermRow) × (slice_get (tables_of file).terms (length (terms env)) ≡ Some row) × SpellsTerm row d
-SpellsRow file env (assertion_decl a) = ⊥
+SpellsRow file env (term_decl d) = (length (terms env) < term_count file) × SpellsTerm (signatures env) (term_of_file file (length (terms env))) d
+SpellsRow file env (assertion_decl a) = (length (assertions env) < thm_count file) × SpellsThm (signatures env) (thm_of_file file (length (assertions env))) a
 
 -- after env, the statement stands at a place, and the next one at another
 pub record IsSpelled (file : List ℕ) (env : List Declaration) (at : ℕ) (s : Statement) (next : ℕ) : Type 0 where

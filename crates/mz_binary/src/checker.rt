@@ -4,7 +4,7 @@ ghost use Rattle.mz_checks.specs.Checks.{AllHold};
 ghost use Rattle.mz_logic.specs.Declaration.{Declaration};
 ghost use Rattle.mz_logic.specs.LegalLists.{Statement as Declared};
 ghost use Rattle.mz_binary.specs.Checking.{list_checks};
-ghost use Rattle.mz_binary.specs.Progress.{CountsRows, HasPassed, IsSortAt};
+ghost use Rattle.mz_binary.specs.Progress.{HasPassed, HasTaken, IsSortAt, IsTermAt};
 ghost use Rattle.mz_binary.specs.Judging.{IsNext};
 
 use crate::place::{Found, found_at};
@@ -85,13 +85,14 @@ impl<'a> Checker<'a> {
         match found {
             Found::End => Next::End(self.rows),
             Found::Sort { next } => self.after_sort(next),
+            Found::Term { next } => self.after_term(next),
         }
     }
 
     /// Past a sort.
     fn after_sort(self, next: u32) -> Next<'a>
         requires sort { IsSortAt self.file self.rows self.at next }
-        requires passes { (env : List Declaration) → CountsRows self.rows env → AllHold (list_checks self.file env self.at) }
+        requires passes { (env : List Declaration) → HasTaken self.file self.rows env → AllHold (list_checks self.file env self.at) }
         ensures { (ss : List Declared) (env : List Declaration) → HasPassed self.entry ss env → IsNext self.entry ss env result }
     {
         let told = Statement {
@@ -104,6 +105,33 @@ impl<'a> Checker<'a> {
         let rows = Rows {
             sorts: told.row + 1,
             terms: self.rows.terms,
+            thms: self.rows.thms,
+        };
+        let after = Checker {
+            mmb: self.mmb,
+            rows,
+            passed: told.number,
+            at: next,
+        };
+        Next::Statement(after, told)
+    }
+
+    /// Past a plain term.
+    fn after_term(self, next: u32) -> Next<'a>
+        requires term { IsTermAt self.file self.rows self.at next }
+        requires passes { (env : List Declaration) → HasTaken self.file self.rows env → AllHold (list_checks self.file env self.at) }
+        ensures { (ss : List Declared) (env : List Declaration) → HasPassed self.entry ss env → IsNext self.entry ss env result }
+    {
+        let told = Statement {
+            number: self.passed + 1,
+            at: self.at,
+            kind: 0x05,
+            row: self.rows.terms,
+            local: false,
+        };
+        let rows = Rows {
+            sorts: self.rows.sorts,
+            terms: told.row + 1,
             thms: self.rows.thms,
         };
         let after = Checker {

@@ -6,6 +6,7 @@
 #![tactic(auto)]
 
 mod checker;
+mod examples;
 mod laws;
 mod line;
 mod place;
@@ -13,11 +14,19 @@ mod statement;
 #[cfg(test)]
 mod tests;
 mod whole;
+mod whole_laws;
+mod words;
 
 pub use checker::{Checker, Next};
+pub use examples::worked_files;
 pub use laws::{
     each_file_is_good_or_has_one_fault, each_file_spells_one_list, good_files_are_legal,
+    good_statements_have_rows, right_words_say_params,
 };
 pub use line::refusal_line;
 pub use statement::{Rows, Statement};
 pub use whole::{Checked, check_all};
+pub use whole_laws::{
+    files_read_in_part_are_good, steps_of_files_are_bounded, whole_files_are_legal,
+    whole_files_have_one_outcome, whole_files_spell_one_list,
+};

@@ -43,6 +43,12 @@ fn check_with<L: Ledger>(blank: Blank, file: &[u8]) -> Checked
     check_all(file, &mut steps)
 }
 
+fn line_of(alloc: Global, file: &[u8]) -> Result<Vec<u8>, Mem>
+    requires { length file.now < 2 ^ 32 }
+{
+    told(alloc, check_with::<Brand>(Blank::new(1), file))
+}
+
 /// A file with the bytes from a place on replaced.
 fn with(alloc: Global, file: &[u8], at: usize, bytes: &[u8]) -> Result<Vec<u8>, Mem>
     requires { at ≤ length file.now }
@@ -149,7 +155,7 @@ fn lists_of_one_sort(rt: HostRuntime) -> Result<(), Fail> {
     for (list, line, what) in LISTS {
         let file = with(rt.alloc(), &ONE, 48, list)?;
         assert!(rt; file.len() < 100);
-        let found = told(rt.alloc(), check_with::<Brand>(Blank::new(1), &file))?;
+        let found = line_of(rt.alloc(), &file)?;
         assert_eq!(rt; found.as_slice(), line.as_bytes(), "{what}");
     }
     Ok(())
@@ -216,7 +222,7 @@ fn bytes_of_the_header(rt: HostRuntime) -> Result<(), Fail> {
         };
         *place = byte;
         assert!(rt; file.len() < 100);
-        let found = told(rt.alloc(), check_with::<Brand>(Blank::new(1), &file))?;
+        let found = line_of(rt.alloc(), &file)?;
         assert_eq!(rt; found.as_slice(), line.as_bytes(), "{what}");
     }
     Ok(())
@@ -238,7 +244,348 @@ fn other_files(rt: HostRuntime) -> Result<(), Fail> {
         ),
     ];
     for (file, line, what) in rows {
-        let found = told(rt.alloc(), check_with::<Brand>(Blank::new(1), file))?;
+        let found = line_of(rt.alloc(), file)?;
+        assert_eq!(rt; found.as_slice(), line.as_bytes(), "{what}");
+    }
+    Ok(())
+}
+
+/// One sort and the term `im (a b: wff): wff`: its record at 48, its parameters' words at 56 and 64, its
+/// result's at 72, and the list at 80.
+const TERM: [u8; 85] = [
+    0x4D, 0x4D, 0x30, 0x42, 1, 1, 0, 0, 1, 0, 0, 0, 0, 0, 0, 0, 0x30, 0, 0, 0, 0x38, 0, 0, 0, 0x50,
+    0, 0, 0, 0, 0, 0, 0, 0, 0, 0, 0, 0, 0, 0, 0, 4, 0, 0, 0, 0, 0, 0, 0, 2, 0, 0, 0, 0x38, 0, 0, 0,
+    0, 0, 0, 0, 0, 0, 0, 0, 0, 0, 0, 0, 0, 0, 0, 0, 0, 0, 0, 0, 0, 0, 0, 0, 0x44, 2, 0x45, 2, 0,
+];
+
+/// Bytes of that file put in place of others.
+const TERM_BYTES: [(&[(usize, u8)], &str, &str); 37] = [
+    (
+        &[],
+        "good: 1 1 0\n",
+        "two parameters and a result of one sort",
+    ),
+    (
+        &[(56, 1)],
+        "refused: binary statement 2 at byte 56: K8 binder\n",
+        "a regular parameter has a bit where none is bound",
+    ),
+    (
+        &[(79, 0x80)],
+        "refused: binary statement 2 at byte 72: K9 result\n",
+        "a bound result",
+    ),
+    (
+        &[(64, 1)],
+        "refused: binary statement 2 at byte 64: K8 binder\n",
+        "the second parameter has a bit where none is bound",
+    ),
+    (
+        &[(56, 1), (64, 1)],
+        "refused: binary statement 2 at byte 56: K8 binder\n",
+        "the first of two wrong parameters",
+    ),
+    (
+        &[(64, 1), (79, 0x80)],
+        "refused: binary statement 2 at byte 64: K8 binder\n",
+        "parameters before the result",
+    ),
+    (
+        &[(63, 1)],
+        "refused: binary statement 2 at byte 56: K8 binder\n",
+        "a parameter of a sort that is not there",
+    ),
+    (&[(56, 1), (63, 0x80)], "good: 1 1 0\n", "a bound parameter"),
+    (
+        &[(63, 0x80)],
+        "refused: binary statement 2 at byte 56: K8 binder\n",
+        "a bound parameter without its bit",
+    ),
+    (
+        &[(56, 2), (63, 0x80)],
+        "refused: binary statement 2 at byte 56: K8 binder\n",
+        "a bound parameter with the bit of the next",
+    ),
+    (
+        &[(56, 3), (63, 0x80)],
+        "refused: binary statement 2 at byte 56: K8 binder\n",
+        "a bound parameter with a bit more",
+    ),
+    (
+        &[(56, 1), (63, 0x81)],
+        "refused: binary statement 2 at byte 56: K8 binder\n",
+        "a bound parameter of a sort that is not there",
+    ),
+    (
+        &[(40, 6), (56, 1), (63, 0x80)],
+        "refused: binary statement 2 at byte 56: K8 binder\n",
+        "a bound parameter of a strict sort",
+    ),
+    (
+        &[(40, 6)],
+        "good: 1 1 0\n",
+        "regular parameters of a strict sort",
+    ),
+    (
+        &[(56, 1), (63, 0x80), (64, 1)],
+        "good: 1 1 0\n",
+        "a regular parameter that depends on the bound one before it",
+    ),
+    (
+        &[(56, 1), (63, 0x80), (64, 2)],
+        "refused: binary statement 2 at byte 64: K8 binder\n",
+        "a regular parameter that depends on itself",
+    ),
+    (
+        &[(64, 1), (71, 0x80)],
+        "good: 1 1 0\n",
+        "the first bound parameter is the second one",
+    ),
+    (
+        &[(56, 1), (64, 1), (71, 0x80)],
+        "refused: binary statement 2 at byte 56: K8 binder\n",
+        "a regular parameter that depends on a later one",
+    ),
+    (
+        &[(56, 1), (63, 0x80), (64, 2), (71, 0x80)],
+        "good: 1 1 0\n",
+        "two bound parameters",
+    ),
+    (
+        &[(56, 1), (63, 0x80), (64, 1), (71, 0x80)],
+        "refused: binary statement 2 at byte 64: K8 binder\n",
+        "a bound parameter with another's bit",
+    ),
+    (
+        &[(62, 0x80)],
+        "refused: binary statement 2 at byte 56: K8 binder\n",
+        "the highest of the 56 bits",
+    ),
+    (
+        &[(40, 5)],
+        "refused: binary statement 2 at byte 72: K9 result\n",
+        "a pure result",
+    ),
+    (
+        &[(72, 1)],
+        "refused: binary statement 2 at byte 72: K9 result\n",
+        "a result that depends on a regular parameter",
+    ),
+    (
+        &[(56, 1), (63, 0x80), (72, 1)],
+        "good: 1 1 0\n",
+        "a result that depends on a bound parameter",
+    ),
+    (
+        &[(56, 1), (63, 0x80), (72, 2)],
+        "refused: binary statement 2 at byte 72: K9 result\n",
+        "a result that depends on a regular parameter after a bound one",
+    ),
+    (
+        &[(79, 1)],
+        "refused: binary statement 2 at byte 72: K9 result\n",
+        "a result word of another sort than the record",
+    ),
+    (
+        &[(50, 1)],
+        "refused: binary statement 2 at byte 72: K9 result\n",
+        "a record of another sort than its result word",
+    ),
+    (
+        &[(50, 1), (79, 1)],
+        "refused: binary statement 2 at byte 72: K9 result\n",
+        "a result of a sort that is not there",
+    ),
+    (
+        &[(51, 0xFF)],
+        "good: 1 1 0\n",
+        "a reserved byte isn't looked at",
+    ),
+    (
+        &[(50, 0x80)],
+        "refused: binary statement 2 at byte 82: K5 statement kind\n",
+        "a definition",
+    ),
+    (
+        &[(50, 0x80), (56, 1), (79, 0x80)],
+        "refused: binary statement 2 at byte 82: K5 statement kind\n",
+        "a definition, before its words",
+    ),
+    (
+        &[(50, 0x80), (83, 1)],
+        "refused: binary statement 2 at byte 82: K4 statement length\n",
+        "the distance, before the row",
+    ),
+    (
+        &[(56, 1), (83, 1)],
+        "refused: binary statement 2 at byte 82: K4 statement length\n",
+        "the distance, before the words",
+    ),
+    (
+        &[(82, 0x4D)],
+        "refused: binary statement 2 at byte 82: K5 statement kind\n",
+        "a local term",
+    ),
+    (
+        &[(50, 0x80), (82, 0x4D)],
+        "refused: binary statement 2 at byte 82: K5 statement kind\n",
+        "a local definition",
+    ),
+    (
+        &[(80, 0x45), (82, 0x44)],
+        "refused: binary statement 1 at byte 56: K8 binder\n",
+        "a parameter of a sort that is declared later",
+    ),
+    (
+        &[(48, 0), (80, 0x45), (82, 0x44)],
+        "refused: binary statement 1 at byte 56: K9 result\n",
+        "a result of a sort that is declared later",
+    ),
+];
+
+fn with_bytes(alloc: Global, bytes: &[(usize, u8)]) -> Result<Vec<u8>, Mem> {
+    let mut file = TERM.to_vec(alloc)?;
+    for (at, byte) in bytes {
+        if let Some(place) = file.get_mut(*at) {
+            *place = *byte;
+        }
+    }
+    Ok(file)
+}
+
+#[test]
+fn words_of_a_term(rt: HostRuntime) -> Result<(), Fail> {
+    for (bytes, line, what) in TERM_BYTES {
+        let file = with_bytes(rt.alloc(), bytes)?;
+        assert!(rt; file.len() < 100);
+        let found = line_of(rt.alloc(), &file)?;
+        assert_eq!(rt; found.as_slice(), line.as_bytes(), "{what}");
+    }
+    Ok(())
+}
+
+/// The list of that file, from 80 on, in place of `44 02 45 02 00`.
+const TERM_LISTS: [(&[u8], &str, &str); 11] = [
+    (
+        &[0x44, 2, 0x45, 3, 0, 0],
+        "good: 1 1 0\n",
+        "a body of one END",
+    ),
+    (
+        &[0x44, 2, 0x85, 3, 0, 0],
+        "good: 1 1 0\n",
+        "an operand of two bytes",
+    ),
+    (
+        &[0x44, 2, 0x45, 3, 1, 0],
+        "refused: binary statement 2 at byte 82: K4 statement length\n",
+        "a body of another byte",
+    ),
+    (
+        &[0x44, 2, 0x45, 4, 0, 0, 0],
+        "refused: binary statement 2 at byte 82: K4 statement length\n",
+        "a body of two bytes",
+    ),
+    (
+        &[0x44, 2, 0x45],
+        "refused: binary statement 2 at byte 82: K3 command\n",
+        "a cut command",
+    ),
+    (
+        &[0x44, 2, 0x45, 9, 0],
+        "refused: binary statement 2 at byte 82: K4 statement length\n",
+        "a distance past the end",
+    ),
+    (
+        &[0x44, 2, 0x45, 2],
+        "refused: binary statement 3 at byte 84: K3 command\n",
+        "a list without its end",
+    ),
+    (
+        &[0x44, 2, 0x45, 2, 0x45, 2, 0],
+        "refused: binary statement 3 at byte 84: K6 no row\n",
+        "no row left",
+    ),
+    (
+        &[0x44, 2, 0],
+        "refused: binary statement 2 at byte 82: K7 rows left\n",
+        "a row left",
+    ),
+    (
+        &[0x44, 2, 0x46, 2, 0],
+        "refused: binary statement 2 at byte 82: K5 statement kind\n",
+        "a theorem",
+    ),
+    (
+        &[0x45, 2, 0],
+        "refused: binary statement 1 at byte 56: K8 binder\n",
+        "a parameter of a sort that is never declared",
+    ),
+];
+
+#[test]
+fn lists_of_a_sort_and_a_term(rt: HostRuntime) -> Result<(), Fail> {
+    for (list, line, what) in TERM_LISTS {
+        let file = with(rt.alloc(), &TERM, 80, list)?;
+        assert!(rt; file.len() < 100);
+        let found = line_of(rt.alloc(), &file)?;
+        assert_eq!(rt; found.as_slice(), line.as_bytes(), "{what}");
+    }
+    Ok(())
+}
+
+/// A term of bound parameters, and of a regular one whose word has these bits: the words from 56 on,
+/// and then the list.
+fn many_bound(alloc: Global, bound: u8, bits: u64) -> Result<Vec<u8>, Mem> {
+    let words = u16::from(bound) + 2;
+    let mut file = TERM[..24].to_vec(alloc)?;
+    file.extend_from_slice(&(u32::from(words) * 8 + 56).to_le_bytes())?;
+    file.extend_from_slice(&TERM[28..48])?;
+    file.extend_from_slice(&(words - 1).to_le_bytes())?;
+    file.extend_from_slice(&TERM[50..56])?;
+    for k in 0..bound {
+        let word = 1u64 << 63 | 1u64 << (k % 64);
+        file.extend_from_slice(&word.to_le_bytes())?;
+    }
+    file.extend_from_slice(&bits.to_le_bytes())?;
+    file.extend_from_slice(&[0; 8])?;
+    file.extend_from_slice(&TERM[80..])?;
+    Ok(file)
+}
+
+#[test]
+fn bound_parameters(rt: HostRuntime) -> Result<(), Fail> {
+    let rows: [(u8, u64, &str, &str); 5] = [
+        (55, 0, "good: 1 1 0\n", "55 bound parameters"),
+        (
+            55,
+            0x007F_FFFF_FFFF_FFFF,
+            "good: 1 1 0\n",
+            "one that depends on all of them",
+        ),
+        (
+            55,
+            0x0080_0000_0000_0000,
+            "refused: binary statement 2 at byte 496: K8 binder\n",
+            "one that depends on a 56th",
+        ),
+        (
+            56,
+            0,
+            "refused: binary statement 2 at byte 496: K8 binder\n",
+            "56 bound parameters",
+        ),
+        (
+            57,
+            1,
+            "refused: binary statement 2 at byte 496: K8 binder\n",
+            "the first of what is too many",
+        ),
+    ];
+    for (bound, bits, line, what) in rows {
+        let file = many_bound(rt.alloc(), bound, bits)?;
+        assert!(rt; file.len() < 1000);
+        let found = line_of(rt.alloc(), &file)?;
         assert_eq!(rt; found.as_slice(), line.as_bytes(), "{what}");
     }
     Ok(())

@@ -1,5 +1,5 @@
 -- Whether a file has a layout can be found out.
-use Rattle.std.proofs.Common.{◌≡◌, ◌⊎◌, ◌<◌, ◌≤◌, ◌+◌, ◌*◌, ℕ, List, length, take, codes}
+use Rattle.std.proofs.Common.{◌⊎◌, ◌+◌, ◌*◌, ℕ, List, length, take, codes}
 use Rattle.std.specs.List.{range_with_len}
 use Rattle.std.proofs.lemmas.Bool.{cases_eq}
 use Rattle.mz_checks.specs.Checks.{AreDecided, each_in_order, ◌>>◌}

@@ -1,10 +1,9 @@
 -- The tables as lists of their rows.
-use Rattle.std.proofs.Common.{◌≡◌, ◌<◌, ◌≤◌, ◌+◌, ℕ, zero, suc, List, length, map, get_or, slice_get, Some, refl, ap, ◌∙◌, sym, arith}
+use Rattle.std.proofs.Common.{◌≡◌, ◌<◌, ◌+◌, ℕ, zero, suc, List, length, map, slice_get, Some, ap, ◌∙◌, arith}
 use Rattle.std.specs.List.{range_with_len}
 use Rattle.std.proofs.lemmas.List.FromFn.{length-map-range_with_len, get_or-map-range_with_len}
-use Rattle.mz_logic.specs.declared.word.Word.{Word}
-use Rattle.mz_logic.specs.Words.{TermWords, term_at}
-use Rattle.mz_layout.specs.Tables.{mods_of, tables_of, term_words, term_row, term_record, thm_row, thm_record, params_of, param_count, word_at, sort_count, term_count, thm_count}
+use Rattle.mz_logic.specs.Words.{term_at}
+use Rattle.mz_layout.specs.Tables.{mods_of, tables_of, term_words, term_row, params_of, param_count, word_at, sort_count, term_count}
 
 slice_get-from : {A : Type 0} → (f : ℕ → A) (from n i : ℕ) → i < n → slice_get (map f (range_with_len from n)) i ≡ Some (f (from + i))
 slice_get-from f from zero i below = absurd (omega arith)
@@ -33,5 +32,8 @@ slice_get-params file at i below = slice_get-rows (word_at file at) (param_count
 
 pub slice_get-sorts : (file : List ℕ) (s : ℕ) → s < sort_count file → slice_get (tables_of file).sorts s ≡ Some (mods_of file s)
 slice_get-sorts file s below = slice_get-rows (mods_of file) (sort_count file) s below
+
+pub slice_get-terms : (file : List ℕ) (t : ℕ) → t < term_count file → slice_get (tables_of file).terms t ≡ Some (term_row file t)
+slice_get-terms file t below = slice_get-rows (term_row file) (term_count file) t below
 
 pub ruleset row_facts = (length-sorts, length-term_words, term_at-words, length-params, slice_get-params, slice_get-sorts)

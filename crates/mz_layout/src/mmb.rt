@@ -156,6 +156,7 @@ impl<'a> Mmb<'a> {
 #[tactic(auto, using(crate::proofs::TableLists::row_facts))]
 impl<'a> Terms for Mmb<'a> {
     ghost use Rattle.mz_layout.specs.Tables.{tables_of, term_words, mods_of, sort_count};
+    ghost use Rattle.mz_logic.specs.Words.{term_at};
 
     ghost all_sorts = { λ file. (tables_of file).sorts };
 
@@ -183,20 +184,37 @@ impl<'a> Terms for Mmb<'a> {
         u32_at(self.file, 8)
     }
 
-    fn arity(&self, t: u32) -> u32 {
+    fn arity(&self, t: u32) -> u32
+        requires { t < length (term_words self.now) }
+        ensures all { result ≡ length (term_at (term_words self.now) t).params }
+        ensures row { result ≡ length (term_row self.now t).words.params }
+    {
         rows::arity(self.file, self.term_record(t))
     }
 
-    fn param(&self, t: u32, i: u32) -> Word {
+    fn param(&self, t: u32, i: u32) -> Word
+        requires term { t < length (term_words self.now) }
+        requires place { i < length (term_at (term_words self.now) t).params }
+        ensures all { slice_get (term_at (term_words self.now) t).params i ≡ Some result }
+        ensures row { slice_get (term_row self.now t).words.params i ≡ Some result }
+    {
         rows::word(self.file, self.term_record(t), 1, i)
     }
 
-    fn result(&self, t: u32) -> Word {
+    fn result(&self, t: u32) -> Word
+        requires { t < length (term_words self.now) }
+        ensures all { result ≡ (term_at (term_words self.now) t).result }
+        ensures row { result ≡ (term_row self.now t).words.result }
+    {
         let row = self.term_record(t);
         rows::word(self.file, row, 1, rows::arity(self.file, row))
     }
 
-    fn has_body(&self, t: u32) -> bool {
+    fn has_body(&self, t: u32) -> bool
+        requires { t < length (term_words self.now) }
+        ensures all { result ≡ (term_at (term_words self.now) t).has_body }
+        ensures row { result ≡ (term_row self.now t).words.has_body }
+    {
         self.file[self.term_record(t) as usize + 2] / 128 == 1
     }
 }

@@ -1,5 +1,6 @@
 pub mod Lists
-pub mod SortPairs
+pub mod RowPairs
+pub mod Spelled
 pub mod OneVerdict
 pub mod Pairing
 pub mod SomeVerdict

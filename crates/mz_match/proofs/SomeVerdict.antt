@@ -1,11 +1,14 @@
 -- Two files are accepted or have a first refusal.
-use Rattle.std.proofs.Common.{◌≡◌, ◌⊎◌, ◌+◌, ◌∙◌, ℕ, Bool, true, false, List, [], ◌∷◌, ◌++◌, length, refl, sym, ap, subst, inl, inr, append_assoc}
+use Rattle.std.proofs.Common.{◌≡◌, ◌⊎◌, ◌+◌, ◌∙◌, ℕ, Bool, true, false, List, [], ◌∷◌, ◌++◌, length, refl, sym, ap, ap₂, subst, inl, inr, append_assoc}
 use Rattle.std.specs.Prelude.{◌==◌, if◌then◌else◌}
 use Rattle.std.proofs.lemmas.Bool.{cases_eq}
 use Rattle.mz_checks.specs.Checks.{AreDecided}
 use Rattle.mz_checks.proofs.CheckLaws.{all_hold-or_fails}
+use Rattle.mz_checks.proofs.InOrder.{bytes-decided}
 use Rattle.mz_cmd.specs.declared.rule.Refusal.{Refusal}
-use Rattle.mz_logic.specs.Declaration.{Declaration, sort_decl, term_decl, assertion_decl}
+use Rattle.mz_logic.specs.Declaration.{Declaration, sort_decl, term_decl, assertion_decl, Form, plain_form, abstract_form, defined}
+use Rattle.mz_logic.specs.declared.binder.Binder.{Binder}
+use Rattle.mz_logic.specs.declared.binder.ResultType.{ResultType}
 use Rattle.mz_logic.specs.declared.binder.SortMods.{SortMods}
 use Rattle.mz_logic.specs.LegalLists.{Statement}
 use Rattle.mz_layout.specs.Layout.{Layout}
@@ -25,7 +28,7 @@ use Rattle.mz_match.specs.declared.rule.M.TheVariants as rules
 use Rattle.mz_match.specs.declared.verdict.Counts.{Counts}
 use Rattle.mz_match.specs.declared.verdict.Verdict.{Verdict}
 use Rattle.mz_match.specs.declared.verdict.Verdict.TheVariants as verdicts
-use Rattle.mz_match.specs.Match.{publics, number_of, kind_of, part_checks, Agrees, Leaves, partner_checks}
+use Rattle.mz_match.specs.Match.{publics, number_of, kind_of, form_checks, part_checks, Agrees, Leaves, partner_checks}
 use Rattle.mz_match.specs.Verdict.{counts_of, AcceptsWith, MatchFails, FirstRefusal}
 use Rattle.mz_match.proofs.Lists.{append-nil, leaves-nothing, leaves-local, leaves-public, partner-there}
 
@@ -53,12 +56,53 @@ mods-decided m n = elim (cases_eq m.0 n.0) [
   | inr differ ↦ inr (λ same. differ (ap (λ (x : SortMods). x.0) same))
 ]
 
+list-decided : {A : Type 0} → ((x y : A) → (x ≡ y) ⊎ (x ≡ y → ⊥)) → (xs ys : List A) → (xs ≡ ys) ⊎ (xs ≡ ys → ⊥)
+list-decided one [] [] = inl refl
+list-decided one [] (y ∷ ys) = inr (λ e. cc)
+list-decided one (x ∷ xs) [] = inr (λ e. cc)
+list-decided one (x ∷ xs) (y ∷ ys) = go (one x y) (list-decided one xs ys)
+  where
+    go : (x ≡ y) ⊎ (x ≡ y → ⊥) → (xs ≡ ys) ⊎ (xs ≡ ys → ⊥) → (x ∷ xs ≡ y ∷ ys) ⊎ (x ∷ xs ≡ y ∷ ys → ⊥)
+    go (inl a) (inl b) = inl (ap₂ ◌∷◌ a b)
+    go (inr out) rest = inr (λ e. out (let heads : x ≡ y = cc in heads))
+    go (inl a) (inr out) = inr (λ e. out (let tails : xs ≡ ys = cc in tails))
+
+bool-same : (b c : Bool) → (b ≡ c) ⊎ (b ≡ c → ⊥)
+bool-same true true = inl refl
+bool-same true false = inr (λ e. cc)
+bool-same false true = inr (λ e. cc)
+bool-same false false = inl refl
+
+binder-decided : (b c : Binder) → (b ≡ c) ⊎ (b ≡ c → ⊥)
+binder-decided b c = go (cases_eq b.sort c.sort) (bool-same b.bound c.bound) (bytes-decided b.deps c.deps)
+  where
+    go : (b.sort ≡ c.sort) ⊎ (b.sort ≡ c.sort → ⊥) → (b.bound ≡ c.bound) ⊎ (b.bound ≡ c.bound → ⊥) → (b.deps ≡ c.deps) ⊎ (b.deps ≡ c.deps → ⊥) → (b ≡ c) ⊎ (b ≡ c → ⊥)
+    go (inl s) (inl t) (inl u) =
+        inl (ap (λ x. record { sort = x; bound = b.bound; deps = b.deps }) s ∙ ap (λ x. record { sort = c.sort; bound = x; deps = b.deps }) t ∙ ap (λ x. record { sort = c.sort; bound = c.bound; deps = x }) u)
+    go (inr out) t u = inr (λ e. out (ap (λ (x : Binder). x.sort) e))
+    go (inl s) (inr out) u = inr (λ e. out (ap (λ (x : Binder). x.bound) e))
+    go (inl s) (inl t) (inr out) = inr (λ e. out (ap (λ (x : Binder). x.deps) e))
+
+result-decided : (r t : ResultType) → (r ≡ t) ⊎ (r ≡ t → ⊥)
+result-decided r t = go (cases_eq r.sort t.sort) (bytes-decided r.deps t.deps)
+  where
+    go : (r.sort ≡ t.sort) ⊎ (r.sort ≡ t.sort → ⊥) → (r.deps ≡ t.deps) ⊎ (r.deps ≡ t.deps → ⊥) → (r ≡ t) ⊎ (r ≡ t → ⊥)
+    go (inl s) (inl u) = inl (ap (λ x. record { sort = x; deps = r.deps }) s ∙ ap (λ x. record { sort = t.sort; deps = x }) u)
+    go (inr out) u = inr (λ e. out (ap (λ (x : ResultType). x.sort) e))
+    go (inl s) (inr out) = inr (λ e. out (ap (λ (x : ResultType). x.deps) e))
+
+form-decided : (f : Form) → AreDecided (form_checks f)
+form-decided plain_form = tt
+form-decided abstract_form = tt
+form-decided (defined dummies body) = (inr (λ h. h), λ _. tt)
+
 part-decided : (d p : Declaration) → AreDecided (part_checks d p)
 part-decided (sort_decl m) (sort_decl n) = (mods-decided m n, λ _. tt)
 part-decided (sort_decl m) (term_decl e) = tt
 part-decided (sort_decl m) (assertion_decl b) = tt
 part-decided (term_decl d) (sort_decl n) = tt
-part-decided (term_decl d) (term_decl e) = (inr (λ h. h), λ _. tt)
+part-decided (term_decl d) (term_decl e) =
+    (list-decided binder-decided d.signature.params e.signature.params, λ _. (result-decided d.signature.result e.signature.result, λ _. form-decided d.form))
 part-decided (term_decl d) (assertion_decl b) = tt
 part-decided (assertion_decl a) (sort_decl n) = tt
 part-decided (assertion_decl a) (term_decl e) = tt

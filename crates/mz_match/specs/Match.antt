@@ -3,6 +3,7 @@ use Rattle.std.specs.Prelude.{◌≡◌, ◌+◌, ◌++◌, ⊤, ℕ, List, [], 
 use Rattle.mz_checks.specs.Checks.{Checks, nothing, demand, ◌>>◌, AllHold}
 use Rattle.mz_logic.specs.Declaration.{Declaration, sort_decl, term_decl, assertion_decl, Form, plain_form, abstract_form, defined, terms}
 use Rattle.mz_logic.specs.LegalLists.{Statement}
+use Rattle.mz_logic.specs.Signature.{Signature}
 use Rattle.mz_match.specs.declared.kind.Kind.{Kind}
 use Rattle.mz_match.specs.declared.kind.Kind.TheVariants as kinds
 use Rattle.mz_match.specs.declared.rule.M.{M}
@@ -48,14 +49,24 @@ number_of kinds.Theorem = 4
 abbrev pub is_kind : Kind → Kind → Bool
 is_kind k l = number_of k == number_of l
 
--- what is asked of two declarations of one kind; no binary has others than sorts yet, so the rest
--- agrees with nothing
+-- two terms have the same parameters, in number, sorts, boundness and dependencies, and the same result
+abbrev pub signature_checks : Signature → Signature → Checks M
+signature_checks d e = demand rules.Binders (d.params ≡ e.params) >> demand rules.Result (d.result ≡ e.result)
+
+-- no binary has definitions yet, so one with a body agrees with nothing
+abbrev pub form_checks : Form → Checks M
+form_checks plain_form = nothing
+form_checks abstract_form = nothing
+form_checks (defined _ _) = demand rules.Body ⊥
+
+-- what is asked of two declarations of one kind; no binary has axioms and theorems yet, so these agree
+-- with nothing
 abbrev pub part_checks : Declaration → Declaration → Checks M
 part_checks (sort_decl m) (sort_decl n) = demand rules.Modifiers (m ≡ n)
 part_checks (sort_decl m) (term_decl e) = nothing
 part_checks (sort_decl m) (assertion_decl b) = nothing
 part_checks (term_decl d) (sort_decl n) = nothing
-part_checks (term_decl d) (term_decl e) = demand rules.Binders ⊥
+part_checks (term_decl d) (term_decl e) = signature_checks d.signature e.signature >> form_checks d.form
 part_checks (term_decl d) (assertion_decl b) = nothing
 part_checks (assertion_decl a) (sort_decl n) = nothing
 part_checks (assertion_decl a) (term_decl e) = nothing

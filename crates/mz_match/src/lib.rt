@@ -13,6 +13,7 @@ mod matching;
 mod pair;
 mod publics;
 mod rule;
+mod signature;
 #[cfg(test)]
 mod tests;
 mod verdict;

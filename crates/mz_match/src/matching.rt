@@ -11,7 +11,7 @@ ghost use Rattle.mz_match.specs.Told.{IsMatched, IsMatchedMore, IsNextTold};
 ghost use Rattle.mz_match.specs.Verdict.{IsVerdict, counts_of};
 
 use crate::count::count_all;
-use crate::pair::match_statement;
+use crate::pair::{TERM, match_statement};
 use crate::publics::Publics;
 use crate::rule::M;
 use crate::verdict::Verdict;
@@ -19,9 +19,6 @@ use mz_binary::Statement;
 use mz_layout::Mmb;
 use mz_spec::Spec;
 use std::alloc::Global;
-
-/// The code of a term's or definition's statement.
-const TERM: u8 = 0x05;
 
 /// How many declarations have their partner, how many statements have passed, and the public terms
 /// among them.

@@ -1,7 +1,13 @@
 pub mod Words
+pub mod Adding
+pub mod Leading
 pub mod Grammar
-pub mod Numbers
 pub mod Reading
-pub mod Texts
 pub mod OneSpec
+pub mod Texts
+pub mod Decided
 pub mod SomeSpec
+pub mod Loops
+pub mod Numbers
+pub mod Legal
+pub mod Kept

@@ -1,45 +1,63 @@
--- The numbers of names.
-use Rattle.std.proofs.Common.{◌≡◌, ◌<◌, ◌≤◌, ◌+◌, ◌∙◌, ℕ, suc, List, length, true, false, Option, Some, None, ap, sym, refl, arith, map, drop, get_or, drop-cons}
-use Rattle.std.proofs.lemmas.List.{drop_all}
-use Rattle.std.specs.Prelude.{option_map, if◌then◌else◌, bytes_eq}
-use Rattle.mz_spec.specs.Names.{number_of}
+-- The numbers of names in a set that keeps their order.
+use Rattle.std.proofs.Common.{◌≡◌, ◌∙◌, ◌+◌, ℕ, suc, List, [], ◌∷◌, map, Bool, true, false, Option, Some, None, ap, sym, refl, arith}
+use Rattle.std.specs.Prelude.{option_map, if◌then◌else◌, bytes_eq, ◌||◌}
+use Rattle.std.specs.List.{list_any, position, position_from}
+use Rattle.std.proofs.lemmas.Iterator.Adapters.{position_from-zero}
+use Rattle.std.specs.Bool.{Decides}
+use Rattle.std.proofs.lemmas.Slice.Eq.{bytes_eq-Decides}
+use Rattle.mz_spec.specs.Names.{number_of, IsNew}
+
+bytes-turned : (a b : List ℕ) → bytes_eq a b ≡ bytes_eq b a
+bytes-turned a b = go (bytes_eq a b) (bytes_eq b a) (bytes_eq-Decides a b) (bytes_eq-Decides b a)
+  where
+    go : (x y : Bool) → Decides x (a ≡ b) → Decides y (b ≡ a) → x ≡ y
+    go true y d e = sym (e.1 (sym (d.0 refl)))
+    go false true d e = d.1 (sym (e.0 refl))
+    go false false d e = refl
 
 -- a number counted from a place
-abbrev pub from_place : ℕ → Option ℕ → Option ℕ
+from_place : ℕ → Option ℕ → Option ℕ
 from_place i None = None
 from_place i (Some k) = Some (i + k)
 
-pub from_place-suc : (i : ℕ) (o : Option ℕ) → from_place i (option_map suc o) ≡ from_place (i + 1) o
+from_place-suc : (i : ℕ) (o : Option ℕ) → from_place i (option_map suc o) ≡ from_place (i + 1) o
+unfolding from_place
 from_place-suc i None = refl
 from_place-suc i (Some k) = let e : i + suc k ≡ i + 1 + k = omega arith in ap Some e
 
-pub from_place-zero : (o : Option ℕ) → from_place 0 o ≡ o
+from_place-zero : (o : Option ℕ) → from_place 0 o ≡ o
+unfolding from_place
 from_place-zero None = refl
 from_place-zero (Some k) = let e : 0 + k ≡ k = omega arith in ap Some e
 
-module _ {X : Type 0} (f : X → List ℕ) (w : List ℕ) where
-  from_element : (xs : List X) (i : ℕ) (d : X) → i < length xs
-      → number_of (map f (drop i xs)) w ≡ (if bytes_eq (f (get_or xs i d)) w then Some 0 else option_map suc (number_of (map f (drop (i + 1) xs)) w))
-  from_element xs i d within =
-      let on : suc i ≡ i + 1 = omega arith in
-      ap (λ ys. number_of (map f ys) w) (drop-cons xs i d within) ∙ ap (λ n. if bytes_eq (f (get_or xs i d)) w then Some 0 else option_map suc (number_of (map f (drop n xs)) w)) on
+module _ {K : Type 0} (f : K → List ℕ) (w : List ℕ) (p : K → Bool) (tests : (k : K) → p k ≡ bytes_eq w (f k)) where
+  turned : (k : K) → p k ≡ bytes_eq (f k) w
+  turned k = tests k ∙ bytes-turned w (f k)
 
-  -- the search so far: the number is counted from the place
-  abbrev pub IsAt : List X → ℕ → Type 0
-  IsAt xs i = number_of (map f xs) w ≡ from_place i (number_of (map f (drop i xs)) w)
+  from : (i : ℕ) (ks : List K) → position_from p i ks ≡ from_place i (number_of (map f ks) w)
+  unfolding from_place
+  from i [] = refl
+  from i (k ∷ ks) = go (p k) (bytes_eq (f k) w) (turned k) (from (i + 1) ks)
+    where
+      go : (b c : Bool) → b ≡ c → position_from p (i + 1) ks ≡ from_place (i + 1) (number_of (map f ks) w)
+          → (if b then Some i else position_from p (i + 1) ks) ≡ from_place i (if c then Some 0 else option_map suc (number_of (map f ks) w))
+      go true true e rest = let same : i ≡ i + 0 = omega arith in ap Some same
+      go true false e rest = absurd cc
+      go false true e rest = absurd cc
+      go false false e rest = rest ∙ sym (from_place-suc i (number_of (map f ks) w))
 
-  pub search-begins : (xs : List X) → IsAt xs 0
-  search-begins xs = sym (from_place-zero (number_of (map f xs) w))
+  -- the first place is the number
+  pub number-is : (ks : List K) → position p ks ≡ number_of (map f ks) w
+  number-is ks = position_from-zero p ks ∙ from 0 ks ∙ from_place-zero (number_of (map f ks) w)
 
-  pub search-finds : (xs : List X) (i : ℕ) (d : X) → IsAt xs i → i < length xs → bytes_eq (f (get_or xs i d)) w ≡ true → number_of (map f xs) w ≡ Some i
-  search-finds xs i d here within is =
-      let e : i + 0 ≡ i = omega arith in
-      here ∙ ap (from_place i) (from_element xs i d within ∙ ap (λ b. if b then Some 0 else option_map suc (number_of (map f (drop (i + 1) xs)) w)) is) ∙ ap Some e
-
-  pub search-goes_on : (xs : List X) (i : ℕ) (d : X) → IsAt xs i → i < length xs → bytes_eq (f (get_or xs i d)) w ≡ false → IsAt xs (i + 1)
-  search-goes_on xs i d here within is =
-      here ∙ ap (from_place i) (from_element xs i d within ∙ ap (λ b. if b then Some 0 else option_map suc (number_of (map f (drop (i + 1) xs)) w)) is)
-      ∙ from_place-suc i (number_of (map f (drop (i + 1) xs)) w)
-
-  pub search-ends : (xs : List X) (i : ℕ) → IsAt xs i → length xs ≤ i → number_of (map f xs) w ≡ None
-  search-ends xs i here past = here ∙ ap (λ ys. from_place i (number_of (map f ys) w)) (drop_all i xs past)
+  -- a new name passes no test
+  pub new-none : (ks : List K) → IsNew (map f ks) w → list_any p ks ≡ false
+  new-none [] none = refl
+  new-none (k ∷ ks) none = go (p k) (bytes_eq (f k) w) (turned k) (number_of (map f ks) w) none (new-none ks)
+    where
+      go : (b c : Bool) → b ≡ c → (o : Option ℕ) → (if c then Some 0 else option_map suc o) ≡ None → (o ≡ None → list_any p ks ≡ false) → (b || list_any p ks) ≡ false
+      go true true e o is more = absurd cc
+      go true false e o is more = absurd cc
+      go false true e o is more = absurd cc
+      go false false e None is more = more refl
+      go false false e (Some n) is more = absurd cc

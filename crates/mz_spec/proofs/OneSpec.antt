@@ -6,10 +6,10 @@ use Rattle.mz_lex.specs.Lexemes.{Lexeme}
 use Rattle.mz_checks.specs.Checks.{FailsFirst}
 use Rattle.mz_checks.proofs.CheckLaws.{fails_first-unique, all_hold-excludes}
 use Rattle.mz_spec.specs.declared.refusal.Fault.{Fault}
-use Rattle.mz_spec.specs.Statement.{Statement, sort_statement, Spells, IsStatement, IsPrefix}
-use Rattle.mz_spec.specs.State.{State, with_sort}
+use Rattle.mz_spec.specs.Statement.{Statement, Spells, IsStatement, IsPrefix}
+use Rattle.mz_spec.specs.State.{State}
 use Rattle.mz_spec.specs.Rules.{statement_checks}
-use Rattle.mz_spec.specs.Spec.{Stand, Stops, StopsBy, Breaks, After, IsGood, place_of_first}
+use Rattle.mz_spec.specs.Spec.{Stand, Stops, StopsBy, Breaks, after, IsGood, place_of_first}
 use Rattle.mz_spec.proofs.Grammar.{statements-one, no-empty}
 
 -- ---- lists
@@ -102,8 +102,9 @@ good-breaks σ ls front back s f is spells good (r, other, left, is_r, spells_r,
     all_hold-excludes (statement_checks σ (place_of_first front) s) f good
     (subst (λ x. FailsFirst (statement_checks σ (place_of_first front) x) f) (sym same.0) (subst (λ xs. FailsFirst (statement_checks σ (place_of_first xs) r) f) (sym same.1) fails))
 
-after-one : (σ τ ρ : State) (place : ℕ) (s : Statement) → After σ place s τ → After σ place s ρ → τ ≡ ρ
-after-one σ τ ρ place (sort_statement m n) (d, is_d, after) (e, is_e, later) = after ∙ ap (with_sort σ place n) (is_d ∙ sym is_e) ∙ sym later
+-- one statement at a place makes one state
+after-one : (σ : State) (s r : Statement) (xs ys : List Lexeme) → s ≡ r → xs ≡ ys → after σ (place_of_first ys) r ≡ after σ (place_of_first xs) s
+after-one σ s r xs ys same places = ap (λ x. after σ (place_of_first ys) x) (sym same) ∙ ap (λ zs. after σ (place_of_first zs) s) (sym places)
 
 -- ---- statement by statement
 
@@ -134,33 +135,33 @@ no-statement s ls front back none is spells = no-empty s (subst (Spells s) (fron
 
 pub stand-one : (σ τ ρ : State) (ss rs : List Statement) (ls : List Lexeme) → Stand σ ss ls τ [] → Stand σ rs ls ρ [] → τ ≡ ρ
 stand-one σ τ ρ [] [] ls (same, _) (too, _) = same ∙ sym too
-stand-one σ τ ρ [] (r ∷ rs) ls (_, none) (front, back, _, is, spells, _, _, _) = absurd (no-statement r ls front back none is spells)
-stand-one σ τ ρ (s ∷ ss) [] ls (front, back, _, is, spells, _, _, _) (_, none) = absurd (no-statement s ls front back none is spells)
-stand-one σ τ ρ (s ∷ ss) (r ∷ rs) ls (front, back, ω, is, spells, good, after, more) (other, left, υ, is_r, spells_r, good_r, after_r, more_r) =
+stand-one σ τ ρ [] (r ∷ rs) ls (_, none) (front, back, is, spells, _, _) = absurd (no-statement r ls front back none is spells)
+stand-one σ τ ρ (s ∷ ss) [] ls (front, back, is, spells, _, _) (_, none) = absurd (no-statement s ls front back none is spells)
+stand-one σ τ ρ (s ∷ ss) (r ∷ rs) ls (front, back, is, spells, good, more) (other, left, is_r, spells_r, good_r, more_r) =
     let same = statements-one s r front back other left spells spells_r (sym is ∙ is_r) in
-    let state : υ ≡ ω = after-one σ υ ω (place_of_first front) s (subst (λ x. After σ (place_of_first front) x υ) (sym same.0) (subst (λ xs. After σ (place_of_first xs) r υ) (sym same.1) after_r)) after in
-    stand-one ω τ ρ ss rs back more (subst (λ x. Stand x rs back ρ []) state (subst (λ xs. Stand υ rs xs ρ []) (sym same.2) more_r))
+    stand-one (after σ (place_of_first front) s) τ ρ ss rs back more
+    (subst (λ x. Stand x rs back ρ []) (after-one σ s r front other same.0 same.1) (subst (λ xs. Stand (after σ (place_of_first other) r) rs xs ρ []) (sym same.2) more_r))
 
 pub stand-fault : (n : ℕ) (σ τ ρ : State) (ss rs : List Statement) (ls rest : List Lexeme) (f : Fault) → Stand σ ss ls τ [] → Stand σ rs ls ρ rest → IsThere n None ρ rest f → ⊥
 stand-fault n σ τ ρ [] [] ls rest f (_, none) (_, same) there = end-there n ρ f (subst (λ xs. IsThere n None ρ xs f) (same ∙ sym none) there)
-stand-fault n σ τ ρ [] (r ∷ rs) ls rest f (_, none) (front, back, _, is, spells, _, _, _) there = no-statement r ls front back none is spells
-stand-fault n σ τ ρ (s ∷ ss) [] ls rest f (front, back, _, is, spells, good, _, _) (same, all) there =
+stand-fault n σ τ ρ [] (r ∷ rs) ls rest f (_, none) (front, back, is, spells, _, _) there = no-statement r ls front back none is spells
+stand-fault n σ τ ρ (s ∷ ss) [] ls rest f (front, back, is, spells, good, _) (same, all) there =
     good-there n None σ ls front back s f is spells good (subst (λ xs. IsThere n None σ xs f) all (subst (λ x. IsThere n None x rest f) same there))
-stand-fault n σ τ ρ (s ∷ ss) (r ∷ rs) ls rest f (front, back, ω, is, spells, good, after, more) (other, left, υ, is_r, spells_r, good_r, after_r, more_r) there =
+stand-fault n σ τ ρ (s ∷ ss) (r ∷ rs) ls rest f (front, back, is, spells, good, more) (other, left, is_r, spells_r, good_r, more_r) there =
     let same = statements-one s r front back other left spells spells_r (sym is ∙ is_r) in
-    let state : υ ≡ ω = after-one σ υ ω (place_of_first front) s (subst (λ x. After σ (place_of_first front) x υ) (sym same.0) (subst (λ xs. After σ (place_of_first xs) r υ) (sym same.1) after_r)) after in
-    stand-fault n ω τ ρ ss rs back rest f more (subst (λ x. Stand x rs back ρ rest) state (subst (λ xs. Stand υ rs xs ρ rest) (sym same.2) more_r)) there
+    stand-fault n (after σ (place_of_first front) s) τ ρ ss rs back rest f more
+    (subst (λ x. Stand x rs back ρ rest) (after-one σ s r front other same.0 same.1) (subst (λ xs. Stand (after σ (place_of_first other) r) rs xs ρ rest) (sym same.2) more_r)) there
 
 pub fault-one : (n : ℕ) (e : Option LexFault) (σ τ ρ : State) (ss rs : List Statement) (ls rest left : List Lexeme) (f g : Fault)
     → Stand σ ss ls τ rest → IsThere n e τ rest f → Stand σ rs ls ρ left → IsThere n e ρ left g → (length ss ≡ length rs) × (f ≡ g)
 fault-one n e σ τ ρ [] [] ls rest left f g (same, all) there (too, all_r) there_r =
     (refl, there-one n e σ ls f g (subst (λ xs. IsThere n e σ xs f) all (subst (λ x. IsThere n e x rest f) same there)) (subst (λ xs. IsThere n e σ xs g) all_r (subst (λ x. IsThere n e x left g) too there_r)))
-fault-one n e σ τ ρ [] (r ∷ rs) ls rest left f g (same, all) there (front, back, _, is, spells, good, _, _) there_r =
+fault-one n e σ τ ρ [] (r ∷ rs) ls rest left f g (same, all) there (front, back, is, spells, good, _) there_r =
     absurd (good-there n e σ ls front back r f is spells good (subst (λ xs. IsThere n e σ xs f) all (subst (λ x. IsThere n e x rest f) same there)))
-fault-one n e σ τ ρ (s ∷ ss) [] ls rest left f g (front, back, _, is, spells, good, _, _) there (same, all) there_r =
+fault-one n e σ τ ρ (s ∷ ss) [] ls rest left f g (front, back, is, spells, good, _) there (same, all) there_r =
     absurd (good-there n e σ ls front back s g is spells good (subst (λ xs. IsThere n e σ xs g) all (subst (λ x. IsThere n e x left g) same there_r)))
-fault-one n e σ τ ρ (s ∷ ss) (r ∷ rs) ls rest left f g (front, back, ω, is, spells, good, after, more) there (other, last, υ, is_r, spells_r, good_r, after_r, more_r) there_r =
+fault-one n e σ τ ρ (s ∷ ss) (r ∷ rs) ls rest left f g (front, back, is, spells, good, more) there (other, last, is_r, spells_r, good_r, more_r) there_r =
     let same = statements-one s r front back other last spells spells_r (sym is ∙ is_r) in
-    let state : υ ≡ ω = after-one σ υ ω (place_of_first front) s (subst (λ x. After σ (place_of_first front) x υ) (sym same.0) (subst (λ xs. After σ (place_of_first xs) r υ) (sym same.1) after_r)) after in
-    let found = fault-one n e ω τ ρ ss rs back rest left f g more there (subst (λ x. Stand x rs back ρ left) state (subst (λ xs. Stand υ rs xs ρ left) (sym same.2) more_r)) there_r in
+    let found = fault-one n e (after σ (place_of_first front) s) τ ρ ss rs back rest left f g more there
+    (subst (λ x. Stand x rs back ρ left) (after-one σ s r front other same.0 same.1) (subst (λ xs. Stand (after σ (place_of_first other) r) rs xs ρ left) (sym same.2) more_r)) there_r in
     (ap suc found.0, found.1)

@@ -1,35 +1,39 @@
 -- Each text has a reading or a first fault.
 use Rattle.std.proofs.Common.{◌≡◌, ◌⊎◌, ◌∙◌, ◌++◌, ◌+◌, ◌≤◌, ℕ, zero, suc, List, [], ◌∷◌, length, Option, Some, None, ap, sym, refl, subst, inl, inr, arith, length-append}
 use Rattle.std.specs.Prelude.{⊤}
-use Rattle.std.proofs.lemmas.List.{map-append}
 use Rattle.mz_lex.specs.declared.rule.S.TheVariants as rules
 use Rattle.mz_lex.specs.declared.token.LexFault.{LexFault}
 use Rattle.mz_lex.specs.RuleText.{place_of, rule_of}
 use Rattle.mz_lex.specs.Lexemes.{Lexeme, LexesFrom}
 use Rattle.mz_lex.proofs.Lexing.{one-lexing, some-lexing}
-use Rattle.mz_checks.specs.Checks.{AllHold, FailsFirst, AreDecided}
+use Rattle.mz_checks.specs.Checks.{AllHold, FailsFirst}
 use Rattle.mz_checks.proofs.CheckLaws.{all_hold-or_fails}
-use Rattle.mz_logic.specs.Declaration.{Declaration, sort_decl}
-use Rattle.mz_logic.specs.Legality.{IsLegalEnv, IsLegalDecl}
-use Rattle.mz_logic.proofs.LegalIsRight.{legal_push}
 use Rattle.mz_spec.specs.declared.refusal.Fault.{Fault}
 use Rattle.mz_spec.specs.declared.refusal.SpecRefusal.{SpecRefusal}
-use Rattle.mz_spec.specs.Names.{number_of}
-use Rattle.mz_spec.specs.Statement.{Statement, sort_statement, Spells}
-use Rattle.mz_spec.specs.Progress.{Progress, opening, sort_opened, sort_named, whole, start, next, Leads}
-use Rattle.mz_spec.specs.State.{State, Entry, nothing, env_of, with_sort, entry_at}
+use Rattle.mz_spec.specs.Statement.{Statement, Spells}
+use Rattle.mz_spec.specs.Progress.{Progress, opening, sort_opened, sort_named, term_opened, headed, group_opened, group_named, group_typed, arrow_opened, arrow_typed, whole, start, next, Leads}
+use Rattle.mz_spec.specs.State.{State, Entry, nothing}
 use Rattle.mz_spec.specs.Rules.{statement_checks}
-use Rattle.mz_spec.specs.Spec.{Stand, Stops, SpecMakes, SpecFault, After, IsGood, misfit, place_of_first, sort_bits}
-use Rattle.mz_spec.specs.Laws.{OneStatement, OneReading, OneFault, NotBoth, OneOfBoth, DeclaresLegally}
-use Rattle.mz_spec.proofs.Grammar.{statements-one, leads-prefix, misfit-prefix, open-statement, no-empty, leads-spells, IsOpen}
+use Rattle.mz_spec.specs.Spec.{Stand, Stops, SpecMakes, SpecFault, after, misfit, place_of_first}
+use Rattle.mz_spec.specs.Laws.{OneStatement, OneReading, OneFault, NotBoth, OneOfBoth}
+use Rattle.mz_spec.proofs.Grammar.{statements-one, leads-prefix, misfit-prefix, open-statement, no-empty, IsOpen}
+use Rattle.mz_spec.proofs.Adding.{leads-spells}
+use Rattle.mz_spec.proofs.Decided.{checks-decided}
 use Rattle.mz_spec.proofs.OneSpec.{IsThere, stand-one, stand-fault, fault-one}
 
 -- ---- one statement
 
 whole-or-open : (p : Progress) → IsOpen p ⊎ ((s : Statement) × (whole s ≡ p))
-whole-or-open (opening m) = inl tt
-whole-or-open (sort_opened m) = inl tt
-whole-or-open (sort_named m n) = inl tt
+whole-or-open (opening m) = inl (λ s e. cc)
+whole-or-open (sort_opened m) = inl (λ s e. cc)
+whole-or-open (sort_named m n) = inl (λ s e. cc)
+whole-or-open term_opened = inl (λ s e. cc)
+whole-or-open (headed h) = inl (λ s e. cc)
+whole-or-open (group_opened h b ns) = inl (λ s e. cc)
+whole-or-open (group_named h b ns) = inl (λ s e. cc)
+whole-or-open (group_typed h g) = inl (λ s e. cc)
+whole-or-open (arrow_opened h ts) = inl (λ s e. cc)
+whole-or-open (arrow_typed h ts t) = inl (λ s e. cc)
 whole-or-open (whole s) = inr (s, refl)
 
 -- no lexeme more, or one that doesn't fit
@@ -61,19 +65,6 @@ ends-or-halts p (l ∷ ls) = go (whole-or-open p) (next p l) refl (λ r. ends-or
     go (inl is_open) None e more = inr ([], l ∷ ls, p, refl, refl, is_open, e)
     go (inl is_open) (Some r) e more = further r e (more r)
 
--- ---- the rules are decided
-
-new-decided : (o : Option ℕ) → (o ≡ None) ⊎ (o ≡ None → ⊥)
-new-decided None = inl refl
-new-decided (Some k) = inr (λ e. cc)
-
-checks-decided : (σ : State) (place : ℕ) (s : Statement) → AreDecided (statement_checks σ place s)
-checks-decided σ place (sort_statement m n) = (new-decided (number_of σ.sort_names n.text), λ _. tt)
-
-some-after : (σ : State) (place : ℕ) (s : Statement) → IsGood σ place s → (τ : State) × After σ place s τ
-some-after σ place (sort_statement m n) good =
-    let d : Declaration = sort_decl (record { 0 = sort_bits m }) in (with_sort σ place n d, (d, refl, refl))
-
 -- ---- statement by statement
 
 -- all lexemes are good statements, or there is a fault
@@ -97,16 +88,10 @@ shorter (l ∷ front) back s fuel spells le = omega (arith, length-append front 
 
 after-front : (n : ℕ) (e : Option LexFault) (σ : State) (ls front back : List Lexeme) (s : Statement) → ls ≡ front ++ back → Spells s front
     → AllHold (statement_checks σ (place_of_first front) s) ⊎ ((f : Fault) × FailsFirst (statement_checks σ (place_of_first front) s) f)
-    → ((τ : State) → Outcome n e τ back) → Outcome n e σ ls
+    → Outcome n e (after σ (place_of_first front) s) back → Outcome n e σ ls
 after-front n e σ ls front back s is spells (inr (f, fails)) more = inr ([], σ, ls, f, (refl, refl), inr (s, front, back, is, spells, fails))
-after-front n e σ ls front back s is spells (inl good) more = go (some-after σ (place_of_first front) s good)
-  where
-    join : (ρ : State) → After σ (place_of_first front) s ρ → Outcome n e ρ back → Outcome n e σ ls
-    join ρ after (inl (ss, τ, stand, ends)) = inl (s ∷ ss, τ, (front, back, ρ, is, spells, good, after, stand), ends)
-    join ρ after (inr (ss, τ, rest, f, stand, there)) = inr (s ∷ ss, τ, rest, f, (front, back, ρ, is, spells, good, after, stand), there)
-
-    go : (τ : State) × After σ (place_of_first front) s τ → Outcome n e σ ls
-    go (ρ, after) = join ρ after (more ρ)
+after-front n e σ ls front back s is spells (inl good) (inl (ss, τ, stand, ends)) = inl (s ∷ ss, τ, (front, back, is, spells, good, stand), ends)
+after-front n e σ ls front back s is spells (inl good) (inr (ss, τ, rest, f, stand, there)) = inr (s ∷ ss, τ, rest, f, (front, back, is, spells, good, stand), there)
 
 too-short : (front back : List Lexeme) (s : Statement) → Spells s front → length (front ++ back) ≤ 0 → ⊥
 too-short [] back s spells le = no-empty s spells
@@ -117,7 +102,7 @@ one-step : (n : ℕ) (e : Option LexFault) (σ : State) (ls : List Lexeme)
 one-step n e σ ls more (inl (s, front, back, is, leads)) =
     let spells = leads-spells s front leads in
     after-front n e σ ls front back s is spells (all_hold-or_fails (statement_checks σ (place_of_first front) s) (checks-decided σ (place_of_first front) s))
-    (λ τ. more τ s front back is spells)
+    (more (after σ (place_of_first front) s) s front back is spells)
 one-step n e σ ls more (inr (before, rest, q, is, leads, is_open, misfits)) = go (halt-stops n e ls before rest q is leads is_open misfits)
   where
     go : ((fault : Fault) × Stops n ls e fault) ⊎ ((ls ≡ []) × (e ≡ None)) → Outcome n e σ ls
@@ -167,19 +152,3 @@ one-of-both text = go (some-lexing text 0 (omega arith))
 
     go : (ls : List Lexeme) × (e : Option LexFault) × LexesFrom text 0 ls e → ((entries : List Entry) × SpecMakes text entries) ⊎ ((refusal : SpecRefusal) × SpecFault text refusal)
     go (ls, e, lexes) = by ls e lexes (outcome (length ls) (length text) e nothing ls (omega arith))
-
--- ---- what is declared is legal
-
-after-legal : (σ τ : State) (place : ℕ) (s : Statement) → IsGood σ place s → After σ place s τ → IsLegalEnv (env_of σ.entries) → IsLegalEnv (env_of τ.entries)
-after-legal σ τ place (sort_statement m n) good (d, is_d, after) legal =
-    let decl : IsLegalDecl (env_of σ.entries) d = subst (IsLegalDecl (env_of σ.entries)) (sym is_d) (tt, (tt, (tt, (tt, (tt, (tt, (tt, (tt, tt)))))))) in
-    subst IsLegalEnv (sym (ap (λ x. env_of x.entries) after ∙ map-append (λ x. x.decl) σ.entries (entry_at place n d ∷ []))) (legal_push (env_of σ.entries) d legal decl)
-
-stand-legal : (σ τ : State) (ss : List Statement) (ls rest : List Lexeme) → Stand σ ss ls τ rest → IsLegalEnv (env_of σ.entries) → IsLegalEnv (env_of τ.entries)
-stand-legal σ τ [] ls rest (same, _) legal = subst (λ x. IsLegalEnv (env_of x.entries)) (sym same) legal
-stand-legal σ τ (s ∷ ss) ls rest (front, back, ρ, is, spells, good, after, more) legal =
-    stand-legal ρ τ ss back rest more (after-legal σ ρ (place_of_first front) s good after legal)
-
-pub declares-legally : DeclaresLegally
-declares-legally text ds (entries, (ls, ss, σ, lexes, stand, is), same) =
-    subst IsLegalEnv (sym (same ∙ ap env_of is)) (stand-legal nothing σ ss ls [] stand tt)

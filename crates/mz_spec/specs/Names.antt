@@ -9,3 +9,7 @@ number_of (other ∷ names) name = if bytes_eq other name then Some 0 else optio
 -- it is none of them
 abbrev pub IsNew : List (List ℕ) → List ℕ → Type 0
 IsNew names name = number_of names name ≡ None
+
+-- it is one of them
+abbrev pub IsKnown : List (List ℕ) → List ℕ → Type 0
+IsKnown names name = (n : ℕ) × (number_of names name ≡ Some n)

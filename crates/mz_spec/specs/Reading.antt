@@ -7,15 +7,8 @@ use Rattle.mz_spec.specs.declared.reader.StatementRead.{StatementRead}
 use Rattle.mz_spec.specs.Code.{statement}
 use Rattle.mz_spec.specs.Statement.{Statement, Spells}
 use Rattle.mz_spec.specs.State.{State, nothing}
-use Rattle.mz_spec.specs.Progress.{Progress, opening, sort_opened, sort_named, whole, start, Leads}
+use Rattle.mz_spec.specs.Progress.{Progress, start, Leads}
 use Rattle.mz_spec.specs.Spec.{Stops, Stand, place_of_first}
-
--- how many lexemes there are at least
-abbrev pub least : Progress → ℕ
-least (opening m) = 0
-least (sort_opened m) = 1
-least (sort_named m n) = 2
-least (whole s) = 3
 
 -- the lexemes from a place to another lead there; the first of them begins the statement
 abbrev pub IsReadTo : List ℕ → ℕ → ℕ → Progress → ℕ → Type 0

@@ -1,19 +1,23 @@
 -- Specifications: what a text declares, and the first rule that it breaks.
-use Rattle.std.specs.Prelude.{◌≡◌, ◌⊎◌, ◌+◌, ◌*◌, ◌++◌, ℕ, List, [], ◌∷◌, length, Bool, Option, Some, None, if◌then◌else◌}
+use Rattle.std.specs.Prelude.{◌≡◌, ◌⊎◌, ◌+◌, ◌*◌, ◌++◌, ℕ, List, [], ◌∷◌, length, map, Bool, Option, Some, None, unwrap_or, if◌then◌else◌}
 use Rattle.mz_lex.specs.Lexemes.{Lexeme, LexesFrom, Lexes}
 use Rattle.mz_lex.specs.declared.token.LexFault.{LexFault}
 use Rattle.mz_lex.specs.declared.rule.S.{S}
 use Rattle.mz_lex.specs.declared.rule.S.TheVariants as rules
 use Rattle.mz_lex.specs.RuleText.{rule_of, place_of}
-use Rattle.mz_logic.specs.Declaration.{Declaration, sort_decl}
+use Rattle.mz_logic.specs.Declaration.{Declaration, sort_decl, term_decl, Term, plain_form}
+use Rattle.mz_logic.specs.declared.binder.Binder.{Binder}
+use Rattle.mz_logic.specs.declared.binder.ResultType.{ResultType}
 use Rattle.mz_checks.specs.Checks.{AllHold, FailsFirst}
 use Rattle.mz_spec.specs.declared.refusal.Fault.{Fault}
 use Rattle.mz_spec.specs.declared.refusal.SpecRefusal.{SpecRefusal}
 use Rattle.mz_spec.specs.declared.word.Word.{Word}
 use Rattle.mz_spec.specs.declared.word.Word.TheVariants as words
 use Rattle.mz_spec.specs.Word.{word_of}
-use Rattle.mz_spec.specs.Statement.{Modifiers, Statement, sort_statement, Spells, IsStatement, IsPrefix}
-use Rattle.mz_spec.specs.State.{State, Entry, nothing, env_of, with_sort}
+use Rattle.mz_spec.specs.Names.{number_of}
+use Rattle.mz_spec.specs.Statement.{Modifiers, TypeText, Statement, sort_statement, term_statement, Spells, IsStatement, IsPrefix}
+use Rattle.mz_spec.specs.View.{Variable, view, is_among}
+use Rattle.mz_spec.specs.State.{State, Entry, nothing, env_of, with_sort, with_term}
 use Rattle.mz_spec.specs.Rules.{statement_checks}
 
 -- ---- what a good statement declares
@@ -25,12 +29,32 @@ bit b n = if b then n else 0
 abbrev pub sort_bits : Modifiers → ℕ
 sort_bits m = bit m.is_pure 1 + 2 * bit m.is_strict 1 + 4 * bit m.is_provable 1 + 8 * bit m.is_free 1
 
-abbrev pub Declares : State → Statement → Declaration → Type 0
-Declares σ (sort_statement m name) d = d ≡ sort_decl (record { 0 = sort_bits m })
+-- the number of a type's sort; 0 where it has none, which no rule lets pass
+abbrev pub sort_number : State → TypeText → ℕ
+sort_number σ t = unwrap_or (number_of σ.sort_names t.sort.text) 0
+
+-- the places of the variables that are among the dependencies, counted from a place on: ascending, each once
+abbrev pub dep_places : ℕ → List Variable → List Lexeme → List ℕ
+dep_places i [] deps = []
+dep_places i (v ∷ vs) deps = if is_among deps v.name then i ∷ dep_places (i + 1) vs deps else dep_places (i + 1) vs deps
+
+abbrev pub binder_of : State → List Variable → Variable → Binder
+binder_of σ vs v = record { sort = sort_number σ v.type; bound = v.is_bound; deps = dep_places 0 vs v.type.deps }
+
+abbrev pub result_of : State → List Variable → TypeText → ResultType
+result_of σ vs t = record { sort = sort_number σ t; deps = dep_places 0 vs t.deps }
+
+abbrev pub term_of : State → List Variable → TypeText → Term
+term_of σ vs t = record { signature = record { params = map (binder_of σ vs) vs; result = result_of σ vs t }; form = plain_form }
+
+abbrev pub declared : State → Statement → Declaration
+declared σ (sort_statement m name) = sort_decl (record { 0 = sort_bits m })
+declared σ (term_statement h arguments result) = term_decl (term_of σ (view (term_statement h arguments result)).variables result)
 
 -- the state after the statement at a place
-abbrev pub After : State → ℕ → Statement → State → Type 0
-After σ place (sort_statement m name) τ = (d : Declaration) × Declares σ (sort_statement m name) d × (τ ≡ with_sort σ place name d)
+abbrev pub after : State → ℕ → Statement → State
+after σ place (sort_statement m name) = with_sort σ place name (declared σ (sort_statement m name))
+after σ place (term_statement h arguments result) = with_term σ place h.name (declared σ (term_statement h arguments result))
 
 -- ---- good statements
 
@@ -46,8 +70,8 @@ IsGood σ place s = AllHold (statement_checks σ place s)
 -- declare; behind them stand further lexemes
 abbrev pub Stand : State → List Statement → List Lexeme → State → List Lexeme → Type 0
 Stand σ [] ls τ rest = (τ ≡ σ) × (rest ≡ ls)
-Stand σ (s ∷ ss) ls τ rest = (front : List Lexeme) × (back : List Lexeme) × (ρ : State) × (ls ≡ front ++ back)
-    × Spells s front × IsGood σ (place_of_first front) s × After σ (place_of_first front) s ρ × Stand ρ ss back τ rest
+Stand σ (s ∷ ss) ls τ rest = (front : List Lexeme) × (back : List Lexeme) × (ls ≡ front ++ back)
+    × Spells s front × IsGood σ (place_of_first front) s × Stand (after σ (place_of_first front) s) ss back τ rest
 
 -- the text is a specification with these declarations, name spans and places
 abbrev pub SpecMakes : List ℕ → List Entry → Type 0
@@ -63,13 +87,7 @@ SpecOf text ds = (entries : List Entry) × SpecMakes text entries × (ds ≡ env
 abbrev pub rule_of_first : Word → S
 rule_of_first words.Input = rules.LeftOut
 rule_of_first words.Output = rules.LeftOut
-rule_of_first words.Pure = rules.Statement
-rule_of_first words.Strict = rules.Statement
-rule_of_first words.Provable = rules.Statement
-rule_of_first words.Free = rules.Statement
-rule_of_first words.Sort = rules.Statement
-rule_of_first words.Semicolon = rules.Statement
-rule_of_first words.Other = rules.Statement
+rule_of_first _ = rules.Statement
 
 -- the rule that a lexeme breaks behind others with which it doesn't fit
 abbrev pub misfit_rule : List Lexeme → Lexeme → S

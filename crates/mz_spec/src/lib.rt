@@ -11,11 +11,13 @@ mod names;
 mod progress;
 mod reader;
 mod refusal;
+mod rules;
 mod spec;
 mod state;
 mod statement;
 #[cfg(test)]
 mod tests;
+mod variables;
 mod word;
 
 pub use laws::{readings_are_one, specifications_are_legal, statements_are_one};

@@ -1,14 +1,15 @@
 // The names of a space.
-ghost use Rattle.std.specs.Prelude.{◌≡◌, ◌++◌, ◌∷◌, [], OnOk};
-ghost use Rattle.mz_spec.specs.Names.{number_of as number_lem};
+ghost use Rattle.std.specs.Prelude.{◌≡◌, ◌<◌, ◌++◌, ◌∷◌, [], length, IfSome, OnOk};
+ghost use Rattle.mz_spec.specs.Names.{IsNew, number_of as number_lem};
 
+use indexmap::IndexSet;
 use std::alloc::{AllocError, Global};
 use std::marker::Model;
 
 /// Names in the order in which they were declared, borrowed from the text.
 #[derive(Drop)]
 pub struct Names<'a> {
-    items: Vec<&'a [u8]>,
+    items: IndexSet<&'a [u8]>,
 }
 
 impl<'a> Model for Names<'a> {
@@ -16,7 +17,7 @@ impl<'a> Model for Names<'a> {
 
     ghost Value = { List (List ℕ) };
 
-    ghost view = { λ a. map (λ name. name.now) a.items.items };
+    ghost view = { λ a. map (λ name. name.now) a.items.keys };
 }
 
 impl<'a> Names<'a> {
@@ -25,27 +26,24 @@ impl<'a> Names<'a> {
         ensures { result ≡ [] }
     {
         Names {
-            items: Vec::new(alloc),
+            items: IndexSet::new(alloc),
         }
     }
 
     /// The number of the name, if it is one of them.
-    pub fn number_of(&self, name: &[u8]) -> Option<usize>
-        ensures { result ≡ number_lem self.now name.now }
+    pub fn number_of(&self, name: &'a [u8]) -> Option<usize>
+        ensures number { result ≡ number_lem self.now name.now }
+        ensures within { IfSome result (λ n. n < length self.now) }
     {
-        for (number, item) in self.items.iter().enumerate() {
-            if *item == name {
-                return Some(number);
-            }
-        }
-        None
+        self.items.get_index_of(&name)
     }
 
-    /// Adds a name.
+    /// Adds a name that is new.
     pub fn push(&mut self, name: &'a [u8]) -> Result<(), AllocError>
+        requires { IsNew self.old name.now }
         ensures { OnOk result (self.new ≡ self.old ++ name.now ∷ []) }
     {
-        self.items.push(name)?;
+        self.items.insert(name)?;
         Ok(())
     }
 }

@@ -1,15 +1,15 @@
 // Reading a specification.
-ghost use Rattle.std.specs.Prelude.{◌≡◌, ◌≤◌, [], ◌<◌, ◌+◌, ◌^◌, ⊤, None, length, IfOk, IfErr, MatchOption};
+ghost use Rattle.std.specs.Prelude.{◌≡◌, ◌≤◌, [], ◌<◌, ◌^◌, ⊤, length, IfOk, MatchOption};
 ghost use Rattle.mz_lex.specs.Lexemes.{IsBlank};
 ghost use Rattle.mz_lex.specs.RuleText.{place_of, rule_of};
-ghost use Rattle.mz_spec.specs.Answers.{IsAnswer};
+ghost use Rattle.mz_spec.specs.Answers.{IfFault, IsAnswer, halted as halted_lem};
 ghost use Rattle.mz_spec.specs.Code.{lexeme, progress as progress_lem};
-ghost use Rattle.mz_spec.specs.Reading.{IsRead, IsReadTo, StopsFrom, least};
+ghost use Rattle.mz_spec.specs.Reading.{IsRead, IsReadTo, StopsFrom};
 ghost use Rattle.mz_spec.specs.Spec.{misfit_rule};
 
 use crate::lexeme::Lexeme;
 use crate::progress::Progress;
-use crate::refusal::{Fault, SpecRefusal};
+use crate::refusal::{Fault, Halt, SpecRefusal};
 use crate::spec::Spec;
 use crate::state::State;
 use crate::statement::{Modifiers, Statement};
@@ -18,7 +18,7 @@ use mz_lex::{LexFault, S, next_token};
 use std::alloc::Global;
 
 /// A statement, its first byte, and the place behind it.
-#[derive(Clone, Copy, Debug, PartialEq, Eq)]
+#[derive(Drop)]
 pub struct StatementRead<'a> {
     pub statement: Statement<'a>,
     pub place: u32,
@@ -46,42 +46,46 @@ fn first_rule(first: Lexeme<'_>) -> S
 }
 
 /// Reads the next statement, where there is one.
-fn read_statement<'a>(text: &'a [u8], from: usize) -> Result<Option<StatementRead<'a>>, Fault>
+fn read_statement(
+    alloc: Global,
+    text: &[u8],
+    from: usize,
+) -> Result<Option<StatementRead<'_>>, Halt>
     requires from { from ≤ length text.now }
     requires small { length text.now < 2 ^ 32 }
     ensures read { IfOk result (λ read. MatchOption read (IsBlank text.now from (length text.now)) (IsRead text.now from)) }
-    ensures within { IfOk result (λ read. MatchOption read ⊤ (λ r. (from + 3 ≤ r.end) × (r.end ≤ length text.now))) }
-    ensures stops { IfErr result (StopsFrom text.now from) }
+    ensures within { IfOk result (λ read. MatchOption read ⊤ (λ r. r.end ≤ length text.now)) }
+    ensures stops { IfFault result (StopsFrom text.now from) }
 {
     let first = match next_token(text, from) {
         Ok(None) => return Ok(None),
         Ok(Some(token)) => Lexeme::new(text, token),
-        Err(fault) => return Err(no_lexeme(fault)),
+        Err(fault) => return Err(Halt::Fault(no_lexeme(fault))),
     };
-    let Some(progress) = Progress::Opening(Modifiers::NONE).next(first) else {
-        return Err(Fault {
+    let Some(progress) = Progress::Opening(Modifiers::NONE).next(alloc, first)? else {
+        return Err(Halt::Fault(Fault {
             at: first.from,
             rule: first_rule(first),
-        });
+        }));
     };
-    let read = read_rest(text, from, first, progress)?;
+    let read = read_rest(alloc, text, from, first, progress)?;
     Ok(Some(read))
 }
 
 /// Reads a statement behind its first lexeme.
 fn read_rest<'a>(
+    alloc: Global,
     text: &'a [u8],
     from: usize,
     first: Lexeme<'a>,
     progress: Progress<'a>,
-) -> Result<StatementRead<'a>, Fault>
+) -> Result<StatementRead<'a>, Halt>
     requires small { length text.now < 2 ^ 32 }
     requires within { first.to ≤ length text.now }
     requires read { IsReadTo text.now from first.from (progress_lem progress) first.to }
-    requires least { from + least (progress_lem progress) ≤ first.to }
     ensures read { IfOk result (IsRead text.now from) }
-    ensures within { IfOk result (λ r. (from + 3 ≤ r.end) × (r.end ≤ length text.now)) }
-    ensures stops { IfErr result (StopsFrom text.now from) }
+    ensures within { IfOk result (λ r. r.end ≤ length text.now) }
+    ensures stops { IfFault result (StopsFrom text.now from) }
 {
     let mut at = first.to as usize;
     let mut progress = progress;
@@ -95,19 +99,19 @@ fn read_rest<'a>(
         }
         let found = match next_token(text, at) {
             Ok(None) => {
-                return Err(Fault {
+                return Err(Halt::Fault(Fault {
                     at: text.len() as u32,
                     rule: S::Statement,
-                });
+                }));
             }
             Ok(Some(token)) => Lexeme::new(text, token),
-            Err(fault) => return Err(no_lexeme(fault)),
+            Err(fault) => return Err(Halt::Fault(no_lexeme(fault))),
         };
-        let Some(next) = progress.next(found) else {
-            return Err(Fault {
+        let Some(next) = progress.next(alloc, found)? else {
+            return Err(Halt::Fault(Fault {
                 at: found.from,
                 rule: S::Statement,
-            });
+            }));
         };
         progress = next;
         at = found.to as usize;
@@ -134,27 +138,27 @@ pub fn read_spec(alloc: Global, text: &[u8]) -> SpecRead
     let mut at = 0;
     'statements: loop {
         let statement = state.entries.len() as u32 + 1;
-        let read = match read_statement(text, at) {
+        let read = match read_statement(alloc, text, at) {
             Ok(None) => return SpecRead::Spec(Spec::new(state.entries)),
             Ok(Some(read)) => read,
-            Err(fault) => return refused(statement, fault),
+            Err(halt) => return halted(statement, halt),
         };
-        if let Err(fault) = state.check(read.place, &read.statement) {
-            return refused(statement, fault);
+        if let Err(halt) = state.add(alloc, read.place, read.statement) {
+            return halted(statement, halt);
         }
-        let Ok(()) = state.declare(read.place, read.statement) else {
-            return SpecRead::Mem;
-        };
         at = read.end;
     }
 }
 
-fn refused(statement: u32, fault: Fault) -> SpecRead
-    ensures { result ≡ SpecRead.Refused (record { statement = statement; at = fault.at; rule = fault.rule }) }
+fn halted(statement: u32, halt: Halt) -> SpecRead
+    ensures { result ≡ halted_lem statement halt }
 {
-    SpecRead::Refused(SpecRefusal {
-        statement,
-        at: fault.at,
-        rule: fault.rule,
-    })
+    match halt {
+        Halt::Fault(fault) => SpecRead::Refused(SpecRefusal {
+            statement,
+            at: fault.at,
+            rule: fault.rule,
+        }),
+        Halt::Mem => SpecRead::Mem,
+    }
 }

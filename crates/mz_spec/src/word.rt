@@ -14,9 +14,17 @@ pub enum Word {
     Provable,
     Free,
     Sort,
+    Term,
     Input,
     Output,
     Semicolon,
+    Colon,
+    BraceOpen,
+    BraceClose,
+    ParenOpen,
+    ParenClose,
+    Greater,
+    Blank,
     Other,
 }
 
@@ -39,6 +47,8 @@ fn keyword_of(bytes: &[u8]) -> Word
         Word::Free
     } else if is(bytes, b"sort") {
         Word::Sort
+    } else if is(bytes, b"term") {
+        Word::Term
     } else if is(bytes, b"input") {
         Word::Input
     } else if is(bytes, b"output") {
@@ -53,6 +63,20 @@ fn symbol_of(bytes: &[u8]) -> Word
 {
     if is(bytes, b";") {
         Word::Semicolon
+    } else if is(bytes, b":") {
+        Word::Colon
+    } else if is(bytes, b"{") {
+        Word::BraceOpen
+    } else if is(bytes, b"}") {
+        Word::BraceClose
+    } else if is(bytes, b"(") {
+        Word::ParenOpen
+    } else if is(bytes, b")") {
+        Word::ParenClose
+    } else if is(bytes, b">") {
+        Word::Greater
+    } else if is(bytes, b"_") {
+        Word::Blank
     } else {
         Word::Other
     }

@@ -40,6 +40,15 @@ const DUMMY: &[u8] = &[
     7, 0x53, 1, 0x12, 0x10, 0, 0,
 ];
 
+/// One sort and the term `im (a b: wff): wff`.
+const TERM: &[u8] = &[
+    0x4d, 0x4d, 0x30, 0x42, 1, 1, 0, 0, 1, 0, 0, 0, 0, 0, 0, 0, 0x30, 0, 0, 0, 0x38, 0, 0, 0, 0x50,
+    0, 0, 0, 0, 0, 0, 0, 0, 0, 0, 0, 0, 0, 0, 0, 4, 0, 0, 0, 0, 0, 0, 0, 2, 0, 0, 0, 0x38, 0, 0, 0,
+    0, 0, 0, 0, 0, 0, 0, 0, 0, 0, 0, 0, 0, 0, 0, 0, 0, 0, 0, 0, 0, 0, 0, 0, 0x44, 2, 0x45, 2, 0,
+];
+
+const ACCEPTED_TERM: &str = "accepted: 1 sorts, 1 terms, 0 axioms, 0 definitions, 0 theorems\n";
+
 const ACCEPTED_ONE: &str = "accepted: 1 sorts, 0 terms, 0 axioms, 0 definitions, 0 theorems\n";
 
 /// A file made of another: its front of `keep` bytes, with one byte changed.
@@ -123,7 +132,14 @@ fn expect(
 #[test]
 fn verify_answers_by_the_first_refusal(rt: HostRuntime) -> Result<(), Fail> {
     let one = b"provable sort wff;".as_slice();
+    let term = b"provable sort wff; term im (a b: wff): wff;".as_slice();
     let accepted = [
+        (term, whole(TERM), ACCEPTED_TERM),
+        (
+            b"provable sort wff; term im: wff > wff > wff;".as_slice(),
+            whole(TERM),
+            ACCEPTED_TERM,
+        ),
         (one, whole(ONE), ACCEPTED_ONE),
         (
             b"-- a sort\nprovable sort wff; -- its end".as_slice(),
@@ -261,7 +277,27 @@ fn verify_answers_by_the_first_refusal(rt: HostRuntime) -> Result<(), Fail> {
             front(ONE, 49),
             "binary statement 1 at byte 48: K3 command",
         ),
+        (
+            term,
+            with(TERM, 56, 1),
+            "binary statement 2 at byte 56: K8 binder",
+        ),
+        (
+            term,
+            with(TERM, 79, 0x80),
+            "binary statement 2 at byte 72: K9 result",
+        ),
         // The match.
+        (
+            b"provable sort wff; term im (a: wff): wff;".as_slice(),
+            whole(TERM),
+            "match declaration 2 statement 2: M5 binders",
+        ),
+        (
+            b"provable sort wff; term im {a: wff} (b: wff): wff;".as_slice(),
+            whole(TERM),
+            "match declaration 2 statement 2: M5 binders",
+        ),
         (
             b"provable sort wff; sort nat;".as_slice(),
             whole(ONE),
@@ -288,6 +324,55 @@ fn verify_answers_by_the_first_refusal(rt: HostRuntime) -> Result<(), Fail> {
             Status::Refused,
             &line,
         )?;
+    }
+    Ok(())
+}
+
+/// A sort and a term of so many bound parameters, each with the bit of its place alone.
+fn bound_parameters(alloc: Global, count: u8) -> Result<Vec<u8>, AllocError> {
+    let mut bytes = Vec::new(alloc);
+    bytes.extend_from_slice(b"MM0B")?;
+    bytes.extend_from_slice(&[
+        1, 1, 0, 0, 1, 0, 0, 0, 0, 0, 0, 0, 0x30, 0, 0, 0, 0x38, 0, 0, 0,
+    ])?;
+    let list_at = 64 + 8 * u32::from(count);
+    bytes.extend_from_slice(&list_at.to_le_bytes())?;
+    bytes.extend_from_slice(&[0; 20])?;
+    bytes.extend_from_slice(&[count, 0, 0, 0, 0x38, 0, 0, 0])?;
+    for k in 0..count {
+        let word = (1 << 63) | (1u64 << (k % 64));
+        bytes.extend_from_slice(&word.to_le_bytes())?;
+    }
+    bytes.extend_from_slice(&[0; 8])?;
+    bytes.extend_from_slice(&[0x44, 2, 0x45, 2, 0])?;
+    Ok(bytes)
+}
+
+/// That term as a specification.
+fn bound_names(alloc: Global, count: u8) -> Result<String, AllocError> {
+    let mut text = String::new(alloc);
+    text.push_str("sort s; term t {")?;
+    for k in 0..count {
+        text.push_str(&format!(in alloc; "x{k} ")?)?;
+    }
+    text.push_str(": s}: s;")?;
+    Ok(text)
+}
+
+#[test]
+fn at_most_fifty_five_bound_parameters(rt: HostRuntime) -> Result<(), Fail> {
+    let alloc = rt.alloc();
+    for (count, status, text) in [
+        (55, Status::Done, ACCEPTED_TERM),
+        (
+            56,
+            Status::Refused,
+            "refused: binary statement 2 at byte 496: K8 binder\n",
+        ),
+    ] {
+        let spec = bound_names(alloc, count)?;
+        let bin = bound_parameters(alloc, count)?;
+        expect(&rt, "verify spec bin", spec.as_bytes(), &bin, status, text)?;
     }
     Ok(())
 }

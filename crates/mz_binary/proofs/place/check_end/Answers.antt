@@ -1,4 +1,4 @@
-use Rattle.std.proofs.Common.{refl, inl, inr, arith}
+use Rattle.std.proofs.Common.{refl, inl, arith}
 use Rattle.mz_binary.proofs.place.check_end.Goals as goal
 use Rattle.mz_binary.proofs.place.check_end.Goals.{else-rows-sorts-via-then-rows-sorts+then-rows-terms+else-rows-thms, else-rows-sorts-via-then-rows-sorts+else-rows-terms, else-rows-sorts-via-else-rows-sorts}
 

@@ -1,8 +1,9 @@
-use Rattle.std.proofs.Common.{Ok, ap, sym, refl, subst, arith}
+use Rattle.std.proofs.Common.{◌∙◌, Ok, ap, sym, refl, subst, arith}
+use Rattle.std.specs.Prelude.{option_map}
 use Rattle.mz_lex.specs.Lexemes.{ComesNext}
 use Rattle.mz_spec.specs.Code.{progress, lexeme}
 use Rattle.mz_spec.specs.Reading.{StopsFrom}
-use Rattle.mz_spec.proofs.Reading.{read-whole, read-more, stop-in_end, stop-in_fault, stop-misfit, least-more, is-next, is-open}
+use Rattle.mz_spec.proofs.Reading.{read-whole, read-more, stop-in_end, stop-in_fault, stop-misfit, is-next, is-open}
 use Rattle.mz_spec.proofs.reader.read_rest.Goals as goal
 
 pub returns-in-Whole-clause-read : goal.returns-in-Whole-clause-read
@@ -26,25 +27,23 @@ returns-in-Err c = record {
       c.in-Err.ensures.next);
 }
 
-pub returns-in_default-next : goal.returns-in_default-next
-returns-in_default-next c = record {
+pub returns-in_default-2 : goal.returns-in_default-2
+returns-in_default-2 c = record {
   read = tt;
   within = tt;
   stops = stop-misfit c.args.text.now c.args.from c.args.first.from c.lexemes.at (progress c.lexemes.progress) (lexeme c.new-found.result) c.lexemes.invariant.read
       (is-open c.lexemes.progress c.in_default.not-Whole)
       (is-next c.args.text.now c.lexemes.at c.in-Ok-Some.token c.in-Ok-Some.field-0 c.new-found.result c.in-Ok-Some.ensures.next c.in-Ok-Some.field-0-is c.new-found.ensures)
-      (sym c.in_default-next.ensures);
+      (sym c.in_ok-next.ensures ∙ ap (option_map progress) c.in_default-2.is);
 }
 
 pub lexemes-preserved : goal.lexemes-preserved
 lexemes-preserved c =
     let span = rw c.in-Ok-Some.field-0-is at c.in-Ok-Some.ensures.span in
     let ends = ap (λ l. l.to) c.new-found.ensures in
-    let more = least-more (progress c.lexemes.progress) (progress c.in-Some.next) (lexeme c.new-found.result) (sym c.in-Some.ensures) in
     record {
       within = omega (arith, span.2, ends);
       read = read-more c.args.text.now c.args.from c.args.first.from c.lexemes.at (progress c.lexemes.progress) (progress c.in-Some.next) (lexeme c.new-found.result) c.lexemes.invariant.read
           (is-next c.args.text.now c.lexemes.at c.in-Ok-Some.token c.in-Ok-Some.field-0 c.new-found.result c.in-Ok-Some.ensures.next c.in-Ok-Some.field-0-is c.new-found.ensures)
-          (sym c.in-Some.ensures);
-      least = omega (arith, span.0, span.1, ends, more, c.lexemes.invariant.least);
+          (sym c.in_ok-next.ensures ∙ ap (option_map progress) c.in-Some.is);
     }

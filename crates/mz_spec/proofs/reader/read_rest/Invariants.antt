@@ -1,13 +1,12 @@
-use Rattle.std.proofs.Common.{◌+◌, ◌≤◌, ◌-◌, length}
+use Rattle.std.proofs.Common.{◌≤◌, ◌-◌, length}
 use Rattle.mz_spec.specs.Code.{progress}
-use Rattle.mz_spec.specs.Reading.{IsReadTo, least}
+use Rattle.mz_spec.specs.Reading.{IsReadTo}
 use Rattle.mz_spec.proofs.reader.read_rest.Given as goal
 
 abbrev pub invariant-lexemes : goal.invariant-lexemes
 invariant-lexemes l = record {
   within : l.at ≤ length l.text;
   read : IsReadTo l.text l.from l.first.from (progress l.progress) l.at;
-  least : l.from + least (progress l.progress) ≤ l.at;
 }
 
 abbrev pub decreases-lexemes : goal.decreases-lexemes

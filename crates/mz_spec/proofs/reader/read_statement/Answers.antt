@@ -1,5 +1,6 @@
-use Rattle.std.proofs.Common.{sym, subst}
-use Rattle.mz_spec.specs.Code.{lexeme}
+use Rattle.std.proofs.Common.{◌∙◌, ap, sym, subst}
+use Rattle.std.specs.Prelude.{option_map}
+use Rattle.mz_spec.specs.Code.{lexeme, progress}
 use Rattle.mz_spec.specs.Reading.{StopsFrom}
 use Rattle.mz_spec.specs.declared.refusal.Fault.{Fault}
 use Rattle.mz_lex.specs.declared.rule.S.{S}
@@ -16,4 +17,4 @@ returns-in_default-clause-stops c =
     subst (λ rule. StopsFrom c.args.text.now c.args.from (at_first rule)) (sym c.first_rule.ensures)
     (stop-first c.args.text.now c.args.from (lexeme c.new-first.result)
     (is-next c.args.text.now c.args.from c.in-Ok-Some.token c.in-Ok-Some.field-0 c.new-first.result c.in-Ok-Some.ensures.next c.in-Ok-Some.field-0-is c.new-first.ensures)
-    (sym c.in_default.ensures))
+    (sym c.in_ok-progress.ensures ∙ ap (option_map progress) c.in_default.is))

@@ -1,0 +1,50 @@
+-- The bound on the statements of a list never ends it: each statement takes a byte.
+use Rattle.std.proofs.Common.{◌≡◌, ◌<◌, ◌+◌, ◌-◌, ℕ, zero, suc, List, length, Some, Result, Ok, Err, refl, ap, arith}
+use Rattle.mz_cmd.specs.declared.rule.K.{K}
+use Rattle.mz_cmd.specs.declared.rule.Refusal.{Refusal}
+use Rattle.mz_binary.specs.FileRows.{Taken}
+use Rattle.mz_binary.specs.Checking.{Reads}
+use Rattle.mz_binary.specs.FileRun.{Onward, ended, onward, run_place, find_at, found_steps, follow_list, follow_steps, run_list, list_steps}
+use Rattle.mz_binary.specs.WholeLaws.{BoundNeverEndsAList}
+use Rattle.mz_binary.proofs.Heads.{head-at}
+use Rattle.mz_binary.proofs.Inverting.{goes-there}
+
+same-list : (n : ℕ) (taken : Taken) (r : Result Onward (ℕ × K)) (f g : Taken → ℕ → Result Taken Refusal)
+    → ((after : Taken) (next : ℕ) → r ≡ Ok (onward after next) → f after next ≡ g after next) → follow_list n taken r f ≡ follow_list n taken r g
+same-list n taken (Err e) f g same = refl
+same-list n taken (Ok ended) f g same = refl
+same-list n taken (Ok (onward after next)) f g same = same after next refl
+
+same-steps : (r : Result Onward (ℕ × K)) (f g : Taken → ℕ → ℕ) → ((after : Taken) (next : ℕ) → r ≡ Ok (onward after next) → f after next ≡ g after next) → follow_steps r f ≡ follow_steps r g
+same-steps (Err e) f g same = refl
+same-steps (Ok ended) f g same = refl
+same-steps (Ok (onward after next)) f g same = same after next refl
+
+module _ (reads : Reads) (file : List ℕ) where
+  -- less is left after a statement
+  less : (taken after : Taken) (at next bound : ℕ) → run_place reads file taken at ≡ Ok (onward after next) → length file - at < suc bound → length file - next < bound
+  less taken after at next bound e enough =
+      let goes = goes-there reads file taken at after next e in
+      let place : next ≡ goes.next = ap-next goes.leads in
+      let head = head-at file at goes.code goes.body goes.next goes.stands in
+      omega (arith, place, head.further, head.within)
+    where
+      ap-next : {p q : Taken × ℕ} → Some p ≡ Some q → p.1 ≡ q.1
+      ap-next e = cc
+
+  runs : (bound other n : ℕ) (taken : Taken) (at : ℕ) → length file - at < bound → length file - at < other → run_list reads file bound n taken at ≡ run_list reads file other n taken at
+  unfolding run_list
+  runs zero other n taken at a b = absurd (omega arith)
+  runs (suc bound) zero n taken at a b = absurd (omega arith)
+  runs (suc bound) (suc other) n taken at a b = same-list n taken (run_place reads file taken at) _ _ λ after next e.
+      runs bound other (n + 1) after next (less taken after at next bound e a) (less taken after at next other e b)
+
+  counts : (bound other : ℕ) (taken : Taken) (at : ℕ) → length file - at < bound → length file - at < other → list_steps reads file bound taken at ≡ list_steps reads file other taken at
+  unfolding list_steps
+  counts zero other taken at a b = absurd (omega arith)
+  counts (suc bound) zero taken at a b = absurd (omega arith)
+  counts (suc bound) (suc other) taken at a b = ap (λ (z : ℕ). found_steps file taken (find_at reads file taken at) + z)
+      (same-steps (run_place reads file taken at) _ _ λ after next e. counts bound other after next (less taken after at next bound e a) (less taken after at next other e b))
+
+pub bound-never-ends : BoundNeverEndsAList
+bound-never-ends reads file bound other n taken at a b = (runs reads file bound other n taken at a b, counts reads file bound other taken at a b)

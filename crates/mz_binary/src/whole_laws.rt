@@ -1,0 +1,34 @@
+// Laws of whole files, of all kinds of statements.
+ghost use Rattle.mz_binary.specs.WholeLaws.{BoundNeverEndsAList, GoodFilesAreLegal, GoodFilesSpell, GoodOrFault, NotBoth, OneFault, OneListOfStatements, ReadInPartIsGood, RunsAreExact, StepsOfAFile, TheoremsCiteAsTheirBodies};
+
+/// The statements of a good file are a legal list, with closed derivations; and a theorem's derivation
+/// cites what its body cites.
+pub fn whole_files_are_legal()
+    ensures legal { GoodFilesAreLegal }
+    ensures citations { TheoremsCiteAsTheirBodies }
+{}
+
+/// A file spells at most one list of statements, which is the list that it is good by.
+pub fn whole_files_spell_one_list()
+    ensures one { OneListOfStatements }
+    ensures good { GoodFilesSpell }
+{}
+
+/// Each file is good, or has exactly one first fault; and so it is computed.
+pub fn whole_files_have_one_outcome()
+    ensures either { GoodOrFault }
+    ensures not_both { NotBoth }
+    ensures one_fault { OneFault }
+    ensures computed { RunsAreExact }
+{}
+
+/// The commands executed in a whole file are bounded, and no bound of the definition ends the list.
+pub fn steps_of_files_are_bounded()
+    ensures steps { StepsOfAFile }
+    ensures bound { BoundNeverEndsAList }
+{}
+
+/// What is good for the reader of sorts and plain terms is good for the reader of all kinds.
+pub fn files_read_in_part_are_good()
+    ensures { ReadInPartIsGood }
+{}

@@ -1,0 +1,121 @@
+// The words of a term's row.
+ghost use Rattle.std.specs.Prelude.{◌≡◌, ◌≤◌, ◌<◌, ◌^◌, ◌↔◌, IsTrue, IfOk, slice_get};
+ghost use Rattle.mz_checks.specs.Checks.{Judges};
+ghost use Rattle.mz_logic.specs.Modifiers.{MayBeBoundSort, MayBeResultSort};
+ghost use Rattle.mz_logic.specs.Words.{word_deps};
+ghost use Rattle.mz_layout.specs.Tables.{sort_count, term_count, term_row};
+ghost use Rattle.mz_binary.specs.RowWords.{IsParamWord, IsResultWord, bound_count, first_sorts, param_checks, word_checks};
+
+use crate::place::Fault;
+use mz_cmd::K;
+use mz_layout::Mmb;
+use mz_logic::{SortMods, Terms, Word};
+
+/// The words of a term's row in order, where the first `sorts` sorts are declared.
+pub fn check_words(mmb: &Mmb, sorts: u32, term: u32) -> Result<(), Fault>
+    requires sorts { sorts ≤ sort_count mmb.now }
+    requires row { term < term_count mmb.now }
+    ensures { Judges result (word_checks (first_sorts mmb.now sorts) (term_row mmb.now term)) }
+{
+    let bound = check_params(mmb, sorts, term)?;
+    if is_result(mmb, sorts, term, bound) {
+        Ok(())
+    } else {
+        Err((mmb.term_word_at(term, mmb.arity(term)), K::Result))
+    }
+}
+
+/// The words of the parameters in order, and how many of them are bound.
+fn check_params(mmb: &Mmb, sorts: u32, term: u32) -> Result<u32, Fault>
+    requires sorts { sorts ≤ sort_count mmb.now }
+    requires row { term < term_count mmb.now }
+    ensures judged { Judges result (param_checks (first_sorts mmb.now sorts) (term_row mmb.now term).words_at (term_row mmb.now term).words.params) }
+    ensures bound { IfOk result (λ bound. (bound ≡ bound_count (term_row mmb.now term).words.params) × (bound ≤ 55)) }
+{
+    let mut bound = 0;
+    for i in 0..mmb.arity(term) {
+        let word = mmb.param(term, i);
+        if !is_param(mmb, sorts, bound, word) {
+            return Err((mmb.term_word_at(term, i), K::Binder));
+        }
+        if word.bound() {
+            bound += 1;
+        }
+    }
+    Ok(bound)
+}
+
+/// Whether the word may say a parameter after so many bound ones.
+fn is_param(mmb: &Mmb, sorts: u32, bound: u32, word: Word) -> bool
+    requires sorts { sorts ≤ sort_count mmb.now }
+    requires few { bound ≤ 55 }
+    ensures { IsTrue result ↔ IsParamWord (first_sorts mmb.now sorts) bound word }
+{
+    if word.sort() >= sorts {
+        return false;
+    }
+    if word.bound() {
+        may_be_bound(mmb, sorts, word.sort()) && has_bit_alone(word, bound)
+    } else {
+        has_bits_below(word, bound)
+    }
+}
+
+/// Whether the result's word is right, where so many parameters are bound.
+fn is_result(mmb: &Mmb, sorts: u32, term: u32, bound: u32) -> bool
+    requires sorts { sorts ≤ sort_count mmb.now }
+    requires row { term < term_count mmb.now }
+    requires bound { bound ≡ bound_count (term_row mmb.now term).words.params }
+    requires few { bound ≤ 55 }
+    ensures { IsTrue result ↔ IsResultWord (first_sorts mmb.now sorts) (term_row mmb.now term) }
+{
+    let word = mmb.result(term);
+    !word.bound()
+        && word.sort() == mmb.term_sort(term)
+        && may_be_result(mmb, sorts, mmb.term_sort(term))
+        && has_bits_below(word, bound)
+}
+
+// ---- sorts, of which the first so many are declared
+
+fn mods_of(mmb: &Mmb, sorts: u32, sort: u32) -> Option<SortMods>
+    requires { sorts ≤ sort_count mmb.now }
+    ensures { result ≡ slice_get (first_sorts mmb.now sorts) sort }
+{
+    if sort < sorts {
+        Some(mmb.mods(sort))
+    } else {
+        None
+    }
+}
+
+fn may_be_bound(mmb: &Mmb, sorts: u32, sort: u32) -> bool
+    requires { sorts ≤ sort_count mmb.now }
+    ensures { IsTrue result ↔ MayBeBoundSort (first_sorts mmb.now sorts) sort }
+{
+    mods_of(mmb, sorts, sort).is_some_and(|mods| !mods.is_strict())
+}
+
+fn may_be_result(mmb: &Mmb, sorts: u32, sort: u32) -> bool
+    requires { sorts ≤ sort_count mmb.now }
+    ensures { IsTrue result ↔ MayBeResultSort (first_sorts mmb.now sorts) sort }
+{
+    mods_of(mmb, sorts, sort).is_some_and(|mods| !mods.is_pure())
+}
+
+// ---- bits of dependencies
+
+/// Whether the word has bit `k` alone, which is at most bit 54.
+fn has_bit_alone(word: Word, k: u32) -> bool
+    ensures { IsTrue result ↔ ((k ≤ 54) × (word_deps word ≡ 2 ^ k)) }
+{
+    k <= 54 && word.deps() == 1 << k
+}
+
+/// Whether the word has no bit from bit `k` on.
+fn has_bits_below(word: Word, k: u32) -> bool
+    requires { k ≤ 55 }
+    ensures { IsTrue result ↔ (word_deps word < 2 ^ k) }
+{
+    word.deps() < 1 << k
+}

@@ -1,0 +1,9 @@
+use Rattle.std.proofs.Common.{map, drop}
+use Rattle.mz_checks.specs.Checks.{each_in_order}
+use Rattle.mz_checks.proofs.InOrder.{Decides}
+use Rattle.mz_spec.specs.Code.{lexeme}
+use Rattle.mz_spec.specs.Rules.{is_known}
+use Rattle.mz_spec.proofs.rules.check_all_known.Given as goal
+
+abbrev pub invariant-loop-name : goal.invariant-loop-name
+invariant-loop-name l = Decides (each_in_order (is_known l.names) (map lexeme (drop l.name-index l.found))) (each_in_order (is_known l.names) (map lexeme l.found))
