@@ -1,0 +1,17 @@
+pub mod Lists
+pub mod Constants
+pub mod Clearing
+pub mod Paths
+pub mod Chains
+pub mod Unique
+pub mod Readings
+pub mod Passing
+pub mod OneMeaning
+pub mod Example
+pub mod Strings
+pub mod Meanings
+pub mod Literals
+pub mod Tables
+pub mod Judging
+pub mod Knowing
+pub mod Lawful

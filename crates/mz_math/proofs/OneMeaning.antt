@@ -1,0 +1,113 @@
+-- Each string has one list of tokens, and each tree one expression.
+use Rattle.std.proofs.Common.{◌≡◌, ◌≢◌, ◌≤◌, ◌<◌, ◌+◌, ◌-◌, ◌⊎◌, ◌∙◌, ℕ, zero, suc, List, [], ◌∷◌, length, Bool, true, false, Some, slice_get, ap, ap₂, sym, refl, subst, inl, inr, arith, Contains}
+use Rattle.std.specs.Prelude.{slice_index}
+use Rattle.std.proofs.lemmas.Bool.{true≢false, cases_order, cases_lt}
+use Rattle.mz_logic.specs.Tree.{Tree, Trees, var, app, none, more}
+use Rattle.mz_logic.specs.Signature.{Signature}
+use Rattle.mz_logic.specs.Declaration.{Declaration, signatures}
+use Rattle.mz_logic.specs.declared.binder.Binder.{Binder}
+use Rattle.mz_math.specs.Notation.{Coercion}
+use Rattle.mz_math.specs.Pieces.{Delimiters, Piece, IsSpaces, IsPiece, PiecesFrom}
+use Rattle.mz_math.specs.Coercions.{IsPath, OnePath, wrapped}
+use Rattle.mz_math.specs.Meaning.{Coerced, CoercedAll, Wanted, of_sort, provable, IsSettled, IsGoal, IsClaimed}
+use Rattle.mz_lex.specs.Kinds.{is_space}
+
+-- ---- tokens
+
+module _ (d : Delimiters) (text : List ℕ) where
+  start-one : (from : ℕ) (p q : Piece) → IsSpaces text from p.from → IsSpaces text from q.from → IsPiece d text p → IsPiece d text q → p.from < q.from → ⊥
+  start-one from p q before other is_p is_q less =
+      let some = is_p.some in
+      true≢false (sym (other.1 p.from before.0 less) ∙ is_p.solid p.from (omega arith) some)
+
+  -- a token that ends inside another one
+  end-one : (p q : Piece) → IsPiece d text p → IsPiece d text q → p.from ≡ q.from → p.to < q.to → ⊥
+  end-one p q is_p is_q same less =
+      let some = is_p.some in let within = is_q.within in
+      elim is_p.cut [
+        | inl last ↦ absurd (omega (arith, last, within))
+        | inr other ↦ elim other [
+          | inl space ↦ true≢false (sym space ∙ is_q.solid p.to (omega (arith, same)) less)
+          | inr delimiter ↦ elim delimiter [
+            | inl left ↦ is_q.no_left (p.to - 1) (omega (arith, same, some)) (omega (arith, some)) left
+            | inr next ↦ is_q.no_right p.to (omega (arith, same, some)) less next
+          ]
+        ]
+      ]
+
+  pub piece-one : (from : ℕ) (p q : Piece) → IsSpaces text from p.from → IsSpaces text from q.from → IsPiece d text p → IsPiece d text q → (p.from ≡ q.from) × (p.to ≡ q.to)
+  piece-one from p q before other is_p is_q = (start, end start)
+    where
+      start : p.from ≡ q.from
+      start = elim (cases_order p.from q.from) [
+        | inl same ↦ same
+        | inr order ↦ elim order [ inl less ↦ absurd (start-one from p q before other is_p is_q less) | inr more_ ↦ absurd (start-one from q p other before is_q is_p more_) ]
+      ]
+
+      end : p.from ≡ q.from → p.to ≡ q.to
+      end same = elim (cases_order p.to q.to) [
+        | inl here ↦ here
+        | inr order ↦ elim order [ inl less ↦ absurd (end-one p q is_p is_q same less) | inr more_ ↦ absurd (end-one q p is_q is_p (sym same) more_) ]
+      ]
+
+  pub no-piece : (from : ℕ) (p : Piece) → IsSpaces text from (length text) → IsSpaces text from p.from → IsPiece d text p → ⊥
+  no-piece from p spaces before is =
+      let some = is.some in let within = is.within in
+      true≢false (sym (spaces.1 p.from before.0 (omega arith)) ∙ is.solid p.from (omega arith) some)
+
+  pub pieces-one : (from : ℕ) (ps qs : List Piece) → PiecesFrom d text from ps → PiecesFrom d text from qs → ps ≡ qs
+  pieces-one from [] [] first second = refl
+  pieces-one from [] (q ∷ qs) first (before, is, rest) = absurd (no-piece from q first before is)
+  pieces-one from (p ∷ ps) [] (before, is, rest) second = absurd (no-piece from p second before is)
+  pieces-one from (p ∷ ps) (q ∷ qs) (before, is, rest) (other, is_q, rest_q) =
+      let same = piece-one from p q before other is is_q in
+      ap₂ ◌∷◌ (ap₂ make same.0 same.1) (pieces-one p.to ps qs rest (subst (λ i. PiecesFrom d text i qs) (sym same.1) rest_q))
+    where
+      make : ℕ → ℕ → Piece
+      make i j = record { from = i; to = j }
+
+-- ---- coercions
+
+some-same : {A : Type 0} {x y : A} → Some x ≡ Some y → x ≡ y
+some-same e = cc
+
+module _ (sigs : List Signature) (cs : List Coercion) (ctx : List Binder) (one : OnePath cs) where
+  wrapped-one : (s r to : ℕ) (path other : List ℕ) (f g : Tree) → f ≡ g → s ≡ r → IsPath cs s path to → IsPath cs r other to → wrapped cs path f ≡ wrapped cs other g
+  wrapped-one s r to path other f g same sorts is_p is_q =
+      ap₂ (wrapped cs) (one s to path other is_p (subst (λ i. IsPath cs i other to) (sym sorts) is_q)) same
+
+  mutual
+    pub coerced-one : (tree e f : Tree) (s r : ℕ) → Coerced sigs cs ctx tree e s → Coerced sigs cs ctx tree f r → (e ≡ f) × (s ≡ r)
+    coerced-one (var x) e f s r (is_e, b, at, sort_s) (is_f, c, at_c, sort_r) =
+        let same : b ≡ c = some-same (sym at ∙ at_c) in
+        (is_e ∙ sym is_f, sym sort_s ∙ ap (λ q. q.sort) same ∙ sort_r)
+    coerced-one (app t es) e f s r (d, fs, at, sort_s, is_e, all) (c, gs, at_c, sort_r, is_f, all_c) =
+        let same : d ≡ c = some-same (sym at ∙ at_c) in
+        let operands = coerced-all es d.params fs gs all (subst (λ q. CoercedAll sigs cs ctx es q.params gs) (sym same) all_c) in
+        (is_e ∙ ap (app t) operands ∙ sym is_f, sym sort_s ∙ ap (λ q. q.result.sort) same ∙ sort_r)
+
+    pub coerced-all : (es : Trees) (bs : List Binder) (fs gs : Trees) → CoercedAll sigs cs ctx es bs fs → CoercedAll sigs cs ctx es bs gs → fs ≡ gs
+    coerced-all none [] fs gs first second = first ∙ sym second
+    coerced-all none (b ∷ bs) fs gs first second = absurd first
+    coerced-all (more e es) [] fs gs first second = absurd first
+    coerced-all (more e es) (b ∷ bs) fs gs (f, s, path, rest, is, on, bound, all, later) (g, r, other, tail, is_g, on_g, bound_g, all_g, later_g) =
+        let same = coerced-one e f g s r is is_g in
+        all ∙ ap₂ more (wrapped-one s r b.sort path other f g same.0 same.1 on on_g) (coerced-all es bs rest tail later later_g) ∙ sym all_g
+
+  -- ---- the whole
+
+  pub settled-one : (w : Wanted) (e f g : Tree) (s : ℕ) → IsSettled cs w e s f → IsSettled cs w e s g → f ≡ g
+  settled-one (of_sort goal) e f g s (path, on, is) (other, on_g, is_g) = is ∙ wrapped-one s s goal path other e e refl refl on on_g ∙ sym is_g
+  settled-one provable e f g s is is_g = is ∙ sym is_g
+
+  pub goal-one : (env : List Declaration) (s a b : ℕ) (path other : List ℕ) → IsGoal env cs s a → IsGoal env cs s b → IsPath cs s path a → IsPath cs s other b → a ≡ b
+  goal-one env s a b path other (inl (same, _)) (inl (too, _)) on_a on_b = same ∙ sym too
+  goal-one env s a b path other (inl (_, own)) (inr (never, _, _)) on_a on_b = absurd (never own)
+  goal-one env s a b path other (inr (never, _, _)) (inl (_, own)) on_a on_b = absurd (never own)
+  goal-one env s a b path other (inr (_, is_a, only_a)) (inr (_, is_b, only_b)) on_a on_b = sym (only_a b other is_b on_b)
+
+  pub claimed-one : (env : List Declaration) (w : Wanted) (e f g : Tree) (s : ℕ) → IsClaimed env cs w e s f → IsClaimed env cs w e s g → f ≡ g
+  claimed-one env (of_sort goal) e f g s is is_g = is ∙ sym is_g
+  claimed-one env provable e f g s (goal, path, is_goal, on, is) (end, other, is_end, on_g, is_g) =
+      let same : goal ≡ end = goal-one env s goal end path other is_goal is_end on on_g in
+      is ∙ wrapped-one s s end path other e e refl refl (subst (λ i. IsPath cs s path i) same on) on_g ∙ sym is_g

@@ -1,0 +1,8 @@
+use Rattle.std.proofs.Common.{◌≡◌, ◌<◌, ℕ, List, Contains, get_or}
+use Rattle.mz_math.specs.Notation.{Element, Notation, fixed}
+use Rattle.mz_math.specs.Clear.{HasConstant, LedBy, JoinedBy}
+use Rattle.mz_math.proofs.Lists.{AllSoFar}
+use Rattle.mz_math.proofs.clear.all_group_with.Given as goal
+
+abbrev pub invariant-loop-k : goal.invariant-loop-k
+invariant-loop-k l = AllSoFar (λ (x : Notation). x.level ≡ l.notation.level → x.is_right ≡ l.notation.is_right) l.infixes l.k-index

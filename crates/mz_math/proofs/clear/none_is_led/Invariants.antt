@@ -1,0 +1,8 @@
+use Rattle.std.proofs.Common.{◌≡◌, ◌<◌, ℕ, List, Contains, get_or}
+use Rattle.mz_math.specs.Notation.{Element, Notation, fixed}
+use Rattle.mz_math.specs.Clear.{HasConstant, LedBy, JoinedBy}
+use Rattle.mz_math.proofs.Lists.{AllSoFar}
+use Rattle.mz_math.proofs.clear.none_is_led.Given as goal
+
+abbrev pub invariant-loop-k : goal.invariant-loop-k
+invariant-loop-k l = AllSoFar (λ (x : Notation). (w : List ℕ) → LedBy l.notation w → LedBy x w → ⊥) l.leading l.k-index

@@ -1,0 +1,27 @@
+use Rattle.std.proofs.Common.{◌≡◌, ◌++◌, ◌∷◌, [], ◌∙◌, ◌+◌, ℕ, List, Some, None, ap, ap₂, sym, subst, refl, true, false, length, drop, drop-cons, add-one, get_or, arith}
+use Rattle.std.proofs.lemmas.Bool.{true≢false, false≢true}
+use Rattle.std.proofs.lemmas.List.{append-nil, drop_all}
+use Rattle.mz_logic.specs.Declaration.{signatures}
+use Rattle.mz_math.specs.Notation.{Element, Notation}
+use Rattle.mz_math.specs.Forms.{AreElements, IsElement, IsConstant, IsGeneral, EachOnce, Begins, Literal}
+use Rattle.mz_math.specs.Answers.{IsNotationOf, general}
+use Rattle.mz_math.proofs.Literals.{constant-parts, name-parts, one-literal, first-element, general-parts, general-made, made-err, made-map, here-element, later-elements, more-elements}
+use Rattle.mz_math.proofs.form.elements_of.Goals as goal
+
+pub returns-in-Err : goal.returns-in-Err
+returns-in-Err c =
+    made-err (IsElement c.args.delimiters.now c.args.params.now.names c.args.text.now c.in-Some.literal.now) (AreElements c.args.delimiters.now c.args.params.now.names c.args.text.now c.args.literals.now) c.in-Err.fault
+    (here-element c.args.delimiters.now c.args.params.now.names c.args.text.now c.args.literals.now c.literals.i c.in-Some.literal.now c.in-Some.ensures.literal c.literals.invariant.1)
+    c.in-Err.ensures
+
+pub literals-preserved : goal.literals-preserved
+literals-preserved c =
+    let here = c.in-Some.ensures.literal in (
+      more-elements c.args.delimiters.now c.args.params.now.names c.args.text.now c.args.literals.now c.literals.i c.in-Some.literal.now here c.literals.elements.items c.in-Ok.element c.push.new.self.items c.in-Ok-push.ensures.items c.in-Ok.ensures c.literals.invariant.0,
+      later-elements c.args.delimiters.now c.args.params.now.names c.args.text.now c.args.literals.now c.literals.i c.in-Some.literal.now here c.literals.invariant.1,
+    )
+
+pub returns : goal.returns
+returns c =
+    subst (AreElements c.args.delimiters.now c.args.params.now.names c.args.text.now c.args.literals.now) (append-nil c.literals.elements.items ∙ sym c.from_vec.ensures)
+    (c.literals.invariant.0 [] (subst (λ (ls : List Literal). AreElements c.args.delimiters.now c.args.params.now.names c.args.text.now ls []) (sym c.in_default.ensures.literal) tt))

@@ -1,0 +1,5 @@
+use Rattle.std.proofs.Common.{◌≡◌, ◌↔◌, ◌<◌, ◌≤◌, ◌+◌, ◌-◌, ◌*◌, ◌++◌, ◌∷◌, [], ℕ, List, Contains, length, get_or, drop, slice_get, Some}
+use Rattle.mz_math.proofs.form.same_binders.Given as goal
+
+abbrev pub invariant-loop-i : goal.invariant-loop-i
+invariant-loop-i l = (drop l.i l.xs ≡ drop l.i l.ys → l.xs ≡ l.ys) × (length l.xs ≡ length l.ys)

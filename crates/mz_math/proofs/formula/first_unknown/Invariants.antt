@@ -1,0 +1,7 @@
+use Rattle.std.proofs.Common.{◌≡◌, ◌↔◌, ◌<◌, ◌≤◌, ◌+◌, ◌-◌, ◌*◌, ◌++◌, ◌∷◌, [], ℕ, List, Contains, length, get_or, drop, slice_get, Some}
+use Rattle.mz_checks.proofs.InOrder.{Decides}
+use Rattle.mz_math.specs.Formula.{known_checks}
+use Rattle.mz_math.proofs.formula.first_unknown.Given as goal
+
+abbrev pub invariant-loop-i : goal.invariant-loop-i
+invariant-loop-i l = Decides (known_checks l.words l.text (drop l.i l.pieces)) (known_checks l.words l.text l.pieces)

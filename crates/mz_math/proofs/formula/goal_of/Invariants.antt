@@ -1,0 +1,13 @@
+use Rattle.std.proofs.Common.{◌≡◌, ◌↔◌, ◌<◌, ◌≤◌, ◌+◌, ◌-◌, ◌*◌, ◌++◌, ◌∷◌, [], ℕ, List, Contains, length, get_or, drop, slice_get, Some}
+use Rattle.mz_math.specs.Notation.{Element, Notation, TermName, Coercion, fixed, places, slots}
+use Rattle.mz_math.specs.Coercions.{Reaches}
+use Rattle.std.specs.Prelude.{IfSome}
+use Rattle.mz_logic.specs.Modifiers.{MayBeClaimSort}
+use Rattle.mz_logic.specs.Declaration.{sorts}
+use Rattle.mz_math.proofs.formula.goal_of.Given as goal
+
+abbrev pub invariant-coercions : goal.invariant-coercions
+invariant-coercions l =
+    ((j : ℕ) (d : Coercion) → j < l.i → MayBeClaimSort (sorts l.env) (get_or l.coercions j d).to → Reaches l.coercions (length l.coercions) l.sort (get_or l.coercions j d).to
+    → l.found ≡ Some (get_or l.coercions j d).to)
+    × IfSome l.found (λ g. MayBeClaimSort (sorts l.env) g × Reaches l.coercions (length l.coercions) l.sort g)

@@ -1,0 +1,61 @@
+use Rattle.std.proofs.Common.{◌≡◌, ◌<◌, ◌≤◌, ◌+◌, ◌-◌, ◌∙◌, ℕ, List, ap, sym, subst, refl, length, arith}
+use Rattle.mz_logic.specs.Tree.{Tree}
+use Rattle.mz_logic.specs.View.{tree}
+use Rattle.mz_logic.specs.Declaration.{signatures}
+use Rattle.mz_math.specs.Formula.{Reader}
+use Rattle.mz_math.specs.Coercions.{Reaches}
+use Rattle.mz_math.specs.Answers.{settled, HasLength}
+use Rattle.mz_math.specs.Coercions.{IsPath}
+use Rattle.mz_math.proofs.Judging.{judged-no-sort, judged-no-path, judged-high, judged-claim, same-sort}
+use Rattle.mz_math.proofs.formula.meaning_of.Goals as goal
+
+pub returns-in_default : goal.returns-in_default
+returns-in_default c =
+    let r : Reader = record { env = c.args.env.now; table = c.args.notations.now; scope = c.args.scope.now } in
+    let cs_is = c.coercions-coercions.ensures.coercions in
+    let ctx_is = c.requires.ctx in
+    judged-no-sort r c.args.wanted c.coercions-coercions.ensures.table c.requires.names (tree c.args.syntax.now) c.coercions-coercions.result.now c.args.ctx.now cs_is ctx_is c.refused.result c.refused.ensures c.in_default.ensures
+
+pub returns-in_default-distance : goal.returns-in_default-distance
+returns-in_default-distance c =
+    let r : Reader = record { env = c.args.env.now; table = c.args.notations.now; scope = c.args.scope.now } in
+    let cs_is = c.coercions-coercions.ensures.coercions in
+    let ctx_is = c.requires.ctx in
+    let goal_is = c.settled_sort-goal.ensures in
+    let found = c.in-Some.ensures in
+    judged-no-path r c.args.wanted c.coercions-coercions.ensures.table c.requires.names (tree c.args.syntax.now) c.coercions-coercions.result.now c.args.ctx.now cs_is ctx_is c.refused-in_default-distance.result c.refused-in_default-distance.ensures found.0 c.in-Some.sort found.1
+    (λ reach. c.in_default-distance.ensures (subst (λ i. Reaches c.coercions-coercions.result.now (length c.coercions-coercions.result.now) c.in-Some.sort i) (sym goal_is) reach))
+
+pub returns-then-many-gt-MOST : goal.returns-then-many-gt-MOST
+returns-then-many-gt-MOST c =
+    let r : Reader = record { env = c.args.env.now; table = c.args.notations.now; scope = c.args.scope.now } in
+    let cs_is = c.coercions-coercions.ensures.coercions in
+    let ctx_is = c.requires.ctx in
+    let goal_is = c.settled_sort-goal.ensures in
+    let found = c.in-Some.ensures in
+    judged-high r c.args.wanted c.coercions-coercions.ensures.table c.requires.names (tree c.args.syntax.now) c.coercions-coercions.result.now c.args.ctx.now cs_is ctx_is c.refused-then-many-gt-MOST.result c.refused-then-many-gt-MOST.ensures found.0 c.in-Some.sort c.in-Some-distance.many found.1 (subst (λ i. HasLength c.coercions-coercions.result.now (length c.coercions-coercions.result.now) c.in-Some.sort i c.in-Some-distance.many) goal_is c.in-Some-distance.ensures)
+    (λ g q has. omega (arith, c.if-many-gt-MOST.true))
+
+pub returns-in-High : goal.returns-in-High
+returns-in-High c =
+    let r : Reader = record { env = c.args.env.now; table = c.args.notations.now; scope = c.args.scope.now } in
+    let cs_is = c.coercions-coercions.ensures.coercions in
+    let ctx_is = c.requires.ctx in
+    let goal_is = c.settled_sort-goal.ensures in
+    let found = c.in-Some.ensures in
+    judged-high r c.args.wanted c.coercions-coercions.ensures.table c.requires.names (tree c.args.syntax.now) c.coercions-coercions.result.now c.args.ctx.now cs_is ctx_is c.refused-in-High.result c.refused-in-High.ensures found.0 c.in-Some.sort c.in-Some-distance.many found.1 (subst (λ i. HasLength c.coercions-coercions.result.now (length c.coercions-coercions.result.now) c.in-Some.sort i c.in-Some-distance.many) goal_is c.in-Some-distance.ensures)
+    (λ g q has. let high = c.in-High.ensures g q has in omega (arith, high, c.if-many-gt-MOST.false))
+
+pub returns-in-Ok : goal.returns-in-Ok
+returns-in-Ok c =
+    let r : Reader = record { env = c.args.env.now; table = c.args.notations.now; scope = c.args.scope.now } in
+    let cs_is = c.coercions-coercions.ensures.coercions in
+    let ctx_is = c.requires.ctx in
+    let goal_is = c.settled_sort-goal.ensures in
+    let found = c.in-Some.ensures in
+    let built = c.in-Tree.ensures in
+    let path = c.in-Ok.ensures in
+    let has = same-sort r c.args.wanted c.coercions-coercions.ensures.table c.requires.names (tree c.args.syntax.now) c.coercions-coercions.result.now c.args.ctx.now cs_is ctx_is (tree c.in-Tree.expr) found.0 c.in-Some.sort built.0 built.1 found.1 in
+    let low = built.2 in
+    judged-claim r c.args.wanted c.coercions-coercions.ensures.table c.requires.names (tree c.args.syntax.now) c.coercions-coercions.result.now c.args.ctx.now cs_is ctx_is c.claimed.result (tree c.in-Tree.expr) c.in-Some.sort c.in-Some-distance.many path.0 (tree c.in-Ok.expr) has (subst (λ i. HasLength c.coercions-coercions.result.now (length c.coercions-coercions.result.now) c.in-Some.sort i c.in-Some-distance.many) goal_is c.in-Some-distance.ensures)
+    (subst (λ i. IsPath c.coercions-coercions.result.now c.in-Some.sort path.0 i) goal_is path.1) path.2 (omega (arith, low, c.if-many-gt-MOST.false)) c.claimed.ensures

@@ -1,0 +1,25 @@
+use Rattle.std.proofs.Common.{◌≡◌, ◌↔◌, ◌<◌, ◌≤◌, ◌+◌, ◌-◌, ◌*◌, ◌++◌, ◌∷◌, [], ℕ, List, Contains, length, get_or, drop, slice_get, Some}
+use Rattle.mz_math.specs.Meaning.{Coerced, CoercedAll, trees_height}
+use Rattle.mz_logic.specs.Tree.{Trees, size, trees_size, followed_by}
+use Rattle.mz_logic.specs.View.{tree, trees}
+use Rattle.mz_logic.specs.Declaration.{signatures}
+use Rattle.mz_math.proofs.meaning.+build.Given as goal
+
+abbrev pub decreases-build : goal.decreases-build
+decreases-build l = 3 * size (tree l.tree.now)
+
+abbrev pub decreases-build_all : goal.decreases-build_all
+decreases-build_all l = 3 * trees_size l.operands.now + 2
+
+abbrev pub decreases-build_operand : goal.decreases-build_operand
+decreases-build_operand l = 3 * size (tree l.operand.now) + 1
+
+abbrev pub invariant-build_all-loop-i : goal.invariant-build_all-loop-i
+invariant-build_all-loop-i l = record {
+  goes_on : (fs : Trees) → CoercedAll (signatures l.env) l.coercions l.ctx (trees (drop l.i l.items)) (drop l.i l.params) fs
+      → CoercedAll (signatures l.env) l.coercions l.ctx l.operands l.params (followed_by l.all fs);
+  there : (fs : Trees) × CoercedAll (signatures l.env) l.coercions l.ctx (trees (drop l.i l.items)) (drop l.i l.params) fs;
+  many : length l.items ≡ length l.params;
+  size : trees_size (trees (drop l.i l.items)) ≤ trees_size l.operands;
+  low : trees_height l.all ≤ l.most;
+}

@@ -1,0 +1,32 @@
+use Rattle.std.proofs.Common.{◌≡◌, ◌++◌, ◌∷◌, [], ◌∙◌, ℕ, List, ap, sym, subst, refl, true, false, inl, inr, Err, Contains}
+use Rattle.std.specs.Prelude.{IsTrue}
+use Rattle.std.proofs.lemmas.Bool.{true≢false, false≢true}
+use Rattle.mz_lex.specs.Kinds.{is_name}
+use Rattle.mz_math.specs.Notation.{Notation, Table, TermName, Coercion, with_name, with_coercion, with_delimiters}
+use Rattle.mz_math.specs.Pieces.{Delimiters, AreDelimiters}
+use Rattle.mz_math.specs.Coercions.{OnePath}
+use Rattle.mz_math.specs.Readable.{IsTable}
+use Rattle.mz_math.proofs.Tables.{empty-made, name-is, coercion-is, delimiters-is, delimiter-answer}
+use Rattle.mz_math.proofs.table.Notations.add_coercion.Goals as goal
+
+pub returns-then-not-stays_one_path-clause-answer : goal.returns-then-not-stays_one_path-clause-answer
+returns-then-not-stays_one_path-clause-answer c =
+    let k : Coercion = record { term = c.args.term; from = c.args.from; to = c.args.to } in
+    let here = c.deref.ensures.value ∙ ap (λ (t : Table). t.coercions) c.self.view_is in
+    inr (
+      c.is_coercion.ensures.0 c.if-not-is_coercion.false,
+      inl ((λ one. true≢false (sym (c.stays_one_path.ensures.1 (subst (λ (cs : List Coercion). OnePath (cs ++ k ∷ [])) (sym here) one)) ∙ c.if-not-stays_one_path.true)), refl),
+    )
+
+pub invariant_of-self-2 : goal.invariant_of-self-2
+invariant_of-self-2 c =
+    let v : Table = record { delimiters = c.self.inside.delimiters; leading = c.self.inside.leading.items; infixes = c.self.inside.infixes.items; names = c.self.inside.names.items; coercions = c.self.inside.coercions.items } in
+    let k : Coercion = record { term = c.args.term; from = c.args.from; to = c.args.to } in
+    let one = subst (λ (cs : List Coercion). OnePath (cs ++ k ∷ [])) c.deref.ensures.value (c.stays_one_path.ensures.0 c.if-not-stays_one_path.false) in
+    subst (λ (cs : List Coercion). IsTable (record v { coercions = cs })) (sym c.in-Ok.ensures.items) (coercion-is v k c.self.invariant one)
+
+pub returns-clause-answer : goal.returns-clause-answer
+returns-clause-answer c =
+    let k : Coercion = record { term = c.args.term; from = c.args.from; to = c.args.to } in
+    let here = c.deref.ensures.value ∙ ap (λ (t : Table). t.coercions) c.self.view_is in
+    (c.is_coercion.ensures.0 c.if-not-is_coercion.false, (subst (λ (cs : List Coercion). OnePath (cs ++ k ∷ [])) here (c.stays_one_path.ensures.0 c.if-not-stays_one_path.false), tt))

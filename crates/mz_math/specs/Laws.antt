@@ -1,0 +1,62 @@
+-- What holds of every table that the calls make.
+use Rattle.std.specs.Prelude.{◌≡◌, ◌≢◌, ◌⊎◌, ℕ, List, [], ◌∷◌, ◌++◌, Option, Bool, Contains, IsTrue}
+use Rattle.mz_checks.specs.Checks.{AllHold}
+use Rattle.mz_lex.specs.Kinds.{is_name}
+use Rattle.mz_logic.specs.Tree.{Tree}
+use Rattle.mz_logic.specs.Signature.{Signature}
+use Rattle.mz_math.specs.Pieces.{Delimiters, Piece, Pieces}
+use Rattle.mz_math.specs.Notation.{Notation, TermName, Coercion, Table, empty_table, with_notation, with_name, with_coercion, with_delimiters}
+use Rattle.mz_math.specs.Clear.{IsClear}
+use Rattle.mz_math.specs.Coercions.{OnePath}
+use Rattle.mz_math.specs.Grammar.{words_of, Exp}
+use Rattle.mz_math.specs.Readable.{IsTable, AreVariables}
+use Rattle.mz_math.specs.Meaning.{Wanted}
+use Rattle.mz_math.specs.Formula.{Reader, Misreading, IsFormula, Misreads}
+use Rattle.mz_math.specs.Forms.{IsInfix, IsPrefix, IsGeneral, General}
+
+-- ---- tables
+
+abbrev pub EmptyIsTable : Type 0
+EmptyIsTable = IsTable empty_table
+
+-- what `infixl`, `infixr`, `prefix` or `notation` makes
+abbrev pub IsNoted : List Signature → Delimiters → Notation → Type 0
+IsNoted sigs d k = ((term : ℕ) × (text : List ℕ) × (level : Option ℕ) × (right : Bool) × IsInfix sigs d term text level right k)
+    ⊎ (((term : ℕ) × (text : List ℕ) × (level : Option ℕ) × IsPrefix sigs d term text level k) ⊎ ((g : General) × IsGeneral sigs d g k))
+
+abbrev pub NotationsKeepTables : Type 0
+NotationsKeepTables = (t : Table) (sigs : List Signature) (k : Notation) → IsTable t → IsNoted sigs t.delimiters k
+    → IsClear (with_notation t k).leading (with_notation t k).infixes → IsTable (with_notation t k)
+
+abbrev pub CoercionsKeepTables : Type 0
+CoercionsKeepTables = (t : Table) (c : Coercion) → IsTable t → OnePath (t.coercions ++ c ∷ []) → IsTable (with_coercion t c)
+
+abbrev pub DelimitersKeepTables : Type 0
+DelimitersKeepTables = (t : Table) (d : Delimiters) → IsTable t → IsTable (with_delimiters t d)
+
+-- a name is an identifier that names no other term
+abbrev pub NamesKeepTables : Type 0
+NamesKeepTables = (t : Table) (n : TermName) → IsTable t → IsTrue (is_name n.name) → ((m : TermName) → Contains t.names m → m.name ≡ n.name → ⊥) → IsTable (with_name t n)
+
+abbrev pub VariablesStay : Type 0
+VariablesStay = (names : List (List ℕ)) (w : List ℕ) → AreVariables names → (w ≡ []) ⊎ IsTrue (is_name w) → (w ≢ [] → Contains names w → ⊥) → AreVariables (names ++ w ∷ [])
+
+-- ---- trees
+
+abbrev pub OneTree : Type 0
+OneTree = (t : Table) (sigs : List Signature) (variables : List (List ℕ)) → IsTable t → AreVariables variables
+    → (tokens : List (List ℕ)) (e f : Tree) → Exp (words_of t sigs variables) 0 e tokens → Exp (words_of t sigs variables) 0 f tokens → e ≡ f
+
+-- ---- strings
+
+abbrev pub OneTokens : Type 0
+OneTokens = (d : Delimiters) (text : List ℕ) (ps qs : List Piece) → Pieces d text ps → Pieces d text qs → ps ≡ qs
+
+abbrev pub OneMeaning : Type 0
+OneMeaning = (r : Reader) (w : Wanted) (text : List ℕ) → IsTable r.table → AreVariables r.scope.names → (e f : Tree) → IsFormula r w text e → IsFormula r w text f → e ≡ f
+
+abbrev pub OneMisreading : Type 0
+OneMisreading = (r : Reader) (w : Wanted) (text : List ℕ) (m n : Misreading) → Misreads r w text m → Misreads r w text n → m ≡ n
+
+abbrev pub OneReading : Type 0
+OneReading = (r : Reader) (w : Wanted) (text : List ℕ) (e : Tree) (m : Misreading) → IsFormula r w text e → Misreads r w text m → ⊥

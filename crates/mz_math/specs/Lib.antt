@@ -1,0 +1,13 @@
+pub mod Pieces
+pub mod Notation
+pub mod Clear
+pub mod Grammar
+pub mod Coercions
+pub mod Readable
+pub mod Meaning
+pub mod Formula
+pub mod Forms
+pub mod Reading
+pub mod Lookups
+pub mod Answers
+pub mod Laws

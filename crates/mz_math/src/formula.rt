@@ -1,0 +1,210 @@
+// What a math string stands for.
+ghost use Rattle.std.specs.Prelude.{◌≡◌, ◌≢◌, ◌↔◌, ◌≤◌, ◌<◌, ◌^◌, ℕ, List, All, IsTrue, MatchOption, Some, length};
+ghost use Rattle.mz_logic.specs.Declaration.{sorts};
+ghost use Rattle.mz_logic.specs.Modifiers.{MayBeClaimSort};
+ghost use Rattle.mz_logic.specs.View.{tree};
+ghost use Rattle.mz_math.specs.Answers.{IsClaimRead, IsFirstUnknown, IsJudged, settled};
+ghost use Rattle.mz_math.specs.Coercions.{IsPath, OnePath, Reaches};
+ghost use Rattle.mz_math.specs.Formula.{IsParsed};
+ghost use Rattle.mz_math.specs.Meaning.{IsGoal};
+ghost use Rattle.mz_math.specs.Readable.{AreVariables};
+
+use crate::coercion::{Coercion, distance, wrap};
+use crate::meaning::{Built, build, sort_of};
+use crate::parser::{Syntax, parse};
+use crate::pieces::{Piece, Tokens};
+use crate::scope::Scope;
+use crate::table::Notations;
+use crate::words::Vocabulary;
+use mz_lex::S;
+use mz_logic::{Context, Env, Expr};
+use std::alloc::Global;
+
+/// At most so many tokens, and at most so high a tree.
+const MOST: usize = 4096;
+
+/// What a formula is to be: of a provable sort, or of a sort.
+#[derive(Clone, Copy, Debug, PartialEq, Eq)]
+pub enum Wanted {
+    Provable,
+    Sort(u32),
+}
+
+/// What a math string stands for, or the first rule that it breaks, at a byte of it.
+#[derive(Drop)]
+pub enum Parsed {
+    Tree(Expr),
+    Refused { at: u32, rule: S },
+    Mem,
+}
+
+fn refused(rule: S) -> Parsed
+    ensures { result ≡ Parsed.Refused 0 rule }
+{
+    Parsed::Refused { at: 0, rule }
+}
+
+/// What a math string, without its `$`, stands for over the table, the declarations and the
+/// statement's variables. The string has at most 4,294,967,295 bytes.
+///
+/// It is refused by the first rule that it breaks, in this order: a token is unknown (at the token;
+/// the others are told at 0), it has more than 4,096 tokens, they have no tree, an operand or the
+/// whole can't be wrapped to its sort, the tree is higher than 4,096, it reaches no provable sort or
+/// several.
+pub fn parse_formula(
+    alloc: Global,
+    notations: &Notations,
+    env: &Env,
+    scope: &Scope,
+    text: &[u8],
+    wanted: Wanted,
+) -> Parsed
+    requires { length text.now < 2 ^ 32 }
+    ensures { IsParsed (record { env = env.now; table = notations.now; scope = scope.now }) wanted text.now result }
+{
+    let Ok(pieces) = notations.delimiters().pieces(alloc, text) else {
+        return Parsed::Mem;
+    };
+    let words = Vocabulary::new(notations, env, scope);
+    let ctx = Context::of(scope.binders());
+    if let Some(at) = first_unknown(&words, text, &pieces) {
+        return Parsed::Refused {
+            at,
+            rule: S::MathToken,
+        };
+    }
+    let tokens = Tokens::new(text, &pieces);
+    if tokens.len() > MOST {
+        return refused(S::Depth);
+    }
+    match parse(alloc, &words, &tokens) {
+        Syntax::Mem => Parsed::Mem,
+        Syntax::No => refused(S::MathSyntax),
+        Syntax::Tree(tree) => meaning_of(alloc, notations, env, scope, &ctx, &tree, wanted),
+    }
+}
+
+/// The first byte of the first token that is unknown.
+fn first_unknown(words: &Vocabulary<'_>, text: &[u8], pieces: &[Piece]) -> Option<u32>
+    requires within { All (λ p. (p.from ≤ p.to) × (p.to ≤ length text.now)) pieces.now }
+    requires small { length text.now < 2 ^ 32 }
+    ensures { IsFirstUnknown words.now text.now pieces.now result }
+{
+    for i in 0..pieces.len() {
+        let piece = pieces[i];
+        if !words.is_known(&text[piece.from..piece.to]) {
+            return Some(piece.from as u32);
+        }
+    }
+    None
+}
+
+/// What a tree stands for.
+fn meaning_of(
+    alloc: Global,
+    notations: &Notations,
+    env: &Env,
+    scope: &Scope,
+    ctx: &Context<'_>,
+    syntax: &Expr,
+    wanted: Wanted,
+) -> Parsed
+    requires ctx { ctx.now ≡ scope.now.binders }
+    requires names { AreVariables scope.now.names }
+    ensures { IsJudged (record { env = env.now; table = notations.now; scope = scope.now }) wanted (tree syntax.now) result }
+{
+    let coercions = notations.coercions();
+    let Some(sort) = sort_of(env, coercions, ctx, syntax) else {
+        return refused(S::NoCoercion);
+    };
+    let goal = settled_sort(wanted, sort);
+    let Some(many) = distance(coercions, sort, goal, coercions.len()) else {
+        return refused(S::NoCoercion);
+    };
+    if many > MOST {
+        return refused(S::Depth);
+    }
+    match build(alloc, env, coercions, ctx, syntax, MOST - many) {
+        Built::Mem => Parsed::Mem,
+        Built::High => refused(S::Depth),
+        Built::Tree(expr) => match wrap(alloc, coercions, sort, goal, coercions.len(), expr) {
+            Err(_) => Parsed::Mem,
+            Ok(expr) => claimed(alloc, env, coercions, sort, expr, wanted),
+        },
+    }
+}
+
+/// The sort to which the whole is wrapped before its own rule.
+fn settled_sort(wanted: Wanted, sort: u32) -> u32
+    ensures { result ≡ settled wanted sort }
+{
+    match wanted {
+        Wanted::Provable => sort,
+        Wanted::Sort(goal) => goal,
+    }
+}
+
+/// The expression wrapped to a provable sort, where that is wanted.
+fn claimed(
+    alloc: Global,
+    env: &Env,
+    coercions: &[Coercion],
+    sort: u32,
+    expr: Expr,
+    wanted: Wanted,
+) -> Parsed
+    requires { OnePath coercions.now }
+    ensures { IsClaimRead env.now coercions.now wanted (tree expr) sort result }
+{
+    match wanted {
+        Wanted::Sort(_) => Parsed::Tree(expr),
+        Wanted::Provable => match goal_of(env, coercions, sort) {
+            None => refused(S::NotProvable),
+            Some(goal) => match wrap(alloc, coercions, sort, goal, coercions.len(), expr) {
+                Err(_) => Parsed::Mem,
+                Ok(expr) => Parsed::Tree(expr),
+            },
+        },
+    }
+}
+
+fn is_provable(env: &Env, sort: u32) -> bool
+    ensures { IsTrue result ↔ MayBeClaimSort (sorts env.now) sort }
+{
+    match env.mods(sort) {
+        None => false,
+        Some(mods) => mods.is_provable(),
+    }
+}
+
+/// The provable sort for which an expression of a sort stands, if there is one.
+fn goal_of(env: &Env, coercions: &[Coercion], sort: u32) -> Option<u32>
+    requires { OnePath coercions.now }
+    ensures { MatchOption result ((goal : ℕ) (path : List ℕ) → IsGoal env.now coercions.now sort goal → IsPath coercions.now sort path goal → ⊥)
+        (λ goal. IsGoal env.now coercions.now sort goal × Reaches coercions.now (length coercions.now) sort goal) }
+{
+    if is_provable(env, sort) {
+        return Some(sort);
+    }
+    let mut found = None;
+    'coercions: for i in 0..coercions.len() {
+        let to = coercions[i].to;
+        if is_provable(env, to) && distance(coercions, sort, to, coercions.len()).is_some() {
+            if is_other(found, to) {
+                return None;
+            }
+            found = Some(to);
+        }
+    }
+    found
+}
+
+/// Whether another sort has been found.
+fn is_other(found: Option<u32>, sort: u32) -> bool
+    ensures { IsTrue result ↔ ((other : ℕ) × (found ≡ Some other) × (other ≢ sort)) }
+{
+    match found {
+        None => false,
+        Some(other) => other != sort,
+    }
+}

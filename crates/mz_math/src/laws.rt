@@ -1,0 +1,28 @@
+// What holds of every table that the calls make. These functions do nothing: a caller learns their clauses.
+ghost use Rattle.mz_math.specs.Laws.{CoercionsKeepTables, DelimitersKeepTables, EmptyIsTable, NamesKeepTables, NotationsKeepTables, OneMeaning, OneMisreading, OneReading, OneTokens, OneTree, VariablesStay};
+
+/// The empty table is one that the calls make, and each statement that breaks no rule makes another.
+pub fn statements_keep_tables()
+    ensures empty { EmptyIsTable }
+    ensures notations { NotationsKeepTables }
+    ensures coercions { CoercionsKeepTables }
+    ensures delimiters { DelimitersKeepTables }
+    ensures names { NamesKeepTables }
+    ensures variables { VariablesStay }
+{}
+
+/// Over such a table a list of tokens has at most one tree: no constant has two levels, no two
+/// notations have one leading or one infix constant, the infix forms of a level group alike, none is
+/// at max, no constant is a parenthesis, and a name is a variable's or a term's alone.
+pub fn each_token_list_has_one_tree()
+    ensures { OneTree }
+{}
+
+/// A string has one list of tokens, stands for one expression at most, breaks one rule first at
+/// most, and never both.
+pub fn each_string_has_one_meaning()
+    ensures tokens { OneTokens }
+    ensures meaning { OneMeaning }
+    ensures misreading { OneMisreading }
+    ensures not_both { OneReading }
+{}
