@@ -1,0 +1,38 @@
+-- A text has one answer.
+use Rattle.std.proofs.Common.{ℕ, suc, ◌≡◌, ◌∙◌, inl, inr, List, sym, ap, subst}
+use Rattle.mz_checks.specs.Checks.{AllHold, FailsFirst, retold}
+use Rattle.mz_checks.proofs.InOrder.{all_hold-both}
+use Rattle.mz_checks.proofs.CheckLaws.{fails_first-unique, all_hold-excludes}
+use Rattle.mz_sexpr.specs.declared.rule.TextRefusal.{TextRefusal}
+use Rattle.mz_sexpr.specs.Node.{Nodes, no_nodes, node}
+use Rattle.mz_sexpr.proofs.Readings.{one_reading_only, is_read_or_refused}
+use Rattle.mz_mmu.specs.Name.{Names}
+use Rattle.mz_mmu.specs.Proof.{Statement}
+use Rattle.mz_mmu.specs.Statements.{no_names, names_with, AreStatements, Reads}
+use Rattle.mz_mmu.specs.Order.{statement_asked, statements_asked, in_statement, names_after, Refuses}
+use Rattle.mz_mmu.specs.Laws.{IsReadOrRefusedOnce}
+use Rattle.mz_mmu.proofs.Declared.{statement_says}
+use Rattle.mz_mmu.proofs.TextSteps.{retold_holds}
+
+statements_hold : (k : ℕ) (names : Names) (ns : Nodes) (ss : List Statement) → AreStatements names ns ss → AllHold (statements_asked k names ns)
+statements_hold k names no_nodes ss h = tt
+statements_hold k names (node n ns) ss (s, rest, h, r, is) =
+    let says = statement_says names n s h in
+    all_hold-both (retold (in_statement k) (statement_asked names n)) (statements_asked (suc k) (names_after names n) ns) (retold_holds (in_statement k) (statement_asked names n) says.0)
+    (subst (λ x. AllHold (statements_asked (suc k) x ns)) (sym says.1) (statements_hold (suc k) (names_with names s.name s.decl) ns rest r))
+
+never : (text : List ℕ) (ns : Nodes) (ss : List Statement) (r : TextRefusal) → Reads text ns ss → Refuses text r → ⊥
+never text ns ss r (spells, read) (inl m) = (is_read_or_refused text).never_both ns r spells m
+never text ns ss r (spells, read) (inr (ms, spells', f)) =
+    all_hold-excludes (statements_asked 1 no_names ms) r
+    (statements_hold 1 no_names ms ss (subst (λ x. AreStatements no_names x ss) (one_reading_only text ns ms spells spells') read)) f
+
+one : (text : List ℕ) (q r : TextRefusal) → Refuses text q → Refuses text r → q ≡ r
+one text q r (inl m) (inl m') = (is_read_or_refused text).one_refusal q r m m'
+one text q r (inl m) (inr (ns, spells, f)) = absurd ((is_read_or_refused text).never_both ns q spells m)
+one text q r (inr (ns, spells, f)) (inl m) = absurd ((is_read_or_refused text).never_both ns r spells m)
+one text q r (inr (ns, spells, f)) (inr (ms, spells', g)) =
+    fails_first-unique (statements_asked 1 no_names ms) q r (subst (λ x. FailsFirst (statements_asked 1 no_names x) q) (one_reading_only text ns ms spells spells') f) g
+
+pub one_answer : (text : List ℕ) → IsReadOrRefusedOnce text
+one_answer text = record { never_both = never text; one_refusal = one text }

@@ -1,0 +1,5 @@
+use Rattle.mz_mmu.proofs.OneAnswer.{one_answer}
+use Rattle.mz_mmu.proofs.laws.read_or_refused_once.Goals as goal
+
+pub returns : goal.returns
+returns c = one_answer

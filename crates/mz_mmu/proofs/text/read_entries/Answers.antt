@@ -1,0 +1,95 @@
+use Rattle.std.proofs.Common.{◌≡◌, ◌≤◌, ◌<◌, ◌+◌, ◌^◌, ◌∙◌, ℕ, suc, List, [], ◌∷◌, ◌++◌, length, map, append-nil, ap, sym, subst, refl, arith}
+use Rattle.mz_checks.proofs.InOrder.{Decides, decides-whole}
+use Rattle.mz_sexpr.specs.Number.{node_at, nodes_after}
+use Rattle.mz_mmu.specs.Cursor.{nodes_from, IsThere, nodes_size}
+use Rattle.mz_mmu.specs.EntryView.{entry, root, AreNumbers}
+use Rattle.mz_mmu.specs.Proof.{Statement}
+use Rattle.mz_mmu.specs.Statements.{no_names, AreStatements}
+use Rattle.mz_mmu.specs.Order.{statements_asked}
+use Rattle.mz_mmu.specs.ScopeView.{names}
+use Rattle.mz_mmu.specs.StatementView.{stated}
+use Rattle.mz_mmu.proofs.Cursors.{stands_from, stands_there, stepped, node_size_positive}
+use Rattle.mz_mmu.proofs.Declared.{Agrees, statement_says}
+use Rattle.mz_mmu.proofs.Keys.{length-more}
+use Rattle.std.proofs.lemmas.List.{map-append}
+use Rattle.mz_mmu.specs.NamesMore.{AreFew}
+use Rattle.mz_mmu.proofs.TextSteps.{statements_read_more, statements_asked_more, statements_stop, numbers_more, few_more, agrees_more, agrees_first, few_first, text_stops}
+use Rattle.mz_mmu.proofs.text.read_entries.Goals as goal
+
+pub loop-left-init : goal.loop-left-init
+loop-left-init c =
+    let all = c.args.nodes.now in
+    let start = stands_from all c.roots-left.result all c.roots-left.ensures in
+    let none = ap length c.new-entries.ensures.items in
+    let sizes = ap nodes_size start in
+    record {
+      there = stands_there all c.roots-left.result all c.roots-left.ensures;
+      few = omega (arith, none, sizes, c.requires);
+      counts = subst (λ x. AreFew x (length c.new-entries.result.items)) (sym c.new-names.ensures) (few_first (length c.new-entries.result.items));
+      agrees = subst Agrees (sym c.new-names.ensures) agrees_first;
+      read = λ ss r. subst (λ xs. AreStatements no_names all (map entry xs ++ ss)) (sym c.new-entries.ensures.items)
+          (subst (λ ns. AreStatements no_names ns ss) (sym start) (subst (λ x. AreStatements x (nodes_from all c.roots-left.result) ss) c.new-names.ensures r));
+      roots = λ ks r. subst (λ xs. AreNumbers all all (map root xs ++ ks)) (sym c.new-entries.ensures.items) (subst (λ ns. AreNumbers all ns ks) (sym start) r);
+      asked = subst (λ k. Decides (statements_asked (suc k) (names c.new-names.result) (nodes_from all c.roots-left.result)) (statements_asked 1 no_names all)) (sym none)
+          (subst (λ x. Decides (statements_asked 1 x (nodes_from all c.roots-left.result)) (statements_asked 1 no_names all)) (sym c.new-names.ensures)
+          (subst (λ ns. Decides (statements_asked 1 no_names ns) (statements_asked 1 no_names all)) start (decides-whole (statements_asked 1 no_names all))));
+    }
+
+pub loop-left-preserved : goal.loop-left-preserved
+loop-left-preserved c =
+    let all = c.args.nodes.now in
+    let ns = names c.loop-left.names in
+    let later = names c.add.new.self in
+    let m = node_at all c.in-Some.n in
+    let s = stated c.in-Ok.read.0 c.in-Ok.read.1 in
+    let step = stepped all c.loop-left.left c.in-Some.n c.next-left.result c.in-Some.is c.next-left.ensures in
+    let old = c.loop-left.entries.items in
+    let sizes = ap nodes_size step in
+    let size = node_size_positive m in
+    let one = ap length c.in-Ok-push.ensures.items ∙ length-more old (record { root = c.in-Some.n; is_local = c.in-Ok.read.0; declared = c.in-Ok.read.1 }) in
+    let entries = ap (map entry) c.in-Ok-push.ensures.items ∙ map-append entry old (record { root = c.in-Some.n; is_local = c.in-Ok.read.0; declared = c.in-Ok.read.1 } ∷ []) in
+    let roots = ap (map root) c.in-Ok-push.ensures.items ∙ map-append root old (record { root = c.in-Some.n; is_local = c.in-Ok.read.0; declared = c.in-Ok.read.1 } ∷ []) in
+    let within = subst (IsThere all) c.in-Some.is c.loop-left.invariant.there in
+    record {
+      there = stands_there all c.next-left.result (nodes_after all c.in-Some.n) c.next-left.ensures;
+      few = omega (arith, sizes, size, one, c.loop-left.invariant.few);
+      counts = few_more ns later s.name s.decl (length old) (length c.push.new.self.items) c.in-Ok-add.ensures one c.loop-left.invariant.counts;
+      agrees = agrees_more ns later s.name s.decl c.in-Ok-add.ensures c.loop-left.invariant.agrees;
+      read = statements_read_more ns later (nodes_from all c.loop-left.left) (nodes_from all c.next-left.result) m step s c.in-Ok.ensures.read c.in-Ok-add.ensures
+          (AreStatements no_names all) (map entry old) (map entry c.push.new.self.items) entries c.loop-left.invariant.read;
+      roots = numbers_more all (nodes_from all c.loop-left.left) (nodes_from all c.next-left.result) c.in-Some.n step within (AreNumbers all all) (map root old) (map root c.push.new.self.items) roots c.loop-left.invariant.roots;
+      asked = subst (λ k. Decides (statements_asked (suc k) later (nodes_from all c.next-left.result)) (statements_asked 1 no_names all)) (sym one)
+          (statements_asked_more ns later (nodes_from all c.loop-left.left) (nodes_from all c.next-left.result) m step s c.in-Ok.ensures.read c.in-Ok-add.ensures (suc (length old)) (statements_asked 1 no_names all) c.loop-left.invariant.asked);
+    }
+
+pub loop-left-smaller : goal.loop-left-smaller
+loop-left-smaller c =
+    let all = c.args.nodes.now in
+    let sizes = ap nodes_size (stepped all c.loop-left.left c.in-Some.n c.next-left.result c.in-Some.is c.next-left.ensures) in
+    let size = node_size_positive (node_at all c.in-Some.n) in
+    omega (arith, sizes, size)
+
+pub returns-in-Err-clause-stops : goal.returns-in-Err-clause-stops
+returns-in-Err-clause-stops c =
+    let all = c.args.nodes.now in
+    let number : c.len.result + 1 ≡ suc (length c.loop-left.entries.items) = omega (arith, c.len.ensures, c.loop-left.entries.ok.0) in
+    text_stops (names c.loop-left.names) (nodes_from all c.loop-left.left) (nodes_after all c.in-Some.n) (node_at all c.in-Some.n) (suc (length c.loop-left.entries.items)) (c.len.result + 1)
+    (statements_asked 1 no_names all) c.in-Err.stop c.in_statement.result number c.in_statement.ensures (ap (nodes_from all) c.in-Some.is) c.loop-left.invariant.asked c.in-Err.ensures.stops
+
+pub add-requires-clause-name : goal.add-requires-clause-name
+add-requires-clause-name c =
+    ((statement_says (names c.loop-left.names) (node_at c.args.nodes.now c.in-Some.n) (stated c.in-Ok.read.0 c.in-Ok.read.1) c.in-Ok.ensures.read).2 c.loop-left.invariant.agrees).0
+
+pub add-requires-clause-unused : goal.add-requires-clause-unused
+add-requires-clause-unused c =
+    ((statement_says (names c.loop-left.names) (node_at c.args.nodes.now c.in-Some.n) (stated c.in-Ok.read.0 c.in-Ok.read.1) c.in-Ok.ensures.read).2 c.loop-left.invariant.agrees).1
+
+pub returns-clause-read : goal.returns-clause-read
+returns-clause-read c =
+    let all = c.args.nodes.now in
+    let empty = sym (ap (nodes_from all) c.in_default.is) in
+    record {
+      read = subst (AreStatements no_names all) (append-nil (map entry c.loop-left.entries.items)) (c.loop-left.invariant.read [] (subst (λ l. AreStatements (names c.loop-left.names) l []) empty refl));
+      roots = subst (AreNumbers all all) (append-nil (map root c.loop-left.entries.items)) (c.loop-left.invariant.roots [] (subst (λ l. AreNumbers all l []) empty refl));
+      few = omega (arith, c.loop-left.invariant.few);
+    }

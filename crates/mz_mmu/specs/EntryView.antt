@@ -1,0 +1,29 @@
+-- How the code keeps the statements of a text.
+use Rattle.std.specs.Prelude.{ℕ, ◌≡◌, ◌<◌, ◌^◌, List, [], ◌∷◌, map, length}
+use Rattle.mz_sexpr.specs.Node.{Nodes, no_nodes, node}
+use Rattle.mz_sexpr.specs.Number.{node_count, node_at}
+use Rattle.mz_mmu.specs.Proof.{Statement}
+use Rattle.mz_mmu.specs.Statements.{no_names, AreStatements}
+use Rattle.mz_mmu.specs.StatementView.{stated}
+use Rattle.mz_mmu.specs.TextView.{Forms}
+use Rattle.mz_mmu.specs.declared.text.Entry.{Entry}
+
+abbrev pub entry : Entry → Statement
+entry e = stated e.is_local e.declared
+
+abbrev pub root : Entry → ℕ
+root e = e.root
+
+abbrev pub forms : Nodes → List Entry → Forms
+forms nodes entries = record { nodes = nodes; statements = map entry entries }
+
+-- the nodes' numbers are these
+abbrev pub AreNumbers : Nodes → Nodes → List ℕ → Type 0
+AreNumbers all no_nodes ks = ks ≡ []
+AreNumbers all (node n ns) [] = ⊥
+AreNumbers all (node n ns) (k ∷ ks) = (k < node_count all) × (n ≡ node_at all k) × AreNumbers all ns ks
+
+pub record IsRooted (nodes : Nodes) (entries : List Entry) : Type 0 where
+  pub read : AreStatements no_names nodes (map entry entries)
+  pub roots : AreNumbers nodes nodes (map root entries)
+  pub few : length entries < 2 ^ 32

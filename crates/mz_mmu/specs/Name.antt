@@ -1,0 +1,72 @@
+-- Names, and the numbers that they have.
+use Rattle.std.specs.Prelude.{ℕ, suc, ◌+◌, Bool, true, false, ◌==◌, ◌||◌, ◌&&◌, nat_le, not, ◌≡◌, ◌⊎◌, IsTrue, if◌then◌else◌, List, [], ◌∷◌, ◌++◌, Option, Some, None, option_map, bytes_eq, codes}
+use Rattle.mz_sexpr.specs.Node.{Node, atom, list}
+
+-- ---- identifiers: letters, digits and `_`, no digit first, and not `_` alone
+
+abbrev pub is_between : ℕ → ℕ → ℕ → Bool
+is_between low b high = nat_le low b && nat_le b high
+
+abbrev pub is_name_start : ℕ → Bool
+is_name_start b = is_between 65 b 90 || is_between 97 b 122 || b == 95
+
+abbrev pub is_name_byte : ℕ → Bool
+is_name_byte b = is_name_start b || is_between 48 b 57
+
+abbrev pub are_name_bytes : List ℕ → Bool
+are_name_bytes [] = true
+are_name_bytes (b ∷ bs) = is_name_byte b && are_name_bytes bs
+
+-- the word of a parameter that has no name
+abbrev pub hidden : List ℕ
+hidden = codes "_"
+
+abbrev pub is_identifier : List ℕ → Bool
+is_identifier [] = false
+is_identifier (b ∷ bs) = is_name_start b && are_name_bytes bs && not (bytes_eq (b ∷ bs) hidden)
+
+abbrev pub IsName : List ℕ → Type 0
+IsName w = IsTrue (is_identifier w)
+
+-- ---- numbers
+
+-- the number of a name among names: the place of the first that is the same, if there is one
+abbrev pub number_of : List (List ℕ) → List ℕ → Option ℕ
+number_of [] w = None
+number_of (x ∷ xs) w = if bytes_eq w x then Some 0 else option_map suc (number_of xs w)
+
+abbrev pub IsNew : List (List ℕ) → List ℕ → Type 0
+IsNew xs w = number_of xs w ≡ None
+
+abbrev pub IsKnown : List (List ℕ) → List ℕ → Type 0
+IsKnown xs w = (i : ℕ) × (number_of xs w ≡ Some i)
+
+-- the atom is a name, which has this number
+abbrev pub HasNumber : List (List ℕ) → Node → ℕ → Type 0
+HasNumber xs (atom _ w) i = IsName w × (number_of xs w ≡ Some i)
+HasNumber xs (list _ _) i = ⊥
+
+-- the atom is this name, which isn't taken
+abbrev pub IsNewName : List (List ℕ) → Node → List ℕ → Type 0
+IsNewName xs (atom _ w) x = (x ≡ w) × IsName w × IsNew xs w
+IsNewName xs (list _ _) x = ⊥
+
+-- the same of a parameter's name, which may be `_`, any number of times
+abbrev pub IsParamName : List (List ℕ) → Node → List ℕ → Type 0
+IsParamName xs (atom _ w) x = (x ≡ w) × ((w ≡ hidden) ⊎ (IsName w × IsNew xs w))
+IsParamName xs (list _ _) x = ⊥
+
+-- ---- what is declared
+
+-- the names of the statements before: those of sorts, of terms, of terms without parameters (with
+-- nothing in the place of a term that has some), of axioms and theorems
+pub record Names : Type 0 where
+  pub sorts : List (List ℕ)
+  pub terms : List (List ℕ)
+  pub constants : List (List ℕ)
+  pub assertions : List (List ℕ)
+
+-- what an expression sees: those, and the variables of its statement that are visible
+pub record Scope : Type 0 where
+  pub names : Names
+  pub vars : List (List ℕ)

@@ -1,0 +1,28 @@
+-- Proofs as a text states them, with names resolved, and statements. Conversions are the logic's.
+use Rattle.std.specs.Prelude.{ℕ, Bool, List, Option}
+use Rattle.mz_logic.specs.Tree.{Tree, Trees}
+use Rattle.mz_logic.specs.Declaration.{Declaration}
+use Rattle.mz_logic.specs.Conversions.{Conversion}
+use Rattle.mz_logic.specs.declared.binder.Binder.{Binder}
+
+-- a hypothesis; a visible let, counted from the outermost; a citation of an axiom or theorem; an
+-- expression that converts to what is proved; and a let with the proof in which it is visible
+mutual
+  pub data Proof : Type 0 where
+    by_hyp : ℕ → Proof
+    by_name : ℕ → Proof
+    by_citation : ℕ → Trees → Proofs → Proof
+    by_conv : Tree → Conversion → Proof → Proof
+    by_let : Proof → Proof → Proof
+
+  pub data Proofs : Type 0 where
+    no_proofs : Proofs
+    more_proofs : Proof → Proofs → Proofs
+
+-- a statement of a text, with its mark and its name; a theorem has dummies and a proof
+pub record Statement : Type 0 where
+  pub is_local : Bool
+  pub name : List ℕ
+  pub decl : Declaration
+  pub dummies : List Binder
+  pub proof : Option Proof

@@ -1,0 +1,27 @@
+//! Forms and names of the proof text: its statements, with names resolved, or the first form or
+//! name that a statement gets wrong.
+#![tactic(auto)]
+
+mod binders;
+mod conv;
+mod convs;
+mod exprs;
+mod fault;
+mod keyword;
+mod laws;
+mod name;
+mod proof;
+mod proofs;
+mod reader;
+mod scope;
+mod space;
+mod statements;
+#[cfg(test)]
+mod tests;
+mod text;
+
+pub use conv::{Conv, ConvBox, Convs, Vars};
+pub use fault::Fault;
+pub use laws::read_or_refused_once;
+pub use proof::{Proof, ProofBox, Proofs};
+pub use text::{Text, TextRead, read_text};

@@ -1,0 +1,208 @@
+ghost use Rattle.std.specs.Prelude.{◌<◌, ◌^◌, length, IfOk, IfErr};
+ghost use Rattle.mz_mmu.specs.EntryView.{IsRooted};
+ghost use Rattle.mz_mmu.specs.Order.{statements_asked};
+ghost use Rattle.mz_mmu.specs.Statements.{no_names};
+ghost use Rattle.mz_mmu.specs.TextRead.{IsReading};
+ghost use Rattle.mz_mmu.specs.TextStops.{IsStopped, TextStops, IsRefusal};
+ghost use Rattle.mz_mmu.specs.Cursor.{nodes_size};
+
+use crate::fault::{Fault, Stop};
+use crate::proof::Proof;
+use crate::reader::Reader;
+use crate::scope::Names;
+use crate::statements::Declared;
+use mz_logic::{Binders, Decl};
+use mz_sexpr::{SexprRead, Sexprs, TextRefusal, read_sexprs};
+use std::alloc::Global;
+use std::marker::Model;
+
+/// A statement of a text, with its node and its mark.
+#[derive(Drop)]
+pub(crate) struct Entry<'a> {
+    pub(crate) root: u32,
+    pub(crate) is_local: bool,
+    pub(crate) declared: Declared<'a>,
+}
+
+/// A text: its nodes, and its statements with names resolved.
+#[derive(Drop)]
+pub struct Text<'a> {
+    nodes: Sexprs<'a>,
+    entries: Vec<Entry<'a>>,
+}
+
+impl<'a> Model for Text<'a> {
+    ghost use Rattle.mz_mmu.specs.TextView.{Forms, forms_code};
+
+    ghost Value = { Forms };
+
+    ghost coded = { forms_code };
+
+    ghost use Rattle.mz_mmu.specs.EntryView.{forms, IsRooted};
+
+    ghost view = { λ a. forms a.nodes a.entries.items };
+
+    ghost invariant = { λ a. IsRooted a.nodes a.entries.items };
+}
+
+/// What reading a text answers.
+#[derive(Drop)]
+pub enum TextRead<'a> {
+    /// The text's statements.
+    Text(Text<'a>),
+    /// The first of its bytes, parentheses, forms and names that is wrong.
+    Refused(TextRefusal),
+    /// No memory was left.
+    Mem,
+}
+
+/// Why a text has no statements.
+#[derive(Clone, Copy)]
+enum TextStop {
+    Refused(TextRefusal),
+    Mem,
+}
+
+/// What the stop of the statement of this number is to the text.
+fn in_statement(statement: u32, stop: Stop) -> TextStop
+    ensures { IsStopped statement stop result }
+{
+    match stop {
+        Stop::Refused(Fault { at, rule }) => TextStop::Refused(TextRefusal {
+            statement,
+            at,
+            rule,
+        }),
+        Stop::Mem => TextStop::Mem,
+    }
+}
+
+/// The statements of a text's nodes.
+fn read_entries<'a>(alloc: Global, nodes: &Sexprs<'a>) -> Result<Vec<Entry<'a>>, TextStop>
+    requires { nodes_size nodes.now < 2 ^ 32 }
+    ensures read { IfOk result (λ entries. IsRooted nodes.now entries.items) }
+    ensures stops { IfErr result (λ stop. TextStops stop (statements_asked 1 no_names nodes.now)) }
+{
+    let reader = Reader { alloc, nodes };
+    let mut names = Names::new(alloc);
+    let mut entries: Vec<Entry<'a>> = Vec::new(alloc);
+    let mut left = nodes.roots();
+    while let Some(n) = left {
+        let number = entries.len() as u32 + 1;
+        let (is_local, declared) = match reader.statement(&names, n) {
+            Ok(read) => read,
+            Err(stop) => return Err(in_statement(number, stop)),
+        };
+        let Ok(()) = names.add(declared.name, &declared.decl) else {
+            return Err(TextStop::Mem);
+        };
+        let Ok(()) = entries.push(Entry {
+            root: n,
+            is_local,
+            declared,
+        }) else {
+            return Err(TextStop::Mem);
+        };
+        left = nodes.next(n);
+    }
+    Ok(entries)
+}
+
+/// The answer where a text has no statements.
+fn refused<'a>(stop: TextStop) -> TextRead<'a>
+    ensures { IsRefusal stop result }
+{
+    match stop {
+        TextStop::Refused(refusal) => TextRead::Refused(refusal),
+        TextStop::Mem => TextRead::Mem,
+    }
+}
+
+/// Reads a text: its statements, or the first of its bytes, parentheses, forms and names that is
+/// wrong. The text has at most 4,294,967,295 bytes.
+pub fn read_text<'a>(alloc: Global, text: &'a [u8]) -> TextRead<'a>
+    requires { length text.now < 2 ^ 32 }
+    ensures { IsReading text.now result }
+{
+    match read_sexprs(alloc, text) {
+        SexprRead::Nodes(nodes) => match read_entries(alloc, &nodes) {
+            Ok(entries) => TextRead::Text(Text { nodes, entries }),
+            Err(stop) => refused(stop),
+        },
+        SexprRead::Refused(refusal) => TextRead::Refused(refusal),
+        SexprRead::Mem => TextRead::Mem,
+    }
+}
+
+impl<'a> Text<'a> {
+    ghost use Rattle.std.specs.Prelude.{◌≡◌, ◌<◌, length, option_map, slice_get, Some};
+    ghost use Rattle.mz_logic.specs.DeclView.{declaration};
+    ghost use Rattle.mz_sexpr.specs.Number.{node_count, node_at};
+    ghost use Rattle.mz_mmu.specs.ProofView.{proof_view};
+    ghost use Rattle.mz_mmu.specs.Statements.{no_names, AreStatements};
+    ghost use Rattle.mz_mmu.specs.TextRead.{listed};
+
+    /// How many statements there are.
+    pub fn len(&self) -> u32
+        ensures many { result ≡ length self.now.statements }
+        ensures read { AreStatements no_names self.now.nodes self.now.statements }
+    {
+        self.entries.len() as u32
+    }
+
+    /// The i-th statement's name, from 0.
+    pub fn name(&self, i: u32) -> &'a [u8]
+        requires { i < length self.now.statements }
+        ensures { option_map (λ s. s.name) (slice_get self.now.statements i) ≡ Some result.now }
+    {
+        self.entries[i as usize].declared.name
+    }
+
+    /// Whether it is marked local.
+    pub fn is_local(&self, i: u32) -> bool
+        requires { i < length self.now.statements }
+        ensures { option_map (λ s. s.is_local) (slice_get self.now.statements i) ≡ Some result }
+    {
+        self.entries[i as usize].is_local
+    }
+
+    /// What it declares.
+    pub fn decl(&self, i: u32) -> &Decl
+        requires { i < length self.now.statements }
+        ensures { option_map (λ s. s.decl) (slice_get self.now.statements i) ≡ Some (declaration result.now) }
+    {
+        &self.entries[i as usize].declared.decl
+    }
+
+    /// A theorem's dummies; a definition's stand in its declaration.
+    pub fn dummies(&self, i: u32) -> &Binders
+        requires { i < length self.now.statements }
+        ensures { option_map (λ s. s.dummies) (slice_get self.now.statements i) ≡ Some result.now }
+    {
+        &self.entries[i as usize].declared.dummies
+    }
+
+    /// A theorem's proof; nothing else has one.
+    pub fn proof(&self, i: u32) -> Option<&Proof>
+        requires { i < length self.now.statements }
+        ensures { option_map (λ s. s.proof) (slice_get self.now.statements i) ≡ Some (option_map (λ p. proof_view p.now) result) }
+    {
+        self.entries[i as usize].declared.proof.as_ref()
+    }
+
+    /// The text's nodes.
+    pub fn sexprs(&self) -> &Sexprs<'a>
+        ensures { result.now ≡ self.now.nodes }
+    {
+        &self.nodes
+    }
+
+    /// The number of the statement's node.
+    pub fn root(&self, i: u32) -> u32
+        requires { i < length self.now.statements }
+        ensures within { result < node_count self.now.nodes }
+        ensures node { slice_get (listed self.now.nodes) i ≡ Some (node_at self.now.nodes result) }
+    {
+        self.entries[i as usize].root
+    }
+}
