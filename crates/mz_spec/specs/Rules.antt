@@ -1,4 +1,5 @@
--- The rules of a statement, in their order, each with the place at which it is told.
+-- The rules of a statement, in their order, each with the place at which it is told (mm0.md, sections on
+-- sorts and terms).
 use Rattle.std.specs.Prelude.{◌≡◌, ◌⊎◌, ⊤, ℕ, List, [], ◌∷◌, ◌++◌, true, Option, Some, None, option_and_then, slice_get}
 use Rattle.mz_lex.specs.Lexemes.{Lexeme}
 use Rattle.mz_lex.specs.declared.rule.S.TheVariants as rules
@@ -18,9 +19,11 @@ use Rattle.mz_spec.specs.Statement.{TypeText, Statement}
 abbrev pub new_name : List (List ℕ) → Lexeme → Checks Fault
 new_name names l = demand (record { at = l.from; rule = rules.NameTwice }) (IsNew names l.text)
 
+-- a declared name is none of its space
 abbrev pub is_new : State → Named → Checks Fault
 is_new σ d = new_name (names_in σ d.space) d.name
 
+-- a variable's name is none of those before it; one without a name clashes with none
 abbrev pub is_other : List (List ℕ) → Option Lexeme → Checks Fault
 is_other seen None = nothing
 is_other seen (Some l) = new_name seen l
@@ -30,6 +33,7 @@ abbrev pub are_others : List (List ℕ) → List Variable → Checks Fault
 are_others seen [] = nothing
 are_others seen (v ∷ vs) = is_other seen v.name >> are_others (seen ++ name_text v.name) vs
 
+-- the name is one of these
 abbrev pub is_known : List (List ℕ) → Lexeme → Checks Fault
 is_known names l = demand (record { at = l.from; rule = rules.UnknownName }) (IsKnown names l.text)
 
@@ -52,6 +56,7 @@ abbrev pub Every : {A : Type 0} → (A → Type 0) → List A → Type 0
 Every P [] = ⊤
 Every P (x ∷ xs) = P x × Every P xs
 
+-- it has a name, which is this one
 abbrev pub IsCalled : Option Lexeme → List ℕ → Type 0
 IsCalled None text = ⊥
 IsCalled (Some l) text = l.text ≡ text
@@ -65,6 +70,7 @@ IsBoundAmong (v ∷ vs) l = ((v.is_bound ≡ true) × IsCalled v.name l.text) �
 abbrev pub IsBinder : State → List Variable → Variable → Type 0
 IsBinder σ before v = (v.is_bound ≡ true → (v.type.deps ≡ []) × (HasSortThat σ IsStrict v.type → ⊥)) × Every (IsBoundAmong before) v.type.deps
 
+-- each variable, behind those before it
 abbrev pub AreBinders : State → List Variable → List Variable → Type 0
 AreBinders σ before [] = ⊤
 AreBinders σ before (v ∷ vs) = IsBinder σ before v × AreBinders σ (before ++ v ∷ []) vs
@@ -73,11 +79,13 @@ AreBinders σ before (v ∷ vs) = IsBinder σ before v × AreBinders σ (before 
 abbrev pub IsResult : List Variable → TypeText → Type 0
 IsResult vs t = Every (IsBoundAmong vs) t.deps
 
+-- no result has a pure sort
 abbrev pub IsNotPure : State → TypeText → Type 0
 IsNotPure σ t = HasSortThat σ IsPure t → ⊥
 
 -- ---- all of them
 
+-- binders, then a pure result
 abbrev pub binder_rules : State → ℕ → View → Checks Fault
 binder_rules σ place v =
     demand (record { at = place; rule = rules.Binder }) (AreBinders σ [] v.variables × Every (IsResult v.variables) v.result)
@@ -87,6 +95,7 @@ binder_rules σ place v =
 abbrev pub type_rules : State → ℕ → View → Checks Fault
 type_rules σ place v = each_in_order (type_checks σ (names_of v.variables)) v.types >> binder_rules σ place v
 
+-- names that are taken, then the rest
 abbrev pub view_checks : State → ℕ → View → Checks Fault
 view_checks σ place v = each_in_order (is_new σ) v.declares >> are_others [] v.variables >> type_rules σ place v
 

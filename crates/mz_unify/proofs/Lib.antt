@@ -16,3 +16,11 @@ pub mod Completing
 pub mod Exactness
 pub mod SomeText
 pub mod Exact
+pub mod StoredIds
+pub mod VariableWords
+pub mod RowValues
+pub mod UnifyTurns
+pub mod Underway
+pub mod ItemsLeft
+pub mod RunsExact
+pub mod TwoOperands

@@ -34,7 +34,7 @@ module _ (P : Profile) (sigs : List Signature) (ctx : List Binder) (mode : Unify
   turn-len (Err f) st s len e = absurd cc
   turn-len (Ok c) st s len e = (c, refl, by-len c.len len st s (unify_command (kind_of mode) c.code c.value) e)
 
-  went-on : (bytes : List ℕ) (st s : UnifyState P.T) (len : ℕ) → unify_turn P sigs ctx mode st (first_command bytes) ≡ Ok (goes_on len s) → (1 ≤ len) × (len ≤ length bytes)
+  pub went-on : (bytes : List ℕ) (st s : UnifyState P.T) (len : ℕ) → unify_turn P sigs ctx mode st (first_command bytes) ≡ Ok (goes_on len s) → (1 ≤ len) × (len ≤ length bytes)
   went-on bytes st s len e =
       let (c, read, is) = turn-len (first_command bytes) st s len e in
       let (one, within) = command-long bytes c read in

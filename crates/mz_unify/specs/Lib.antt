@@ -6,3 +6,6 @@ pub mod Tests
 pub mod UnifyMachine
 pub mod Sorted
 pub mod Laws
+pub mod Stored
+pub mod Rows
+pub mod Patterns

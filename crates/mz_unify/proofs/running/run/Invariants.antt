@@ -1,0 +1,21 @@
+use Rattle.std.proofs.Common.{◌≡◌, ℕ, ◌-◌, ◌≤◌, List, length}
+use Rattle.mz_logic.specs.Signature.{Signature}
+use Rattle.mz_store.specs.Sharing.{AreIn, IsOver}
+use Rattle.mz_unify.specs.Stored.{mode_of, trees_at, AreItemsIn, AreLeft}
+use Rattle.mz_unify.specs.Rows.{state_at}
+use Rattle.mz_unify.proofs.Underway.{IsUnderway}
+use Rattle.mz_unify.proofs.running.run.Given as goal
+
+abbrev pub invariant-commands : goal.invariant-commands
+invariant-commands g l = record {
+  in_range : l.at ≤ length l.stream;
+  heap : AreIn l.store l.heap.items;
+  targets : AreIn l.store l.targets.items;
+  hyps : AreItemsIn l.store l.hyps.items;
+  held : l.held ≡ length l.fn.hyps.items;
+  left : (taken : ℕ) × (taken ≤ l.at) × AreLeft l.fn.hyps.items l.hyps.items taken;
+  underway : (sigs : List Signature) → IsOver sigs l.store → IsUnderway l.store (mode_of l.mode) l.stream sigs (state_at l.store l.fn.heap.items (trees_at l.store l.fn.heap.items) l.fn.start.items l.fn.hyps.items) l.fn.steps l.at l.apart l.heap.items l.targets.items l.hyps.items l.steps;
+}
+
+abbrev pub decreases-commands : goal.decreases-commands
+decreases-commands g l = length l.stream - l.at

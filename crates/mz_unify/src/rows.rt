@@ -1,0 +1,246 @@
+//! What each command does: its premises in order, and what it leaves.
+ghost use Rattle.std.specs.Prelude.{ℕ, ◌≡◌, ◌≤◌, ⊤, ◌+◌, ◌++◌, ◌∷◌, ◌⊎◌, [], List, Ok, Err, OnOk, IfOk, IfSome, IfNone, MatchResult, reverse, length};
+ghost use Rattle.mz_cmd.specs.declared.rule.K.{K};
+ghost use Rattle.mz_logic.specs.Tree.{Tree};
+ghost use Rattle.mz_logic.specs.Signature.{Signature};
+ghost use Rattle.mz_store.specs.Sharing.{IsIn, AreIn, tree_of, IsOver};
+ghost use Rattle.mz_unify.specs.Profile.{strict};
+ghost use Rattle.mz_unify.specs.Streams.{UnifyCommand, u_term, u_term_save, u_ref, u_dummy, u_hyp, u_end};
+ghost use Rattle.mz_unify.specs.UnifyMachine.{UnifyMode as Mode, UnifyState, unify_row, is_fresh, next_hypothesis, nothing_left};
+ghost use Rattle.mz_unify.specs.Stored.{mode_of, trees_at, stack_at, items_at, AreItemsIn, AreLeft, TellsAllOf};
+ghost use Rattle.mz_unify.specs.Rows.{command_of, StopsBy, TellsAny, state_at, with_targets, IsRow};
+
+use crate::command::{Command, Stop};
+use crate::unified::UnifyMode;
+use mz_cmd::K;
+use mz_store::{Id, Item, Store};
+
+/// The word of the variables of all these.
+pub(crate) fn variables(store: &Store, ids: &[Id]) -> u64
+    requires ids { AreIn store.now ids.now }
+    requires told { TellsAllOf store.now ids.now }
+    ensures { (sigs : List Signature) → IsOver sigs store.now → TellsAny store.now.context result (trees_at store.now ids.now) }
+{
+    let mut word = 0;
+    for id in ids {
+        word |= store.deps(*id);
+    }
+    word
+}
+
+/// Puts the operands on the targets, the first one on top.
+fn push_operands(targets: &mut Vec<Id>, operands: &[Id]) -> Result<(), Stop>
+    ensures ok { OnOk result (targets.new.items ≡ targets.old.items ++ reverse operands.now) }
+    ensures err { MatchResult result (λ _. ⊤) (λ stop. StopsBy stop (λ _. ⊥)) }
+{
+    let from = targets.len();
+    let Ok(()) = targets.extend_from_slice(operands) else {
+        return Err(Stop::Mem);
+    };
+    targets[from..].reverse();
+    Ok(())
+}
+
+/// Takes the top target.
+fn take_top(store: &Store, targets: &mut Vec<Id>) -> Option<Id>
+    requires { AreIn store.now targets.old.items }
+    ensures ids { IfSome result (λ id. IsIn store.now id.0 × AreIn store.now targets.new.items) }
+    ensures some { IfSome result (λ id. stack_at store.now targets.old.items ≡ tree_of store.now id.0 ∷ stack_at store.now targets.new.items) }
+    // As ids too, for what is put there next.
+    ensures items { IfSome result (λ id. targets.old.items ≡ targets.new.items ++ id ∷ []) }
+    ensures none { IfNone result (stack_at store.now targets.old.items ≡ []) }
+{
+    targets.pop()
+}
+
+/// Takes an application of the term from the top, and puts its operands there.
+fn open(store: &Store, term: u32, targets: &mut Vec<Id>) -> Result<Id, Stop>
+    requires { AreIn store.now targets.old.items }
+    ensures ids { IfOk result (λ id. IsIn store.now id.0 × AreIn store.now targets.new.items) }
+    ensures plain { (sigs : List Signature) (mode : Mode) (st : UnifyState Tree) → st.targets ≡ stack_at store.now targets.old.items → IsRow (unify_row strict sigs store.now.context mode (u_term term) st) result (λ _. with_targets st (stack_at store.now targets.new.items)) }
+    ensures saved { (sigs : List Signature) (mode : Mode) (st : UnifyState Tree) → st.targets ≡ stack_at store.now targets.old.items → IsRow (unify_row strict sigs store.now.context mode (u_term_save term) st) result (λ id. record (with_targets st (stack_at store.now targets.new.items)) { heap = st.heap ++ tree_of store.now id.0 ∷ [] }) }
+{
+    let Some(top) = take_top(store, targets) else {
+        return Err(Stop::Rule(K::UnifyRest));
+    };
+    if store.head(top) != Some(term) {
+        return Err(Stop::Rule(K::UnifyTerm));
+    }
+    push_operands(targets, store.args(top))?;
+    Ok(top)
+}
+
+/// Takes the top, which is what stands at a place of the heap.
+fn refer(store: &Store, place: u32, heap: &[Id], targets: &mut Vec<Id>) -> Result<(), Stop>
+    requires heap { AreIn store.now heap.now }
+    requires targets { AreIn store.now targets.old.items }
+    ensures ids { OnOk result (AreIn store.now targets.new.items) }
+    ensures row { (sigs : List Signature) (mode : Mode) (st : UnifyState Tree) → st.heap ≡ trees_at store.now heap.now → st.targets ≡ stack_at store.now targets.old.items → IsRow (unify_row strict sigs store.now.context mode (u_ref place) st) result (λ _. with_targets st (stack_at store.now targets.new.items)) }
+{
+    let Some(top) = take_top(store, targets) else {
+        return Err(Stop::Rule(K::UnifyRest));
+    };
+    let Some(met) = heap.get(place as usize) else {
+        return Err(Stop::Rule(K::UnifyReference));
+    };
+    if !store.same(*met, top) {
+        return Err(Stop::Rule(K::UnifyReference));
+    }
+    Ok(())
+}
+
+/// Whether the expression is a bound variable of the sort, in V of nothing whose variables the word tells.
+fn is_fresh(store: &Store, sort: u32, id: Id, apart: u64) -> bool
+    requires { IsIn store.now id.0 }
+    ensures { (sigs : List Signature) (es : List Tree) → IsOver sigs store.now → TellsAny store.now.context apart es → result ≡ is_fresh strict sigs store.now.context sort (tree_of store.now id.0) es }
+{
+    store.is_bound(id) && store.sort_of(id) == sort && store.deps(id) & apart == 0
+}
+
+/// Takes a fresh bound variable of the sort from the top; `apart` is then also kept apart from it.
+fn dummy(store: &Store, sort: u32, targets: &mut Vec<Id>, apart: &mut u64) -> Result<Id, Stop>
+    requires { AreIn store.now targets.old.items }
+    ensures ids { IfOk result (λ id. IsIn store.now id.0 × AreIn store.now targets.new.items) }
+    ensures told { (sigs : List Signature) (es : List Tree) → IsOver sigs store.now → TellsAny store.now.context apart.old es → IfOk result (λ id. TellsAny store.now.context apart.new (es ++ tree_of store.now id.0 ∷ [])) }
+    ensures row { (sigs : List Signature) (mode : Mode) (st : UnifyState Tree) → IsOver sigs store.now → TellsAny store.now.context apart.old st.apart → st.targets ≡ stack_at store.now targets.old.items → IsRow (unify_row strict sigs store.now.context mode (u_dummy sort) st) result (λ id. record (with_targets st (stack_at store.now targets.new.items)) { heap = st.heap ++ tree_of store.now id.0 ∷ []; apart = st.apart ++ tree_of store.now id.0 ∷ [] }) }
+{
+    let Some(top) = take_top(store, targets) else {
+        return Err(Stop::Rule(K::UnifyRest));
+    };
+    if !is_fresh(store, sort, top, *apart) {
+        return Err(Stop::Rule(K::UnifyDummy));
+    }
+    *apart |= store.deps(top);
+    Ok(top)
+}
+
+/// The rule that asks for a hypothesis where none is left.
+fn no_hypothesis(mode: UnifyMode) -> K
+    ensures { next_hypothesis {T = Tree} (mode_of mode) [] ≡ Err result }
+{
+    match mode {
+        UnifyMode::Final => K::UnifyHypothesis,
+        UnifyMode::Use | UnifyMode::Body => K::Underflow,
+    }
+}
+
+/// Takes the next hypothesis, a proof.
+fn take_hypothesis(store: &Store, mode: UnifyMode, hyps: &mut Vec<Item>) -> Result<Id, K>
+    requires { AreItemsIn store.now hyps.old.items }
+    ensures ids { IfOk result (λ id. IsIn store.now id.0 × AreItemsIn store.now hyps.new.items) }
+    ensures left { OnOk result (AreLeft hyps.old.items hyps.new.items 1) }
+    ensures next { MatchResult result (λ id. next_hypothesis (mode_of mode) (items_at store.now hyps.old.items) ≡ Ok (tree_of store.now id.0, items_at store.now hyps.new.items)) (λ rule. next_hypothesis (mode_of mode) (items_at store.now hyps.old.items) ≡ Err rule) }
+{
+    let Some(item) = hyps.pop() else {
+        return Err(no_hypothesis(mode));
+    };
+    let Item::Proof(proved) = item else {
+        return Err(K::Kind);
+    };
+    Ok(proved)
+}
+
+/// Makes the next hypothesis the target.
+fn hypothesis(
+    store: &Store,
+    mode: UnifyMode,
+    targets: &mut Vec<Id>,
+    hyps: &mut Vec<Item>,
+) -> Result<(), Stop>
+    requires { AreItemsIn store.now hyps.old.items }
+    ensures ids { OnOk result (AreIn store.now targets.new.items × AreItemsIn store.now hyps.new.items) }
+    ensures left { OnOk result (AreLeft hyps.old.items hyps.new.items 1) }
+    ensures row { (sigs : List Signature) (st : UnifyState Tree) → st.targets ≡ stack_at store.now targets.old.items → st.items ≡ items_at store.now hyps.old.items → IsRow (unify_row strict sigs store.now.context (mode_of mode) u_hyp st) result (λ _. record (with_targets st (stack_at store.now targets.new.items)) { items = items_at store.now hyps.new.items }) }
+{
+    if !targets.is_empty() {
+        return Err(Stop::Rule(K::UnifyRest));
+    }
+    match take_hypothesis(store, mode, hyps) {
+        Ok(proved) => {
+            push(targets, proved)?;
+            Ok(())
+        }
+        Err(rule) => Err(Stop::Rule(rule)),
+    }
+}
+
+/// Whether no hypothesis is left that must be taken.
+fn nothing_left(store: &Store, mode: UnifyMode, hyps: &[Item]) -> bool
+    ensures { result ≡ nothing_left (mode_of mode) (items_at store.now hyps.now) }
+{
+    match mode {
+        UnifyMode::Final => hyps.is_empty(),
+        UnifyMode::Use | UnifyMode::Body => true,
+    }
+}
+
+/// Ends the stream: no targets are left, nor at an assertion's own end hypotheses.
+fn end(store: &Store, mode: UnifyMode, targets: &[Id], hyps: &[Item]) -> Result<(), Stop>
+    ensures { (sigs : List Signature) (st : UnifyState Tree) → st.targets ≡ stack_at store.now targets.now → st.items ≡ items_at store.now hyps.now → IsRow (unify_row strict sigs store.now.context (mode_of mode) u_end st) result (λ _. st) }
+{
+    if !targets.is_empty() {
+        return Err(Stop::Rule(K::UnifyRest));
+    }
+    if !nothing_left(store, mode, hyps) {
+        return Err(Stop::Rule(K::UnifyRest));
+    }
+    Ok(())
+}
+
+/// Puts an expression at the end.
+fn push(ids: &mut Vec<Id>, id: Id) -> Result<(), Stop>
+    ensures ok { OnOk result (ids.new.items ≡ ids.old.items ++ id ∷ []) }
+    ensures err { MatchResult result (λ _. ⊤) (λ stop. StopsBy stop (λ _. ⊥)) }
+{
+    match ids.push(id) {
+        Ok(()) => Ok(()),
+        Err(_) => Err(Stop::Mem),
+    }
+}
+
+/// Executes a command.
+pub(crate) fn step(
+    store: &Store,
+    mode: UnifyMode,
+    command: Command,
+    heap: &mut Vec<Id>,
+    apart: &mut u64,
+    targets: &mut Vec<Id>,
+    hyps: &mut Vec<Item>,
+) -> Result<(), Stop>
+    requires heap { AreIn store.now heap.old.items }
+    requires targets { AreIn store.now targets.old.items }
+    requires hyps { AreItemsIn store.now hyps.old.items }
+    ensures ids { OnOk result (AreIn store.now heap.new.items × AreIn store.now targets.new.items × AreItemsIn store.now hyps.new.items) }
+    ensures left { OnOk result ((taken : ℕ) × (taken ≤ 1) × AreLeft hyps.old.items hyps.new.items taken) }
+    ensures row { (sigs : List Signature) (es : List Tree) → IsOver sigs store.now → TellsAny store.now.context apart.old es → MatchResult result (λ _. (fs : List Tree) × TellsAny store.now.context apart.new fs × (unify_row strict sigs store.now.context (mode_of mode) (command_of command) (state_at store.now heap.old.items es targets.old.items hyps.old.items) ≡ Ok (state_at store.now heap.new.items fs targets.new.items hyps.new.items))) (λ stop. StopsBy stop (λ k. unify_row strict sigs store.now.context (mode_of mode) (command_of command) (state_at store.now heap.old.items es targets.old.items hyps.old.items) ≡ Err k)) }
+{
+    match command {
+        Command::Term(term) => {
+            open(store, term, targets)?;
+            Ok(())
+        }
+        Command::TermSave(term) => {
+            let whole = open(store, term, targets)?;
+            push(heap, whole)?;
+            Ok(())
+        }
+        Command::Ref(place) => {
+            refer(store, place, heap, targets)?;
+            Ok(())
+        }
+        Command::Dummy(sort) => {
+            let met = dummy(store, sort, targets, apart)?;
+            push(heap, met)?;
+            Ok(())
+        }
+        Command::Hyp => {
+            hypothesis(store, mode, targets, hyps)?;
+            Ok(())
+        }
+        Command::End => {
+            end(store, mode, targets, hyps)?;
+            Ok(())
+        }
+    }
+}

@@ -1,0 +1,112 @@
+//! A stream run against operands, on a target.
+ghost use Rattle.std.specs.Prelude.{ℕ, ◌≡◌, ◌<◌, ◌^◌, ◌+◌, List, length};
+ghost use Rattle.mz_logic.specs.Words.{signatures_of};
+ghost use Rattle.mz_logic.specs.Signature.{Signature};
+ghost use Rattle.mz_logic.specs.declared.binder.Binder.{Binder};
+ghost use Rattle.mz_store.specs.Sharing.{IsIn, AreIn, IsOver};
+ghost use Rattle.mz_unify.specs.Profile.{strict};
+ghost use Rattle.mz_unify.specs.UnifyMachine.{unify, unify_from, unify_steps, unify_steps_from};
+ghost use Rattle.mz_unify.specs.Stored.{mode_of, trees_at, items_at, AreItemsIn, TellsAllOf, matching_at, OnDone, UnlessMem, IsRun, AreLeft};
+ghost use Rattle.mz_unify.specs.Patterns.{AreOperandsFor, IsExact};
+ghost use Rattle.mz_unify.specs.Rows.{state_at, stopped_at};
+
+use crate::command::{Command, Stop, decoded};
+use crate::rows::{step, variables};
+use crate::unified::{Unified, UnifyMode};
+use mz_cmd::{K, Steps, cmd_at};
+use mz_logic::Terms;
+use mz_store::{Id, Item, Store};
+use std::sync::ledger::Ledger;
+
+/// Runs a unify stream, which is read in place, from its first byte to its END: it takes the target
+/// apart against the operands, which are the heap at first.
+///
+/// All ids are the store's, and `terms` has the meaning with which its expressions were made. The
+/// store tells all variables, or the operands are variables themselves. The stream has fewer than
+/// 2^32 bytes. The top of `hyps` is its end.
+///
+/// After `Done` the heap holds the operands, and then what was saved and what was met for dummies, in
+/// order; `hyps` has lost the top items that were taken. After `Refused` and `Mem` both hold what is
+/// left, and are of no use. A step is counted for each command that is read, up to the END or the one
+/// that is refused.
+pub fn unify<T: Terms, L: Ledger>(
+    terms: &T,
+    stream: &[u8],
+    mode: UnifyMode,
+    heap: &mut Vec<Id>,
+    target: Id,
+    hyps: &mut Vec<Item>,
+    store: &Store,
+    steps: &mut Steps<L>,
+) -> Unified
+    requires stream { length stream.now < 2 ^ 32 }
+    requires over { IsOver (signatures_of (T.all_terms terms.now)) store.now }
+    requires heap { AreIn store.now heap.old.items }
+    requires target { IsIn store.now target.0 }
+    requires hyps { AreItemsIn store.now hyps.old.items }
+    requires told { TellsAllOf store.now heap.old.items }
+    ensures run { IsRun (unify strict (signatures_of (T.all_terms terms.now)) store.now.context (matching_at store.now mode stream.now heap.old.items target hyps.old.items)) result (trees_at store.now heap.new.items) (items_at store.now hyps.new.items) }
+    ensures exact { (params : List Binder) → AreOperandsFor mode params (matching_at store.now mode stream.now heap.old.items target hyps.old.items) → IsExact mode (signatures_of (T.all_terms terms.now)) store.now.context params (matching_at store.now mode stream.now heap.old.items target hyps.old.items) result (trees_at store.now heap.new.items) (items_at store.now hyps.new.items) }
+    ensures taken { OnDone result (λ taken. AreLeft hyps.old.items hyps.new.items taken) }
+    ensures ids { OnDone result (λ _. AreIn store.now heap.new.items × AreItemsIn store.now hyps.new.items) }
+    ensures steps { UnlessMem result (steps.new ≡ steps.old + unify_steps strict (signatures_of (T.all_terms terms.now)) store.now.context (matching_at store.now mode stream.now heap.old.items target hyps.old.items)) }
+{
+    let mut targets = Vec::new(*heap.allocator());
+    let Ok(()) = targets.push(target) else {
+        return Unified::Mem;
+    };
+    run(stream, mode, heap, targets, hyps, store, steps)
+}
+
+/// Runs a stream on these targets, the top one last.
+fn run<L: Ledger>(
+    stream: &[u8],
+    mode: UnifyMode,
+    heap: &mut Vec<Id>,
+    start: Vec<Id>,
+    hyps: &mut Vec<Item>,
+    store: &Store,
+    steps: &mut Steps<L>,
+) -> Unified
+    requires stream { length stream.now < 2 ^ 32 }
+    requires heap { AreIn store.now heap.old.items }
+    requires targets { AreIn store.now start.items }
+    requires hyps { AreItemsIn store.now hyps.old.items }
+    requires told { TellsAllOf store.now heap.old.items }
+    ensures run { (sigs : List Signature) → IsOver sigs store.now → IsRun (unify_from strict sigs store.now.context (mode_of mode) (length stream.now) 0 stream.now (state_at store.now heap.old.items (trees_at store.now heap.old.items) start.items hyps.old.items)) result (trees_at store.now heap.new.items) (items_at store.now hyps.new.items) }
+    ensures taken { OnDone result (λ taken. AreLeft hyps.old.items hyps.new.items taken) }
+    ensures ids { OnDone result (λ _. AreIn store.now heap.new.items × AreItemsIn store.now hyps.new.items) }
+    ensures steps { (sigs : List Signature) → IsOver sigs store.now → UnlessMem result (steps.new ≡ steps.old + unify_steps_from strict sigs store.now.context (mode_of mode) (length stream.now) stream.now (state_at store.now heap.old.items (trees_at store.now heap.old.items) start.items hyps.old.items)) }
+{
+    let held = hyps.len();
+    let mut targets = start;
+    let mut apart = variables(store, heap);
+    let mut at = 0;
+    'commands: loop {
+        let Ok(cmd) = cmd_at(stream, at) else {
+            return stopped(at, Stop::Rule(K::Command));
+        };
+        steps.tick();
+        let Some(next) = decoded(mode, cmd) else {
+            return stopped(at, Stop::Rule(K::Command));
+        };
+        if let Err(stop) = step(store, mode, next, heap, &mut apart, &mut targets, hyps) {
+            return stopped(at, stop);
+        }
+        if let Command::End = next {
+            let taken = (held - hyps.len()) as u32;
+            return Unified::Done { taken };
+        }
+        at += u32::from(cmd.len);
+    }
+}
+
+/// What is said where a command is stopped.
+fn stopped(at: u32, stop: Stop) -> Unified
+    ensures { result ≡ stopped_at at stop }
+{
+    match stop {
+        Stop::Rule(rule) => Unified::Refused { at, rule },
+        Stop::Mem => Unified::Mem,
+    }
+}
