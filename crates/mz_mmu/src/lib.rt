@@ -21,7 +21,7 @@ mod tests;
 mod text;
 
 pub use conv::{Conv, ConvBox, Convs, Vars};
-pub use fault::Fault;
+pub use fault::{Fault, Stop};
 pub use laws::read_or_refused_once;
 pub use proof::{Proof, ProofBox, Proofs};
 pub use text::{Text, TextRead, read_text};
