@@ -1,0 +1,16 @@
+pub mod ExprRules
+pub mod ConvRules
+pub mod ProofRules
+pub mod StatementRules
+pub mod NamesRead
+pub mod StatementsRead
+pub mod Decided
+pub mod RulesDecided
+pub mod Texts
+pub mod Judging
+pub mod Steps
+pub mod Building
+pub mod ConvSteps
+pub mod ProofSteps
+pub mod StatementSteps
+pub mod Limits

@@ -1,0 +1,38 @@
+-- What follows from the definitions: the statements of the laws that `laws.rt` proves.
+use Rattle.std.specs.Prelude.{ℕ, ◌≡◌, ◌⊎◌, ◌↔◌, List}
+use Rattle.mz_checks.specs.Checks.{AllHold, FailsFirst}
+use Rattle.mz_sexpr.specs.declared.rule.TextRefusal.{TextRefusal}
+use Rattle.mz_sexpr.specs.Node.{Nodes}
+use Rattle.mz_logic.specs.LegalLists.{Legal}
+use Rattle.mz_mmu.specs.Proof.{Statement}
+use Rattle.mz_mmu.specs.Statements.{no_names, AreStatements}
+use Rattle.mz_type.specs.Rules.{text_rules}
+use Rattle.mz_type.specs.Weight.{Passed, Passes, IsWithinLimits}
+use Rattle.mz_type.specs.Meaning.{LegalAsStated, marked}
+
+-- of statements that are read: all type rules hold exactly where the statements are legal by the
+-- stated proofs
+abbrev pub RulesAreTheMeaning : Type 0
+RulesAreTheMeaning = (ns : Nodes) (ss : List Statement) → AreStatements no_names ns ss → AllHold (text_rules ns ss) ↔ LegalAsStated ss
+
+-- a list that is legal by stated proofs is legal
+abbrev pub StatedIsLegal : Type 0
+StatedIsLegal = (ss : List Statement) → LegalAsStated ss → Legal (marked ss)
+
+-- statements are legal as stated or break a rule first, never both, and one rule at one place
+pub record AreTypedOrRefused (ns : Nodes) (ss : List Statement) : Type 0 where
+  pub one_of_both : LegalAsStated ss ⊎ ((r : TextRefusal) × FailsFirst (text_rules ns ss) r)
+  pub never_both : (r : TextRefusal) → LegalAsStated ss → FailsFirst (text_rules ns ss) r → ⊥
+  pub one_refusal : (q r : TextRefusal) → FailsFirst (text_rules ns ss) q → FailsFirst (text_rules ns ss) r → q ≡ r
+
+abbrev pub EachTypedOrRefused : Type 0
+EachTypedOrRefused = (ns : Nodes) (ss : List Statement) → AreStatements no_names ns ss → AreTypedOrRefused ns ss
+
+-- each list of statements is within the limits or passes one first, never both, and one with one count
+pub record IsLimited (ss : List Statement) : Type 0 where
+  pub one_of_both : IsWithinLimits ss ⊎ ((p : Passed) × Passes ss p)
+  pub never_both : (p : Passed) → IsWithinLimits ss → Passes ss p → ⊥
+  pub one_passes : (p q : Passed) → Passes ss p → Passes ss q → p ≡ q
+
+abbrev pub EachIsLimited : Type 0
+EachIsLimited = (ss : List Statement) → IsLimited ss

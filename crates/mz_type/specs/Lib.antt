@@ -1,0 +1,9 @@
+pub mod Parts
+pub mod Sides
+pub mod Rules
+pub mod Meaning
+pub mod Names
+pub mod TextOf
+pub mod Laws
+pub mod Answers
+pub mod Weight

@@ -1,0 +1,19 @@
+//! What follows from the definitions. Each function does nothing; its contract is the law.
+ghost use Rattle.mz_type.specs.Laws.{EachIsLimited, EachTypedOrRefused, RulesAreTheMeaning, StatedIsLegal};
+
+/// All type rules of a text that reads hold exactly where its statements are legal by the proofs
+/// that they state; and such a list is legal.
+pub fn rules_are_the_meaning()
+    ensures both_ways { RulesAreTheMeaning }
+    ensures legal { StatedIsLegal }
+{}
+
+/// A text that reads is well typed or has exactly one first fault.
+pub fn typed_or_refused()
+    ensures { EachTypedOrRefused }
+{}
+
+/// A text is within the limits or passes exactly one first, with one count.
+pub fn limits_are_decided()
+    ensures { EachIsLimited }
+{}

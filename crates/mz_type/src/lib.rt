@@ -1,0 +1,14 @@
+//! The type rules of the proof text: a text is well typed where its statements are legal by the
+//! proofs that it states; the weight of a text, and the limits of a compiled file.
+#![tactic(auto)]
+
+mod binders;
+mod build;
+mod convs;
+mod cursor;
+mod exprs;
+mod laws;
+mod proofs;
+mod statements;
+
+pub use laws::{limits_are_decided, rules_are_the_meaning, typed_or_refused};
