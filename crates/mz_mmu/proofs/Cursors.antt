@@ -1,8 +1,8 @@
 -- Nodes as the code goes over them.
-use Rattle.std.proofs.Common.{◌≡◌, ◌<◌, ◌≤◌, ◌+◌, ◌∙◌, ℕ, Bool, true, false, true≢false, Option, Some, None, sym, ap, refl, subst, arith}
+use Rattle.std.proofs.Common.{◌≡◌, ◌≤◌, ◌∙◌, ℕ, false, true≢false, Option, Some, None, ap, arith}
 use Rattle.mz_sexpr.specs.Node.{Node, Nodes, atom, list, no_nodes, node, is_atom, parts, place}
-use Rattle.mz_sexpr.specs.Number.{node_count, node_at, nodes_after, StandsFor}
-use Rattle.mz_mmu.specs.Cursor.{nodes_from, IsThere, node_size, nodes_size}
+use Rattle.mz_sexpr.specs.Number.{node_at, nodes_after, StandsFor}
+use Rattle.mz_mmu.specs.Cursor.{nodes_from, IsThere, node_size}
 
 pub as_list : (m : Node) (ns : Nodes) → is_atom m ≡ false → parts m ≡ ns → m ≡ list (place m) ns
 as_list (atom at w) ns h e = absurd (true≢false h)

@@ -1,14 +1,11 @@
 -- What a statement's reading says of what is asked of it, and of the names that it adds.
-use Rattle.std.proofs.Common.{ℕ, ◌≡◌, ◌≤◌, ◌<◌, ◌+◌, ◌⊎◌, inl, inr, suc, Bool, true, false, List, [], ◌∷◌, ◌++◌, length, Option, Some, None, refl, sym, ap, ◌∙◌, subst, arith}
-use Rattle.std.specs.Prelude.{⊤, option_map, bytes_eq, if◌then◌else◌}
-use Rattle.mz_checks.specs.Checks.{Checks, nothing, demand, ◌>>◌, AllHold}
+use Rattle.std.proofs.Common.{ℕ, ◌≡◌, Bool, true, false, List, [], ◌∷◌, ◌++◌, sym, ap, ◌∙◌, subst}
+use Rattle.mz_checks.specs.Checks.{◌>>◌, AllHold}
 use Rattle.mz_checks.proofs.InOrder.{all_hold-both}
-use Rattle.mz_sexpr.specs.Node.{Node, Nodes, atom, list, no_nodes, node, word, parts}
-use Rattle.mz_logic.specs.Declaration.{Declaration, sort_decl, term_decl, assertion_decl}
+use Rattle.mz_sexpr.specs.Node.{Node, Nodes, atom, list, no_nodes, node, parts}
 use Rattle.mz_logic.specs.declared.binder.Binder.{Binder}
-use Rattle.mz_mmu.specs.declared.fault.Fault.{Fault}
-use Rattle.mz_mmu.specs.Name.{Names, number_of, is_identifier, IsName, IsNew}
-use Rattle.mz_mmu.specs.NamesMore.{IsUnused, AreFew}
+use Rattle.mz_mmu.specs.Name.{Names, IsName, IsNew}
+use Rattle.mz_mmu.specs.NamesMore.{IsUnused}
 use Rattle.mz_mmu.specs.Expressions.{AreParams}
 use Rattle.mz_mmu.specs.Proof.{Statement}
 use Rattle.mz_mmu.specs.Statements.{Kind, sort_kind, term_kind, axiom_kind, def_kind, theorem_kind, no_kind, kind_of, is_local_word, no_modifiers, scope_of, IsDeclared, IsLocal, IsMarked, IsStatement, names_with, constant_name}

@@ -1,7 +1,7 @@
 -- A list by the word with which it begins.
-use Rattle.std.proofs.Common.{◌≡◌, ◌∙◌, ℕ, List, Bool, true, false, Result, Ok, Err, IfOk, sym, ap, refl, subst, inl}
+use Rattle.std.proofs.Common.{◌≡◌, ℕ, List, Bool, true, false, Result, Ok, Err, IfOk, sym, refl, subst, inl}
 use Rattle.std.specs.Prelude.{IfErr, bytes_eq, codes, if◌then◌else◌}
-use Rattle.mz_sexpr.specs.Node.{Node, Nodes, list, node, place, word}
+use Rattle.mz_sexpr.specs.Node.{Node, Nodes, list, node, place}
 use Rattle.mz_sexpr.specs.declared.rule.U.{U}
 use Rattle.mz_logic.specs.Conversions.{Conversion}
 use Rattle.mz_mmu.specs.declared.fault.Stop.{Stop}

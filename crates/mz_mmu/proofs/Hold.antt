@@ -1,7 +1,7 @@
 -- What is asked of a node holds where the node is an expression, a list of variables, a binder, a
 -- conversion, a proof.
-use Rattle.std.proofs.Common.{ℕ, suc, ◌≡◌, ◌≤◌, length, arith, ◌+◌, ◌⊎◌, inl, inr, Bool, true, false, List, [], ◌∷◌, ◌++◌, Option, Some, None, refl, sym, ap, ◌∙◌, subst, append_assoc, append-nil}
-use Rattle.mz_checks.specs.Checks.{Checks, nothing, demand, ◌>>◌, AllHold}
+use Rattle.std.proofs.Common.{ℕ, suc, ◌≡◌, ◌≤◌, length, arith, ◌⊎◌, inl, inr, Bool, true, false, List, [], ◌∷◌, ◌++◌, Option, Some, None, refl, sym, ap, ◌∙◌, subst, append_assoc, append-nil}
+use Rattle.mz_checks.specs.Checks.{Checks, ◌>>◌, AllHold}
 use Rattle.mz_checks.proofs.InOrder.{all_hold-both}
 use Rattle.mz_sexpr.specs.Node.{Node, Nodes, atom, list, no_nodes, node, word, place, parts}
 use Rattle.mz_logic.specs.Tree.{Tree, Trees}
@@ -15,12 +15,12 @@ use Rattle.mz_mmu.specs.declared.fault.Stop.{Stop}
 use Rattle.mz_mmu.specs.declared.fault.Stop.TheVariants.{Refused, Mem}
 use Rattle.mz_mmu.specs.Stops.{Stops}
 use Rattle.mz_mmu.specs.Name.{Names, Scope, hidden, number_of, IsName, IsNew, HasNumber, IsNewName, IsParamName}
-use Rattle.mz_mmu.specs.Expressions.{IsVariable, IsConstant, IsExpr, AreExprs, IsExprList, AreVariables, IsVariableList, AreDeps, IsParam, IsDummy, AreBinders, AreParams, AreDummies, IsResult}
+use Rattle.mz_mmu.specs.Expressions.{IsExpr, AreExprs, IsExprList, AreVariables, IsVariableList, AreDeps, IsParam, IsDummy, AreBinders, AreParams, AreDummies, IsResult}
 use Rattle.mz_mmu.specs.Proof.{Proof, Proofs}
-use Rattle.mz_mmu.specs.Proofs.{Keyword, conv_word, let_word, refl_word, sym_word, unfold_word, sorry_word, no_word, conv_keyword, proof_keyword, IsConv, IsConvBy, AreConvs, IsFact, IsProof, IsProofBy, AreProofs}
+use Rattle.mz_mmu.specs.Proofs.{Keyword, conv_word, let_word, refl_word, sym_word, unfold_word, sorry_word, no_word, conv_keyword, proof_keyword, IsConv, IsConvBy, AreConvs, IsProof, IsProofBy, AreProofs}
 use Rattle.mz_mmu.specs.Cursor.{node_size, nodes_size}
 use Rattle.mz_mmu.proofs.Cursors.{node_size_positive}
-use Rattle.mz_mmu.specs.Order.{fault, name_asked, known_asked, new_asked, param_name_asked, expr_asked, exprs_asked, expr_list_asked, variables_asked, variable_list_asked, param_asked, dummy_asked, names_of, first_word, binders_asked, params_asked, dummies_asked, result_asked, conv_asked, conv_asked_by, convs_asked, proof_asked, proof_asked_by, proofs_asked}
+use Rattle.mz_mmu.specs.Order.{fault, known_asked, new_asked, param_name_asked, expr_asked, exprs_asked, expr_list_asked, variables_asked, variable_list_asked, param_asked, dummy_asked, names_of, first_word, binders_asked, params_asked, dummies_asked, result_asked, conv_asked, conv_asked_by, convs_asked, proof_asked, proof_asked_by, proofs_asked}
 
 pub known_holds : (xs : List (List ℕ)) (n : Node) (i : ℕ) → HasNumber xs n i → AllHold (known_asked xs n)
 known_holds xs (atom at w) i h = (h.0, ((i, h.1), tt))

@@ -1,22 +1,19 @@
 -- What is asked of a node holds where the node is a statement.
-use Rattle.std.proofs.Common.{ℕ, ◌≡◌, inl, Bool, true, false, List, [], ◌∷◌, ◌++◌, Option, Some, None, refl, sym, ap, ◌∙◌, subst, append_assoc, append-nil}
+use Rattle.std.proofs.Common.{ℕ, ◌≡◌, inl, List, [], ◌∷◌, ◌++◌, Some, None, refl, sym, ap, ◌∙◌, subst, append_assoc, append-nil}
 use Rattle.std.specs.Prelude.{unwrap_or}
-use Rattle.mz_checks.specs.Checks.{Checks, nothing, demand, ◌>>◌, AllHold}
+use Rattle.mz_checks.specs.Checks.{Checks, demand, AllHold}
 use Rattle.mz_checks.proofs.InOrder.{all_hold-both, Decides, decides-after}
 use Rattle.mz_sexpr.specs.Node.{Node, Nodes, atom, list, no_nodes, node, word, parts, place}
 use Rattle.mz_logic.specs.Tree.{Tree, Trees}
-use Rattle.mz_logic.specs.declared.binder.Binder.{Binder}
 use Rattle.mz_sexpr.specs.declared.rule.U.{U}
 use Rattle.mz_mmu.specs.declared.fault.Fault.{Fault}
 use Rattle.mz_mmu.specs.declared.fault.Stop.{Stop}
 use Rattle.mz_mmu.specs.declared.fault.Stop.TheVariants.{Refused}
 use Rattle.mz_mmu.specs.Stops.{Stops}
-use Rattle.mz_mmu.specs.Name.{Names, Scope, IsName, IsNew, IsNewName}
-use Rattle.mz_mmu.specs.Expressions.{AreBinders, AreParams}
-use Rattle.mz_mmu.specs.Proof.{Statement}
-use Rattle.mz_mmu.specs.Statements.{Kind, sort_kind, term_kind, axiom_kind, def_kind, theorem_kind, no_kind, kind_of, is_local_word, Modifiers, no_modifiers, with_modifier, AreModifiers, IsHyp, AreHyps, AreNamedHyps, scope_of, IsDeclared, IsLocal, IsMarked, IsStatement, names_with, constant_name}
-use Rattle.mz_mmu.specs.Order.{fault, new_asked, expr_asked, expr_list_asked, first_word, names_of, binders_asked, params_asked, dummies_asked, result_asked, proof_asked, modifiers_asked, hyp_asked, hyps_asked, declared_asked, local_asked, marked_asked, statement_asked, name_of_constant, named_by, marked_names, names_after, with_term}
-use Rattle.mz_mmu.proofs.Hold.{new_holds, new_name_is, expr_holds, expr_list_holds, params_hold, dummies_hold, result_holds, proof_holds}
+use Rattle.mz_mmu.specs.Name.{Scope, IsName, IsNew}
+use Rattle.mz_mmu.specs.Statements.{Modifiers, with_modifier, AreModifiers, IsHyp, AreHyps, AreNamedHyps}
+use Rattle.mz_mmu.specs.Order.{fault, new_asked, expr_asked, first_word, names_of, binders_asked, modifiers_asked, hyp_asked, hyps_asked}
+use Rattle.mz_mmu.proofs.Hold.{new_holds, new_name_is, expr_holds}
 
 -- ---- modifiers and hypotheses
 

@@ -1,7 +1,7 @@
 -- The keys of a space, and the names that they stand for.
-use Rattle.std.proofs.Common.{◌≡◌, ◌<◌, ◌≤◌, ◌+◌, ◌∙◌, ◌⊎◌, inl, inr, ℕ, zero, suc, Bool, true, false, ◌&&◌, ◌||◌, cond, List, [], ◌∷◌, ◌++◌, length, Option, Some, None, ap, sym, refl, arith, map, subst, Bor, true≢false, IsTrue, nat_eq, nat_lt, position}
-use Rattle.std.specs.Prelude.{option_map, not, if◌then◌else◌, bytes_eq, is_some, take, ⊤}
-use Rattle.std.specs.List.{list_any, position_or_len, prefix_len}
+use Rattle.std.proofs.Common.{◌≡◌, ◌<◌, ◌≤◌, ◌+◌, ◌∙◌, inl, inr, ℕ, suc, Bool, true, false, ◌&&◌, ◌||◌, cond, List, [], ◌∷◌, ◌++◌, length, Option, Some, None, ap, sym, refl, arith, map, subst, true≢false, nat_eq, nat_lt, position}
+use Rattle.std.specs.Prelude.{option_map, not, if◌then◌else◌, bytes_eq}
+use Rattle.std.specs.List.{list_any, prefix_len}
 use Rattle.std.proofs.lemmas.Bool.Decides.{nat_tests}
 use Rattle.std.specs.Cmp.Lexicographic.{same_text}
 use Rattle.mz_mmu.specs.Name.{number_of, is_identifier, IsName, IsNew}

@@ -1,17 +1,21 @@
 -- A text has one answer.
-use Rattle.std.proofs.Common.{ℕ, suc, ◌≡◌, ◌∙◌, inl, inr, List, sym, ap, subst}
+use Rattle.std.proofs.Common.{ℕ, suc, ◌≡◌, ◌⊎◌, inl, inr, List, sym, subst}
 use Rattle.mz_checks.specs.Checks.{AllHold, FailsFirst, retold}
 use Rattle.mz_checks.proofs.InOrder.{all_hold-both}
-use Rattle.mz_checks.proofs.CheckLaws.{fails_first-unique, all_hold-excludes}
+use Rattle.mz_checks.proofs.CheckLaws.{fails_first-unique, all_hold-excludes, all_hold-or_fails}
 use Rattle.mz_sexpr.specs.declared.rule.TextRefusal.{TextRefusal}
+use Rattle.mz_sexpr.specs.Grammar.{Reads as Spells}
 use Rattle.mz_sexpr.specs.Node.{Nodes, no_nodes, node}
 use Rattle.mz_sexpr.proofs.Readings.{one_reading_only, is_read_or_refused}
 use Rattle.mz_mmu.specs.Name.{Names}
 use Rattle.mz_mmu.specs.Proof.{Statement}
 use Rattle.mz_mmu.specs.Statements.{no_names, names_with, AreStatements, Reads}
 use Rattle.mz_mmu.specs.Order.{statement_asked, statements_asked, in_statement, names_after, Refuses}
-use Rattle.mz_mmu.specs.Laws.{IsReadOrRefusedOnce}
+use Rattle.mz_mmu.specs.Laws.{IsReadOrRefusedOnce, IsReadOrRefused, HasOneReading}
 use Rattle.mz_mmu.proofs.Declared.{statement_says}
+use Rattle.mz_mmu.proofs.Decided.{statements-decided}
+use Rattle.mz_mmu.proofs.FoundStatements.{statements_found}
+use Rattle.mz_mmu.proofs.OneStatement.{statements_once}
 use Rattle.mz_mmu.proofs.TextSteps.{retold_holds}
 
 statements_hold : (k : ℕ) (names : Names) (ns : Nodes) (ss : List Statement) → AreStatements names ns ss → AllHold (statements_asked k names ns)
@@ -36,3 +40,22 @@ one text q r (inr (ns, spells, f)) (inr (ms, spells', g)) =
 
 pub one_answer : (text : List ℕ) → IsReadOrRefusedOnce text
 one_answer text = record { never_both = never text; one_refusal = one text }
+
+of_nodes : (text : List ℕ) (ns : Nodes) → Spells text ns → AllHold (statements_asked 1 no_names ns) ⊎ ((r : TextRefusal) × FailsFirst (statements_asked 1 no_names ns) r)
+    → ((ms : Nodes) × (ss : List Statement) × Reads text ms ss) ⊎ ((r : TextRefusal) × Refuses text r)
+of_nodes text ns spells (inl a) = let ss = statements_found 1 no_names ns a in inl (ns, ss.0, (spells, ss.1))
+of_nodes text ns spells (inr f) = inr (f.0, inr (ns, spells, f.1))
+
+some : (text : List ℕ) → ((ns : Nodes) × (ss : List Statement) × Reads text ns ss) ⊎ ((r : TextRefusal) × Refuses text r)
+some text = elim (is_read_or_refused text).one_of_both [
+  | inl read ↦ of_nodes text read.0 read.1 (all_hold-or_fails (statements_asked 1 no_names read.0) (statements-decided 1 no_names read.0))
+  | inr refused ↦ inr (refused.0, inl refused.1)
+]
+
+pub some_answer : (text : List ℕ) → IsReadOrRefused text
+some_answer text = record { one_of_both = some text; never_both = never text; one_refusal = one text }
+
+pub one_reading : (text : List ℕ) → HasOneReading text
+one_reading text ns ms ss ts (spells, read) (spells', read') =
+    let same = one_reading_only text ns ms spells spells' in
+    (same, statements_once no_names ns ss ts read (subst (λ x. AreStatements no_names x ts) (sym same) read'))

@@ -1,5 +1,5 @@
 -- The numbers of the top forms.
-use Rattle.std.proofs.Common.{ℕ, zero, suc, ◌≡◌, ◌<◌, List, [], ◌∷◌, slice_get, Option, Some, None, sym, ap, ◌∙◌, subst, refl}
+use Rattle.std.proofs.Common.{ℕ, zero, suc, ◌≡◌, ◌<◌, List, [], ◌∷◌, slice_get, Some, None, sym, ap, ◌∙◌, subst}
 use Rattle.mz_sexpr.specs.Node.{Nodes, no_nodes, node}
 use Rattle.mz_sexpr.specs.Number.{node_count, node_at}
 use Rattle.mz_mmu.specs.EntryView.{AreNumbers}

@@ -1,8 +1,7 @@
 -- Statements by the words with which they begin.
-use Rattle.std.proofs.Common.{◌≡◌, ◌∙◌, ℕ, List, [], ◌∷◌, Bool, true, false, sym, ap, refl, subst}
+use Rattle.std.proofs.Common.{◌≡◌, ℕ, true, false, sym, refl, subst}
 use Rattle.mz_sexpr.specs.Node.{Node, Nodes, atom, list, no_nodes, node, place, parts}
 use Rattle.mz_sexpr.specs.declared.rule.U.{U}
-use Rattle.mz_logic.specs.declared.binder.Binder.{Binder}
 use Rattle.mz_mmu.specs.declared.fault.Stop.{Stop}
 use Rattle.mz_mmu.specs.Name.{Names}
 use Rattle.mz_mmu.specs.Proof.{Statement}

@@ -1,8 +1,7 @@
 -- Statements, one after another.
-use Rattle.std.proofs.Common.{ℕ, suc, ◌≡◌, ◌≤◌, ◌<◌, ◌+◌, ◌-◌, ◌^◌, ◌∙◌, inl, inr, Bool, true, false, List, [], ◌∷◌, ◌++◌, length, map, Option, Some, None, sym, ap, refl, subst, arith, append_assoc, append-nil}
+use Rattle.std.proofs.Common.{ℕ, suc, ◌≡◌, ◌≤◌, ◌<◌, ◌+◌, ◌-◌, ◌∙◌, inl, inr, Bool, true, false, List, [], ◌∷◌, ◌++◌, length, Option, Some, None, sym, ap, refl, subst, arith, append_assoc, append-nil}
 use Rattle.std.specs.Prelude.{option_map, bytes_eq, if◌then◌else◌}
-use Rattle.std.proofs.lemmas.List.{map-append}
-use Rattle.mz_checks.specs.Checks.{Checks, nothing, ask, ◌>>◌, retold, AllHold, FailsFirst}
+use Rattle.mz_checks.specs.Checks.{Checks, nothing, ask, retold, AllHold, FailsFirst}
 use Rattle.mz_checks.proofs.InOrder.{Decides, decides-after, fails-before}
 use Rattle.mz_sexpr.specs.Node.{Node, Nodes, no_nodes, node}
 use Rattle.mz_sexpr.specs.Number.{node_count, node_at}
@@ -21,8 +20,8 @@ use Rattle.mz_mmu.specs.declared.fault.Stop.{Stop}
 use Rattle.mz_mmu.specs.declared.fault.Stop.TheVariants as stop
 use Rattle.mz_mmu.specs.declared.text.TextStop.{TextStop}
 use Rattle.mz_mmu.specs.declared.fault.Fault.{Fault}
-use Rattle.mz_mmu.specs.Name.{Names, number_of, is_identifier, IsName, IsNew}
-use Rattle.mz_mmu.specs.NamesMore.{AreFew, IsUnused}
+use Rattle.mz_mmu.specs.Name.{Names, number_of, IsName, IsNew}
+use Rattle.mz_mmu.specs.NamesMore.{AreFew}
 use Rattle.mz_mmu.specs.EntryView.{AreNumbers}
 use Rattle.mz_mmu.specs.Proof.{Statement}
 use Rattle.mz_mmu.specs.Statements.{no_names, names_with, constant_name, IsStatement, AreStatements}

@@ -1,6 +1,6 @@
 -- What is asked of the forms and names of a text, in order: from left to right, a node's form before
 -- its parts. At the first that doesn't hold the text is refused.
-use Rattle.std.specs.Prelude.{ℕ, suc, ◌≡◌, ◌⊎◌, Bool, true, false, List, [], ◌∷◌, ◌++◌, Some, unwrap_or, codes}
+use Rattle.std.specs.Prelude.{ℕ, suc, ◌≡◌, ◌⊎◌, Bool, true, false, List, [], ◌∷◌, ◌++◌, Some, unwrap_or}
 use Rattle.mz_checks.specs.Checks.{Checks, nothing, demand, ◌>>◌, retold, FailsFirst}
 use Rattle.mz_sexpr.specs.declared.rule.U.{U}
 use Rattle.mz_sexpr.specs.declared.rule.TextRefusal.{TextRefusal}
@@ -10,7 +10,7 @@ use Rattle.mz_sexpr.specs.Order.{Refuses as IsMisspelled}
 use Rattle.mz_mmu.specs.declared.fault.Fault.{Fault}
 use Rattle.mz_mmu.specs.Name.{Names, Scope, hidden, IsName, IsNew, IsKnown}
 use Rattle.mz_mmu.specs.Proofs.{Keyword, conv_word, let_word, refl_word, sym_word, unfold_word, sorry_word, no_word, conv_keyword, proof_keyword}
-use Rattle.mz_mmu.specs.Statements.{Kind, sort_kind, term_kind, axiom_kind, def_kind, theorem_kind, no_kind, kind_of, is_local_word, Modifiers, no_modifiers, with_modifier, scope_of, no_names}
+use Rattle.mz_mmu.specs.Statements.{Kind, sort_kind, term_kind, axiom_kind, def_kind, theorem_kind, kind_of, is_local_word, Modifiers, no_modifiers, with_modifier, scope_of, no_names}
 
 abbrev pub fault : ℕ → U → Fault
 fault at rule = record { at = at; rule = rule }

@@ -2,7 +2,7 @@
 use Rattle.std.specs.Prelude.{ℕ, zero, suc, ◌+◌, ◌≡◌, List, [], ◌∷◌, refl}
 use Rattle.std.specs.Coded.{Coded, code_by, coded×, coded_ℕ, coded_list}
 use Rattle.std.proofs.Common.{ap, ◌∙◌}
-use Rattle.mz_logic.specs.Tree.{Tree, Trees, app, none, more, operand}
+use Rattle.mz_logic.specs.Tree.{Trees, app, none, more, operand}
 use Rattle.mz_logic.specs.TreeCode.{trees_code}
 use Rattle.mz_logic.specs.Conversions.{Conversion, refl_conv}
 use Rattle.mz_mmu.specs.ConvCode.{conv_code}

@@ -1,5 +1,5 @@
 -- What the code's statements stand for.
-use Rattle.std.specs.Prelude.{Bool, List, map, Option, Some, None}
+use Rattle.std.specs.Prelude.{Bool, Option, Some, None}
 use Rattle.mz_logic.specs.DeclView.{declaration}
 use Rattle.mz_mmu.specs.Proof.{Proof as StatedProof, Statement}
 use Rattle.mz_mmu.specs.ProofView.{proof_view}

@@ -22,6 +22,6 @@ mod text;
 
 pub use conv::{Conv, ConvBox, Convs, Vars};
 pub use fault::{Fault, Stop};
-pub use laws::read_or_refused_once;
+pub use laws::{one_reading, read_or_refused, read_or_refused_once, statements_are_whole};
 pub use proof::{Proof, ProofBox, Proofs};
 pub use text::{Text, TextRead, read_text};

@@ -1,9 +1,8 @@
-use Rattle.std.proofs.Common.{◌≡◌, ◌≤◌, ◌<◌, ◌+◌, ◌^◌, ◌∙◌, ℕ, suc, List, [], ◌∷◌, ◌++◌, length, map, append-nil, ap, sym, subst, refl, arith}
+use Rattle.std.proofs.Common.{◌≡◌, ◌+◌, ◌∙◌, suc, [], ◌∷◌, ◌++◌, length, map, append-nil, ap, sym, subst, refl, arith}
 use Rattle.mz_checks.proofs.InOrder.{Decides, decides-whole}
 use Rattle.mz_sexpr.specs.Number.{node_at, nodes_after}
 use Rattle.mz_mmu.specs.Cursor.{nodes_from, IsThere, nodes_size}
 use Rattle.mz_mmu.specs.EntryView.{entry, root, AreNumbers}
-use Rattle.mz_mmu.specs.Proof.{Statement}
 use Rattle.mz_mmu.specs.Statements.{no_names, AreStatements}
 use Rattle.mz_mmu.specs.Order.{statements_asked}
 use Rattle.mz_mmu.specs.ScopeView.{names}
@@ -13,7 +12,7 @@ use Rattle.mz_mmu.proofs.Declared.{Agrees, statement_says}
 use Rattle.mz_mmu.proofs.Keys.{length-more}
 use Rattle.std.proofs.lemmas.List.{map-append}
 use Rattle.mz_mmu.specs.NamesMore.{AreFew}
-use Rattle.mz_mmu.proofs.TextSteps.{statements_read_more, statements_asked_more, statements_stop, numbers_more, few_more, agrees_more, agrees_first, few_first, text_stops}
+use Rattle.mz_mmu.proofs.TextSteps.{statements_read_more, statements_asked_more, numbers_more, few_more, agrees_more, agrees_first, few_first, text_stops}
 use Rattle.mz_mmu.proofs.text.read_entries.Goals as goal
 
 pub loop-left-init : goal.loop-left-init

@@ -1,4 +1,4 @@
-use Rattle.std.proofs.Common.{◌≤◌, ◌<◌, length, arith}
+use Rattle.std.proofs.Common.{arith}
 use Rattle.mz_mmu.proofs.TextSteps.{few_nodes}
 use Rattle.mz_mmu.proofs.text.read_text.Goals as goal
 

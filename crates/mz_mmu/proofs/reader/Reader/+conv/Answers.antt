@@ -1,11 +1,11 @@
-use Rattle.std.proofs.Common.{◌≡◌, ◌≤◌, ◌<◌, ◌+◌, ◌^◌, ◌∙◌, ap, sym, subst, refl, arith, length, ℕ}
+use Rattle.std.proofs.Common.{◌∙◌, ap, sym, subst, refl, arith, ℕ}
 use Rattle.mz_checks.specs.Checks.{◌>>◌}
-use Rattle.mz_sexpr.specs.Node.{Node, node, no_nodes, list, place, word}
+use Rattle.mz_sexpr.specs.Node.{Node, place, word}
 use Rattle.mz_sexpr.specs.Number.{node_at, nodes_after}
 use Rattle.mz_mmu.specs.Cursor.{nodes_from, nodes_size}
-use Rattle.mz_logic.specs.Conversions.{no_convs, cong_conv}
-use Rattle.mz_mmu.specs.ConvView.{conversion, conversions}
-use Rattle.mz_mmu.specs.Proofs.{IsConv, IsConvBy, AreConvs, refl_word, sym_word, unfold_word, sorry_word, no_word, conv_keyword, conv_keyword_of}
+use Rattle.mz_logic.specs.Conversions.{no_convs}
+use Rattle.mz_mmu.specs.ConvView.{conversion}
+use Rattle.mz_mmu.specs.Proofs.{IsConv, IsConvBy, AreConvs, refl_word, sym_word, unfold_word, sorry_word, no_word, conv_keyword_of}
 use Rattle.mz_mmu.specs.Order.{known_asked, expr_list_asked, variable_list_asked, conv_asked, conv_asked_by, convs_asked}
 use Rattle.mz_mmu.specs.ScopeView.{scope}
 use Rattle.mz_mmu.specs.Stops.{Stops}

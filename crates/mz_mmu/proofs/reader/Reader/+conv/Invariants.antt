@@ -2,7 +2,6 @@ use Rattle.std.proofs.Common.{◌≤◌, ◌+◌, ◌*◌}
 use Rattle.mz_checks.proofs.InOrder.{Decides}
 use Rattle.mz_logic.specs.Conversions.{Conversions}
 use Rattle.mz_sexpr.specs.Number.{node_at}
-use Rattle.mz_mmu.specs.ConvView.{conversions}
 use Rattle.mz_mmu.specs.Cursor.{nodes_from, IsThere, node_size, nodes_size}
 use Rattle.mz_mmu.specs.Proofs.{AreConvs}
 use Rattle.mz_mmu.specs.Order.{convs_asked}

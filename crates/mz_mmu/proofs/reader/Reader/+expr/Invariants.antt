@@ -1,4 +1,4 @@
-use Rattle.std.proofs.Common.{◌≡◌, ◌≤◌, ◌+◌, ◌*◌}
+use Rattle.std.proofs.Common.{◌≤◌, ◌+◌, ◌*◌}
 use Rattle.mz_checks.proofs.InOrder.{Decides}
 use Rattle.mz_logic.specs.Tree.{Trees, followed_by}
 use Rattle.mz_sexpr.specs.Number.{node_at}

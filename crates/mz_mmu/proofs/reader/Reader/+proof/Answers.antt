@@ -1,6 +1,6 @@
-use Rattle.std.proofs.Common.{◌≡◌, ◌≤◌, ◌<◌, ◌+◌, ◌^◌, ◌∙◌, ◌++◌, ◌∷◌, [], ℕ, List, ap, sym, subst, refl, arith, length}
+use Rattle.std.proofs.Common.{◌∙◌, ◌++◌, ◌∷◌, [], ap, sym, subst, refl, arith}
 use Rattle.mz_checks.specs.Checks.{◌>>◌}
-use Rattle.mz_sexpr.specs.Node.{Node, node, no_nodes, list, place, word}
+use Rattle.mz_sexpr.specs.Node.{Node, place, word}
 use Rattle.mz_sexpr.specs.Number.{node_at, nodes_after}
 use Rattle.mz_logic.specs.View.{tree}
 use Rattle.mz_mmu.specs.ConvView.{conversion}
@@ -8,11 +8,11 @@ use Rattle.mz_mmu.specs.Name.{IsNew}
 use Rattle.mz_mmu.specs.Cursor.{nodes_from, nodes_size}
 use Rattle.mz_mmu.specs.Proof.{no_proofs}
 use Rattle.mz_mmu.specs.ProofView.{proof_view}
-use Rattle.mz_mmu.specs.Proofs.{IsProof, IsProofBy, AreProofs, conv_word, let_word, sorry_word, no_word, proof_keyword, proof_keyword_of}
+use Rattle.mz_mmu.specs.Proofs.{IsProof, IsProofBy, AreProofs, conv_word, let_word, sorry_word, no_word, proof_keyword_of}
 use Rattle.mz_mmu.specs.Order.{known_asked, new_asked, expr_asked, conv_asked, expr_list_asked, proof_asked, proof_asked_by, proofs_asked}
 use Rattle.mz_mmu.specs.ScopeView.{scope}
 use Rattle.mz_mmu.specs.Stops.{Stops}
-use Rattle.mz_mmu.proofs.Cursors.{opened, stepped, stands_there, stands_from}
+use Rattle.mz_mmu.proofs.Cursors.{opened, stepped, stands_there}
 use Rattle.mz_mmu.proofs.Hold.{known_holds, new_holds, new_name_is, new_name_word, new_parts, expr_holds, conv_holds, expr_list_holds, proof_holds}
 use Rattle.mz_mmu.proofs.ProofLists.{proofs_then_none, proofs_read_more, proofs_asked_more}
 use Rattle.mz_mmu.proofs.Dispatch.{if_ok, if_err, stops_open, proof_by, proof_stops_by, proof_other}

@@ -1,11 +1,11 @@
-use Rattle.std.proofs.Common.{◌≡◌, ◌≤◌, ◌<◌, ◌+◌, ◌^◌, ap, sym, subst, refl, arith, List, [], ◌∷◌, ◌++◌, length}
+use Rattle.std.proofs.Common.{ap, sym, subst, refl, arith, [], ◌∷◌, ◌++◌, length}
 use Rattle.mz_logic.specs.Tree.{none}
 use Rattle.mz_logic.specs.View.{tree}
 use Rattle.mz_logic.proofs.Follow.{followed_by_none}
 use Rattle.mz_sexpr.specs.Node.{parts}
 use Rattle.mz_sexpr.specs.Number.{node_at, nodes_after}
 use Rattle.mz_mmu.specs.Cursor.{nodes_from, nodes_size}
-use Rattle.mz_mmu.specs.Statements.{IsHyp, AreHyps, AreNamedHyps}
+use Rattle.mz_mmu.specs.Statements.{AreHyps, AreNamedHyps}
 use Rattle.mz_mmu.specs.Order.{hyp_asked, binders_asked, hyps_asked, first_word}
 use Rattle.mz_mmu.specs.ScopeView.{scope}
 use Rattle.mz_mmu.specs.Stops.{Stops}

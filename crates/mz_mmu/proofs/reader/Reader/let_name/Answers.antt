@@ -1,6 +1,5 @@
-use Rattle.std.proofs.Common.{◌≡◌, ◌∙◌, ◌++◌, Some, None, ℕ, sym}
+use Rattle.std.proofs.Common.{◌≡◌, ◌∙◌, ◌++◌, Some, None, sym}
 use Rattle.mz_sexpr.specs.Number.{node_at}
-use Rattle.mz_mmu.specs.Name.{number_of}
 use Rattle.mz_mmu.specs.Order.{new_asked}
 use Rattle.mz_mmu.specs.Stops.{Stops}
 use Rattle.mz_mmu.proofs.Hold.{new_name_is, new_name_both, taken_left, taken_right}

@@ -1,4 +1,4 @@
-use Rattle.std.proofs.Common.{◌≡◌, Bool, sym, subst, IfOk}
+use Rattle.std.proofs.Common.{Bool, sym, subst, IfOk}
 use Rattle.std.specs.Prelude.{IfErr}
 use Rattle.mz_sexpr.specs.Node.{place}
 use Rattle.mz_sexpr.specs.Number.{node_at}

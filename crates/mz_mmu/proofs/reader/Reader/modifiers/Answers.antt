@@ -1,13 +1,11 @@
-use Rattle.std.proofs.Common.{◌≡◌, ◌∙◌, ap, sym, subst, refl}
+use Rattle.std.proofs.Common.{◌∙◌, ap, sym}
 use Rattle.mz_sexpr.specs.Number.{node_at, nodes_after}
 use Rattle.mz_mmu.specs.Cursor.{nodes_from}
 use Rattle.mz_mmu.specs.Statements.{no_modifiers, with_modifier, AreModifiers}
 use Rattle.mz_mmu.specs.StatementView.{modifiers, option_modifiers}
 use Rattle.mz_mmu.specs.Order.{modifiers_asked}
-use Rattle.mz_mmu.specs.Stops.{Stops}
 use Rattle.mz_mmu.proofs.Cursors.{stepped, stands_there}
-use Rattle.mz_mmu.proofs.HoldStatements.{modifiers_read_more, modifiers_asked_more, modifier_stops}
-use Rattle.mz_mmu.proofs.Stopping.{stops_whole}
+use Rattle.mz_mmu.proofs.HoldStatements.{modifiers_read_more, modifiers_asked_more}
 use Rattle.mz_mmu.proofs.reader.Reader.modifiers.Goals as goal
 
 pub loop-left-preserved : goal.loop-left-preserved

@@ -1,4 +1,4 @@
-use Rattle.std.proofs.Common.{◌∙◌, sym, ap, subst}
+use Rattle.std.proofs.Common.{◌∙◌, sym, subst}
 use Rattle.mz_checks.specs.Checks.{◌>>◌}
 use Rattle.mz_sexpr.specs.Node.{node, no_nodes, parts}
 use Rattle.mz_sexpr.specs.Number.{node_at}

@@ -1,6 +1,6 @@
-use Rattle.std.proofs.Common.{◌≡◌, ◌∙◌, Bool, true, false, ap, sym, subst, refl}
+use Rattle.std.proofs.Common.{◌∙◌, true, ap, sym, refl}
 use Rattle.std.specs.Prelude.{bytes_eq, codes}
-use Rattle.mz_sexpr.specs.Node.{node, parts, place}
+use Rattle.mz_sexpr.specs.Node.{node}
 use Rattle.mz_sexpr.specs.Number.{node_at, nodes_after}
 use Rattle.mz_mmu.specs.Cursor.{nodes_from}
 use Rattle.mz_mmu.specs.ScopeView.{names}

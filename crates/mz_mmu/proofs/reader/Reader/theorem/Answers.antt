@@ -1,17 +1,15 @@
-use Rattle.std.proofs.Common.{◌≡◌, ◌≤◌, ◌<◌, ◌+◌, ◌^◌, ◌∙◌, ◌++◌, ◌∷◌, [], ℕ, List, Bool, ap, sym, subst, refl, arith, length}
+use Rattle.std.proofs.Common.{◌++◌, [], ap, sym, subst, arith, length}
 use Rattle.mz_checks.specs.Checks.{◌>>◌}
-use Rattle.mz_sexpr.specs.Node.{Node, Nodes, node, no_nodes, place, parts}
+use Rattle.mz_sexpr.specs.Node.{place, parts}
 use Rattle.mz_sexpr.specs.Number.{node_at}
 use Rattle.mz_logic.specs.View.{tree}
 use Rattle.mz_mmu.specs.Cursor.{nodes_from, nodes_size}
-use Rattle.mz_mmu.specs.Expressions.{IsResult, AreDummies, IsExprList, IsExpr}
-use Rattle.mz_mmu.specs.ProofView.{proof_view}
-use Rattle.mz_mmu.specs.Proofs.{IsProof}
-use Rattle.mz_mmu.specs.Statements.{theorem_kind, scope_of, IsDeclared, AreNamedHyps}
-use Rattle.mz_mmu.specs.Order.{new_asked, params_asked, result_asked, dummies_asked, expr_asked, expr_list_asked, hyps_asked, proof_asked, names_of, declared_asked}
+use Rattle.mz_mmu.specs.Expressions.{AreDummies, IsExpr}
+use Rattle.mz_mmu.specs.Statements.{theorem_kind, scope_of, AreNamedHyps}
+use Rattle.mz_mmu.specs.Order.{new_asked, params_asked, dummies_asked, expr_asked, hyps_asked, proof_asked, names_of, declared_asked}
 use Rattle.mz_mmu.specs.ScopeView.{names}
 use Rattle.mz_mmu.specs.Stops.{Stops}
-use Rattle.mz_mmu.proofs.Hold.{names_few, new_holds, params_hold, result_holds, dummies_hold, expr_holds, expr_list_holds, proof_holds}
+use Rattle.mz_mmu.proofs.Hold.{names_few, new_holds, params_hold, dummies_hold, expr_holds}
 use Rattle.mz_mmu.proofs.HoldStatements.{hyps_hold}
 use Rattle.mz_mmu.proofs.Stopping.{failed, stops_before, stops_after}
 use Rattle.mz_mmu.proofs.reader.Reader.theorem.Goals as goal

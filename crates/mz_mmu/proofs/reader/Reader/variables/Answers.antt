@@ -1,6 +1,6 @@
-use Rattle.std.proofs.Common.{◌≡◌, ap, sym, subst, refl, List, [], append-nil}
+use Rattle.std.proofs.Common.{ap, sym, subst, refl, [], append-nil}
 use Rattle.mz_sexpr.specs.Number.{node_at, nodes_after}
-use Rattle.mz_mmu.specs.Cursor.{nodes_from, nodes_size}
+use Rattle.mz_mmu.specs.Cursor.{nodes_from}
 use Rattle.mz_mmu.specs.Expressions.{AreVariables, IsVariableList}
 use Rattle.mz_mmu.specs.Order.{variable_list_asked}
 use Rattle.mz_mmu.proofs.Cursors.{stepped, stands_there}

@@ -1,4 +1,4 @@
-use Rattle.std.proofs.Common.{◌≡◌, ◌<◌, ◌+◌, ◌^◌, ◌∙◌, ◌++◌, ◌∷◌, [], sym, ap, subst, refl, arith, length, inl, map, Bool, if◌then◌else◌}
+use Rattle.std.proofs.Common.{◌≡◌, ◌∙◌, ◌++◌, ◌∷◌, [], sym, ap, subst, refl, arith, length, inl, map, if◌then◌else◌}
 use Rattle.mz_mmu.specs.Name.{IsNew}
 use Rattle.mz_mmu.specs.SpaceView.{word_of_key, AreKeysFrom}
 use Rattle.mz_mmu.proofs.Keys.{none_by_keys, keys-more, words-more, length-words, length-more}

@@ -1,5 +1,5 @@
-use Rattle.std.proofs.Common.{◌≡◌, ◌<◌, ◌≤◌, ◌+◌, ◌^◌, ◌∙◌, ◌++◌, ◌∷◌, [], ℕ, suc, sym, ap, subst, refl, arith, length, inr, map, Bool, if◌then◌else◌}
-use Rattle.mz_mmu.specs.SpaceView.{Key, word_of_key, IsKeyAt, AreKeysFrom}
+use Rattle.std.proofs.Common.{◌≡◌, ◌≤◌, ◌+◌, ◌∙◌, ◌++◌, ◌∷◌, [], suc, sym, ap, subst, arith, length, inr, map, if◌then◌else◌}
+use Rattle.mz_mmu.specs.SpaceView.{word_of_key, AreKeysFrom}
 use Rattle.mz_mmu.proofs.Keys.{none_at_place, keys-more, words-more, length-words, length-more}
 use Rattle.mz_mmu.proofs.space.Space.push_other.Goals as goal
 
