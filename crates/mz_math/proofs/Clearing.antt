@@ -1,7 +1,7 @@
 -- One more notation, and clear tables.
-use Rattle.std.proofs.Common.{◌≡◌, ◌<◌, ◌⊎◌, ◌++◌, ◌∙◌, ℕ, List, [], ◌∷◌, length, Some, slice_get, ap, sym, refl, subst, inl, inr, arith, Contains}
+use Rattle.std.proofs.Common.{◌≡◌, ◌<◌, ◌⊎◌, ◌++◌, ◌∙◌, ℕ, List, [], ◌∷◌, length, Some, slice_get, ap, sym, subst, inl, inr, arith, Contains}
 use Rattle.std.proofs.lemmas.Option.{slice_get_within}
-use Rattle.mz_math.specs.Notation.{max_level, Element, fixed, Notation}
+use Rattle.mz_math.specs.Notation.{max_level, fixed, Notation}
 use Rattle.mz_math.specs.Clear.{HasConstant, LedBy, JoinedBy, IsOne, IsClear}
 use Rattle.mz_math.specs.Answers.{KeepsLevels, KeepsOwnLevels, GroupsWith, NoOtherLed, NoOtherJoined}
 use Rattle.mz_math.proofs.Lists.{at_of, contains_at, contains_first, contains_last, contains_either, place_first, place_last, place_either}

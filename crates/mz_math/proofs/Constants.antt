@@ -1,8 +1,8 @@
 -- Elements of notations, and the constants by which they are found.
-use Rattle.std.proofs.Common.{◌≡◌, ◌↔◌, ◌∙◌, ℕ, List, [], ◌∷◌, Bool, true, false, not, sym, subst, ap}
+use Rattle.std.proofs.Common.{◌≡◌, ◌↔◌, ◌∙◌, ℕ, List, ◌∷◌, Bool, true, false, not, sym, subst}
 use Rattle.std.specs.Prelude.{IsTrue}
-use Rattle.std.proofs.lemmas.Bool.{true≢false, false≢true}
-use Rattle.mz_math.specs.Notation.{Element, fixed, slot, Notation}
+use Rattle.std.proofs.lemmas.Bool.{false≢true}
+use Rattle.mz_math.specs.Notation.{Element, fixed, Notation}
 use Rattle.mz_math.specs.Clear.{LedBy, JoinedBy}
 
 pub fixed-same : {v w : List ℕ} {a q : ℕ} → fixed v a ≡ fixed w q → (v ≡ w) × (a ≡ q)

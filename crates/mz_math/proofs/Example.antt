@@ -1,11 +1,9 @@
 -- `a ? b : c ? a : b` and `a -> b ? a : b`.
-use Rattle.std.proofs.Common.{◌≡◌, ◌≤◌, ℕ, List, [], ◌∷◌, zero, suc, true, false, refl, sym, ap, inl, inr, arith, Some, None, Contains, slice_get}
-use Rattle.std.specs.Prelude.{codes, bytes_eq}
-use Rattle.std.proofs.lemmas.Bool.{true≢false, false≢true}
-use Rattle.mz_math.specs.Readable.{IsReadable}
-use Rattle.mz_logic.specs.Tree.{Tree, var, app, none, more}
+use Rattle.std.proofs.Common.{ℕ, List, [], ◌∷◌, true, refl, inl, arith}
+use Rattle.std.specs.Prelude.{codes}
+use Rattle.mz_logic.specs.Tree.{var, app, none, more}
 use Rattle.mz_math.specs.Notation.{Notation, fixed, slot, infixed}
-use Rattle.mz_math.specs.Grammar.{Words, Head, variable, Parse, Parts, headed, joined, end, word, part, Exp}
+use Rattle.mz_math.specs.Grammar.{Words, variable, Parse, headed, joined, end, word, part, Exp}
 
 abbrev arrow : Notation
 arrow = infixed 0 (codes "->") 25 true

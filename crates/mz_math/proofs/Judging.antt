@@ -1,9 +1,9 @@
 -- The first rule that a math string breaks.
-use Rattle.std.proofs.Common.{◌≡◌, ◌≢◌, ◌<◌, ◌≤◌, ◌+◌, ◌-◌, ◌⊎◌, ◌++◌, ◌∙◌, ℕ, suc, List, [], ◌∷◌, length, Some, None, Option, ap, sym, refl, subst, inl, inr, arith, drop}
-use Rattle.mz_checks.specs.Checks.{Checks, AllHold, FailsFirst, ◌>>◌}
+use Rattle.std.proofs.Common.{◌≡◌, ◌<◌, ◌≤◌, ◌+◌, ◌∙◌, ℕ, List, [], length, Some, None, Option, ap, sym, refl, subst, inl, inr, arith}
+use Rattle.mz_checks.specs.Checks.{AllHold, FailsFirst}
 use Rattle.mz_checks.proofs.InOrder.{all_hold-both, fails-before, fails-after}
 use Rattle.mz_lex.specs.declared.rule.S.TheVariants as rules
-use Rattle.mz_logic.specs.Tree.{Tree, Trees}
+use Rattle.mz_logic.specs.Tree.{Tree}
 use Rattle.mz_logic.specs.View.{tree}
 use Rattle.mz_logic.specs.Declaration.{Declaration, signatures, sorts}
 use Rattle.mz_logic.specs.Modifiers.{MayBeClaimSort}
@@ -12,10 +12,10 @@ use Rattle.mz_logic.specs.declared.binder.Binder.{Binder}
 use Rattle.mz_math.specs.Pieces.{Piece, Pieces, piece_texts}
 use Rattle.mz_math.specs.Notation.{Coercion}
 use Rattle.mz_math.specs.Coercions.{IsPath, OnePath, Reaches, wrapped}
-use Rattle.mz_math.specs.Grammar.{Exp, words_of, Parse, tree_of}
+use Rattle.mz_math.specs.Grammar.{Exp, tree_of}
 use Rattle.mz_math.specs.Meaning.{Wanted, provable, of_sort, Coerced, IsSettled, IsClaimed, IsGoal, height}
 use Rattle.mz_math.specs.Readable.{IsTable, AreVariables}
-use Rattle.mz_math.specs.Formula.{Reader, words, most, HasTree, StandsFor, Means, Misreading, breaks, token_checks, known_checks, formula_checks, IsFormula, Misreads, IsParsed}
+use Rattle.mz_math.specs.Formula.{Reader, words, most, StandsFor, Means, Misreading, breaks, token_checks, known_checks, Misreads, IsParsed}
 use Rattle.mz_math.specs.Answers.{HasLength, settled, IsMeant, IsJudged, IsFirstUnknown, IsClaimRead}
 use Rattle.mz_math.specs.declared.formula.Parsed.{Parsed}
 use Rattle.mz_math.specs.declared.formula.Parsed.TheVariants as parsed
@@ -47,17 +47,17 @@ module _ (r : Reader) (w : Wanted) (is : IsTable r.table) (vs : AreVariables r.s
   abbrev Stands : Tree → ℕ → Type 0
   Stands f s = Coerced (signatures r.env) cs r.scope.binders t f s
 
-  parts : (e : Tree) (s : ℕ) → StandsFor r w tokens e s → (f : Tree) × Stands f s × ((path : List ℕ) × IsPath cs s path (settled w s) × (e ≡ wrapped cs path f))
+  pub parts : (e : Tree) (s : ℕ) → StandsFor r w tokens e s → (f : Tree) × Stands f s × ((path : List ℕ) × IsPath cs s path (settled w s) × (e ≡ wrapped cs path f))
   parts e s (u, f, exp_u, coerced, settles) =
       (f, subst (λ x. Coerced (signatures r.env) cs r.scope.binders x f s) (exp-one r is vs u t tokens exp_u exp) coerced, settled-back cs w s f e settles)
 
-  stands : (f : Tree) (s : ℕ) (path : List ℕ) → Stands f s → IsPath cs s path (settled w s) → StandsFor r w tokens (wrapped cs path f) s
+  pub stands : (f : Tree) (s : ℕ) (path : List ℕ) → Stands f s → IsPath cs s path (settled w s) → StandsFor r w tokens (wrapped cs path f) s
   stands f s path coerced on = (t, f, exp, coerced, settled-there cs is.one_path w s path f on)
 
   pub no-sort : ((f : Tree) (s : ℕ) → Stands f s → ⊥) → FailsFirst (token_checks r w tokens) (breaks rules.NoCoercion)
   no-sort never = inr (few, inr ((t, exp), inl ((λ h. let p = parts h.0 h.1 h.2 in never p.0 h.1 p.1), refl)))
 
-  same : (f g : Tree) (s q : ℕ) → Stands f s → Stands g q → (f ≡ g) × (s ≡ q)
+  pub same : (f g : Tree) (s q : ℕ) → Stands f s → Stands g q → (f ≡ g) × (s ≡ q)
   same f g s q a b = coerced-one (signatures r.env) cs r.scope.binders is.one_path t f g s q a b
 
   pub no-path : (f : Tree) (s : ℕ) → Stands f s → ((path : List ℕ) → IsPath cs s path (settled w s) → ⊥) → FailsFirst (token_checks r w tokens) (breaks rules.NoCoercion)

@@ -1,5 +1,5 @@
 -- Which tokens are known.
-use Rattle.std.proofs.Common.{◌≡◌, ◌≢◌, ◌⊎◌, ◌∙◌, ◌↔◌, ℕ, List, [], ◌∷◌, Bool, true, false, Some, None, Option, slice_get, sym, refl, subst, inl, inr, Contains}
+use Rattle.std.proofs.Common.{◌≡◌, ◌≢◌, ◌⊎◌, ◌∙◌, ◌↔◌, ℕ, List, [], Bool, Some, None, Option, slice_get, sym, inl, inr, Contains}
 use Rattle.std.specs.Prelude.{IsTrue, MatchOption, codes}
 use Rattle.std.specs.Option.{is_some}
 use Rattle.std.proofs.lemmas.Bool.{true≢false}

@@ -1,16 +1,16 @@
 -- The laws.
-use Rattle.std.proofs.Common.{◌≡◌, ◌⊎◌, ◌∙◌, ℕ, List, [], ◌∷◌, Bool, true, false, ap, sym, refl, subst, inl, inr}
+use Rattle.std.proofs.Common.{◌≡◌, ◌∙◌, ℕ, List, Bool, true, false, ap, sym, refl, subst, inl, inr}
 use Rattle.mz_checks.specs.Checks.{FailsFirst}
 use Rattle.mz_checks.proofs.CheckLaws.{fails_first-unique, all_hold-excludes}
 use Rattle.mz_logic.specs.Tree.{Tree}
 use Rattle.mz_logic.specs.Signature.{Signature}
 use Rattle.mz_logic.specs.Declaration.{signatures}
 use Rattle.mz_math.specs.Pieces.{Delimiters, Piece, piece_texts}
-use Rattle.mz_math.specs.Notation.{Notation, Table, begins_with_slot, with_notation, with_leading, with_infix}
-use Rattle.mz_math.specs.Grammar.{words_of, Exp, tree_of}
+use Rattle.mz_math.specs.Notation.{Notation, begins_with_slot, with_notation}
+use Rattle.mz_math.specs.Grammar.{words_of, tree_of}
 use Rattle.mz_math.specs.Readable.{IsTable, AreVariables}
 use Rattle.mz_math.specs.Meaning.{Wanted, Coerced, IsSettled, IsClaimed}
-use Rattle.mz_math.specs.Formula.{Reader, Misreading, StandsFor, Means, IsFormula, Misreads, formula_checks, words}
+use Rattle.mz_math.specs.Formula.{Reader, Means, formula_checks}
 use Rattle.mz_math.specs.Answers.{IsShaped, IsClearTable}
 use Rattle.mz_math.specs.Laws.{IsNoted, NotationsKeepTables, OneTree, OneTokens, OneMeaning, OneMisreading, OneReading}
 use Rattle.mz_math.proofs.Unique.{one-expression}

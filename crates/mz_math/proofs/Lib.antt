@@ -14,4 +14,8 @@ pub mod Literals
 pub mod Tables
 pub mod Judging
 pub mod Knowing
+pub mod Deciding
+pub mod Standing
+pub mod Existing
+pub mod Statements
 pub mod Lawful

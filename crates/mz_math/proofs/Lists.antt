@@ -1,5 +1,5 @@
 -- Lists: what a loop has seen of one, members of appended lists, and lists of trees.
-use Rattle.std.proofs.Common.{ℕ, zero, suc, ◌≡◌, ◌<◌, ◌≤◌, ◌+◌, ◌⊎◌, ◌++◌, List, [], ◌∷◌, length, get_or, slice_get, Some, None, sym, ap, ◌∙◌, subst, inl, inr, arith, eq-or-lt_of_le, All, Contains, refl}
+use Rattle.std.proofs.Common.{ℕ, zero, suc, ◌≡◌, ◌<◌, ◌≤◌, ◌+◌, ◌⊎◌, ◌++◌, List, [], ◌∷◌, length, get_or, slice_get, Some, None, sym, ap, ◌∙◌, subst, inl, inr, arith, eq-or-lt_of_le, Contains, refl}
 use Rattle.std.proofs.lemmas.List.{get_or_default}
 use Rattle.std.proofs.lemmas.Option.{slice_get_within, get_or_from_slice_get, slice_get-get_or}
 use Rattle.mz_logic.specs.Tree.{Tree, Trees, more, none, followed_by}

@@ -1,5 +1,5 @@
 -- The elements of a `notation` statement.
-use Rattle.std.proofs.Common.{◌≡◌, ◌≢◌, ◌<◌, ◌+◌, ◌-◌, suc, ◌++◌, ◌∙◌, ℕ, List, [], ◌∷◌, length, Some, None, Option, slice_get, get_or, ap, ap₂, sym, refl, subst, arith, drop, drop-cons, add-one, append_assoc, Contains, Result, Ok, Err}
+use Rattle.std.proofs.Common.{◌≡◌, ◌≢◌, ◌<◌, ◌+◌, ◌-◌, suc, ◌++◌, ◌∙◌, ℕ, List, [], ◌∷◌, length, Some, Option, slice_get, get_or, ap, ap₂, sym, refl, subst, arith, drop, drop-cons, add-one, append_assoc, Contains, Result, Ok, Err}
 use Rattle.std.specs.Prelude.{slice_range}
 use Rattle.std.proofs.lemmas.Option.{slice_get_within, get_or_from_slice_get}
 use Rattle.mz_logic.specs.Signature.{Signature}

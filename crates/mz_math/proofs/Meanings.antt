@@ -1,8 +1,8 @@
 -- What trees of the grammar stand for.
-use Rattle.std.proofs.Common.{◌≡◌, ◌≢◌, ◌<◌, ◌≤◌, ◌+◌, ◌-◌, ◌⊎◌, ◌++◌, ◌∙◌, ◌↔◌, ℕ, zero, suc, List, [], ◌∷◌, length, Bool, true, false, Some, None, Option, slice_get, get_or, ap, ap₂, sym, refl, subst, inl, inr, arith, Contains, drop, drop-cons, add-one}
+use Rattle.std.proofs.Common.{◌≡◌, ◌<◌, ◌≤◌, ◌+◌, ◌-◌, ◌∙◌, ◌↔◌, ℕ, suc, List, [], ◌∷◌, length, Bool, true, false, Some, slice_get, get_or, ap, ap₂, sym, refl, subst, arith, drop, drop-cons, add-one}
 use Rattle.std.proofs.lemmas.List.{drop_all}
-use Rattle.std.specs.Prelude.{IsTrue, max, option_map}
-use Rattle.std.proofs.lemmas.Bool.{true≢false, false≢true}
+use Rattle.std.specs.Prelude.{IsTrue, max}
+use Rattle.std.proofs.lemmas.Bool.{true≢false}
 use Rattle.mz_logic.specs.Tree.{Tree, Trees, var, app, none, more, listed, followed_by, size, trees_size}
 use Rattle.mz_logic.specs.View.{tree, trees}
 use Rattle.mz_logic.specs.Signature.{Signature}
@@ -15,7 +15,7 @@ use Rattle.mz_math.specs.Meaning.{Coerced, CoercedAll, height, trees_height}
 use Rattle.mz_math.specs.Answers.{FitsParam, HasLength}
 use Rattle.mz_math.proofs.OneMeaning.{coerced-one, coerced-all}
 use Rattle.mz_math.proofs.Paths.{length-one}
-use Rattle.mz_math.proofs.Lists.{followed_by_push, followed_by_none}
+use Rattle.mz_math.proofs.Lists.{followed_by_push}
 
 some-same : {A : Type 0} {x y : A} → Some x ≡ Some y → x ≡ y
 some-same e = cc

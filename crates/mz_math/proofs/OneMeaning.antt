@@ -1,16 +1,14 @@
 -- Each string has one list of tokens, and each tree one expression.
-use Rattle.std.proofs.Common.{◌≡◌, ◌≢◌, ◌≤◌, ◌<◌, ◌+◌, ◌-◌, ◌⊎◌, ◌∙◌, ℕ, zero, suc, List, [], ◌∷◌, length, Bool, true, false, Some, slice_get, ap, ap₂, sym, refl, subst, inl, inr, arith, Contains}
-use Rattle.std.specs.Prelude.{slice_index}
-use Rattle.std.proofs.lemmas.Bool.{true≢false, cases_order, cases_lt}
+use Rattle.std.proofs.Common.{◌≡◌, ◌<◌, ◌-◌, ◌∙◌, ℕ, List, [], ◌∷◌, length, Some, ap, ap₂, sym, refl, subst, inl, inr, arith}
+use Rattle.std.proofs.lemmas.Bool.{true≢false, cases_order}
 use Rattle.mz_logic.specs.Tree.{Tree, Trees, var, app, none, more}
 use Rattle.mz_logic.specs.Signature.{Signature}
-use Rattle.mz_logic.specs.Declaration.{Declaration, signatures}
+use Rattle.mz_logic.specs.Declaration.{Declaration}
 use Rattle.mz_logic.specs.declared.binder.Binder.{Binder}
 use Rattle.mz_math.specs.Notation.{Coercion}
 use Rattle.mz_math.specs.Pieces.{Delimiters, Piece, IsSpaces, IsPiece, PiecesFrom}
 use Rattle.mz_math.specs.Coercions.{IsPath, OnePath, wrapped}
 use Rattle.mz_math.specs.Meaning.{Coerced, CoercedAll, Wanted, of_sort, provable, IsSettled, IsGoal, IsClaimed}
-use Rattle.mz_lex.specs.Kinds.{is_space}
 
 -- ---- tokens
 

@@ -1,5 +1,5 @@
 -- Paths of coercions.
-use Rattle.std.proofs.Common.{◌≡◌, ◌≢◌, ◌<◌, ◌≤◌, ◌+◌, ◌-◌, ◌⊎◌, ◌++◌, ◌∙◌, ℕ, zero, suc, List, [], ◌∷◌, length, Bool, true, false, Some, slice_get, get_or, ap, sym, refl, subst, inl, inr, arith, Contains, append_assoc, length-append, Option, None, ◌↔◌}
+use Rattle.std.proofs.Common.{◌≡◌, ◌<◌, ◌≤◌, ◌+◌, ◌-◌, ◌⊎◌, ◌++◌, ◌∙◌, ℕ, zero, suc, List, [], ◌∷◌, length, Bool, true, false, Some, slice_get, get_or, ap, sym, refl, subst, inl, inr, arith, Contains, length-append, Option, None, ◌↔◌}
 use Rattle.std.specs.Prelude.{◌||◌, IsTrue, MatchOption}
 use Rattle.std.specs.Option.{is_some}
 use Rattle.std.proofs.Math.Dec.{eqb}

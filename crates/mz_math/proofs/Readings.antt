@@ -1,6 +1,6 @@
 -- What a parser's steps show of readings.
-use Rattle.std.proofs.Common.{◌≡◌, ◌≢◌, ◌≤◌, ◌<◌, ◌+◌, ◌⊎◌, ◌++◌, ◌∙◌, ◌↔◌, ℕ, zero, suc, List, [], ◌∷◌, Bool, true, false, not, IsTrue, Some, slice_get, drop, ap, ap₂, sym, refl, subst, inl, inr, arith, append_assoc, Contains}
-use Rattle.std.specs.Prelude.{codes, ⊤}
+use Rattle.std.proofs.Common.{◌≡◌, ◌≢◌, ◌≤◌, ◌<◌, ◌++◌, ◌∙◌, ◌↔◌, ℕ, zero, suc, List, [], ◌∷◌, Bool, false, not, Some, slice_get, drop, ap, ap₂, sym, refl, subst, inl, inr, arith, append_assoc, Contains}
+use Rattle.std.specs.Prelude.{codes}
 use Rattle.std.proofs.lemmas.Bool.{false≢true, not-true}
 use Rattle.std.proofs.lemmas.List.{append-nil}
 use Rattle.mz_logic.specs.Tree.{Tree, Trees, var, app, none, more, followed_by}
@@ -10,7 +10,7 @@ use Rattle.mz_math.specs.Lookups.{NoVariable, NoLeading, NoTermName, NoInfix}
 use Rattle.mz_math.specs.Answers.{MayLead}
 use Rattle.mz_math.specs.Notation.{max_level, above, Element, fixed, slot, Notation}
 use Rattle.mz_math.specs.Clear.{LedBy, JoinedBy}
-use Rattle.mz_math.specs.Grammar.{Item, token, expr, items, level_before, operands_at_max, Head, variable, parens, applied, notated, Parse, Parts, headed, joined, end, word, part, level_of, head_level, head_items, infix_items, tokens_of, part_tokens, tree_of, part_trees, Words, Exp, IsTermName, IsVariable, last_level, behind_first, IsHead, IsExp, AreParts, CanLead, IsLeftForm, notated_tree}
+use Rattle.mz_math.specs.Grammar.{Item, token, expr, items, level_before, operands_at_max, Head, variable, parens, applied, notated, Parse, Parts, headed, joined, end, word, part, level_of, head_level, head_items, infix_items, tokens_of, part_tokens, tree_of, part_trees, Words, Exp, IsTermName, IsVariable, last_level, behind_first, IsHead, IsExp, AreParts, CanLead, notated_tree}
 use Rattle.mz_math.specs.Readable.{IsReadable}
 use Rattle.mz_math.specs.Reading.{NotJoined, Before, Spaced, Step, build, step_tokens, Reads, NoReading, GoesOn, IsBegun, ArePartsRead, NoParts, IsRead}
 use Rattle.mz_math.proofs.Chains.{base, base_parts, steps_of, rebuilt, tokens-build, inner, level-falls}
@@ -346,6 +346,14 @@ module _ (ws : Words) (right : IsReadable ws) where
       (head-begun level parens (codes "(") (word (codes "(") (part read.parse (word (codes ")") end))) rest after tree tt refl
       (refl, (read.reads.1, read.reads.0, (refl, tt))) (λ k in_k by. absurd (right.no_infix k in_k by), tt)
       (ap (λ ts. codes "(" ∷ ts) (append_assoc (tokens_of read.parse) (codes ")" ∷ []) after ∙ ap (λ ts. tokens_of read.parse ++ ts) (sym close) ∙ read.reads.2)) read.tree_is le)
+
+  pub parens-low : (level : ℕ) (tokens rest mid after : List (List ℕ)) (tree : Tree) → tokens ≡ codes "(" ∷ rest → IsRead ws 0 rest mid tree → mid ≡ codes ")" ∷ after → max_level < level
+      → NoReading ws level tokens
+  parens-low level tokens rest mid after tree is read close low =
+      subst (NoReading ws level) (sym is)
+      (head-low level parens (codes "(") (word (codes "(") (part read.parse (word (codes ")") end))) rest after tt refl
+      (refl, (read.reads.1, read.reads.0, (refl, tt))) (λ k in_k by. absurd (right.no_infix k in_k by), tt)
+      (ap (λ ts. codes "(" ∷ ts) (append_assoc (tokens_of read.parse) (codes ")" ∷ []) after ∙ ap (λ ts. tokens_of read.parse ++ ts) (sym close) ∙ read.reads.2)) low)
 
   -- ---- infix forms, one by one
 

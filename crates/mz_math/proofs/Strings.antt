@@ -1,5 +1,5 @@
 -- Strings and their tokens.
-use Rattle.std.proofs.Common.{◌≡◌, ◌≢◌, ◌<◌, ◌≤◌, ◌+◌, ◌-◌, ◌⊎◌, ◌++◌, ◌∙◌, ◌↔◌, ℕ, zero, suc, List, [], ◌∷◌, length, Bool, true, false, Some, None, Option, slice_get, get_or, ap, ap₂, sym, refl, subst, inl, inr, arith, Contains, append_assoc, drop, take, map, All, eq-or-lt_of_le}
+use Rattle.std.proofs.Common.{◌≡◌, ◌<◌, ◌≤◌, ◌+◌, ◌-◌, ◌⊎◌, ◌++◌, ◌∙◌, ℕ, zero, suc, List, [], ◌∷◌, length, Bool, true, false, get_or, ap, ap₂, sym, refl, subst, inl, inr, arith, Contains, append_assoc, drop, take, map, All, eq-or-lt_of_le}
 use Rattle.std.specs.Prelude.{slice_index, slice_range, IsTrue, codes}
 use Rattle.std.proofs.lemmas.List.{append-nil}
 use Rattle.mz_math.specs.Forms.{IsConstant}
@@ -7,7 +7,7 @@ use Rattle.mz_lex.specs.Kinds.{is_space}
 use Rattle.mz_math.specs.Pieces.{Delimiters, no_delimiters, Piece, IsSpaces, IsPiece, PiecesFrom, Pieces, piece_text, piece_texts, AreCharacters}
 use Rattle.mz_math.specs.Answers.{IsNext, EndsAt, IsWhole}
 use Rattle.mz_lex.proofs.Names.{slice-first, slice-empty}
-use Rattle.mz_math.proofs.OneMeaning.{pieces-one, piece-one, no-piece}
+use Rattle.mz_math.proofs.OneMeaning.{piece-one, no-piece}
 
 cons_same : {A : Type 0} {x y : A} {xs ys : List A} → x ∷ xs ≡ y ∷ ys → (x ≡ y) × (xs ≡ ys)
 cons_same e = (cc, cc)

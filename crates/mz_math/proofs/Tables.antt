@@ -1,15 +1,14 @@
 -- Tables: what each statement keeps of them.
-use Rattle.std.proofs.Common.{◌≡◌, ◌≢◌, ◌<◌, ◌⊎◌, ◌++◌, ◌∙◌, ℕ, zero, suc, List, [], ◌∷◌, length, Bool, true, false, Some, None, Option, slice_get, ap, ap₂, sym, refl, subst, inl, inr, arith, Contains, Result, Ok, Err}
+use Rattle.std.proofs.Common.{◌≡◌, ◌≢◌, ◌⊎◌, ◌++◌, ◌∙◌, ℕ, zero, suc, List, [], ◌∷◌, length, Bool, true, false, Some, None, Option, slice_get, ap, ap₂, sym, refl, subst, inl, inr, arith, Contains, Result, Ok, Err}
 use Rattle.std.specs.Prelude.{codes, IsTrue, MatchBool, slice_range, ◌+◌, OnOk, OnErr, if◌then◌else◌}
-use Rattle.std.proofs.lemmas.Bool.{true≢false, false≢true}
-use Rattle.mz_checks.specs.Checks.{AllHold, FailsFirst}
+use Rattle.std.proofs.lemmas.Bool.{false≢true}
 use Rattle.mz_lex.specs.Kinds.{is_name}
 use Rattle.mz_logic.specs.Signature.{Signature}
-use Rattle.mz_math.specs.Pieces.{Delimiters, Piece, piece_text, no_delimiters, AreDelimiters}
-use Rattle.mz_math.specs.Notation.{max_level, level_of, Element, fixed, slot, slots, places, Notation, TermName, Coercion, Table, empty_table, begins_with_slot, with_delimiters, with_leading, with_infix, with_notation, with_name, with_coercion, infixed, prefixed}
-use Rattle.mz_math.specs.Clear.{HasConstant, LedBy, JoinedBy, IsOne, IsClear}
-use Rattle.mz_math.specs.Coercions.{OnePath, IsPath}
-use Rattle.mz_math.specs.Grammar.{words_of, IsVariable, IsNamed}
+use Rattle.mz_math.specs.Pieces.{Delimiters, piece_text, no_delimiters, AreDelimiters}
+use Rattle.mz_math.specs.Notation.{level_of, Element, fixed, slot, slots, Notation, TermName, Coercion, Table, empty_table, begins_with_slot, with_delimiters, with_leading, with_infix, with_notation, with_name, with_coercion, infixed, prefixed}
+use Rattle.mz_math.specs.Clear.{HasConstant, LedBy, JoinedBy, IsClear}
+use Rattle.mz_math.specs.Coercions.{OnePath}
+use Rattle.mz_math.specs.Grammar.{words_of}
 use Rattle.mz_math.specs.Readable.{AreDistinct, IsTable, AreVariables, IsReadable}
 use Rattle.mz_math.specs.Forms.{IsConstant, IsInfix, IsPrefix, IsElement, AreElements, IsGeneral, General, Begins, Literal, constant, name, Tail, NoteFault, notation_checks, delimiter_checks, IsAnswer, AddsNotation}
 use Rattle.mz_math.specs.declared.table.NoteFault.TheVariants as faults
@@ -17,7 +16,7 @@ use Rattle.mz_math.specs.Answers.{IsShaped, IsAdded, IsMade, IsClearTable}
 use Rattle.mz_math.proofs.OneMeaning.{pieces-one}
 use Rattle.mz_math.proofs.Constants.{fixed-same}
 use Rattle.mz_math.proofs.Clearing.{constant-either}
-use Rattle.mz_math.proofs.Lists.{contains_either, contains_last, contains_at, place_either}
+use Rattle.mz_math.proofs.Lists.{contains_either, contains_at, place_either}
 
 no-member : {A : Type 0} {x : A} → Contains [] x → ⊥
 no-member (k, below, is) = absurd (omega (arith, below))

@@ -1,11 +1,11 @@
 -- Each token list is at most one expression.
-use Rattle.std.proofs.Common.{◌≡◌, ◌≢◌, ◌≤◌, ◌<◌, ◌+◌, ◌⊎◌, ◌++◌, ◌∙◌, ℕ, zero, suc, List, [], ◌∷◌, Bool, true, false, Some, ap, ap₂, sym, refl, subst, inl, inr, arith, append_assoc, Contains, slice_get, length, get_or}
+use Rattle.std.proofs.Common.{◌≡◌, ◌≤◌, ◌<◌, ◌⊎◌, ◌++◌, ◌∙◌, ℕ, zero, suc, List, [], ◌∷◌, Some, ap, ap₂, sym, refl, subst, inl, inr, arith, append_assoc, Contains, slice_get, length}
 use Rattle.std.specs.Prelude.{codes, ⊤}
-use Rattle.std.proofs.lemmas.Option.{slice_get-get_or, slice_get_within, get_or_from_slice_get}
-use Rattle.mz_math.specs.Notation.{max_level, above, Element, fixed, slot, Notation}
+use Rattle.std.proofs.lemmas.Option.{slice_get_within, get_or_from_slice_get}
+use Rattle.mz_math.specs.Notation.{max_level, Element, fixed, slot, Notation}
 use Rattle.mz_math.specs.Clear.{IsOne, LedBy, JoinedBy, HasConstant}
-use Rattle.mz_math.specs.Grammar.{Item, token, expr, items, level_before, operands_at_max, Head, variable, parens, applied, notated, Parse, Parts, headed, joined, end, word, part, level_of, head_level, head_items, infix_items, behind_first, last_level, tokens_of, part_tokens, Words, IsHead, IsTermName, IsNamed, IsVariable, IsExp, AreParts, CanLead, IsLeftForm}
-use Rattle.mz_math.specs.Readable.{IsReadable, AreDistinct}
+use Rattle.mz_math.specs.Grammar.{Item, token, expr, items, level_before, operands_at_max, Head, variable, parens, applied, notated, Parse, Parts, headed, joined, end, word, part, level_of, head_level, head_items, infix_items, behind_first, last_level, tokens_of, part_tokens, Words, IsHead, IsTermName, IsNamed, IsVariable, IsExp, AreParts, CanLead}
+use Rattle.mz_math.specs.Readable.{IsReadable}
 use Rattle.mz_math.specs.Reading as Reading
 use Rattle.mz_math.specs.Reading.{Step, build, step_tokens}
 use Rattle.mz_math.proofs.Lists.{at_of}

@@ -3,7 +3,6 @@ use Rattle.std.specs.Prelude.{◌≡◌, ◌≢◌, ◌≤◌, ◌<◌, ◌+◌,
 use Rattle.mz_lex.specs.Kinds.{is_space}
 use Rattle.std.proofs.Common.{Result, Ok, Err}
 use Rattle.mz_checks.specs.Checks.{AllHold, FailsFirst}
-use Rattle.mz_lex.specs.declared.rule.S.{S}
 use Rattle.mz_lex.specs.declared.rule.S.TheVariants as rules
 use Rattle.mz_logic.specs.Tree.{Tree, Trees}
 use Rattle.mz_logic.specs.View.{tree}
@@ -12,13 +11,13 @@ use Rattle.mz_logic.specs.Declaration.{Declaration}
 use Rattle.mz_logic.specs.Sorts.{IsBoundVar}
 use Rattle.mz_logic.specs.declared.binder.Binder.{Binder}
 use Rattle.mz_math.specs.Pieces.{Delimiters, Piece, IsSpaces, IsPiece, AreCharacters}
-use Rattle.mz_math.specs.Notation.{Notation, Element, fixed, above, begins_with_slot, Coercion, Table, with_notation}
+use Rattle.mz_math.specs.Notation.{Notation, Element, fixed, above, begins_with_slot, Coercion, Table}
 use Rattle.mz_math.specs.Clear.{HasConstant, LedBy, JoinedBy, IsClear}
 use Rattle.mz_math.specs.Coercions.{IsPath, Reaches, wrapped}
-use Rattle.mz_math.specs.Grammar.{Words, IsVariable, IsLeading, Item, Exp}
+use Rattle.mz_math.specs.Grammar.{Words, Item, Exp}
 use Rattle.mz_math.specs.Reading.{IsRead, NoReading, IsBegun, ArePartsRead, NoParts}
 use Rattle.mz_math.specs.Meaning.{Wanted, provable, of_sort, Coerced, CoercedAll, IsClaimed, height, trees_height}
-use Rattle.mz_math.specs.Formula.{Reader, words, Misreading, breaks, known_checks, token_checks, Means, most}
+use Rattle.mz_math.specs.Formula.{Reader, words, known_checks, token_checks, Means, most}
 use Rattle.mz_math.specs.Forms.{General, NoteFault, EachOnce, Begins}
 use Rattle.mz_math.specs.declared.form.Statement.{Statement}
 use Rattle.mz_math.specs.declared.table.NoteFault.TheVariants as faults

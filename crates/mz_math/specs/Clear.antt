@@ -1,5 +1,5 @@
 -- Notations that cannot be mistaken for one another (mm0.md, section on notations).
-use Rattle.std.specs.Prelude.{◌≡◌, ◌<◌, ◌⊎◌, ℕ, List, [], ◌∷◌, Bool, Some, slice_get, Contains}
+use Rattle.std.specs.Prelude.{◌≡◌, ◌<◌, ◌⊎◌, ℕ, List, ◌∷◌, Some, slice_get, Contains}
 use Rattle.mz_math.specs.Notation.{max_level, Element, fixed, slot, Notation}
 
 -- a constant of a notation, and its level there

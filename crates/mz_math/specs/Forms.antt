@@ -1,6 +1,6 @@
 -- What the statements on notations, coercions and delimiters add, and the first rule that they break.
 -- Strings are given without their `$`.
-use Rattle.std.specs.Prelude.{◌≡◌, ◌≢◌, ◌<◌, ◌≤◌, ◌==◌, ⊤, ℕ, List, [], ◌∷◌, ◌++◌, Bool, true, false, Option, Some, None, All, length, slice_get, slice_range, codes}
+use Rattle.std.specs.Prelude.{◌≡◌, ◌≢◌, ◌<◌, ◌≤◌, ◌==◌, ⊤, ℕ, List, [], ◌∷◌, ◌++◌, Bool, true, false, Option, Some, None, length, slice_get, slice_range, codes}
 use Rattle.std.specs.List.{count_by}
 use Rattle.std.proofs.Common.{Result, Ok, Err}
 use Rattle.mz_checks.specs.Checks.{Checks, demand, ◌>>◌, AllHold, FailsFirst}
@@ -8,7 +8,7 @@ use Rattle.mz_logic.specs.Signature.{Signature}
 use Rattle.mz_logic.specs.declared.binder.Binder.{Binder}
 use Rattle.mz_logic.specs.declared.binder.ResultType.{ResultType}
 use Rattle.mz_math.specs.Pieces.{Delimiters, Piece, Pieces, piece_text, AreDelimiters}
-use Rattle.mz_math.specs.Notation.{level_of, places, Element, fixed, slot, prefixed, infixed, Notation, Coercion, Table, with_delimiters, with_notation, with_coercion}
+use Rattle.mz_math.specs.Notation.{level_of, places, Element, fixed, slot, prefixed, infixed, Notation, Coercion, Table, with_delimiters, with_notation}
 use Rattle.mz_math.specs.Clear.{IsClear}
 use Rattle.mz_math.specs.Coercions.{OnePath}
 pub use Rattle.mz_math.specs.declared.form.Literal.{Literal}

@@ -1,5 +1,5 @@
 -- What a math string stands for, and the first rule that it breaks.
-use Rattle.std.specs.Prelude.{◌≡◌, ◌≤◌, ◌++◌, ⊤, ℕ, List, [], ◌∷◌, length}
+use Rattle.std.specs.Prelude.{◌≤◌, ◌++◌, ⊤, ℕ, List, [], ◌∷◌, length}
 use Rattle.mz_checks.specs.Checks.{Checks, demand, ◌>>◌, each_in_order, AllHold, FailsFirst}
 use Rattle.mz_lex.specs.declared.rule.S.{S}
 use Rattle.mz_lex.specs.declared.rule.S.TheVariants as rules

@@ -1,6 +1,6 @@
 -- What holds of every table that the calls make.
 use Rattle.std.specs.Prelude.{◌≡◌, ◌≢◌, ◌⊎◌, ℕ, List, [], ◌∷◌, ◌++◌, Option, Bool, Contains, IsTrue}
-use Rattle.mz_checks.specs.Checks.{AllHold}
+use Rattle.mz_checks.specs.Checks.{AllHold, FailsFirst}
 use Rattle.mz_lex.specs.Kinds.{is_name}
 use Rattle.mz_logic.specs.Tree.{Tree}
 use Rattle.mz_logic.specs.Signature.{Signature}
@@ -12,7 +12,7 @@ use Rattle.mz_math.specs.Grammar.{words_of, Exp}
 use Rattle.mz_math.specs.Readable.{IsTable, AreVariables}
 use Rattle.mz_math.specs.Meaning.{Wanted}
 use Rattle.mz_math.specs.Formula.{Reader, Misreading, IsFormula, Misreads}
-use Rattle.mz_math.specs.Forms.{IsInfix, IsPrefix, IsGeneral, General}
+use Rattle.mz_math.specs.Forms.{NoteFault, coercion_checks, delimiter_checks, IsInfix, IsPrefix, IsGeneral, General}
 
 -- ---- tables
 
@@ -60,3 +60,14 @@ OneMisreading = (r : Reader) (w : Wanted) (text : List ℕ) (m n : Misreading) �
 
 abbrev pub OneReading : Type 0
 OneReading = (r : Reader) (w : Wanted) (text : List ℕ) (e : Tree) (m : Misreading) → IsFormula r w text e → Misreads r w text m → ⊥
+
+abbrev pub SomeReading : Type 0
+SomeReading = (r : Reader) (w : Wanted) (text : List ℕ) → IsTable r.table → AreVariables r.scope.names → ((e : Tree) × IsFormula r w text e) ⊎ ((m : Misreading) × Misreads r w text m)
+
+-- ---- statements
+
+abbrev pub DelimitersAreJudged : Type 0
+DelimitersAreJudged = (left : List ℕ) (right : Option (List ℕ)) → AllHold (delimiter_checks left right) ⊎ ((f : NoteFault) × FailsFirst (delimiter_checks left right) f)
+
+abbrev pub CoercionsAreJudged : Type 0
+CoercionsAreJudged = (sigs : List Signature) (t : Table) (c : Coercion) → IsTable t → AllHold (coercion_checks sigs t c) ⊎ ((f : NoteFault) × FailsFirst (coercion_checks sigs t c) f)

@@ -1,5 +1,5 @@
 -- What the look-ups of a token answer.
-use Rattle.std.specs.Prelude.{◌≡◌, ℕ, List, Contains}
+use Rattle.std.specs.Prelude.{ℕ, List, Contains}
 use Rattle.mz_math.specs.Notation.{Notation}
 use Rattle.mz_math.specs.Clear.{JoinedBy}
 use Rattle.mz_math.specs.Grammar.{Words, IsVariable, IsLeading, IsTermName}

@@ -1,5 +1,5 @@
 -- Notations, names of terms and coercions (mm0.md, section on notations).
-use Rattle.std.specs.Prelude.{◌≡◌, ◌+◌, ◌++◌, ◌==◌, ℕ, zero, suc, List, [], ◌∷◌, Bool, true, false, Option, Some, None, if◌then◌else◌}
+use Rattle.std.specs.Prelude.{◌+◌, ◌++◌, ◌==◌, ℕ, zero, suc, List, [], ◌∷◌, Bool, true, false, Option, Some, None, if◌then◌else◌}
 use Rattle.mz_math.specs.Pieces.{Delimiters, no_delimiters, both}
 pub use Rattle.mz_math.specs.declared.notation.Element.{Element}
 pub use Rattle.mz_math.specs.declared.notation.Element.TheVariants.{Fixed as fixed, Slot as slot}

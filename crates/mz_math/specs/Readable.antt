@@ -1,7 +1,7 @@
 -- The conditions on names, constants and levels by which each list of tokens has at most one tree.
-use Rattle.std.specs.Prelude.{◌≡◌, ◌≢◌, ◌<◌, ◌⊎◌, ℕ, List, [], ◌∷◌, Some, slice_get, Contains, codes, IsTrue}
+use Rattle.std.specs.Prelude.{◌≡◌, ◌≢◌, ◌⊎◌, ℕ, List, [], Some, slice_get, Contains, codes, IsTrue}
 use Rattle.mz_lex.specs.Kinds.{is_name}
-use Rattle.mz_math.specs.Notation.{max_level, Notation, TermName, Table}
+use Rattle.mz_math.specs.Notation.{Notation, TermName, Table}
 use Rattle.mz_math.specs.Clear.{IsClear, HasConstant, LedBy, JoinedBy}
 use Rattle.mz_math.specs.Coercions.{OnePath}
 use Rattle.mz_math.specs.Grammar.{Words, IsVariable, IsNamed}

@@ -3,7 +3,7 @@ use Rattle.std.specs.Prelude.{◌≡◌, ◌≤◌, ◌<◌, ◌++◌, ◌↔◌
 use Rattle.mz_logic.specs.Tree.{Tree, Trees, followed_by}
 use Rattle.mz_math.specs.Notation.{max_level, Notation}
 use Rattle.mz_math.specs.Clear.{JoinedBy}
-use Rattle.mz_math.specs.Grammar.{Item, token, expr, Parse, Parts, headed, joined, level_of, tokens_of, part_tokens, tree_of, part_trees, Words, IsExp, AreParts, IsLeftForm}
+use Rattle.mz_math.specs.Grammar.{Item, token, expr, Parse, Parts, joined, level_of, tokens_of, part_tokens, tree_of, part_trees, Words, IsExp, AreParts, IsLeftForm}
 
 -- no infix constant of the level or above stands first
 abbrev pub NotJoined : Words → ℕ → List (List ℕ) → Type 0

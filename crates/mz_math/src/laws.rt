@@ -1,5 +1,5 @@
 // What holds of every table that the calls make. These functions do nothing: a caller learns their clauses.
-ghost use Rattle.mz_math.specs.Laws.{CoercionsKeepTables, DelimitersKeepTables, EmptyIsTable, NamesKeepTables, NotationsKeepTables, OneMeaning, OneMisreading, OneReading, OneTokens, OneTree, VariablesStay};
+ghost use Rattle.mz_math.specs.Laws.{CoercionsAreJudged, CoercionsKeepTables, DelimitersAreJudged, DelimitersKeepTables, EmptyIsTable, NamesKeepTables, NotationsKeepTables, OneMeaning, OneMisreading, OneReading, OneTokens, OneTree, SomeReading, VariablesStay};
 
 /// The empty table is one that the calls make, and each statement that breaks no rule makes another.
 pub fn statements_keep_tables()
@@ -25,4 +25,16 @@ pub fn each_string_has_one_meaning()
     ensures meaning { OneMeaning }
     ensures misreading { OneMisreading }
     ensures not_both { OneReading }
+{}
+
+/// And each string, over such a table and such variables, stands for an expression or breaks a rule
+/// first.
+pub fn each_string_is_read_or_refused()
+    ensures { SomeReading }
+{}
+
+/// A statement on delimiters or on coercions breaks no rule, or one of them first.
+pub fn statements_are_judged()
+    ensures delimiters { DelimitersAreJudged }
+    ensures coercions { CoercionsAreJudged }
 {}

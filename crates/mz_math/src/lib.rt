@@ -17,13 +17,18 @@ mod parser;
 mod pieces;
 mod scope;
 mod table;
+#[cfg(test)]
+mod tests;
 mod words;
 
 pub use bytes::Bytes;
 pub use coercion::Coercion;
 pub use form::{Literal, Tail};
 pub use formula::{Parsed, Wanted, parse_formula};
-pub use laws::{each_string_has_one_meaning, each_token_list_has_one_tree, statements_keep_tables};
+pub use laws::{
+    each_string_has_one_meaning, each_string_is_read_or_refused, each_token_list_has_one_tree,
+    statements_are_judged, statements_keep_tables,
+};
 pub use notation::{Element, Elements, Notation};
 pub use pieces::{Delimiters, Piece};
 pub use scope::{Scope, is_identifier};

@@ -1,6 +1,5 @@
-use Rattle.std.proofs.Common.{◌≡◌, ◌<◌, ℕ, List, Contains, get_or}
-use Rattle.mz_math.specs.Notation.{Element, Notation, fixed}
-use Rattle.mz_math.specs.Clear.{HasConstant, LedBy, JoinedBy}
+use Rattle.std.proofs.Common.{◌≡◌, ℕ, List, Contains}
+use Rattle.mz_math.specs.Notation.{Element, fixed}
 use Rattle.mz_math.proofs.Lists.{AllSoFar}
 use Rattle.mz_math.proofs.clear.keeps_own_levels.Given as goal
 

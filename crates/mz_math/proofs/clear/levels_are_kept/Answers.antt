@@ -1,8 +1,6 @@
-use Rattle.std.proofs.Common.{◌≡◌, ◌≢◌, ◌<◌, ◌∙◌, ◌∷◌, [], ◌++◌, sym, subst, refl, true, false, arith}
+use Rattle.std.proofs.Common.{◌∙◌, sym, subst}
 use Rattle.std.proofs.lemmas.Bool.{true≢false, false≢true}
-use Rattle.mz_math.specs.Clear.{IsClear}
-use Rattle.mz_math.specs.Answers.{KeepsLevels, KeepsOwnLevels, GroupsWith, NoOtherLed, NoOtherJoined}
-use Rattle.mz_math.proofs.Clearing.{with-leading-clear, with-infix-clear, leading-kept, leading-other, infix-kept, infix-other, infix-groups, infix-level}
+use Rattle.mz_math.specs.Answers.{KeepsLevels, KeepsOwnLevels}
 use Rattle.mz_math.proofs.clear.levels_are_kept.Goals as goal
 
 pub returns-then-not-keeps_own_levels : goal.returns-then-not-keeps_own_levels

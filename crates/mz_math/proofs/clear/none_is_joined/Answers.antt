@@ -1,7 +1,7 @@
-use Rattle.std.proofs.Common.{◌≡◌, ◌≤◌, ◌<◌, ◌∙◌, ℕ, List, Contains, sym, subst, refl, true, false, get_or, length}
+use Rattle.std.proofs.Common.{◌∙◌, ℕ, List, Contains, sym, subst, refl}
 use Rattle.std.proofs.lemmas.Bool.{true≢false, false≢true}
-use Rattle.mz_math.specs.Notation.{Element, Notation, fixed}
-use Rattle.mz_math.specs.Clear.{HasConstant, LedBy, JoinedBy}
+use Rattle.mz_math.specs.Notation.{Notation}
+use Rattle.mz_math.specs.Clear.{JoinedBy}
 use Rattle.mz_math.proofs.Lists.{all_so_far_more, all-members}
 use Rattle.mz_math.proofs.clear.none_is_joined.Goals as goal
 

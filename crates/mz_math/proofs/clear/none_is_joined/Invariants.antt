@@ -1,6 +1,6 @@
-use Rattle.std.proofs.Common.{◌≡◌, ◌<◌, ℕ, List, Contains, get_or}
-use Rattle.mz_math.specs.Notation.{Element, Notation, fixed}
-use Rattle.mz_math.specs.Clear.{HasConstant, LedBy, JoinedBy}
+use Rattle.std.proofs.Common.{ℕ, List}
+use Rattle.mz_math.specs.Notation.{Notation}
+use Rattle.mz_math.specs.Clear.{JoinedBy}
 use Rattle.mz_math.proofs.Lists.{AllSoFar}
 use Rattle.mz_math.proofs.clear.none_is_joined.Given as goal
 

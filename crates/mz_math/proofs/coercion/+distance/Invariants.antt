@@ -1,5 +1,5 @@
-use Rattle.std.proofs.Common.{◌≡◌, ◌↔◌, ◌<◌, ◌≤◌, ◌+◌, ◌-◌, ◌*◌, ◌++◌, ◌∷◌, [], ℕ, List, Contains, length, get_or, drop, slice_get, Some}
-use Rattle.mz_math.specs.Notation.{Element, Notation, TermName, Coercion, fixed, places, slots}
+use Rattle.std.proofs.Common.{◌≡◌, ◌<◌, ◌-◌, ℕ, get_or}
+use Rattle.mz_math.specs.Notation.{Coercion}
 use Rattle.mz_math.specs.Coercions.{Reaches}
 use Rattle.mz_math.proofs.coercion.+distance.Given as goal
 

@@ -1,4 +1,3 @@
-use Rattle.std.proofs.Common.{ℕ}
 use Rattle.mz_math.specs.Answers.{Leads}
 use Rattle.mz_math.specs.Notation.{Coercion}
 use Rattle.mz_math.proofs.Lists.{AllSoFar}

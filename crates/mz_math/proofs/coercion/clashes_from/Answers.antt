@@ -1,7 +1,7 @@
-use Rattle.std.proofs.Common.{◌≡◌, ◌<◌, ◌≤◌, ◌+◌, ◌∙◌, ℕ, length, sym, subst, refl, true, false, arith, below_more}
+use Rattle.std.proofs.Common.{◌∙◌, ℕ, sym, subst, refl, arith, below_more}
 use Rattle.std.proofs.lemmas.Bool.{true≢false, false≢true}
-use Rattle.mz_math.specs.Answers.{MayEnd, MayStart, IsClashAt, ClashesFrom}
-use Rattle.mz_math.proofs.Paths.{clash-parts, clash-made, end-one, start-one, none-from, clashes-two, stays-one, start-below}
+use Rattle.mz_math.specs.Answers.{MayEnd, IsClashAt}
+use Rattle.mz_math.proofs.Paths.{end-one, none-from}
 use Rattle.mz_math.proofs.coercion.clashes_from.Goals as goal
 
 pub returns-then-is_clash : goal.returns-then-is_clash

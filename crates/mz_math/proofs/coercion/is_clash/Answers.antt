@@ -1,7 +1,6 @@
-use Rattle.std.proofs.Common.{◌≡◌, ◌<◌, ◌≤◌, ◌+◌, ◌∙◌, ℕ, length, sym, subst, refl, true, false, arith, below_more}
+use Rattle.std.proofs.Common.{◌∙◌, sym}
 use Rattle.std.proofs.lemmas.Bool.{true≢false, false≢true}
-use Rattle.mz_math.specs.Answers.{MayEnd, MayStart, IsClashAt, ClashesFrom}
-use Rattle.mz_math.proofs.Paths.{clash-parts, clash-made, end-one, start-one, none-from, clashes-two, stays-one, start-below}
+use Rattle.mz_math.proofs.Paths.{clash-parts, clash-made}
 use Rattle.mz_math.proofs.coercion.is_clash.Goals as goal
 
 pub returns-then-not-reaches : goal.returns-then-not-reaches

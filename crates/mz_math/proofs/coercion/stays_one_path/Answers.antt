@@ -1,7 +1,7 @@
-use Rattle.std.proofs.Common.{◌≡◌, ◌<◌, ◌≤◌, ◌+◌, ◌∙◌, ℕ, length, sym, subst, refl, true, false, arith, below_more}
+use Rattle.std.proofs.Common.{◌∙◌, ℕ, sym, subst, refl, arith, below_more}
 use Rattle.std.proofs.lemmas.Bool.{true≢false, false≢true}
-use Rattle.mz_math.specs.Answers.{MayEnd, MayStart, IsClashAt, ClashesFrom}
-use Rattle.mz_math.proofs.Paths.{clash-parts, clash-made, end-one, start-one, none-from, clashes-two, stays-one, start-below}
+use Rattle.mz_math.specs.Answers.{MayStart, ClashesFrom}
+use Rattle.mz_math.proofs.Paths.{start-one, clashes-two, stays-one, start-below}
 use Rattle.mz_math.proofs.coercion.stays_one_path.Goals as goal
 
 pub returns-then-clashes_from : goal.returns-then-clashes_from

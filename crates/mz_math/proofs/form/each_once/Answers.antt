@@ -1,8 +1,6 @@
-use Rattle.std.proofs.Common.{◌≡◌, ◌++◌, ◌∷◌, [], ◌∙◌, ℕ, List, Some, None, ap, ap₂, sym, subst, refl, true, false, length, drop, get_or, slice_get, arith, below_more}
+use Rattle.std.proofs.Common.{◌≡◌, ◌∙◌, sym, refl, arith, below_more}
 use Rattle.std.proofs.lemmas.Bool.{true≢false, false≢true}
-use Rattle.mz_math.specs.Notation.{Element, Notation, places}
-use Rattle.mz_math.specs.Forms.{AreElements, IsElement, Literal, IsGeneral, EachOnce}
-use Rattle.mz_logic.specs.Declaration.{signatures}
+use Rattle.mz_math.specs.Notation.{places}
 use Rattle.std.specs.Prelude.{◌==◌}
 use Rattle.std.specs.List.{count_by}
 use Rattle.mz_math.proofs.form.each_once.Goals as goal

@@ -1,11 +1,6 @@
-use Rattle.std.proofs.Common.{◌≡◌, ◌++◌, ◌∷◌, [], ◌∙◌, ◌+◌, ℕ, List, Some, None, ap, ap₂, sym, subst, refl, true, false, length, drop, drop-cons, add-one, get_or, arith, Contains}
-use Rattle.std.proofs.lemmas.Bool.{true≢false, false≢true}
-use Rattle.std.proofs.lemmas.List.{append-nil, drop_all}
-use Rattle.mz_logic.specs.Declaration.{signatures}
-use Rattle.mz_math.specs.Notation.{Element, Notation}
-use Rattle.mz_math.specs.Forms.{AreElements, IsElement, IsConstant, IsGeneral, EachOnce, Begins, Literal}
-use Rattle.mz_math.specs.Answers.{IsNotationOf, general}
-use Rattle.mz_math.proofs.Literals.{constant-parts, name-parts, one-literal, first-element, general-parts, general-made, made-err, made-map, here-element, later-elements, more-elements}
+use Rattle.std.proofs.Common.{◌∙◌, sym, subst, Contains}
+use Rattle.mz_math.specs.Forms.{IsElement, IsConstant, Literal}
+use Rattle.mz_math.proofs.Literals.{constant-parts, name-parts}
 use Rattle.mz_math.proofs.form.element_of.Goals as goal
 
 pub returns-in_default-constant : goal.returns-in_default-constant

@@ -1,11 +1,7 @@
-use Rattle.std.proofs.Common.{◌≡◌, ◌++◌, ◌∷◌, [], ◌∙◌, ◌+◌, ℕ, List, Some, None, ap, ap₂, sym, subst, refl, true, false, length, drop, drop-cons, add-one, get_or, arith}
-use Rattle.std.proofs.lemmas.Bool.{true≢false, false≢true}
-use Rattle.std.proofs.lemmas.List.{append-nil, drop_all}
-use Rattle.mz_logic.specs.Declaration.{signatures}
-use Rattle.mz_math.specs.Notation.{Element, Notation}
-use Rattle.mz_math.specs.Forms.{AreElements, IsElement, IsConstant, IsGeneral, EachOnce, Begins, Literal}
-use Rattle.mz_math.specs.Answers.{IsNotationOf, general}
-use Rattle.mz_math.proofs.Literals.{constant-parts, name-parts, one-literal, first-element, general-parts, general-made, made-err, made-map, here-element, later-elements, more-elements}
+use Rattle.std.proofs.Common.{[], ◌∙◌, List, sym, subst}
+use Rattle.std.proofs.lemmas.List.{append-nil}
+use Rattle.mz_math.specs.Forms.{AreElements, IsElement, Literal}
+use Rattle.mz_math.proofs.Literals.{made-err, here-element, later-elements, more-elements}
 use Rattle.mz_math.proofs.form.elements_of.Goals as goal
 
 pub returns-in-Err : goal.returns-in-Err

@@ -1,5 +1,5 @@
-use Rattle.std.proofs.Common.{◌≡◌, ◌↔◌, ◌<◌, ◌≤◌, ◌+◌, ◌-◌, ◌*◌, ◌++◌, ◌∷◌, [], ℕ, List, Contains, length, get_or, drop, slice_get, Some}
-use Rattle.mz_math.specs.Notation.{Element, Notation, TermName, Coercion, fixed, places, slots}
+use Rattle.std.proofs.Common.{◌-◌, ◌++◌, List, length, drop}
+use Rattle.mz_math.specs.Notation.{Element}
 use Rattle.mz_math.specs.Forms.{AreElements}
 use Rattle.mz_math.proofs.form.elements_of.Given as goal
 

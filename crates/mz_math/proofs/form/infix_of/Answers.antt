@@ -1,4 +1,4 @@
-use Rattle.mz_math.proofs.Tables.{infix-constant, prefix-constant}
+use Rattle.mz_math.proofs.Tables.{infix-constant}
 use Rattle.mz_logic.specs.Declaration.{signatures}
 use Rattle.mz_math.proofs.form.infix_of.Goals as goal
 

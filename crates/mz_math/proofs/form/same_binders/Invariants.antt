@@ -1,4 +1,4 @@
-use Rattle.std.proofs.Common.{◌≡◌, ◌↔◌, ◌<◌, ◌≤◌, ◌+◌, ◌-◌, ◌*◌, ◌++◌, ◌∷◌, [], ℕ, List, Contains, length, get_or, drop, slice_get, Some}
+use Rattle.std.proofs.Common.{◌≡◌, length, drop}
 use Rattle.mz_math.proofs.form.same_binders.Given as goal
 
 abbrev pub invariant-loop-i : goal.invariant-loop-i

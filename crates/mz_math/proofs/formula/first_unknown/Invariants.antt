@@ -1,4 +1,4 @@
-use Rattle.std.proofs.Common.{◌≡◌, ◌↔◌, ◌<◌, ◌≤◌, ◌+◌, ◌-◌, ◌*◌, ◌++◌, ◌∷◌, [], ℕ, List, Contains, length, get_or, drop, slice_get, Some}
+use Rattle.std.proofs.Common.{drop}
 use Rattle.mz_checks.proofs.InOrder.{Decides}
 use Rattle.mz_math.specs.Formula.{known_checks}
 use Rattle.mz_math.proofs.formula.first_unknown.Given as goal

@@ -1,4 +1,4 @@
-use Rattle.std.proofs.Common.{◌≡◌, ◌∙◌, ℕ, Some, ap, sym, subst, arith, slice_get, length}
+use Rattle.std.proofs.Common.{◌∙◌, Some, ap, sym, subst, arith, length}
 use Rattle.std.proofs.lemmas.Bool.{true≢false}
 use Rattle.std.proofs.lemmas.Option.{slice_get_within, get_or_from_slice_get}
 use Rattle.mz_logic.specs.Modifiers.{MayBeClaimSort}

@@ -1,5 +1,5 @@
-use Rattle.std.proofs.Common.{◌≡◌, ◌↔◌, ◌<◌, ◌≤◌, ◌+◌, ◌-◌, ◌*◌, ◌++◌, ◌∷◌, [], ℕ, List, Contains, length, get_or, drop, slice_get, Some}
-use Rattle.mz_math.specs.Notation.{Element, Notation, TermName, Coercion, fixed, places, slots}
+use Rattle.std.proofs.Common.{◌≡◌, ◌<◌, ℕ, length, get_or, Some}
+use Rattle.mz_math.specs.Notation.{Coercion}
 use Rattle.mz_math.specs.Coercions.{Reaches}
 use Rattle.std.specs.Prelude.{IfSome}
 use Rattle.mz_logic.specs.Modifiers.{MayBeClaimSort}

@@ -1,10 +1,8 @@
-use Rattle.std.proofs.Common.{◌≡◌, ◌<◌, ◌≤◌, ◌+◌, ◌-◌, ◌∙◌, ℕ, List, ap, sym, subst, refl, length, arith}
-use Rattle.mz_logic.specs.Tree.{Tree}
+use Rattle.std.proofs.Common.{sym, subst, length, arith}
 use Rattle.mz_logic.specs.View.{tree}
-use Rattle.mz_logic.specs.Declaration.{signatures}
 use Rattle.mz_math.specs.Formula.{Reader}
 use Rattle.mz_math.specs.Coercions.{Reaches}
-use Rattle.mz_math.specs.Answers.{settled, HasLength}
+use Rattle.mz_math.specs.Answers.{HasLength}
 use Rattle.mz_math.specs.Coercions.{IsPath}
 use Rattle.mz_math.proofs.Judging.{judged-no-sort, judged-no-path, judged-high, judged-claim, same-sort}
 use Rattle.mz_math.proofs.formula.meaning_of.Goals as goal

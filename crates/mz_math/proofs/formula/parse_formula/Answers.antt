@@ -1,4 +1,4 @@
-use Rattle.std.proofs.Common.{Some, ◌≡◌, ◌∙◌, ◌<◌, ◌≤◌, ◌+◌, ℕ, List, ap, sym, subst, refl, length, inl, inr, All, arith}
+use Rattle.std.proofs.Common.{Some, ◌≡◌, ◌∙◌, ◌≤◌, List, ap, sym, subst, refl, length, inl, inr, All, arith}
 use Rattle.mz_checks.specs.Checks.{AllHold}
 use Rattle.mz_lex.specs.declared.rule.S.TheVariants as rules
 use Rattle.mz_logic.specs.View.{tree}

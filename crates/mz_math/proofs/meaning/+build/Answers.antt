@@ -1,13 +1,10 @@
-use Rattle.std.proofs.Common.{◌≡◌, ◌≢◌, ◌<◌, ◌≤◌, ◌+◌, ◌-◌, ◌∙◌, ℕ, List, Some, None, ap, sym, subst, refl, true, false, length, drop, get_or, slice_get, arith}
-use Rattle.std.proofs.lemmas.Bool.{true≢false, false≢true}
-use Rattle.mz_logic.specs.Tree.{Tree, Trees, none, more, var, app, listed, followed_by, trees_size}
-use Rattle.mz_logic.specs.View.{tree, trees}
-use Rattle.mz_logic.specs.DeclView.{signature}
+use Rattle.std.proofs.Common.{◌≤◌, ◌∙◌, ap, sym, subst, arith}
+use Rattle.mz_logic.specs.Tree.{none, more, followed_by, trees_size}
+use Rattle.mz_logic.specs.View.{tree}
 use Rattle.mz_logic.specs.Declaration.{signatures}
-use Rattle.mz_logic.specs.declared.binder.Binder.{Binder}
-use Rattle.mz_math.specs.Meaning.{Coerced, CoercedAll, height, trees_height}
+use Rattle.mz_math.specs.Meaning.{CoercedAll, height, trees_height}
 use Rattle.mz_math.specs.Answers.{FitsParam}
-use Rattle.mz_math.proofs.Meanings.{fits-regular, fits-never, fits-other, fits-bound, all-length, operand-one, take-one, put-one, size-one, none-left, app-coerced, coerced-app, wrapped-height, height-some, trees_height-push, trees_height-tail}
+use Rattle.mz_math.proofs.Meanings.{all-length, take-one, put-one, size-one, none-left, trees_height-push}
 use Rattle.mz_math.proofs.Meanings.{fits-path, fits-height, fits-again, again-height, operand-low, pushed-all}
 use Rattle.mz_math.proofs.Paths.{path-reaches}
 use Rattle.mz_math.proofs.Lists.{followed_by_none}

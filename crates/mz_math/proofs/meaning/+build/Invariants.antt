@@ -1,5 +1,5 @@
-use Rattle.std.proofs.Common.{◌≡◌, ◌↔◌, ◌<◌, ◌≤◌, ◌+◌, ◌-◌, ◌*◌, ◌++◌, ◌∷◌, [], ℕ, List, Contains, length, get_or, drop, slice_get, Some}
-use Rattle.mz_math.specs.Meaning.{Coerced, CoercedAll, trees_height}
+use Rattle.std.proofs.Common.{◌≡◌, ◌≤◌, ◌+◌, ◌*◌, length, drop}
+use Rattle.mz_math.specs.Meaning.{CoercedAll, trees_height}
 use Rattle.mz_logic.specs.Tree.{Trees, size, trees_size, followed_by}
 use Rattle.mz_logic.specs.View.{tree, trees}
 use Rattle.mz_logic.specs.Declaration.{signatures}

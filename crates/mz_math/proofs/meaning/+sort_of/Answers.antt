@@ -1,13 +1,12 @@
-use Rattle.std.proofs.Common.{◌≡◌, ◌≢◌, ◌<◌, ◌≤◌, ◌+◌, ◌-◌, ◌∙◌, ℕ, List, Some, None, ap, sym, subst, refl, true, false, length, drop, get_or, slice_get, arith}
+use Rattle.std.proofs.Common.{◌∙◌, List, ap, sym, subst, refl, arith}
 use Rattle.std.proofs.lemmas.Bool.{true≢false, false≢true}
-use Rattle.mz_logic.specs.Tree.{Tree, Trees, none, more, var, app, listed, followed_by}
-use Rattle.mz_logic.specs.View.{tree, trees}
+use Rattle.mz_logic.specs.Tree.{Tree, none, more, var, app}
+use Rattle.mz_logic.specs.View.{tree}
 use Rattle.mz_logic.specs.DeclView.{signature}
 use Rattle.mz_logic.specs.Declaration.{signatures}
 use Rattle.mz_logic.specs.declared.binder.Binder.{Binder}
-use Rattle.mz_math.specs.Meaning.{Coerced, CoercedAll, height, trees_height}
-use Rattle.mz_math.specs.Answers.{FitsParam}
-use Rattle.mz_math.proofs.Meanings.{fits-regular, fits-never, fits-other, fits-bound, all-length, operand-one, take-one, put-one, size-one, none-left, app-coerced, coerced-app, wrapped-height, height-some, trees_height-push, trees_height-tail}
+use Rattle.mz_math.specs.Meaning.{Coerced, CoercedAll}
+use Rattle.mz_math.proofs.Meanings.{fits-regular, fits-never, fits-other, fits-bound, all-length, take-one, put-one, size-one, none-left, app-coerced}
 use Rattle.mz_math.proofs.meaning.+sort_of.Goals as goal
 
 pub all_fit-returns-then-items-params : goal.all_fit-returns-then-items-params

@@ -1,6 +1,6 @@
-use Rattle.std.proofs.Common.{◌≡◌, ◌↔◌, ◌<◌, ◌≤◌, ◌+◌, ◌-◌, ◌*◌, ◌++◌, ◌∷◌, [], ℕ, List, Contains, length, get_or, drop, slice_get, Some}
-use Rattle.mz_math.specs.Meaning.{Coerced, CoercedAll, trees_height}
-use Rattle.mz_logic.specs.Tree.{Trees, size, trees_size, followed_by}
+use Rattle.std.proofs.Common.{◌≡◌, ◌↔◌, ◌≤◌, ◌+◌, ◌*◌, length, drop}
+use Rattle.mz_math.specs.Meaning.{CoercedAll}
+use Rattle.mz_logic.specs.Tree.{Trees, size, trees_size}
 use Rattle.mz_logic.specs.View.{tree, trees}
 use Rattle.mz_logic.specs.Declaration.{signatures}
 use Rattle.mz_math.proofs.meaning.+sort_of.Given as goal

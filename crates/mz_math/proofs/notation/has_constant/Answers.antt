@@ -1,6 +1,6 @@
-use Rattle.std.proofs.Common.{◌≡◌, ◌≤◌, ◌<◌, ◌∙◌, ℕ, List, Contains, sym, subst, refl, true, false, get_or, length}
+use Rattle.std.proofs.Common.{◌∙◌, ℕ, Contains, sym, subst, refl}
 use Rattle.std.proofs.lemmas.Bool.{true≢false, false≢true}
-use Rattle.mz_math.specs.Notation.{Element, Notation, fixed}
+use Rattle.mz_math.specs.Notation.{Notation, fixed}
 use Rattle.mz_math.proofs.Lists.{all_so_far_more, all-members}
 use Rattle.mz_math.proofs.notation.has_constant.Goals as goal
 

@@ -1,5 +1,5 @@
-use Rattle.std.proofs.Common.{◌≡◌, ◌<◌, ℕ, List, Contains, get_or}
-use Rattle.mz_math.specs.Notation.{Element, Notation, fixed}
+use Rattle.std.proofs.Common.{◌≡◌, ℕ}
+use Rattle.mz_math.specs.Notation.{Element, fixed}
 use Rattle.mz_math.proofs.Lists.{AllSoFar}
 use Rattle.mz_math.proofs.notation.has_element.Given as goal
 

@@ -1,4 +1,4 @@
-use Rattle.std.proofs.Common.{◌≡◌, ◌+◌, ◌-◌, ◌∙◌, ℕ, suc, List, sym, ap, ap₂, arith, Option, IfSome}
+use Rattle.std.proofs.Common.{◌≡◌, ◌+◌, ◌-◌, ◌∙◌, ℕ, suc, List, sym, ap, arith}
 use Rattle.std.proofs.lemmas.Option.{IfSome_then}
 use Rattle.mz_logic.specs.Tree.{Tree, Trees, none, more, followed_by}
 use Rattle.mz_logic.specs.View.{tree, trees}

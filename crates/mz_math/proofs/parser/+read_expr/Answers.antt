@@ -1,5 +1,4 @@
-use Rattle.std.proofs.Common.{◌≡◌, ◌≢◌, ◌≤◌, ◌<◌, ◌+◌, ◌-◌, ◌∙◌, ◌∷◌, [], List, ℕ, suc, sym, ap, subst, drop, arith, true, false}
-use Rattle.std.specs.Prelude.{codes}
+use Rattle.std.proofs.Common.{◌≡◌, ◌+◌, ◌-◌, ◌∙◌, ◌∷◌, suc, sym, ap, subst, drop, arith}
 use Rattle.std.proofs.lemmas.Bool.{true≢false}
 use Rattle.mz_logic.specs.Tree.{none, more, followed_by}
 use Rattle.mz_logic.specs.View.{tree}

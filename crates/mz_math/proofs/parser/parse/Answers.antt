@@ -1,4 +1,4 @@
-use Rattle.std.proofs.Common.{◌≡◌, ◌≢◌, ◌∙◌, [], ℕ, List, sym, ap, subst, drop, length, length-drop, arith}
+use Rattle.std.proofs.Common.{◌≡◌, ap, drop, length, length-drop, arith}
 use Rattle.mz_logic.specs.View.{tree}
 use Rattle.mz_math.proofs.Readings.{never-read, some-left}
 use Rattle.mz_math.proofs.parser.parse.Goals as goal

@@ -1,4 +1,4 @@
-use Rattle.std.proofs.Common.{ℕ, ◌≡◌, ◌∙◌, sym, subst, ap}
+use Rattle.std.proofs.Common.{sym, subst}
 use Rattle.mz_math.specs.Pieces.{Delimiters}
 use Rattle.mz_math.specs.Answers.{IsNext}
 use Rattle.mz_math.proofs.Strings.{SoFar, so-far-none, so-far-more, so-far-all, so-far-never}

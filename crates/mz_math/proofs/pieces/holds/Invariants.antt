@@ -1,4 +1,4 @@
-use Rattle.std.proofs.Common.{◌≡◌, ◌↔◌, ◌<◌, ◌≤◌, ◌+◌, ◌-◌, ◌*◌, ◌++◌, ◌∷◌, [], ℕ, List, Contains, length, get_or, drop, slice_get, Some}
+use Rattle.std.proofs.Common.{◌≡◌, ◌<◌, ℕ, get_or}
 use Rattle.mz_math.proofs.pieces.holds.Given as goal
 
 abbrev pub invariant-loop-other : goal.invariant-loop-other

@@ -1,5 +1,5 @@
-use Rattle.std.proofs.Common.{◌≡◌, ◌↔◌, ◌<◌, ◌≤◌, ◌+◌, ◌-◌, ◌*◌, ◌++◌, ◌∷◌, [], ℕ, List, Contains, length, get_or, drop, slice_get, Some}
-use Rattle.mz_math.specs.Pieces.{Piece, IsSpaces, PiecesFrom, Pieces, no_delimiters, piece_texts}
+use Rattle.std.proofs.Common.{◌≤◌, ◌-◌, length}
+use Rattle.mz_math.specs.Pieces.{IsSpaces}
 use Rattle.mz_math.proofs.pieces.skip_spaces.Given as goal
 
 abbrev pub decreases-loop-at : goal.decreases-loop-at

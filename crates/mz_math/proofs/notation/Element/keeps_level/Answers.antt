@@ -1,4 +1,4 @@
-use Rattle.std.proofs.Common.{◌≡◌, ◌↔◌, ◌∙◌, ℕ, List, Contains, ap, sym}
+use Rattle.std.proofs.Common.{◌∙◌, ap, sym}
 use Rattle.mz_math.specs.Notation.{fixed}
 use Rattle.mz_math.specs.Clear.{HasConstant}
 use Rattle.mz_math.proofs.Constants.{fixed-level}

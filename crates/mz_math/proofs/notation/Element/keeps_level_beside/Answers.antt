@@ -1,6 +1,5 @@
-use Rattle.std.proofs.Common.{◌≡◌, ◌↔◌, ◌∙◌, ℕ, List, Contains, ap, sym}
+use Rattle.std.proofs.Common.{◌∙◌, Contains, ap, sym}
 use Rattle.mz_math.specs.Notation.{fixed}
-use Rattle.mz_math.specs.Clear.{HasConstant}
 use Rattle.mz_math.proofs.Constants.{fixed-level}
 use Rattle.mz_math.proofs.notation.Element.keeps_level_beside.Goals as goal
 

@@ -1,4 +1,4 @@
-use Rattle.std.proofs.Common.{◌∷◌, []}
+use Rattle.std.proofs.Common.{[]}
 use Rattle.mz_math.proofs.Strings.{next-first, only-piece, two-pieces}
 use Rattle.mz_math.proofs.pieces.Delimiters.only_piece.Goals as goal
 

@@ -1,4 +1,4 @@
-use Rattle.std.proofs.Common.{◌≡◌, ◌≤◌, ◌∙◌, sym, inl, inr, arith, true, false, length}
+use Rattle.std.proofs.Common.{◌≡◌, ◌∙◌, sym, inl, inr, arith, length}
 use Rattle.std.proofs.lemmas.Bool.{true≢false}
 use Rattle.mz_math.proofs.Strings.{whole-first, whole-more, whole-piece}
 use Rattle.mz_math.proofs.pieces.Delimiters.piece_end.Goals as goal

@@ -1,6 +1,6 @@
-use Rattle.std.proofs.Common.{◌≡◌, ◌++◌, ◌∷◌, [], ◌∙◌, subst, sym, append_assoc, List}
+use Rattle.std.proofs.Common.{[], subst}
 use Rattle.std.proofs.lemmas.List.{append-nil}
-use Rattle.mz_math.specs.Pieces.{Piece, Pieces}
+use Rattle.mz_math.specs.Pieces.{Pieces}
 use Rattle.mz_math.proofs.pieces.Delimiters.pieces.Goals as goal
 
 pub returns : goal.returns

@@ -1,7 +1,6 @@
-use Rattle.std.proofs.Common.{◌≡◌, ◌++◌, ◌∷◌, [], ◌∙◌, ℕ, List, ap, sym, subst, length, length-append, arith, ◌+◌, ◌<◌}
+use Rattle.std.proofs.Common.{◌≡◌, ◌∷◌, [], ◌∙◌, ℕ, List, ap, sym, subst, length, length-append, arith, ◌+◌, ◌<◌}
 use Rattle.mz_math.specs.Formula.{Variables}
 use Rattle.mz_math.specs.Readable.{AreVariables}
-use Rattle.mz_logic.specs.declared.binder.Binder.{Binder}
 use Rattle.std.specs.Prelude.{Contains, ◌≢◌, ◌⊎◌, IsTrue}
 use Rattle.mz_lex.specs.Kinds.{is_name}
 use Rattle.mz_math.proofs.Tables.{variables-more}

@@ -1,12 +1,6 @@
-use Rattle.std.proofs.Common.{◌≡◌, ◌++◌, ◌∷◌, [], ◌∙◌, ℕ, List, ap, sym, subst, refl, true, false}
-use Rattle.std.proofs.lemmas.Bool.{true≢false, false≢true}
-use Rattle.mz_math.specs.Notation.{Notation, Table, with_notation}
-use Rattle.mz_math.specs.Clear.{IsClear}
-use Rattle.mz_math.specs.Readable.{IsTable}
-use Rattle.mz_math.specs.Answers.{IsAdded, IsClearTable}
-use Rattle.mz_logic.specs.Declaration.{signatures}
-use Rattle.mz_math.specs.Pieces.{Delimiters}
-use Rattle.mz_math.specs.Forms.{IsInfix, IsPrefix, IsGeneral, General}
+use Rattle.std.proofs.Common.{◌∙◌, sym, subst}
+use Rattle.mz_math.specs.Notation.{Table}
+use Rattle.mz_math.specs.Answers.{IsAdded}
 use Rattle.mz_math.proofs.Tables.{shaped-slot, shaped-constant, with-slot, with-constant}
 use Rattle.mz_math.proofs.table.Notations.add_notation.Goals as goal
 

@@ -1,13 +1,10 @@
 use Rattle.std.specs.Prelude.{⊤}
-use Rattle.std.proofs.Common.{◌≡◌, ◌++◌, ◌∷◌, [], ◌∙◌, ℕ, List, ap, sym, subst, refl, true, false, Err}
-use Rattle.std.proofs.lemmas.Bool.{true≢false, false≢true}
+use Rattle.std.proofs.Common.{ap, subst, Err}
 use Rattle.mz_math.specs.Notation.{Notation, Table, with_notation}
-use Rattle.mz_math.specs.Clear.{IsClear}
-use Rattle.mz_math.specs.Readable.{IsTable}
-use Rattle.mz_math.specs.Answers.{IsAdded, IsClearTable, IsMade}
+use Rattle.mz_math.specs.Answers.{IsMade}
 use Rattle.mz_logic.specs.Declaration.{signatures}
 use Rattle.mz_math.specs.Pieces.{Delimiters}
-use Rattle.mz_math.specs.Forms.{IsInfix, IsPrefix, IsGeneral, General}
+use Rattle.mz_math.specs.Forms.{IsPrefix}
 use Rattle.mz_math.proofs.Tables.{prefix-one, prefix-shaped, form-answer, added-answer, added-ok, added-err}
 use Rattle.mz_math.proofs.table.Notations.add_prefix.Goals as goal
 

@@ -1,14 +1,11 @@
-use Rattle.std.proofs.Common.{◌≡◌, ◌++◌, ◌∷◌, [], ◌∙◌, ℕ, List, ap, sym, subst, refl, true, false}
-use Rattle.std.proofs.lemmas.Bool.{true≢false, false≢true}
-use Rattle.mz_math.specs.Notation.{Notation, Table, with_notation}
+use Rattle.std.proofs.Common.{◌++◌, ◌∷◌, [], ◌∙◌, List, sym, subst, refl}
+use Rattle.std.proofs.lemmas.Bool.{true≢false}
+use Rattle.mz_math.specs.Notation.{Notation, Table}
 use Rattle.mz_math.specs.Clear.{IsClear}
 use Rattle.mz_math.specs.Readable.{IsTable}
-use Rattle.mz_math.specs.Answers.{IsAdded, IsClearTable}
-use Rattle.mz_logic.specs.Declaration.{signatures}
-use Rattle.mz_math.specs.Pieces.{Delimiters}
-use Rattle.mz_math.specs.Forms.{IsInfix, IsPrefix, IsGeneral, General}
-use Rattle.mz_math.specs.Notation.{with_infix, with_leading}
-use Rattle.mz_math.proofs.Tables.{infix-is, leading-is, pushed-infix, pushed-leading}
+use Rattle.mz_math.specs.Answers.{IsClearTable}
+use Rattle.mz_math.specs.Notation.{with_infix}
+use Rattle.mz_math.proofs.Tables.{infix-is, pushed-infix}
 use Rattle.mz_math.proofs.table.Notations.push_infix.Goals as goal
 
 pub returns-then-not-is_clear_with_infix : goal.returns-then-not-is_clear_with_infix

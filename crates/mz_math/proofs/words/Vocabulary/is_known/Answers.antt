@@ -1,4 +1,4 @@
-use Rattle.std.proofs.Common.{◌≡◌, ◌≢◌, ◌∙◌, ℕ, List, [], ap, sym, subst, refl, Contains, true, false, inl}
+use Rattle.std.proofs.Common.{◌≡◌, ◌∙◌, ℕ, List, ap, sym, subst, refl, Contains, inl}
 use Rattle.std.proofs.lemmas.Bool.{true≢false}
 use Rattle.mz_math.specs.Notation.{Notation, TermName}
 use Rattle.mz_math.specs.Clear.{HasConstant}

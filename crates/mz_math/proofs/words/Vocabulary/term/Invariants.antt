@@ -1,7 +1,6 @@
-use Rattle.std.proofs.Common.{◌≡◌, ◌↔◌, ◌<◌, ◌≤◌, ◌+◌, ◌-◌, ◌*◌, ◌++◌, ◌∷◌, [], ℕ, List, Contains, length, get_or, drop, slice_get, Some}
-use Rattle.mz_math.specs.Notation.{Element, Notation, TermName, Coercion, fixed, places, slots}
+use Rattle.std.proofs.Common.{◌≡◌, ◌<◌, ℕ, get_or, slice_get, Some}
+use Rattle.mz_math.specs.Notation.{TermName}
 use Rattle.mz_logic.specs.Signature.{Signature}
-use Rattle.mz_logic.specs.Declaration.{signatures}
 use Rattle.mz_math.proofs.words.Vocabulary.term.Given as goal
 
 abbrev pub invariant-loop-entry : goal.invariant-loop-entry

@@ -1,0 +1,5 @@
+use Rattle.mz_math.proofs.Existing.{some-reading}
+use Rattle.mz_math.proofs.laws.each_string_is_read_or_refused.Goals as goal
+
+pub returns : goal.returns
+returns c = some-reading
