@@ -20,6 +20,13 @@ fn row_of_depth(rows: &[Row], n: usize, depth: u32) -> Option<u32>
 }
 
 impl<'a> Sexprs<'a> {
+    /// How many nodes there are, those within others included.
+    pub fn count(&self) -> u32
+        ensures { result ≡ node_count self.now }
+    {
+        self.rows.len() as u32
+    }
+
     /// The first top form; none where the text has no form. The other top forms are those that
     /// follow it.
     pub fn roots(&self) -> Option<u32>

@@ -1,10 +1,8 @@
 -- One part more of what is built.
-use Rattle.std.proofs.Common.{ℕ, ◌≡◌, ◌<◌, ◌≤◌, ◌+◌, Bool, true, false, List, [], ◌∷◌, length, get_or, drop, refl, sym, ap, ◌∙◌, subst, arith}
-use Rattle.std.proofs.lemmas.List.{drop_more, drop_all}
-use Rattle.mz_logic.specs.Tree.{Tree, Trees, var, none, more, followed_by, variables, trees_size, instance, instances}
+use Rattle.std.proofs.Common.{ℕ, ◌≡◌, ◌<◌, ◌≤◌, ◌+◌, Bool, true, false, List, length, get_or, drop, refl, sym, ap, ◌∙◌, arith}
+use Rattle.std.proofs.lemmas.List.{drop_more}
+use Rattle.mz_logic.specs.Tree.{Tree, Trees, var, none, more, followed_by, variables}
 use Rattle.mz_logic.specs.Conversions.{Conversion, Conversions, no_convs, more_convs}
-use Rattle.mz_logic.specs.View.{tree, trees}
-use Rattle.mz_logic.specs.declared.expr.Expr.{Expr}
 use Rattle.mz_logic.proofs.Follow.{followed_by_none, followed_by_push}
 use Rattle.mz_mmu.specs.ConvCode.{conv_steps, convs_steps}
 use Rattle.mz_mmu.specs.ConvView.{conversion, conversions}

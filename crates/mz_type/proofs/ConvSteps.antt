@@ -1,5 +1,5 @@
 -- Steps of the checks of conversions.
-use Rattle.std.proofs.Common.{ℕ, suc, ◌≡◌, ◌<◌, ◌≤◌, ◌+◌, true≢false, IsTrue, List, [], ◌∷◌, length, get_or, drop, slice_get, None, Result, refl, sym, ap, ◌∙◌, subst, inl, inr}
+use Rattle.std.proofs.Common.{ℕ, suc, ◌≡◌, ◌<◌, ◌+◌, true≢false, IsTrue, List, [], ◌∷◌, length, get_or, drop, slice_get, None, Result, refl, sym, ap, subst, inl, inr}
 use Rattle.mz_checks.specs.Checks.{Checks, demand, ◌>>◌, AllHold, FailsFirst}
 use Rattle.mz_checks.proofs.InOrder.{fails-after, all_hold-both}
 use Rattle.mz_sexpr.specs.declared.rule.U.{U}
@@ -9,7 +9,7 @@ use Rattle.mz_logic.specs.Tree.{Tree, Trees, none, more, listed, instance, follo
 use Rattle.mz_logic.specs.Signature.{Signature}
 use Rattle.mz_logic.specs.Declaration.{Form, plain_form, abstract_form, defined, Term, Declaration, dummies_of, body_of, terms, signatures}
 use Rattle.mz_logic.specs.Legality.{signature_at, AllInRange}
-use Rattle.mz_logic.specs.Conversions.{Conversion, Conversions, unfold_conv, cong_conv}
+use Rattle.mz_logic.specs.Conversions.{Conversion, Conversions, unfold_conv}
 use Rattle.mz_logic.specs.declared.binder.Binder.{Binder}
 use Rattle.mz_logic.proofs.Rules.{ranges_of_fits}
 use Rattle.mz_mmu.specs.Order.{fault}

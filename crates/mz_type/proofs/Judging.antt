@@ -1,5 +1,5 @@
 -- Answers of checks one after another.
-use Rattle.std.proofs.Common.{◌≡◌, Result, Ok, Err, inl, inr, sym, subst}
+use Rattle.std.proofs.Common.{◌≡◌, Result, Ok, Err, inr, sym, subst}
 use Rattle.std.specs.Result.{IsErrAnd}
 use Rattle.mz_checks.specs.Checks.{Checks, ask, ◌>>◌, AllHold, FailsFirst, Judges}
 use Rattle.mz_checks.proofs.InOrder.{fails-before, fails-after, all_hold-both, Decides, decides-after}

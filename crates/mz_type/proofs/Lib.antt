@@ -14,3 +14,10 @@ pub mod ConvSteps
 pub mod ProofSteps
 pub mod StatementSteps
 pub mod Limits
+mod TypedSteps
+mod Weighing
+mod WeightBound
+mod Written
+mod WeightOver
+mod WeightSteps
+mod TextFaults

@@ -1,14 +1,13 @@
 -- What is read has all its names.
-use Rattle.std.proofs.Common.{ℕ, zero, suc, ◌≡◌, ◌<◌, ◌+◌, ◌⊎◌, inl, inr, Bool, true, false, List, [], ◌∷◌, ◌++◌, length, slice_get, All, Option, Some, None, refl, sym, ap, ◌∙◌, subst, arith, length-append}
-use Rattle.std.specs.Prelude.{bytes_eq, codes, option_map, if◌then◌else◌}
+use Rattle.std.proofs.Common.{ℕ, suc, ◌≡◌, ◌<◌, inl, inr, Bool, true, false, List, [], ◌∷◌, ◌++◌, length, Option, Some, None, refl, sym, ap, subst, arith}
+use Rattle.std.specs.Prelude.{bytes_eq, option_map, if◌then◌else◌}
 use Rattle.mz_sexpr.specs.Node.{Node, Nodes, atom, list, no_nodes, node}
-use Rattle.mz_logic.specs.Tree.{Tree, Trees, none, more, listed}
-use Rattle.mz_logic.specs.Conversions.{Conversion, Conversions, no_convs, more_convs}
-use Rattle.mz_logic.specs.declared.binder.Binder.{Binder}
-use Rattle.mz_logic.proofs.Instance.{one_at, none_some}
-use Rattle.mz_mmu.specs.Name.{Names, Scope, number_of, HasNumber, IsName}
-use Rattle.mz_mmu.specs.Expressions.{IsExpr, AreExprs, IsExprList, IsVariableList}
-use Rattle.mz_mmu.specs.Proof.{Proof, Proofs, no_proofs, more_proofs}
+use Rattle.mz_logic.specs.Tree.{Tree, Trees}
+use Rattle.mz_logic.specs.Conversions.{Conversion, Conversions}
+use Rattle.mz_logic.proofs.Instance.{none_some}
+use Rattle.mz_mmu.specs.Name.{Scope, number_of, HasNumber}
+use Rattle.mz_mmu.specs.Expressions.{IsExpr, AreExprs, IsExprList}
+use Rattle.mz_mmu.specs.Proof.{Proof, Proofs}
 use Rattle.mz_mmu.specs.declared.keyword.Keyword.{Keyword}
 use Rattle.mz_mmu.specs.declared.keyword.Keyword.TheVariants.{Conv as conv_word, Let as let_word, Refl as refl_word, Sym as sym_word, Unfold as unfold_word, Sorry as sorry_word, Other as no_word}
 use Rattle.mz_mmu.specs.Proofs.{conv_keyword, proof_keyword, IsConv, IsConvBy, AreConvs, IsFact, IsProof, IsProofBy, AreProofs}

@@ -1,5 +1,5 @@
 -- Steps of the checks of proofs.
-use Rattle.std.proofs.Common.{ℕ, suc, ◌≡◌, ◌<◌, ◌≤◌, ◌+◌, List, [], ◌∷◌, ◌++◌, length, get_or, drop, slice_get, Some, None, Result, refl, sym, ap, ◌∙◌, subst, inl, inr, arith}
+use Rattle.std.proofs.Common.{ℕ, ◌≡◌, ◌<◌, ◌≤◌, ◌+◌, List, [], ◌∷◌, length, get_or, drop, slice_get, None, Result, sym, ap, ◌∙◌, subst, inl, inr, arith}
 use Rattle.std.proofs.lemmas.List.{drop_more}
 use Rattle.std.proofs.lemmas.Option.{slice_get-get_or}
 use Rattle.mz_checks.specs.Checks.{Checks, demand, ◌>>◌, AllHold, FailsFirst}
@@ -9,7 +9,7 @@ use Rattle.mz_sexpr.specs.Node.{Node, Nodes, place, parts}
 use Rattle.mz_sexpr.specs.Number.{first, rest}
 use Rattle.mz_logic.specs.Tree.{Tree, Trees, more, listed, instance, instances}
 use Rattle.mz_logic.specs.Signature.{Signature}
-use Rattle.mz_logic.specs.Declaration.{Assertion, Declaration, assertions, signatures}
+use Rattle.mz_logic.specs.Declaration.{Assertion, Declaration, signatures}
 use Rattle.mz_logic.specs.Sorts.{Fits}
 use Rattle.mz_logic.specs.Variables.{Apart}
 use Rattle.mz_logic.specs.View.{tree, trees}
@@ -21,7 +21,7 @@ use Rattle.mz_mmu.specs.Stops.{Stops}
 use Rattle.mz_mmu.specs.declared.fault.Fault.{Fault}
 use Rattle.mz_mmu.specs.declared.fault.Stop.{Stop}
 use Rattle.mz_mmu.specs.declared.proof.Proof.{Proof as Coded}
-use Rattle.mz_mmu.specs.Proof.{Proof, Proofs, by_citation, by_conv, by_let, more_proofs}
+use Rattle.mz_mmu.specs.Proof.{Proof, Proofs, by_citation, by_conv, more_proofs}
 use Rattle.mz_mmu.specs.ProofCode.{proof_steps, proofs_steps}
 use Rattle.mz_mmu.specs.ProofView.{proof_view, proofs_view}
 use Rattle.mz_logic.specs.Conversions.{Conversion}

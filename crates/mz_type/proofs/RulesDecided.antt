@@ -1,26 +1,24 @@
 -- The type rules are decided, each under those before it: so each text whose names are there has a
 -- first rule that it breaks, or breaks none.
-use Rattle.std.proofs.Common.{ℕ, zero, suc, ◌≡◌, ◌<◌, ◌≤◌, ◌+◌, ◌⊎◌, inl, inr, Bool, true, false, List, [], ◌∷◌, ◌++◌, length, slice_get, All, Contains, Some, None, Option, refl, sym, ap, ◌∙◌, subst, arith, length-append, not-suc-le-zero}
+use Rattle.std.proofs.Common.{ℕ, suc, ◌≡◌, ◌<◌, inl, inr, Bool, true, false, List, [], ◌∷◌, ◌++◌, length, slice_get, All, Contains, Some, None, Option, refl, subst, arith, length-append, not-suc-le-zero}
 use Rattle.std.proofs.lemmas.Bool.{cases_eq}
 use Rattle.std.proofs.lemmas.Option.{slice_get_within}
 use Rattle.std.proofs.lemmas.List.Elements.{All-contains}
-use Rattle.mz_checks.specs.Checks.{Checks, nothing, ask, retold, demand, ◌>>◌, AllHold, AreDecided}
-use Rattle.mz_checks.proofs.InOrder.{all_hold-first, all_hold-rest, are_decided-both, implied-decided, both-decided, at_most-decided}
-use Rattle.mz_sexpr.specs.declared.rule.TextRefusal.{TextRefusal}
-use Rattle.mz_sexpr.specs.Node.{Node, Nodes, place, parts}
+use Rattle.mz_checks.specs.Checks.{Checks, nothing, ask, retold, AreDecided}
+use Rattle.mz_checks.proofs.InOrder.{are_decided-both, implied-decided, both-decided}
+use Rattle.mz_sexpr.specs.Node.{Node, Nodes, parts}
 use Rattle.mz_sexpr.specs.Number.{first, rest}
 use Rattle.mz_logic.specs.Tree.{Tree, Trees, var, app, none, more, listed, instance, instances, followed_by, variables}
 use Rattle.mz_logic.specs.Signature.{Signature}
 use Rattle.mz_logic.specs.Declaration.{Form, plain_form, abstract_form, defined, Term, Assertion, Declaration, sort_decl, term_decl, assertion_decl, dummies_of, body_of, sorts, signatures}
 use Rattle.mz_logic.specs.Variables.{IsBoundAt}
-use Rattle.mz_logic.specs.Legality.{signature_at, sort_of, IsParam, AreParams, IsDummy}
+use Rattle.mz_logic.specs.Legality.{signature_at, sort_of, AreParams, IsDummy}
 use Rattle.mz_logic.specs.Conversions.{Conversion, Conversions, refl_conv, sym_conv, cong_conv, unfold_conv, no_convs, more_convs}
 use Rattle.mz_logic.specs.declared.binder.Binder.{Binder}
 use Rattle.mz_logic.proofs.Fresh.{split_at}
 use Rattle.mz_logic.proofs.Lists.{each_from_all}
 use Rattle.mz_logic.proofs.Rules.{range_of_sort}
 use Rattle.mz_logic.proofs.Scoped.{DepsInside}
-use Rattle.mz_mmu.specs.declared.fault.Fault.{Fault}
 use Rattle.mz_mmu.specs.Order.{in_statement}
 use Rattle.mz_mmu.specs.Proof.{Proof, Proofs, by_hyp, by_name, by_citation, by_conv, by_let, no_proofs, more_proofs, Statement}
 use Rattle.mz_type.specs.Parts.{is_list, after, part, declared_parts}

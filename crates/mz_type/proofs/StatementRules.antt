@@ -1,12 +1,12 @@
 -- The rules of a statement hold exactly where it is legal by its proof.
-use Rattle.std.proofs.Common.{ℕ, zero, suc, ◌≡◌, ◌<◌, ◌+◌, true, true≢false, List, [], ◌∷◌, ◌++◌, slice_get, length, All, Contains, Option, Some, None, refl, sym, ◌∙◌, subst, arith, add-zero, add-suc, suc-add}
+use Rattle.std.proofs.Common.{ℕ, zero, suc, ◌≡◌, ◌+◌, true≢false, List, [], ◌∷◌, ◌++◌, slice_get, length, All, Contains, Option, Some, None, refl, sym, ◌∙◌, subst, arith, add-zero, add-suc, suc-add}
 use Rattle.mz_checks.specs.Checks.{AllHold}
 use Rattle.mz_checks.proofs.InOrder.{all_hold-first, all_hold-rest, all_hold-both}
 use Rattle.mz_sexpr.specs.Node.{Node, Nodes, parts}
 use Rattle.mz_sexpr.specs.Number.{first, rest}
-use Rattle.mz_logic.specs.Tree.{Tree, Trees, none, more, listed}
+use Rattle.mz_logic.specs.Tree.{Tree, Trees, none, more}
 use Rattle.mz_logic.specs.Signature.{Signature}
-use Rattle.mz_logic.specs.Declaration.{Form, plain_form, abstract_form, defined, Term, Assertion, Declaration, sort_decl, term_decl, assertion_decl, dummies_of, body_of, sorts, signatures}
+use Rattle.mz_logic.specs.Declaration.{Form, plain_form, abstract_form, defined, Assertion, Declaration, sort_decl, term_decl, assertion_decl, dummies_of, body_of, sorts, signatures}
 use Rattle.mz_logic.specs.Modifiers.{MayBeClaimSort, MayBeDummySort}
 use Rattle.mz_logic.specs.Sorts.{HasSort, HasProvable, AreProvable}
 use Rattle.mz_logic.specs.Variables.{InFV}
@@ -23,7 +23,7 @@ use Rattle.mz_mmu.specs.Proof.{Proof, Statement}
 use Rattle.mz_type.specs.Parts.{part, declared_parts}
 use Rattle.mz_type.specs.Rules.{expr_rules, param_rules, dummy_rules, claim_rules, claims_rules, hyp_node, body_rules, assertion_rules, theorem_rules, decl_rules, proof_rules, statement_rules}
 use Rattle.mz_type.specs.Meaning.{derivation, IsProofOf, IsProvedAsStated, IsLegalAsStated}
-use Rattle.mz_type.specs.Names.{ExprsThere, DummiesThere, TermThere, StatedProofThere, DeclThere, StatementThere}
+use Rattle.mz_type.specs.Names.{ExprsThere, DummiesThere, StatedProofThere, DeclThere, StatementThere}
 use Rattle.mz_type.proofs.ExprRules.{sort_by_checks, checks_by_sort}
 use Rattle.mz_type.proofs.ProofRules.{derives_by_checks, checks_by_derives}
 

@@ -1,5 +1,5 @@
 -- Steps of the checks of statements.
-use Rattle.std.proofs.Common.{ℕ, suc, ◌≡◌, ◌<◌, ◌+◌, Bool, List, [], ◌∷◌, length, get_or, drop, ap, sym, ◌∙◌, add-one}
+use Rattle.std.proofs.Common.{ℕ, ◌≡◌, ◌<◌, ◌+◌, Bool, List, ◌∷◌, length, get_or, drop, ap, sym, ◌∙◌, add-one}
 use Rattle.std.proofs.lemmas.List.{drop_more}
 use Rattle.mz_checks.specs.Checks.{demand, ◌>>◌}
 use Rattle.mz_sexpr.specs.declared.rule.U.{U}

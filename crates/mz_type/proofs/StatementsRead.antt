@@ -1,8 +1,8 @@
 -- What is read as a list of statements has all its names, over what was declared before.
-use Rattle.std.proofs.Common.{ℕ, zero, suc, ◌≡◌, ◌<◌, ◌+◌, Bool, true, false, true≢false, List, [], ◌∷◌, ◌++◌, length, slice_get, All, Option, Some, None, refl, sym, ap, ◌∙◌, subst, arith, length-append}
+use Rattle.std.proofs.Common.{ℕ, zero, suc, ◌≡◌, ◌<◌, ◌+◌, Bool, true, false, true≢false, List, [], ◌∷◌, ◌++◌, length, slice_get, All, Some, refl, sym, ap, ◌∙◌, subst, arith, length-append}
 use Rattle.mz_sexpr.specs.Node.{Node, Nodes, atom, list, no_nodes, node}
 use Rattle.mz_logic.specs.Tree.{Tree, Trees, none, more, listed}
-use Rattle.mz_logic.specs.Declaration.{Term, Assertion, Declaration, sort_decl, term_decl, assertion_decl, sorts, signatures, assertions}
+use Rattle.mz_logic.specs.Declaration.{Declaration, sort_decl, term_decl, assertion_decl, sorts, signatures, assertions}
 use Rattle.mz_logic.specs.Legality.{IsDummy}
 use Rattle.mz_logic.specs.LegalLists.{MayBeLocal}
 use Rattle.mz_logic.specs.Laws.{SortsThere}
@@ -10,14 +10,14 @@ use Rattle.mz_logic.specs.declared.binder.Binder.{Binder}
 use Rattle.mz_logic.proofs.Extend.{sorts-append, assertions-append}
 use Rattle.mz_logic.proofs.Instance.{one_at, none_some}
 use Rattle.mz_logic.proofs.Lists.{all_from_each}
-use Rattle.mz_mmu.specs.Name.{Names, Scope}
-use Rattle.mz_mmu.specs.Expressions.{IsParam as IsParamNode, IsDummy as IsDummyNode, AreBinders, AreParams, AreDummies, IsExpr}
+use Rattle.mz_mmu.specs.Name.{Names}
+use Rattle.mz_mmu.specs.Expressions.{IsParam as IsParamNode, IsDummy as IsDummyNode, AreBinders, AreParams, AreDummies}
 use Rattle.mz_mmu.specs.Proof.{Proof, Statement}
 use Rattle.mz_mmu.specs.declared.keyword.Kind.{Kind}
 use Rattle.mz_mmu.specs.declared.keyword.Kind.TheVariants.{Sort as sort_kind, Term as term_kind, Axiom as axiom_kind, Def as def_kind, Theorem as theorem_kind, Other as no_kind}
 use Rattle.mz_mmu.specs.Statements.{kind_of, is_local_word, IsHyp, AreHyps, AreNamedHyps, scope_of, IsDeclared, IsLocal, IsMarked, IsStatement, AreStatements, no_names, names_with}
 use Rattle.mz_type.specs.Names.{ExprThere, ExprsThere, ProofThere, DummiesThere, StatedProofThere, DeclThere, StatementThere, StatementsThere}
-use Rattle.mz_type.proofs.NamesRead.{number_there, one_more, expr_there, exprs_there, expr_list_there, proof_there}
+use Rattle.mz_type.proofs.NamesRead.{number_there, one_more, expr_there, expr_list_there, proof_there}
 
 -- the names are those of the environment
 pub record Matches (names : Names) (env : List Declaration) : Type 0 where

@@ -1,12 +1,12 @@
 -- Steps of the checks of expressions.
 use Rattle.std.proofs.Common.{ℕ, zero, suc, ◌≡◌, ◌<◌, ◌≤◌, ◌+◌, ◌-◌, Contains, List, [], ◌∷◌, length, get_or, drop, slice_get, Some, None, refl, sym, ap, ◌∙◌, subst, arith}
 use Rattle.std.proofs.lemmas.List.{drop_more, drop_all, get_or-drop, length-drop}
-use Rattle.mz_checks.specs.Checks.{Checks, AllHold, FailsFirst, demand, ◌>>◌}
-use Rattle.mz_checks.proofs.InOrder.{fails-before, Decides, decides-after}
-use Rattle.mz_sexpr.specs.Node.{Node, Nodes}
+use Rattle.mz_checks.specs.Checks.{Checks, AllHold, demand, ◌>>◌}
+use Rattle.mz_checks.proofs.InOrder.{Decides, decides-after}
+use Rattle.mz_sexpr.specs.Node.{Nodes}
 use Rattle.mz_sexpr.specs.Number.{first, rest}
 use Rattle.mz_sexpr.specs.declared.rule.U.{U}
-use Rattle.mz_logic.specs.Tree.{Trees, app, none, more, listed, operand, size, trees_size}
+use Rattle.mz_logic.specs.Tree.{Trees, none, more, listed, operand, size, trees_size}
 use Rattle.mz_logic.specs.Legality.{signature_at}
 use Rattle.mz_logic.specs.Signature.{Signature}
 use Rattle.mz_logic.specs.View.{tree, trees}

@@ -1,5 +1,5 @@
 -- All type rules of a text hold exactly where its statements are legal by the stated proofs.
-use Rattle.std.proofs.Common.{ℕ, suc, ◌≡◌, ◌⊎◌, inl, inr, List, [], ◌∷◌, ◌++◌, Option}
+use Rattle.std.proofs.Common.{ℕ, suc, inl, inr, List, [], ◌∷◌, ◌++◌, Option}
 use Rattle.mz_checks.specs.Checks.{Checks, nothing, ask, retold, AllHold}
 use Rattle.mz_checks.proofs.CheckLaws.{fails_first-unique, all_hold-excludes, all_hold-or_fails}
 use Rattle.mz_checks.proofs.InOrder.{all_hold-first, all_hold-rest, all_hold-both}

@@ -7,6 +7,7 @@ use Rattle.mz_logic.specs.LegalLists.{Legal}
 use Rattle.mz_mmu.specs.Proof.{Statement}
 use Rattle.mz_mmu.specs.Statements.{no_names, AreStatements}
 use Rattle.mz_type.specs.Rules.{text_rules}
+use Rattle.mz_type.specs.TextOf.{TextOf, TextFault}
 use Rattle.mz_type.specs.Weight.{Passed, Passes, IsWithinLimits}
 use Rattle.mz_type.specs.Meaning.{LegalAsStated, marked}
 
@@ -36,3 +37,10 @@ pub record IsLimited (ss : List Statement) : Type 0 where
 
 abbrev pub EachIsLimited : Type 0
 EachIsLimited = (ss : List Statement) → IsLimited ss
+
+-- a text is well typed or has a first fault, never both, and one of either
+pub record IsTypedOrFaulty (text : List ℕ) : Type 0 where
+  pub one_of_both : ((ss : List Statement) × TextOf text ss) ⊎ ((r : TextRefusal) × TextFault text r)
+  pub never_both : (ss : List Statement) (r : TextRefusal) → TextOf text ss → TextFault text r → ⊥
+  pub one_list : (ss ts : List Statement) → TextOf text ss → TextOf text ts → ss ≡ ts
+  pub one_fault : (q r : TextRefusal) → TextFault text q → TextFault text r → q ≡ r

@@ -7,3 +7,6 @@ pub mod TextOf
 pub mod Laws
 pub mod Answers
 pub mod Weight
+pub mod TypedText
+pub mod Typing
+pub mod Sizes

@@ -96,7 +96,8 @@ fn sides_of(alloc: Global, convs: &Convs, right: bool) -> Result<Exprs, AllocErr
     Ok(built)
 }
 
-fn copies_of(alloc: Global, es: &Exprs) -> Result<Exprs, AllocError>
+/// Copies of the expressions.
+pub(crate) fn copies_of(alloc: Global, es: &Exprs) -> Result<Exprs, AllocError>
     ensures { IfOk result (λ copies. copies ≡ es.now) }
 {
     let mut copies = Exprs::new(alloc);

@@ -1,5 +1,6 @@
 //! What follows from the definitions. Each function does nothing; its contract is the law.
-ghost use Rattle.mz_type.specs.Laws.{EachIsLimited, EachTypedOrRefused, RulesAreTheMeaning, StatedIsLegal};
+ghost use Rattle.std.specs.Prelude.{ℕ, List};
+ghost use Rattle.mz_type.specs.Laws.{EachIsLimited, EachTypedOrRefused, IsTypedOrFaulty, RulesAreTheMeaning, StatedIsLegal};
 
 /// All type rules of a text that reads hold exactly where its statements are legal by the proofs
 /// that they state; and such a list is legal.
@@ -16,4 +17,10 @@ pub fn typed_or_refused()
 /// A text is within the limits or passes exactly one first, with one count.
 pub fn limits_are_decided()
     ensures { EachIsLimited }
+{}
+
+/// A text, as bytes, is well typed or has exactly one first fault, never both; a well-typed text is
+/// one list of statements.
+pub fn typed_or_faulty()
+    ensures { (text : List ℕ) → IsTypedOrFaulty text }
 {}

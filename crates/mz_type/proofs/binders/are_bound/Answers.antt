@@ -1,4 +1,4 @@
-use Rattle.std.proofs.Common.{ℕ, ◌≡◌, ◌<◌, length, List, All, IsTrue, ◌↔◌, Bool, get_or}
+use Rattle.std.proofs.Common.{ℕ, ◌<◌, length, List, All, IsTrue, ◌↔◌, Bool}
 use Rattle.std.proofs.lemmas.Option.{slice_get_within}
 use Rattle.mz_logic.specs.Variables.{IsBoundAt}
 use Rattle.mz_logic.specs.declared.binder.Binder.{Binder}

@@ -1,4 +1,4 @@
-use Rattle.std.proofs.Common.{◌≡◌, ◌+◌, true≢false, drop, refl, sym, subst, inl}
+use Rattle.std.proofs.Common.{◌+◌, true≢false, drop, refl, sym, subst, inl}
 use Rattle.mz_checks.specs.Checks.{demand}
 use Rattle.mz_checks.proofs.InOrder.{Decides}
 use Rattle.mz_sexpr.specs.Node.{place}

@@ -1,4 +1,4 @@
-use Rattle.std.proofs.Common.{◌≡◌, ◌+◌, drop, ap, ◌∙◌, sym}
+use Rattle.std.proofs.Common.{◌+◌, drop, ap, ◌∙◌}
 use Rattle.std.proofs.lemmas.List.{drop_all}
 use Rattle.mz_logic.specs.Tree.{more, none, followed_by}
 use Rattle.mz_logic.specs.View.{tree, trees}

@@ -1,4 +1,4 @@
-use Rattle.std.proofs.Common.{◌+◌, get_or, drop, ap, ◌∙◌}
+use Rattle.std.proofs.Common.{◌+◌, get_or, drop, ap}
 use Rattle.std.proofs.lemmas.List.{drop_all}
 use Rattle.mz_logic.specs.Tree.{var, followed_by, variables}
 use Rattle.mz_type.proofs.Building.{builds_more, built_whole, variables_cut}

@@ -1,4 +1,4 @@
-use Rattle.std.proofs.Common.{ℕ, ◌≡◌, ◌<◌, ◌+◌, get_or}
+use Rattle.std.proofs.Common.{ℕ, ◌≡◌, ◌<◌, get_or}
 use Rattle.mz_type.proofs.convs.stands_again.Given as goal
 
 abbrev pub invariant-loop-j : goal.invariant-loop-j

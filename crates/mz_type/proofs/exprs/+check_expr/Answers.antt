@@ -1,12 +1,10 @@
-use Rattle.std.proofs.Common.{◌+◌, drop, refl, sym, ap, ◌∙◌, subst, length, inl}
-use Rattle.mz_checks.specs.Checks.{FailsFirst, Judges, AllHold}
+use Rattle.std.proofs.Common.{◌+◌, drop, sym, ap, ◌∙◌, subst, length, inl}
+use Rattle.mz_checks.specs.Checks.{FailsFirst, Judges}
 use Rattle.mz_checks.proofs.InOrder.{fails-before, fails-after, judges-after, Decides}
-use Rattle.mz_sexpr.specs.Node.{parts, place}
-use Rattle.mz_sexpr.specs.Number.{first, rest}
-use Rattle.mz_sexpr.specs.declared.rule.U.{U}
+use Rattle.mz_sexpr.specs.Node.{place}
+use Rattle.mz_sexpr.specs.Number.{first}
 use Rattle.mz_logic.specs.Declaration.{signatures}
 use Rattle.mz_logic.specs.View.{tree, trees}
-use Rattle.mz_mmu.specs.Order.{fault}
 use Rattle.mz_type.specs.Rules.{expr_rules, exprs_rules, operand_rules}
 use Rattle.mz_type.proofs.Judging.{handed_before, handed_within, judges_asked}
 use Rattle.mz_type.proofs.Steps.{app_rules, exprs_left, exprs_step, size_step}

@@ -1,9 +1,9 @@
-use Rattle.std.proofs.Common.{◌≡◌, ◌+◌, drop, refl, sym, ap, ◌∙◌, subst, length, inl}
+use Rattle.std.proofs.Common.{◌+◌, drop, sym, ap, ◌∙◌, subst, length, inl}
 use Rattle.mz_checks.specs.Checks.{Judges, AllHold, FailsFirst}
 use Rattle.mz_checks.proofs.InOrder.{fails-after, Decides}
 use Rattle.mz_sexpr.specs.Number.{first, rest}
 use Rattle.mz_sexpr.specs.Node.{parts, place}
-use Rattle.mz_logic.specs.Conversions.{cong_conv, unfold_conv}
+use Rattle.mz_logic.specs.Conversions.{unfold_conv}
 use Rattle.mz_logic.specs.Declaration.{signatures, terms}
 use Rattle.mz_logic.specs.DeclView.{term_view}
 use Rattle.mz_mmu.specs.ConvView.{conversion, conversions}

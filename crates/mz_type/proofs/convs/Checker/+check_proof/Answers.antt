@@ -1,4 +1,4 @@
-use Rattle.std.proofs.Common.{◌≡◌, ◌+◌, ◌++◌, true≢false, List, [], ◌∷◌, drop, refl, sym, ap, ◌∙◌, subst, length}
+use Rattle.std.proofs.Common.{◌+◌, ◌++◌, true≢false, [], ◌∷◌, drop, sym, ap, ◌∙◌, subst, length}
 use Rattle.std.proofs.lemmas.List.{drop_all}
 use Rattle.std.proofs.lemmas.Option.{get_or_from_slice_get}
 use Rattle.mz_checks.specs.Checks.{Judges, AllHold}
@@ -16,7 +16,7 @@ use Rattle.mz_mmu.specs.ProofView.{proof_view, proofs_view}
 use Rattle.mz_mmu.specs.Stops.{Stops}
 use Rattle.mz_type.specs.Answers.{IsProved}
 use Rattle.mz_type.specs.Names.{ProofsThere}
-use Rattle.mz_type.specs.Parts.{part, after}
+use Rattle.mz_type.specs.Parts.{part}
 use Rattle.mz_type.specs.Rules.{expr_rules, exprs_rules, conv_rules, proof_rules, proofs_rules}
 use Rattle.mz_type.specs.Sides.{proved, all_proved, with_fact}
 use Rattle.mz_type.proofs.Building.{builds_more, built_whole}

@@ -1,4 +1,4 @@
-use Rattle.std.proofs.Common.{◌≡◌, true≢false, refl, sym, ap, ◌∙◌, subst, length}
+use Rattle.std.proofs.Common.{true≢false, refl, sym, ap, ◌∙◌, subst, length}
 use Rattle.mz_checks.specs.Checks.{Judges, AllHold}
 use Rattle.mz_sexpr.specs.Number.{first}
 use Rattle.mz_sexpr.specs.Node.{parts}
@@ -9,7 +9,7 @@ use Rattle.mz_logic.specs.Sorts.{Fits}
 use Rattle.mz_logic.specs.Variables.{Apart}
 use Rattle.mz_logic.specs.View.{tree}
 use Rattle.mz_mmu.specs.Stops.{Stops}
-use Rattle.mz_type.specs.Parts.{part, after}
+use Rattle.mz_type.specs.Parts.{part}
 use Rattle.mz_type.specs.Rules.{operand_rules, citation_rules, subproof_rules}
 use Rattle.mz_type.proofs.Judging.{stop_proved, told_stop, told_holds}
 use Rattle.mz_type.proofs.ProofSteps as step

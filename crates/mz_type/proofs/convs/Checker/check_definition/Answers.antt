@@ -1,16 +1,14 @@
-use Rattle.std.proofs.Common.{◌≡◌, true≢false, refl, sym, ap, ◌∙◌, subst, length, IsTrue}
-use Rattle.std.specs.Prelude.{Result}
-use Rattle.mz_checks.specs.Checks.{Judges, AllHold}
+use Rattle.std.proofs.Common.{true≢false, refl, sym, ap, ◌∙◌, subst, length}
+use Rattle.mz_checks.specs.Checks.{Judges}
 use Rattle.mz_sexpr.specs.Number.{first}
 use Rattle.mz_sexpr.specs.Node.{parts}
 use Rattle.mz_logic.specs.Tree.{instance, followed_by, variables}
 use Rattle.mz_logic.specs.Declaration.{signatures, dummies_of}
-use Rattle.mz_logic.specs.DeclView.{term_view, form}
-use Rattle.mz_logic.specs.View.{tree}
+use Rattle.mz_logic.specs.DeclView.{term_view}
 use Rattle.mz_mmu.specs.ConvView.{conversion}
 use Rattle.mz_type.specs.Parts.{part}
 use Rattle.mz_type.specs.Rules.{operand_rules, variable_rules, unfold_rules}
-use Rattle.mz_type.specs.Sides.{left, is_defined}
+use Rattle.mz_type.specs.Sides.{left}
 use Rattle.mz_type.proofs.Judging.{stop_handed_on, told_stop, told_holds}
 use Rattle.mz_type.proofs.ConvSteps as step
 use Rattle.mz_type.proofs.convs.Checker.check_definition.Goals as goal

@@ -1,0 +1,44 @@
+-- What checking the type rules of a text answers.
+use Rattle.std.specs.Prelude.{ℕ, ◌≡◌, ⊤, List}
+use Rattle.mz_checks.specs.Checks.{Checks, FailsFirst}
+use Rattle.mz_sexpr.specs.declared.rule.TextRefusal.{TextRefusal}
+use Rattle.mz_mmu.specs.Order.{in_statement}
+use Rattle.mz_mmu.specs.TextView.{Forms}
+use Rattle.mz_mmu.specs.declared.fault.Stop.{Stop}
+use Rattle.mz_mmu.specs.declared.fault.Stop.TheVariants as stop
+use Rattle.mz_type.specs.Meaning.{LegalAsStated}
+use Rattle.mz_type.specs.Rules.{text_rules}
+use Rattle.mz_type.specs.TextOf.{TextOf, TextFault}
+use Rattle.mz_type.specs.declared.typed.TextStop.{TextStop}
+use Rattle.mz_type.specs.declared.typed.TextStop.TheVariants as text_stop
+use Rattle.mz_type.specs.declared.typed.TypedRead.{TypedRead}
+use Rattle.mz_type.specs.declared.typed.TypedRead.TheVariants as read
+
+-- the text itself, whose statements are legal by the stated proofs; or the first type rule that
+-- doesn't hold
+abbrev pub IsTyping : Forms → TypedRead → Type 0
+IsTyping text (read.Typed t) = (t ≡ text) × LegalAsStated text.statements
+IsTyping text (read.Refused r) = FailsFirst (text_rules text.nodes text.statements) r
+IsTyping text read.Mem = ⊤
+
+-- the same of the bytes from which the text was read: they are a well-typed text, or this is their
+-- first fault
+abbrev pub IsTypingOf : List ℕ → Forms → TypedRead → Type 0
+IsTypingOf bytes text (read.Typed t) = TextOf bytes text.statements
+IsTypingOf bytes text (read.Refused r) = TextFault bytes r
+IsTypingOf bytes text read.Mem = ⊤
+
+-- why a text isn't typed: the first of these that doesn't hold, or want of memory
+abbrev pub TextStops : TextStop → Checks TextRefusal → Type 0
+TextStops (text_stop.Refused r) cs = FailsFirst cs r
+TextStops text_stop.Mem cs = ⊤
+
+-- a statement's stop, as the text's
+abbrev pub IsStopped : ℕ → Stop → TextStop → Type 0
+IsStopped k (stop.Refused f) r = r ≡ text_stop.Refused (in_statement k f)
+IsStopped k stop.Mem r = r ≡ text_stop.Mem
+
+-- the text's stop, as its answer
+abbrev pub IsRefusal : TextStop → TypedRead → Type 0
+IsRefusal (text_stop.Refused r) a = a ≡ read.Refused r
+IsRefusal text_stop.Mem a = a ≡ read.Mem
