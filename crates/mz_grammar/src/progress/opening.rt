@@ -1,0 +1,103 @@
+// The first lexemes of a statement.
+ghost use Rattle.std.specs.Prelude.{◌≡◌, option_map};
+ghost use Rattle.mz_grammar.specs.Code.{lexeme, modifiers};
+ghost use Rattle.mz_grammar.specs.CodeProgress.{progress as progress_lem};
+ghost use Rattle.mz_grammar.specs.Progress.{beginnings, choose, head_opened, is_bare as is_bare_lem, next as next_lem, opening};
+
+use super::{Coercion, Delimiter, Operator, Progress, when};
+use crate::kind::{AssertKind, Fixity, Kind};
+use crate::lexeme::Lexeme;
+use crate::statement::{Head, Modifiers};
+use std::alloc::Global;
+
+impl Modifiers {
+    /// No such word.
+    pub const NONE: Modifiers = Modifiers {
+        is_pure: false,
+        is_strict: false,
+        is_provable: false,
+        is_free: false,
+    };
+
+    fn is_bare(self) -> bool
+        ensures { result ≡ is_bare_lem (modifiers self) }
+    {
+        !(self.is_pure || self.is_strict || self.is_provable || self.is_free)
+    }
+
+    /// Behind these modifiers.
+    pub fn next<'a>(self, found: Lexeme<'a>) -> Option<Progress<'a>>
+        ensures { option_map progress_lem result ≡ next_lem (opening (modifiers self)) (lexeme found.entry) }
+    {
+        if found.is_keyword(b"pure") && self.is_bare() {
+            return Some(Progress::Opening(Modifiers {
+                is_pure: true,
+                ..self
+            }));
+        }
+        if found.is_keyword(b"strict") && !(self.is_strict || self.is_provable || self.is_free) {
+            return Some(Progress::Opening(Modifiers {
+                is_strict: true,
+                ..self
+            }));
+        }
+        if found.is_keyword(b"provable") && !(self.is_provable || self.is_free) {
+            return Some(Progress::Opening(Modifiers {
+                is_provable: true,
+                ..self
+            }));
+        }
+        if found.is_keyword(b"free") && !self.is_free {
+            return Some(Progress::Opening(Modifiers {
+                is_free: true,
+                ..self
+            }));
+        }
+        if found.is_keyword(b"sort") {
+            return Some(Progress::SortOpened(self));
+        }
+        if self.is_bare() { begun(found) } else { None }
+    }
+}
+
+/// The first lexeme of a statement without modifiers.
+fn begun<'a>(found: Lexeme<'a>) -> Option<Progress<'a>>
+    ensures { option_map progress_lem result ≡ choose beginnings found.entry.kind found.entry.bytes.now (lexeme found.entry) }
+{
+    if found.is_keyword(b"term") {
+        Some(Progress::HeadOpened(Kind::Term))
+    } else if found.is_keyword(b"axiom") {
+        Some(Progress::HeadOpened(Kind::Assert(AssertKind::Axiom)))
+    } else if found.is_keyword(b"theorem") {
+        Some(Progress::HeadOpened(Kind::Assert(AssertKind::Theorem)))
+    } else if found.is_keyword(b"def") {
+        Some(Progress::HeadOpened(Kind::Definition))
+    } else if found.is_keyword(b"notation") {
+        Some(Progress::HeadOpened(Kind::Notation))
+    } else if found.is_keyword(b"infixl") {
+        Some(Progress::Operator(Fixity::InfixLeft, Operator::Opened))
+    } else if found.is_keyword(b"infixr") {
+        Some(Progress::Operator(Fixity::InfixRight, Operator::Opened))
+    } else if found.is_keyword(b"prefix") {
+        Some(Progress::Operator(Fixity::Prefix, Operator::Opened))
+    } else if found.is_keyword(b"coercion") {
+        Some(Progress::Coercion(Coercion::Opened))
+    } else if found.is_keyword(b"delimiter") {
+        Some(Progress::Delimiter(Delimiter::Opened))
+    } else {
+        None
+    }
+}
+
+impl Kind {
+    /// Behind the keyword.
+    pub fn next<'a>(self, alloc: Global, found: Lexeme<'a>) -> Option<Progress<'a>>
+        ensures { option_map progress_lem result ≡ next_lem (head_opened self) (lexeme found.entry) }
+    {
+        let head = Head {
+            name: found,
+            groups: Vec::new(alloc),
+        };
+        when(found.is_name(), Progress::Headed(self, head))
+    }
+}

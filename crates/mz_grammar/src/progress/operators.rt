@@ -1,0 +1,124 @@
+// Notations of one constant, coercions and delimiters.
+ghost use Rattle.std.specs.Prelude.{◌≡◌, option_map};
+ghost use Rattle.mz_grammar.specs.Code.{lexeme};
+ghost use Rattle.mz_grammar.specs.CodeProgress.{coercion as coercion_lem, delimiter as delimiter_lem, operator as operator_lem, progress as progress_lem};
+ghost use Rattle.mz_grammar.specs.Progress.{level_wanted, next as next_lem};
+
+use super::{Coercion, Delimiter, Operator, Progress, when};
+use crate::kind::Fixity;
+use crate::lexeme::Lexeme;
+use crate::statement::{CoercionText, DelimiterText, Level, OperatorText, Statement};
+
+impl<'a> Operator<'a> {
+    /// Behind these lexemes.
+    pub fn next(self, fixity: Fixity, found: Lexeme<'a>) -> Option<Progress<'a>>
+        ensures { option_map progress_lem result ≡ next_lem (operator_lem fixity self.entry) (lexeme found.entry) }
+    {
+        match self {
+            Operator::Opened => when(
+                found.is_name(),
+                Progress::Operator(fixity, Operator::Named(found)),
+            ),
+            Operator::Named(name) => when(
+                found.is_symbol(b":"),
+                Progress::Operator(fixity, Operator::Colon(name)),
+            ),
+            Operator::Colon(name) => when(
+                found.is_formula(),
+                Progress::Operator(fixity, Operator::Constant(name, found)),
+            ),
+            Operator::Constant(name, constant) => when(
+                found.is_keyword(b"prec"),
+                Progress::Operator(fixity, Operator::Prec(name, constant)),
+            ),
+            Operator::Prec(name, constant) => leveled(fixity, name, constant, found),
+            Operator::Level(name, constant, level) => {
+                let operator = OperatorText {
+                    fixity,
+                    name,
+                    constant,
+                    level,
+                };
+                when(
+                    found.is_symbol(b";"),
+                    Progress::Whole(Statement::Operator(operator)),
+                )
+            }
+        }
+    }
+}
+
+/// Behind `prec`.
+fn leveled<'a>(
+    fixity: Fixity,
+    name: Lexeme<'a>,
+    constant: Lexeme<'a>,
+    found: Lexeme<'a>,
+) -> Option<Progress<'a>>
+    ensures { option_map progress_lem result ≡ next_lem (level_wanted fixity (lexeme name.entry) (lexeme constant.entry)) (lexeme found.entry) }
+{
+    if found.is_number() {
+        let level = Level::Number(found);
+        return Some(Progress::Operator(fixity, Operator::Level(name, constant, level)));
+    }
+    when(
+        found.is_keyword(b"max"),
+        Progress::Operator(fixity, Operator::Level(name, constant, Level::Max)),
+    )
+}
+
+impl<'a> Coercion<'a> {
+    /// Behind these lexemes.
+    pub fn next(self, found: Lexeme<'a>) -> Option<Progress<'a>>
+        ensures { option_map progress_lem result ≡ next_lem (coercion_lem self.entry) (lexeme found.entry) }
+    {
+        match self {
+            Coercion::Opened => when(found.is_name(), Progress::Coercion(Coercion::Named(found))),
+            Coercion::Named(name) => when(
+                found.is_symbol(b":"),
+                Progress::Coercion(Coercion::Colon(name)),
+            ),
+            Coercion::Colon(name) => when(
+                found.is_name(),
+                Progress::Coercion(Coercion::From(name, found)),
+            ),
+            Coercion::From(name, from) => when(
+                found.is_symbol(b">"),
+                Progress::Coercion(Coercion::Greater(name, from)),
+            ),
+            Coercion::Greater(name, from) => when(
+                found.is_name(),
+                Progress::Coercion(Coercion::To(name, from, found)),
+            ),
+            Coercion::To(name, from, to) => when(
+                found.is_symbol(b";"),
+                Progress::Whole(Statement::Coercion(CoercionText { name, from, to })),
+            ),
+        }
+    }
+}
+
+impl<'a> Delimiter<'a> {
+    /// Behind these lexemes.
+    pub fn next(self, found: Lexeme<'a>) -> Option<Progress<'a>>
+        ensures { option_map progress_lem result ≡ next_lem (delimiter_lem self.entry) (lexeme found.entry) }
+    {
+        let (left, right) = match self {
+            Delimiter::Opened => {
+                return when(
+                    found.is_formula(),
+                    Progress::Delimiter(Delimiter::Left(found)),
+                );
+            }
+            Delimiter::Left(left) if found.is_formula() => {
+                return Some(Progress::Delimiter(Delimiter::Right(left, found)));
+            }
+            Delimiter::Left(left) => (left, None),
+            Delimiter::Right(left, right) => (left, Some(right)),
+        };
+        when(
+            found.is_symbol(b";"),
+            Progress::Whole(Statement::Delimiter(DelimiterText { left, right })),
+        )
+    }
+}

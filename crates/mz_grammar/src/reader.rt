@@ -1,0 +1,122 @@
+// Reading a statement.
+ghost use Rattle.std.specs.Prelude.{◌≡◌, ◌≤◌, ◌<◌, ◌^◌, [], ⊤, length, IfOk, MatchOption};
+ghost use Rattle.mz_lex.specs.Lexemes.{IsBlank};
+ghost use Rattle.mz_lex.specs.RuleText.{place_of, rule_of};
+ghost use Rattle.mz_grammar.specs.Code.{lexeme};
+ghost use Rattle.mz_grammar.specs.CodeProgress.{progress as progress_lem};
+ghost use Rattle.mz_grammar.specs.Reading.{IfFault, IsRead, IsReadTo, StopsFrom};
+ghost use Rattle.mz_grammar.specs.Stops.{misfit_rule};
+
+use crate::lexeme::Lexeme;
+use crate::progress::Progress;
+use crate::refusal::{Fault, Halt};
+use crate::statement::{Modifiers, Statement};
+use mz_lex::{LexFault, S, next_token};
+use std::alloc::Global;
+
+/// A statement, its first byte, and the place behind it.
+#[derive(Drop)]
+pub struct StatementRead<'a> {
+    pub statement: Statement<'a>,
+    pub place: u32,
+    pub end: usize,
+}
+
+/// The fault where no lexeme comes.
+fn no_lexeme(fault: LexFault) -> Fault
+    ensures { result ≡ record { at = place_of fault; rule = rule_of fault } }
+{
+    Fault {
+        at: fault.place(),
+        rule: fault.rule(),
+    }
+}
+
+/// The rule that the first lexeme of a statement breaks where it begins none.
+fn first_rule(first: Lexeme<'_>) -> S
+    ensures { result ≡ misfit_rule [] (lexeme first.entry) }
+{
+    if first.is_keyword(b"input") || first.is_keyword(b"output") {
+        S::LeftOut
+    } else {
+        S::Statement
+    }
+}
+
+/// Reads the next statement from a place on: `None` where only whitespace and comments are left.
+///
+/// # Errors
+///
+/// Where the lexemes from there on begin with no statement, told at the first that doesn't fit, at
+/// the place where no lexeme comes, or at the end of the text; or where there is no memory.
+pub fn read_statement(
+    alloc: Global,
+    text: &[u8],
+    from: usize,
+) -> Result<Option<StatementRead<'_>>, Halt>
+    requires from { from ≤ length text.now }
+    requires small { length text.now < 2 ^ 32 }
+    ensures read { IfOk result (λ read. MatchOption read (IsBlank text.now from (length text.now)) (IsRead text.now from)) }
+    ensures within { IfOk result (λ read. MatchOption read ⊤ (λ r. r.end ≤ length text.now)) }
+    ensures stops { IfFault result (StopsFrom text.now from) }
+{
+    let first = match next_token(text, from) {
+        Ok(None) => return Ok(None),
+        Ok(Some(token)) => Lexeme::new(text, token),
+        Err(fault) => return Err(Halt::Fault(no_lexeme(fault))),
+    };
+    let Some(progress) = Progress::Opening(Modifiers::NONE).next(alloc, first)? else {
+        return Err(Halt::Fault(Fault {
+            at: first.from,
+            rule: first_rule(first),
+        }));
+    };
+    let read = read_rest(alloc, text, from, first, progress)?;
+    Ok(Some(read))
+}
+
+/// Reads a statement behind its first lexeme.
+fn read_rest<'a>(
+    alloc: Global,
+    text: &'a [u8],
+    from: usize,
+    first: Lexeme<'a>,
+    progress: Progress<'a>,
+) -> Result<StatementRead<'a>, Halt>
+    requires small { length text.now < 2 ^ 32 }
+    requires within { first.to ≤ length text.now }
+    requires read { IsReadTo text.now from first.from (progress_lem progress) first.to }
+    ensures read { IfOk result (IsRead text.now from) }
+    ensures within { IfOk result (λ r. r.end ≤ length text.now) }
+    ensures stops { IfFault result (StopsFrom text.now from) }
+{
+    let mut at = first.to as usize;
+    let mut progress = progress;
+    'lexemes: loop {
+        if let Progress::Whole(statement) = progress {
+            return Ok(StatementRead {
+                statement,
+                place: first.from,
+                end: at,
+            });
+        }
+        let found = match next_token(text, at) {
+            Ok(None) => {
+                return Err(Halt::Fault(Fault {
+                    at: text.len() as u32,
+                    rule: S::Statement,
+                }));
+            }
+            Ok(Some(token)) => Lexeme::new(text, token),
+            Err(fault) => return Err(Halt::Fault(no_lexeme(fault))),
+        };
+        let Some(next) = progress.next(alloc, found)? else {
+            return Err(Halt::Fault(Fault {
+                at: found.from,
+                rule: S::Statement,
+            }));
+        };
+        progress = next;
+        at = found.to as usize;
+    }
+}
