@@ -80,7 +80,7 @@ some-decided (Some x) = inl (x, refl)
 
 -- ---- the constants of a notation
 
-led-decided : (w : List ℕ) (k : Notation) → Decided (LedBy k w)
+pub led-decided : (w : List ℕ) (k : Notation) → Decided (LedBy k w)
 led-decided w k = go k.elements refl
   where
     nil : (ls : List Element) → [] ≡ fixed w k.level ∷ ls → ⊥
@@ -100,13 +100,13 @@ led-decided w k = go k.elements refl
       | inr out ↦ inr (λ h. out (same v q es h.0 (sym e ∙ h.1)))
     ]
 
-three-decided : {P Q R : Type 0} → Decided P → Decided Q → Decided R → Decided (P × Q × R)
+pub three-decided : {P Q R : Type 0} → Decided P → Decided Q → Decided R → Decided (P × Q × R)
 three-decided (inl p) (inl q) (inl r) = inl (p, q, r)
 three-decided (inr out) q r = inr (λ h. out h.0)
 three-decided (inl p) (inr out) r = inr (λ h. out h.1)
 three-decided (inl p) (inl q) (inr out) = inr (λ h. out h.2)
 
-joined-decided : (w : List ℕ) (k : Notation) → Decided (JoinedBy k w)
+pub joined-decided : (w : List ℕ) (k : Notation) → Decided (JoinedBy k w)
 joined-decided w k = go k.elements refl
   where
     nil : (i : ℕ) (ls : List Element) → [] ≡ slot i ∷ fixed w k.level ∷ ls → ⊥

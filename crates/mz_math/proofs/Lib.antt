@@ -18,4 +18,6 @@ pub mod Deciding
 pub mod Standing
 pub mod Existing
 pub mod Statements
+pub mod StayingClear
+pub mod MadeNotations
 pub mod Lawful

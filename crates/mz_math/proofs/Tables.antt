@@ -21,10 +21,10 @@ use Rattle.mz_math.proofs.Lists.{contains_either, contains_at, place_either}
 no-member : {A : Type 0} {x : A} → Contains [] x → ⊥
 no-member (k, below, is) = absurd (omega (arith, below))
 
-none-some : {A : Type 0} {x : A} → None ≡ Some x → ⊥
+pub none-some : {A : Type 0} {x : A} → None ≡ Some x → ⊥
 none-some e = cc
 
-some-same : {A : Type 0} {x y : A} → Some x ≡ Some y → x ≡ y
+pub some-same : {A : Type 0} {x y : A} → Some x ≡ Some y → x ≡ y
 some-same e = cc
 
 cons-same : {A : Type 0} {x y : A} {xs ys : List A} → x ∷ xs ≡ y ∷ ys → x ≡ y
@@ -149,7 +149,7 @@ elements-one d names distinct text (l ∷ ls) [] fs a b = absurd a
 elements-one d names distinct text (l ∷ ls) (e ∷ es) [] a b = absurd b
 elements-one d names distinct text (l ∷ ls) (e ∷ es) (f ∷ fs) (a, as_) (b, bs) = ap₂ ◌∷◌ (element-one d names distinct text l e f a b) (elements-one d names distinct text ls es fs as_ bs)
 
-begins-one : (es : List Element) (tail : Option Tail) (q p : ℕ) (r s : Bool) → Begins es tail q r → Begins es tail p s → (q ≡ p) × (r ≡ s)
+pub begins-one : (es : List Element) (tail : Option Tail) (q p : ℕ) (r s : Bool) → Begins es tail q r → Begins es tail p s → (q ≡ p) × (r ≡ s)
 begins-one [] tail q p r s a b = absurd a
 begins-one (fixed w l ∷ es) None q p r s a b = (a.0 ∙ sym b.0, a.1 ∙ sym b.1)
 begins-one (fixed w l ∷ es) (Some tail) q p r s a b = absurd a

@@ -12,7 +12,7 @@ use Rattle.mz_math.specs.Grammar.{words_of, Exp}
 use Rattle.mz_math.specs.Readable.{IsTable, AreVariables}
 use Rattle.mz_math.specs.Meaning.{Wanted}
 use Rattle.mz_math.specs.Formula.{Reader, Misreading, IsFormula, Misreads}
-use Rattle.mz_math.specs.Forms.{NoteFault, coercion_checks, delimiter_checks, IsInfix, IsPrefix, IsGeneral, General}
+use Rattle.mz_math.specs.Forms.{NoteFault, notation_checks, coercion_checks, delimiter_checks, IsInfix, IsPrefix, IsGeneral, General}
 
 -- ---- tables
 
@@ -71,3 +71,16 @@ DelimitersAreJudged = (left : List ℕ) (right : Option (List ℕ)) → AllHold 
 
 abbrev pub CoercionsAreJudged : Type 0
 CoercionsAreJudged = (sigs : List Signature) (t : Table) (c : Coercion) → IsTable t → AllHold (coercion_checks sigs t c) ⊎ ((f : NoteFault) × FailsFirst (coercion_checks sigs t c) f)
+
+abbrev pub InfixesAreJudged : Type 0
+InfixesAreJudged = (sigs : List Signature) (t : Table) (term : ℕ) (text : List ℕ) (level : Option ℕ) (right : Bool) → IsTable t
+    → AllHold (notation_checks t (IsInfix sigs t.delimiters term text level right)) ⊎ ((f : NoteFault) × FailsFirst (notation_checks t (IsInfix sigs t.delimiters term text level right)) f)
+
+abbrev pub PrefixesAreJudged : Type 0
+PrefixesAreJudged = (sigs : List Signature) (t : Table) (term : ℕ) (text : List ℕ) (level : Option ℕ) → IsTable t
+    → AllHold (notation_checks t (IsPrefix sigs t.delimiters term text level)) ⊎ ((f : NoteFault) × FailsFirst (notation_checks t (IsPrefix sigs t.delimiters term text level)) f)
+
+-- whether they begin with a constant or with a parameter
+abbrev pub GeneralsAreJudged : Type 0
+GeneralsAreJudged = (sigs : List Signature) (t : Table) (g : General) → IsTable t
+    → AllHold (notation_checks t (IsGeneral sigs t.delimiters g)) ⊎ ((f : NoteFault) × FailsFirst (notation_checks t (IsGeneral sigs t.delimiters g)) f)

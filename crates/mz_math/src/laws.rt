@@ -1,5 +1,5 @@
 // What holds of every table that the calls make. These functions do nothing: a caller learns their clauses.
-ghost use Rattle.mz_math.specs.Laws.{CoercionsAreJudged, CoercionsKeepTables, DelimitersAreJudged, DelimitersKeepTables, EmptyIsTable, NamesKeepTables, NotationsKeepTables, OneMeaning, OneMisreading, OneReading, OneTokens, OneTree, SomeReading, VariablesStay};
+ghost use Rattle.mz_math.specs.Laws.{CoercionsAreJudged, CoercionsKeepTables, DelimitersAreJudged, DelimitersKeepTables, EmptyIsTable, GeneralsAreJudged, InfixesAreJudged, NamesKeepTables, NotationsKeepTables, OneMeaning, OneMisreading, OneReading, OneTokens, OneTree, PrefixesAreJudged, SomeReading, VariablesStay};
 
 /// The empty table is one that the calls make, and each statement that breaks no rule makes another.
 pub fn statements_keep_tables()
@@ -33,8 +33,11 @@ pub fn each_string_is_read_or_refused()
     ensures { SomeReading }
 {}
 
-/// A statement on delimiters or on coercions breaks no rule, or one of them first.
+/// A statement on delimiters, on coercions or on notations breaks no rule, or one of them first.
 pub fn statements_are_judged()
     ensures delimiters { DelimitersAreJudged }
     ensures coercions { CoercionsAreJudged }
+    ensures infixes { InfixesAreJudged }
+    ensures prefixes { PrefixesAreJudged }
+    ensures generals { GeneralsAreJudged }
 {}
