@@ -5,6 +5,8 @@
 mod binders;
 mod conv;
 mod convs;
+#[cfg(test)]
+mod deep_tests;
 mod exprs;
 mod fault;
 mod keyword;

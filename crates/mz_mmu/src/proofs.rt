@@ -78,7 +78,30 @@ impl<'r, 'a> Reader<'r, 'a> {
         }
     }
 
+    /// A box of the proof that the node is: the proof itself is large, and would stand on the stack
+    /// once a level.
+    #[inline(never)]
+    #[cycle(proof)]
+    fn boxed_proof(
+        &self,
+        sc: &Scope<'_, 'a>,
+        hyps: &Space<'a>,
+        lets: &mut Space<'a>,
+        n: u32,
+    ) -> Result<ProofBox, Stop>
+        requires within { n < node_count self.now.nodes.now }
+        requires few { length lets.old + node_size (node_at self.now.nodes.now n) < 2 ^ 32 }
+        ensures read { IfOk result (IsProof (scope sc.now) hyps.now lets.old (node_at self.now.nodes.now n)) }
+        ensures same { OnOk result (lets.new ≡ lets.old) }
+        ensures stops { IfErr result (λ stop. Stops stop (proof_asked (scope sc.now) hyps.now lets.old (node_at self.now.nodes.now n))) }
+    {
+        let proof = self.proof(sc, hyps, lets, n)?;
+        let proof = ProofBox::new(self.alloc, proof)?;
+        Ok(proof)
+    }
+
     /// What is left of `(:conv expr conv proof)`.
+    #[inline(never)]
     #[cycle(proof)]
     fn conv_proof(
         &self,
@@ -100,12 +123,12 @@ impl<'r, 'a> Reader<'r, 'a> {
         };
         let expr = self.expr(sc, expr)?;
         let conv = self.conv(sc, conv)?;
-        let proof = self.proof(sc, hyps, lets, part)?;
-        let proof = ProofBox::new(self.alloc, proof)?;
+        let proof = self.boxed_proof(sc, hyps, lets, part)?;
         Ok(Proof::Conv(expr, conv, proof))
     }
 
     /// What is left of `(:let h proof proof)`.
+    #[inline(never)]
     #[cycle(proof)]
     fn let_proof(
         &self,
@@ -126,16 +149,15 @@ impl<'r, 'a> Reader<'r, 'a> {
             return Err(self.wrong(n, U::Form));
         };
         let name = self.let_name(hyps, lets, name)?;
-        let proof = self.proof(sc, hyps, lets, first)?;
+        let proof = self.boxed_proof(sc, hyps, lets, first)?;
         lets.push(name)?;
-        let scope = self.proof(sc, hyps, lets, second)?;
+        let scope = self.boxed_proof(sc, hyps, lets, second)?;
         lets.pop();
-        let proof = ProofBox::new(self.alloc, proof)?;
-        let scope = ProofBox::new(self.alloc, scope)?;
         Ok(Proof::Let(proof, scope))
     }
 
     /// `(T (expr ..) proof ..)`.
+    #[inline(never)]
     #[cycle(proof)]
     fn citation(
         &self,

@@ -448,11 +448,11 @@ const NESTS: &[Nest] = &[
     Nest {
         before: THEOREM,
         open: "(:let k ",
-        count: 2000,
+        count: 4093,
         core: "(A (c))",
         close: " k)",
         after: ")",
-        answer: "6 statements weigh 4016",
+        answer: "6 statements weigh 8202",
     },
     Nest {
         before: "(theorem t () () c () (:conv c ",

@@ -231,7 +231,7 @@ let_proof-returns-in_err-scope-clause-stops t c =
     failed c.from_residual-in_err-scope.result s (λ stop. (h : Node) → Stops stop (proof_asked_by sc hyps lets let_word a h (nodes_from all c.args.rest))) c.from_residual-in_err-scope.ensures.1
     (λ h. subst (λ l. Stops s (proof_asked_by sc hyps lets let_word a h l)) (sym c.in-Some.ensures.3)
     (stops_after s (new_asked (hyps ++ lets) x) (proof_asked sc hyps lets y >> proof_asked sc hyps (lets ++ word x ∷ []) z) (new_holds (hyps ++ lets) x c.in_ok-name.name.now c.in_ok-name.ensures.read)
-    (stops_after s (proof_asked sc hyps lets y) (proof_asked sc hyps (lets ++ word x ∷ []) z) (proof_holds sc hyps lets y (proof_view c.in_ok-proof.proof) c.in_ok-proof.ensures.read)
+    (stops_after s (proof_asked sc hyps lets y) (proof_asked sc hyps (lets ++ word x ∷ []) z) (proof_holds sc hyps lets y c.in_ok-proof.proof c.in_ok-proof.ensures.read)
     (subst (λ ls. Stops s (proof_asked sc hyps ls z))
     (c.in_ok-push.ensures ∙ ap (λ ls. ls ++ c.in_ok-name.name.now ∷ []) c.in_ok-proof.ensures.same ∙ ap (λ w. lets ++ w ∷ []) (new_name_word (hyps ++ lets) x c.in_ok-name.name.now c.in_ok-name.ensures.read))
     c.in_err-scope.ensures.stops))))

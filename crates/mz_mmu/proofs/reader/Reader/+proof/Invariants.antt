@@ -12,6 +12,9 @@ use Rattle.mz_mmu.proofs.reader.Reader.+proof.Given as goal
 abbrev pub decreases-proof : goal.decreases-proof
 decreases-proof l = 2 * node_size (node_at l.self.now.nodes.now l.n)
 
+abbrev pub decreases-boxed_proof : goal.decreases-boxed_proof
+decreases-boxed_proof l = 2 * node_size (node_at l.self.now.nodes.now l.n) + 1
+
 abbrev pub decreases-conv_proof : goal.decreases-conv_proof
 decreases-conv_proof l = 2 * nodes_size (nodes_from l.self.now.nodes.now l.rest) + 1
 
