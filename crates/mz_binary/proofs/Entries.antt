@@ -1,5 +1,5 @@
 -- A statement whose checks hold, as an entry of a list of rows with their bodies.
-use Rattle.std.proofs.Common.{◌≡◌, ◌<◌, ◌+◌, ◌*◌, ℕ, Bool, true, false, cond, List, length, drop, Some, None, refl, sym, subst}
+use Rattle.std.proofs.Common.{◌≡◌, ◌+◌, ◌*◌, ℕ, Bool, true, false, cond, List, length, drop, Some, None, refl}
 use Rattle.std.specs.Prelude.{MatchBool, ⊤}
 use Rattle.mz_checks.specs.Checks.{Checks, AllHold, demand}
 use Rattle.mz_checks.proofs.InOrder.{all_hold-first, all_hold-rest, all_hold-rows}
@@ -11,17 +11,17 @@ use Rattle.mz_logic.specs.Words.{binders_of, result_of}
 use Rattle.mz_logic.specs.declared.binder.SortMods.{SortMods}
 use Rattle.mz_logic.specs.declared.word.Word.{Word}
 use Rattle.mz_logic.proofs.WordsAsParams.{words_say_results}
-use Rattle.mz_layout.specs.Tables.{TermRow as TermRecord, term_count, thm_count, mods_of, term_row, thm_row}
+use Rattle.mz_layout.specs.Tables.{TermRow as TermRecord, mods_of, term_row, thm_row}
 use Rattle.mz_unify.specs.Profile.{strict}
 use Rattle.mz_machine.specs.Tables.{Tables, Heading}
 use Rattle.mz_machine.specs.Bodies.{Runs, body_checks}
 use Rattle.mz_machine.specs.Sound.{AreRowParams, IsRowResult}
 use Rattle.mz_machine.specs.Lists.{Body, Entry, a_sort, a_term, an_assertion, definition_of, assertion_of, BodyIsGood, IsGoodEntry}
 use Rattle.mz_machine.proofs.Outcomes.{bodies-checked}
-use Rattle.mz_binary.specs.RowWords.{param_check, param_checks, word_checks, IsResultWord}
-use Rattle.mz_binary.specs.FileRows.{Taken, stream_of, term_of_file, thm_of_file, rows_taken}
-use Rattle.mz_binary.specs.Checking.{Reads, all_kinds, sorts_and_terms, if_all_kinds, body_bytes, term_body_checks, term_checks_by, thm_checks, kind_checks_by}
-use Rattle.mz_binary.proofs.RightWords.{right-words}
+use Rattle.mz_machine.specs.RowWords.{param_check, param_checks, word_checks, IsResultWord}
+use Rattle.mz_machine.specs.FileRows.{Taken, stream_of, term_of_file, thm_of_file, rows_taken, body_bytes}
+use Rattle.mz_binary.specs.Checking.{term_body_checks, term_checks, thm_checks, kind_checks}
+use Rattle.mz_machine.proofs.RightWords.{right-words}
 
 -- the body of a statement
 abbrev pub body_of : List ℕ → ℕ → ℕ → Body
@@ -68,21 +68,12 @@ module _ (file : List ℕ) (taken : Taken) (at body next : ℕ) where
   body-good true false stream all mark = absurd (let bad : false ≡ true = mark in cc)
   body-good false false stream all mark = refl
 
-  term-good : (is_local : Bool) → AllHold (term_checks_by all_kinds file taken at body next is_local) → IsGoodEntry (rows_taken file taken) (a_term is_local (term_of_file file taken.terms) (body_of file body next))
+  term-good : (is_local : Bool) → AllHold (term_checks file taken at body next is_local) → IsGoodEntry (rows_taken file taken) (a_term is_local (term_of_file file taken.terms) (body_of file body next))
   term-good is_local (_, (mark, all)) =
       let row : TermRecord = term_row file taken.terms in
       let words = all_hold-first (word_checks taken.sorts row) (term_body_checks file taken at body next (stream_of file row)) all in
       let run = all_hold-rest (word_checks taken.sorts row) (term_body_checks file taken at body next (stream_of file row)) all in
       (term-params taken.sorts row words, term-result taken.sorts row words, body-good is_local row.words.has_body (drop row.stream_at file) run mark)
-
-  plain-good : AllHold (term_checks_by sorts_and_terms file taken at body next false) → IsGoodEntry (rows_taken file taken) (a_term false (term_of_file file taken.terms) (body_of file body next))
-  plain-good (_, (plain, all)) =
-      let row : TermRecord = term_row file taken.terms in
-      let words = all_hold-first (word_checks taken.sorts row) (term_body_checks file taken at body next None) all in (
-        term-params taken.sorts row words,
-        term-result taken.sorts row words,
-        subst (λ b. BodyIsGood (rows_taken file taken) false (term_of_file file taken.terms) (body_of file body next) (cond b (Some (drop row.stream_at file)) None)) (sym plain) refl,
-      )
 
   thm-good : (is_local without_proof : Bool) → (is_local ≡ true → without_proof ≡ false) → AllHold (thm_checks file taken at body next without_proof)
       → IsGoodEntry (rows_taken file taken) (an_assertion is_local without_proof (thm_of_file file taken.thms) (body_of file body next))
@@ -92,28 +83,10 @@ module _ (file : List ℕ) (taken : Taken) (at body next : ℕ) where
       let words = all_hold-first (param_checks taken.sorts row.words_at row.params) run all in
       (mark, row-params taken.sorts row.words_at row.params words, runs-of (rows_taken file taken) (assertion_of without_proof (thm_of_file file taken.thms)) body (body_bytes file body next) (all_hold-rest (param_checks taken.sorts row.words_at row.params) run all))
 
-  entry-good-of-all : (k : StatementCode) → AllHold (kind_checks_by all_kinds file taken at body next (Some k)) → IsGoodEntry (rows_taken file taken) (entry_of file taken body next k)
-  entry-good-of-all codes.Sort all = tt
-  entry-good-of-all codes.Term all = term-good false all
-  entry-good-of-all codes.LocalDefinition all = term-good true all
-  entry-good-of-all codes.Axiom all = thm-good false true (λ e. absurd cc) all
-  entry-good-of-all codes.Theorem all = thm-good false false (λ e. refl) all
-  entry-good-of-all codes.LocalTheorem all = thm-good true false (λ e. refl) all
-
-  pub entry-good : (reads : Reads) (k : StatementCode) → AllHold (kind_checks_by reads file taken at body next (Some k)) → IsGoodEntry (rows_taken file taken) (entry_of file taken body next k)
-  entry-good all_kinds k all = entry-good-of-all k all
-  entry-good sorts_and_terms codes.Sort all = tt
-  entry-good sorts_and_terms codes.Term all = plain-good all
-  entry-good sorts_and_terms codes.LocalDefinition all = absurd all.0
-  entry-good sorts_and_terms codes.Axiom all = absurd all.0
-  entry-good sorts_and_terms codes.Theorem all = absurd all.0
-  entry-good sorts_and_terms codes.LocalTheorem all = absurd all.0
-
-  -- the row of an axiom or a theorem is there
-  pub row-there : (reads : Reads) (without_proof : Bool) → AllHold (if_all_kinds reads at (thm_checks file taken at body next without_proof)) → taken.thms < thm_count file
-  row-there all_kinds without_proof all = all.0
-  row-there sorts_and_terms without_proof all = absurd all.0
-
-  pub local-row-there : (reads : Reads) → AllHold (if_all_kinds reads at (term_checks_by all_kinds file taken at body next true)) → taken.terms < term_count file
-  local-row-there all_kinds all = all.0
-  local-row-there sorts_and_terms all = absurd all.0
+  pub entry-good : (k : StatementCode) → AllHold (kind_checks file taken at body next (Some k)) → IsGoodEntry (rows_taken file taken) (entry_of file taken body next k)
+  entry-good codes.Sort all = tt
+  entry-good codes.Term all = term-good false all
+  entry-good codes.LocalDefinition all = term-good true all
+  entry-good codes.Axiom all = thm-good false true (λ e. absurd cc) all
+  entry-good codes.Theorem all = thm-good false false (λ e. refl) all
+  entry-good codes.LocalTheorem all = thm-good true false (λ e. refl) all

@@ -11,7 +11,6 @@ use Rattle.mz_cmd.specs.declared.statement.StmtAt.{StmtAt}
 use Rattle.mz_cmd.specs.declared.statement.StmtAt.TheVariants.{End, Head}
 use Rattle.mz_cmd.specs.declared.statement.StmtFault.{StmtFault}
 use Rattle.mz_cmd.specs.Codes.{statement_code}
-use Rattle.mz_cmd.specs.Reading.{command_at}
 use Rattle.mz_cmd.specs.StatementList.{statement_at}
 use Rattle.mz_layout.specs.Tables.{TermRow as TermRecord, list_at, sort_count, term_count, thm_count, term_row, thm_row}
 use Rattle.mz_unify.specs.Steps.{◌>>=◌, ◌>>◌ as ◌then◌}
@@ -22,18 +21,17 @@ use Rattle.mz_machine.specs.Bodies.{body_run, body_steps, body_start}
 use Rattle.mz_machine.specs.Laws.{StreamsWithin}
 use Rattle.mz_machine.specs.Lists.{assertion_of}
 use Rattle.mz_machine.proofs.BodyRuns.{steps-le}
-use Rattle.mz_binary.specs.FileRows.{Taken, nothing_taken, stream_of, term_of_file, thm_of_file, rows_taken}
-use Rattle.mz_binary.specs.Checking.{Reads, all_kinds, sorts_and_terms, stream_read, body_bytes}
-use Rattle.mz_binary.specs.FileRun.{Passing, test, test_params, test_words, is_empty_body, with_sort, with_term, with_thm, all_taken, test_read, may_stand, found_if_all_kinds, Found, list_ends, stands_alone, has_body, onward, if_runs, run_found, find_sort, find_term_body, find_term, find_thm, find_kind, find_of, find_at, test_layout, found_steps, follow_steps, list_steps, steps_after}
+use Rattle.mz_machine.specs.FileRows.{Taken, nothing_taken, stream_of, term_of_file, thm_of_file, rows_taken, body_bytes}
+use Rattle.mz_binary.specs.FileRun.{Passing, test, test_params, test_words, is_empty_body, with_sort, with_term, with_thm, all_taken, may_stand, Found, list_ends, stands_alone, has_body, onward, if_runs, run_found, find_sort, find_term_body, find_term, find_thm, find_kind, find_of, find_at, test_layout, found_steps, follow_steps, list_steps, steps_after}
 use Rattle.mz_binary.specs.WholeLaws.{StepsOfAFile}
 use Rattle.mz_binary.proofs.Heads.{head-at}
 
-times-grow : (b m k : ℕ) → b ≤ m → b * k ≤ m * k
+pub times-grow : (b m k : ℕ) → b ≤ m → b * k ≤ m * k
 times-grow zero m k le = omega arith
 times-grow (suc b) zero k le = absurd (omega arith)
 times-grow (suc b) (suc m) k le = omega (arith, suc-mul b k, suc-mul m k, times-grow b m k (omega arith))
 
-add-times : (a b k : ℕ) → (a + b) * k ≡ a * k + b * k
+pub add-times : (a b k : ℕ) → (a + b) * k ≡ a * k + b * k
 add-times zero b k = let e : zero + b ≡ b = omega arith in ap (λ z. z * k) e ∙ omega arith
 add-times (suc a) b k = let e : suc a + b ≡ suc (a + b) = omega arith in ap (λ z. z * k) e ∙ omega (arith, suc-mul (a + b) k, suc-mul a k, add-times a b k)
 
@@ -86,18 +84,14 @@ module _ (file : List ℕ) (body next : ℕ) where
       let empty : Passing = test (is_empty_body (body_bytes file body next)) (at, rules.StatementLength) in
       then-within (test (nat_lt (length taken.sorts) (sort_count file)) (at, rules.NoRow)) (empty then last) (then-within empty last refl)
 
-  read-within : (reads : Reads) (taken : Taken) (at : ℕ) (b : Bool) (s : ℕ) → Within file body next (find_term_body file taken at body next (stream_read reads (cond b (Some (drop s file)) None)))
-  read-within all_kinds taken at b s = term-body-within taken at b s
-  read-within sorts_and_terms taken at b s = term-body-within taken at false s
-
-  term-within : (reads : Reads) (taken : Taken) (at : ℕ) (l : Bool) → Within file body next (find_term reads file taken at body next l)
-  term-within reads taken at l =
+  term-within : (taken : Taken) (at : ℕ) (l : Bool) → Within file body next (find_term file taken at body next l)
+  term-within taken at l =
       let row : TermRecord = term_row file taken.terms in
-      let run : Result Found (ℕ × K) = find_term_body file taken at body next (stream_read reads (stream_of file row)) in
+      let run : Result Found (ℕ × K) = find_term_body file taken at body next (stream_of file row) in
       let words : Passing = test_words taken.sorts row in
-      let mark : Passing = test (may_stand reads l row.words.has_body) (at, rules.StatementKind) in
+      let mark : Passing = test (may_stand l row.words.has_body) (at, rules.StatementKind) in
       then-within (test (nat_lt taken.terms (term_count file)) (at, rules.NoRow)) (mark then (words then run))
-      (then-within mark (words then run) (then-within words run (read-within reads taken at row.words.has_body row.stream_at)))
+      (then-within mark (words then run) (then-within words run (term-body-within taken at row.words.has_body row.stream_at)))
 
   thm-within : (taken : Taken) (at : ℕ) (w : Bool) → Within file body next (find_thm file taken at body next w)
   thm-within taken at w =
@@ -106,26 +100,22 @@ module _ (file : List ℕ) (body next : ℕ) where
       let words : Passing = test_params taken.sorts row.words_at row.params in
       then-within (test (nat_lt taken.thms (thm_count file)) (at, rules.NoRow)) (words then run) (then-within words run (refl, refl, dropped row.stream_at file))
 
-  all-kinds-within : (reads : Reads) (at : ℕ) (r : Result Found (ℕ × K)) → Within file body next r → Within file body next (found_if_all_kinds reads at r)
-  all-kinds-within all_kinds at r w = w
-  all-kinds-within sorts_and_terms at r w = tt
-
-  kind-within : (reads : Reads) (taken : Taken) (at : ℕ) (o : Option StatementCode) → Within file body next (find_kind reads file taken at body next o)
-  kind-within reads taken at None = tt
-  kind-within reads taken at (Some codes.Sort) = sort-within taken at
-  kind-within reads taken at (Some codes.Term) = term-within reads taken at false
-  kind-within reads taken at (Some codes.LocalDefinition) = all-kinds-within reads at (find_term all_kinds file taken at body next true) (term-within all_kinds taken at true)
-  kind-within reads taken at (Some codes.Axiom) = all-kinds-within reads at (find_thm file taken at body next true) (thm-within taken at true)
-  kind-within reads taken at (Some codes.Theorem) = all-kinds-within reads at (find_thm file taken at body next false) (thm-within taken at false)
-  kind-within reads taken at (Some codes.LocalTheorem) = all-kinds-within reads at (find_thm file taken at body next false) (thm-within taken at false)
+  kind-within : (taken : Taken) (at : ℕ) (o : Option StatementCode) → Within file body next (find_kind file taken at body next o)
+  kind-within taken at None = tt
+  kind-within taken at (Some codes.Sort) = sort-within taken at
+  kind-within taken at (Some codes.Term) = term-within taken at false
+  kind-within taken at (Some codes.LocalDefinition) = term-within taken at true
+  kind-within taken at (Some codes.Axiom) = thm-within taken at true
+  kind-within taken at (Some codes.Theorem) = thm-within taken at false
+  kind-within taken at (Some codes.LocalTheorem) = thm-within taken at false
 
 -- ---- a place
 
 -- the commands executed at a place and after it
-abbrev Steps : Reads → List ℕ → Taken → (Taken → ℕ → ℕ) → Result Found (ℕ × K) → ℕ
-Steps reads file taken rest r = found_steps file taken r + follow_steps (r >>= run_found file taken) rest
+abbrev Steps : List ℕ → Taken → (Taken → ℕ → ℕ) → Result Found (ℕ × K) → ℕ
+Steps file taken rest r = found_steps file taken r + follow_steps (r >>= run_found file taken) rest
 
-module _ (reads : Reads) (file : List ℕ) (taken : Taken) (rest : Taken → ℕ → ℕ)
+module _ (file : List ℕ) (taken : Taken) (rest : Taken → ℕ → ℕ)
     (rest-le : (after : Taken) (to : ℕ) → to ≤ length file → rest after to ≤ (length file - to) * (length file + 1)) where
   abbrev n : ℕ
   n = length file
@@ -140,7 +130,7 @@ module _ (reads : Reads) (file : List ℕ) (taken : Taken) (rest : Taken → ℕ
   if-le (Ok x) after to bound le = le
   if-le (Err f) after to bound le = omega arith
 
-  found-le : (at body next : ℕ) (r : Result Found (ℕ × K)) → at ≤ body → body ≤ next → next ≤ n → Within file body next r → Steps reads file taken rest r ≤ (n - at) * (n + 1)
+  found-le : (at body next : ℕ) (r : Result Found (ℕ × K)) → at ≤ body → body ≤ next → next ≤ n → Within file body next r → Steps file taken rest r ≤ (n - at) * (n + 1)
   found-le at body next (Err f) p q l w = omega arith
   found-le at body next (Ok list_ends) p q l w = omega arith
   found-le at body next (Ok (stands_alone after to)) p q l w =
@@ -153,38 +143,34 @@ module _ (reads : Reads) (file : List ℕ) (taken : Taken) (rest : Taken → ℕ
       two-parts at body next (body_steps strict (rows_taken file taken) h place bytes) _ p q l within
       (if-le (body_run strict (rows_taken file taken) h place bytes) after to _ (subst (λ (z : ℕ). rest after to ≤ (n - z) * (n + 1)) to-is (rest-le after to (omega (arith, to-is)))))
 
-  by-place : (at : ℕ) (there : Result StmtAt StmtFault) → statement_at file at ≡ there → Steps reads file taken rest (find_of reads file taken at there) ≤ (n - at) * (n + 1)
+  by-place : (at : ℕ) (there : Result StmtAt StmtFault) → statement_at file at ≡ there → Steps file taken rest (find_of file taken at there) ≤ (n - at) * (n + 1)
   by-place at (Err f) is = omega arith
   by-place at (Ok End) is = ends-le (test (all_taken file taken) (at, rules.RowsLeft))
     where
-      ends-le : (x : Passing) → Steps reads file taken rest (x then Ok list_ends) ≤ (n - at) * (n + 1)
+      ends-le : (x : Passing) → Steps file taken rest (x then Ok list_ends) ≤ (n - at) * (n + 1)
       ends-le (Ok p) = omega arith
       ends-le (Err f) = omega arith
   by-place at (Ok (Head code body next)) is =
       let head = head-at file at code body next is in
-      found-le at body next (find_kind reads file taken at body next (statement_code code)) head.before head.order head.within (kind-within file body next reads taken at (statement_code code))
+      found-le at body next (find_kind file taken at body next (statement_code code)) head.before head.order head.within (kind-within file body next taken at (statement_code code))
 
-  tested-le : (bound : ℕ) (x : Passing) (y : Result Found (ℕ × K)) → Steps reads file taken rest y ≤ bound → Steps reads file taken rest (x then y) ≤ bound
-  tested-le bound (Ok p) y le = le
-  tested-le bound (Err f) y le = omega arith
-
-  place-le : (at : ℕ) → Steps reads file taken rest (find_at reads file taken at) ≤ (n - at) * (n + 1)
+  place-le : (at : ℕ) → Steps file taken rest (find_at file taken at) ≤ (n - at) * (n + 1)
   unfolding find_at
-  place-le at = tested-le ((n - at) * (n + 1)) (test_read reads at (command_at file at)) (find_of reads file taken at (statement_at file at)) (by-place at (statement_at file at) refl)
+  place-le at = by-place at (statement_at file at) refl
 
 -- ---- the list, and the file
 
-list-le : (reads : Reads) (file : List ℕ) (bound : ℕ) (taken : Taken) (at : ℕ) → list_steps reads file bound taken at ≤ (length file - at) * (length file + 1)
+list-le : (file : List ℕ) (bound : ℕ) (taken : Taken) (at : ℕ) → list_steps file bound taken at ≤ (length file - at) * (length file + 1)
 unfolding list_steps
-list-le reads file zero taken at = omega arith
-list-le reads file (suc bound) taken at = place-le reads file taken (λ after next. list_steps reads file bound after next) (λ after to le. list-le reads file bound after to) at
+list-le file zero taken at = omega arith
+list-le file (suc bound) taken at = place-le file taken (λ after next. list_steps file bound after next) (λ after to le. list-le file bound after to) at
 
 pub steps-of-file : StepsOfAFile
-steps-of-file reads file = go (test_layout file)
+steps-of-file file = go (test_layout file)
   where
-    go : (r : Passing) → steps_after r (list_steps reads file (length file + 1) nothing_taken (list_at file)) ≤ length file * length file + length file
+    go : (r : Passing) → steps_after r (list_steps file (length file + 1) nothing_taken (list_at file)) ≤ length file * length file + length file
     go (Err f) = omega arith
     go (Ok x) =
         let one : length file + 1 ≡ suc (length file) = omega arith in
         let square : length file * (length file + 1) ≡ length file * length file + length file = ap (λ (z : ℕ). length file * z) one ∙ mul-suc (length file) (length file) in
-        omega (arith, list-le reads file (length file + 1) nothing_taken (list_at file), times-grow (length file - list_at file) (length file) (length file + 1) (omega arith), square)
+        omega (arith, list-le file (length file + 1) nothing_taken (list_at file), times-grow (length file - list_at file) (length file) (length file + 1) (omega arith), square)

@@ -18,23 +18,15 @@ use Rattle.mz_machine.specs.Tables.{Tables, Declares}
 use Rattle.mz_machine.specs.Sound.{cites_as}
 use Rattle.mz_machine.specs.Lists.{Entry, with_entry, SpellsEntry, an_assertion, ProvedByBody}
 use Rattle.mz_machine.proofs.Lists.{follows}
-use Rattle.mz_binary.specs.FileRows.{Taken, taken_by, term_of_file, thm_of_file, rows_taken}
+use Rattle.mz_machine.specs.FileRows.{Taken, taken_by, term_of_file, thm_of_file, rows_taken, body_bytes}
 use Rattle.mz_binary.specs.Spelling.{IsKindOf, is_local_code, SpellsRow, IsSpelled}
-use Rattle.mz_binary.specs.Checking.{Reads, body_bytes, kind_checks_by}
-use Rattle.mz_binary.specs.FileRun.{with_sort, with_term, with_thm}
+use Rattle.mz_binary.specs.Checking.{kind_checks}
+use Rattle.mz_binary.specs.FileRun.{with_sort, with_term, with_thm, after_kind}
 use Rattle.mz_binary.proofs.Heads.{code-is}
 use Rattle.mz_binary.proofs.Declared.{sorts-append, terms-append, assertions-append}
-use Rattle.mz_binary.proofs.Entries.{body_of, entry_of, entry-good, row-there, local-row-there}
+use Rattle.mz_binary.proofs.Entries.{body_of, entry_of, entry-good}
 
 -- ---- the rows taken after a statement
-
-abbrev pub after_kind : List ℕ → Taken → StatementCode → Taken
-after_kind file taken codes.Sort = with_sort file taken
-after_kind file taken codes.Term = with_term taken
-after_kind file taken codes.LocalDefinition = with_term taken
-after_kind file taken codes.Axiom = with_thm taken
-after_kind file taken codes.Theorem = with_thm taken
-after_kind file taken codes.LocalTheorem = with_thm taken
 
 range-more : (from n : ℕ) → range_with_len from (n + 1) ≡ range_with_len from n ++ (from + n) ∷ []
 range-more from n = let one : n + 1 ≡ suc n = omega arith in ap (range_with_len from) one ∙ go from n
@@ -67,7 +59,7 @@ module _ (file : List ℕ) (taken : Taken) (body next : ℕ) where
 
 -- ---- the environment after a statement
 
-same-taken : (a b : Taken) → a.sorts ≡ b.sorts → a.terms ≡ b.terms → a.thms ≡ b.thms → a ≡ b
+pub same-taken : (a b : Taken) → a.sorts ≡ b.sorts → a.terms ≡ b.terms → a.thms ≡ b.thms → a ≡ b
 same-taken a b s t u =
     ap (λ z. record { sorts = z; terms = a.terms; thms = a.thms }) s ∙ ap (λ z. record { sorts = b.sorts; terms = z; thms = a.thms }) t
     ∙ ap (λ z. record { sorts = b.sorts; terms = b.terms; thms = z }) u
@@ -129,20 +121,20 @@ module _ (file : List ℕ) (env : List Declaration) (at code body next : ℕ) (s
   theorem-kind : (a : Assertion) → a.is_axiom ≡ false → (code ≡ 0x06) ⊎ (code ≡ 0x0E) → IsKindOf code (assertion_decl a)
   theorem-kind a is e = subst (λ b. MatchBool b (code ≡ 0x02) ((code ≡ 0x06) ⊎ (code ≡ 0x0E))) (sym is) e
 
-  spelled-as : (reads : Reads) (k : StatementCode) (s : Statement) → code ≡ statement_byte k → AllHold (kind_checks_by reads file (taken_by env) at body next (Some k))
+  spelled-as : (k : StatementCode) (s : Statement) → code ≡ statement_byte k → AllHold (kind_checks file (taken_by env) at body next (Some k))
       → SpellsEntry (signatures env) (entry_of file (taken_by env) body next k) s → Spelled k s
-  spelled-as reads codes.Sort s e all (local-is, decl-is) =
+  spelled-as codes.Sort s e all (local-is, decl-is) =
       as-declared codes.Sort s _ false decl-is local-is (mark-of 0x04 false e refl) e (slice_get-sorts file (length (sorts env)) all.0) (after-sort env file)
-  spelled-as reads codes.Term s e all (local-is, (d, decl-is, spells)) =
+  spelled-as codes.Term s e all (local-is, (d, decl-is, spells)) =
       as-declared codes.Term s _ false decl-is local-is (mark-of 0x05 false e refl) (inl e) (all.0, spells) (after-term env d)
-  spelled-as reads codes.LocalDefinition s e all (local-is, (d, decl-is, spells)) =
-      as-declared codes.LocalDefinition s _ true decl-is local-is (mark-of 0x0D true e refl) (inr e) (local-row-there file (taken_by env) at body next reads all, spells) (after-term env d)
-  spelled-as reads codes.Axiom s e all (local-is, (a, decl-is, is, spells)) =
-      as-declared codes.Axiom s _ false decl-is local-is (mark-of 0x02 false e refl) (axiom-kind a is e) (row-there file (taken_by env) at body next reads true all, spells) (after-thm env a)
-  spelled-as reads codes.Theorem s e all (local-is, (a, decl-is, is, spells)) =
-      as-declared codes.Theorem s _ false decl-is local-is (mark-of 0x06 false e refl) (theorem-kind a is (inl e)) (row-there file (taken_by env) at body next reads false all, spells) (after-thm env a)
-  spelled-as reads codes.LocalTheorem s e all (local-is, (a, decl-is, is, spells)) =
-      as-declared codes.LocalTheorem s _ true decl-is local-is (mark-of 0x0E true e refl) (theorem-kind a is (inr e)) (row-there file (taken_by env) at body next reads false all, spells) (after-thm env a)
+  spelled-as codes.LocalDefinition s e all (local-is, (d, decl-is, spells)) =
+      as-declared codes.LocalDefinition s _ true decl-is local-is (mark-of 0x0D true e refl) (inr e) (all.0, spells) (after-term env d)
+  spelled-as codes.Axiom s e all (local-is, (a, decl-is, is, spells)) =
+      as-declared codes.Axiom s _ false decl-is local-is (mark-of 0x02 false e refl) (axiom-kind a is e) (all.0, spells) (after-thm env a)
+  spelled-as codes.Theorem s e all (local-is, (a, decl-is, is, spells)) =
+      as-declared codes.Theorem s _ false decl-is local-is (mark-of 0x06 false e refl) (theorem-kind a is (inl e)) (all.0, spells) (after-thm env a)
+  spelled-as codes.LocalTheorem s e all (local-is, (a, decl-is, is, spells)) =
+      as-declared codes.LocalTheorem s _ true decl-is local-is (mark-of 0x0E true e refl) (theorem-kind a is (inr e)) (all.0, spells) (after-thm env a)
 
   no-assertion : (d : Declaration) (a : Assertion) (m : SortMods) → d ≡ sort_decl m → d ≡ assertion_decl a → ⊥
   no-assertion d a m e f = let bad : sort_decl m ≡ assertion_decl a = sym e ∙ f in cc
@@ -162,13 +154,13 @@ module _ (file : List ℕ) (env : List Declaration) (at code body next : ℕ) (s
   proved-as codes.Theorem s spells proved a is theorem = by-body false false s proved a is theorem
   proved-as codes.LocalTheorem s spells proved a is theorem = by-body true false s proved a is theorem
 
-  pub followed : (reads : Reads) (k : StatementCode) → statement_code code ≡ Some k → IsLegalEnv env → Declares (rows_taken file (taken_by env)) env
-      → AllHold (kind_checks_by reads file (taken_by env) at body next (Some k)) → FollowedBy file env at body next k
+  pub followed : (k : StatementCode) → statement_code code ≡ Some k → IsLegalEnv env → Declares (rows_taken file (taken_by env)) env
+      → AllHold (kind_checks file (taken_by env) at body next (Some k)) → FollowedBy file env at body next k
   unfolding Spelled
-  followed reads k is legal-env declares all =
+  followed k is legal-env declares all =
       let tables : Tables = rows_taken file (taken_by env) in
       let e : Entry = entry_of file (taken_by env) body next k in
-      let (s, spells, legal, proved, grown) = follows tables env legal-env declares e (entry-good file (taken_by env) at body next reads k all) in
-      let (spelled, taken) = spelled-as reads k s (code-is k code is) all spells in
+      let (s, spells, legal, proved, grown) = follows tables env legal-env declares e (entry-good file (taken_by env) at body next k all) in
+      let (spelled, taken) = spelled-as k s (code-is k code is) all spells in
       let rows : rows_taken file (taken_by (env ++ s.decl ∷ [])) ≡ with_entry tables e = ap (rows_taken file) taken ∙ rows-after file (taken_by env) body next k in
       record { statement = s; spelled = spelled; legal = legal; proved = proved-as k s spells proved; taken = taken; declares = subst (λ z. Declares z (env ++ s.decl ∷ [])) (sym rows) grown }

@@ -90,3 +90,10 @@ head-at file at kind body next e =
       within = f.2.within;
       further = omega (arith, f.2.body_is, f.2.order, len);
     }
+
+abbrev there_is : StmtAt → Result StmtAt StmtFault
+there_is there = Ok there
+
+-- what was read in a file that is this one
+pub stands-here : (read file : List ℕ) (at : ℕ) (there same_there : StmtAt) → read ≡ file → Ok there ≡ statement_at read at → there ≡ same_there → statement_at file at ≡ Ok same_there
+stands-here read file at there same_there same stands is = subst (λ f. statement_at f at ≡ there_is same_there) same (sym stands ∙ ap there_is is)

@@ -9,14 +9,11 @@ use Rattle.mz_cmd.specs.declared.statement.StmtAt.{StmtAt}
 use Rattle.mz_cmd.specs.declared.statement.StmtAt.TheVariants.{End, Head}
 use Rattle.mz_cmd.specs.declared.statement.StmtFault.{StmtFault}
 use Rattle.mz_cmd.specs.Codes.{statement_code}
-use Rattle.mz_cmd.specs.Reading.{command_at}
 use Rattle.mz_cmd.specs.StatementList.{statement_at}
 use Rattle.mz_unify.specs.Steps.{◌>>=◌, ◌>>◌ as ◌then◌}
-use Rattle.mz_binary.specs.FileRows.{Taken, term_of_file}
+use Rattle.mz_machine.specs.FileRows.{Taken, term_of_file, body_bytes}
 use Rattle.mz_layout.specs.Tables.{TermRow as TermRecord, sort_count, term_count, thm_count, term_row, thm_row}
-use Rattle.mz_binary.specs.Checking.{Reads, all_kinds, sorts_and_terms, stream_read, body_bytes}
-use Rattle.mz_binary.specs.FileRun.{Passing, test, test_params, test_words, is_empty_body, Found, list_ends, stands_alone, has_body, Onward, ended, onward, if_runs, run_found, run_place, find_term_body, find_term, find_thm, find_kind, find_of, find_at, may_stand, found_if_all_kinds, test_read, with_sort, with_term, with_thm}
-use Rattle.mz_binary.proofs.Following.{after_kind}
+use Rattle.mz_binary.specs.FileRun.{Passing, test, test_params, test_words, is_empty_body, Found, list_ends, stands_alone, has_body, Onward, ended, onward, if_runs, run_found, run_place, find_term_body, find_term, find_thm, find_kind, find_of, find_at, may_stand, with_sort, with_term, with_thm, after_kind}
 
 abbrev found : Found → Result Found (ℕ × K)
 found f = Ok f
@@ -24,7 +21,7 @@ found f = Ok f
 abbrev on : Onward → Result Onward (ℕ × K)
 on o = Ok o
 
-then-ok : {A : Type 0} (x : Passing) (y : Result A (ℕ × K)) (z : A) → (x then y) ≡ Ok z → y ≡ Ok z
+pub then-ok : {A : Type 0} (x : Passing) (y : Result A (ℕ × K)) (z : A) → (x then y) ≡ Ok z → y ≡ Ok z
 then-ok (Ok p) y z e = e
 then-ok (Err r) y z e = absurd cc
 
@@ -32,7 +29,7 @@ bind-ok : (x : Result Found (ℕ × K)) (f : Found → Result Onward (ℕ × K))
 bind-ok (Ok y) f z e = (y, refl, e)
 bind-ok (Err r) f z e = absurd cc
 
-found-is : (f g : Found) → found f ≡ found g → f ≡ g
+pub found-is : (f g : Found) → found f ≡ found g → f ≡ g
 found-is f g e = cc
 
 on-is : (a b : Onward) → on a ≡ on b → a ≡ b
@@ -62,12 +59,12 @@ module _ (file : List ℕ) (taken : Taken) (at body next : ℕ) where
   term-body None f e = ap goes_to (sym (found-is (stands_alone (with_term taken) next) f (then-ok _ _ f e)))
   term-body (Some stream) f e = ap goes_to (sym (found-is _ f e))
 
-  term : (reads : Reads) (is_local : Bool) (f : Found) → find_term reads file taken at body next is_local ≡ Ok f → goes_to f ≡ Some (with_term taken, next)
-  term reads is_local f e =
+  term : (is_local : Bool) (f : Found) → find_term file taken at body next is_local ≡ Ok f → goes_to f ≡ Some (with_term taken, next)
+  term is_local f e =
       let row : TermRecord = term_row file taken.terms in
-      term-body (stream_read reads (term_of_file file taken.terms).stream) f
+      term-body (term_of_file file taken.terms).stream f
       (then-ok (test_words taken.sorts row) _ f
-      (then-ok (test (may_stand reads is_local row.words.has_body) (at, rules.StatementKind)) _ f
+      (then-ok (test (may_stand is_local row.words.has_body) (at, rules.StatementKind)) _ f
       (then-ok (test (nat_lt taken.terms (term_count file)) (at, rules.NoRow)) _ f e)))
 
   thm : (without_proof : Bool) (f : Found) → find_thm file taken at body next without_proof ≡ Ok f → goes_to f ≡ Some (with_thm taken, next)
@@ -77,19 +74,15 @@ module _ (file : List ℕ) (taken : Taken) (at body next : ℕ) where
       (then-ok (test_params taken.sorts row.words_at row.params) _ f
       (then-ok (test (nat_lt taken.thms (thm_count file)) (at, rules.NoRow)) _ f e))))
 
-  all-kinds : (reads : Reads) (r : Result Found (ℕ × K)) (f : Found) → found_if_all_kinds reads at r ≡ Ok f → r ≡ Ok f
-  all-kinds all_kinds r f e = e
-  all-kinds sorts_and_terms r f e = absurd cc
-
-  kind : (reads : Reads) (k : StatementCode) (f : Found) → find_kind reads file taken at body next (Some k) ≡ Ok f → goes_to f ≡ Some (after_kind file taken k, next)
-  kind reads codes.Sort f e = ap goes_to (sym (found-is (stands_alone (with_sort file taken) next) f
+  kind : (k : StatementCode) (f : Found) → find_kind file taken at body next (Some k) ≡ Ok f → goes_to f ≡ Some (after_kind file taken k, next)
+  kind codes.Sort f e = ap goes_to (sym (found-is (stands_alone (with_sort file taken) next) f
       (then-ok (test (is_empty_body (body_bytes file body next)) (at, rules.StatementLength)) _ f
       (then-ok (test (nat_lt (length taken.sorts) (sort_count file)) (at, rules.NoRow)) _ f e))))
-  kind reads codes.Term f e = term reads false f e
-  kind reads codes.LocalDefinition f e = term all_kinds true f (all-kinds reads _ f e)
-  kind reads codes.Axiom f e = thm true f (all-kinds reads _ f e)
-  kind reads codes.Theorem f e = thm false f (all-kinds reads _ f e)
-  kind reads codes.LocalTheorem f e = thm false f (all-kinds reads _ f e)
+  kind codes.Term f e = term false f e
+  kind codes.LocalDefinition f e = term true f e
+  kind codes.Axiom f e = thm true f e
+  kind codes.Theorem f e = thm false f e
+  kind codes.LocalTheorem f e = thm false f e
 
 -- a statement stands there, after which the list goes on
 pub record GoesOn (file : List ℕ) (taken : Taken) (at : ℕ) (to : Option (Taken × ℕ)) : Type 0 where
@@ -101,28 +94,28 @@ pub record GoesOn (file : List ℕ) (taken : Taken) (at : ℕ) (to : Option (Tak
   pub kind_is : statement_code code ≡ Some kind
   pub leads : to ≡ Some (after_kind file taken kind, next)
 
-module _ (reads : Reads) (file : List ℕ) (taken : Taken) (at : ℕ) where
-  by-kind : (code body next : ℕ) (o : Option StatementCode) (f : Found) → statement_at file at ≡ Ok (Head code body next) → statement_code code ≡ o → find_kind reads file taken at body next o ≡ Ok f → GoesOn file taken at (goes_to f)
+module _ (file : List ℕ) (taken : Taken) (at : ℕ) where
+  by-kind : (code body next : ℕ) (o : Option StatementCode) (f : Found) → statement_at file at ≡ Ok (Head code body next) → statement_code code ≡ o → find_kind file taken at body next o ≡ Ok f → GoesOn file taken at (goes_to f)
   by-kind code body next None f stands is e = absurd cc
-  by-kind code body next (Some k) f stands is e = record { code = code; body = body; next = next; kind = k; stands = stands; kind_is = is; leads = kind file taken at body next reads k f e }
+  by-kind code body next (Some k) f stands is e = record { code = code; body = body; next = next; kind = k; stands = stands; kind_is = is; leads = kind file taken at body next k f e }
 
-  by-place : (there : Result StmtAt StmtFault) (f : Found) → statement_at file at ≡ there → find_of reads file taken at there ≡ Ok f → ((statement_at file at ≡ Ok End) × (goes_to f ≡ None)) ⊎ GoesOn file taken at (goes_to f)
+  by-place : (there : Result StmtAt StmtFault) (f : Found) → statement_at file at ≡ there → find_of file taken at there ≡ Ok f → ((statement_at file at ≡ Ok End) × (goes_to f ≡ None)) ⊎ GoesOn file taken at (goes_to f)
   by-place (Err x) f is e = absurd cc
   by-place (Ok End) f is e = inl (is, ap goes_to (sym (found-is list_ends f (then-ok _ _ f e))))
   by-place (Ok (Head code body next)) f is e = inr (by-kind code body next (statement_code code) f is refl e)
 
-  pub passed : (o : Onward) → run_place reads file taken at ≡ Ok o → ((statement_at file at ≡ Ok End) × (leads o ≡ None)) ⊎ GoesOn file taken at (leads o)
+  pub passed : (o : Onward) → run_place file taken at ≡ Ok o → ((statement_at file at ≡ Ok End) × (leads o ≡ None)) ⊎ GoesOn file taken at (leads o)
   unfolding find_at
   passed o e =
-      let (f, found-there, ran) = bind-ok (find_at reads file taken at) (run_found file taken) o e in
+      let (f, found-there, ran) = bind-ok (find_at file taken at) (run_found file taken) o e in
       let to : goes_to f ≡ leads o = runs-to file taken f o ran in
-      elim (by-place (statement_at file at) f refl (then-ok (test_read reads at (command_at file at)) _ f found-there)) [
+      elim (by-place (statement_at file at) f refl found-there) [
         | inl stops ↦ inl (stops.0, sym to ∙ stops.1)
         | inr goes ↦ inr (record { code = goes.code; body = goes.body; next = goes.next; kind = goes.kind; stands = goes.stands; kind_is = goes.kind_is; leads = sym to ∙ goes.leads })
       ]
 
-  pub ends-there : run_place reads file taken at ≡ Ok ended → statement_at file at ≡ Ok End
+  pub ends-there : run_place file taken at ≡ Ok ended → statement_at file at ≡ Ok End
   ends-there e = elim (passed ended e) [ inl stops ↦ stops.0 | inr goes ↦ absurd (let bad = goes.leads in cc) ]
 
-  pub goes-there : (after : Taken) (next : ℕ) → run_place reads file taken at ≡ Ok (onward after next) → GoesOn file taken at (Some (after, next))
+  pub goes-there : (after : Taken) (next : ℕ) → run_place file taken at ≡ Ok (onward after next) → GoesOn file taken at (Some (after, next))
   goes-there after next e = elim (passed (onward after next) e) [ inl stops ↦ absurd (let bad = stops.1 in cc) | inr goes ↦ goes ]

@@ -1,40 +1,140 @@
 -- Past one statement more.
-use Rattle.std.proofs.Common.{◌≡◌, ◌<◌, ◌≤◌, ◌+◌, ◌∙◌, ℕ, List, [], ◌∷◌, ◌++◌, length, false, refl, sym, ap, subst, arith, length-append}
-use Rattle.mz_checks.specs.Checks.{AllHold, FailsFirst}
+use Rattle.std.proofs.Common.{◌≡◌, ◌⊎◌, ◌<◌, ◌≤◌, ◌+◌, ◌∙◌, ℕ, Bool, true, false, List, [], ◌∷◌, ◌++◌, length, Some, Result, Ok, Err, refl, sym, ap, subst, inl, inr, arith, length-append}
+use Rattle.std.specs.Prelude.{MatchBool, if◌then◌else◌}
+use Rattle.mz_checks.specs.Checks.{AllHold, Judges}
+use Rattle.mz_cmd.specs.declared.code.StatementCode.{StatementCode}
+use Rattle.mz_cmd.specs.declared.code.StatementCode.TheVariants as codes
+use Rattle.mz_cmd.specs.declared.rule.K.{K}
 use Rattle.mz_cmd.specs.declared.rule.Refusal.{Refusal}
-use Rattle.mz_logic.specs.Declaration.{Declaration}
+use Rattle.mz_cmd.specs.declared.statement.StmtAt.TheVariants as there
+use Rattle.mz_cmd.specs.Codes.{statement_byte, statement_code}
+use Rattle.mz_cmd.specs.StatementList.{statement_at}
+use Rattle.mz_logic.specs.Declaration.{Declaration, sort_decl, term_decl, assertion_decl, sorts}
 use Rattle.mz_logic.specs.LegalLists.{Statement}
-use Rattle.mz_layout.specs.Tables.{list_at, sort_count, term_count, thm_count, term_row}
+use Rattle.mz_layout.specs.Tables.{list_at, mods_of, sort_count, term_count, thm_count}
 use Rattle.mz_layout.specs.Layout.{IsBinary}
-use Rattle.mz_binary.specs.declared.statement.Rows.{Rows}
+use Rattle.mz_unify.specs.Steps.{◌>>=◌}
+use Rattle.mz_machine.specs.Tables.{Heading}
+use Rattle.mz_machine.specs.Before.{taken_before}
+use Rattle.mz_binary.specs.declared.place.Head.{Head}
+use Rattle.mz_machine.specs.declared.earlier.Rows.{Rows}
 use Rattle.mz_binary.specs.declared.statement.Statement.{Statement as Told}
-use Rattle.mz_binary.specs.Checking.{list_checks}
-use Rattle.mz_binary.specs.Chains.{IsGoodStatement, GoodTo, IsListEnd}
+use Rattle.mz_machine.specs.FileRows.{Taken, taken_by}
+use Rattle.mz_binary.specs.Spelling.{IsKindOf, HasKind, IsSpelled, is_local_code}
+use Rattle.mz_binary.specs.Checking.{kind_checks, place_checks}
+use Rattle.mz_binary.specs.FileRun.{with_term, with_thm, Found, list_ends, has_body, Onward, ended, onward, after_kind, find_at, run_found, run_place, RunsBody}
+use Rattle.mz_binary.specs.Chains.{IsGoodStatement, GoodTo}
 use Rattle.mz_binary.specs.Good.{Good, FailsAfter}
-use Rattle.mz_binary.specs.Progress.{Progress, HasPassed, HasTaken, CountsRows, IsSortAt, IsTermAt, IsReached, kind_code, row_after}
+use Rattle.mz_binary.specs.Progress.{Progress, HasPassed, CountsRows, IsReached, IsHead, kind_byte, next_row, rows_past, is_local_kind, kind_code, row_after}
 use Rattle.mz_binary.specs.Judging.{Passes}
-use Rattle.mz_binary.proofs.Heads.{head-at}
+use Rattle.mz_binary.proofs.Heads.{head-at, IsHeadAt}
 use Rattle.mz_binary.proofs.ChainLaws.{chain-more}
-use Rattle.mz_binary.proofs.Declared.{counts-sort, counts-term}
 use Rattle.mz_binary.proofs.SortsSoFar.{taken}
-use Rattle.mz_binary.proofs.RowLaws.{the_sort, the_term, good-sort, good-term}
+use Rattle.mz_binary.proofs.PlacesJudged.{place-judged}
+use Rattle.mz_binary.proofs.Inverting.{ends-there}
+use Rattle.mz_binary.proofs.Following.{FollowedBy, followed}
+use Rattle.mz_binary.proofs.LegalChains.{well-chain}
+use Rattle.mz_binary.proofs.WholeFiles.{at-head}
 
--- the checker and what it tells, past a statement of a kind, which took a row
-pub record IsPast (p after : Progress) (told : Told) (rows : Rows) (kind row : ℕ) : Type 0 where
-  pub same_file : after.file ≡ p.file
-  pub one_more : after.passed ≡ p.passed + 1
-  pub rows_are : after.rows ≡ rows
-  pub number : told.number ≡ p.passed + 1
-  pub place : told.at ≡ p.at
-  pub kind_is : told.kind ≡ kind
-  pub row_is : told.row ≡ row
-  pub mark : told.local ≡ false
+-- ---- kinds
 
-abbrev pub sort_more : Rows → Rows
-sort_more rows = record { sorts = rows.sorts + 1; terms = rows.terms; thms = rows.thms }
+pub code-of : (k : StatementCode) → statement_code (statement_byte k) ≡ Some k
+code-of codes.Axiom = refl
+code-of codes.Sort = refl
+code-of codes.Term = refl
+code-of codes.Theorem = refl
+code-of codes.LocalDefinition = refl
+code-of codes.LocalTheorem = refl
 
-abbrev pub term_more : Rows → Rows
-term_more rows = record { sorts = rows.sorts; terms = rows.terms + 1; thms = rows.thms }
+mark-of : (k : StatementCode) → is_local_kind k ≡ is_local_code (statement_byte k)
+mark-of codes.Axiom = refl
+mark-of codes.Sort = refl
+mark-of codes.Term = refl
+mark-of codes.Theorem = refl
+mark-of codes.LocalDefinition = refl
+mark-of codes.LocalTheorem = refl
+
+-- the kind that is told, and the row
+pub record IsTold (rows : Rows) (env : List Declaration) (k : StatementCode) (d : Declaration) : Type 0 where
+  pub kind : kind_byte k ≡ kind_code d
+  pub row : next_row rows k ≡ row_after env d
+
+no-assertion : (code : ℕ) (b : Bool) → (code ≡ 0x04) ⊎ ((code ≡ 0x05) ⊎ (code ≡ 0x0D)) → MatchBool b (code ≡ 0x02) ((code ≡ 0x06) ⊎ (code ≡ 0x0E)) → ⊥
+no-assertion code true (inl e) h = omega arith
+no-assertion code true (inr (inl e)) h = omega arith
+no-assertion code true (inr (inr e)) h = omega arith
+no-assertion code false (inl e) (inl h) = omega arith
+no-assertion code false (inl e) (inr h) = omega arith
+no-assertion code false (inr (inl e)) (inl h) = omega arith
+no-assertion code false (inr (inl e)) (inr h) = omega arith
+no-assertion code false (inr (inr e)) (inl h) = omega arith
+no-assertion code false (inr (inr e)) (inr h) = omega arith
+
+axiom-told : (code : ℕ) (b : Bool) → code ≡ 0x02 → MatchBool b (code ≡ 0x02) ((code ≡ 0x06) ⊎ (code ≡ 0x0E)) → kind_byte codes.Axiom ≡ (if b then 0x02 else 0x06)
+axiom-told code true e h = refl
+axiom-told code false e (inl h) = absurd (omega arith)
+axiom-told code false e (inr h) = absurd (omega arith)
+
+theorem-told : (code : ℕ) (b : Bool) → (code ≡ 0x06) ⊎ (code ≡ 0x0E) → MatchBool b (code ≡ 0x02) ((code ≡ 0x06) ⊎ (code ≡ 0x0E)) → kind_byte codes.Theorem ≡ (if b then 0x02 else 0x06)
+theorem-told code true (inl e) h = absurd (omega arith)
+theorem-told code true (inr e) h = absurd (omega arith)
+theorem-told code false is h = refl
+
+module _ (rows : Rows) (env : List Declaration) (counts : CountsRows rows env) where
+  is-told : (k : StatementCode) (d : Declaration) → IsKindOf (statement_byte k) d → IsTold rows env k d
+  is-told codes.Sort (sort_decl m) h = record { kind = refl; row = counts.sorts_are }
+  is-told codes.Axiom (sort_decl m) h = absurd cc
+  is-told codes.Term (sort_decl m) h = absurd cc
+  is-told codes.Theorem (sort_decl m) h = absurd cc
+  is-told codes.LocalDefinition (sort_decl m) h = absurd cc
+  is-told codes.LocalTheorem (sort_decl m) h = absurd cc
+  is-told codes.Term (term_decl d) h = record { kind = refl; row = counts.terms_are }
+  is-told codes.LocalDefinition (term_decl d) h = record { kind = refl; row = counts.terms_are }
+  is-told codes.Sort (term_decl d) (inl h) = absurd cc
+  is-told codes.Sort (term_decl d) (inr h) = absurd cc
+  is-told codes.Axiom (term_decl d) (inl h) = absurd cc
+  is-told codes.Axiom (term_decl d) (inr h) = absurd cc
+  is-told codes.Theorem (term_decl d) (inl h) = absurd cc
+  is-told codes.Theorem (term_decl d) (inr h) = absurd cc
+  is-told codes.LocalTheorem (term_decl d) (inl h) = absurd cc
+  is-told codes.LocalTheorem (term_decl d) (inr h) = absurd cc
+  is-told codes.Sort (assertion_decl a) h = absurd (no-assertion 0x04 a.is_axiom (inl refl) h)
+  is-told codes.Term (assertion_decl a) h = absurd (no-assertion 0x05 a.is_axiom (inr (inl refl)) h)
+  is-told codes.LocalDefinition (assertion_decl a) h = absurd (no-assertion 0x0D a.is_axiom (inr (inr refl)) h)
+  is-told codes.Axiom (assertion_decl a) h = record { kind = axiom-told 0x02 a.is_axiom refl h; row = counts.thms_are }
+  is-told codes.Theorem (assertion_decl a) h = record { kind = theorem-told 0x06 a.is_axiom (inl refl) h; row = counts.thms_are }
+  is-told codes.LocalTheorem (assertion_decl a) h = record { kind = theorem-told 0x0E a.is_axiom (inr refl) h; row = counts.thms_are }
+
+  -- ---- rows
+
+  counts-sort : (file : List ℕ) (env' : List Declaration) → taken_by env' ≡ after_kind file (taken_by env) codes.Sort → CountsRows (rows_past rows codes.Sort) env'
+  counts-sort file env' e = record {
+    sorts_are = omega (arith, counts.sorts_are, ap (λ (t : Taken). length t.sorts) e, length-append (sorts env) (mods_of file (length (sorts env)) ∷ []));
+    terms_are = counts.terms_are ∙ sym (ap (λ (t : Taken). t.terms) e);
+    thms_are = counts.thms_are ∙ sym (ap (λ (t : Taken). t.thms) e);
+  }
+
+  counts-term : (env' : List Declaration) → taken_by env' ≡ with_term (taken_by env) → CountsRows (rows_past rows codes.Term) env'
+  counts-term env' e = record {
+    sorts_are = counts.sorts_are ∙ sym (ap (λ (t : Taken). length t.sorts) e);
+    terms_are = ap (λ (n : ℕ). n + 1) counts.terms_are ∙ sym (ap (λ (t : Taken). t.terms) e);
+    thms_are = counts.thms_are ∙ sym (ap (λ (t : Taken). t.thms) e);
+  }
+
+  counts-thm : (env' : List Declaration) → taken_by env' ≡ with_thm (taken_by env) → CountsRows (rows_past rows codes.Axiom) env'
+  counts-thm env' e = record {
+    sorts_are = counts.sorts_are ∙ sym (ap (λ (t : Taken). length t.sorts) e);
+    terms_are = counts.terms_are ∙ sym (ap (λ (t : Taken). t.terms) e);
+    thms_are = ap (λ (n : ℕ). n + 1) counts.thms_are ∙ sym (ap (λ (t : Taken). t.thms) e);
+  }
+
+  counts-past : (file : List ℕ) (k : StatementCode) (env' : List Declaration) → taken_by env' ≡ after_kind file (taken_by env) k → CountsRows (rows_past rows k) env'
+  counts-past file codes.Sort env' e = counts-sort file env' e
+  counts-past file codes.Term env' e = counts-term env' e
+  counts-past file codes.LocalDefinition env' e = counts-term env' e
+  counts-past file codes.Axiom env' e = counts-thm env' e
+  counts-past file codes.Theorem env' e = counts-thm env' e
+  counts-past file codes.LocalTheorem env' e = counts-thm env' e
 
 -- all rows of the file are enough for these, and so many statements took them
 pub record RowsWithin (file : List ℕ) (rows : Rows) (passed : ℕ) : Type 0 where
@@ -43,127 +143,173 @@ pub record RowsWithin (file : List ℕ) (rows : Rows) (passed : ℕ) : Type 0 wh
   pub thms_within : rows.thms ≤ thm_count file
   pub many : passed ≡ rows.sorts + rows.terms + rows.thms
 
--- the statement that follows env, good, and of this kind and row
-pub record Follows (p : Progress) (rows : Rows) (kind row next : ℕ) (env : List Declaration) (s : Statement) : Type 0 where
-  pub good : IsGoodStatement p.file env p.at s next
-  pub counts : CountsRows rows (env ++ s.decl ∷ [])
-  pub kind_is : kind ≡ kind_code s.decl
-  pub row_is : row ≡ row_after env s.decl
-  pub mark : s.is_local ≡ false
+module _ (file : List ℕ) (rows : Rows) (env : List Declaration) (counts : CountsRows rows env) (at body next passed : ℕ) (before : RowsWithin file rows passed) where
+  pub within-past : (k : StatementCode) → AllHold (kind_checks file (taken_by env) at body next (Some k)) → RowsWithin file (rows_past rows k) (passed + 1)
+  within-past codes.Sort all = record { sorts_within = omega (arith, all.0, counts.sorts_are); terms_within = before.terms_within; thms_within = before.thms_within; many = omega (arith, before.many) }
+  within-past codes.Term all = record { sorts_within = before.sorts_within; terms_within = omega (arith, all.0, counts.terms_are); thms_within = before.thms_within; many = omega (arith, before.many) }
+  within-past codes.LocalDefinition all = record { sorts_within = before.sorts_within; terms_within = omega (arith, all.0, counts.terms_are); thms_within = before.thms_within; many = omega (arith, before.many) }
+  within-past codes.Axiom all = record { sorts_within = before.sorts_within; terms_within = before.terms_within; thms_within = omega (arith, all.0, counts.thms_are); many = omega (arith, before.many) }
+  within-past codes.Theorem all = record { sorts_within = before.sorts_within; terms_within = before.terms_within; thms_within = omega (arith, all.0, counts.thms_are); many = omega (arith, before.many) }
+  within-past codes.LocalTheorem all = record { sorts_within = before.sorts_within; terms_within = before.terms_within; thms_within = omega (arith, all.0, counts.thms_are); many = omega (arith, before.many) }
 
-module _ (p after : Progress) (told : Told) (rows : Rows) (kind row : ℕ) (past : IsPast p after told rows kind row) (further : p.at < after.at) (within : after.at ≤ length p.file)
-    (s : List Declaration → Statement) (follows : (ss : List Statement) (env : List Declaration) → HasPassed p ss env → Follows p rows kind row after.at env (s env)) where
-  passed : (ss : List Statement) (env : List Declaration) → HasPassed p ss env → HasPassed after (ss ++ s env ∷ []) (env ++ (s env).decl ∷ [])
-  passed ss env before = record {
-    statements = subst (λ file. GoodTo file [] (list_at file) (ss ++ s env ∷ []) (env ++ (s env).decl ∷ []) after.at) (sym past.same_file)
-        (chain-more (IsGoodStatement p.file) [] (list_at p.file) ss env p.at (s env) after.at before.statements (follows ss env before).good);
-    many = omega (arith, past.one_more, before.many, length-append ss (s env ∷ []));
-    rows = subst (λ r. CountsRows r (env ++ (s env).decl ∷ [])) (sym past.rows_are) (follows ss env before).counts;
-  }
+-- ---- what is found runs
 
-  passes : (ss : List Statement) (env : List Declaration) → HasPassed p ss env → Passes p ss env after told
-  passes ss env before =
-      let f = follows ss env before in
+pub run-of : (file : List ℕ) (t : Taken) (at : ℕ) (f : Found) → find_at file t at ≡ Ok f → run_place file t at ≡ run_found file t f
+run-of file t at f e = ap (λ r. r >>= run_found file t) e
+
+-- ---- what stops the checker
+
+module _ (p : Progress) (ss : List Statement) (env : List Declaration) (before : HasPassed p ss env) where
+  -- the place is judged after what env declares
+  judged-here : (r : Result Onward (ℕ × K)) → run_place p.file (taken_before p.file p.rows) p.at ≡ r → Judges r (place_checks p.file (taken_by env) p.at)
+  judged-here r e =
+      subst (λ (x : Result Onward (ℕ × K)). Judges x (place_checks p.file (taken_by env) p.at)) (ap (λ t. run_place p.file t p.at) (taken p ss env before) ∙ e) (place-judged p.file (taken_by env) p.at)
+
+  -- the first rule that fails after the statements before
+  pub fails-here : (refusal : Refusal) → IsReached p → refusal.statement ≡ p.passed + 1 → run_place p.file (taken_before p.file p.rows) p.at ≡ Err (refusal.at, refusal.rule) → FailsAfter p.file ss env p.at refusal
+  fails-here refusal reached number e =
+      record { layout = reached.binary.layout; statements = before.statements; number = omega (arith, number, before.many); fails = judged-here (Err (refusal.at, refusal.rule)) e }
+
+  found-here : (f : Found) → find_at p.file (taken_before p.file p.rows) p.at ≡ Ok f → find_at p.file (taken_by env) p.at ≡ Ok f
+  found-here f e = ap (λ t. find_at p.file t p.at) (taken p ss env before) ∙ e
+
+  -- the list's end after the statements before
+  pub ends-here : IsReached p → find_at p.file (taken_before p.file p.rows) p.at ≡ Ok list_ends → Good p.file ss
+  ends-here reached e =
+      let ran : run_place p.file (taken_by env) p.at ≡ Ok ended = run-of p.file (taken_by env) p.at list_ends (found-here list_ends e) in
       record {
-        statement = s env;
-        good = f.good;
-        passed = passed ss env before;
-        tells = record {
-          number = omega (arith, past.number, before.many);
-          place = past.place;
-          kind = past.kind_is ∙ f.kind_is;
-          row = past.row_is ∙ f.row_is;
-          mark = past.mark ∙ sym f.mark;
+        layout = reached.binary.layout;
+        env = env;
+        to = p.at;
+        statements = before.statements;
+        ends = record {
+          ends = ends-there p.file (taken_by env) p.at ran;
+          passes = subst (λ (x : Result Onward (ℕ × K)). Judges x (place_checks p.file (taken_by env) p.at)) ran (place-judged p.file (taken_by env) p.at);
         };
-        same_file = past.same_file;
-        further = further;
-        within = within;
       }
 
-  reached : IsReached p → RowsWithin p.file rows (p.passed + 1) → IsReached after
-  reached before enough =
+  pub body-here : (after : Taken) (next : ℕ) (h : Heading) (body : ℕ) (bytes : List ℕ) → find_at p.file (taken_before p.file p.rows) p.at ≡ Ok (has_body after next h body bytes) → RunsBody p.file (taken_by env) p.at
+  body-here after next h body bytes e = (after, next, h, body, bytes, found-here (has_body after next h body bytes) e)
+
+  -- ---- a good statement
+
+  module _ (head : Head) (stands : IsHead p.file head) (place : head.at ≡ p.at) (ran : run_place p.file (taken_before p.file p.rows) p.at ≡ Ok (onward (after_kind p.file (taken_before p.file p.rows) head.code) head.next)) where
+    stands-there : statement_at p.file p.at ≡ Ok (there.Head (statement_byte head.code) head.body head.next)
+    stands-there = subst (λ at. statement_at p.file at ≡ Ok (there.Head (statement_byte head.code) head.body head.next)) place stands
+
+    passes-all : AllHold (place_checks p.file (taken_by env) p.at)
+    passes-all = judged-here (Ok (onward (after_kind p.file (taken_before p.file p.rows) head.code) head.next)) ran
+
+    kind-holds : AllHold (kind_checks p.file (taken_by env) p.at head.body head.next (Some head.code))
+    kind-holds = at-head p.file env p.at (statement_byte head.code) head.body head.next head.code stands-there (code-of head.code) passes-all
+
+    follows : FollowedBy p.file env p.at head.body head.next head.code
+    follows =
+        let (legal, declares) = well-chain p.file [] (list_at p.file) ss env p.at before.statements tt (record { sorts_are = refl; terms_are = tt; thms_are = tt }) in
+        followed p.file env p.at (statement_byte head.code) head.body head.next stands-there head.code (code-of head.code) legal declares kind-holds
+
+-- the checker and what it tells, past a statement
+pub record IsPast (p after : Progress) (told : Told) (head : Head) : Type 0 where
+  pub same_file : after.file ≡ p.file
+  pub goes_on : after.at ≡ head.next
+  pub one_more : after.passed ≡ p.passed + 1
+  pub rows_are : after.rows ≡ rows_past p.rows head.code
+  pub number : told.number ≡ p.passed + 1
+  pub place : told.at ≡ p.at
+  pub kind : told.kind ≡ kind_byte head.code
+  pub row : told.row ≡ next_row p.rows head.code
+  pub mark : told.local ≡ is_local_kind head.code
+
+spelled-kind : (file : List ℕ) (env : List Declaration) (at : ℕ) (s : Statement) (next code body : ℕ) → IsSpelled file env at s next → statement_at file at ≡ Ok (there.Head code body next) → HasKind code s
+spelled-kind file env at s next code body sp e =
+    let both : Ok (there.Head sp.code sp.body next) ≡ Ok (there.Head code body next) = sym sp.stands ∙ e in
+    let same : sp.code ≡ code = cc in
+    subst (λ (z : ℕ). HasKind z s) same sp.kind
+
+module _ (p after : Progress) (told : Told) (head : Head) (past : IsPast p after told head) (stands : IsHead p.file head) (place : head.at ≡ p.at)
+    (ran : run_place p.file (taken_before p.file p.rows) p.at ≡ Ok (onward (after_kind p.file (taken_before p.file p.rows) head.code) head.next)) where
+  module _ (ss : List Statement) (env : List Declaration) (before : HasPassed p ss env) where
+    f : FollowedBy p.file env p.at head.body head.next head.code
+    f = follows p ss env before head stands place ran
+
+    abbrev s : Statement
+    s = f.statement
+
+    good : IsGoodStatement p.file env p.at s after.at
+    good = subst (λ (to : ℕ). IsGoodStatement p.file env p.at s to) (sym past.goes_on) (record { spelled = f.spelled; passes = passes-all p ss env before head stands place ran })
+
+    passed : HasPassed after (ss ++ s ∷ []) (env ++ s.decl ∷ [])
+    passed = record {
+      statements = subst (λ file. GoodTo file [] (list_at file) (ss ++ s ∷ []) (env ++ s.decl ∷ []) after.at) (sym past.same_file)
+          (chain-more (IsGoodStatement p.file) [] (list_at p.file) ss env p.at s after.at before.statements good);
+      many = omega (arith, past.one_more, before.many, length-append ss (s ∷ []));
+      rows = subst (λ r. CountsRows r (env ++ s.decl ∷ [])) (sym past.rows_are) (counts-past p.rows env before.rows p.file head.code (env ++ s.decl ∷ []) f.taken);
+    }
+
+    head-is : IsHeadAt p.file p.at (statement_byte head.code) head.body head.next
+    head-is = head-at p.file p.at (statement_byte head.code) head.body head.next (stands-there p ss env before head stands place ran)
+
+    pub passes : Passes p ss env after told
+    passes =
+        let kind : HasKind (statement_byte head.code) s = spelled-kind p.file env p.at s head.next (statement_byte head.code) head.body f.spelled (stands-there p ss env before head stands place ran) in
+        let t : IsTold p.rows env head.code s.decl = is-told p.rows env before.rows head.code s.decl kind.0 in
+        record {
+          statement = s;
+          good = good;
+          passed = passed;
+          tells = record {
+            number = omega (arith, past.number, before.many);
+            place = past.place;
+            kind = past.kind ∙ t.kind;
+            row = past.row ∙ t.row;
+            mark = past.mark ∙ mark-of head.code ∙ sym kind.1;
+          };
+          same_file = past.same_file;
+          further = omega (arith, past.goes_on, head-is.further);
+          within = omega (arith, past.goes_on, head-is.within);
+        }
+
+  pub reached : IsReached p → IsReached after
+  reached r =
+      let (ss, env, before) = r.before in
+      let enough : RowsWithin p.file (rows_past p.rows head.code) (p.passed + 1) = within-past p.file p.rows env before.rows p.at head.body head.next p.passed
+      (record { sorts_within = r.sorts_within; terms_within = r.terms_within; thms_within = r.thms_within; many = r.many }) head.code (kind-holds p ss env before head stands place ran) in
       let files : length after.file ≡ length p.file = ap length past.same_file in
       let sort_counts : sort_count after.file ≡ sort_count p.file = ap sort_count past.same_file in
       let term_counts : term_count after.file ≡ term_count p.file = ap term_count past.same_file in
       let thm_counts : thm_count after.file ≡ thm_count p.file = ap thm_count past.same_file in
-      let sort_rows : after.rows.sorts ≡ rows.sorts = ap (λ (r : Rows). r.sorts) past.rows_are in
-      let term_rows : after.rows.terms ≡ rows.terms = ap (λ (r : Rows). r.terms) past.rows_are in
-      let thm_rows : after.rows.thms ≡ rows.thms = ap (λ (r : Rows). r.thms) past.rows_are in
-      let b = before.before in
+      let sort_rows : after.rows.sorts ≡ (rows_past p.rows head.code).sorts = ap (λ (x : Rows). x.sorts) past.rows_are in
+      let term_rows : after.rows.terms ≡ (rows_past p.rows head.code).terms = ap (λ (x : Rows). x.terms) past.rows_are in
+      let thm_rows : after.rows.thms ≡ (rows_past p.rows head.code).thms = ap (λ (x : Rows). x.thms) past.rows_are in
       record {
-        binary = subst IsBinary (sym past.same_file) before.binary;
-        within = omega (arith, within, files);
+        binary = subst IsBinary (sym past.same_file) r.binary;
+        within = omega (arith, past.goes_on, (head-is ss env before).within, files);
         sorts_within = omega (arith, enough.sorts_within, sort_rows, sort_counts);
         terms_within = omega (arith, enough.terms_within, term_rows, term_counts);
         thms_within = omega (arith, enough.thms_within, thm_rows, thm_counts);
         many = omega (arith, past.one_more, enough.many, sort_rows, term_rows, thm_rows);
-        before = (b.0 ++ s b.1 ∷ [], b.1 ++ (s b.1).decl ∷ [], passed b.0 b.1 b.2);
+        before = (ss ++ s ss env before ∷ [], env ++ (s ss env before).decl ∷ [], passed ss env before);
       }
 
--- ---- a sort
+  -- the rows that are taken after it
+  pub taken-past : IsReached p → after_kind p.file (taken_before p.file p.rows) head.code ≡ taken_before after.file after.rows
+  taken-past r =
+      let (ss, env, before) = r.before in
+      ap (λ t. after_kind p.file t head.code) (sym (taken p ss env before)) ∙ sym (f ss env before).taken
+      ∙ taken after (ss ++ s ss env before ∷ []) (env ++ (s ss env before).decl ∷ []) (passed ss env before)
 
-module _ (p after : Progress) (told : Told) (past : IsPast p after told (sort_more p.rows) 0x04 p.rows.sorts) (sort : IsSortAt p.file p.rows p.at after.at)
-    (passes_all : (env : List Declaration) → HasTaken p.file p.rows env → AllHold (list_checks p.file env p.at)) where
-  sort-follows : (ss : List Statement) (env : List Declaration) → HasPassed p ss env → Follows p (sort_more p.rows) 0x04 p.rows.sorts after.at env (the_sort p.file env)
-  sort-follows ss env before = record {
-    good = good-sort p.file env p.at sort.body after.at sort.stands (omega (arith, sort.row, before.rows.sorts_are)) (passes_all env (taken p ss env before));
-    counts = counts-sort p.rows (sort_more p.rows) env _ before.rows refl refl refl;
-    kind_is = refl;
-    row_is = before.rows.sorts_are;
-    mark = refl;
-  }
+  pub further : IsReached p → (p.at < after.at) × (after.at ≤ length p.file)
+  further r = let (ss, env, before) = r.before in (omega (arith, past.goes_on, (head-is ss env before).further), omega (arith, past.goes_on, (head-is ss env before).within))
 
-  further-sort : p.at < after.at
-  further-sort = (head-at p.file p.at 0x04 sort.body after.at sort.stands).further
-
-  pub sort-passes : (ss : List Statement) (env : List Declaration) → HasPassed p ss env → Passes p ss env after told
-  sort-passes = passes p after told (sort_more p.rows) 0x04 p.rows.sorts past further-sort sort.within (the_sort p.file) sort-follows
-
-  pub sort-reached : IsReached p → IsReached after
-  sort-reached before = reached p after told (sort_more p.rows) 0x04 p.rows.sorts past further-sort sort.within (the_sort p.file) sort-follows before (record {
-    sorts_within = omega (arith, sort.row);
-    terms_within = before.terms_within;
-    thms_within = before.thms_within;
-    many = omega (arith, before.many);
-  })
-
--- ---- a plain term
-
-module _ (p after : Progress) (told : Told) (past : IsPast p after told (term_more p.rows) 0x05 p.rows.terms) (term : IsTermAt p.file p.rows p.at after.at)
-    (passes_all : (env : List Declaration) → HasTaken p.file p.rows env → AllHold (list_checks p.file env p.at)) where
-  term-follows : (ss : List Statement) (env : List Declaration) → HasPassed p ss env → Follows p (term_more p.rows) 0x05 p.rows.terms after.at env (the_term p.file env)
-  term-follows ss env before = record {
-    good = good-term p.file env p.at term.body after.at term.stands (omega (arith, term.row, before.rows.terms_are))
-        (subst (λ n. (term_row p.file n).words.has_body ≡ false) before.rows.terms_are term.is_plain) (passes_all env (taken p ss env before));
-    counts = counts-term p.rows (term_more p.rows) env _ before.rows refl refl refl;
-    kind_is = refl;
-    row_is = before.rows.terms_are;
-    mark = refl;
-  }
-
-  further-term : p.at < after.at
-  further-term = (head-at p.file p.at 0x05 term.body after.at term.stands).further
-
-  pub term-passes : (ss : List Statement) (env : List Declaration) → HasPassed p ss env → Passes p ss env after told
-  term-passes = passes p after told (term_more p.rows) 0x05 p.rows.terms past further-term term.within (the_term p.file) term-follows
-
-  pub term-reached : IsReached p → IsReached after
-  term-reached before = reached p after told (term_more p.rows) 0x05 p.rows.terms past further-term term.within (the_term p.file) term-follows before (record {
-    sorts_within = before.sorts_within;
-    terms_within = omega (arith, term.row);
-    thms_within = before.thms_within;
-    many = omega (arith, before.many);
-  })
-
--- ---- what stops the checker
-
--- the first rule that fails after the statements before
-pub fails-here : (p : Progress) (ss : List Statement) (env : List Declaration) (refusal : Refusal) → IsReached p → HasPassed p ss env → refusal.statement ≡ p.passed + 1
-    → FailsFirst (list_checks p.file env p.at) (refusal.at, refusal.rule) → FailsAfter p.file ss env p.at refusal
-fails-here p ss env refusal reached before number fails =
-    record { layout = reached.binary.layout; statements = before.statements; number = omega (arith, number, before.many); fails = fails }
-
--- the list's end after the statements before
-pub ends-here : (p : Progress) (ss : List Statement) (env : List Declaration) → IsReached p → HasPassed p ss env → IsListEnd p.file p.at → AllHold (list_checks p.file env p.at) → Good p.file ss
-ends-here p ss env reached before ends passes =
-    record { layout = reached.binary.layout; env = env; to = p.at; statements = before.statements; ends = record { ends = ends; passes = passes } }
+  -- the next row of the kind is there
+  pub row-there : IsReached p → next_row p.rows head.code < sort_count p.file + term_count p.file + thm_count p.file
+  row-there r = let (ss, env, before) = r.before in go env before.rows head.code (kind-holds p ss env before head stands place ran)
+    where
+      go : (env : List Declaration) → CountsRows p.rows env → (k : StatementCode) → AllHold (kind_checks p.file (taken_by env) p.at head.body head.next (Some k))
+          → next_row p.rows k < sort_count p.file + term_count p.file + thm_count p.file
+      go env counts codes.Sort all = omega (arith, all.0, counts.sorts_are)
+      go env counts codes.Term all = omega (arith, all.0, counts.terms_are)
+      go env counts codes.LocalDefinition all = omega (arith, all.0, counts.terms_are)
+      go env counts codes.Axiom all = omega (arith, all.0, counts.thms_are)
+      go env counts codes.Theorem all = omega (arith, all.0, counts.thms_are)
+      go env counts codes.LocalTheorem all = omega (arith, all.0, counts.thms_are)

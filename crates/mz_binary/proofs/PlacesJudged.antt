@@ -14,13 +14,10 @@ use Rattle.mz_cmd.specs.declared.rule.K.TheVariants.{Header, Table}
 use Rattle.mz_cmd.specs.declared.rule.K.TheVariants as rules
 use Rattle.mz_cmd.specs.declared.code.StatementCode.{StatementCode}
 use Rattle.mz_cmd.specs.declared.code.StatementCode.TheVariants as codes
-use Rattle.mz_cmd.specs.declared.command.Cmd.{Cmd}
-use Rattle.mz_cmd.specs.declared.command.CmdFault.{CmdFault}
 use Rattle.mz_cmd.specs.declared.statement.StmtAt.{StmtAt}
 use Rattle.mz_cmd.specs.declared.statement.StmtAt.TheVariants.{End, Head}
 use Rattle.mz_cmd.specs.declared.statement.StmtFault.{StmtFault}
 use Rattle.mz_cmd.specs.Codes.{statement_code}
-use Rattle.mz_cmd.specs.Reading.{command_at}
 use Rattle.mz_cmd.specs.StatementList.{statement_at}
 use Rattle.mz_layout.specs.Numbers.{byte_at}
 use Rattle.mz_layout.specs.Tables.{term_row, thm_row, sort_count, term_count, thm_count, terms_at, thms_at, list_at, term_record, thm_record, words_at, param_count}
@@ -35,10 +32,10 @@ use Rattle.mz_unify.proofs.TestLaws.{bit-set, bit-not-set}
 use Rattle.mz_machine.specs.Bodies.{body_run, body_checks}
 use Rattle.mz_machine.specs.Bodies as bodies
 use Rattle.mz_machine.specs.Lists.{definition_of, assertion_of}
-use Rattle.mz_binary.specs.FileRows.{Taken, term_of_file, thm_of_file, rows_taken}
-use Rattle.mz_binary.specs.Checking.{Reads, all_kinds, sorts_and_terms, is_unread, IsRead, read_checks, if_all_kinds, MayStand, stream_read, IsEmptyBody, body_bytes, term_body_checks, sort_checks, term_checks_by, thm_checks, kind_checks_by, AllTaken, checks_by, place_checks}
-use Rattle.mz_binary.specs.RowWords.{bound_count, IsParamWord, IsParamAt, IsResultWord, param_check, param_checks, word_checks}
-use Rattle.mz_binary.specs.FileRun.{Passing, test, test_each, holds_records, test_header, test_tables, test_rows, test_layout, may_be, is_param_word, is_param_at, test_params, is_result_word, test_words, Found, list_ends, stands_alone, has_body, is_empty_body, find_sort, find_term_body, find_term, find_thm, find_kind, all_taken, find_of, is_read, test_read, may_stand, found_if_all_kinds, find_at, Onward, onward, if_runs, run_found, run_place}
+use Rattle.mz_machine.specs.FileRows.{Taken, term_of_file, thm_of_file, rows_taken, body_bytes}
+use Rattle.mz_binary.specs.Checking.{MayStand, IsEmptyBody, term_body_checks, sort_checks, term_checks, thm_checks, kind_checks, AllTaken, checks_of, place_checks}
+use Rattle.mz_machine.specs.RowWords.{bound_count, IsParamWord, IsParamAt, IsResultWord, param_check, param_checks, word_checks}
+use Rattle.mz_binary.specs.FileRun.{Passing, test, test_each, holds_records, test_header, test_tables, test_rows, test_layout, may_be, is_param_word, is_param_at, test_params, is_result_word, test_words, Found, list_ends, stands_alone, has_body, is_empty_body, find_sort, find_term_body, find_term, find_thm, find_kind, all_taken, find_of, may_stand, find_at, Onward, onward, if_runs, run_found, run_place}
 
 -- ---- tests, one after another
 
@@ -139,7 +136,7 @@ param-at-decides ss ws i = go (slice_get ws i)
       (λ (v, at, may). let is : w ≡ v = cc in (param-decides ss (bound_count (take i ws)) w).1 (subst (IsParamWord ss (bound_count (take i ws))) (sym is) may)),
     )
 
-params-judged : (ss : List SortMods) (words_at : ℕ) (ws : List Word) → Judges (test_params ss words_at ws) (param_checks ss words_at ws)
+pub params-judged : (ss : List SortMods) (words_at : ℕ) (ws : List Word) → Judges (test_params ss words_at ws) (param_checks ss words_at ws)
 params-judged ss words_at ws = judges-each _ (param_check ss words_at ws) (λ i. judges-test _ (IsParamAt ss ws i) _ (param-at-decides ss ws i)) (range_with_len 0 (length ws))
 
 not-decides : (b : Bool) → IsDecidedBy (not b) (b ≡ false)
@@ -155,7 +152,7 @@ result-decides ss row =
       (λ r. whole.1 (r.is_regular, (r.named, (r.may_be, r.bits)))),
     )
 
-words-judged : (ss : List SortMods) (row : TermRecord) → Judges (test_words ss row) (word_checks ss row)
+pub words-judged : (ss : List SortMods) (row : TermRecord) → Judges (test_words ss row) (word_checks ss row)
 words-judged ss row = judges-then _ _ (param_checks ss row.words_at row.words.params) _ (params-judged ss row.words_at row.words.params) λ _. judges-test _ _ _ (result-decides ss row)
 
 -- ---- what stands at a place
@@ -187,7 +184,7 @@ module _ (file : List ℕ) (taken : Taken) where
   test-end true P r d = (d.0 refl, tt)
   test-end false P r d = inl ((λ p. let bad : false ≡ true = d.1 p in cc), refl)
 
-  empty-decides : (bytes : List ℕ) → IsDecidedBy (is_empty_body bytes) (IsEmptyBody bytes)
+  pub empty-decides : (bytes : List ℕ) → IsDecidedBy (is_empty_body bytes) (IsEmptyBody bytes)
   empty-decides bytes = Decides-or _ _ (bytes_eq-Decides bytes []) (bytes_eq-Decides bytes (0 ∷ []))
 
   sort-found : (at body next : ℕ) → JudgesFound file taken (find_sort file taken at body next) (sort_checks file (length taken.sorts) at body next)
@@ -199,18 +196,17 @@ module _ (file : List ℕ) (taken : Taken) where
   term-body-found at body next None = test-alone _ _ _ _ _ (empty-decides (body_bytes file body next))
   term-body-found at body next (Some stream) = decides-whole (body_checks strict (rows_taken file taken) (definition_of (term_of_file file taken.terms) stream) body (body_bytes file body next))
 
-  stand-decides : (reads : Reads) (l b : Bool) → IsDecidedBy (may_stand reads l b) (MayStand reads l b)
-  stand-decides all_kinds true b = ((λ h. h), λ h. h)
-  stand-decides all_kinds false b = ((λ h. tt), λ h. refl)
-  stand-decides sorts_and_terms l b = not-decides b
+  stand-decides : (l b : Bool) → IsDecidedBy (may_stand l b) (MayStand l b)
+  stand-decides true b = ((λ h. h), λ h. h)
+  stand-decides false b = ((λ h. tt), λ h. refl)
 
-  term-found : (reads : Reads) (at body next : ℕ) (is_local : Bool) → JudgesFound file taken (find_term reads file taken at body next is_local) (term_checks_by reads file taken at body next is_local)
-  term-found reads at body next is_local =
+  term-found : (at body next : ℕ) (is_local : Bool) → JudgesFound file taken (find_term file taken at body next is_local) (term_checks file taken at body next is_local)
+  term-found at body next is_local =
       let row = term_row file taken.terms in
       found-then _ _ (demand (at, rules.NoRow) (taken.terms < term_count file)) _ (judges-test _ _ _ (Decides-ltb taken.terms (term_count file))) λ _.
-      found-then _ _ (demand (at, rules.StatementKind) (MayStand reads is_local row.words.has_body)) _ (judges-test _ _ _ (stand-decides reads is_local row.words.has_body)) λ _.
+      found-then _ _ (demand (at, rules.StatementKind) (MayStand is_local row.words.has_body)) _ (judges-test _ _ _ (stand-decides is_local row.words.has_body)) λ _.
       found-then _ _ (word_checks taken.sorts row) _ (words-judged taken.sorts row) λ _.
-      term-body-found at body next (stream_read reads (term_of_file file taken.terms).stream)
+      term-body-found at body next (term_of_file file taken.terms).stream
 
   thm-found : (at body next : ℕ) (without_proof : Bool) → JudgesFound file taken (find_thm file taken at body next without_proof) (thm_checks file taken at body next without_proof)
   thm-found at body next without_proof =
@@ -219,44 +215,30 @@ module _ (file : List ℕ) (taken : Taken) where
       found-then _ _ (param_checks taken.sorts row.words_at row.params) _ (params-judged taken.sorts row.words_at row.params) λ _.
       decides-whole (body_checks strict (rows_taken file taken) (assertion_of without_proof (thm_of_file file taken.thms)) body (body_bytes file body next))
 
-  all-kinds-found : (reads : Reads) (at : ℕ) (r : Result Found (ℕ × K)) (cs : Checks (ℕ × K)) → JudgesFound file taken r cs → JudgesFound file taken (found_if_all_kinds reads at r) (if_all_kinds reads at cs)
-  all-kinds-found all_kinds at r cs j = j
-  all-kinds-found sorts_and_terms at r cs j = inl ((λ h. h), refl)
+  kind-found : (at body next : ℕ) (kind : Option StatementCode) → JudgesFound file taken (find_kind file taken at body next kind) (kind_checks file taken at body next kind)
+  kind-found at body next None = inl ((λ h. h), refl)
+  kind-found at body next (Some codes.Sort) = sort-found at body next
+  kind-found at body next (Some codes.Term) = term-found at body next false
+  kind-found at body next (Some codes.LocalDefinition) = term-found at body next true
+  kind-found at body next (Some codes.Axiom) = thm-found at body next true
+  kind-found at body next (Some codes.Theorem) = thm-found at body next false
+  kind-found at body next (Some codes.LocalTheorem) = thm-found at body next false
 
-  kind-found : (reads : Reads) (at body next : ℕ) (kind : Option StatementCode) → JudgesFound file taken (find_kind reads file taken at body next kind) (kind_checks_by reads file taken at body next kind)
-  kind-found reads at body next None = inl ((λ h. h), refl)
-  kind-found reads at body next (Some codes.Sort) = sort-found at body next
-  kind-found reads at body next (Some codes.Term) = term-found reads at body next false
-  kind-found reads at body next (Some codes.LocalDefinition) = all-kinds-found reads at _ (term_checks_by all_kinds file taken at body next true) (term-found all_kinds at body next true)
-  kind-found reads at body next (Some codes.Axiom) = all-kinds-found reads at _ (thm_checks file taken at body next true) (thm-found at body next true)
-  kind-found reads at body next (Some codes.Theorem) = all-kinds-found reads at _ (thm_checks file taken at body next false) (thm-found at body next false)
-  kind-found reads at body next (Some codes.LocalTheorem) = all-kinds-found reads at _ (thm_checks file taken at body next false) (thm-found at body next false)
-
-  taken-decides : IsDecidedBy (all_taken file taken) (AllTaken file taken)
+  pub taken-decides : IsDecidedBy (all_taken file taken) (AllTaken file taken)
   taken-decides =
       let all = Decides-and _ _ (Decides-eqb (length taken.sorts) (sort_count file)) (Decides-and _ _ (Decides-eqb taken.terms (term_count file)) (Decides-eqb taken.thms (thm_count file))) in (
         (λ h. let (sorts, (terms, thms)) = all.0 h in record { sorts_taken = sorts; terms_taken = terms; thms_taken = thms }),
         (λ r. all.1 (r.sorts_taken, (r.terms_taken, r.thms_taken))),
       )
 
-  of-found : (reads : Reads) (at : ℕ) (there : Result StmtAt StmtFault) → JudgesFound file taken (find_of reads file taken at there) (checks_by reads file taken at there)
-  of-found reads at (Err f) = inl ((λ h. h), refl)
-  of-found reads at (Ok End) = test-end _ _ _ taken-decides
-  of-found reads at (Ok (Head code body next)) = kind-found reads at body next (statement_code code)
+  of-found : (at : ℕ) (there : Result StmtAt StmtFault) → JudgesFound file taken (find_of file taken at there) (checks_of file taken at there)
+  of-found at (Err f) = inl ((λ h. h), refl)
+  of-found at (Ok End) = test-end _ _ _ taken-decides
+  of-found at (Ok (Head code body next)) = kind-found at body next (statement_code code)
 
-  is-read-decides : (r : Result Cmd CmdFault) → IsDecidedBy (is_read r) (IsRead r)
-  is-read-decides (Err f) = ((λ h. tt), λ h. refl)
-  is-read-decides (Ok c) = not-decides (is_unread c.code)
-
-  read-judged : (reads : Reads) (at : ℕ) (r : Result Cmd CmdFault) → Judges (test_read reads at r) (read_checks reads at r)
-  read-judged all_kinds at r = tt
-  read-judged sorts_and_terms at r = judges-test (is_read r) (IsRead r) (at, rules.StatementKind) (is-read-decides r)
-
-  pub place-found : (reads : Reads) (at : ℕ) → JudgesFound file taken (find_at reads file taken at) (place_checks reads file taken at)
+  pub place-found : (at : ℕ) → JudgesFound file taken (find_at file taken at) (place_checks file taken at)
   unfolding find_at
-  place-found reads at =
-      found-then (test_read reads at (command_at file at)) _ (read_checks reads at (command_at file at)) _ (read-judged reads at (command_at file at)) λ _.
-      of-found reads at (statement_at file at)
+  place-found at = of-found at (statement_at file at)
 
   -- ---- with its body
 
@@ -270,5 +252,5 @@ module _ (file : List ℕ) (taken : Taken) where
   found-judged (Ok (stands_alone after next)) cs j = j
   found-judged (Ok (has_body after next h body bytes)) cs j = body-judged (body_run strict (rows_taken file taken) h body bytes) (onward after next) cs j
 
-  pub place-judged : (reads : Reads) (at : ℕ) → Judges (run_place reads file taken at) (place_checks reads file taken at)
-  place-judged reads at = found-judged (find_at reads file taken at) (place_checks reads file taken at) (place-found reads at)
+  pub place-judged : (at : ℕ) → Judges (run_place file taken at) (place_checks file taken at)
+  place-judged at = found-judged (find_at file taken at) (place_checks file taken at) (place-found at)

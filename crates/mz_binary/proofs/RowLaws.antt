@@ -1,102 +1,145 @@
 -- The row of a good statement.
-use Rattle.std.proofs.Common.{◌≡◌, ◌⊎◌, ◌<◌, ◌∙◌, ℕ, Bool, true, false, cond, List, length, drop, None, Some, Ok, refl, sym, ap, subst, inl, inr, arith}
-use Rattle.std.specs.Prelude.{MatchBool}
+use Rattle.std.proofs.Common.{◌≡◌, ◌⊎◌, ◌<◌, ◌∙◌, ℕ, Bool, true, false, cond, List, length, drop, Option, None, Some, Result, refl, sym, subst, inl, inr, arith}
+use Rattle.std.specs.Prelude.{◌+◌, ◌*◌, ⊤, MatchBool}
 use Rattle.std.proofs.lemmas.Option.{slice_get_within}
-use Rattle.mz_checks.specs.Checks.{AllHold}
-use Rattle.mz_cmd.specs.declared.statement.StmtAt.TheVariants.{Head}
-use Rattle.mz_cmd.specs.StatementList.{statement_at}
-use Rattle.mz_logic.specs.Declaration.{Declaration, sort_decl, term_decl, assertion_decl, Form, plain_form, abstract_form, defined, Term, sorts, terms, signatures}
-use Rattle.mz_logic.specs.Signature.{Signature}
+use Rattle.mz_checks.specs.Checks.{Checks, AllHold, demand}
+use Rattle.mz_checks.proofs.InOrder.{all_hold-first, all_hold-rest, all_hold-rows}
+use Rattle.mz_cmd.specs.declared.code.StatementCode.{StatementCode}
+use Rattle.mz_cmd.specs.declared.code.StatementCode.TheVariants as codes
+use Rattle.mz_cmd.specs.declared.rule.K.{K}
+use Rattle.mz_cmd.specs.declared.rule.K.TheVariants as rules
+use Rattle.mz_cmd.specs.declared.statement.StmtAt.{StmtAt}
+use Rattle.mz_cmd.specs.declared.statement.StmtFault.{StmtFault}
+use Rattle.mz_cmd.specs.Codes.{statement_byte, statement_code}
+use Rattle.mz_logic.specs.Declaration.{Declaration, sort_decl, term_decl, assertion_decl, Form, plain_form, abstract_form, defined, sorts, terms, assertions, signatures}
 use Rattle.mz_logic.specs.LegalLists.{Statement}
-use Rattle.mz_logic.specs.Words.{signature_of}
+use Rattle.mz_logic.specs.Signature.{Signature}
+use Rattle.mz_logic.specs.declared.binder.Binder.{Binder}
 use Rattle.mz_logic.specs.declared.binder.SortMods.{SortMods}
-use Rattle.mz_layout.specs.Tables.{tables_of, sort_count, term_count, mods_of, term_row}
+use Rattle.mz_logic.specs.declared.word.Word.{Word}
+use Rattle.mz_layout.specs.Tables.{TermRow, tables_of, sort_count, term_row, thm_row}
 use Rattle.mz_layout.proofs.TableLists.{length-sorts, slice_get-sorts}
-use Rattle.mz_unify.specs.Spells.{SpellsForm, SpellsTerm}
-use Rattle.mz_binary.specs.FileRows.{term_of_file}
-use Rattle.mz_binary.specs.Spelling.{IsKindOf, SpellsRow, is_local_code}
-use Rattle.mz_binary.specs.Checking.{list_checks}
+use Rattle.mz_unify.specs.Profile.{strict}
+use Rattle.mz_unify.specs.Spells.{SpellsForm}
+use Rattle.mz_machine.specs.Bodies.{body_checks}
+use Rattle.mz_machine.specs.Lists.{assertion_of}
+use Rattle.mz_machine.specs.FileRows.{taken_by, rows_taken, term_of_file, thm_of_file, body_bytes}
+use Rattle.mz_machine.specs.RowWords.{IsResultWord, param_check, param_checks, word_checks, AreParamWords}
+use Rattle.mz_binary.specs.Spelling.{IsKindOf, SpellsRow}
+use Rattle.mz_binary.specs.Checking.{term_body_checks, term_checks, thm_checks, kind_checks, checks_of}
 use Rattle.mz_binary.specs.Chains.{IsGoodStatement}
-use Rattle.mz_binary.specs.Laws.{SaysPlain, HasRow, GoodStatementsHaveRows}
-use Rattle.mz_binary.proofs.KindChecks.{IsGoodSort, IsGoodTerm, good-kind}
+use Rattle.mz_binary.specs.Laws.{is_defined, HasRow, GoodStatementsHaveRows}
+use Rattle.mz_binary.proofs.Heads.{code-is}
 
 same-mods : {m n : SortMods} → Some m ≡ Some n → m ≡ n
 same-mods e = cc
 
--- a plain term that is spelled
-plain-is : (sigs : List Signature) (file : List ℕ) (t : ℕ) (d : Term) → (term_row file t).words.has_body ≡ false → SpellsTerm sigs (term_of_file file t) d → SaysPlain (term_row file t) d
-plain-is sigs file t d plain (signature, spells) = record {
-  is_plain = plain;
-  form = by-form d.form (subst (λ b. SpellsForm sigs (term_of_file file t).signature.params (cond b (Some (drop (term_row file t).stream_at file)) None) d.form) plain spells);
-  signature = sym signature;
-}
-  where
-    by-form : (f : Form) → SpellsForm sigs (term_of_file file t).signature.params None f → f ≡ plain_form
-    by-form plain_form h = refl
-    by-form abstract_form h = absurd h
-    by-form (defined ds b) h = absurd h
+-- ---- words
 
-plain-spells : (sigs : List Signature) (file : List ℕ) (t : ℕ) → (term_row file t).words.has_body ≡ false
-    → SpellsTerm sigs (term_of_file file t) (record { signature = signature_of (term_row file t).words; form = plain_form })
-plain-spells sigs file t plain =
-    (refl, subst (λ b. SpellsForm sigs (term_of_file file t).signature.params (cond b (Some (drop (term_row file t).stream_at file)) None) plain_form) (sym plain) tt)
+params-hold : (ss : List SortMods) (at : ℕ) (ws : List Word) → AllHold (param_checks ss at ws) → AreParamWords ss ws
+params-hold ss at ws all i below = (all_hold-rows (param_check ss at ws) (length ws) i all below).0
 
-no-assertion : (code : ℕ) (b : Bool) → (code ≡ 0x04) ⊎ (code ≡ 0x05) → MatchBool b (code ≡ 0x02) ((code ≡ 0x06) ⊎ (code ≡ 0x0E)) → ⊥
+module _ (ss : List SortMods) (row : TermRow) (all : AllHold (word_checks ss row)) where
+  abbrev result_check : Checks (ℕ × K)
+  result_check = demand (row.words_at + 8 * length row.words.params, rules.Result) (IsResultWord ss row)
+
+  term-params : AreParamWords ss row.words.params
+  term-params = params-hold ss row.words_at row.words.params (all_hold-first (param_checks ss row.words_at row.words.params) result_check all)
+
+  term-result : IsResultWord ss row
+  term-result = (all_hold-rest (param_checks ss row.words_at row.words.params) result_check all).0
+
+-- ---- rows
+
+-- a row has a stream where the form that it spells has a body
+spelled-form : (sigs : List Signature) (params : List Binder) (b : Bool) (stream : List ℕ) (f : Form) → SpellsForm sigs params (cond b (Some stream) None) f → b ≡ is_defined f
+spelled-form sigs params true stream plain_form h = absurd h
+spelled-form sigs params true stream abstract_form h = absurd h
+spelled-form sigs params true stream (defined ds b) h = refl
+spelled-form sigs params false stream plain_form h = refl
+spelled-form sigs params false stream abstract_form h = absurd h
+spelled-form sigs params false stream (defined ds b) h = absurd h
+
+no-assertion : (code : ℕ) (b : Bool) → (code ≡ 0x04) ⊎ ((code ≡ 0x05) ⊎ (code ≡ 0x0D)) → MatchBool b (code ≡ 0x02) ((code ≡ 0x06) ⊎ (code ≡ 0x0E)) → ⊥
 no-assertion code true (inl e) h = omega arith
-no-assertion code true (inr e) h = omega arith
+no-assertion code true (inr (inl e)) h = omega arith
+no-assertion code true (inr (inr e)) h = omega arith
 no-assertion code false (inl e) (inl h) = omega arith
 no-assertion code false (inl e) (inr h) = omega arith
-no-assertion code false (inr e) (inl h) = omega arith
-no-assertion code false (inr e) (inr h) = omega arith
+no-assertion code false (inr (inl e)) (inl h) = omega arith
+no-assertion code false (inr (inl e)) (inr h) = omega arith
+no-assertion code false (inr (inr e)) (inl h) = omega arith
+no-assertion code false (inr (inr e)) (inr h) = omega arith
 
-row-of : (file : List ℕ) (env : List Declaration) (d : Declaration) (local : Bool) (code : ℕ) → IsKindOf code d → local ≡ is_local_code code → SpellsRow file env d
-    → IsGoodSort file env code ⊎ IsGoodTerm file env code → (local ≡ false) × HasRow file env d
-row-of file env (sort_decl m) local code kind mark row good =
-    let n = length (sorts env) in
-    let here : n < sort_count file = (let within : n < length (tables_of file).sorts = slice_get_within (tables_of file).sorts n m row in omega (arith, length-sorts file)) in
-    (mark ∙ ap is_local_code kind, (here, same-mods (sym row ∙ slice_get-sorts file n here)))
-row-of file env (term_decl d) local code kind mark row (inl sort) =
-    elim kind [ inl is ↦ absurd (omega (arith, sort.0)) | inr is ↦ absurd (omega (arith, sort.0)) ]
-row-of file env (term_decl d) local code kind mark row (inr term) = (
-  mark ∙ ap is_local_code term.kind,
-  (term.row, record { spelled = plain-is (signatures env) file (length (terms env)) d term.is_plain row.1; params = term.params; result = term.result }),
-)
-row-of file env (assertion_decl a) local code kind mark row (inl sort) = absurd (no-assertion code a.is_axiom (inl sort.0) kind)
-row-of file env (assertion_decl a) local code kind mark row (inr term) = absurd (no-assertion code a.is_axiom (inr term.kind) kind)
-
-pub good-rows : GoodStatementsHaveRows
-good-rows file env at s next good =
-    let spelled = good.spelled in
-    row-of file env s.decl s.is_local spelled.code spelled.kind.0 spelled.kind.1 spelled.row (good-kind file env at spelled.body next spelled.code spelled.stands good.passes)
-
--- ---- the statement of a row
-
-abbrev pub the_sort : List ℕ → List Declaration → Statement
-the_sort file env = record { is_local = false; decl = sort_decl (mods_of file (length (sorts env))) }
-
-abbrev pub the_term : List ℕ → List Declaration → Statement
-the_term file env =
-    record { is_local = false; decl = term_decl (record { signature = signature_of (term_row file (length (terms env))).words; form = plain_form }) }
+-- the words of the next row of the declaration's kind are right
+abbrev pub HasRightRow : List ℕ → List Declaration → Declaration → Type 0
+HasRightRow file env (sort_decl m) = ⊤
+HasRightRow file env (term_decl d) = AllHold (word_checks (sorts env) (term_row file (length (terms env))))
+HasRightRow file env (assertion_decl a) =
+    AllHold (param_checks (sorts env) (thm_row file (length (assertions env))).words_at (thm_row file (length (assertions env))).params)
 
 module _ (file : List ℕ) (env : List Declaration) (at body next : ℕ) where
-  pub good-sort : statement_at file at ≡ Ok (Head 0x04 body next) → length (sorts env) < sort_count file → AllHold (list_checks file env at)
-      → IsGoodStatement file env at (the_sort file env) next
-  good-sort stands here all = record {
-    spelled = record { code = 0x04; body = body; stands = stands; kind = (refl, refl); row = slice_get-sorts file (length (sorts env)) here };
-    passes = all;
-  }
+  term-right : (l : Bool) → AllHold (term_checks file (taken_by env) at body next l) → AllHold (word_checks (sorts env) (term_row file (length (terms env))))
+  term-right l (_, (_, all)) =
+      all_hold-first (word_checks (sorts env) (term_row file (length (terms env)))) (term_body_checks file (taken_by env) at body next (term_of_file file (length (terms env))).stream) all
 
-  pub good-term : statement_at file at ≡ Ok (Head 0x05 body next) → length (terms env) < term_count file → (term_row file (length (terms env))).words.has_body ≡ false
-      → AllHold (list_checks file env at) → IsGoodStatement file env at (the_term file env) next
-  good-term stands here plain all =
-      let n = length (terms env) in
-      record {
-        spelled = record {
-          code = 0x05;
-          body = body;
-          stands = stands;
-          kind = (inl refl, refl);
-          row = (here, plain-spells (signatures env) file n plain);
-        };
-        passes = all;
-      }
+  thm-right : (w : Bool) → AllHold (thm_checks file (taken_by env) at body next w) → AllHold (param_checks (sorts env) (thm_row file (length (assertions env))).words_at (thm_row file (length (assertions env))).params)
+  thm-right w (_, all) =
+      let row = thm_row file (length (assertions env)) in
+      let run : Checks (ℕ × K) = body_checks strict (rows_taken file (taken_by env)) (assertion_of w (thm_of_file file (length (assertions env)))) body (body_bytes file body next) in
+      all_hold-first (param_checks (sorts env) row.words_at row.params) run all
+
+  by-kind : (k : StatementCode) (d : Declaration) → IsKindOf (statement_byte k) d → AllHold (kind_checks file (taken_by env) at body next (Some k)) → HasRightRow file env d
+  by-kind k (sort_decl m) kind all = tt
+  by-kind codes.Term (term_decl d) kind all = term-right false all
+  by-kind codes.LocalDefinition (term_decl d) kind all = term-right true all
+  by-kind codes.Axiom (term_decl d) (inl e) all = absurd cc
+  by-kind codes.Axiom (term_decl d) (inr e) all = absurd cc
+  by-kind codes.Sort (term_decl d) (inl e) all = absurd cc
+  by-kind codes.Sort (term_decl d) (inr e) all = absurd cc
+  by-kind codes.Theorem (term_decl d) (inl e) all = absurd cc
+  by-kind codes.Theorem (term_decl d) (inr e) all = absurd cc
+  by-kind codes.LocalTheorem (term_decl d) (inl e) all = absurd cc
+  by-kind codes.LocalTheorem (term_decl d) (inr e) all = absurd cc
+  by-kind codes.Axiom (assertion_decl a) kind all = thm-right true all
+  by-kind codes.Theorem (assertion_decl a) kind all = thm-right false all
+  by-kind codes.LocalTheorem (assertion_decl a) kind all = thm-right false all
+  by-kind codes.Sort (assertion_decl a) kind all = absurd (no-assertion 0x04 a.is_axiom (inl refl) kind)
+  by-kind codes.Term (assertion_decl a) kind all = absurd (no-assertion 0x05 a.is_axiom (inr (inl refl)) kind)
+  by-kind codes.LocalDefinition (assertion_decl a) kind all = absurd (no-assertion 0x0D a.is_axiom (inr (inr refl)) kind)
+
+  -- the code is a kind's, whose checks hold
+  by-code : (code : ℕ) (o : Option StatementCode) (d : Declaration) → statement_code code ≡ o → IsKindOf code d → AllHold (kind_checks file (taken_by env) at body next o) → HasRightRow file env d
+  by-code code None d is kind all = absurd all.0
+  by-code code (Some k) d is kind all = by-kind k d (subst (λ (z : ℕ). IsKindOf z d) (code-is k code is) kind) all
+
+pub right-row : (file : List ℕ) (env : List Declaration) (at : ℕ) (s : Statement) (next : ℕ) → IsGoodStatement file env at s next → HasRightRow file env s.decl
+right-row file env at s next good =
+    let spelled = good.spelled in
+    by-code file env at spelled.body next spelled.code (statement_code spelled.code) s.decl refl spelled.kind.0
+    (subst (λ (r : Result StmtAt StmtFault). AllHold (checks_of file (taken_by env) at r)) spelled.stands good.passes)
+
+-- ---- what it says
+
+module _ (file : List ℕ) (env : List Declaration) where
+  says : (d : Declaration) → SpellsRow file env d → HasRightRow file env d → HasRow file env d
+  says (sort_decl m) row right =
+      let n = length (sorts env) in
+      let here : n < sort_count file = (let within : n < length (tables_of file).sorts = slice_get_within (tables_of file).sorts n m row in omega (arith, length-sorts file)) in
+      (here, same-mods (sym row ∙ slice_get-sorts file n here))
+  says (term_decl d) (here, spells) right =
+      let row : TermRow = term_row file (length (terms env)) in (
+        here,
+        record {
+          signature = sym spells.0;
+          form = spelled-form (signatures env) (term_of_file file (length (terms env))).signature.params row.words.has_body (drop row.stream_at file) d.form spells.1;
+          params = term-params (sorts env) row right;
+          result = term-result (sorts env) row right;
+        },
+      )
+  says (assertion_decl a) (here, spells) right =
+      let row = thm_row file (length (assertions env)) in
+      (here, record { signature = sym spells.0; params = params-hold (sorts env) row.words_at row.params right })
+
+pub good-rows : GoodStatementsHaveRows
+good-rows file env at s next good = says file env s.decl good.spelled.row (right-row file env at s next good)

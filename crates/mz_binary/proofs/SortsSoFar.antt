@@ -6,13 +6,16 @@ use Rattle.mz_logic.specs.Declaration.{Declaration, sort_decl, term_decl, assert
 use Rattle.mz_logic.specs.LegalLists.{Statement}
 use Rattle.mz_logic.specs.declared.binder.SortMods.{SortMods}
 use Rattle.mz_layout.specs.Tables.{list_at, tables_of}
-use Rattle.mz_binary.specs.RowWords.{first_sorts}
+use Rattle.mz_machine.specs.RowWords.{first_sorts}
+use Rattle.mz_machine.specs.Before.{taken_before}
 use Rattle.mz_binary.specs.Spelling.{SpellsRow}
 use Rattle.mz_binary.specs.Chains.{GoodTo}
-use Rattle.mz_binary.specs.Progress.{Progress, HasPassed, HasTaken}
+use Rattle.mz_binary.specs.Progress.{Progress, HasPassed}
+use Rattle.mz_machine.specs.FileRows.{taken_by}
 use Rattle.mz_binary.proofs.Declared.{sorts-append}
+use Rattle.mz_binary.proofs.Following.{same-taken}
 
-abbrev HasSorts : List ℕ → List Declaration → Type 0
+abbrev pub HasSorts : List ℕ → List Declaration → Type 0
 HasSorts file env = sorts env ≡ first_sorts file (length (sorts env))
 
 take-one_more : (xs : List SortMods) (n : ℕ) (m : SortMods) → slice_get xs n ≡ Some m → take (suc n) xs ≡ take n xs ++ m ∷ []
@@ -25,7 +28,7 @@ longer (x ∷ xs) m = ap suc (longer xs m)
 no-sort : (env : List Declaration) (d : Declaration) → sorts (d ∷ []) ≡ [] → sorts (env ++ d ∷ []) ≡ sorts env
 no-sort env d none = sorts-append env (d ∷ []) ∙ ap (λ ms. sorts env ++ ms) none ∙ append-nil (sorts env)
 
-sorts-more : (file : List ℕ) (env : List Declaration) (d : Declaration) → HasSorts file env → SpellsRow file env d → HasSorts file (env ++ d ∷ [])
+pub sorts-more : (file : List ℕ) (env : List Declaration) (d : Declaration) → HasSorts file env → SpellsRow file env d → HasSorts file (env ++ d ∷ [])
 sorts-more file env (sort_decl m) before row =
     let all = (tables_of file).sorts in
     let declared : sorts (env ++ sort_decl m ∷ []) ≡ sorts env ++ m ∷ [] = sorts-append env (sort_decl m ∷ []) in
@@ -34,13 +37,12 @@ sorts-more file env (sort_decl m) before row =
 sorts-more file env (term_decl d) before row = subst (λ ms. ms ≡ first_sorts file (length ms)) (sym (no-sort env (term_decl d) refl)) before
 sorts-more file env (assertion_decl a) before row = subst (λ ms. ms ≡ first_sorts file (length ms)) (sym (no-sort env (assertion_decl a) refl)) before
 
-chain-sorts : (file : List ℕ) (env : List Declaration) (from : ℕ) (ss : List Statement) (env' : List Declaration) (to : ℕ) → GoodTo file env from ss env' to → HasSorts file env → HasSorts file env'
+pub chain-sorts : (file : List ℕ) (env : List Declaration) (from : ℕ) (ss : List Statement) (env' : List Declaration) (to : ℕ) → GoodTo file env from ss env' to → HasSorts file env → HasSorts file env'
 chain-sorts file env from [] env' to chain before = subst (HasSorts file) (sym chain.0) before
 chain-sorts file env from (s ∷ ss) env' to chain before =
     chain-sorts file (env ++ s.decl ∷ []) chain.0 ss env' to chain.2 (sorts-more file env s.decl before chain.1.spelled.row)
 
-pub taken : (p : Progress) (ss : List Statement) (env : List Declaration) → HasPassed p ss env → HasTaken p.file p.rows env
-taken p ss env before = record {
-  counts = before.rows;
-  sorts_are = chain-sorts p.file [] (list_at p.file) ss env p.at before.statements refl ∙ ap (first_sorts p.file) (sym before.rows.sorts_are);
-}
+pub taken : (p : Progress) (ss : List Statement) (env : List Declaration) → HasPassed p ss env → taken_by env ≡ taken_before p.file p.rows
+taken p ss env before =
+    let declared : sorts env ≡ first_sorts p.file p.rows.sorts = chain-sorts p.file [] (list_at p.file) ss env p.at before.statements refl ∙ ap (first_sorts p.file) (sym before.rows.sorts_are) in
+    same-taken (taken_by env) (taken_before p.file p.rows) declared (sym before.rows.terms_are) (sym before.rows.thms_are)

@@ -5,10 +5,9 @@ use Rattle.mz_cmd.specs.declared.statement.StmtAt.TheVariants.{Head}
 use Rattle.mz_logic.specs.Declaration.{Declaration, sort_decl, term_decl, assertion_decl, terms, signatures, assertions}
 use Rattle.mz_logic.specs.LegalLists.{Statement}
 use Rattle.mz_unify.proofs.OneSpelling.{one-assertion, one-term}
-use Rattle.mz_binary.specs.FileRows.{term_of_file, thm_of_file}
+use Rattle.mz_machine.specs.FileRows.{term_of_file, thm_of_file}
 use Rattle.mz_binary.specs.Spelling.{IsSpelled, IsKindOf, SpellsRow, is_local_code}
-use Rattle.mz_binary.specs.Checking.{Reads, sorts_and_terms}
-use Rattle.mz_binary.specs.Chains.{IsGoodBy, IsGoodStatement}
+use Rattle.mz_binary.specs.Chains.{IsGoodStatement}
 
 same-statement : (s t : Statement) → s.is_local ≡ t.is_local → s.decl ≡ t.decl → s ≡ t
 same-statement s t l d = ap (λ x. record { is_local = x; decl = s.decl }) l ∙ ap (λ x. record { is_local = t.is_local; decl = x }) d
@@ -62,8 +61,5 @@ one-spelled file env at s t next next' a b =
     let place : next ≡ next' = cc in
     (same-statement s t (a.kind.1 ∙ ap is_local_code code ∙ sym b.kind.1) (one-declaration file env b.code s.decl t.decl (subst (λ (z : ℕ). IsKindOf z s.decl) code a.kind.0) b.kind.0 a.row b.row), place)
 
-pub one-good-by : (reads : Reads) (file : List ℕ) (env : List Declaration) (at : ℕ) (s t : Statement) (next next' : ℕ) → IsGoodBy reads file env at s next → IsGoodBy reads file env at t next' → (s ≡ t) × (next ≡ next')
-one-good-by reads file env at s t next next' a b = one-spelled file env at s t next next' a.spelled b.spelled
-
 pub one-good : (file : List ℕ) (env : List Declaration) (at : ℕ) (s t : Statement) (next next' : ℕ) → IsGoodStatement file env at s next → IsGoodStatement file env at t next' → (s ≡ t) × (next ≡ next')
-one-good = one-good-by sorts_and_terms
+one-good file env at s t next next' a b = one-spelled file env at s t next next' a.spelled b.spelled

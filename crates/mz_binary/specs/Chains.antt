@@ -7,8 +7,7 @@ use Rattle.mz_logic.specs.Declaration.{Declaration}
 use Rattle.mz_logic.specs.LegalLists.{Statement}
 use Rattle.mz_layout.specs.Tables.{list_at}
 use Rattle.mz_binary.specs.Spelling.{IsSpelled}
-use Rattle.mz_binary.specs.FileRows.{taken_by}
-use Rattle.mz_binary.specs.Checking.{Reads, sorts_and_terms, place_checks}
+use Rattle.mz_binary.specs.Checking.{list_checks}
 
 -- the statements lead from a place to another, and env grows by what each declares; Step says of each that it stands
 -- at its place after what was declared, and where the next one does
@@ -34,25 +33,14 @@ pub record Statements (file : List ℕ) (ss : List Statement) : Type 0 where
 -- ---- good statements
 
 -- the statement stands at a place after env, and nothing that is asked of the place fails
-pub record IsGoodBy (reads : Reads) (file : List ℕ) (env : List Declaration) (at : ℕ) (s : Statement) (next : ℕ) : Type 0 where
+pub record IsGoodStatement (file : List ℕ) (env : List Declaration) (at : ℕ) (s : Statement) (next : ℕ) : Type 0 where
   pub spelled : IsSpelled file env at s next
-  pub passes : AllHold (place_checks reads file (taken_by env) at)
-
-abbrev pub GoodToBy : Reads → List ℕ → List Declaration → ℕ → List Statement → List Declaration → ℕ → Type 0
-GoodToBy reads file = Chain (IsGoodBy reads file)
-
--- the list ends there after env, and no row is left
-pub record EndsBy (reads : Reads) (file : List ℕ) (env : List Declaration) (at : ℕ) : Type 0 where
-  pub ends : IsListEnd file at
-  pub passes : AllHold (place_checks reads file (taken_by env) at)
-
--- ---- of sorts and plain terms
-
-abbrev pub IsGoodStatement : List ℕ → List Declaration → ℕ → Statement → ℕ → Type 0
-IsGoodStatement file = IsGoodBy sorts_and_terms file
+  pub passes : AllHold (list_checks file env at)
 
 abbrev pub GoodTo : List ℕ → List Declaration → ℕ → List Statement → List Declaration → ℕ → Type 0
-GoodTo file = GoodToBy sorts_and_terms file
+GoodTo file = Chain (IsGoodStatement file)
 
-abbrev pub EndsAt : List ℕ → List Declaration → ℕ → Type 0
-EndsAt file = EndsBy sorts_and_terms file
+-- the list ends there after env, and no row is left
+pub record EndsAt (file : List ℕ) (env : List Declaration) (at : ℕ) : Type 0 where
+  pub ends : IsListEnd file at
+  pub passes : AllHold (list_checks file env at)

@@ -1,19 +1,16 @@
 -- A whole file, computed: the rows that its statements take, or its first fault; and the commands executed. Each test
 -- decides the fact of the same name among the checks.
-use Rattle.std.specs.Prelude.{ℕ, zero, suc, ◌+◌, ◌*◌, ◌^◌, Bool, true, false, not, ◌==◌, ◌||◌, ◌&&◌, nat_le, nat_lt, bytes_eq, if◌then◌else◌, List, [], ◌∷◌, ◌++◌, length, take, codes, slice_get, Option, Some, None, Result, Ok, Err}
+use Rattle.std.specs.Prelude.{◌≡◌, ℕ, zero, suc, ◌+◌, ◌*◌, ◌^◌, Bool, true, false, not, ◌==◌, ◌||◌, ◌&&◌, nat_le, nat_lt, bytes_eq, if◌then◌else◌, List, [], ◌∷◌, ◌++◌, length, take, codes, slice_get, Option, Some, None, Result, Ok, Err}
 use Rattle.std.specs.List.{range_with_len}
 use Rattle.mz_cmd.specs.declared.rule.K.{K}
 use Rattle.mz_cmd.specs.declared.rule.K.TheVariants as rules
 use Rattle.mz_cmd.specs.declared.rule.Refusal.{Refusal}
 use Rattle.mz_cmd.specs.declared.code.StatementCode.{StatementCode}
 use Rattle.mz_cmd.specs.declared.code.StatementCode.TheVariants as codes
-use Rattle.mz_cmd.specs.declared.command.Cmd.{Cmd}
-use Rattle.mz_cmd.specs.declared.command.CmdFault.{CmdFault}
 use Rattle.mz_cmd.specs.declared.statement.StmtAt.{StmtAt}
 use Rattle.mz_cmd.specs.declared.statement.StmtAt.TheVariants.{End, Head}
 use Rattle.mz_cmd.specs.declared.statement.StmtFault.{StmtFault}
 use Rattle.mz_cmd.specs.Codes.{statement_code}
-use Rattle.mz_cmd.specs.Reading.{command_at}
 use Rattle.mz_cmd.specs.StatementList.{statement_at}
 use Rattle.mz_logic.specs.Words.{word_bound, word_sort, word_deps}
 use Rattle.mz_logic.specs.declared.binder.SortMods.{SortMods}
@@ -26,9 +23,9 @@ use Rattle.mz_unify.specs.Tests.{has_bit}
 use Rattle.mz_machine.specs.Tables.{Heading}
 use Rattle.mz_machine.specs.Bodies.{body_run, body_steps}
 use Rattle.mz_machine.specs.Lists.{definition_of, assertion_of}
-use Rattle.mz_binary.specs.RowWords.{bound_count}
-use Rattle.mz_binary.specs.FileRows.{Taken, nothing_taken, term_of_file, thm_of_file, rows_taken}
-use Rattle.mz_binary.specs.Checking.{Reads, all_kinds, sorts_and_terms, is_unread, stream_read, rule_of, body_bytes}
+use Rattle.mz_machine.specs.RowWords.{bound_count}
+use Rattle.mz_machine.specs.FileRows.{Taken, nothing_taken, term_of_file, thm_of_file, rows_taken, body_bytes}
+use Rattle.mz_binary.specs.Checking.{rule_of}
 
 -- what passes, or the place and the rule that fails
 abbrev pub Passing : Type 0
@@ -124,6 +121,15 @@ with_term taken = record taken { terms = taken.terms + 1 }
 abbrev pub with_thm : Taken → Taken
 with_thm taken = record taken { thms = taken.thms + 1 }
 
+-- the rows taken after a statement of a kind
+abbrev pub after_kind : List ℕ → Taken → StatementCode → Taken
+after_kind file taken codes.Sort = with_sort file taken
+after_kind file taken codes.Term = with_term taken
+after_kind file taken codes.LocalDefinition = with_term taken
+after_kind file taken codes.Axiom = with_thm taken
+after_kind file taken codes.Theorem = with_thm taken
+after_kind file taken codes.LocalTheorem = with_thm taken
+
 abbrev pub find_sort : List ℕ → Taken → ℕ → ℕ → ℕ → Result Found (ℕ × K)
 find_sort file taken at body next = do
   test (nat_lt (length taken.sorts) (sort_count file)) (at, rules.NoRow)
@@ -137,16 +143,15 @@ find_term_body file taken at body next None = do
 find_term_body file taken at body next (Some stream) =
     Ok (has_body (with_term taken) next (definition_of (term_of_file file taken.terms) stream) body (body_bytes file body next))
 
-abbrev pub may_stand : Reads → (is_local defined : Bool) → Bool
-may_stand all_kinds is_local defined = not is_local || defined
-may_stand sorts_and_terms is_local defined = not defined
+abbrev pub may_stand : (is_local defined : Bool) → Bool
+may_stand is_local defined = not is_local || defined
 
-abbrev pub find_term : Reads → List ℕ → Taken → ℕ → ℕ → ℕ → Bool → Result Found (ℕ × K)
-find_term reads file taken at body next is_local = do
+abbrev pub find_term : List ℕ → Taken → ℕ → ℕ → ℕ → Bool → Result Found (ℕ × K)
+find_term file taken at body next is_local = do
   test (nat_lt taken.terms (term_count file)) (at, rules.NoRow)
-  test (may_stand reads is_local (term_row file taken.terms).words.has_body) (at, rules.StatementKind)
+  test (may_stand is_local (term_row file taken.terms).words.has_body) (at, rules.StatementKind)
   test_words taken.sorts (term_row file taken.terms)
-  find_term_body file taken at body next (stream_read reads (term_of_file file taken.terms).stream)
+  find_term_body file taken at body next (term_of_file file taken.terms).stream
 
 abbrev pub find_thm : List ℕ → Taken → ℕ → ℕ → ℕ → Bool → Result Found (ℕ × K)
 find_thm file taken at body next without_proof = do
@@ -154,42 +159,32 @@ find_thm file taken at body next without_proof = do
   test_params taken.sorts (thm_row file taken.thms).words_at (thm_row file taken.thms).params
   Ok (has_body (with_thm taken) next (assertion_of without_proof (thm_of_file file taken.thms)) body (body_bytes file body next))
 
-abbrev pub found_if_all_kinds : Reads → ℕ → Result Found (ℕ × K) → Result Found (ℕ × K)
-found_if_all_kinds all_kinds at r = r
-found_if_all_kinds sorts_and_terms at r = Err (at, rules.StatementKind)
-
-abbrev pub find_kind : Reads → List ℕ → Taken → ℕ → ℕ → ℕ → Option StatementCode → Result Found (ℕ × K)
-find_kind reads file taken at body next None = Err (at, rules.StatementKind)
-find_kind reads file taken at body next (Some codes.Sort) = find_sort file taken at body next
-find_kind reads file taken at body next (Some codes.Term) = find_term reads file taken at body next false
-find_kind reads file taken at body next (Some codes.LocalDefinition) = found_if_all_kinds reads at (find_term all_kinds file taken at body next true)
-find_kind reads file taken at body next (Some codes.Axiom) = found_if_all_kinds reads at (find_thm file taken at body next true)
-find_kind reads file taken at body next (Some codes.Theorem) = found_if_all_kinds reads at (find_thm file taken at body next false)
-find_kind reads file taken at body next (Some codes.LocalTheorem) = found_if_all_kinds reads at (find_thm file taken at body next false)
+abbrev pub find_kind : List ℕ → Taken → ℕ → ℕ → ℕ → Option StatementCode → Result Found (ℕ × K)
+find_kind file taken at body next None = Err (at, rules.StatementKind)
+find_kind file taken at body next (Some codes.Sort) = find_sort file taken at body next
+find_kind file taken at body next (Some codes.Term) = find_term file taken at body next false
+find_kind file taken at body next (Some codes.LocalDefinition) = find_term file taken at body next true
+find_kind file taken at body next (Some codes.Axiom) = find_thm file taken at body next true
+find_kind file taken at body next (Some codes.Theorem) = find_thm file taken at body next false
+find_kind file taken at body next (Some codes.LocalTheorem) = find_thm file taken at body next false
 
 abbrev pub all_taken : List ℕ → Taken → Bool
 all_taken file taken = length taken.sorts == sort_count file && (taken.terms == term_count file && taken.thms == thm_count file)
 
-abbrev pub find_of : Reads → List ℕ → Taken → ℕ → Result StmtAt StmtFault → Result Found (ℕ × K)
-find_of reads file taken at (Err f) = Err (at, rule_of f)
-find_of reads file taken at (Ok End) = do
+abbrev pub find_of : List ℕ → Taken → ℕ → Result StmtAt StmtFault → Result Found (ℕ × K)
+find_of file taken at (Err f) = Err (at, rule_of f)
+find_of file taken at (Ok End) = do
   test (all_taken file taken) (at, rules.RowsLeft)
   Ok list_ends
-find_of reads file taken at (Ok (Head code body next)) = find_kind reads file taken at body next (statement_code code)
-
-abbrev pub is_read : Result Cmd CmdFault → Bool
-is_read (Err _) = true
-is_read (Ok c) = not (is_unread c.code)
-
-abbrev pub test_read : Reads → ℕ → Result Cmd CmdFault → Passing
-test_read all_kinds at r = Ok tt
-test_read sorts_and_terms at r = test (is_read r) (at, rules.StatementKind)
+find_of file taken at (Ok (Head code body next)) = find_kind file taken at body next (statement_code code)
 
 -- what stands at a place after what is taken; its body isn't run yet
-unfoldable pub find_at : Reads → List ℕ → Taken → ℕ → Result Found (ℕ × K)
-find_at reads file taken at = do
-  test_read reads at (command_at file at)
-  find_of reads file taken at (statement_at file at)
+unfoldable pub find_at : List ℕ → Taken → ℕ → Result Found (ℕ × K)
+find_at file taken at = find_of file taken at (statement_at file at)
+
+-- nothing that is asked before a body runs fails there, and there is one to run
+abbrev pub RunsBody : List ℕ → Taken → ℕ → Type 0
+RunsBody file taken at = (after : Taken) × (next : ℕ) × (h : Heading) × (body : ℕ) × (bytes : List ℕ) × (find_at file taken at ≡ Ok (has_body after next h body bytes))
 
 -- ---- the whole list
 
@@ -209,8 +204,8 @@ run_found file taken (stands_alone after next) = Ok (onward after next)
 run_found file taken (has_body after next h body bytes) = if_runs (body_run strict (rows_taken file taken) h body bytes) (onward after next)
 
 -- what stands at a place, its body run
-abbrev pub run_place : Reads → List ℕ → Taken → ℕ → Result Onward (ℕ × K)
-run_place reads file taken at = find_at reads file taken at >>= run_found file taken
+abbrev pub run_place : List ℕ → Taken → ℕ → Result Onward (ℕ × K)
+run_place file taken at = find_at file taken at >>= run_found file taken
 
 abbrev pub as_statement : ℕ → ℕ × K → Refusal
 as_statement n r = record { statement = n; at = r.0; rule = r.1 }
@@ -222,18 +217,18 @@ follow_list n taken (Ok ended) rest = Ok taken
 follow_list n taken (Ok (onward after next)) rest = rest after next
 
 -- the list from its n-th statement on; the bound is on the statements, each of which takes a byte
-unfoldable pub run_list : Reads → List ℕ → ℕ → ℕ → Taken → ℕ → Result Taken Refusal
-run_list reads file zero n taken at = Err (as_statement n (at, rules.Command))
-run_list reads file (suc bound) n taken at =
-    follow_list n taken (run_place reads file taken at) (λ after next. run_list reads file bound (n + 1) after next)
+unfoldable pub run_list : List ℕ → ℕ → ℕ → Taken → ℕ → Result Taken Refusal
+run_list file zero n taken at = Err (as_statement n (at, rules.Command))
+run_list file (suc bound) n taken at =
+    follow_list n taken (run_place file taken at) (λ after next. run_list file bound (n + 1) after next)
 
 abbrev pub after_layout : Passing → Result Taken Refusal → Result Taken Refusal
 after_layout (Err r) rest = Err (as_statement 0 r)
 after_layout (Ok x) rest = rest
 
 -- the whole file: the rows taken where it is good, or its first fault
-abbrev pub run_file : Reads → List ℕ → Result Taken Refusal
-run_file reads file = after_layout (test_layout file) (run_list reads file (length file + 1) 1 nothing_taken (list_at file))
+abbrev pub run_file : List ℕ → Result Taken Refusal
+run_file file = after_layout (test_layout file) (run_list file (length file + 1) 1 nothing_taken (list_at file))
 
 -- ---- steps
 
@@ -248,16 +243,16 @@ follow_steps (Err r) rest = 0
 follow_steps (Ok ended) rest = 0
 follow_steps (Ok (onward after next)) rest = rest after next
 
-unfoldable pub list_steps : Reads → List ℕ → ℕ → Taken → ℕ → ℕ
-list_steps reads file zero taken at = 0
-list_steps reads file (suc bound) taken at =
-    found_steps file taken (find_at reads file taken at)
-    + follow_steps (run_place reads file taken at) (λ after next. list_steps reads file bound after next)
+unfoldable pub list_steps : List ℕ → ℕ → Taken → ℕ → ℕ
+list_steps file zero taken at = 0
+list_steps file (suc bound) taken at =
+    found_steps file taken (find_at file taken at)
+    + follow_steps (run_place file taken at) (λ after next. list_steps file bound after next)
 
 abbrev pub steps_after : Passing → ℕ → ℕ
 steps_after (Err r) n = 0
 steps_after (Ok x) n = n
 
 -- the proof and unify commands executed in a whole file, up to its first fault
-abbrev pub file_steps : Reads → List ℕ → ℕ
-file_steps reads file = steps_after (test_layout file) (list_steps reads file (length file + 1) nothing_taken (list_at file))
+abbrev pub file_steps : List ℕ → ℕ
+file_steps file = steps_after (test_layout file) (list_steps file (length file + 1) nothing_taken (list_at file))

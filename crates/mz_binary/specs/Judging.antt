@@ -1,15 +1,20 @@
 -- What a checker answers.
-use Rattle.std.specs.Prelude.{◌≡◌, ◌≤◌, ◌<◌, ℕ, ◌+◌, List, [], ◌∷◌, ◌++◌, length}
+use Rattle.std.specs.Prelude.{◌≡◌, ◌≤◌, ◌<◌, ⊤, ℕ, ◌+◌, List, [], ◌∷◌, ◌++◌, length}
 use Rattle.mz_logic.specs.Declaration.{Declaration}
 use Rattle.mz_logic.specs.LegalLists.{Statement, Legal, declarations}
+use Rattle.mz_logic.specs.Closed.{TheoremsClosed}
+use Rattle.mz_layout.specs.Tables.{list_at}
+use Rattle.mz_layout.specs.Layout.{Layout}
 use Rattle.mz_binary.specs.declared.statement.Statement.{Statement as Told}
 use Rattle.mz_binary.specs.declared.checker.Next.{Next}
 use Rattle.mz_binary.specs.declared.checker.Next.TheVariants as next
 use Rattle.mz_binary.specs.declared.whole.Checked.{Checked}
 use Rattle.mz_binary.specs.declared.whole.Checked.TheVariants as checked
-use Rattle.mz_binary.specs.Chains.{IsGoodStatement}
+use Rattle.mz_machine.specs.FileRows.{taken_by}
+use Rattle.mz_binary.specs.FileRun.{RunsBody}
+use Rattle.mz_binary.specs.Chains.{IsGoodStatement, GoodTo}
 use Rattle.mz_binary.specs.Good.{Good, FailsAfter, BinaryFault}
-use Rattle.mz_binary.specs.Progress.{Progress, HasPassed, CountsRows, Tells}
+use Rattle.mz_binary.specs.Progress.{Progress, HasPassed, CountsRows, Tells, next_steps, steps_left, most_left}
 
 -- the next statement is good, it is what is told, and the checker has passed it
 pub record Passes (p : Progress) (ss : List Statement) (env : List Declaration) (after : Progress) (told : Told) : Type 0 where
@@ -21,16 +26,52 @@ pub record Passes (p : Progress) (ss : List Statement) (env : List Declaration) 
   pub further : p.at < after.at
   pub within : after.at ≤ length p.file
 
--- after good statements, which declare env, what comes next; it is never want of memory yet
+-- after good statements, which declare env, what comes next; want of memory only where a body runs
 abbrev pub IsNext : Progress → List Statement → List Declaration → Next → Type 0
 IsNext p ss env (next.Statement after told) = Passes p ss env after told
 IsNext p ss env (next.End rows) = Good p.file ss × CountsRows rows env
 IsNext p ss env (next.Refused refusal) = FailsAfter p.file ss env p.at refusal
-IsNext p ss env next.Mem = ⊥
+IsNext p ss env next.Mem = RunsBody p.file (taken_by env) p.at
 
--- the file is good, by statements that are a legal list and take so many rows, or this is its first fault; it is never
--- want of memory yet
+-- the answer is another than want of memory
+abbrev pub IfTold : Next → Type 0 → Type 0
+IfTold (next.Statement after told) P = P
+IfTold (next.End rows) P = P
+IfTold (next.Refused refusal) P = P
+IfTold next.Mem P = ⊤
+
+-- what is left after it of the commands executed in the list
+abbrev pub IsLeft : Progress → Next → Type 0
+IsLeft p (next.Statement after told) = steps_left p ≡ next_steps p + steps_left after
+IsLeft p (next.End rows) = steps_left p ≡ next_steps p
+IsLeft p (next.Refused refusal) = steps_left p ≡ next_steps p
+IsLeft p next.Mem = ⊤
+
+-- the most that may be counted, want of memory or not: where the list goes on, what may be counted after is kept
+abbrev pub IsMost : Progress → (old new : ℕ) → Next → Type 0
+IsMost p old new (next.Statement after told) = new + most_left after ≤ old + most_left p
+IsMost p old new (next.End rows) = new ≤ old + most_left p
+IsMost p old new (next.Refused refusal) = new ≤ old + most_left p
+IsMost p old new next.Mem = new ≤ old + most_left p
+
+-- header and tables are in order, and after good statements a body runs
+pub record RunsSomeBody (file : List ℕ) : Type 0 where
+  pub layout : Layout file
+  pub before : List Statement
+  pub env : List Declaration
+  pub at : ℕ
+  pub statements : GoodTo file [] (list_at file) before env at
+  pub runs : RunsBody file (taken_by env) at
+
+-- The file is good, by statements that are a legal list, with closed derivations of all theorems, and that take so
+-- many rows; or this is its first fault. It is want of memory only where a body runs.
 abbrev pub IsChecked : List ℕ → Checked → Type 0
-IsChecked file (checked.Good rows) = (ss : List Statement) × Good file ss × Legal ss × CountsRows rows (declarations ss)
+IsChecked file (checked.Good rows) = (ss : List Statement) × Good file ss × Legal ss × TheoremsClosed ss × CountsRows rows (declarations ss)
 IsChecked file (checked.Refused refusal) = BinaryFault file refusal
-IsChecked file checked.Mem = ⊥
+IsChecked file checked.Mem = RunsSomeBody file
+
+-- what is said is other than want of memory
+abbrev pub IfJudged : Checked → Type 0 → Type 0
+IfJudged (checked.Good rows) P = P
+IfJudged (checked.Refused refusal) P = P
+IfJudged checked.Mem P = ⊤

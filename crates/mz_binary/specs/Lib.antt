@@ -1,5 +1,3 @@
-pub mod RowWords
-pub mod FileRows
 pub mod Spelling
 pub mod Checking
 pub mod Chains
@@ -8,6 +6,7 @@ pub mod FileRun
 pub mod WholeLaws
 pub mod Files
 pub mod WholeExamples
+pub mod RowParams
 pub mod Progress
 pub mod Judging
 pub mod RefusalLine

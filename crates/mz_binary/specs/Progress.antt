@@ -1,16 +1,23 @@
 -- How far a checker has come, and what it answers.
-use Rattle.std.specs.Prelude.{◌≡◌, ◌≤◌, ◌<◌, ℕ, ◌+◌, List, [], length, false, Ok, if◌then◌else◌}
-use Rattle.mz_cmd.specs.declared.statement.StmtAt.TheVariants.{Head}
+use Rattle.std.specs.Prelude.{◌≡◌, ◌≤◌, ◌⊎◌, ℕ, ◌+◌, ◌-◌, ◌*◌, Bool, true, false, List, [], length, if◌then◌else◌, MatchResult, Result, Ok, Err}
+use Rattle.mz_cmd.specs.declared.code.StatementCode.{StatementCode}
+use Rattle.mz_cmd.specs.declared.code.StatementCode.TheVariants as codes
+use Rattle.mz_cmd.specs.declared.rule.K.{K}
+use Rattle.mz_cmd.specs.declared.statement.StmtAt.TheVariants as stands
+use Rattle.mz_cmd.specs.Codes.{statement_byte}
 use Rattle.mz_cmd.specs.StatementList.{statement_at}
 use Rattle.mz_logic.specs.Declaration.{Declaration, sort_decl, term_decl, assertion_decl, sorts, terms, assertions}
 use Rattle.mz_logic.specs.LegalLists.{Statement}
-use Rattle.mz_layout.specs.Tables.{list_at, sort_count, term_count, thm_count, term_row}
+use Rattle.mz_layout.specs.Tables.{list_at, sort_count, term_count, thm_count}
 use Rattle.mz_layout.specs.Layout.{IsBinary}
-use Rattle.mz_binary.specs.RowWords.{first_sorts}
-use Rattle.mz_binary.specs.declared.statement.Rows.{Rows}
+use Rattle.mz_machine.specs.FileRows.{body_bytes}
+use Rattle.mz_machine.specs.Before.{taken_before, heading_of}
+use Rattle.mz_binary.specs.FileRun.{Found, list_ends, stands_alone, has_body, after_kind, find_at, found_steps, list_steps}
+use Rattle.mz_machine.specs.declared.earlier.Rows.{Rows}
 use Rattle.mz_binary.specs.declared.statement.Statement.{Statement as Told}
-use Rattle.mz_binary.specs.declared.place.Found.{Found}
-use Rattle.mz_binary.specs.declared.place.Found.TheVariants.{End, Sort, Term}
+use Rattle.mz_binary.specs.declared.place.Head.{Head}
+use Rattle.mz_binary.specs.declared.place.Found.{Found as Seen}
+use Rattle.mz_binary.specs.declared.place.Found.TheVariants as seen
 use Rattle.mz_binary.specs.Chains.{GoodTo, IsListEnd}
 
 -- what env declares has taken these rows
@@ -19,32 +26,66 @@ pub record CountsRows (rows : Rows) (env : List Declaration) : Type 0 where
   pub terms_are : rows.terms ≡ length (terms env)
   pub thms_are : rows.thms ≡ length (assertions env)
 
--- what env declares has taken these rows of the file: its sorts are the first so many of the file's
-pub record HasTaken (file : List ℕ) (rows : Rows) (env : List Declaration) : Type 0 where
-  pub counts : CountsRows rows env
-  pub sorts_are : sorts env ≡ first_sorts file rows.sorts
-
 -- ---- what is found at a place
 
--- a sort's statement stands there
-pub record IsSortAt (file : List ℕ) (rows : Rows) (at next : ℕ) : Type 0 where
-  pub body : ℕ
-  pub stands : statement_at file at ≡ Ok (Head 0x04 body next)
-  pub row : rows.sorts < sort_count file
-  pub within : next ≤ length file
+-- the code of the kind without the mark, the next row of the kind, and the rows with one more of it
+abbrev pub kind_byte : StatementCode → ℕ
+kind_byte codes.LocalDefinition = 0x05
+kind_byte codes.LocalTheorem = 0x06
+kind_byte k = statement_byte k
 
--- a plain term's statement stands there
-pub record IsTermAt (file : List ℕ) (rows : Rows) (at next : ℕ) : Type 0 where
-  pub body : ℕ
-  pub stands : statement_at file at ≡ Ok (Head 0x05 body next)
-  pub row : rows.terms < term_count file
-  pub is_plain : (term_row file rows.terms).words.has_body ≡ false
-  pub within : next ≤ length file
+abbrev pub next_row : Rows → StatementCode → ℕ
+next_row rows codes.Sort = rows.sorts
+next_row rows codes.Term = rows.terms
+next_row rows codes.LocalDefinition = rows.terms
+next_row rows k = rows.thms
 
-abbrev pub IsFound : List ℕ → Rows → ℕ → Found → Type 0
-IsFound file rows at End = IsListEnd file at
-IsFound file rows at (Sort next) = IsSortAt file rows at next
-IsFound file rows at (Term next) = IsTermAt file rows at next
+abbrev pub rows_past : Rows → StatementCode → Rows
+rows_past rows codes.Sort = record rows { sorts = rows.sorts + 1 }
+rows_past rows codes.Term = record rows { terms = rows.terms + 1 }
+rows_past rows codes.LocalDefinition = record rows { terms = rows.terms + 1 }
+rows_past rows k = record rows { thms = rows.thms + 1 }
+
+abbrev pub is_local_kind : StatementCode → Bool
+is_local_kind codes.LocalDefinition = true
+is_local_kind codes.LocalTheorem = true
+is_local_kind k = false
+
+abbrev pub is_axiom_kind : StatementCode → Bool
+is_axiom_kind codes.Axiom = true
+is_axiom_kind k = false
+
+abbrev pub IsTermKind : StatementCode → Type 0
+IsTermKind k = (k ≡ codes.Term) ⊎ (k ≡ codes.LocalDefinition)
+
+abbrev pub IsAssertionKind : StatementCode → Type 0
+IsAssertionKind k = (k ≡ codes.Axiom) ⊎ ((k ≡ codes.Theorem) ⊎ (k ≡ codes.LocalTheorem))
+
+-- the statement's command stands there
+abbrev pub IsHead : List ℕ → Head → Type 0
+IsHead file head = statement_at file head.at ≡ Ok (stands.Head (statement_byte head.code) head.body head.next)
+
+-- what was seen is found after so many rows
+abbrev pub found_of : List ℕ → Rows → Seen → Found
+found_of file rows seen.End = list_ends
+found_of file rows (seen.Alone head) = stands_alone (after_kind file (taken_before file rows) head.code) head.next
+found_of file rows (seen.WithBody head) =
+    has_body (after_kind file (taken_before file rows) head.code) head.next (heading_of file (kind_byte head.code) (next_row rows head.code)) head.body (body_bytes file head.body head.next)
+
+abbrev pub Finds : List ℕ → Rows → Result Found (ℕ × K) → Result Seen (ℕ × K) → Type 0
+Finds file rows there result = MatchResult result (λ found. there ≡ Ok (found_of file rows found)) (λ fault. there ≡ Err fault)
+
+-- of this statement
+abbrev pub IsOf : Head → Seen → Type 0
+IsOf head seen.End = ⊥
+IsOf head (seen.Alone other) = other ≡ head
+IsOf head (seen.WithBody other) = other ≡ head
+
+-- and stands at the place
+abbrev pub StandsAt : List ℕ → ℕ → Seen → Type 0
+StandsAt file at seen.End = IsListEnd file at
+StandsAt file at (seen.Alone head) = IsHead file head × (head.at ≡ at)
+StandsAt file at (seen.WithBody head) = IsHead file head × (head.at ≡ at)
 
 -- ---- how far the checker has come
 
@@ -70,6 +111,20 @@ pub record IsReached (p : Progress) : Type 0 where
   pub thms_within : p.rows.thms ≤ thm_count p.file
   pub many : p.passed ≡ p.rows.sorts + p.rows.terms + p.rows.thms
   pub before : (ss : List Statement) × (env : List Declaration) × HasPassed p ss env
+
+-- ---- the commands executed
+
+-- in the body of the next statement, up to the rule that fails
+abbrev pub next_steps : Progress → ℕ
+next_steps p = found_steps p.file (taken_before p.file p.rows) (find_at p.file (taken_before p.file p.rows) p.at)
+
+-- in all that is left of the list, up to its first fault
+abbrev pub steps_left : Progress → ℕ
+steps_left p = list_steps p.file (length p.file + 1) (taken_before p.file p.rows) p.at
+
+-- the most that can be: a command of a body executes itself and at most one of a stream a byte of the file
+abbrev pub most_left : Progress → ℕ
+most_left p = (length p.file - p.at) * (length p.file + 1)
 
 -- ---- what is told of a statement
 

@@ -7,7 +7,7 @@ use Rattle.mz_logic.specs.Declaration.{Declaration, sort_decl, term_decl, assert
 use Rattle.mz_logic.specs.LegalLists.{Statement}
 use Rattle.mz_layout.specs.Tables.{tables_of, term_count, thm_count}
 use Rattle.mz_unify.specs.Spells.{SpellsTerm, SpellsThm}
-use Rattle.mz_binary.specs.FileRows.{term_of_file, thm_of_file}
+use Rattle.mz_machine.specs.FileRows.{term_of_file, thm_of_file}
 
 -- ---- kinds
 

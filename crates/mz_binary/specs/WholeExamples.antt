@@ -4,7 +4,6 @@ use Rattle.std.specs.Prelude.{◌≡◌, ℕ, List, [], ◌∷◌, take, Option,
 use Rattle.mz_cmd.specs.declared.rule.K.{K}
 use Rattle.mz_cmd.specs.declared.rule.K.TheVariants as k
 use Rattle.mz_cmd.specs.declared.rule.Refusal.{Refusal}
-use Rattle.mz_binary.specs.Checking.{all_kinds, sorts_and_terms}
 use Rattle.mz_binary.specs.FileRun.{run_file, file_steps}
 use Rattle.mz_binary.specs.Files.{with_byte, with_bytes, without, one, empty, imp, gen, fold, saved, dummy, bound_inside}
 
@@ -16,7 +15,7 @@ abbrev pub refused : ℕ → ℕ → K → Option Refusal
 refused = λ n at rule. Some (record { statement = n; at = at; rule = rule })
 
 abbrev pub first_fault : List ℕ → Option Refusal
-first_fault file = fault_of (run_file all_kinds file)
+first_fault file = fault_of (run_file file)
 
 -- good files
 abbrev pub AcceptedFiles : Type 0
@@ -111,22 +110,14 @@ BodiesChanged =
 -- the commands executed, up to the first fault
 abbrev pub StepsOfFiles : Type 0
 StepsOfFiles =
-    (file_steps all_kinds one ≡ 0)
-    × (file_steps all_kinds imp ≡ 68)
-    × (file_steps all_kinds (with_byte 104 0x01 gen) ≡ 34)
-    × (file_steps all_kinds gen ≡ 21)
-    × (file_steps all_kinds fold ≡ 35)
-    × (file_steps all_kinds saved ≡ 47)
-    × (file_steps all_kinds (with_bytes 72 (0x02 ∷ 0x00 ∷ 0x00 ∷ 0x00 ∷ 0x00 ∷ 0x00 ∷ 0x00 ∷ 0x81 ∷ []) (with_bytes 64 (0x01 ∷ 0x00 ∷ 0x00 ∷ 0x00 ∷ 0x00 ∷ 0x00 ∷ 0x00 ∷ 0x81 ∷ []) dummy)) ≡ 8)
-    × (file_steps all_kinds dummy ≡ 4)
-    × (file_steps all_kinds (with_byte 190 0x14 imp) ≡ 1)
-    × (file_steps all_kinds (with_byte 190 0x00 imp) ≡ 0)
-    × (file_steps all_kinds (with_byte 76 0xDE imp) ≡ 28)
-
--- a reader of sorts and plain terms alone refuses the others by their kind, a definition at its row
-abbrev pub ReadInPart : Type 0
-ReadInPart =
-    (fault_of (run_file sorts_and_terms one) ≡ None)
-    × (fault_of (run_file sorts_and_terms imp) ≡ refused 3 188 k.StatementKind)
-    × (fault_of (run_file sorts_and_terms fold) ≡ refused 3 132 k.StatementKind)
-    × (fault_of (run_file sorts_and_terms (with_byte 189 0x01 imp)) ≡ refused 3 188 k.StatementKind)
+    (file_steps one ≡ 0)
+    × (file_steps imp ≡ 68)
+    × (file_steps (with_byte 104 0x01 gen) ≡ 34)
+    × (file_steps gen ≡ 21)
+    × (file_steps fold ≡ 35)
+    × (file_steps saved ≡ 47)
+    × (file_steps (with_bytes 72 (0x02 ∷ 0x00 ∷ 0x00 ∷ 0x00 ∷ 0x00 ∷ 0x00 ∷ 0x00 ∷ 0x81 ∷ []) (with_bytes 64 (0x01 ∷ 0x00 ∷ 0x00 ∷ 0x00 ∷ 0x00 ∷ 0x00 ∷ 0x00 ∷ 0x81 ∷ []) dummy)) ≡ 8)
+    × (file_steps dummy ≡ 4)
+    × (file_steps (with_byte 190 0x14 imp) ≡ 1)
+    × (file_steps (with_byte 190 0x00 imp) ≡ 0)
+    × (file_steps (with_byte 76 0xDE imp) ≡ 28)

@@ -1,5 +1,5 @@
 // Worked files, computed.
-ghost use Rattle.mz_binary.specs.WholeExamples.{AcceptedFiles, BodiesChanged, CutFiles, HeadersChanged, ReadInPart, RowsChanged, StepsOfFiles};
+ghost use Rattle.mz_binary.specs.WholeExamples.{AcceptedFiles, BodiesChanged, CutFiles, HeadersChanged, RowsChanged, StepsOfFiles};
 
 /// Files whose verdict is known from outside: accepted, or the statement, the place and the rule of the
 /// first fault; and how many commands are executed.
@@ -10,5 +10,4 @@ pub fn worked_files()
     ensures rows { RowsChanged }
     ensures bodies { BodiesChanged }
     ensures steps { StepsOfFiles }
-    ensures in_part { ReadInPart }
 {}

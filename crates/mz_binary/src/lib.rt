@@ -5,6 +5,8 @@
 //! list, statement by statement, and tells each one or the first rule that fails, at its place.
 #![tactic(auto)]
 
+#[cfg(test)]
+mod body_tests;
 mod checker;
 mod examples;
 mod laws;
@@ -16,17 +18,16 @@ mod tests;
 mod whole;
 mod whole_laws;
 mod words;
+#[cfg(test)]
+mod worked;
 
 pub use checker::{Checker, Next};
 pub use examples::worked_files;
-pub use laws::{
-    each_file_is_good_or_has_one_fault, each_file_spells_one_list, good_files_are_legal,
-    good_statements_have_rows, right_words_say_params,
-};
+pub use laws::{good_statements_have_rows, right_words_say_params};
 pub use line::refusal_line;
 pub use statement::{Rows, Statement};
 pub use whole::{Checked, check_all};
 pub use whole_laws::{
-    files_read_in_part_are_good, steps_of_files_are_bounded, whole_files_are_legal,
-    whole_files_have_one_outcome, whole_files_spell_one_list,
+    steps_of_files_are_bounded, whole_files_are_legal, whole_files_have_one_outcome,
+    whole_files_spell_one_list,
 };

@@ -1,87 +1,72 @@
 // What stands at a place of the list of statements.
-ghost use Rattle.std.specs.Prelude.{◌≡◌, ◌≤◌, ◌<◌, ◌-◌, ◌^◌, ◌↔◌, List, IsTrue, IfOk, false, length, Ok};
-ghost use Rattle.mz_checks.specs.Checks.{Judges};
-ghost use Rattle.mz_cmd.specs.Reading.{command_at};
-ghost use Rattle.mz_cmd.specs.Codes.{statement_code};
-ghost use Rattle.mz_cmd.specs.StatementList.{statement_at};
-ghost use Rattle.mz_layout.specs.Tables.{sort_count, term_count, term_row};
-ghost use Rattle.mz_logic.specs.Declaration.{Declaration};
-ghost use Rattle.mz_binary.specs.Checking.{IsEmptyBody, IsRead, body_bytes, checks_of, kind_checks, list_checks, rule_of as rule_for, sort_checks, term_checks};
-ghost use Rattle.mz_binary.specs.Progress.{CountsRows, HasTaken, IsFound};
-ghost use Rattle.mz_binary.specs.RowWords.{first_sorts};
+ghost use Rattle.std.specs.Prelude.{◌≡◌, ◌≤◌, ◌↔◌, IsTrue, IfOk, length, Ok, Some};
+ghost use Rattle.mz_cmd.specs.declared.code.StatementCode.TheVariants as codes;
+ghost use Rattle.mz_layout.specs.Tables.{sort_count};
+ghost use Rattle.mz_machine.specs.FileRows.{body_bytes};
+ghost use Rattle.mz_machine.specs.Before.{taken_before};
+ghost use Rattle.mz_binary.specs.Checking.{IsEmptyBody, rule_of as rule_for};
+ghost use Rattle.mz_binary.specs.FileRun.{find_at, find_kind, find_of};
+ghost use Rattle.mz_binary.specs.Progress.{Finds, IsAssertionKind, IsOf, IsTermKind, StandsAt, is_local_kind};
 
 use crate::statement::Rows;
-use crate::words::check_words;
-use mz_cmd::{K, StatementCode, StmtAt, StmtFault, cmd_at, stmt_at};
+use crate::words::{check_term_words, check_thm_words};
+use mz_cmd::{K, StatementCode, StmtAt, StmtFault, stmt_at};
 use mz_layout::Mmb;
 use mz_logic::Terms;
 
 /// The place of a fault in the file, in bytes, and the rule that fails.
 pub type Fault = (u32, K);
 
-/// What stands at a place, all that is asked of it met.
+/// A statement's command.
+#[derive(Clone, Copy)]
+pub struct Head {
+    /// Its kind, and whether it is local.
+    pub code: StatementCode,
+    /// Its place in the file, in bytes.
+    pub at: u32,
+    /// The place of its body.
+    pub body: u32,
+    /// The place of the next statement.
+    pub next: u32,
+}
+
+/// What stands at a place, all that is asked of it met, but that its body runs.
 #[derive(Clone, Copy)]
 pub enum Found {
     /// The end of the list.
     End,
-    /// A sort, and the place of the next statement.
-    Sort { next: u32 },
-    /// A plain term, and the place of the next statement.
-    Term { next: u32 },
+    /// A sort or a plain term.
+    Alone(Head),
+    /// A definition, an axiom or a theorem, whose body is to run.
+    WithBody(Head),
 }
 
 /// What stands at a place of the list after statements that took these rows.
 pub fn found_at(mmb: &Mmb, rows: Rows, at: u32) -> Result<Found, Fault>
     requires within { at ≤ length mmb.now }
     requires sorts { rows.sorts ≤ sort_count mmb.now }
-    ensures judged { (env : List Declaration) → HasTaken mmb.now rows env → Judges result (list_checks mmb.now env at) }
-    ensures found { IfOk result (IsFound mmb.now rows at) }
+    ensures found { Finds mmb.now rows (find_at mmb.now (taken_before mmb.now rows) at) result }
+    ensures stands { IfOk result (StandsAt mmb.now at) }
 {
-    let file = mmb.file();
-    if !is_read_at(file, at) {
-        return Err((at, K::StatementKind));
-    }
-    let there = match stmt_at(file, at) {
+    let there = match stmt_at(mmb.file(), at) {
         Ok(there) => there,
         Err(fault) => return Err((at, rule_of(fault))),
     };
-    match there {
-        StmtAt::End => check_end(mmb, rows, at),
-        StmtAt::Head { kind, body, next } => check_kind(mmb, rows, at, kind, body, next),
-    }
-}
-
-/// What the statement's kind asks.
-fn check_kind(
-    mmb: &Mmb,
-    rows: Rows,
-    at: u32,
-    kind: u8,
-    body: u32,
-    next: u32,
-) -> Result<Found, Fault>
-    requires order { body ≤ next }
-    requires within { next ≤ length mmb.now }
-    requires sorts { rows.sorts ≤ sort_count mmb.now }
-    requires stands { statement_at mmb.now at ≡ Ok (StmtAt.Head kind body next) }
-    ensures judged { (env : List Declaration) → HasTaken mmb.now rows env → Judges result (kind_checks mmb.now env at body next (statement_code kind)) }
-    ensures found { IfOk result (IsFound mmb.now rows at) }
-{
+    let StmtAt::Head { kind, body, next } = there else {
+        return check_end(mmb, rows, at);
+    };
     match StatementCode::try_from(kind) {
-        Ok(StatementCode::Sort) => check_sort(mmb, rows, at, body, next),
-        Ok(StatementCode::Term) => check_term(mmb, rows, at, body, next),
-        _ => Err((at, K::StatementKind)),
-    }
-}
-
-/// Whether the statement at a place is of a kind that is read.
-fn is_read_at(file: &[u8], at: u32) -> bool
-    requires { at ≤ length file.now }
-    ensures { IsTrue result ↔ IsRead (command_at file.now at) }
-{
-    match cmd_at(file, at) {
-        Ok(cmd) => !matches!(cmd.code, 0x02 | 0x06 | 0x0D | 0x0E),
-        Err(_) => true,
+        Ok(code) => check_kind(
+            mmb,
+            rows,
+            Head {
+                code,
+                at,
+                body,
+                next,
+            },
+        ),
+        Err(_) => Err((at, K::StatementKind)),
     }
 }
 
@@ -97,8 +82,9 @@ fn rule_of(fault: StmtFault) -> K
 
 /// At the list's end: whether each row has had its statement.
 fn check_end(mmb: &Mmb, rows: Rows, at: u32) -> Result<Found, Fault>
-    ensures judged { (env : List Declaration) → CountsRows rows env → Judges result (checks_of mmb.now env at (Ok StmtAt.End)) }
-    ensures found { IfOk result (λ found. found ≡ Found.End) }
+    requires sorts { rows.sorts ≤ sort_count mmb.now }
+    ensures found { Finds mmb.now rows (find_of mmb.now (taken_before mmb.now rows) at (Ok StmtAt.End)) result }
+    ensures end { IfOk result (λ found. found ≡ Found.End) }
 {
     if rows.sorts == mmb.sorts() && rows.terms == mmb.terms() && rows.thms == mmb.thms() {
         Ok(Found::End)
@@ -107,47 +93,101 @@ fn check_end(mmb: &Mmb, rows: Rows, at: u32) -> Result<Found, Fault>
     }
 }
 
+/// What the statement's kind asks.
+fn check_kind(mmb: &Mmb, rows: Rows, head: Head) -> Result<Found, Fault>
+    requires order { head.body ≤ head.next }
+    requires within { head.next ≤ length mmb.now }
+    requires sorts { rows.sorts ≤ sort_count mmb.now }
+    ensures found { Finds mmb.now rows (find_kind mmb.now (taken_before mmb.now rows) head.at head.body head.next (Some head.code)) result }
+    ensures head { IfOk result (IsOf head) }
+{
+    match head.code {
+        StatementCode::Sort => check_sort(mmb, rows, head),
+        StatementCode::Term | StatementCode::LocalDefinition => check_term(mmb, rows, head),
+        StatementCode::Axiom | StatementCode::Theorem | StatementCode::LocalTheorem => {
+            check_thm(mmb, rows, head)
+        }
+    }
+}
+
 /// A sort's row and body.
-fn check_sort(mmb: &Mmb, rows: Rows, at: u32, body: u32, next: u32) -> Result<Found, Fault>
-    requires order { body ≤ next }
-    requires within { next ≤ length mmb.now }
-    ensures judged { Judges result (sort_checks mmb.now rows.sorts at body next) }
-    ensures row { IfOk result (λ _. rows.sorts < sort_count mmb.now) }
-    ensures found { IfOk result (λ found. found ≡ Found.Sort next) }
+fn check_sort(mmb: &Mmb, rows: Rows, head: Head) -> Result<Found, Fault>
+    requires kind { head.code ≡ codes.Sort }
+    requires order { head.body ≤ head.next }
+    requires within { head.next ≤ length mmb.now }
+    requires sorts { rows.sorts ≤ sort_count mmb.now }
+    ensures found { Finds mmb.now rows (find_kind mmb.now (taken_before mmb.now rows) head.at head.body head.next (Some head.code)) result }
+    ensures head { IfOk result (IsOf head) }
 {
     if rows.sorts >= mmb.sorts() {
-        return Err((at, K::NoRow));
+        return Err((head.at, K::NoRow));
     }
-    if !is_empty_body(&mmb.file()[body as usize..next as usize]) {
-        return Err((at, K::StatementLength));
+    if !has_empty_body(mmb, head) {
+        return Err((head.at, K::StatementLength));
     }
-    Ok(Found::Sort { next })
+    Ok(Found::Alone(head))
 }
 
-/// A plain term's row, its words and its body.
-fn check_term(mmb: &Mmb, rows: Rows, at: u32, body: u32, next: u32) -> Result<Found, Fault>
-    requires order { body ≤ next }
-    requires within { next ≤ length mmb.now }
+/// A term's row and its words, and the body of a plain one.
+fn check_term(mmb: &Mmb, rows: Rows, head: Head) -> Result<Found, Fault>
+    requires kind { IsTermKind head.code }
+    requires order { head.body ≤ head.next }
+    requires within { head.next ≤ length mmb.now }
     requires sorts { rows.sorts ≤ sort_count mmb.now }
-    ensures judged { Judges result (term_checks mmb.now (first_sorts mmb.now rows.sorts) rows.terms at body next) }
-    ensures row { IfOk result (λ _. (rows.terms < term_count mmb.now) × ((term_row mmb.now rows.terms).words.has_body ≡ false)) }
-    ensures found { IfOk result (λ found. found ≡ Found.Term next) }
+    ensures found { Finds mmb.now rows (find_kind mmb.now (taken_before mmb.now rows) head.at head.body head.next (Some head.code)) result }
+    ensures head { IfOk result (IsOf head) }
 {
     if rows.terms >= mmb.terms() {
-        return Err((at, K::NoRow));
+        return Err((head.at, K::NoRow));
     }
-    if mmb.has_body(rows.terms) {
-        return Err((at, K::StatementKind));
+    let defined = mmb.has_body(rows.terms);
+    if is_local(head.code) && !defined {
+        return Err((head.at, K::StatementKind));
     }
-    check_words(mmb, rows.sorts, rows.terms)?;
-    if !is_empty_body(&mmb.file()[body as usize..next as usize]) {
-        return Err((at, K::StatementLength));
+    check_term_words(mmb, rows.sorts, rows.terms)?;
+    if defined {
+        return Ok(Found::WithBody(head));
     }
-    Ok(Found::Term { next })
+    if !has_empty_body(mmb, head) {
+        return Err((head.at, K::StatementLength));
+    }
+    Ok(Found::Alone(head))
 }
 
-/// Whether nothing stands in the body, or one END.
-fn is_empty_body(bytes: &[u8]) -> bool
+/// The row of an axiom or a theorem, and its words.
+fn check_thm(mmb: &Mmb, rows: Rows, head: Head) -> Result<Found, Fault>
+    requires kind { IsAssertionKind head.code }
+    requires sorts { rows.sorts ≤ sort_count mmb.now }
+    ensures found { Finds mmb.now rows (find_kind mmb.now (taken_before mmb.now rows) head.at head.body head.next (Some head.code)) result }
+    ensures head { IfOk result (IsOf head) }
+{
+    if rows.thms >= mmb.thms() {
+        return Err((head.at, K::NoRow));
+    }
+    check_thm_words(mmb, rows.sorts, rows.thms)?;
+    Ok(Found::WithBody(head))
+}
+
+/// Whether the statement of this kind is local.
+pub fn is_local(code: StatementCode) -> bool
+    ensures { result ≡ is_local_kind code }
+{
+    matches!(
+        code,
+        StatementCode::LocalDefinition | StatementCode::LocalTheorem
+    )
+}
+
+/// Whether nothing stands in the statement's body, or one END.
+fn has_empty_body(mmb: &Mmb, head: Head) -> bool
+    requires order { head.body ≤ head.next }
+    requires within { head.next ≤ length mmb.now }
+    ensures { IsTrue result ↔ IsEmptyBody (body_bytes mmb.now head.body head.next) }
+{
+    is_empty(&mmb.file()[head.body as usize..head.next as usize])
+}
+
+fn is_empty(bytes: &[u8]) -> bool
     ensures { IsTrue result ↔ IsEmptyBody bytes.now }
 {
     matches!(bytes, [] | [0])

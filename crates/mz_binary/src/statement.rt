@@ -1,12 +1,6 @@
 // What is told of a statement.
 
-/// How many rows of each table have had their statement.
-#[derive(Clone, Copy, Debug, PartialEq, Eq)]
-pub struct Rows {
-    pub sorts: u32,
-    pub terms: u32,
-    pub thms: u32,
-}
+pub use mz_machine::Rows;
 
 /// A good statement.
 #[derive(Clone, Copy, Debug, PartialEq, Eq)]

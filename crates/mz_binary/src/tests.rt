@@ -10,7 +10,7 @@ use std::sync::ledger::{Blank, Ledger};
 use std::test::Fail;
 
 /// One sort, provable: header, the sort's byte, its statement at 48 and the list's end at 50.
-const ONE: [u8; 51] = [
+pub const ONE: [u8; 51] = [
     0x4D, 0x4D, 0x30, 0x42, 1, 1, 0, 0, 0, 0, 0, 0, 0, 0, 0, 0, 0x30, 0, 0, 0, 0x30, 0, 0, 0, 0x30,
     0, 0, 0, 0, 0, 0, 0, 0, 0, 0, 0, 0, 0, 0, 0, 4, 0, 0, 0, 0, 0, 0, 0, 0x44, 2, 0,
 ];
@@ -33,24 +33,25 @@ fn told(alloc: Global, checked: Checked) -> Result<Vec<u8>, Mem> {
     }
 }
 
-fn check_with<L: Ledger>(blank: Blank, file: &[u8]) -> Checked
+fn check_with<L: Ledger>(alloc: Global, blank: Blank, file: &[u8]) -> Checked
     requires name { blank.name ≡ L.name }
     requires parts { blank.parts ≡ L.parts }
     requires some { 0 < blank.parts }
     requires fits { length file.now < 2 ^ 32 }
 {
     let mut steps = Steps::<L>::start(blank);
-    check_all(file, &mut steps)
+    check_all(alloc, file, &mut steps)
 }
 
-fn line_of(alloc: Global, file: &[u8]) -> Result<Vec<u8>, Mem>
+/// The line that is told of a file.
+pub fn line_of(alloc: Global, file: &[u8]) -> Result<Vec<u8>, Mem>
     requires { length file.now < 2 ^ 32 }
 {
-    told(alloc, check_with::<Brand>(Blank::new(1), file))
+    told(alloc, check_with::<Brand>(alloc, Blank::new(1), file))
 }
 
 /// A file with the bytes from a place on replaced.
-fn with(alloc: Global, file: &[u8], at: usize, bytes: &[u8]) -> Result<Vec<u8>, Mem>
+pub fn with(alloc: Global, file: &[u8], at: usize, bytes: &[u8]) -> Result<Vec<u8>, Mem>
     requires { at ≤ length file.now }
 {
     let mut changed = file[..at].to_vec(alloc)?;
@@ -125,8 +126,8 @@ const LISTS: [(&[u8], &str, &str); 20] = [
     ),
     (
         &[0x42, 0, 0],
-        "refused: binary statement 1 at byte 48: K5 statement kind\n",
-        "an axiom, before its distance",
+        "refused: binary statement 1 at byte 48: K4 statement length\n",
+        "an axiom without distance",
     ),
     (
         &[0x44, 3, 1, 0],
@@ -403,13 +404,13 @@ const TERM_BYTES: [(&[(usize, u8)], &str, &str); 37] = [
     ),
     (
         &[(50, 0x80)],
-        "refused: binary statement 2 at byte 82: K5 statement kind\n",
-        "a definition",
+        "refused: binary statement 2 at byte 84: K3 command\n",
+        "a definition without body",
     ),
     (
         &[(50, 0x80), (56, 1), (79, 0x80)],
-        "refused: binary statement 2 at byte 82: K5 statement kind\n",
-        "a definition, before its words",
+        "refused: binary statement 2 at byte 56: K8 binder\n",
+        "a definition's words, before its body",
     ),
     (
         &[(50, 0x80), (83, 1)],
@@ -428,8 +429,8 @@ const TERM_BYTES: [(&[(usize, u8)], &str, &str); 37] = [
     ),
     (
         &[(50, 0x80), (82, 0x4D)],
-        "refused: binary statement 2 at byte 82: K5 statement kind\n",
-        "a local definition",
+        "refused: binary statement 2 at byte 84: K3 command\n",
+        "a local definition without body",
     ),
     (
         &[(80, 0x45), (82, 0x44)],
@@ -513,8 +514,8 @@ const TERM_LISTS: [(&[u8], &str, &str); 11] = [
     ),
     (
         &[0x44, 2, 0x46, 2, 0],
-        "refused: binary statement 2 at byte 82: K5 statement kind\n",
-        "a theorem",
+        "refused: binary statement 2 at byte 82: K6 no row\n",
+        "a theorem without row",
     ),
     (
         &[0x45, 2, 0],

@@ -1,12 +1,15 @@
 // A whole binary.
-ghost use Rattle.std.specs.Prelude.{◌≡◌, ◌<◌, ◌^◌, List, [], length};
-ghost use Rattle.mz_binary.specs.Progress.{HasPassed};
-ghost use Rattle.mz_binary.specs.Judging.{IsChecked};
+ghost use Rattle.std.specs.Prelude.{◌≡◌, ◌≤◌, ◌<◌, ◌+◌, ◌*◌, ◌^◌, List, [], length};
+ghost use Rattle.mz_layout.specs.Layout.{Layout};
+ghost use Rattle.mz_binary.specs.FileRun.{file_steps};
+ghost use Rattle.mz_binary.specs.Progress.{HasPassed, most_left, steps_left};
+ghost use Rattle.mz_binary.specs.Judging.{IfJudged, IsChecked};
 
 use crate::checker::{Checker, Next};
 use crate::statement::Rows;
 use mz_cmd::{Refusal, Steps};
 use mz_layout::Mmb;
+use std::alloc::Global;
 use std::sync::ledger::Ledger;
 
 /// What is said of a whole binary.
@@ -16,27 +19,30 @@ pub enum Checked {
     Good(Rows),
     /// Its first fault.
     Refused(Refusal),
-    /// Want of memory. No statement that is read yet takes any.
+    /// Want of memory, which only a body that runs may find.
     Mem,
 }
 
 /// Checks header, tables and the whole list of statements.
-pub fn check_all<L: Ledger>(file: &[u8], steps: &mut Steps<L>) -> Checked
+pub fn check_all<L: Ledger>(alloc: Global, file: &[u8], steps: &mut Steps<L>) -> Checked
     requires { length file.now < 2 ^ 32 }
     ensures checked { IsChecked file.now result }
-    ensures steps { steps.new ≡ steps.old }
+    ensures steps { IfJudged result (steps.new ≡ steps.old + file_steps file.now) }
+    ensures bound { steps.new ≤ steps.old + (length file.now * length file.now + length file.now) }
 {
     match Mmb::read(file) {
-        Ok(mmb) => check_list(Checker::new(&mmb), steps),
+        Ok(mmb) => check_list(Checker::new(alloc, &mmb), steps),
         Err(refusal) => Checked::Refused(refusal),
     }
 }
 
 /// Checks the list of statements from its first one on.
 fn check_list<L: Ledger>(first: Checker, steps: &mut Steps<L>) -> Checked
-    requires { HasPassed first [] [] }
+    requires layout { Layout first.file }
+    requires nothing { HasPassed first [] [] }
     ensures checked { IsChecked first.entry.file result }
-    ensures steps { steps.new ≡ steps.old }
+    ensures steps { IfJudged result (steps.new ≡ steps.old + steps_left first.entry) }
+    ensures bound { steps.new ≤ steps.old + most_left first.entry }
 {
     let mut checker = first;
     'statements: loop {

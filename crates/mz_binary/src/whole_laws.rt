@@ -1,5 +1,5 @@
 // Laws of whole files, of all kinds of statements.
-ghost use Rattle.mz_binary.specs.WholeLaws.{BoundNeverEndsAList, GoodFilesAreLegal, GoodFilesSpell, GoodOrFault, NotBoth, OneFault, OneListOfStatements, ReadInPartIsGood, RunsAreExact, StepsOfAFile, TheoremsCiteAsTheirBodies};
+ghost use Rattle.mz_binary.specs.WholeLaws.{BoundNeverEndsAList, GoodFilesAreLegal, GoodFilesSpell, GoodOrFault, NotBoth, OneFault, OneListOfStatements, RunsAreExact, StepsOfAFile, TheoremsCiteAsTheirBodies};
 
 /// The statements of a good file are a legal list, with closed derivations; and a theorem's derivation
 /// cites what its body cites.
@@ -26,9 +26,4 @@ pub fn whole_files_have_one_outcome()
 pub fn steps_of_files_are_bounded()
     ensures steps { StepsOfAFile }
     ensures bound { BoundNeverEndsAList }
-{}
-
-/// What is good for the reader of sorts and plain terms is good for the reader of all kinds.
-pub fn files_read_in_part_are_good()
-    ensures { ReadInPartIsGood }
 {}

@@ -28,7 +28,7 @@ use Rattle.mz_machine.specs.Bodies.{body_run}
 use Rattle.mz_machine.specs.Facts.{Derivable, StackHolds, AreProvableClaims, Fact}
 use Rattle.mz_machine.specs.Sound.{IsCited, cites_as, AreRowParams, thm_row}
 use Rattle.mz_machine.proofs.Declared.{signatures-are}
-use Rattle.mz_machine.proofs.Rows.{claim}
+use Rattle.mz_machine.proofs.RowsKeep.{claim}
 use Rattle.mz_machine.proofs.WholeBody.{body-fact}
 use Rattle.mz_machine.proofs.Renaming.{sort-over-params}
 

@@ -41,7 +41,7 @@ dummy-sort ss s h = go (slice_get ss s) refl h
 
 -- ---- operands that fit
 
-or-not : (a b : Bool) → (not a || b) ≡ true → a ≡ true → b ≡ true
+pub or-not : (a b : Bool) → (not a || b) ≡ true → a ≡ true → b ≡ true
 or-not true b h t = h
 or-not false b h t = absurd cc
 

@@ -21,7 +21,7 @@ use Rattle.mz_machine.specs.ProofMachine.{proof_row, proof_end, ends_with, match
 use Rattle.mz_machine.specs.Bodies.{BodyCommand, ends, proves, stands_in, if_allowed, body_command, body_turn, body_turn_by, body_from, body_run, body_start}
 use Rattle.mz_machine.specs.Facts.{HeapHolds, Fact, Keeps}
 use Rattle.mz_machine.specs.Sound.{IsCitation, CitesWithin, IsCited}
-use Rattle.mz_machine.proofs.Rows.{keeps}
+use Rattle.mz_machine.proofs.RowsKeep.{keeps}
 
 -- ---- commands
 

@@ -9,3 +9,13 @@ pub mod Sound
 pub mod Lists
 pub mod Examples
 pub mod Cases
+pub mod RowWords
+pub mod FileRows
+pub mod Before
+pub mod OverStore
+pub mod Steps
+pub mod BodyAnswers
+pub mod OperandRows
+pub mod Endings
+pub mod Stepping
+pub mod UnderwayCode

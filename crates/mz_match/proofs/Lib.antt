@@ -1,3 +1,12 @@
+mod SameDecided
+mod BesideRows
+mod FewDummies
+mod ToldRows
+mod SaidStreams
+mod PlainTrees
+mod Renaming
+mod Compared
+mod Steps
 pub mod Lists
 pub mod RowPairs
 pub mod Spelled

@@ -6,7 +6,7 @@ use Rattle.mz_logic.specs.Declaration.{Declaration, sort_decl, term_decl, assert
 use Rattle.mz_logic.specs.LegalLists.{Statement, declarations}
 use Rattle.mz_spec.specs.State.{Entry, env_of}
 use Rattle.mz_match.specs.declared.kind.Kind.{Kind}
-use Rattle.mz_match.specs.Match.{publics, term_row_of, term_rows, match_checks, Agrees, Leaves, partner_checks, kind_of, is_kind}
+use Rattle.mz_match.specs.Match.{Partner, partner_of, publics_after, publics, term_row_of, term_rows, match_checks, Agrees, Leaves, partner_checks, kind_of, is_kind}
 use Rattle.mz_match.specs.Verdict.{count}
 
 pub append-nil : {A : Type 0} → (xs : List A) → xs ++ [] ≡ xs
@@ -47,20 +47,21 @@ count-take k (e ∷ es) (suc i) d is = let more = count-take k es i d is in omeg
 
 -- ---- statements
 
-pub publics-append : (ss ts : List Statement) → publics (ss ++ ts) ≡ publics ss ++ publics ts
-publics-append [] ts = refl
-publics-append (s ∷ ss) ts = by s.is_local s.decl (publics-append ss ts)
+pub publics-append : (before ss ts : List Statement) → publics_after before (ss ++ ts) ≡ publics_after before ss ++ publics_after (before ++ ss) ts
+publics-append before [] ts = ap (λ bs. publics_after bs ts) (sym (append-nil before))
+publics-append before (s ∷ ss) ts = by s.is_local (publics-append (before ++ s ∷ []) ss ts ∙ ap (λ bs. publics_after (before ++ s ∷ []) ss ++ publics_after bs ts) (append_assoc before (s ∷ []) ss))
   where
-    by : (local : Bool) (d : Declaration) → publics (ss ++ ts) ≡ publics ss ++ publics ts
-        → (if local then publics (ss ++ ts) else d ∷ publics (ss ++ ts)) ≡ (if local then publics ss else d ∷ publics ss) ++ publics ts
-    by true d is = is
-    by false d is = ap (λ xs. d ∷ xs) is
+    by : (local : Bool) → publics_after (before ++ s ∷ []) (ss ++ ts) ≡ publics_after (before ++ s ∷ []) ss ++ publics_after (before ++ s ∷ ss) ts
+        → (if local then publics_after (before ++ s ∷ []) (ss ++ ts) else partner_of before s ∷ publics_after (before ++ s ∷ []) (ss ++ ts))
+        ≡ (if local then publics_after (before ++ s ∷ []) ss else partner_of before s ∷ publics_after (before ++ s ∷ []) ss) ++ publics_after (before ++ s ∷ ss) ts
+    by true is = is
+    by false is = ap (λ xs. partner_of before s ∷ xs) is
 
-pub publics-local : (s : Statement) → s.is_local ≡ true → publics (s ∷ []) ≡ []
-publics-local s is = ap (λ (b : Bool). if b then [] else s.decl ∷ []) is
+pub publics-local : (before : List Statement) (s : Statement) → s.is_local ≡ true → publics_after before (s ∷ []) ≡ []
+publics-local before s is = ap (λ (b : Bool). if b then [] else partner_of before s ∷ []) is
 
-pub publics-public : (s : Statement) (ss : List Statement) → s.is_local ≡ false → publics (s ∷ ss) ≡ s.decl ∷ publics ss
-publics-public s ss is = ap (λ (b : Bool). if b then publics ss else s.decl ∷ publics ss) is
+pub publics-public : (before : List Statement) (s : Statement) (ss : List Statement) → s.is_local ≡ false → publics_after before (s ∷ ss) ≡ partner_of before s ∷ publics_after (before ++ s ∷ []) ss
+publics-public before s ss is = ap (λ (b : Bool). if b then publics_after (before ++ s ∷ []) ss else partner_of before s ∷ publics_after (before ++ s ∷ []) ss) is
 
 terms-append : (xs ys : List Declaration) → length (terms (xs ++ ys)) ≡ length (terms xs) + length (terms ys)
 terms-append [] ys = let e : length (terms ys) ≡ 0 + length (terms ys) = omega arith in e
@@ -91,20 +92,20 @@ length-declarations (s ∷ ss) = ap suc (length-declarations ss)
 
 -- ---- agreement
 
-pub agrees-more : (ds ps : List Declaration) (d p : Declaration) → Agrees ds ps → AllHold (match_checks d p) → Agrees (ds ++ d ∷ []) (ps ++ p ∷ [])
+pub agrees-more : (ds : List Declaration) (ps : List Partner) (d : Declaration) (p : Partner) → Agrees ds ps → AllHold (match_checks d p) → Agrees (ds ++ d ∷ []) (ps ++ p ∷ [])
 agrees-more [] [] d p so_far here = (here, tt)
 agrees-more [] (q ∷ ps) d p so_far here = absurd so_far
 agrees-more (e ∷ ds) [] d p so_far here = absurd so_far
 agrees-more (e ∷ ds) (q ∷ ps) d p so_far here = (so_far.0, agrees-more ds ps d p so_far.1 here)
 
-pub agrees-length : (ds ps : List Declaration) → Agrees ds ps → length ds ≡ length ps
+pub agrees-length : (ds : List Declaration) (ps : List Partner) → Agrees ds ps → length ds ≡ length ps
 agrees-length [] [] so_far = refl
 agrees-length [] (q ∷ ps) so_far = absurd so_far
 agrees-length (e ∷ ds) [] so_far = absurd so_far
 agrees-length (e ∷ ds) (q ∷ ps) so_far = ap suc (agrees-length ds ps so_far.1)
 
 -- what is left beside the same partners is the same
-pub left-same : (ds es left rest ps : List Declaration) → Agrees ds ps → Agrees es ps → ds ++ left ≡ es ++ rest → left ≡ rest
+pub left-same : (ds es left rest : List Declaration) (ps : List Partner) → Agrees ds ps → Agrees es ps → ds ++ left ≡ es ++ rest → left ≡ rest
 left-same [] [] left rest [] a b is = is
 left-same [] (e ∷ es) left rest [] a b is = absurd b
 left-same (d ∷ ds) es left rest [] a b is = absurd a
@@ -113,7 +114,7 @@ left-same (d ∷ ds) [] left rest (p ∷ ps) a b is = absurd b
 left-same (d ∷ ds) (e ∷ es) left rest (p ∷ ps) a b is = left-same ds es left rest ps a.1 b.1 (let tails : ds ++ left ≡ es ++ rest = cc in tails)
 
 -- where another list goes on beside one partner more, the next of what is left agrees with that
-pub left-next : (ds es left rest ps qs : List Declaration) (p : Declaration) → Agrees ds ps → Agrees es (ps ++ p ∷ qs) → ds ++ left ≡ es ++ rest
+pub left-next : (ds es left rest : List Declaration) (ps qs : List Partner) (p : Partner) → Agrees ds ps → Agrees es (ps ++ p ∷ qs) → ds ++ left ≡ es ++ rest
     → (d : Declaration) × (more : List Declaration) × (left ≡ d ∷ more) × AllHold (match_checks d p)
 left-next [] [] left rest [] qs p a b is = absurd b
 left-next [] (e ∷ es) left rest [] qs p a b is = (e, es ++ rest, is, b.0)
@@ -132,18 +133,18 @@ pub leaves-local : (ds left : List Declaration) (ss : List Statement) (s : State
 leaves-local ds left ss s is l = record {
   done = l.done;
   all = l.all;
-  agrees = subst (Agrees l.done) (sym (publics-append ss (s ∷ []) ∙ ap (λ ps. publics ss ++ ps) (publics-local s is) ∙ append-nil (publics ss))) l.agrees;
+  agrees = subst (Agrees l.done) (sym (publics-append [] ss (s ∷ []) ∙ ap (λ ps. publics ss ++ ps) (publics-local ss s is) ∙ append-nil (publics ss))) l.agrees;
 }
 
-pub leaves-public : (ds rest : List Declaration) (d : Declaration) (ss : List Statement) (s : Statement) → s.is_local ≡ false → AllHold (match_checks d s.decl) → Leaves ds ss (d ∷ rest) → Leaves ds (ss ++ s ∷ []) rest
+pub leaves-public : (ds rest : List Declaration) (d : Declaration) (ss : List Statement) (s : Statement) → s.is_local ≡ false → AllHold (match_checks d (partner_of ss s)) → Leaves ds ss (d ∷ rest) → Leaves ds (ss ++ s ∷ []) rest
 leaves-public ds rest d ss s is here l = record {
   done = l.done ++ d ∷ [];
   all = l.all ∙ sym (append_assoc l.done (d ∷ []) rest);
-  agrees = subst (Agrees (l.done ++ d ∷ [])) (sym (publics-append ss (s ∷ []) ∙ ap (λ ps. publics ss ++ ps) (publics-public s [] is)))
-      (agrees-more l.done (publics ss) d s.decl l.agrees here);
+  agrees = subst (Agrees (l.done ++ d ∷ [])) (sym (publics-append [] ss (s ∷ []) ∙ ap (λ ps. publics ss ++ ps) (publics-public ss s [] is)))
+      (agrees-more l.done (publics ss) d (partner_of ss s) l.agrees here);
 }
 
 -- the checks of a partner hold only where a declaration is left
-pub partner-there : (left : List Declaration) (p : Declaration) → AllHold (partner_checks left p) → (d : Declaration) × (rest : List Declaration) × (left ≡ d ∷ rest) × AllHold (match_checks d p)
+pub partner-there : (left : List Declaration) (p : Partner) → AllHold (partner_checks left p) → (d : Declaration) × (rest : List Declaration) × (left ≡ d ∷ rest) × AllHold (match_checks d p)
 partner-there [] p all = absurd all.0
 partner-there (d ∷ rest) p all = (d, rest, refl, all)

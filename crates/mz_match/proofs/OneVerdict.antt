@@ -15,12 +15,12 @@ use Rattle.mz_binary.proofs.SpellingLaws.{one-good}
 use Rattle.mz_spec.specs.Spec.{SpecOf, SpecFault}
 use Rattle.mz_spec.specs.State.{env_of}
 use Rattle.mz_spec.specs.declared.refusal.SpecRefusal.{SpecRefusal}
-use Rattle.mz_spec.proofs.SomeSpec.{one-reading, one-fault, not-both}
+use Rattle.mz_spec.proofs.OneSpec.{one-reading, one-fault, not-both}
 use Rattle.mz_match.specs.declared.rule.M.{M}
 use Rattle.mz_match.specs.declared.verdict.Counts.{Counts}
 use Rattle.mz_match.specs.declared.verdict.Verdict.{Verdict}
 use Rattle.mz_match.specs.declared.verdict.Verdict.TheVariants as verdicts
-use Rattle.mz_match.specs.Match.{publics, match_checks, Agrees, Leaves, partner_checks, end_checks}
+use Rattle.mz_match.specs.Match.{partner_of, publics_after, publics, match_checks, Agrees, Leaves, partner_checks, end_checks}
 use Rattle.mz_match.specs.Verdict.{counts_of, Accepts, AcceptsWith, BinaryFails, Differs, MatchFails, FirstRefusal, IsVerdict}
 use Rattle.mz_match.proofs.Lists.{append-nil, publics-append, publics-public, left-same, left-next}
 
@@ -77,12 +77,12 @@ compare file start from (s ∷ ss) (t ∷ ts) env env' to to' a b =
 
 -- ---- why the list stops there
 
-abbrev pub Stop : List ℕ → List Declaration → List Declaration → ℕ → List Declaration → ℕ → ℕ → Verdict → Type 0
-Stop bin ds env at left n k (verdicts.Accepted counts) = EndsAt bin env at × (left ≡ []) × (counts ≡ counts_of ds)
-Stop bin ds env at left n k (verdicts.Spec refusal) = ⊥
-Stop bin ds env at left n k (verdicts.Binary refusal) = (refusal.statement ≡ n) × FailsFirst (list_checks bin env at) (refusal.at, refusal.rule)
-Stop bin ds env at left n k (verdicts.Match declaration statement rule) = (declaration ≡ k) × (statement ≡ n) × Differs bin env at left rule
-Stop bin ds env at left n k verdicts.Mem = ⊥
+abbrev pub Stop : List ℕ → List Declaration → List Statement → List Declaration → ℕ → List Declaration → ℕ → ℕ → Verdict → Type 0
+Stop bin ds before env at left n k (verdicts.Accepted counts) = EndsAt bin env at × (left ≡ []) × (counts ≡ counts_of ds)
+Stop bin ds before env at left n k (verdicts.Spec refusal) = ⊥
+Stop bin ds before env at left n k (verdicts.Binary refusal) = (refusal.statement ≡ n) × FailsFirst (list_checks bin env at) (refusal.at, refusal.rule)
+Stop bin ds before env at left n k (verdicts.Match declaration statement rule) = (declaration ≡ k) × (statement ≡ n) × Differs bin before env at left rule
+Stop bin ds before env at left n k verdicts.Mem = ⊥
 
 -- good statements that agree, and why they stop
 pub record Stops (bin : List ℕ) (ds : List Declaration) (v : Verdict) : Type 0 where
@@ -93,32 +93,32 @@ pub record Stops (bin : List ℕ) (ds : List Declaration) (v : Verdict) : Type 0
   pub layout : Layout bin
   pub statements : GoodTo bin [] (list_at bin) before env at
   pub leaves : Leaves ds before left
-  pub stop : Stop bin ds env at left (length before + 1) (length (publics before) + 1) v
+  pub stop : Stop bin ds before env at left (length before + 1) (length (publics before) + 1) v
 
 no-end : (bin : List ℕ) (env : List Declaration) (at : ℕ) (s : Statement) (next : ℕ) → IsGoodStatement bin env at s next → EndsAt bin env at → ⊥
 no-end bin env at s next good ends =
     let both : Ok (Head good.spelled.code good.spelled.body next) ≡ Ok End = sym good.spelled.stands ∙ ends.ends in cc
 
 -- what comes next agrees
-abbrev pub AgreesNext : List Declaration → Statement → Type 0
-AgreesNext left s = s.is_local ≡ false → (d : Declaration) × (more : List Declaration) × (left ≡ d ∷ more) × AllHold (match_checks d s.decl)
+abbrev pub AgreesNext : List Statement → List Declaration → Statement → Type 0
+AgreesNext before left s = s.is_local ≡ false → (d : Declaration) × (more : List Declaration) × (left ≡ d ∷ more) × AllHold (match_checks d (partner_of before s))
 
-partner-agrees : (left : List Declaration) (s t : Statement) (rule : M) → s ≡ t → t.is_local ≡ false → AgreesNext left s → FailsFirst (partner_checks left t.decl) rule → ⊥
-partner-agrees left s t rule same is_public agrees fails =
+partner-agrees : (before : List Statement) (left : List Declaration) (s t : Statement) (rule : M) → s ≡ t → t.is_local ≡ false → AgreesNext before left s → FailsFirst (partner_checks left (partner_of before t)) rule → ⊥
+partner-agrees before left s t rule same is_public agrees fails =
     let there = agrees (ap (λ (x : Statement). x.is_local) same ∙ is_public) in
-    all_hold-excludes (match_checks there.0 s.decl) rule there.3
-    (subst (λ x. FailsFirst (match_checks there.0 x.decl) rule) (sym same) (subst (λ xs. FailsFirst (partner_checks xs t.decl) rule) there.2 fails))
+    all_hold-excludes (match_checks there.0 (partner_of before s)) rule there.3
+    (subst (λ x. FailsFirst (match_checks there.0 (partner_of before x)) rule) (sym same) (subst (λ xs. FailsFirst (partner_checks xs (partner_of before t)) rule) there.2 fails))
 
 -- nothing stops where a good statement that agrees comes next
-stop-goes : (bin : List ℕ) (ds env : List Declaration) (at : ℕ) (left : List Declaration) (n k : ℕ) (v : Verdict) (s : Statement) (next : ℕ)
-    → Stop bin ds env at left n k v → IsGoodStatement bin env at s next → AgreesNext left s → ⊥
-stop-goes bin ds env at left n k (verdicts.Accepted counts) s next stop good agrees = no-end bin env at s next good stop.0
-stop-goes bin ds env at left n k (verdicts.Spec refusal) s next stop good agrees = stop
-stop-goes bin ds env at left n k (verdicts.Binary refusal) s next stop good agrees = all_hold-excludes (list_checks bin env at) (refusal.at, refusal.rule) good.passes stop.1
-stop-goes bin ds env at left n k (verdicts.Match declaration statement rule) s next (_, _, inl (ends, _)) good agrees = no-end bin env at s next good ends
-stop-goes bin ds env at left n k (verdicts.Match declaration statement rule) s next (_, _, inr (t, after, there, is_public, fails)) good agrees =
-    partner-agrees left s t rule (one-good bin env at s t next after good there).0 is_public agrees fails
-stop-goes bin ds env at left n k verdicts.Mem s next stop good agrees = stop
+stop-goes : (bin : List ℕ) (ds : List Declaration) (before : List Statement) (env : List Declaration) (at : ℕ) (left : List Declaration) (n k : ℕ) (v : Verdict) (s : Statement) (next : ℕ)
+    → Stop bin ds before env at left n k v → IsGoodStatement bin env at s next → AgreesNext before left s → ⊥
+stop-goes bin ds before env at left n k (verdicts.Accepted counts) s next stop good agrees = no-end bin env at s next good stop.0
+stop-goes bin ds before env at left n k (verdicts.Spec refusal) s next stop good agrees = stop
+stop-goes bin ds before env at left n k (verdicts.Binary refusal) s next stop good agrees = all_hold-excludes (list_checks bin env at) (refusal.at, refusal.rule) good.passes stop.1
+stop-goes bin ds before env at left n k (verdicts.Match declaration statement rule) s next (_, _, inl (ends, _)) good agrees = no-end bin env at s next good ends
+stop-goes bin ds before env at left n k (verdicts.Match declaration statement rule) s next (_, _, inr (t, after, there, is_public, fails)) good agrees =
+    partner-agrees before left s t rule (one-good bin env at s t next after good there).0 is_public agrees fails
+stop-goes bin ds before env at left n k verdicts.Mem s next stop good agrees = stop
 
 -- ---- one reason at one place
 
@@ -129,63 +129,63 @@ same-refusal : (r s : Refusal) → r.statement ≡ s.statement → place_of r �
 same-refusal r s n p =
     ap (λ x. record { statement = x; at = r.at; rule = r.rule }) n ∙ ap (λ (x : ℕ × K). record { statement = s.statement; at = x.0; rule = x.1 }) p
 
-rule-one : (bin : List ℕ) (env : List Declaration) (at : ℕ) (left : List Declaration) (r q : M) → Differs bin env at left r → Differs bin env at left q → r ≡ q
-rule-one bin env at left r q (inl (_, f)) (inl (_, g)) = fails_first-unique (end_checks left) r q f g
-rule-one bin env at left r q (inl (ends, _)) (inr (t, next, good, _, _)) = absurd (no-end bin env at t next good ends)
-rule-one bin env at left r q (inr (s, next, good, _, _)) (inl (ends, _)) = absurd (no-end bin env at s next good ends)
-rule-one bin env at left r q (inr (s, next, good, _, f)) (inr (t, after, there, _, g)) =
+rule-one : (bin : List ℕ) (before : List Statement) (env : List Declaration) (at : ℕ) (left : List Declaration) (r q : M) → Differs bin before env at left r → Differs bin before env at left q → r ≡ q
+rule-one bin before env at left r q (inl (_, f)) (inl (_, g)) = fails_first-unique (end_checks left) r q f g
+rule-one bin before env at left r q (inl (ends, _)) (inr (t, next, good, _, _)) = absurd (no-end bin env at t next good ends)
+rule-one bin before env at left r q (inr (s, next, good, _, _)) (inl (ends, _)) = absurd (no-end bin env at s next good ends)
+rule-one bin before env at left r q (inr (s, next, good, _, f)) (inr (t, after, there, _, g)) =
     let same = one-good bin env at s t next after good there in
-    fails_first-unique (partner_checks left s.decl) r q f (subst (λ x. FailsFirst (partner_checks left x.decl) q) (sym same.0) g)
+    fails_first-unique (partner_checks left (partner_of before s)) r q f (subst (λ x. FailsFirst (partner_checks left (partner_of before x)) q) (sym same.0) g)
 
 -- nothing differs at a good end without declarations left, nor where a rule of the binary fails
-differs-ends : (bin : List ℕ) (env : List Declaration) (at : ℕ) (left : List Declaration) (r : M) → Differs bin env at left r → EndsAt bin env at → left ≡ [] → ⊥
-differs-ends bin env at left r (inl (_, f)) ends none = all_hold-excludes (end_checks left) r (none, tt) f
-differs-ends bin env at left r (inr (s, next, good, _, _)) ends none = no-end bin env at s next good ends
+differs-ends : (bin : List ℕ) (before : List Statement) (env : List Declaration) (at : ℕ) (left : List Declaration) (r : M) → Differs bin before env at left r → EndsAt bin env at → left ≡ [] → ⊥
+differs-ends bin before env at left r (inl (_, f)) ends none = all_hold-excludes (end_checks left) r (none, tt) f
+differs-ends bin before env at left r (inr (s, next, good, _, _)) ends none = no-end bin env at s next good ends
 
-differs-fails : (bin : List ℕ) (env : List Declaration) (at : ℕ) (left : List Declaration) (r : M) (f : ℕ × K) → Differs bin env at left r → FailsFirst (list_checks bin env at) f → ⊥
-differs-fails bin env at left r f (inl (ends, _)) fails = all_hold-excludes (list_checks bin env at) f ends.passes fails
-differs-fails bin env at left r f (inr (s, next, good, _, _)) fails = all_hold-excludes (list_checks bin env at) f good.passes fails
+differs-fails : (bin : List ℕ) (before : List Statement) (env : List Declaration) (at : ℕ) (left : List Declaration) (r : M) (f : ℕ × K) → Differs bin before env at left r → FailsFirst (list_checks bin env at) f → ⊥
+differs-fails bin before env at left r f (inl (ends, _)) fails = all_hold-excludes (list_checks bin env at) f ends.passes fails
+differs-fails bin before env at left r f (inr (s, next, good, _, _)) fails = all_hold-excludes (list_checks bin env at) f good.passes fails
 
-stop-one : (bin : List ℕ) (ds env : List Declaration) (at : ℕ) (left : List Declaration) (n k : ℕ) (v w : Verdict) → Stop bin ds env at left n k v → Stop bin ds env at left n k w → v ≡ w
-stop-one bin ds env at left n k (verdicts.Accepted c) (verdicts.Accepted e) a b = ap verdicts.Accepted (a.2 ∙ sym b.2)
-stop-one bin ds env at left n k (verdicts.Accepted c) (verdicts.Spec r) a b = absurd b
-stop-one bin ds env at left n k (verdicts.Accepted c) (verdicts.Binary r) a b = absurd (all_hold-excludes (list_checks bin env at) (r.at, r.rule) a.0.passes b.1)
-stop-one bin ds env at left n k (verdicts.Accepted c) (verdicts.Match d s r) a b = absurd (differs-ends bin env at left r b.2 a.0 a.1)
-stop-one bin ds env at left n k (verdicts.Accepted c) verdicts.Mem a b = absurd b
-stop-one bin ds env at left n k (verdicts.Spec r) w a b = absurd a
-stop-one bin ds env at left n k (verdicts.Binary r) (verdicts.Accepted c) a b = absurd (all_hold-excludes (list_checks bin env at) (r.at, r.rule) b.0.passes a.1)
-stop-one bin ds env at left n k (verdicts.Binary r) (verdicts.Spec q) a b = absurd b
-stop-one bin ds env at left n k (verdicts.Binary r) (verdicts.Binary q) a b =
+stop-one : (bin : List ℕ) (ds : List Declaration) (before : List Statement) (env : List Declaration) (at : ℕ) (left : List Declaration) (n k : ℕ) (v w : Verdict) → Stop bin ds before env at left n k v → Stop bin ds before env at left n k w → v ≡ w
+stop-one bin ds before env at left n k (verdicts.Accepted c) (verdicts.Accepted e) a b = ap verdicts.Accepted (a.2 ∙ sym b.2)
+stop-one bin ds before env at left n k (verdicts.Accepted c) (verdicts.Spec r) a b = absurd b
+stop-one bin ds before env at left n k (verdicts.Accepted c) (verdicts.Binary r) a b = absurd (all_hold-excludes (list_checks bin env at) (r.at, r.rule) a.0.passes b.1)
+stop-one bin ds before env at left n k (verdicts.Accepted c) (verdicts.Match d s r) a b = absurd (differs-ends bin before env at left r b.2 a.0 a.1)
+stop-one bin ds before env at left n k (verdicts.Accepted c) verdicts.Mem a b = absurd b
+stop-one bin ds before env at left n k (verdicts.Spec r) w a b = absurd a
+stop-one bin ds before env at left n k (verdicts.Binary r) (verdicts.Accepted c) a b = absurd (all_hold-excludes (list_checks bin env at) (r.at, r.rule) b.0.passes a.1)
+stop-one bin ds before env at left n k (verdicts.Binary r) (verdicts.Spec q) a b = absurd b
+stop-one bin ds before env at left n k (verdicts.Binary r) (verdicts.Binary q) a b =
     ap verdicts.Binary (same-refusal r q (a.0 ∙ sym b.0) (fails_first-unique (list_checks bin env at) (r.at, r.rule) (q.at, q.rule) a.1 b.1))
-stop-one bin ds env at left n k (verdicts.Binary r) (verdicts.Match d s q) a b = absurd (differs-fails bin env at left q (r.at, r.rule) b.2 a.1)
-stop-one bin ds env at left n k (verdicts.Binary r) verdicts.Mem a b = absurd b
-stop-one bin ds env at left n k (verdicts.Match d s r) (verdicts.Accepted c) a b = absurd (differs-ends bin env at left r a.2 b.0 b.1)
-stop-one bin ds env at left n k (verdicts.Match d s r) (verdicts.Spec q) a b = absurd b
-stop-one bin ds env at left n k (verdicts.Match d s r) (verdicts.Binary q) a b = absurd (differs-fails bin env at left r (q.at, q.rule) a.2 b.1)
-stop-one bin ds env at left n k (verdicts.Match d s r) (verdicts.Match e t q) a b =
-    ap (λ x. verdicts.Match x s r) (a.0 ∙ sym b.0) ∙ ap (λ x. verdicts.Match e x r) (a.1 ∙ sym b.1) ∙ ap (λ x. verdicts.Match e t x) (rule-one bin env at left r q a.2 b.2)
-stop-one bin ds env at left n k (verdicts.Match d s r) verdicts.Mem a b = absurd b
-stop-one bin ds env at left n k verdicts.Mem w a b = absurd a
+stop-one bin ds before env at left n k (verdicts.Binary r) (verdicts.Match d s q) a b = absurd (differs-fails bin before env at left q (r.at, r.rule) b.2 a.1)
+stop-one bin ds before env at left n k (verdicts.Binary r) verdicts.Mem a b = absurd b
+stop-one bin ds before env at left n k (verdicts.Match d s r) (verdicts.Accepted c) a b = absurd (differs-ends bin before env at left r a.2 b.0 b.1)
+stop-one bin ds before env at left n k (verdicts.Match d s r) (verdicts.Spec q) a b = absurd b
+stop-one bin ds before env at left n k (verdicts.Match d s r) (verdicts.Binary q) a b = absurd (differs-fails bin before env at left r (q.at, q.rule) a.2 b.1)
+stop-one bin ds before env at left n k (verdicts.Match d s r) (verdicts.Match e t q) a b =
+    ap (λ x. verdicts.Match x s r) (a.0 ∙ sym b.0) ∙ ap (λ x. verdicts.Match e x r) (a.1 ∙ sym b.1) ∙ ap (λ x. verdicts.Match e t x) (rule-one bin before env at left r q a.2 b.2)
+stop-one bin ds before env at left n k (verdicts.Match d s r) verdicts.Mem a b = absurd b
+stop-one bin ds before env at left n k verdicts.Mem w a b = absurd a
 
 -- ---- one stop
 
-agrees-next : (ds ss-left ts-left : List Declaration) (ss ts : List Statement) (s : Statement) (more : List Statement) → ts ≡ ss ++ s ∷ more → Leaves ds ss ss-left → Leaves ds ts ts-left → AgreesNext ss-left s
+agrees-next : (ds ss-left ts-left : List Declaration) (ss ts : List Statement) (s : Statement) (more : List Statement) → ts ≡ ss ++ s ∷ more → Leaves ds ss ss-left → Leaves ds ts ts-left → AgreesNext ss ss-left s
 agrees-next ds left rest ss ts s more longer a b = λ is_public.
-    let there : publics ts ≡ publics ss ++ s.decl ∷ publics more = ap publics longer ∙ publics-append ss (s ∷ more) ∙ ap (λ ps. publics ss ++ ps) (publics-public s more is_public) in
-    left-next a.done b.done left rest (publics ss) (publics more) s.decl a.agrees (subst (Agrees b.done) there b.agrees) (sym a.all ∙ b.all)
+    let there : publics ts ≡ publics ss ++ partner_of ss s ∷ publics_after (ss ++ s ∷ []) more = ap publics longer ∙ publics-append [] ss (s ∷ more) ∙ ap (λ ps. publics ss ++ ps) (publics-public ss s more is_public) in
+    left-next a.done b.done left rest (publics ss) (publics_after (ss ++ s ∷ []) more) (partner_of ss s) a.agrees (subst (Agrees b.done) there b.agrees) (sym a.all ∙ b.all)
 
 pub stops-one : (bin : List ℕ) (ds : List Declaration) (v w : Verdict) → Stops bin ds v → Stops bin ds w → v ≡ w
 stops-one bin ds v w a b = elim (compare bin [] (list_at bin) a.before b.before a.env b.env a.at b.at a.statements b.statements) [
   | inl same ↦ (
       let left : a.left ≡ b.left = left-same a.leaves.done b.leaves.done a.left b.left (publics a.before) a.leaves.agrees (subst (λ ss. Agrees b.leaves.done (publics ss)) (sym same.statements) b.leaves.agrees) (sym a.leaves.all ∙ b.leaves.all) in
-      stop-one bin ds a.env a.at a.left (length a.before + 1) (length (publics a.before) + 1) v w a.stop
-      (subst (λ x. Stop bin ds x a.at a.left (length a.before + 1) (length (publics a.before) + 1) w) (sym same.declared)
-      (subst (λ x. Stop bin ds b.env x a.left (length a.before + 1) (length (publics a.before) + 1) w) (sym same.place)
-      (subst (λ x. Stop bin ds b.env b.at x (length a.before + 1) (length (publics a.before) + 1) w) (sym left)
-      (subst (λ x. Stop bin ds b.env b.at b.left (length x + 1) (length (publics x) + 1) w) (sym same.statements) b.stop)))))
+      stop-one bin ds a.before a.env a.at a.left (length a.before + 1) (length (publics a.before) + 1) v w a.stop
+      (subst (λ x. Stop bin ds a.before x a.at a.left (length a.before + 1) (length (publics a.before) + 1) w) (sym same.declared)
+      (subst (λ x. Stop bin ds a.before b.env x a.left (length a.before + 1) (length (publics a.before) + 1) w) (sym same.place)
+      (subst (λ x. Stop bin ds a.before b.env b.at x (length a.before + 1) (length (publics a.before) + 1) w) (sym left)
+      (subst (λ x. Stop bin ds x b.env b.at b.left (length x + 1) (length (publics x) + 1) w) (sym same.statements) b.stop)))))
   | inr on ↦ elim on [
-    | inl goes ↦ absurd (stop-goes bin ds a.env a.at a.left (length a.before + 1) (length (publics a.before) + 1) v goes.statement goes.next a.stop goes.good (agrees-next ds a.left b.left a.before b.before goes.statement goes.more goes.longer a.leaves b.leaves))
-    | inr goes ↦ absurd (stop-goes bin ds b.env b.at b.left (length b.before + 1) (length (publics b.before) + 1) w goes.statement goes.next b.stop goes.good (agrees-next ds b.left a.left b.before a.before goes.statement goes.more goes.longer b.leaves a.leaves))
+    | inl goes ↦ absurd (stop-goes bin ds a.before a.env a.at a.left (length a.before + 1) (length (publics a.before) + 1) v goes.statement goes.next a.stop goes.good (agrees-next ds a.left b.left a.before b.before goes.statement goes.more goes.longer a.leaves b.leaves))
+    | inr goes ↦ absurd (stop-goes bin ds b.before b.env b.at b.left (length b.before + 1) (length (publics b.before) + 1) w goes.statement goes.next b.stop goes.good (agrees-next ds b.left a.left b.before a.before goes.statement goes.more goes.longer b.leaves a.leaves))
   ]
 ]
 

@@ -5,19 +5,22 @@ use Rattle.mz_checks.specs.Checks.{AllHold, FailsFirst}
 use Rattle.mz_cmd.specs.declared.rule.Refusal.{Refusal}
 use Rattle.mz_cmd.specs.declared.statement.StmtAt.TheVariants.{End}
 use Rattle.mz_logic.specs.Declaration.{Declaration, sort_decl, term_decl, assertion_decl, terms}
-use Rattle.mz_logic.specs.LegalLists.{Statement, declarations}
+use Rattle.mz_logic.proofs.Closing.{legal_list_is_closed}
+use Rattle.mz_logic.specs.LegalLists.{Statement, declarations, any_derivation}
 use Rattle.mz_layout.specs.Layout.{Layout}
 use Rattle.mz_layout.specs.Tables.{list_at}
 use Rattle.mz_layout.proofs.Parts.{parts-of_layout}
 use Rattle.mz_binary.specs.declared.statement.Statement.{Statement as Told}
-use Rattle.mz_binary.specs.Checking.{AllRowsTaken, checks_of}
+use Rattle.mz_machine.specs.FileRows.{taken_by}
+use Rattle.mz_binary.specs.Checking.{AllTaken, checks_of}
 use Rattle.mz_binary.specs.Chains.{IsGoodStatement, GoodTo}
 use Rattle.mz_binary.specs.Good.{Good, FailsAfter}
 use Rattle.mz_binary.specs.Progress.{Progress, HasPassed, Tells, kind_code, row_after}
 use Rattle.mz_binary.specs.Judging.{Passes}
+use Rattle.mz_binary.specs.FileRun.{file_steps}
 use Rattle.mz_binary.proofs.ChainLaws.{chain-declares}
-use Rattle.mz_binary.proofs.LegalLaws.{good-legal}
-use Rattle.mz_binary.proofs.FaultLaws.{good-spelled}
+use Rattle.mz_binary.proofs.LegalChains.{good-legal}
+use Rattle.mz_binary.proofs.WholeFiles.{good-spelled}
 use Rattle.mz_spec.specs.Spec.{SpecMakes}
 use Rattle.mz_spec.specs.State.{Entry, env_of}
 use Rattle.mz_match.specs.declared.matching.Matching.{Matching}
@@ -25,9 +28,9 @@ use Rattle.mz_match.specs.declared.rule.M.{M}
 use Rattle.mz_match.specs.declared.rule.M.TheVariants as rules
 use Rattle.mz_match.specs.declared.verdict.Verdict.{Verdict}
 use Rattle.mz_match.specs.declared.verdict.Verdict.TheVariants as verdicts
-use Rattle.mz_match.specs.Match.{publics, term_row_of, term_rows, Agrees, Leaves, partner_checks}
+use Rattle.mz_match.specs.Match.{partner_of, publics_after, publics, term_row_of, term_rows, Agrees, Leaves, partner_checks}
 use Rattle.mz_match.specs.Told.{IsTold, IsMatched}
-use Rattle.mz_match.specs.Verdict.{counts_of, IsSoundIfAccepted, IsVerdict}
+use Rattle.mz_match.specs.Verdict.{IsDifference, Ticks, counts_of, IsSoundIfAccepted, IsVerdict}
 use Rattle.mz_match.proofs.Lists.{append-nil, publics-append, publics-local, publics-public, term_rows-append, drop-further, drop-past, kinds-total, length-declarations, length-env, leaves-nothing, leaves-local, leaves-public, partner-there}
 
 abbrev assertion_code : Bool → ℕ
@@ -37,13 +40,16 @@ assertion-code : (b : Bool) → assertion_code b ≡ 0x05 → ⊥
 assertion-code true e = absurd (omega arith)
 assertion-code false e = absurd (omega arith)
 
-publics-fewer : (ss : List Statement) → length (publics ss) ≤ length ss
-publics-fewer [] = omega arith
-publics-fewer (s ∷ ss) = by s.is_local (publics-fewer ss)
+after-fewer : (before ss : List Statement) → length (publics_after before ss) ≤ length ss
+after-fewer before [] = omega arith
+after-fewer before (s ∷ ss) = by s.is_local (after-fewer (before ++ s ∷ []) ss)
   where
-    by : (local : Bool) → length (publics ss) ≤ length ss → length (if local then publics ss else s.decl ∷ publics ss) ≤ length (s ∷ ss)
+    by : (local : Bool) → length (publics_after (before ++ s ∷ []) ss) ≤ length ss → length (if local then publics_after (before ++ s ∷ []) ss else partner_of before s ∷ publics_after (before ++ s ∷ []) ss) ≤ length (s ∷ ss)
     by true few = omega arith
     by false few = omega arith
+
+publics-fewer : (ss : List Statement) → length (publics ss) ≤ length ss
+publics-fewer ss = after-fewer [] ss
 
 -- before the first statement
 pub matched-nothing : (p : Progress) (ds : List Declaration) (m : Matching) → Layout p.file → HasPassed p [] [] → m.done ≡ 0 → m.passed ≡ 0 → m.publics ≡ [] → IsMatched p ds m [] []
@@ -97,20 +103,20 @@ module _ (p : Progress) (ds : List Declaration) (m : Matching) (ss : List Statem
     passed = passes.passed;
     leaves = subst (λ k. Leaves ds (ss ++ s ∷ []) (drop k ds)) (sym same_done) (leaves-local ds (drop m.done ds) ss s is_local matched.leaves);
     within = omega (arith, same_done, matched.within);
-    done_is = same_done ∙ matched.done_is ∙ ap length (sym (publics-append ss (s ∷ []) ∙ ap (λ ps. publics ss ++ ps) (publics-local s is_local) ∙ append-nil (publics ss)));
+    done_is = same_done ∙ matched.done_is ∙ ap length (sym (publics-append [] ss (s ∷ []) ∙ ap (λ ps. publics ss ++ ps) (publics-local ss s is_local) ∙ append-nil (publics ss)));
     passed_is = many;
     rows_are = same_rows ∙ sym (rows-more ∙ ap (λ (b : Bool). m.publics ++ ((if b then [] else term_row_of (length (terms env)) s.decl) ++ [])) is_local ∙ append-nil m.publics);
   }
 
   -- a public one has its partner
-  pub matched-public : s.is_local ≡ false → AllHold (partner_checks (drop m.done ds) s.decl) → later.done ≡ m.done + 1 → later.publics ≡ m.publics ++ term_row_of (length (terms env)) s.decl
+  pub matched-public : s.is_local ≡ false → AllHold (partner_checks (drop m.done ds) (partner_of ss s)) → later.done ≡ m.done + 1 → later.publics ≡ m.publics ++ term_row_of (length (terms env)) s.decl
       → IsMatched after ds later (ss ++ s ∷ []) (env ++ s.decl ∷ [])
   matched-public is_public agrees one_more rows =
-      let there = partner-there (drop m.done ds) s.decl agrees in
+      let there = partner-there (drop m.done ds) (partner_of ss s) agrees in
       let further = drop-further ds m.done there.0 there.1 there.2 in
       let next : later.done ≡ suc m.done = omega (arith, one_more) in
       let counted : length (publics (ss ++ s ∷ [])) ≡ length (publics ss) + 1 =
-      ap length (publics-append ss (s ∷ []) ∙ ap (λ ps. publics ss ++ ps) (publics-public s [] is_public)) ∙ length-append (publics ss) (s.decl ∷ []) in
+      ap length (publics-append [] ss (s ∷ []) ∙ ap (λ ps. publics ss ++ ps) (publics-public ss s [] is_public)) ∙ length-append (publics ss) (partner_of ss s ∷ []) in
       record {
         layout = layout;
         passed = passes.passed;
@@ -143,7 +149,7 @@ done-fewer p ds m ss env after told matched passes = omega (arith, matched.done_
 
 -- a public statement differs
 pub differs-here : (text : List ℕ) (es : List Entry) (p : Progress) (m : Matching) (ss : List Statement) (env : List Declaration) (after : Progress) (told : Told) (rule : M)
-    → SpecMakes text es → IsMatched p (env_of es) m ss env → (passes : Passes p ss env after told) → told.local ≡ false → FailsFirst (partner_checks (drop m.done (env_of es)) passes.statement.decl) rule
+    → SpecMakes text es → IsMatched p (env_of es) m ss env → (passes : Passes p ss env after told) → told.local ≡ false → FailsFirst (partner_checks (drop m.done (env_of es)) (partner_of ss passes.statement)) rule
     → IsVerdict text p.file (verdicts.Match (m.done + 1) told.number rule)
 differs-here text es p m ss env after told rule makes matched passes is_public fails = (
   env_of es,
@@ -205,8 +211,8 @@ accepted-here text es p m ss env makes matched good all =
 pub few-statements : (file : List ℕ) (ss : List Statement) → length file < 2 ^ 32 → Good file ss → length ss + 1 < 2 ^ 32
 few-statements file ss small good =
     let parts = parts-of_layout file good.layout in
-    let at_end : AllHold (checks_of file good.env good.to (Ok End)) = subst (λ r. AllHold (checks_of file good.env good.to r)) good.ends.ends good.ends.passes.1 in
-    let taken : AllRowsTaken file good.env = at_end.0 in
+    let at_end : AllHold (checks_of file (taken_by good.env) good.to (Ok End)) = subst (λ r. AllHold (checks_of file (taken_by good.env) good.to r)) good.ends.ends good.ends.passes in
+    let taken : AllTaken file (taken_by good.env) = at_end.0 in
     let declares : length good.env ≡ length (declarations ss) = ap length (chain-declares (IsGoodStatement file) [] (list_at file) ss good.env good.to good.statements) in
     omega (arith, small, parts.few_sorts, parts.few_terms, parts.few_thms, taken.sorts_taken, taken.terms_taken, taken.thms_taken, declares, kinds-total good.env, length-declarations ss)
 
@@ -218,9 +224,19 @@ sound spec bin (verdicts.Accepted counts) (a, is) = record {
   is_spec = a.is_spec;
   spelled = good-spelled bin a.statements a.is_good;
   legal = good-legal bin a.statements a.is_good;
+  closed = legal_list_is_closed any_derivation a.statements (good-legal bin a.statements a.is_good);
   agrees = a.agrees;
 }
 sound spec bin (verdicts.Spec refusal) is = tt
 sound spec bin (verdicts.Binary refusal) is = tt
 sound spec bin (verdicts.Match declaration statement rule) is = tt
 sound spec bin verdicts.Mem is = tt
+
+-- ---- steps
+
+pub stop-ticks : (bin : List ℕ) (old new : ℕ) (v : Verdict) → IsDifference v → new ≤ old + file_steps bin → Ticks bin old new v
+stop-ticks bin old new (verdicts.Accepted counts) is few = absurd is
+stop-ticks bin old new (verdicts.Spec refusal) is few = absurd is
+stop-ticks bin old new (verdicts.Binary refusal) is few = absurd is
+stop-ticks bin old new (verdicts.Match declaration statement rule) is few = few
+stop-ticks bin old new verdicts.Mem is few = tt

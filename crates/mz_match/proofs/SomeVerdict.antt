@@ -6,7 +6,7 @@ use Rattle.mz_checks.specs.Checks.{AreDecided}
 use Rattle.mz_checks.proofs.CheckLaws.{all_hold-or_fails}
 use Rattle.mz_checks.proofs.InOrder.{bytes-decided}
 use Rattle.mz_cmd.specs.declared.rule.Refusal.{Refusal}
-use Rattle.mz_logic.specs.Declaration.{Declaration, sort_decl, term_decl, assertion_decl, Form, plain_form, abstract_form, defined}
+use Rattle.mz_logic.specs.Declaration.{Declaration, sort_decl, term_decl, assertion_decl, Assertion, Form, plain_form, abstract_form, defined}
 use Rattle.mz_logic.specs.declared.binder.Binder.{Binder}
 use Rattle.mz_logic.specs.declared.binder.ResultType.{ResultType}
 use Rattle.mz_logic.specs.declared.binder.SortMods.{SortMods}
@@ -16,7 +16,7 @@ use Rattle.mz_layout.specs.Tables.{list_at}
 use Rattle.mz_binary.specs.Chains.{IsGoodStatement, GoodTo}
 use Rattle.mz_binary.specs.Good.{Good, FailsAfter, BinaryFault}
 use Rattle.mz_binary.proofs.ChainLaws.{chain-more}
-use Rattle.mz_binary.proofs.FaultLaws.{good-or-fault}
+use Rattle.mz_binary.proofs.WholeFiles.{good-or-fault}
 use Rattle.mz_spec.specs.Spec.{SpecOf, SpecMakes, SpecFault}
 use Rattle.mz_spec.specs.State.{Entry, env_of}
 use Rattle.mz_spec.specs.declared.refusal.SpecRefusal.{SpecRefusal}
@@ -28,8 +28,9 @@ use Rattle.mz_match.specs.declared.rule.M.TheVariants as rules
 use Rattle.mz_match.specs.declared.verdict.Counts.{Counts}
 use Rattle.mz_match.specs.declared.verdict.Verdict.{Verdict}
 use Rattle.mz_match.specs.declared.verdict.Verdict.TheVariants as verdicts
-use Rattle.mz_match.specs.Match.{publics, number_of, kind_of, form_checks, part_checks, Agrees, Leaves, partner_checks}
+use Rattle.mz_match.specs.Match.{Partner, partner_of, publics, number_of, kind_of, form_checks, assertion_checks, part_checks, Agrees, Leaves, partner_checks}
 use Rattle.mz_match.specs.Verdict.{counts_of, AcceptsWith, MatchFails, FirstRefusal}
+use Rattle.mz_match.proofs.SameDecided.{same-tree-decided, same-trees-decided, same-body-decided}
 use Rattle.mz_match.proofs.Lists.{append-nil, leaves-nothing, leaves-local, leaves-public, partner-there}
 
 -- ---- whether a declaration and its partner agree can be found out
@@ -91,26 +92,32 @@ result-decided r t = go (cases_eq r.sort t.sort) (bytes-decided r.deps t.deps)
     go (inr out) u = inr (λ e. out (ap (λ (x : ResultType). x.sort) e))
     go (inl s) (inr out) = inr (λ e. out (ap (λ (x : ResultType). x.deps) e))
 
-form-decided : (f : Form) → AreDecided (form_checks f)
-form-decided plain_form = tt
-form-decided abstract_form = tt
-form-decided (defined dummies body) = (inr (λ h. h), λ _. tt)
+assertion-decided : (rows : List ℕ) (a b : Assertion) → AreDecided (assertion_checks rows a b)
+assertion-decided rows a b =
+    (list-decided binder-decided a.params b.params, λ _. (same-trees-decided rows a.hyps b.hyps, λ _. (same-tree-decided rows a.conclusion b.conclusion, λ _. tt)))
 
-part-decided : (d p : Declaration) → AreDecided (part_checks d p)
-part-decided (sort_decl m) (sort_decl n) = (mods-decided m n, λ _. tt)
-part-decided (sort_decl m) (term_decl e) = tt
-part-decided (sort_decl m) (assertion_decl b) = tt
-part-decided (term_decl d) (sort_decl n) = tt
-part-decided (term_decl d) (term_decl e) =
-    (list-decided binder-decided d.signature.params e.signature.params, λ _. (result-decided d.signature.result e.signature.result, λ _. form-decided d.form))
-part-decided (term_decl d) (assertion_decl b) = tt
-part-decided (assertion_decl a) (sort_decl n) = tt
-part-decided (assertion_decl a) (term_decl e) = tt
-part-decided (assertion_decl a) (assertion_decl b) = (inr (λ h. h), λ _. tt)
+form-decided : (rows : List ℕ) (n : ℕ) (f g : Form) → AreDecided (form_checks rows n f g)
+form-decided rows n plain_form g = tt
+form-decided rows n abstract_form g = tt
+form-decided rows n (defined ds b) plain_form = (inr (λ h. h), λ _. tt)
+form-decided rows n (defined ds b) abstract_form = (inr (λ h. h), λ _. tt)
+form-decided rows n (defined ds b) (defined es c) = (same-body-decided rows n ds es b c, λ _. tt)
 
-partner-decided : (left : List Declaration) (p : Declaration) → AreDecided (partner_checks left p)
+part-decided : (rows : List ℕ) (d p : Declaration) → AreDecided (part_checks rows d p)
+part-decided rows (sort_decl m) (sort_decl n) = (mods-decided m n, λ _. tt)
+part-decided rows (sort_decl m) (term_decl e) = tt
+part-decided rows (sort_decl m) (assertion_decl b) = tt
+part-decided rows (term_decl d) (sort_decl n) = tt
+part-decided rows (term_decl d) (term_decl e) =
+    (list-decided binder-decided d.signature.params e.signature.params, λ _. (result-decided d.signature.result e.signature.result, λ _. form-decided rows (length d.signature.params) d.form e.form))
+part-decided rows (term_decl d) (assertion_decl b) = tt
+part-decided rows (assertion_decl a) (sort_decl n) = tt
+part-decided rows (assertion_decl a) (term_decl e) = tt
+part-decided rows (assertion_decl a) (assertion_decl b) = assertion-decided rows a b
+
+partner-decided : (left : List Declaration) (p : Partner) → AreDecided (partner_checks left p)
 partner-decided [] p = (inr (λ h. h), λ _. tt)
-partner-decided (d ∷ left) p = (kind-decided (kind_of d) (kind_of p), λ _. part-decided d p)
+partner-decided (d ∷ left) p = (kind-decided (kind_of d) (kind_of p.decl), λ _. part-decided p.rows d p.decl)
 
 -- ---- along good statements
 
@@ -135,9 +142,9 @@ module _ (bin : List ℕ) (layout : Layout bin) (ds : List Declaration) where
       walk (before ++ s ∷ []) (env ++ s.decl ∷ []) chain.0 ss env' to rest (chain-more (IsGoodStatement bin) [] (list_at bin) before env at s chain.0 passed chain.1) more chain.2 in
       subst (Walked bin ds) (append_assoc before (s ∷ []) ss) (elim (mark s) [
         | inl is_local ↦ go left (leaves-local ds left before s is_local leaves)
-        | inr is_public ↦ elim (all_hold-or_fails (partner_checks left s.decl) (partner-decided left s.decl)) [
+        | inr is_public ↦ elim (all_hold-or_fails (partner_checks left (partner_of before s)) (partner-decided left (partner_of before s))) [
           | inl agrees ↦ (
-              let there = partner-there left s.decl agrees in
+              let there = partner-there left (partner_of before s) agrees in
               go there.1 (leaves-public ds there.1 there.0 before s is_public there.3 (subst (Leaves ds before) there.2 leaves)))
           | inr fails ↦ inr (
             length (publics before) + 1,

@@ -1,3 +1,9 @@
+pub mod Trees
+pub mod Streams
+pub mod Comparing
+pub mod Beside
+pub mod RowWords
+pub mod TellsRow
 pub mod Match
 pub mod Lines
 pub mod Verdict

@@ -1,20 +1,16 @@
 -- The match: the declarations of a specification beside the public statements of a binary, in order.
-use Rattle.std.specs.Prelude.{◌≡◌, ◌+◌, ◌++◌, ⊤, ℕ, List, [], ◌∷◌, length, Bool, ◌==◌, if◌then◌else◌}
+use Rattle.std.specs.Prelude.{◌≡◌, ◌+◌, ◌++◌, ⊤, ℕ, List, [], ◌∷◌, length, Bool, true, false, ◌==◌, if◌then◌else◌}
 use Rattle.mz_checks.specs.Checks.{Checks, nothing, demand, ◌>>◌, AllHold}
-use Rattle.mz_logic.specs.Declaration.{Declaration, sort_decl, term_decl, assertion_decl, Form, plain_form, abstract_form, defined, terms}
+use Rattle.mz_logic.specs.Declaration.{Declaration, sort_decl, term_decl, assertion_decl, Assertion, Form, plain_form, abstract_form, defined, terms}
 use Rattle.mz_logic.specs.LegalLists.{Statement}
 use Rattle.mz_logic.specs.Signature.{Signature}
 use Rattle.mz_match.specs.declared.kind.Kind.{Kind}
 use Rattle.mz_match.specs.declared.kind.Kind.TheVariants as kinds
 use Rattle.mz_match.specs.declared.rule.M.{M}
 use Rattle.mz_match.specs.declared.rule.M.TheVariants as rules
+use Rattle.mz_match.specs.Trees.{SameTree, SameTrees, SameBody}
 
 -- ---- public statements
-
--- what the statements that aren't local declare, in order: a specification speaks of these alone
-abbrev pub publics : List Statement → List Declaration
-publics [] = []
-publics (s ∷ ss) = if s.is_local then publics ss else s.decl ∷ publics ss
 
 -- the row that a declaration takes in the table of terms, if it is a term or definition
 abbrev pub term_row_of : ℕ → Declaration → List ℕ
@@ -27,7 +23,29 @@ abbrev pub term_rows : ℕ → List Statement → List ℕ
 term_rows n [] = []
 term_rows n (s ∷ ss) = (if s.is_local then [] else term_row_of n s.decl) ++ term_rows (n + length (terms (s.decl ∷ []))) ss
 
+-- What a public statement declares, and the rows of the public terms before it: the i-th of these is the
+-- specification's i-th term.
+pub record Partner : Type 0 where
+  pub rows : List ℕ
+  pub decl : Declaration
+
+abbrev pub partner_of : List Statement → Statement → Partner
+partner_of before s = record { rows = term_rows 0 before; decl = s.decl }
+
+-- the statements that aren't local, in order, after others: a specification speaks of these alone
+abbrev pub publics_after : List Statement → List Statement → List Partner
+publics_after before [] = []
+publics_after before (s ∷ ss) = if s.is_local then publics_after (before ++ s ∷ []) ss else partner_of before s ∷ publics_after (before ++ s ∷ []) ss
+
+abbrev pub publics : List Statement → List Partner
+publics ss = publics_after [] ss
+
 -- ---- a declaration and its partner
+
+abbrev pub is_plain : Form → Bool
+is_plain plain_form = true
+is_plain abstract_form = false
+is_plain (defined _ _) = false
 
 abbrev pub kind_of_form : Form → Kind
 kind_of_form plain_form = kinds.Term
@@ -53,40 +71,41 @@ is_kind k l = number_of k == number_of l
 abbrev pub signature_checks : Signature → Signature → Checks M
 signature_checks d e = demand rules.Binders (d.params ≡ e.params) >> demand rules.Result (d.result ≡ e.result)
 
--- no binary has definitions yet, so one with a body agrees with nothing
-abbrev pub form_checks : Form → Checks M
-form_checks plain_form = nothing
-form_checks abstract_form = nothing
-form_checks (defined _ _) = demand rules.Body ⊥
+-- where the specification gives a body, the binary has one, the same after n parameters up to the names of dummies
+abbrev pub form_checks : List ℕ → ℕ → Form → Form → Checks M
+form_checks rows n (defined ds body) (defined es other) = demand rules.Body (SameBody rows n ds es body other)
+form_checks rows n (defined ds body) g = demand rules.Body ⊥
+form_checks rows n f g = nothing
 
--- what is asked of two declarations of one kind; no binary has axioms and theorems yet, so these agree
--- with nothing
-abbrev pub part_checks : Declaration → Declaration → Checks M
-part_checks (sort_decl m) (sort_decl n) = demand rules.Modifiers (m ≡ n)
-part_checks (sort_decl m) (term_decl e) = nothing
-part_checks (sort_decl m) (assertion_decl b) = nothing
-part_checks (term_decl d) (sort_decl n) = nothing
-part_checks (term_decl d) (term_decl e) = signature_checks d.signature e.signature >> form_checks d.form
-part_checks (term_decl d) (assertion_decl b) = nothing
-part_checks (assertion_decl a) (sort_decl n) = nothing
-part_checks (assertion_decl a) (term_decl e) = nothing
-part_checks (assertion_decl a) (assertion_decl b) = demand rules.Binders ⊥
+-- two axioms, or two theorems, have the same parameters, hypotheses and conclusion
+abbrev pub assertion_checks : List ℕ → Assertion → Assertion → Checks M
+assertion_checks rows a b =
+    demand rules.Binders (a.params ≡ b.params)
+    >> demand rules.Hypotheses (SameTrees rows a.hyps b.hyps)
+    >> demand rules.Conclusion (SameTree rows a.conclusion b.conclusion)
 
--- what is asked of a declaration and what its partner declares, in order
-abbrev pub match_checks : Declaration → Declaration → Checks M
-match_checks d p = demand rules.Kind (kind_of d ≡ kind_of p) >> part_checks d p
+-- what is asked of two declarations of one kind
+abbrev pub part_checks : List ℕ → Declaration → Declaration → Checks M
+part_checks rows (sort_decl m) (sort_decl n) = demand rules.Modifiers (m ≡ n)
+part_checks rows (term_decl d) (term_decl e) = signature_checks d.signature e.signature >> form_checks rows (length d.signature.params) d.form e.form
+part_checks rows (assertion_decl a) (assertion_decl b) = assertion_checks rows a b
+part_checks rows d e = nothing
+
+-- what is asked of a declaration and its partner, in order
+abbrev pub match_checks : Declaration → Partner → Checks M
+match_checks d p = demand rules.Kind (kind_of d ≡ kind_of p.decl) >> part_checks p.rows d p.decl
 
 -- ---- all of them
 
 -- as many declarations as partners, which agree in order
-abbrev pub Agrees : List Declaration → List Declaration → Type 0
+abbrev pub Agrees : List Declaration → List Partner → Type 0
 Agrees [] [] = ⊤
 Agrees [] (p ∷ ps) = ⊥
 Agrees (d ∷ ds) [] = ⊥
 Agrees (d ∷ ds) (p ∷ ps) = AllHold (match_checks d p) × Agrees ds ps
 
--- what is asked of a public statement's declaration, where these declarations are left
-abbrev pub partner_checks : List Declaration → Declaration → Checks M
+-- what is asked of a public statement, where these declarations are left
+abbrev pub partner_checks : List Declaration → Partner → Checks M
 partner_checks [] p = demand rules.Extra ⊥
 partner_checks (d ∷ ds) p = match_checks d p
 

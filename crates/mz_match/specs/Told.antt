@@ -3,8 +3,7 @@ use Rattle.std.specs.Prelude.{◌≡◌, ◌<◌, ◌≤◌, ◌+◌, ℕ, List,
 use Rattle.mz_logic.specs.Declaration.{Declaration, sort_decl, term_decl, assertion_decl}
 use Rattle.mz_logic.specs.declared.binder.SortMods.{SortMods}
 use Rattle.mz_logic.specs.LegalLists.{Statement}
-use Rattle.mz_layout.specs.Tables.{list_at, sort_count, term_count, mods_of, term_row}
-use Rattle.mz_binary.specs.Laws.{SaysTerm}
+use Rattle.mz_layout.specs.Tables.{list_at}
 use Rattle.mz_binary.specs.declared.statement.Statement.{Statement as Told}
 use Rattle.mz_binary.specs.Chains.{IsGoodStatement, GoodTo}
 use Rattle.mz_binary.specs.Progress.{Progress, HasPassed, Tells}
@@ -19,12 +18,6 @@ pub record IsTold (bin rows : List ℕ) (told : Told) (ss : List Statement) (env
   pub good : IsGoodStatement bin env told.at s next
   pub tells : Tells told (length ss + 1) told.at env s
   pub rows_are : rows ≡ term_rows 0 ss
-
--- the row of the statement that is told says the declaration
-abbrev pub IsRowOf : List ℕ → Told → Declaration → Type 0
-IsRowOf bin told (sort_decl m) = (told.kind ≡ 0x04) × (told.row < sort_count bin) × (m ≡ mods_of bin told.row)
-IsRowOf bin told (term_decl d) = (told.kind ≡ 0x05) × (told.row < term_count bin) × ((ss : List SortMods) × SaysTerm ss (term_row bin told.row) d)
-IsRowOf bin told (assertion_decl a) = ⊥
 
 -- ---- how far the match has come
 

@@ -1,12 +1,14 @@
 -- What is said of a specification and a binary together.
-use Rattle.std.specs.Prelude.{◌≡◌, ◌⊎◌, ◌+◌, ⊤, ℕ, List, [], ◌∷◌, length, false, if◌then◌else◌}
+use Rattle.std.specs.Prelude.{◌≡◌, ◌≤◌, ◌⊎◌, ◌+◌, ⊤, ℕ, List, [], ◌∷◌, length, false, if◌then◌else◌}
 use Rattle.mz_checks.specs.Checks.{FailsFirst}
 use Rattle.mz_cmd.specs.declared.rule.Refusal.{Refusal}
 use Rattle.mz_logic.specs.Declaration.{Declaration}
 use Rattle.mz_logic.specs.LegalLists.{Statement, Legal}
+use Rattle.mz_logic.specs.Closed.{TheoremsClosed}
 use Rattle.mz_layout.specs.Layout.{Layout, layout_checks}
 use Rattle.mz_layout.specs.Tables.{list_at}
 use Rattle.mz_binary.specs.Chains.{Statements, IsGoodStatement, GoodTo, EndsAt}
+use Rattle.mz_binary.specs.FileRun.{file_steps}
 use Rattle.mz_binary.specs.Good.{Good, FailsAfter}
 use Rattle.mz_spec.specs.Spec.{SpecOf, SpecFault}
 use Rattle.mz_match.specs.declared.kind.Kind.{Kind}
@@ -17,7 +19,7 @@ use Rattle.mz_match.specs.declared.verdict.Verdict.{Verdict}
 use Rattle.mz_match.specs.declared.verdict.Verdict.TheVariants as verdicts
 use Rattle.mz_binary.specs.RefusalLine.{refusal_line}
 use Rattle.mz_match.specs.Lines.{accepted_line, spec_line, match_line}
-use Rattle.mz_match.specs.Match.{publics, kind_of, is_kind, Agrees, Leaves, partner_checks, end_checks}
+use Rattle.mz_match.specs.Match.{partner_of, publics, kind_of, is_kind, Agrees, Leaves, partner_checks, end_checks}
 
 -- ---- accepted
 
@@ -47,13 +49,15 @@ pub record Accepts (spec bin : List ℕ) : Type 0 where
 abbrev pub AcceptsWith : List ℕ → List ℕ → Counts → Type 0
 AcceptsWith spec bin counts = (accepts : Accepts spec bin) × (counts ≡ counts_of accepts.declared)
 
--- the binary's statements are a legal list, and its public ones agree with what the specification declares
+-- The binary's statements are a legal list, and each theorem has a closed derivation, whose only citations are of axioms
+-- before it; the public ones agree with what the specification declares.
 pub record IsSound (spec bin : List ℕ) : Type 0 where
   pub declared : List Declaration
   pub statements : List Statement
   pub is_spec : SpecOf spec declared
   pub spelled : Statements bin statements
   pub legal : Legal statements
+  pub closed : TheoremsClosed statements
   pub agrees : Agrees declared (publics statements)
 
 abbrev pub IsSoundIfAccepted : List ℕ → List ℕ → Verdict → Type 0
@@ -74,10 +78,10 @@ BinaryFails bin ds refusal =
 
 -- after good statements that agree, the list ends before the declarations do, or a good public statement stands there
 -- that differs from the next declaration
-abbrev pub Differs : List ℕ → List Declaration → ℕ → List Declaration → M → Type 0
-Differs bin env at left rule =
+abbrev pub Differs : List ℕ → List Statement → List Declaration → ℕ → List Declaration → M → Type 0
+Differs bin before env at left rule =
     (EndsAt bin env at × FailsFirst (end_checks left) rule)
-    ⊎ ((s : Statement) × (next : ℕ) × IsGoodStatement bin env at s next × (s.is_local ≡ false) × FailsFirst (partner_checks left s.decl) rule)
+    ⊎ ((s : Statement) × (next : ℕ) × IsGoodStatement bin env at s next × (s.is_local ≡ false) × FailsFirst (partner_checks left (partner_of before s)) rule)
 
 -- the first difference: at which declaration, and at which statement
 pub record MatchFails (bin : List ℕ) (ds : List Declaration) (declaration statement : ℕ) (rule : M) : Type 0 where
@@ -90,7 +94,7 @@ pub record MatchFails (bin : List ℕ) (ds : List Declaration) (declaration stat
   pub leaves : Leaves ds before left
   pub declaration_is : declaration ≡ length (publics before) + 1
   pub statement_is : statement ≡ length before + 1
-  pub fails : Differs bin env at left rule
+  pub fails : Differs bin before env at left rule
 
 -- the first refusal: of the specification, else of the binary or of the match, whichever comes first
 abbrev pub FirstRefusal : List ℕ → List ℕ → Verdict → Type 0
@@ -118,3 +122,22 @@ line_of (verdicts.Spec refusal) = spec_line refusal
 line_of (verdicts.Binary refusal) = refusal_line refusal
 line_of (verdicts.Match declaration statement rule) = match_line declaration statement rule
 line_of verdicts.Mem = []
+
+-- ---- steps
+
+-- the commands executed: none before the binary, then all of it up to its first fault, and no more than these at a
+-- difference; where memory is wanting only the bound on the whole file holds
+abbrev pub Ticks : List ℕ → (old new : ℕ) → Verdict → Type 0
+Ticks bin old new (verdicts.Accepted counts) = new ≡ old + file_steps bin
+Ticks bin old new (verdicts.Spec refusal) = new ≡ old
+Ticks bin old new (verdicts.Binary refusal) = new ≡ old + file_steps bin
+Ticks bin old new (verdicts.Match declaration statement rule) = new ≤ old + file_steps bin
+Ticks bin old new verdicts.Mem = ⊤
+
+-- a difference, or want of memory
+abbrev pub IsDifference : Verdict → Type 0
+IsDifference (verdicts.Accepted counts) = ⊥
+IsDifference (verdicts.Spec refusal) = ⊥
+IsDifference (verdicts.Binary refusal) = ⊥
+IsDifference (verdicts.Match declaration statement rule) = ⊤
+IsDifference verdicts.Mem = ⊤

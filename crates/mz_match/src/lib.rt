@@ -5,6 +5,7 @@
 //! accepted and what the first refusal is, and `specs/Lines.antt` the printed lines.
 #![tactic(auto)]
 
+mod compare;
 mod count;
 mod kind;
 mod laws;
@@ -14,6 +15,7 @@ mod pair;
 mod publics;
 mod rule;
 mod signature;
+mod stream;
 #[cfg(test)]
 mod tests;
 mod verdict;

@@ -8,7 +8,7 @@ ghost use Rattle.mz_binary.specs.Progress.{HasPassed, Progress};
 ghost use Rattle.mz_spec.specs.Spec.{SpecMakes};
 ghost use Rattle.mz_spec.specs.State.{Entry, env_of};
 ghost use Rattle.mz_match.specs.Told.{IsMatched, IsMatchedMore, IsNextTold};
-ghost use Rattle.mz_match.specs.Verdict.{IsVerdict, counts_of};
+ghost use Rattle.mz_match.specs.Verdict.{IsDifference, IsVerdict, counts_of};
 
 use crate::count::count_all;
 use crate::pair::{TERM, match_statement};
@@ -51,6 +51,7 @@ impl Matching {
         requires told { IsNextTold mmb.now (env_of spec.now) self.old told.now }
         ensures passed { (p after : Progress) (ss : List Declared) (env : List Declaration) → p.file ≡ mmb.now → IsMatched p (env_of spec.now) self.old ss env
             → Passes p ss env after told.now → OnOk result (IsMatchedMore (env_of spec.now) self.new after) }
+        ensures kind { IfErr result IsDifference }
         ensures stops { (text : List ℕ) → SpecMakes text spec.now → IfErr result (λ verdict. IsVerdict text mmb.now verdict) }
     {
         if !told.local {

@@ -1,25 +1,34 @@
 // A declaration and its partner.
-ghost use Rattle.std.specs.Prelude.{◌≡◌, ◌≤◌, ◌↔◌, ℕ, IsTrue, List, drop, length, false};
+ghost use Rattle.std.specs.Prelude.{◌≡◌, ◌≤◌, ◌↔◌, ℕ, IsTrue, List, OnErr, drop, if◌then◌else◌, length, false, true};
 ghost use Rattle.mz_checks.specs.Checks.{Judges};
-ghost use Rattle.mz_logic.specs.Declaration.{Declaration, plain_form, sort_decl};
-ghost use Rattle.mz_logic.specs.DeclView.{declaration, form as form_lem, term_of};
+ghost use Rattle.mz_logic.specs.Declaration.{Assertion, Declaration, Term, sort_decl};
+ghost use Rattle.mz_logic.specs.DeclView.{assertion_of, assertion_view, declaration, form as form_lem, is_axiom, term_of};
 ghost use Rattle.mz_logic.specs.LegalLists.{Statement as Declared};
 ghost use Rattle.mz_spec.specs.State.{env_of};
-ghost use Rattle.mz_match.specs.Match.{match_checks, partner_checks};
-ghost use Rattle.mz_match.specs.Told.{IsRowOf, IsTold};
+ghost use Rattle.mz_layout.specs.Tables.{term_row};
+ghost use Rattle.mz_binary.specs.Laws.{is_defined};
+ghost use Rattle.mz_match.specs.Match.{assertion_checks, form_checks, is_plain as plain_lem, match_checks, partner_checks, partner_of};
+ghost use Rattle.mz_match.specs.TellsRow.{IsRowOf, IsTermRow, IsThmRow};
+ghost use Rattle.mz_match.specs.Told.{IsTold};
 
+use crate::compare::{Sides, same_body, same_first, same_hyps};
 use crate::publics::Publics;
 use crate::rule::M;
-use crate::signature::match_signature;
+use crate::signature::{RowOf, match_params, match_signature};
 use mz_binary::Statement;
 use mz_layout::Mmb;
-use mz_logic::{Decl, SortMods, TermDecl, TermForm, Terms};
+use mz_logic::{Decl, SortMods, TermDecl, TermForm, Terms, ThmDecl, ThmForm};
 use mz_spec::Spec;
 
 /// The codes of a sort's and of a term's statement.
 pub const SORT: u8 = 0x04;
 
 pub const TERM: u8 = 0x05;
+
+/// The codes of an axiom's and of a theorem's statement.
+pub const AXIOM: u8 = 0x02;
+
+pub const THEOREM: u8 = 0x06;
 
 /// Compares a public statement, which a checker of the binary told, with the i-th declaration, its
 /// partner. `publics` holds the public terms before it.
@@ -38,29 +47,34 @@ pub fn match_statement(
     requires told { (ss : List Declared) × (env : List Declaration) × (s : Declared) × (next : ℕ) × IsTold mmb.now publics.now statement.now ss env s next }
     requires public_ { statement.now.local ≡ false }
     ensures { (ss : List Declared) (env : List Declaration) (s : Declared) (next : ℕ) → IsTold mmb.now publics.now statement.now ss env s next
-        → Judges result (partner_checks (drop i (env_of spec.now)) s.decl) }
+        → Judges result (partner_checks (drop i (env_of spec.now)) (partner_of ss s)) }
 {
     if i == spec.len() {
         return Err(M::Extra);
     }
-    match_declaration(spec.decl(i), mmb, statement)
+    match_declaration(spec.decl(i), mmb, statement, publics)
 }
 
 /// Compares the statement with a declaration.
-fn match_declaration(decl: &Decl, mmb: &Mmb, statement: &Statement) -> Result<(), M>
+fn match_declaration(
+    decl: &Decl,
+    mmb: &Mmb,
+    statement: &Statement,
+    publics: &Publics,
+) -> Result<(), M>
     requires { (p : Declaration) × IsRowOf mmb.now statement.now p }
-    ensures { (p : Declaration) → IsRowOf mmb.now statement.now p → Judges result (match_checks (declaration decl.now) p) }
+    ensures { (p : Declaration) → IsRowOf mmb.now statement.now p → Judges result (match_checks (declaration decl.now) (record { rows = publics.now; decl = p })) }
 {
     match decl {
-        Decl::Sort(mods) => match_sort(*mods, mmb, statement),
-        Decl::Term(term) => match_term(term, mmb, statement),
-        Decl::Thm(_) => Err(M::Kind),
+        Decl::Sort(mods) => match_sort(*mods, mmb, statement, publics),
+        Decl::Term(term) => match_term(term, mmb, statement, publics),
+        Decl::Thm(thm) => match_assertion(thm, mmb, statement, publics),
     }
 }
 
-fn match_sort(mods: SortMods, mmb: &Mmb, statement: &Statement) -> Result<(), M>
+fn match_sort(mods: SortMods, mmb: &Mmb, statement: &Statement, publics: &Publics) -> Result<(), M>
     requires { (p : Declaration) × IsRowOf mmb.now statement.now p }
-    ensures { (p : Declaration) → IsRowOf mmb.now statement.now p → Judges result (match_checks (sort_decl mods) p) }
+    ensures { (p : Declaration) → IsRowOf mmb.now statement.now p → Judges result (match_checks (sort_decl mods) (record { rows = publics.now; decl = p })) }
 {
     if statement.kind != SORT {
         return Err(M::Kind);
@@ -71,25 +85,108 @@ fn match_sort(mods: SortMods, mmb: &Mmb, statement: &Statement) -> Result<(), M>
     Ok(())
 }
 
-fn match_term(term: &TermDecl, mmb: &Mmb, statement: &Statement) -> Result<(), M>
+fn match_term(term: &TermDecl, mmb: &Mmb, statement: &Statement, publics: &Publics) -> Result<(), M>
     requires { (p : Declaration) × IsRowOf mmb.now statement.now p }
-    ensures { (p : Declaration) → IsRowOf mmb.now statement.now p → Judges result (match_checks (term_of term.now) p) }
+    ensures { (p : Declaration) → IsRowOf mmb.now statement.now p → Judges result (match_checks (term_of term.now) (record { rows = publics.now; decl = p })) }
 {
     if statement.kind != TERM {
         return Err(M::Kind);
     }
-    if !is_plain(&term.form) {
+    let plain = is_plain(&term.form);
+    let has_body = mmb.has_body(statement.row);
+    if is_same(plain, has_body) {
         return Err(M::Kind);
     }
-    match_signature(term.params.as_slice(), &term.result, mmb, statement.row)
+    if let Err(rule) = match_signature(term.params.as_slice(), &term.result, mmb, statement.row) {
+        return Err(rule);
+    }
+    match_body(term, mmb, statement.row, publics)
+}
+
+fn is_same(one: bool, other: bool) -> bool
+    ensures { IsTrue result ↔ (one ≡ other) }
+{
+    one == other
 }
 
 fn is_plain(form: &TermForm) -> bool
-    ensures { IsTrue result ↔ (form_lem form.now ≡ plain_form) }
+    ensures { result ≡ plain_lem (form_lem form.now) }
 {
     match form {
         TermForm::Plain => true,
         TermForm::Abstract => false,
         TermForm::Body { .. } => false,
     }
+}
+
+/// Compares the body that the specification gives with that of the row.
+fn match_body(term: &TermDecl, mmb: &Mmb, row: u32, publics: &Publics) -> Result<(), M>
+    requires { (e : Term) × IsTermRow mmb.now row e × (is_defined (form_lem term.now.form) ≡ true → is_defined e.form ≡ true) }
+    ensures body { (e : Term) → IsTermRow mmb.now row e → is_defined (form_lem term.now.form) ≡ true → is_defined e.form ≡ true
+        → Judges result (form_checks publics.now (length (term_row mmb.now row).words.params) (form_lem term.now.form) e.form) }
+    ensures open { is_defined (form_lem term.now.form) ≡ false → OnErr result ⊥ }
+{
+    let TermForm::Body { dummies, body } = &term.form else {
+        return Ok(());
+    };
+    let sides = Sides {
+        mmb,
+        publics,
+        dummies: dummies.as_slice(),
+        start: mmb.unify_of_term(row).0,
+        params: mmb.arity(row),
+    };
+    if !same_body(&sides, body) {
+        return Err(M::Body);
+    }
+    Ok(())
+}
+
+fn match_assertion(
+    thm: &ThmDecl,
+    mmb: &Mmb,
+    statement: &Statement,
+    publics: &Publics,
+) -> Result<(), M>
+    requires { (p : Declaration) × IsRowOf mmb.now statement.now p }
+    ensures { (p : Declaration) → IsRowOf mmb.now statement.now p → Judges result (match_checks (assertion_of thm.now) (record { rows = publics.now; decl = p })) }
+{
+    if statement.kind != code_of(thm.form) {
+        return Err(M::Kind);
+    }
+    match_claims(thm, mmb, statement.row, publics)
+}
+
+/// The code of an axiom's or a theorem's statement.
+fn code_of(form: ThmForm) -> u8
+    ensures { result ≡ (if is_axiom form then 0x02 else 0x06) }
+{
+    match form {
+        ThmForm::Axiom => AXIOM,
+        ThmForm::Theorem => THEOREM,
+    }
+}
+
+/// Compares parameters, hypotheses and conclusion with those of the row.
+fn match_claims(thm: &ThmDecl, mmb: &Mmb, row: u32, publics: &Publics) -> Result<(), M>
+    requires { (b : Assertion) × IsThmRow mmb.now row b }
+    ensures { (b : Assertion) → IsThmRow mmb.now row b → Judges result (assertion_checks publics.now (assertion_view thm.now) b) }
+{
+    if !match_params(thm.params.as_slice(), mmb, RowOf::Thm(row)) {
+        return Err(M::Binders);
+    }
+    let sides = Sides {
+        mmb,
+        publics,
+        dummies: &[],
+        start: mmb.unify_of_thm(row).0,
+        params: mmb.thm_arity(row),
+    };
+    if !same_hyps(&sides, &thm.hyps) {
+        return Err(M::Hypotheses);
+    }
+    if !same_first(&sides, &thm.conclusion) {
+        return Err(M::Conclusion);
+    }
+    Ok(())
 }

@@ -1,5 +1,5 @@
 // The public terms of a binary.
-ghost use Rattle.std.specs.Prelude.{◌≡◌, ◌++◌, ◌∷◌, [], OnOk, OnErr};
+ghost use Rattle.std.specs.Prelude.{◌≡◌, ◌++◌, ◌∷◌, [], OnOk, OnErr, slice_get};
 
 use mz_cmd::Mem;
 use std::alloc::Global;
@@ -41,5 +41,12 @@ impl Publics {
     {
         self.rows.push(row)?;
         Ok(())
+    }
+
+    /// The row of the specification's k-th term, if there are so many.
+    pub fn row(&self, k: u32) -> Option<u32>
+        ensures { result ≡ slice_get self.now k }
+    {
+        self.rows.get(k as usize).copied()
     }
 }

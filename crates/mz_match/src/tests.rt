@@ -207,7 +207,7 @@ const PAIRS: [(&str, u8, u8, u8, &[u8], &str); 21] = [
         4,
         0,
         &[0x42, 2, 0],
-        "refused: binary statement 1 at byte 48: K5 statement kind\n",
+        "refused: binary statement 1 at byte 48: K6 no row\n",
     ),
     (
         "sort wff; sort x;",
@@ -492,6 +492,327 @@ fn pairs_of_terms(rt: HostRuntime) -> Result<(), Fail> {
     for (spec, bytes, line) in QUANTIFIER_PAIRS {
         assert!(rt; spec.len() < 100);
         let found = changed_line(rt.alloc(), spec, &QUANTIFIER, bytes)?;
+        assert_eq!(rt; found.as_slice(), line.as_bytes(), "{spec}");
+    }
+    Ok(())
+}
+
+/// One sort, implication, two axioms and a theorem by them.
+const IMPLICATION: [u8; 238] = [
+    0x4d, 0x4d, 0x30, 0x42, 1, 1, 0, 0, 1, 0, 0, 0, 3, 0, 0, 0, 0x30, 0, 0, 0, 0x38, 0, 0, 0, 0xb8,
+    0, 0, 0, 0, 0, 0, 0, 0, 0, 0, 0, 0, 0, 0, 0, 4, 0, 0, 0, 0, 0, 0, 0, 2, 0, 0, 0, 0x50, 0, 0, 0,
+    2, 0, 0, 0, 0x68, 0, 0, 0, 2, 0, 0, 0, 0x80, 0, 0, 0, 2, 0, 0, 0, 0xa0, 0, 0, 0, 0, 0, 0, 0, 0,
+    0, 0, 0, 0, 0, 0, 0, 0, 0, 0, 0, 0, 0, 0, 0, 0, 0, 0, 0, 0, 0, 0, 0, 0, 0, 0, 0, 0, 0, 0, 0, 0,
+    0, 0, 0, 0x30, 0x32, 0x30, 0x72, 1, 0x32, 0, 0, 0, 0, 0, 0, 0, 0, 0, 0, 0, 0, 0, 0, 0, 0, 0, 0,
+    0x72, 1, 0x36, 0x32, 0x36, 0x30, 0x32, 0x72, 1, 0, 0, 0, 0, 0, 0, 0, 0, 0, 0, 0, 0, 0, 0, 0, 0,
+    0, 0, 0, 0, 0, 0, 0, 0x30, 0x72, 1, 0x32, 0x36, 0x32, 0, 0, 0x44, 2, 0x45, 2, 0x42, 9, 0x12,
+    0x52, 1, 0x12, 0x10, 0x10, 0, 0x42, 0x0c, 0x12, 0x52, 1, 0x10, 0x16, 0x12, 0x16, 0x52, 1, 0,
+    0x46, 0x1c, 0x12, 0x16, 0x12, 0x52, 1, 0x12, 0x52, 1, 0x12, 0x10, 0x10, 0x14, 0x52, 2, 0x12,
+    0x52, 1, 0x12, 0x10, 0x52, 1, 0x12, 0x10, 0x54, 1, 0, 0,
+];
+
+/// The same of the two axioms and the theorem.
+const IMPLICATION_PAIRS: [(&str, &str); 25] = [
+    (
+        "provable sort wff; term im (a b: wff): wff; infixr im: $->$ prec 25; axiom k (a b: wff): $ a -> b -> a $; axiom mp (a b: wff): $ a -> b $ > $ a $ > $ b $; theorem t (a b: wff): $ a $ > $ b -> a $;",
+        "accepted: 1 sorts, 1 terms, 2 axioms, 0 definitions, 1 theorems
+",
+    ),
+    (
+        "delimiter $ ( $ $ ) $; provable sort wff; term im (a b: wff): wff; axiom k (a b: wff): $ im a (im b a) $; axiom mp (a b: wff): $ im a b $ > $ a $ > $ b $; theorem t (a b: wff): $ a $ > $ im b a $;",
+        "accepted: 1 sorts, 1 terms, 2 axioms, 0 definitions, 1 theorems
+",
+    ),
+    (
+        "provable sort wff; def im (a b: wff): wff;",
+        "refused: match declaration 2 statement 2: M3 kind differs
+",
+    ),
+    (
+        "provable sort wff; term im (a b: wff): wff; infixr im: $->$ prec 25; axiom k (a b: wff): $ a -> b -> a $; axiom mp (a b: wff): $ a -> b $ > $ a $ > $ b $; theorem t (x y: wff) (h: $ x $): $ y -> x $;",
+        "accepted: 1 sorts, 1 terms, 2 axioms, 0 definitions, 1 theorems
+",
+    ),
+    (
+        "provable sort wff; term im (a b: wff): wff; infixr im: $->$ prec 25; axiom k (a b: wff): $ a -> b -> a $; axiom mp (a b: wff): $ a -> b $ > $ a $ > $ b $;",
+        "refused: match declaration 5 statement 5: M2 extra public
+",
+    ),
+    (
+        "provable sort wff; term im (a b: wff): wff; infixr im: $->$ prec 25; axiom k (a b: wff): $ a -> b -> a $; axiom mp (a b: wff): $ a -> b $ > $ a $ > $ b $; theorem t (a b: wff): $ a $ > $ b -> a $; theorem u (a: wff): $ a $ > $ a $;",
+        "refused: match declaration 6 statement 6: M1 missing public
+",
+    ),
+    (
+        "provable sort wff; term im (a b: wff): wff; infixr im: $->$ prec 25; theorem k (a b: wff): $ a -> b -> a $; axiom mp (a b: wff): $ a -> b $ > $ a $ > $ b $; theorem t (a b: wff): $ a $ > $ b -> a $;",
+        "refused: match declaration 3 statement 3: M3 kind differs
+",
+    ),
+    (
+        "provable sort wff; term im (a b: wff): wff; infixr im: $->$ prec 25; axiom k (a b: wff): $ a -> b -> a $; axiom mp (a b: wff): $ a -> b $ > $ a $ > $ b $; axiom t (a b: wff): $ a $ > $ b -> a $;",
+        "refused: match declaration 5 statement 5: M3 kind differs
+",
+    ),
+    (
+        "provable sort wff; term im (a b: wff): wff; infixr im: $->$ prec 25; axiom k (a b: wff): $ a -> b -> a $; sort s; theorem t (a b: wff): $ a $ > $ b -> a $;",
+        "refused: match declaration 4 statement 4: M3 kind differs
+",
+    ),
+    (
+        "provable sort wff; term im (a b: wff): wff; infixr im: $->$ prec 25; axiom k (a b c: wff): $ a -> b -> a $; axiom mp (a b: wff): $ a -> b $ > $ a $ > $ b $; theorem t (a b: wff): $ a $ > $ b -> a $;",
+        "refused: match declaration 3 statement 3: M5 binders
+",
+    ),
+    (
+        "provable sort wff; term im (a b: wff): wff; infixr im: $->$ prec 25; axiom k {a: wff} (b: wff): $ a -> b -> a $; axiom mp (a b: wff): $ a -> b $ > $ a $ > $ b $; theorem t (a b: wff): $ a $ > $ b -> a $;",
+        "refused: match declaration 3 statement 3: M5 binders
+",
+    ),
+    (
+        "provable sort wff; term im (a b: wff): wff; infixr im: $->$ prec 25; axiom k (a b: wff): $ a -> b -> a $; axiom mp (a b: wff): $ a -> b $ > $ a $ > $ b $; theorem t (a: wff): $ a $ > $ a -> a $;",
+        "refused: match declaration 5 statement 5: M5 binders
+",
+    ),
+    (
+        "provable sort wff; term im (a b: wff): wff; infixr im: $->$ prec 25; axiom k (a b: wff): $ a -> b -> a $; axiom mp (a b: wff): $ a $ > $ a -> b $ > $ b $; theorem t (a b: wff): $ a $ > $ b -> a $;",
+        "refused: match declaration 4 statement 4: M7 hypotheses
+",
+    ),
+    (
+        "provable sort wff; term im (a b: wff): wff; infixr im: $->$ prec 25; axiom k (a b: wff): $ a -> b -> a $; axiom mp (a b: wff): $ a -> b $ > $ b $; theorem t (a b: wff): $ a $ > $ b -> a $;",
+        "refused: match declaration 4 statement 4: M7 hypotheses
+",
+    ),
+    (
+        "provable sort wff; term im (a b: wff): wff; infixr im: $->$ prec 25; axiom k (a b: wff): $ a -> b -> a $; axiom mp (a b: wff): $ a -> b $ > $ a $ > $ b $; theorem t (a b: wff): $ b $ > $ b -> a $;",
+        "refused: match declaration 5 statement 5: M7 hypotheses
+",
+    ),
+    (
+        "provable sort wff; term im (a b: wff): wff; infixr im: $->$ prec 25; axiom k (a b: wff): $ a -> b -> a $; axiom mp (a b: wff): $ a -> b $ > $ a $ > $ b $; theorem t (a b: wff): $ b -> a $;",
+        "refused: match declaration 5 statement 5: M7 hypotheses
+",
+    ),
+    (
+        "provable sort wff; term im (a b: wff): wff; infixr im: $->$ prec 25; axiom k (a b: wff): $ a -> b -> a $; axiom mp (a b: wff): $ a -> b $ > $ a $ > $ b $; theorem t (a b: wff) (h g: $ a $): $ b -> a $;",
+        "refused: match declaration 5 statement 5: M7 hypotheses
+",
+    ),
+    (
+        "provable sort wff; term im (a b: wff): wff; infixr im: $->$ prec 25; axiom k (a b: wff): $ a -> b -> b $; axiom mp (a b: wff): $ a -> b $ > $ a $ > $ b $; theorem t (a b: wff): $ a $ > $ b -> a $;",
+        "refused: match declaration 3 statement 3: M8 conclusion
+",
+    ),
+    (
+        "provable sort wff; term im (a b: wff): wff; infixr im: $->$ prec 25; axiom k (a b: wff): $ a -> a -> a $; axiom mp (a b: wff): $ a -> b $ > $ a $ > $ b $; theorem t (a b: wff): $ a $ > $ b -> a $;",
+        "refused: match declaration 3 statement 3: M8 conclusion
+",
+    ),
+    (
+        "provable sort wff; term im (a b: wff): wff; infixr im: $->$ prec 25; axiom k (a b: wff): $ a -> b -> a $; axiom mp (a b: wff): $ a -> b $ > $ a $ > $ b $; theorem t (a b: wff): $ a $ > $ a -> b $;",
+        "refused: match declaration 5 statement 5: M8 conclusion
+",
+    ),
+    (
+        "provable sort wff; term im (a b: wff): wff; infixl im: $->$ prec 25; axiom k (a b: wff): $ a -> b -> a $; axiom mp (a b: wff): $ a -> b $ > $ a $ > $ b $; theorem t (a b: wff): $ a $ > $ b -> a $;",
+        "refused: match declaration 3 statement 3: M8 conclusion
+",
+    ),
+    (
+        "provable sort wff; term im (a b: wff): wff; infixr im: $->$ prec 25; axiom k (a b: wff): $ a -> b -> a $; axiom mp (a b: wff): $ a -> b $ > $ a $ > $ b $; theorem t (a b: wff): $ b $ > $ a $;",
+        "refused: match declaration 5 statement 5: M7 hypotheses
+",
+    ),
+    (
+        "provable sort wff; term im (a b: wff): wff; infixr im: $->$ prec 25; axiom k (a b: wff): $ a -> b -> a $; axiom mp (a b: wff): $ a -> b $ > $ a $ > $ b $; theorem t (a: wff): $ a $;",
+        "refused: match declaration 5 statement 5: M5 binders
+",
+    ),
+    (
+        "provable sort wff; term im (a b: wff): wff; infixr im: $->$ prec 25; axiom k (a b: wff): $ a -> b -> a $; axiom mp (a b: wff): $ a -> b $ > $ a $ > $ b $; theorem t (a b: wff): $ a $ > $ b -> c $;",
+        "refused: specification statement 6 at byte 192: S9 math token
+",
+    ),
+    (
+        "provable sort wff; term im (a b: wff): wff; infixr im: $->$ prec 25; axiom k (a b: wff): $ a -> b -> a $; axiom mp (a b: wff): $ a -> b $ > $ a $ > $ b $; theorem t (a b: wff): $ a $ > $ b -> $;",
+        "refused: specification statement 6 at byte 185: S10 math syntax
+",
+    ),
+];
+
+/// One sort, negation, double negation as a definition, and a theorem that folds it.
+const FOLD: [u8; 160] = [
+    0x4d, 0x4d, 0x30, 0x42, 1, 1, 0, 0, 2, 0, 0, 0, 1, 0, 0, 0, 0x30, 0, 0, 0, 0x40, 0, 0, 0, 0x80,
+    0, 0, 0, 0, 0, 0, 0, 0, 0, 0, 0, 0, 0, 0, 0, 4, 0, 0, 0, 0, 0, 0, 0, 1, 0, 0, 0, 0x48, 0, 0, 0,
+    1, 0, 0x80, 0, 0x58, 0, 0, 0, 1, 0, 0, 0, 0x70, 0, 0, 0, 0, 0, 0, 0, 0, 0, 0, 0, 0, 0, 0, 0, 0,
+    0, 0, 0, 0, 0, 0, 0, 0, 0, 0, 0, 0, 0, 0, 0, 0, 0, 0, 0, 0x30, 0x30, 0x32, 0, 0, 0, 0, 0, 0, 0,
+    0, 0, 0, 0, 0, 0, 0x70, 1, 0x32, 0x36, 0x30, 0x30, 0x32, 0, 0x44, 2, 0x45, 2, 0x45, 6, 0x12,
+    0x10, 0x10, 0, 0x46, 0x15, 0x12, 0x10, 0x10, 0x16, 0x12, 0x50, 1, 0x52, 1, 0x17, 0x12, 0x50, 1,
+    0x12, 0x10, 0x10, 0x1b, 0x18, 0, 0,
+];
+
+/// The same of the definition with a body, and of the theorem over it.
+const FOLD_PAIRS: [(&str, &str); 14] = [
+    (
+        "delimiter $ ( $ $ ) $; provable sort wff; term not (a: wff): wff; def nn (a: wff): wff = $ not (not a) $; theorem f (a: wff): $ not (not a) $ > $ nn a $;",
+        "accepted: 1 sorts, 1 terms, 0 axioms, 1 definitions, 1 theorems
+",
+    ),
+    (
+        "delimiter $ ( $ $ ) $; provable sort wff; term not (a: wff): wff; def nn (a: wff): wff; theorem f (a: wff): $ not (not a) $ > $ nn a $;",
+        "accepted: 1 sorts, 1 terms, 0 axioms, 1 definitions, 1 theorems
+",
+    ),
+    (
+        "delimiter $ ( $ $ ) $; provable sort wff; term not (a: wff): wff; delimiter $ ~ $; prefix not: $~$ prec 41; def nn (a: wff): wff = $ ~~a $; theorem f (a: wff): $ ~(~a) $ > $ nn a $;",
+        "accepted: 1 sorts, 1 terms, 0 axioms, 1 definitions, 1 theorems
+",
+    ),
+    (
+        "delimiter $ ( $ $ ) $; provable sort wff; term not (a: wff): wff; def nn (x: wff): wff = $ not (not x) $; theorem f (y: wff) (h: $ not (not y) $): $ nn y $;",
+        "accepted: 1 sorts, 1 terms, 0 axioms, 1 definitions, 1 theorems
+",
+    ),
+    (
+        "delimiter $ ( $ $ ) $; provable sort wff; term not (a: wff): wff; def nn (a: wff): wff = $ not a $; theorem f (a: wff): $ not (not a) $ > $ nn a $;",
+        "refused: match declaration 3 statement 3: M9 body
+",
+    ),
+    (
+        "delimiter $ ( $ $ ) $; provable sort wff; term not (a: wff): wff; def nn (a: wff): wff = $ a $; theorem f (a: wff): $ not (not a) $ > $ nn a $;",
+        "refused: match declaration 3 statement 3: M9 body
+",
+    ),
+    (
+        "delimiter $ ( $ $ ) $; provable sort wff; term not (a: wff): wff; def nn (a: wff): wff = $ not (not (not a)) $; theorem f (a: wff): $ not (not a) $ > $ nn a $;",
+        "refused: match declaration 3 statement 3: M9 body
+",
+    ),
+    (
+        "delimiter $ ( $ $ ) $; provable sort wff; term not (a: wff): wff; def nn (a: wff) (.x: wff): wff = $ not (not a) $; theorem f (a: wff): $ not (not a) $ > $ nn a $;",
+        "accepted: 1 sorts, 1 terms, 0 axioms, 1 definitions, 1 theorems
+",
+    ),
+    (
+        "delimiter $ ( $ $ ) $; provable sort wff; term not (a: wff): wff; def nn (a: wff) (.x: wff): wff = $ not (not x) $; theorem f (a: wff): $ not (not a) $ > $ nn a $;",
+        "refused: specification statement 4 at byte 66: S18 definition dependencies
+",
+    ),
+    (
+        "delimiter $ ( $ $ ) $; provable sort wff; term not (a: wff): wff; term nn (a: wff): wff; theorem f (a: wff): $ not (not a) $ > $ nn a $;",
+        "refused: match declaration 3 statement 3: M3 kind differs
+",
+    ),
+    (
+        "delimiter $ ( $ $ ) $; provable sort wff; term not (a: wff): wff; def nn (a: wff): wff = $ not (not a) $; theorem f (a: wff): $ nn a $ > $ nn a $;",
+        "refused: match declaration 4 statement 4: M7 hypotheses
+",
+    ),
+    (
+        "delimiter $ ( $ $ ) $; provable sort wff; term not (a: wff): wff; def nn (a: wff): wff = $ not (not a) $; theorem f (a: wff): $ not (not a) $ > $ not (not a) $;",
+        "refused: match declaration 4 statement 4: M8 conclusion
+",
+    ),
+    (
+        "delimiter $ ( $ $ ) $; provable sort wff; term not (a: wff): wff; def nn (a: wff): wff = $ not (not a) $; axiom f (a: wff): $ not (not a) $ > $ nn a $;",
+        "refused: match declaration 4 statement 4: M3 kind differs
+",
+    ),
+    (
+        "delimiter $ ( $ $ ) $; provable sort wff; term not (a: wff): wff; def nn (a: wff): wff = $ not (not a) $;",
+        "refused: match declaration 4 statement 4: M2 extra public
+",
+    ),
+];
+
+/// Two sorts, a term of two bound variables, and a definition whose body has a dummy twice.
+const DUMMY: [u8; 118] = [
+    0x4d, 0x4d, 0x30, 0x42, 1, 2, 0, 0, 2, 0, 0, 0, 0, 0, 0, 0, 0x30, 0, 0, 0, 0x40, 0, 0, 0, 0x68,
+    0, 0, 0, 0, 0, 0, 0, 0, 0, 0, 0, 0, 0, 0, 0, 4, 0, 0, 0, 0, 0, 0, 0, 2, 0, 0, 0, 0x40, 0, 0, 0,
+    0, 0, 0x80, 0, 0x58, 0, 0, 0, 1, 0, 0, 0, 0, 0, 0, 0x81, 2, 0, 0, 0, 0, 0, 0, 0x81, 0, 0, 0, 0,
+    0, 0, 0, 0, 0, 0, 0, 0, 0, 0, 0, 0, 0x30, 0x73, 1, 0x32, 0, 0, 0, 0, 0x44, 2, 0x44, 2, 0x45, 2,
+    0x45, 7, 0x53, 1, 0x12, 0x10, 0, 0,
+];
+
+/// The same of the definition with a dummy.
+const DUMMY_PAIRS: [(&str, &str); 12] = [
+    (
+        "provable sort wff; sort nat; term tt {x y: nat}: wff; def d: wff;",
+        "accepted: 2 sorts, 1 terms, 0 axioms, 1 definitions, 0 theorems
+",
+    ),
+    (
+        "provable sort wff; sort nat; term tt {x y: nat}: wff; def d (.x: nat): wff = $ tt x x $;",
+        "accepted: 2 sorts, 1 terms, 0 axioms, 1 definitions, 0 theorems
+",
+    ),
+    (
+        "provable sort wff; sort nat; term tt {x y: nat}: wff; def d {.x .y: nat}: wff = $ tt x x $;",
+        "accepted: 2 sorts, 1 terms, 0 axioms, 1 definitions, 0 theorems
+",
+    ),
+    (
+        "provable sort wff; sort nat; term tt {x y: nat}: wff; def d {.x .y: nat}: wff = $ tt y y $;",
+        "accepted: 2 sorts, 1 terms, 0 axioms, 1 definitions, 0 theorems
+",
+    ),
+    (
+        "provable sort wff; sort nat; term tt {x y: nat}: wff; def d {.x .y: nat}: wff = $ tt x y $;",
+        "refused: match declaration 4 statement 4: M9 body
+",
+    ),
+    (
+        "provable sort wff; sort nat; term tt {x y: nat}: wff; def d {.x: wff}: wff;",
+        "accepted: 2 sorts, 1 terms, 0 axioms, 1 definitions, 0 theorems
+",
+    ),
+    (
+        "provable sort wff; sort nat; term tt {x y: nat}: wff; def d {x: nat}: wff = $ tt x x $;",
+        "refused: match declaration 4 statement 4: M5 binders
+",
+    ),
+    (
+        "provable sort wff; sort nat; term tt {x y: nat}: wff; def d {x .y: nat}: wff = $ tt y y $;",
+        "refused: match declaration 4 statement 4: M5 binders
+",
+    ),
+    (
+        "provable sort wff; sort nat; term tt {x y: nat}: wff; def d {.x: nat}: nat = $ x $;",
+        "refused: specification statement 4 at byte 54: S18 definition dependencies
+",
+    ),
+    (
+        "provable sort wff; sort nat; term tt {x y: nat}: wff; def d: nat;",
+        "refused: match declaration 4 statement 4: M6 result
+",
+    ),
+    (
+        "provable sort wff; strict sort nat; term tt (x y: nat): wff; def d {.x: nat}: wff = $ tt x x $;",
+        "refused: specification statement 4 at byte 61: S19 dummy sort
+",
+    ),
+    (
+        "provable sort wff; sort nat; term tt {x y: nat}: wff; def d: wff = $ tt x x $;",
+        "refused: specification statement 4 at byte 72: S9 math token
+",
+    ),
+];
+
+#[test]
+fn pairs_of_assertions_and_definitions(rt: HostRuntime) -> Result<(), Fail> {
+    for (spec, line) in IMPLICATION_PAIRS {
+        assert!(rt; spec.len() < 300);
+        let found = changed_line(rt.alloc(), spec, &IMPLICATION, &[])?;
+        assert_eq!(rt; found.as_slice(), line.as_bytes(), "{spec}");
+    }
+    for (spec, line) in FOLD_PAIRS {
+        assert!(rt; spec.len() < 300);
+        let found = changed_line(rt.alloc(), spec, &FOLD, &[])?;
+        assert_eq!(rt; found.as_slice(), line.as_bytes(), "{spec}");
+    }
+    for (spec, line) in DUMMY_PAIRS {
+        assert!(rt; spec.len() < 300);
+        let found = changed_line(rt.alloc(), spec, &DUMMY, &[])?;
         assert_eq!(rt; found.as_slice(), line.as_bytes(), "{spec}");
     }
     Ok(())

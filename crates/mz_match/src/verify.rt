@@ -1,8 +1,8 @@
 // A specification and a binary together.
-ghost use Rattle.std.specs.Prelude.{◌≡◌, ◌⊎◌, ◌<◌, ◌^◌, ℕ, List, length};
+ghost use Rattle.std.specs.Prelude.{◌≡◌, ◌⊎◌, ◌<◌, ◌≤◌, ◌+◌, ◌*◌, ◌^◌, ℕ, List, length};
 ghost use Rattle.mz_layout.specs.Layout.{Layout};
 ghost use Rattle.mz_spec.specs.Spec.{SpecMakes};
-ghost use Rattle.mz_match.specs.Verdict.{AcceptsWith, FirstRefusal, IsSoundIfAccepted, IsVerdict};
+ghost use Rattle.mz_match.specs.Verdict.{AcceptsWith, FirstRefusal, IsSoundIfAccepted, IsVerdict, Ticks};
 
 use crate::matching::Matching;
 use crate::verdict::{Counts, Verdict};
@@ -27,7 +27,8 @@ pub fn verify_bytes<L: Ledger>(
     ensures accepted { (counts : Counts) → AcceptsWith spec.now bin.now counts → (result ≡ Verdict.Accepted counts) ⊎ (result ≡ Verdict.Mem) }
     ensures refused { (verdict : Verdict) → FirstRefusal spec.now bin.now verdict → (result ≡ verdict) ⊎ (result ≡ Verdict.Mem) }
     ensures sound { IsSoundIfAccepted spec.now bin.now result }
-    ensures steps { steps.new ≡ steps.old }
+    ensures steps { Ticks bin.now steps.old steps.new result }
+    ensures bound { steps.new ≤ steps.old + (length bin.now * length bin.now + length bin.now) }
 {
     judge(alloc, spec, bin, steps)
 }
@@ -36,7 +37,8 @@ fn judge<L: Ledger>(alloc: Global, spec: &[u8], bin: &[u8], steps: &mut Steps<L>
     requires spec { length spec.now < 2 ^ 32 }
     requires bin { length bin.now < 2 ^ 32 }
     ensures verdict { IsVerdict spec.now bin.now result }
-    ensures steps { steps.new ≡ steps.old }
+    ensures steps { Ticks bin.now steps.old steps.new result }
+    ensures bound { steps.new ≤ steps.old + (length bin.now * length bin.now + length bin.now) }
 {
     let declared = match read_spec(alloc, spec) {
         SpecRead::Spec(declared) => declared,
@@ -54,9 +56,10 @@ fn check_list<L: Ledger>(alloc: Global, spec: &Spec, mmb: &Mmb, steps: &mut Step
     requires small { length mmb.now < 2 ^ 32 }
     requires layout { Layout mmb.now }
     ensures verdict { (text : List ℕ) → SpecMakes text spec.now → IsVerdict text mmb.now result }
-    ensures steps { steps.new ≡ steps.old }
+    ensures steps { Ticks mmb.now steps.old steps.new result }
+    ensures bound { steps.new ≤ steps.old + (length mmb.now * length mmb.now + length mmb.now) }
 {
-    let mut checker = Checker::new(mmb);
+    let mut checker = Checker::new(alloc, mmb);
     let mut matching = Matching::new(alloc);
     'statements: loop {
         match checker.check_next(steps) {

@@ -1,14 +1,14 @@
 -- What a loop has seen of a list, and what is left of it.
-use Rattle.std.proofs.Common.{◌≡◌, ◌∙◌, ◌<◌, ◌≤◌, ◌+◌, ◌++◌, ◌⊎◌, ℕ, suc, List, [], ◌∷◌, length, map, drop, get_or, Bool, true, false, ap, sym, subst, inl, inr, arith, drop-cons, append_assoc, Result, Ok, Err}
-use Rattle.std.specs.Prelude.{◌↔◌, ◌||◌}
+use Rattle.std.proofs.Common.{◌≡◌, ◌∙◌, ◌<◌, ◌≤◌, ◌+◌, ◌++◌, ◌⊎◌, ℕ, zero, suc, List, [], ◌∷◌, length, map, drop, get_or, Bool, true, false, ap, sym, subst, inl, inr, arith, drop-cons, append_assoc, Result, Ok, Err}
+use Rattle.std.specs.Prelude.{◌↔◌, ◌||◌, IsTrue, refl}
 use Rattle.std.specs.List.{list_any}
 use Rattle.std.proofs.lemmas.List.{drop_all, append-nil}
 use Rattle.mz_checks.specs.Checks.{Checks, nothing, ask, each_in_order, ◌>>◌, AllHold, FailsFirst, Judges}
 use Rattle.mz_checks.proofs.InOrder.{Decides, decides-after, fails-before, fails-after, judges-after, all_hold-first, all_hold-rest, all_hold-both}
-use Rattle.mz_spec.specs.declared.refusal.Fault.{Fault}
-use Rattle.mz_spec.specs.declared.refusal.Halt.{Halt}
-use Rattle.mz_spec.specs.declared.refusal.Halt.TheVariants as halts
-use Rattle.mz_spec.specs.Answers.{OnFault}
+use Rattle.mz_grammar.specs.declared.refusal.Fault.{Fault}
+use Rattle.mz_grammar.specs.declared.refusal.Halt.{Halt}
+use Rattle.mz_grammar.specs.declared.refusal.Halt.TheVariants as halts
+use Rattle.mz_grammar.specs.Reading.{OnFault}
 use Rattle.mz_spec.specs.Rules.{Every}
 
 -- the element at hand, and what is left behind it
@@ -16,6 +16,17 @@ pub left-at : {X : Type 0} → (xs : List X) (i : ℕ) (x : X) → i < length xs
 left-at xs i x within is =
     let on : suc i ≡ i + 1 = omega arith in
     drop-cons xs i x within ∙ ap (λ y. y ∷ drop (suc i) xs) (sym is) ∙ ap (λ n. x ∷ drop n xs) on
+
+-- whatever stands for a missing one
+pub item-is : {X : Type 0} → (xs : List X) (i : ℕ) (d : X) → i < length xs → get_or xs i d ≡ get_or xs i (get_or xs i d)
+item-is [] i d within = absurd (omega (arith, within))
+item-is (x ∷ xs) zero d within = refl
+item-is (x ∷ xs) (suc i) d within = same xs i d (get_or xs i d) (omega (arith, within))
+  where
+    same : {X : Type 0} → (xs : List X) (i : ℕ) (d e : X) → i < length xs → get_or xs i d ≡ get_or xs i e
+    same [] i d e within = absurd (omega (arith, within))
+    same (x ∷ xs) zero d e within = refl
+    same (x ∷ xs) (suc i) d e within = same xs i d e (omega (arith, within))
 
 pub left-none : {X : Type 0} → (xs : List X) (i : ℕ) → length xs ≤ i → drop i xs ≡ []
 left-none xs i past = drop_all i xs past
@@ -135,3 +146,19 @@ mem-before bs cs halts.Mem _ = tt
 pub mem-after : (bs cs : Checks Fault) (halt : Halt) → AllHold bs → OnFault halt (FailsFirst cs) → OnFault halt (FailsFirst (bs >> cs))
 mem-after bs cs (halts.Fault f) all fails = fails-after bs cs f all fails
 mem-after bs cs halts.Mem all _ = tt
+
+-- ---- tests
+
+pub test-out : {P : Type 0} (b : Bool) → (IsTrue b ↔ P) → b ≡ false → P → ⊥
+test-out true (to, from) is p = cc
+test-out false (to, from) is p = let e : false ≡ true = from p in cc
+
+pub test-in : {P : Type 0} (b : Bool) → (IsTrue b ↔ P) → b ≡ true → P
+test-in true (to, from) is = to refl
+test-in false (to, from) is = absurd cc
+
+-- ---- checks in other brackets
+
+pub assoc : {R : Type 0} (fs bs cs : Checks R) → ((fs >> bs) >> cs) ≡ (fs >> (bs >> cs))
+assoc nothing bs cs = refl
+assoc (ask r P fs) bs cs = ap (ask r P) (assoc fs bs cs)

@@ -2,11 +2,18 @@
 use Rattle.std.specs.Prelude.{⊤, ℕ, List}
 use Rattle.std.proofs.Common.{Result, Ok, Err}
 use Rattle.mz_checks.specs.Checks.{Checks, AllHold, FailsFirst}
-use Rattle.mz_spec.specs.declared.refusal.Fault.{Fault}
-use Rattle.mz_spec.specs.declared.refusal.Halt.{Halt}
-use Rattle.mz_spec.specs.declared.refusal.Halt.TheVariants as halts
+use Rattle.mz_grammar.specs.Reading.{OnFault}
+use Rattle.mz_grammar.specs.Statement.{Statement}
+use Rattle.mz_grammar.specs.declared.refusal.Fault.{Fault}
+use Rattle.mz_grammar.specs.declared.refusal.Halt.{Halt}
+use Rattle.mz_grammar.specs.declared.refusal.Halt.TheVariants as halts
+use Rattle.mz_math.specs.declared.pieces.Piece.{Piece}
 use Rattle.mz_spec.specs.declared.reader.SpecRead.{SpecRead}
 use Rattle.mz_spec.specs.declared.reader.SpecRead.TheVariants.{Spec, Refused, Mem}
+use Rattle.mz_spec.specs.View.{view}
+use Rattle.mz_spec.specs.State.{State}
+use Rattle.mz_spec.specs.Formulas.{AreTokens}
+use Rattle.mz_spec.specs.Rules.{statement_checks}
 use Rattle.mz_spec.specs.Spec.{SpecMakes, SpecFault}
 
 -- the declarations of the text, or its first fault
@@ -15,20 +22,14 @@ IsAnswer text (Spec entries) = SpecMakes text entries
 IsAnswer text (Refused refusal) = SpecFault text refusal
 IsAnswer text Mem = ⊤
 
--- a fault has the property; want of memory tells nothing
-abbrev pub OnFault : Halt → (Fault → Type 0) → Type 0
-OnFault (halts.Fault fault) P = P fault
-OnFault halts.Mem P = ⊤
-
--- the fault, where there is one, has the property
-abbrev pub IfFault : {A : Type 0} → Result A Halt → (Fault → Type 0) → Type 0
-IfFault (Ok _) P = ⊤
-IfFault (Err halt) P = OnFault halt P
-
 -- all hold, or the first that does not has this fault, or memory was wanting
 abbrev pub JudgesOrMem : {A : Type 0} → Result A Halt → Checks Fault → Type 0
 JudgesOrMem (Ok _) cs = AllHold cs
 JudgesOrMem (Err halt) cs = OnFault halt (FailsFirst cs)
+
+-- the same of a statement, by whatever tokens its formulas have
+abbrev pub JudgesStatement : {A : Type 0} → Result A Halt → State → ℕ → Statement → Type 0
+JudgesStatement result σ place s = (tokens : List (List Piece)) → AreTokens σ (view s).formulas tokens → JudgesOrMem result (statement_checks σ place s tokens)
 
 -- what a fault of a statement, or want of memory, makes of the whole text
 abbrev pub halted : ℕ → Halt → SpecRead

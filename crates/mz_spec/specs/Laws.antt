@@ -4,13 +4,7 @@ use Rattle.mz_logic.specs.Declaration.{Declaration}
 use Rattle.mz_logic.specs.Legality.{IsLegalEnv}
 use Rattle.mz_spec.specs.declared.refusal.SpecRefusal.{SpecRefusal}
 use Rattle.mz_spec.specs.State.{Entry}
-use Rattle.mz_spec.specs.Statement.{Statement, Spells}
 use Rattle.mz_spec.specs.Spec.{SpecMakes, SpecOf, SpecFault}
-use Rattle.mz_lex.specs.Lexemes.{Lexeme}
-
--- lexemes spell one statement at most
-abbrev pub OneStatement : Type 0
-OneStatement = (s r : Statement) (ls : List Lexeme) → Spells s ls → Spells r ls → s ≡ r
 
 -- a text is a specification in one way at most
 abbrev pub OneReading : Type 0

@@ -1,19 +1,26 @@
 -- The rules of a statement, in their order, each with the place at which it is told (mm0.md, sections on
--- sorts and terms).
-use Rattle.std.specs.Prelude.{◌≡◌, ◌⊎◌, ⊤, ℕ, List, [], ◌∷◌, ◌++◌, true, Option, Some, None, option_and_then, slice_get}
+-- sorts, terms, definitions, axioms and theorems, notations and coercions).
+use Rattle.std.specs.Prelude.{◌≡◌, ◌⊎◌, ◌≤◌, ⊤, ℕ, List, [], ◌∷◌, ◌++◌, true, Option, Some, None, option_and_then, slice_get}
 use Rattle.mz_lex.specs.Lexemes.{Lexeme}
 use Rattle.mz_lex.specs.declared.rule.S.TheVariants as rules
 use Rattle.mz_checks.specs.Checks.{Checks, nothing, demand, each_in_order, ◌>>◌}
 use Rattle.mz_logic.specs.Declaration.{sorts as sorts_in}
-use Rattle.mz_logic.specs.Modifiers.{IsPure, IsStrict}
+use Rattle.mz_logic.specs.Modifiers.{IsPure, IsStrict, IsFree}
 use Rattle.mz_logic.specs.declared.binder.SortMods.{SortMods}
-use Rattle.mz_spec.specs.declared.refusal.Fault.{Fault}
+use Rattle.mz_math.specs.declared.pieces.Piece.{Piece}
+use Rattle.mz_grammar.specs.declared.refusal.Fault.{Fault}
 use Rattle.mz_spec.specs.Names.{number_of, IsNew, IsKnown}
-use Rattle.mz_spec.specs.View.{Named, Variable, View, view, names_of, name_text}
-use Rattle.mz_spec.specs.State.{State, names_in, env_of}
-use Rattle.mz_spec.specs.Statement.{TypeText, Statement}
+use Rattle.mz_grammar.specs.Statement.{TypeText, Level, number_level, max_level, Statement}
+use Rattle.mz_spec.specs.View.{Named, Variable, Formula, View, view, params_of, dummies_of, names_of, name_texts}
+use Rattle.mz_spec.specs.State.{State, names_in}
+use Rattle.mz_spec.specs.Formulas.{strings_checks, free_checks}
+use Rattle.mz_spec.specs.Forms.{number_in, highest_level, form_checks}
 
--- ---- names
+-- ---- levels and names
+
+abbrev pub is_level : Level → Checks Fault
+is_level (number_level l) = demand (record { at = l.from; rule = rules.Number }) (number_in l ≤ highest_level)
+is_level max_level = nothing
 
 -- the name is none of these
 abbrev pub new_name : List (List ℕ) → Lexeme → Checks Fault
@@ -31,7 +38,7 @@ is_other seen (Some l) = new_name seen l
 -- no two variables share a name; these names stand before
 abbrev pub are_others : List (List ℕ) → List Variable → Checks Fault
 are_others seen [] = nothing
-are_others seen (v ∷ vs) = is_other seen v.name >> are_others (seen ++ name_text v.name) vs
+are_others seen (v ∷ vs) = is_other seen v.name >> are_others (seen ++ name_texts v.name) vs
 
 -- the name is one of these
 abbrev pub is_known : List (List ℕ) → Lexeme → Checks Fault
@@ -45,7 +52,7 @@ type_checks σ names t = is_known σ.sort_names t.sort >> each_in_order (is_know
 
 -- the modifiers of a type's sort, where it is there
 abbrev pub mods_of : State → TypeText → Option SortMods
-mods_of σ t = option_and_then (λ n. slice_get (sorts_in (env_of σ.entries)) n) (number_of σ.sort_names t.sort.text)
+mods_of σ t = option_and_then (λ n. slice_get (sorts_in σ.env) n) (number_of σ.sort_names t.sort.text)
 
 -- the sort is there, and has the property
 abbrev pub HasSortThat : State → (SortMods → Type 0) → TypeText → Type 0
@@ -66,39 +73,69 @@ abbrev pub IsBoundAmong : List Variable → Lexeme → Type 0
 IsBoundAmong [] l = ⊥
 IsBoundAmong (v ∷ vs) l = ((v.is_bound ≡ true) × IsCalled v.name l.text) ⊎ IsBoundAmong vs l
 
--- a bound variable depends on nothing, and its sort isn't strict; what a variable depends on is bound, and stands before it
+-- a bound parameter depends on nothing, and its sort isn't strict; what a parameter depends on is a
+-- bound one that stands before it
 abbrev pub IsBinder : State → List Variable → Variable → Type 0
 IsBinder σ before v = (v.is_bound ≡ true → (v.type.deps ≡ []) × (HasSortThat σ IsStrict v.type → ⊥)) × Every (IsBoundAmong before) v.type.deps
 
--- each variable, behind those before it
+-- each parameter, behind those before it
 abbrev pub AreBinders : State → List Variable → List Variable → Type 0
 AreBinders σ before [] = ⊤
 AreBinders σ before (v ∷ vs) = IsBinder σ before v × AreBinders σ (before ++ v ∷ []) vs
 
--- a result depends on bound variables
+abbrev pub DependsOnNothing : Variable → Type 0
+DependsOnNothing v = v.type.deps ≡ []
+
+-- a result depends on bound parameters
 abbrev pub IsResult : List Variable → TypeText → Type 0
-IsResult vs t = Every (IsBoundAmong vs) t.deps
+IsResult ps t = Every (IsBoundAmong ps) t.deps
+
+-- a dummy's sort is neither strict nor free
+abbrev pub IsDummySort : State → Variable → Type 0
+IsDummySort σ v = HasSortThat σ (λ m. IsStrict m ⊎ IsFree m) v.type → ⊥
 
 -- no result has a pure sort
 abbrev pub IsNotPure : State → TypeText → Type 0
 IsNotPure σ t = HasSortThat σ IsPure t → ⊥
 
--- ---- all of them
+-- ---- all of them, in order
 
--- binders, then a pure result
-abbrev pub binder_rules : State → ℕ → View → Checks Fault
-binder_rules σ place v =
-    demand (record { at = place; rule = rules.Binder }) (AreBinders σ [] v.variables × Every (IsResult v.variables) v.result)
-    >> demand (record { at = place; rule = rules.Pure }) (Every (IsNotPure σ) v.result)
+-- names that are taken, of what is declared and of variables
+abbrev pub name_rules : State → View → Checks Fault
+name_rules σ v = each_in_order (is_new σ) v.declares >> are_others [] v.variables
 
--- what is asked once the variables' names are told apart
-abbrev pub type_rules : State → ℕ → View → Checks Fault
-type_rules σ place v = each_in_order (type_checks σ (names_of v.variables)) v.types >> binder_rules σ place v
+-- names that aren't known, of terms, sorts and dependencies
+abbrev pub use_rules : State → View → Checks Fault
+use_rules σ v = each_in_order (is_known σ.term_names) v.mentions >> each_in_order (type_checks σ (names_of v.variables)) v.types
 
--- names that are taken, then the rest
-abbrev pub view_checks : State → ℕ → View → Checks Fault
-view_checks σ place v = each_in_order (is_new σ) v.declares >> are_others [] v.variables >> type_rules σ place v
+abbrev pub HaveBinders : State → List Variable → List TypeText → Type 0
+HaveBinders σ vs result = AreBinders σ [] (params_of vs) × Every DependsOnNothing (dummies_of vs) × Every (IsResult (params_of vs)) result
 
--- what is asked of the statement at a place, over what was declared before
-abbrev pub statement_checks : State → ℕ → Statement → Checks Fault
-statement_checks σ place s = view_checks σ place (view s)
+-- binders, then dummies, then a pure result
+abbrev pub binder_rules : State → ℕ → List Variable → List TypeText → Checks Fault
+binder_rules σ place vs result =
+    demand (record { at = place; rule = rules.Binder }) (HaveBinders σ vs result)
+    >> demand (record { at = place; rule = rules.DummySort }) (Every (IsDummySort σ) (dummies_of vs))
+    >> demand (record { at = place; rule = rules.Pure }) (Every (IsNotPure σ) result)
+
+-- the names of variables, and the names in types
+abbrev pub variable_rules : State → List Variable → List TypeText → Checks Fault
+variable_rules σ vs types = are_others [] vs >> each_in_order (type_checks σ (names_of vs)) types
+
+-- and then binders
+abbrev pub parts_rules : State → ℕ → List Variable → List TypeText → List TypeText → Checks Fault
+parts_rules σ place vs types results = variable_rules σ vs types >> binder_rules σ place vs results
+
+-- formulas, string by string, then the free variables of a body
+abbrev pub body_rules : State → ℕ → List Variable → List Formula → List (List Piece) → Checks Fault
+body_rules σ place vs formulas tokens = strings_checks σ vs formulas tokens >> each_in_order (free_checks σ place vs) formulas
+
+-- what is asked of the statement at a place, whose formulas have these tokens, over what was declared before
+abbrev pub statement_checks : State → ℕ → Statement → List (List Piece) → Checks Fault
+statement_checks σ place s tokens =
+    each_in_order is_level (view s).levels
+    >> name_rules σ (view s)
+    >> use_rules σ (view s)
+    >> binder_rules σ place (view s).variables (view s).result
+    >> body_rules σ place (view s).variables (view s).formulas tokens
+    >> form_checks σ place s

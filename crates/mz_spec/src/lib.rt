@@ -1,26 +1,30 @@
 //! Specifications: the declarations of a `.mm0` text, or the first rule that it breaks
-//! (mm0.md, sections on the grammar and on sorts and terms).
+//! (mm0.md, sections on sorts, terms, definitions, axioms and theorems, notations and coercions).
 //!
-//! `specs/Statement.antt` is the grammar, `specs/Rules.antt` the rules of a statement in their
-//! order, and `specs/Spec.antt` says what a text declares and where it breaks its first rule.
+//! `specs/View.antt` says what the rules see of a statement, `specs/Rules.antt` has the rules of a
+//! statement in their order, `specs/Declaring.antt` what a good one declares, and `specs/Spec.antt` says
+//! what a text declares and where it breaks its first rule.
 #![tactic(auto)]
 
+mod declare;
+mod formulas;
 mod laws;
-mod lexeme;
+mod levels;
+mod literals;
 mod names;
-mod progress;
+mod notations;
+mod parts;
 mod reader;
 mod refusal;
 mod rules;
+mod scope;
 mod spec;
 mod state;
-mod statement;
 #[cfg(test)]
 mod tests;
 mod variables;
-mod word;
 
-pub use laws::{readings_are_one, specifications_are_legal, statements_are_one};
+pub use laws::{readings_are_one, specifications_are_legal};
 pub use reader::{SpecRead, read_spec};
 pub use refusal::SpecRefusal;
 pub use spec::Spec;

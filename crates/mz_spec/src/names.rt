@@ -30,6 +30,13 @@ impl<'a> Names<'a> {
         }
     }
 
+    /// How many names there are.
+    pub fn len(&self) -> usize
+        ensures { result ≡ length self.now }
+    {
+        self.items.len()
+    }
+
     /// The number of the name, if it is one of them.
     pub fn number_of(&self, name: &'a [u8]) -> Option<usize>
         ensures number { result ≡ number_lem self.now name.now }

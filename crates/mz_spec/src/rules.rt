@@ -1,19 +1,21 @@
-// The rules of a statement.
-ghost use Rattle.std.specs.Prelude.{◌≡◌, ◌↔◌, [], IfOk, IsTrue, map};
+// The rules of a statement on its names and binders.
+ghost use Rattle.std.specs.Prelude.{◌≡◌, ◌↔◌, ◌⊎◌, [], IfOk, IsTrue, List, map, option_map};
 ghost use Rattle.mz_checks.specs.Checks.{Judges, each_in_order};
-ghost use Rattle.mz_logic.specs.Modifiers.{IsPure, IsStrict};
+ghost use Rattle.mz_logic.specs.Modifiers.{IsPure, IsStrict, IsFree};
+ghost use Rattle.mz_grammar.specs.Code.{lexeme, type_text};
 ghost use Rattle.mz_spec.specs.Answers.{JudgesOrMem};
-ghost use Rattle.mz_spec.specs.Code.{group as group_lem, lexeme, term as term_lem, type_text, variable as variable_lem};
-ghost use Rattle.mz_spec.specs.Entries.{IsKept, state};
-ghost use Rattle.mz_spec.specs.Rules.{AreBinders, HasSortThat, IsBinder, IsResult, are_others, binder_rules, is_known, mods_of as mods_of_lem, new_name, statement_checks, type_checks, type_rules};
-ghost use Rattle.mz_spec.specs.View.{group_type, names_of, view};
+ghost use Rattle.mz_spec.specs.Code.{AreParts, all_of, variable as variable_lem};
+ghost use Rattle.mz_spec.specs.Entries.{state};
+ghost use Rattle.mz_spec.specs.Kept.{IsKept};
+ghost use Rattle.mz_spec.specs.Rules.{AreBinders, DependsOnNothing, Every, HasSortThat, HaveBinders, IsBinder, IsDummySort, IsNotPure, IsResult, are_others, binder_rules, is_known, mods_of as mods_of_lem, new_name, type_checks};
+ghost use Rattle.mz_spec.specs.View.{Variable as VariableLem, names_of};
+ghost use Rattle.mz_grammar.specs.Statement.{TypeText as TypeLem};
 
-use crate::lexeme::Lexeme;
 use crate::names::Names;
-use crate::refusal::{Fault, Halt};
+use crate::parts::{Parts, TypeAt};
 use crate::state::State;
-use crate::statement::{Group, TermText, TypeText};
 use crate::variables::{Variable, are_bound};
+use mz_grammar::{Fault, Halt, Lexeme, TypeText};
 use mz_lex::S;
 use mz_logic::SortMods;
 use std::alloc::Global;
@@ -32,7 +34,7 @@ pub fn check_new<'a>(names: &Names<'a>, name: Lexeme<'a>) -> Result<(), Fault>
 }
 
 /// The name is one of these.
-fn check_known<'a>(names: &Names<'a>, name: Lexeme<'a>) -> Result<(), Fault>
+pub fn check_known<'a>(names: &Names<'a>, name: Lexeme<'a>) -> Result<(), Fault>
     ensures { Judges result (is_known names.now (lexeme name.entry)) }
 {
     if names.number_of(name.bytes).is_none() {
@@ -54,7 +56,7 @@ fn check_all_known<'a>(names: &Names<'a>, found: &[Lexeme<'a>]) -> Result<(), Fa
 }
 
 /// The names of the variables, where no two share one.
-fn distinct_names<'a>(alloc: Global, variables: &[Variable<'_, 'a>]) -> Result<Names<'a>, Halt>
+pub fn distinct_names<'a>(alloc: Global, variables: &[Variable<'_, 'a>]) -> Result<Names<'a>, Halt>
     ensures judged { JudgesOrMem result (are_others [] (map variable_lem variables.now)) }
     ensures names { IfOk result (λ names. names ≡ names_of (map variable_lem variables.now)) }
 {
@@ -79,35 +81,27 @@ impl<'a> State<'a> {
         check_all_known(names, &ty.deps)
     }
 
-    fn check_groups(&self, names: &Names<'a>, groups: &[Group<'a>]) -> Result<(), Fault>
-        ensures { Judges result (each_in_order (type_checks (state self.now) names.now) (map group_type (map group_lem groups.now))) }
-    {
-        for group in groups {
-            self.check_type(names, &group.ty)?;
-        }
-        Ok(())
-    }
-
-    fn check_arguments(&self, names: &Names<'a>, types: &[TypeText<'a>]) -> Result<(), Fault>
-        ensures { Judges result (each_in_order (type_checks (state self.now) names.now) (map type_text types.now)) }
+    /// Those of each type are.
+    pub fn check_types(&self, names: &Names<'a>, types: &[TypeAt<'_, 'a>]) -> Result<(), Fault>
+        ensures { Judges result (each_in_order (type_checks (state self.now) names.now) (map (λ t. type_text t.ty.now) types.now)) }
     {
         for ty in types {
-            self.check_type(names, ty)?;
+            self.check_type(names, ty.ty)?;
         }
         Ok(())
     }
 
     /// The modifiers of a type's sort, where it is there.
     fn mods_of(&self, ty: &TypeText<'a>) -> Option<SortMods>
-        requires kept { IsKept self.now }
+        requires kept { IsKept (state self.now) }
         ensures { result ≡ mods_of_lem (state self.now) (type_text ty.now) }
     {
         let number = self.sort_names.number_of(ty.sort.bytes)?;
-        self.sort_mods.get(number).copied()
+        self.env.sorts().get(number).copied()
     }
 
     fn is_strict(&self, ty: &TypeText<'a>) -> bool
-        requires kept { IsKept self.now }
+        requires kept { IsKept (state self.now) }
         ensures { IsTrue result ↔ HasSortThat (state self.now) IsStrict (type_text ty.now) }
     {
         match self.mods_of(ty) {
@@ -117,7 +111,7 @@ impl<'a> State<'a> {
     }
 
     fn is_pure(&self, ty: &TypeText<'a>) -> bool
-        requires kept { IsKept self.now }
+        requires kept { IsKept (state self.now) }
         ensures { IsTrue result ↔ HasSortThat (state self.now) IsPure (type_text ty.now) }
     {
         match self.mods_of(ty) {
@@ -126,9 +120,19 @@ impl<'a> State<'a> {
         }
     }
 
-    /// Whether the variable stands right behind these.
+    fn is_strict_or_free(&self, ty: &TypeText<'a>) -> bool
+        requires kept { IsKept (state self.now) }
+        ensures { IsTrue result ↔ HasSortThat (state self.now) (λ m. IsStrict m ⊎ IsFree m) (type_text ty.now) }
+    {
+        match self.mods_of(ty) {
+            Some(mods) => mods.is_strict() || mods.is_free(),
+            None => false,
+        }
+    }
+
+    /// Whether the parameter stands right behind these.
     fn is_binder(&self, before: &[Variable<'_, 'a>], variable: &Variable<'_, 'a>) -> bool
-        requires kept { IsKept self.now }
+        requires kept { IsKept (state self.now) }
         ensures { IsTrue result ↔ IsBinder (state self.now) (map variable_lem before.now) (variable_lem variable.now) }
     {
         if variable.is_bound && (!variable.ty.deps.is_empty() || self.is_strict(variable.ty)) {
@@ -137,93 +141,98 @@ impl<'a> State<'a> {
         are_bound(before, &variable.ty.deps)
     }
 
-    /// Whether each variable stands right behind those before it.
-    fn are_binders(&self, variables: &[Variable<'_, 'a>]) -> bool
-        requires kept { IsKept self.now }
-        ensures { IsTrue result ↔ AreBinders (state self.now) [] (map variable_lem variables.now) }
+    /// Whether each parameter stands right behind those before it.
+    fn are_binders(&self, params: &[Variable<'_, 'a>]) -> bool
+        requires kept { IsKept (state self.now) }
+        ensures { IsTrue result ↔ AreBinders (state self.now) [] (map variable_lem params.now) }
     {
-        for (i, variable) in variables.iter().enumerate() {
-            if !self.is_binder(&variables[..i], variable) {
+        for (i, variable) in params.iter().enumerate() {
+            if !self.is_binder(&params[..i], variable) {
                 return false;
             }
         }
         true
     }
 
-    /// The first rule that a term breaks, whose variables these are.
-    pub fn check_term(
-        &self,
-        alloc: Global,
-        place: u32,
-        term: &TermText<'a>,
-        variables: &[Variable<'_, 'a>],
-    ) -> Result<(), Halt>
-        requires kept { IsKept self.now }
-        requires variables { map variable_lem variables.now ≡ (view (term_lem term.now)).variables }
-        ensures { JudgesOrMem result (statement_checks (state self.now) place (term_lem term.now)) }
+    /// Whether no dummy's sort is strict or free.
+    fn are_dummy_sorts(&self, dummies: &[Variable<'_, 'a>]) -> bool
+        requires kept { IsKept (state self.now) }
+        ensures { IsTrue result ↔ Every (IsDummySort (state self.now)) (map variable_lem dummies.now) }
     {
-        check_new(&self.term_names, term.head.name)?;
-        let names = distinct_names(alloc, variables)?;
-        self.check_types(place, term, variables, &names)?;
-        Ok(())
+        for dummy in dummies {
+            if self.is_strict_or_free(dummy.ty) {
+                return false;
+            }
+        }
+        true
     }
 
-    /// The first rule that it breaks once the variables' names are told apart.
-    fn check_types(
-        &self,
-        place: u32,
-        term: &TermText<'a>,
-        variables: &[Variable<'_, 'a>],
-        names: &Names<'a>,
-    ) -> Result<(), Fault>
-        requires kept { IsKept self.now }
-        requires variables { map variable_lem variables.now ≡ (view (term_lem term.now)).variables }
-        requires names { names.now ≡ names_of (map variable_lem variables.now) }
-        ensures { Judges result (type_rules (state self.now) place (view (term_lem term.now))) }
+    /// Whether the result's sort isn't pure.
+    fn is_not_pure(&self, result_type: Option<&TypeText<'a>>) -> bool
+        requires kept { IsKept (state self.now) }
+        ensures { IsTrue result ↔ Every (IsNotPure (state self.now)) (all_of (option_map (λ t. type_text t.now) result_type.entry)) }
     {
-        self.check_uses(names, term)?;
-        self.check_binders(place, term, variables)
+        match result_type {
+            Some(ty) => !self.is_pure(ty),
+            None => true,
+        }
     }
 
-    /// The sorts and dependencies of the types are known.
-    fn check_uses(&self, names: &Names<'a>, term: &TermText<'a>) -> Result<(), Fault>
-        ensures { Judges result (each_in_order (type_checks (state self.now) names.now) (view (term_lem term.now)).types) }
+    /// Whether parameters, dummies and result depend on what they may.
+    fn have_binders(&self, parts: &Parts<'_, 'a>) -> bool
+        requires kept { IsKept (state self.now) }
+        ensures { (vs : List VariableLem) (types results : List TypeLem) → AreParts parts.now vs types results → IsTrue result ↔ HaveBinders (state self.now) vs results }
     {
-        self.check_groups(names, &term.head.groups)?;
-        self.check_arguments(names, &term.arguments)?;
-        self.check_type(names, &term.result)
+        self.are_binders(&parts.params)
+            && depend_on_nothing(&parts.dummies)
+            && depends_on_bound(&parts.params, parts.result)
     }
 
-    /// Each variable stands right behind those before it, and the result depends on bound ones.
-    fn has_binders(&self, term: &TermText<'a>, variables: &[Variable<'_, 'a>]) -> bool
-        requires kept { IsKept self.now }
-        ensures { IsTrue result ↔ (AreBinders (state self.now) [] (map variable_lem variables.now) × IsResult (map variable_lem variables.now) (type_text term.now.result)) }
+    /// The binders, the dummies' sorts and the result's sort are right.
+    pub fn check_binders(&self, place: u32, parts: &Parts<'_, 'a>) -> Result<(), Fault>
+        requires kept { IsKept (state self.now) }
+        ensures { (vs : List VariableLem) (types results : List TypeLem) → AreParts parts.now vs types results → Judges result (binder_rules (state self.now) place vs results) }
     {
-        self.are_binders(variables) && are_bound(variables, &term.result.deps)
-    }
-
-    fn check_binders(
-        &self,
-        place: u32,
-        term: &TermText<'a>,
-        variables: &[Variable<'_, 'a>],
-    ) -> Result<(), Fault>
-        requires kept { IsKept self.now }
-        requires variables { map variable_lem variables.now ≡ (view (term_lem term.now)).variables }
-        ensures { Judges result (binder_rules (state self.now) place (view (term_lem term.now))) }
-    {
-        if !self.has_binders(term, variables) {
+        if !self.have_binders(parts) {
             return Err(Fault {
                 at: place,
                 rule: S::Binder,
             });
         }
-        if self.is_pure(&term.result) {
+        if !self.are_dummy_sorts(&parts.dummies) {
+            return Err(Fault {
+                at: place,
+                rule: S::DummySort,
+            });
+        }
+        if !self.is_not_pure(parts.result) {
             return Err(Fault {
                 at: place,
                 rule: S::Pure,
             });
         }
         Ok(())
+    }
+}
+
+/// Whether none of the variables has dependencies.
+fn depend_on_nothing(variables: &[Variable<'_, '_>]) -> bool
+    ensures { IsTrue result ↔ Every DependsOnNothing (map variable_lem variables.now) }
+{
+    for variable in variables {
+        if !variable.ty.deps.is_empty() {
+            return false;
+        }
+    }
+    true
+}
+
+/// Whether the result depends on bound parameters alone.
+fn depends_on_bound(params: &[Variable<'_, '_>], result_type: Option<&TypeText<'_>>) -> bool
+    ensures { IsTrue result ↔ Every (IsResult (map variable_lem params.now)) (all_of (option_map (λ t. type_text t.now) result_type.entry)) }
+{
+    match result_type {
+        Some(ty) => are_bound(params, &ty.deps),
+        None => true,
     }
 }

@@ -1,55 +1,55 @@
 // What a specification declares.
-use mz_logic::Decl;
+use mz_logic::{Decl, Env};
 use std::marker::Model;
 
-/// A declaration, the span of its name, and the first byte of its statement.
-#[derive(Drop)]
-pub struct Declared {
-    pub decl: Decl,
-    pub name: (u32, u32),
+/// The span of a declaration's name, and the first byte of its statement.
+#[derive(Clone, Copy, Debug, PartialEq, Eq)]
+pub struct Mark {
+    pub from: u32,
+    pub to: u32,
     pub place: u32,
 }
 
 /// The declarations of a specification, in order.
 #[derive(Drop)]
 pub struct Spec {
-    entries: Vec<Declared>,
+    env: Env,
+    marks: Vec<Mark>,
 }
 
 impl Model for Spec {
-    ghost use Rattle.std.specs.Prelude.{List, map, ◌<◌, ◌^◌, length};
+    ghost use Rattle.std.specs.Prelude.{List, ◌≡◌, ◌<◌, ◌^◌, length};
     ghost use Rattle.std.specs.Coded.{coded_list};
-    ghost use Rattle.mz_spec.specs.State.{Entry, entry_code};
+    ghost use Rattle.mz_spec.specs.State.{Entry, entry_code, entries_of};
 
     ghost Value = { List Entry };
 
     ghost coded = { coded_list entry_code };
 
-    ghost use Rattle.mz_spec.specs.Entries.{entry};
+    ghost view = { λ a. entries_of a.env a.marks.items };
 
-    ghost view = { λ a. map entry a.entries.items };
-
-    ghost invariant = { λ a. length a.entries.items < 2 ^ 32 };
+    ghost invariant = { λ a. (length a.marks.items ≡ length a.env) × (length a.marks.items < 2 ^ 32) };
 }
 
 impl Spec {
-    ghost use Rattle.std.specs.Prelude.{◌≡◌, ◌<◌, ◌^◌, length, map, option_map, slice_get, Some};
+    ghost use Rattle.std.specs.Prelude.{◌≡◌, ◌<◌, ◌^◌, length, option_map, slice_get, Some};
     ghost use Rattle.mz_logic.specs.DeclView.{declaration};
-    ghost use Rattle.mz_spec.specs.Entries.{entry};
+    ghost use Rattle.mz_spec.specs.State.{entries_of};
 
-    /// These declarations.
-    pub fn new(entries: Vec<Declared>) -> Spec
-        requires { length entries.items < 2 ^ 32 }
-        ensures { result ≡ map entry entries.items }
+    /// These declarations, each with its mark.
+    pub fn new(env: Env, marks: Vec<Mark>) -> Spec
+        requires each { length marks.items ≡ length env }
+        requires few { length marks.items < 2 ^ 32 }
+        ensures { result ≡ entries_of env marks.items }
     {
-        Spec { entries }
+        Spec { env, marks }
     }
 
     /// How many declarations there are.
     pub fn len(&self) -> u32
         ensures { result ≡ length self.now }
     {
-        self.entries.len() as u32
+        self.marks.len() as u32
     }
 
     /// The i-th declaration, from 0.
@@ -57,7 +57,10 @@ impl Spec {
         requires { i < length self.now }
         ensures { option_map (λ e. e.decl) (slice_get self.now i) ≡ Some (declaration result.now) }
     {
-        &self.entries[i as usize].decl
+        match self.env.get(i as usize) {
+            Some(decl) => decl,
+            None => unreachable!(),
+        }
     }
 
     /// The span of its name: the first byte, and the place behind the last.
@@ -65,7 +68,8 @@ impl Spec {
         requires { i < length self.now }
         ensures { option_map (λ e. (e.from, e.to)) (slice_get self.now i) ≡ Some result }
     {
-        self.entries[i as usize].name
+        let mark = self.marks[i as usize];
+        (mark.from, mark.to)
     }
 
     /// The first byte of its statement.
@@ -73,6 +77,6 @@ impl Spec {
         requires { i < length self.now }
         ensures { option_map (λ e. e.place) (slice_get self.now i) ≡ Some result }
     {
-        self.entries[i as usize].place
+        self.marks[i as usize].place
     }
 }

@@ -1,13 +1,13 @@
 // The variables of a statement.
 ghost use Rattle.std.specs.Prelude.{◌≡◌, ◌↔◌, ◌<◌, ◌^◌, ◌++◌, length, IfOk, IsTrue, OnOk, bytes_eq, true, map, option_map};
 ghost use Rattle.std.specs.List.{list_any};
-ghost use Rattle.mz_spec.specs.Code.{group as group_lem, lexeme, term as term_lem, type_text, variable};
+ghost use Rattle.mz_grammar.specs.Code.{group as group_lem, lexeme, name_text, type_text};
+ghost use Rattle.mz_spec.specs.Code.{variable};
 ghost use Rattle.mz_spec.specs.Rules.{Every, IsBoundAmong, IsCalled};
-ghost use Rattle.mz_spec.specs.Spec.{dep_places as dep_places_lem};
-ghost use Rattle.mz_spec.specs.View.{group_variables, is_among as is_among_lem, name_of as name_of_lem, unnamed, variables_of as variables_of_lem, view};
+ghost use Rattle.mz_spec.specs.State.{dep_places as dep_places_lem};
+ghost use Rattle.mz_spec.specs.View.{dummies_of as dummies_lem, group_variables, is_among as is_among_lem, name_of as name_of_lem, params_of as params_lem, unnamed, variable_of as variable_of_lem, variables_of as variables_of_lem};
 
-use crate::lexeme::Lexeme;
-use crate::statement::{Group, TermText, TypeText};
+use mz_grammar::{Group, Lexeme, NameText, Source, TypeText};
 use mz_logic::Deps;
 use std::alloc::{AllocError, Global};
 
@@ -15,24 +15,39 @@ use std::alloc::{AllocError, Global};
 #[derive(Clone, Copy)]
 pub struct Variable<'t, 'a> {
     pub name: Option<Lexeme<'a>>,
+    pub is_dummy: bool,
     pub is_bound: bool,
     pub ty: &'t TypeText<'a>,
 }
 
-/// The variables of a term, in order.
-pub fn variables_of<'t, 'a>(
-    alloc: Global,
-    term: &'t TermText<'a>,
-) -> Result<Vec<Variable<'t, 'a>>, AllocError>
-    ensures { IfOk result (λ vs. map variable vs.items ≡ (view (term_lem term.now)).variables) }
-{
-    let mut variables = Vec::new(alloc);
-    push_groups(&mut variables, &term.head.groups)?;
-    push_arguments(&mut variables, &term.arguments)?;
-    Ok(variables)
+impl<'t, 'a> Variable<'t, 'a> {
+    /// The variable of a name in a group, of a type.
+    fn new(is_bound: bool, ty: &'t TypeText<'a>, name: NameText<'a>) -> Variable<'t, 'a>
+        ensures { variable result ≡ variable_of_lem is_bound (type_text ty.now) (name_text name.entry) }
+    {
+        Variable {
+            name: name_of(name.name),
+            is_dummy: name.is_dummy,
+            is_bound: is_bound || name.is_dummy,
+            ty,
+        }
+    }
+
+    /// A regular parameter without a name.
+    pub fn unnamed(ty: &'t TypeText<'a>) -> Variable<'t, 'a>
+        ensures { variable result ≡ unnamed (type_text ty.now) }
+    {
+        Variable {
+            name: None,
+            is_dummy: false,
+            is_bound: false,
+            ty,
+        }
+    }
 }
 
-fn push_groups<'t, 'a>(
+/// Adds the variables of groups, in order.
+pub fn push_groups<'t, 'a>(
     variables: &mut Vec<Variable<'t, 'a>>,
     groups: &'t [Group<'a>],
 ) -> Result<(), AllocError>
@@ -44,34 +59,29 @@ fn push_groups<'t, 'a>(
     Ok(())
 }
 
+/// Adds the variables of a group; a formula's names are none.
 fn push_group<'t, 'a>(
     variables: &mut Vec<Variable<'t, 'a>>,
     group: &'t Group<'a>,
 ) -> Result<(), AllocError>
     ensures { OnOk result (map variable variables.new.items ≡ map variable variables.old.items ++ group_variables (group_lem group.now)) }
 {
-    for name in &group.names {
-        variables.push(Variable {
-            name: name_of(*name),
-            is_bound: group.is_bound,
-            ty: &group.ty,
-        })?;
+    match &group.source {
+        Source::Type(ty) => push_names(variables, group.is_bound, ty, &group.names),
+        Source::Formula(_) => Ok(()),
     }
-    Ok(())
 }
 
-fn push_arguments<'t, 'a>(
+fn push_names<'t, 'a>(
     variables: &mut Vec<Variable<'t, 'a>>,
-    arguments: &'t [TypeText<'a>],
+    is_bound: bool,
+    ty: &'t TypeText<'a>,
+    names: &[NameText<'a>],
 ) -> Result<(), AllocError>
-    ensures { OnOk result (map variable variables.new.items ≡ map variable variables.old.items ++ map unnamed (map type_text arguments.now)) }
+    ensures { OnOk result (map variable variables.new.items ≡ map variable variables.old.items ++ map (variable_of_lem is_bound (type_text ty.now)) (map name_text names.now)) }
 {
-    for ty in arguments {
-        variables.push(Variable {
-            name: None,
-            is_bound: false,
-            ty,
-        })?;
+    for name in names {
+        variables.push(Variable::new(is_bound, ty, *name))?;
     }
     Ok(())
 }
@@ -85,6 +95,38 @@ fn name_of(found: Lexeme<'_>) -> Option<Lexeme<'_>>
     } else {
         Some(found)
     }
+}
+
+/// The parameters among the variables, in order.
+pub fn params_of<'t, 'a>(
+    alloc: Global,
+    variables: &[Variable<'t, 'a>],
+) -> Result<Vec<Variable<'t, 'a>>, AllocError>
+    ensures { IfOk result (λ params. map variable params.items ≡ params_lem (map variable variables.now)) }
+{
+    let mut params = Vec::new(alloc);
+    for variable in variables {
+        if !variable.is_dummy {
+            params.push(*variable)?;
+        }
+    }
+    Ok(params)
+}
+
+/// The dummies among the variables, in order.
+pub fn dummies_of<'t, 'a>(
+    alloc: Global,
+    variables: &[Variable<'t, 'a>],
+) -> Result<Vec<Variable<'t, 'a>>, AllocError>
+    ensures { IfOk result (λ dummies. map variable dummies.items ≡ dummies_lem (map variable variables.now)) }
+{
+    let mut dummies = Vec::new(alloc);
+    for variable in variables {
+        if variable.is_dummy {
+            dummies.push(*variable)?;
+        }
+    }
+    Ok(dummies)
 }
 
 /// Whether all of these are names of bound variables.

@@ -1,5 +1,5 @@
 mod KeyLaws
-mod Places
+pub mod Places
 mod Longer
 mod Growing
 mod Entering
@@ -7,9 +7,9 @@ mod Adding
 mod Beginning
 mod OverTerms
 mod Gathering
-mod Params
+pub mod Params
 mod AllVariables
 mod BoundOperands
 mod FreeVariables
 mod Taking
-mod Meeting
+pub mod Meeting

@@ -25,7 +25,7 @@ pub old-lists-keep-trees : OldListsKeepTrees
 old-lists-keep-trees s s' (last, is, _) js inside = (are-in-kept s s' (last, is) js inside, trees-kept s s' (last, is) js inside)
 
 -- a bound variable's place is among those of bound variables
-bound-has : (i : ℕ) (bs : List Binder) (y : ℕ) (b : Binder) → slice_get bs y ≡ Some b → b.bound ≡ true → (k : ℕ) × (slice_get (bound_from i bs) k ≡ Some (i + y))
+pub bound-has : (i : ℕ) (bs : List Binder) (y : ℕ) (b : Binder) → slice_get bs y ≡ Some b → b.bound ≡ true → (k : ℕ) × (slice_get (bound_from i bs) k ≡ Some (i + y))
 bound-has i [] y b at bd = absurd (none_some at)
 bound-has i (c ∷ bs) zero b at bd = (0, here c.bound (ap (λ (d : Binder). d.bound) (one_at refl at) ∙ bd))
   where

@@ -1,5 +1,5 @@
 //! A stream run against operands, on a target.
-ghost use Rattle.std.specs.Prelude.{ℕ, ◌≡◌, ◌<◌, ◌^◌, ◌+◌, List, length};
+ghost use Rattle.std.specs.Prelude.{ℕ, ◌≡◌, ◌≤◌, ◌<◌, ◌^◌, ◌+◌, List, length};
 ghost use Rattle.mz_logic.specs.Words.{signatures_of};
 ghost use Rattle.mz_logic.specs.Signature.{Signature};
 ghost use Rattle.mz_logic.specs.declared.binder.Binder.{Binder};
@@ -28,7 +28,7 @@ use std::sync::ledger::Ledger;
 /// After `Done` the heap holds the operands, and then what was saved and what was met for dummies, in
 /// order; `hyps` has lost the top items that were taken. After `Refused` and `Mem` both hold what is
 /// left, and are of no use. A step is counted for each command that is read, up to the END or the one
-/// that is refused.
+/// that is refused; never more than the stream has bytes.
 pub fn unify<T: Terms, L: Ledger>(
     terms: &T,
     stream: &[u8],
@@ -50,6 +50,7 @@ pub fn unify<T: Terms, L: Ledger>(
     ensures taken { OnDone result (λ taken. AreLeft hyps.old.items hyps.new.items taken) }
     ensures ids { OnDone result (λ _. AreIn store.now heap.new.items × AreItemsIn store.now hyps.new.items) }
     ensures steps { UnlessMem result (steps.new ≡ steps.old + unify_steps strict (signatures_of (T.all_terms terms.now)) store.now.context (matching_at store.now mode stream.now heap.old.items target hyps.old.items)) }
+    ensures most { steps.new ≤ steps.old + length stream.now }
 {
     let mut targets = Vec::new(*heap.allocator());
     let Ok(()) = targets.push(target) else {
@@ -77,6 +78,7 @@ fn run<L: Ledger>(
     ensures taken { OnDone result (λ taken. AreLeft hyps.old.items hyps.new.items taken) }
     ensures ids { OnDone result (λ _. AreIn store.now heap.new.items × AreItemsIn store.now hyps.new.items) }
     ensures steps { (sigs : List Signature) → IsOver sigs store.now → UnlessMem result (steps.new ≡ steps.old + unify_steps_from strict sigs store.now.context (mode_of mode) (length stream.now) stream.now (state_at store.now heap.old.items (trees_at store.now heap.old.items) start.items hyps.old.items)) }
+    ensures most { steps.new ≤ steps.old + length stream.now }
 {
     let held = hyps.len();
     let mut targets = start;

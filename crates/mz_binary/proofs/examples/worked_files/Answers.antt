@@ -15,5 +15,4 @@ returns c = record {
   rows = (refl, refl, refl, refl, refl, refl, refl, refl, refl, refl, refl, refl, refl, refl, refl);
   bodies = (refl, refl, refl, refl, refl, refl, refl, refl, refl, refl, refl, refl, refl, refl, refl, refl, refl, refl, refl, refl, refl, refl, refl, refl, refl, refl, refl, refl, refl, refl);
   steps = (refl, refl, refl, refl, refl, refl, refl, refl, refl, refl, refl);
-  in_part = (refl, refl, refl, refl);
 }

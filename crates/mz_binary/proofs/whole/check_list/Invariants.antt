@@ -1,14 +1,17 @@
-use Rattle.std.proofs.Common.{◌≡◌, ◌-◌, List, length}
+use Rattle.std.proofs.Common.{◌≡◌, ◌≤◌, ◌+◌, ◌-◌, List, length}
 use Rattle.mz_logic.specs.Declaration.{Declaration}
 use Rattle.mz_logic.specs.LegalLists.{Statement as Declared}
-use Rattle.mz_binary.specs.Progress.{HasPassed}
+use Rattle.mz_layout.specs.Layout.{Layout}
+use Rattle.mz_binary.specs.Progress.{HasPassed, most_left, steps_left}
 use Rattle.mz_binary.proofs.whole.check_list.Given as goal
 
 abbrev pub invariant-statements : goal.invariant-statements
 invariant-statements g l = record {
   so_far : (ss : List Declared) × (env : List Declaration) × HasPassed l.checker ss env;
   same_file : l.checker.file ≡ l.fn.first.file;
-  no_steps : l.steps ≡ l.fn.steps;
+  layout : Layout l.checker.file;
+  left : l.steps + steps_left l.checker ≡ l.fn.steps + steps_left l.fn.first;
+  most : l.steps + most_left l.checker ≤ l.fn.steps + most_left l.fn.first;
 }
 
 abbrev pub decreases-statements : goal.decreases-statements

@@ -4,4 +4,4 @@ use Rattle.mz_binary.proofs.LegalChains.{good-legal, cite-as-bodies}
 use Rattle.mz_binary.proofs.whole_laws.whole_files_are_legal.Goals as goal
 
 pub returns : goal.returns
-returns c = record { legal = λ reads file ss good. (good-legal reads file ss good, legal_list_is_closed any_derivation ss (good-legal reads file ss good)); citations = cite-as-bodies }
+returns c = record { legal = λ file ss good. (good-legal file ss good, legal_list_is_closed any_derivation ss (good-legal file ss good)); citations = cite-as-bodies }

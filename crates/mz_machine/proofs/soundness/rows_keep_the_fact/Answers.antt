@@ -1,5 +1,5 @@
 use Rattle.mz_machine.specs.Sound.{IsCited}
-use Rattle.mz_machine.proofs.Rows.{keeps}
+use Rattle.mz_machine.proofs.RowsKeep.{keeps}
 use Rattle.mz_machine.proofs.soundness.rows_keep_the_fact.Goals as goal
 
 pub returns : goal.returns

@@ -19,10 +19,10 @@ mods-requires c =
 
 pub returns-then-ne : goal.returns-then-ne
 returns-then-ne c = λ p row.
-    sort-mods-differ c.args.mmb.now c.args.statement.now c.args.mods p row c.if-statement-ne-SORT.false
+    sort-mods-differ c.args.publics.now c.args.mmb.now c.args.statement.now c.args.mods p row c.if-statement-ne-SORT.false
     (λ same. eqb-false c.args.mods.0 c.mods.result.0 (negated _ true (sym c.ne.ensures ∙ c.if-ne.true)) (ap (λ (m : SortMods). m.0) (same ∙ sym c.mods.ensures.byte)))
 
 pub returns : goal.returns
 returns c = λ p row.
-    sort-same c.args.mmb.now c.args.statement.now c.args.mods p row c.if-statement-ne-SORT.false
+    sort-same c.args.publics.now c.args.mmb.now c.args.statement.now c.args.mods p row c.if-statement-ne-SORT.false
     (mods-same c.args.mods c.mods.result (negated _ false (sym c.ne.ensures ∙ c.if-ne.false)) ∙ c.mods.ensures.byte)

@@ -1,8 +1,11 @@
-use Rattle.std.proofs.Common.{suc, drop}
+use Rattle.std.proofs.Common.{◌≡◌, suc, drop, sym, ap, subst, List, ℕ}
+use Rattle.mz_checks.specs.Checks.{Judges}
 use Rattle.mz_logic.specs.DeclView.{declaration}
 use Rattle.mz_spec.specs.State.{env_of}
+use Rattle.mz_match.specs.Match.{match_checks, partner_of}
 use Rattle.mz_match.proofs.Lists.{drop-entry}
-use Rattle.mz_match.proofs.RowPairs.{told-row, judges-partner}
+use Rattle.mz_match.proofs.ToldRows.{told-row}
+use Rattle.mz_match.proofs.RowPairs.{judges-partner}
 use Rattle.mz_match.proofs.pair.match_statement.Goals as goal
 
 pub match_declaration-requires : goal.match_declaration-requires
@@ -11,6 +14,7 @@ match_declaration-requires c =
 
 pub returns : goal.returns
 returns c = λ ss env s next told.
-    judges-partner (drop c.args.i (env_of c.args.spec.now)) (drop (suc c.args.i) (env_of c.args.spec.now)) (declaration c.decl.result.now) s.decl c.match_declaration.result
+    judges-partner (drop c.args.i (env_of c.args.spec.now)) (drop (suc c.args.i) (env_of c.args.spec.now)) (declaration c.decl.result.now) (partner_of ss s) c.match_declaration.result
     (drop-entry c.args.spec.now c.args.i (declaration c.decl.result.now) c.decl.ensures)
-    (c.match_declaration.ensures s.decl (told-row c.args.mmb.now c.args.publics.now c.args.statement.now ss env s next told))
+    (subst (λ (rows : List ℕ). Judges c.match_declaration.result (match_checks (declaration c.decl.result.now) (record { rows = rows; decl = s.decl }))) told.rows_are
+    (c.match_declaration.ensures s.decl (told-row c.args.mmb.now c.args.publics.now c.args.statement.now ss env s next told)))

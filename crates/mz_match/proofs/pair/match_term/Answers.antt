@@ -1,17 +1,22 @@
-use Rattle.std.proofs.Common.{subst}
+use Rattle.std.proofs.Common.{◌≡◌, ◌<◌, ◌∙◌, ℕ, Bool, List, length, Ok, refl, sym, ap, subst, arith}
+use Rattle.std.proofs.lemmas.Bool.{false≢true}
+use Rattle.mz_layout.proofs.TableLists.{length-term_words}
+use Rattle.mz_logic.specs.Declaration.{Declaration}
+use Rattle.mz_logic.specs.DeclView.{term_view, term_of}
 use Rattle.mz_checks.specs.Checks.{Judges}
-use Rattle.mz_logic.specs.Words.{signature_of}
-use Rattle.mz_layout.specs.Tables.{term_row as term_row_of}
-use Rattle.mz_match.specs.Match.{signature_checks}
-use Rattle.mz_logic.specs.DeclView.{term_view}
-use Rattle.mz_match.proofs.RowPairs.{term-row, term-judged}
+use Rattle.mz_match.specs.Match.{match_checks}
+use Rattle.mz_match.proofs.RowPairs.{term-row, term-whole}
 use Rattle.mz_match.proofs.pair.match_term.Goals as goal
 
-pub match_signature-requires-clause-few : goal.match_signature-requires-clause-few
-match_signature-requires-clause-few c = (term-row c.args.mmb.now c.args.statement.now c.requires.0 c.requires.1 c.if-statement-ne-TERM.false).1
+pub has_body-has_body-requires : goal.has_body-has_body-requires
+has_body-has_body-requires c =
+    let (e, p-is, row) = term-row c.args.mmb.now c.args.statement.now c.requires.0 c.requires.1 c.if-statement-ne-TERM.false in
+    omega (arith, row.there, length-term_words c.args.mmb.now)
 
 pub returns : goal.returns
 returns c = λ p row.
-    term-judged c.args.mmb.now c.args.statement.now (term_view c.args.term.now) p c.match_signature.result row c.if-statement-ne-TERM.false (c.is_plain.ensures.0 c.if-not-is_plain.false)
-    (subst (λ ps. Judges c.match_signature.result (signature_checks (record { params = ps; result = c.args.term.now.result }) (signature_of (term_row_of c.args.mmb.now c.args.statement.now.row).words)))
-    c.as_slice.ensures c.match_signature.ensures)
+    let (e, p-is, here) = term-row c.args.mmb.now c.args.statement.now p row c.if-statement-ne-TERM.false in
+    let (params, rest) = c.in_default.ensures in
+    subst (λ (q : Declaration). Judges c.match_body.result (match_checks (term_of c.args.term.now) (record { rows = c.args.publics.now; decl = q }))) (sym p-is)
+    (term-whole c.args.publics.now c.args.mmb.now c.args.statement.now (term_view c.args.term.now) e c.match_body.result here (λ same. false≢true (sym c.if-is_same.false ∙ c.is_same.ensures.1 (c.is_plain-plain.ensures ∙ same ∙ sym c.has_body-has_body.ensures.row)))
+    (sym c.as_slice.ensures ∙ params, rest) (λ is is'. c.match_body.ensures.body e here is is') c.match_body.ensures.open)

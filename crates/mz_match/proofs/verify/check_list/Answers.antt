@@ -1,19 +1,23 @@
-use Rattle.std.proofs.Common.{◌≡◌, ◌<◌, ◌^◌, [], length, sym, subst, refl, inl, inr, arith}
+use Rattle.std.proofs.Common.{◌≡◌, ◌≤◌, ◌<◌, ◌^◌, ℕ, List, [], ◌+◌, ◌*◌, length, sym, ap, subst, refl, inl, inr, arith}
 use Rattle.std.proofs.lemmas.Bool.{cases_lt}
 use Rattle.mz_layout.specs.Layout.{Layout}
 use Rattle.mz_spec.specs.State.{env_of}
 use Rattle.mz_binary.specs.Good.{Good}
+use Rattle.mz_binary.specs.Progress.{most_left}
+use Rattle.mz_binary.proofs.Counting.{most-of-file}
 use Rattle.mz_match.specs.declared.verdict.Verdict.TheVariants as verdicts
-use Rattle.mz_match.specs.Verdict.{IsVerdict}
+use Rattle.mz_match.specs.Verdict.{IsVerdict, Ticks}
 use Rattle.mz_match.proofs.Lists.{length-env}
-use Rattle.mz_match.proofs.Pairing.{fails-here, missing-here, accepted-here, few-statements}
+use Rattle.mz_match.proofs.Pairing.{stop-ticks, fails-here, missing-here, accepted-here, few-statements}
 use Rattle.mz_match.proofs.verify.check_list.Goals as goal
 
 pub statements-init : goal.statements-init
 statements-init g c = record {
   so_far = ([], [], c.new-matching.ensures.nothing c.new-checker.result (env_of c.args.spec.now) (subst Layout (sym c.new-checker.ensures.file) c.requires.layout) c.new-checker.ensures.nothing);
   same_file = c.new-checker.ensures.file;
-  no_steps = refl;
+  counted = ap (λ n. c.args.steps.now + n) c.new-checker.ensures.steps;
+  most = subst (λ (f : List ℕ). c.args.steps.now + most_left c.new-checker.result ≤ c.args.steps.now + (length f * length f + length f)) c.new-checker.ensures.file
+      (omega (arith, most-of-file (length c.new-checker.result.file) c.new-checker.result.at));
 }
 
 pub pass-requires : goal.pass-requires
@@ -58,3 +62,24 @@ returns-in-Refused-clause-verdict g c = λ text makes.
     let so_far = c.statements.invariant.so_far in
     subst (λ f. IsVerdict text f (verdicts.Binary c.in-Refused.refusal)) c.statements.invariant.same_file
     (fails-here text c.args.spec.now c.statements.checker c.statements.matching so_far.0 so_far.1 c.in-Refused.refusal makes so_far.2 (c.in-Refused.ensures.next so_far.0 so_far.1 so_far.2.passed))
+
+pub returns-in-Err-clause-steps : goal.returns-in-Err-clause-steps
+returns-in-Err-clause-steps g c =
+    let counted = c.statements.invariant.counted in
+    let steps = c.in-Statement.ensures.steps in
+    let left = c.in-Statement.ensures.left in
+    stop-ticks c.args.mmb.now c.args.steps.now c.check_next.new.steps c.in-Err.verdict c.in-Err.ensures.kind (omega (arith, counted, steps, left))
+
+pub returns-in-End-clause-steps : goal.returns-in-End-clause-steps
+returns-in-End-clause-steps g c =
+    let counted = c.statements.invariant.counted in
+    let steps = c.in-End.ensures.steps in
+    let left = c.in-End.ensures.left in
+    let m = c.statements.matching in
+    let within = c.statements.invariant.so_far.2.within in
+    elim (cases_lt m.done (length c.args.spec.now)) [
+      | inl short ↦ subst (Ticks c.args.mmb.now c.args.steps.now c.check_next.new.steps) (sym (c.end.ensures.missing short)) (omega (arith, counted, steps, left))
+      | inr long ↦ (
+          let all : m.done ≡ length c.args.spec.now = omega (arith, long, within, length-env c.args.spec.now) in
+          subst (Ticks c.args.mmb.now c.args.steps.now c.check_next.new.steps) (sym (c.end.ensures.accepted all)) (omega (arith, counted, steps, left)))
+    ]

@@ -1,6 +1,7 @@
 use Rattle.std.proofs.Common.{◌≡◌, ◌++◌, map, drop}
-use Rattle.mz_spec.specs.Code.{lexeme, variable}
-use Rattle.mz_spec.specs.Spec.{dep_places}
+use Rattle.mz_grammar.specs.Code.{lexeme}
+use Rattle.mz_spec.specs.Code.{variable}
+use Rattle.mz_spec.specs.State.{dep_places}
 use Rattle.mz_spec.proofs.variables.dep_places.Given as goal
 
 abbrev pub invariant-loop-i : goal.invariant-loop-i

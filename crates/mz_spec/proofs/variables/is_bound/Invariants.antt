@@ -1,6 +1,7 @@
 use Rattle.std.proofs.Common.{map, drop}
 use Rattle.std.specs.Prelude.{◌↔◌}
-use Rattle.mz_spec.specs.Code.{lexeme, variable}
+use Rattle.mz_grammar.specs.Code.{lexeme}
+use Rattle.mz_spec.specs.Code.{variable}
 use Rattle.mz_spec.specs.Rules.{IsBoundAmong}
 use Rattle.mz_spec.proofs.variables.is_bound.Given as goal
 

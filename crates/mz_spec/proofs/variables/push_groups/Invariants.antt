@@ -1,5 +1,6 @@
 use Rattle.std.proofs.Common.{◌≡◌, ◌++◌, map, drop}
-use Rattle.mz_spec.specs.Code.{group, variable}
+use Rattle.mz_grammar.specs.Code.{group}
+use Rattle.mz_spec.specs.Code.{variable}
 use Rattle.mz_spec.specs.View.{variables_of}
 use Rattle.mz_spec.proofs.variables.push_groups.Given as goal
 

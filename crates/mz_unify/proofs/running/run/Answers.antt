@@ -1,8 +1,9 @@
-use Rattle.std.proofs.Common.{◌∙◌, ◌+◌, ◌≤◌, length, refl, sym, ap, subst, arith}
+use Rattle.std.proofs.Common.{◌∙◌, ◌+◌, ◌≤◌, length, drop, refl, sym, ap, subst, arith}
 use Rattle.mz_unify.specs.Streams.{IsEnd}
 use Rattle.mz_unify.specs.Stored.{mode_of, trees_at}
 use Rattle.mz_unify.specs.Rows.{command_of, TellsAny, state_at}
 use Rattle.mz_unify.proofs.Underway.{further, not-end, left-none, left-both, cut-whole, cut-many, other-whole, other-many, stopped-whole, stopped-many, ended-whole, ended-many, goes-on}
+use Rattle.mz_unify.proofs.Turning.{command-long}
 use Rattle.mz_unify.proofs.running.run.Goals as goal
 
 pub commands-init : goal.commands-init
@@ -11,6 +12,7 @@ commands-init g c = record {
   heap = c.requires.heap;
   targets = c.requires.targets;
   hyps = c.requires.hyps;
+  ticked = omega arith;
   held = c.len-held.ensures ∙ c.args.hyps.now.ok.0;
   left = (0, omega arith, left-none c.args.hyps.now.items);
   underway = λ sigs over. (trees_at c.args.store.now c.args.heap.now.items, subst (λ is. TellsAny c.args.store.now.context c.variables-apart.result (trees_at c.args.store.now is)) c.deref.ensures.value (c.variables-apart.ensures sigs over), refl, refl);
@@ -56,6 +58,7 @@ commands-preserved g c =
       heap = c.in_default-step.ensures.ids.0;
       targets = c.in_default-step.ensures.ids.1;
       hyps = c.in_default-step.ensures.ids.2;
+      ticked = rw (c.tick.ensures, c.from-at.ensures) (omega (arith, (command-long (drop c.commands.at c.args.stream.now) c.in-Ok.cmd (sym c.in-Ok.ensures.computed)).0, c.commands.invariant.ticked));
       held = c.commands.invariant.held;
       left = (before.0 + after.0, rw c.from-at.ensures (omega arith), left-both c.args.hyps.now.items c.commands.hyps.items c.step.new.hyps.items before.0 after.0 before.2 after.2);
       underway = λ sigs over. rw (c.tick.ensures, c.from-at.ensures) (goes-on c.args.store.now (mode_of c.args.mode) c.args.stream.now sigs (state_at c.args.store.now c.args.heap.now.items (trees_at c.args.store.now c.args.heap.now.items) c.args.start.items c.args.hyps.now.items) c.args.steps.now c.commands.at c.commands.apart c.commands.heap.items c.commands.targets.items c.commands.hyps.items c.commands.steps (c.commands.invariant.underway sigs over) c.in-Ok.cmd (sym c.in-Ok.ensures.computed) (command_of c.in-Some.next) c.in-Some.ensures.some c.step.new.apart c.step.new.heap.items c.step.new.targets.items c.step.new.hyps.items (not-end c.in-Some.next c.in_default-next.not-End) (λ es told. c.in_default-step.ensures.row sigs es over told));

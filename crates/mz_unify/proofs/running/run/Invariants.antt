@@ -1,4 +1,4 @@
-use Rattle.std.proofs.Common.{◌≡◌, ℕ, ◌-◌, ◌≤◌, List, length}
+use Rattle.std.proofs.Common.{◌≡◌, ℕ, ◌+◌, ◌-◌, ◌≤◌, List, length}
 use Rattle.mz_logic.specs.Signature.{Signature}
 use Rattle.mz_store.specs.Sharing.{AreIn, IsOver}
 use Rattle.mz_unify.specs.Stored.{mode_of, trees_at, AreItemsIn, AreLeft}
@@ -12,6 +12,7 @@ invariant-commands g l = record {
   heap : AreIn l.store l.heap.items;
   targets : AreIn l.store l.targets.items;
   hyps : AreItemsIn l.store l.hyps.items;
+  ticked : l.steps ≤ l.fn.steps + l.at;
   held : l.held ≡ length l.fn.hyps.items;
   left : (taken : ℕ) × (taken ≤ l.at) × AreLeft l.fn.hyps.items l.hyps.items taken;
   underway : (sigs : List Signature) → IsOver sigs l.store → IsUnderway l.store (mode_of l.mode) l.stream sigs (state_at l.store l.fn.heap.items (trees_at l.store l.fn.heap.items) l.fn.start.items l.fn.hyps.items) l.fn.steps l.at l.apart l.heap.items l.targets.items l.hyps.items l.steps;

@@ -1,26 +1,21 @@
-use Rattle.std.proofs.Common.{◌≡◌, ◌+◌, refl, sym, subst}
-use Rattle.mz_cmd.specs.declared.rule.Refusal.{Refusal}
-use Rattle.mz_binary.specs.declared.place.Found.TheVariants.{End}
-use Rattle.mz_binary.specs.Good.{Good, FailsAfter}
-use Rattle.mz_binary.specs.Progress.{Progress, HasPassed, IsFound}
-use Rattle.mz_binary.proofs.SortsSoFar.{taken}
-use Rattle.mz_binary.proofs.Passing.{fails-here, ends-here}
+use Rattle.std.proofs.Common.{◌≡◌, ◌∙◌, Ok, sym, ap, subst}
+use Rattle.mz_machine.specs.Before.{taken_before}
+use Rattle.mz_binary.specs.FileRun.{list_ends, find_at}
+use Rattle.mz_binary.specs.Progress.{Progress, IsReached, CountsRows, found_of}
+use Rattle.mz_binary.proofs.Passing.{ends-here, run-of}
+use Rattle.mz_binary.proofs.Counting.{left-at-end}
 use Rattle.mz_binary.proofs.checker.Checker.check_next.Goals as goal
 
-pub returns-in-Err-clause-next : goal.returns-in-Err-clause-next
-returns-in-Err-clause-next g c = λ ss env before.
-    let f = c.self.inside in
-    let p : Progress = record { file = f.mmb.now; at = f.at; passed = f.passed; rows = f.rows } in
-    let refusal : Refusal = record { statement = f.passed + 1; at = c.in-Err.at; rule = c.in-Err.rule } in
-    let is : p ≡ c.args.self = c.self.view_is in
-    let here : HasPassed p ss env = subst (λ q. HasPassed q ss env) (sym is) before in
-    subst (λ q. FailsAfter q.file ss env q.at refusal) is (fails-here p ss env refusal c.self.invariant here refl (c.in-Err.ensures.judged env (taken p ss env here)))
+pub returns-in-Ok-End-clause-next : goal.returns-in-Ok-End-clause-next
+returns-in-Ok-End-clause-next g c = λ ss env before.
+    let p : Progress = c.args.self in
+    let here : find_at p.file (taken_before p.file p.rows) p.at ≡ Ok list_ends = subst (λ (q : Progress). find_at q.file (taken_before q.file q.rows) q.at ≡ Ok list_ends) c.self.view_is
+    (c.in-Ok-End.ensures.found ∙ ap (λ s. Ok (found_of c.self.inside.mmb.now c.self.inside.rows s)) c.in-Ok-End.field-0-is) in
+    (ends-here p ss env before (subst IsReached c.self.view_is c.self.invariant) here, subst (λ (q : Progress). CountsRows q.rows env) (sym c.self.view_is) before.rows)
 
-pub returns-in-End-clause-next : goal.returns-in-End-clause-next
-returns-in-End-clause-next g c = λ ss env before.
-    let f = c.self.inside in
-    let p : Progress = record { file = f.mmb.now; at = f.at; passed = f.passed; rows = f.rows } in
-    let is : p ≡ c.args.self = c.self.view_is in
-    let here : HasPassed p ss env = subst (λ q. HasPassed q ss env) (sym is) before in
-    let found : IsFound f.mmb.now f.rows f.at End = subst (IsFound f.mmb.now f.rows f.at) c.in-End.is c.in-Ok.ensures.found in
-    (subst (λ q. Good q.file ss) is (ends-here p ss env c.self.invariant here found (c.in-Ok.ensures.judged env (taken p ss env here))), here.rows)
+pub returns-in-Ok-End-clause-left : goal.returns-in-Ok-End-clause-left
+returns-in-Ok-End-clause-left g c =
+    let p : Progress = c.args.self in
+    let here : find_at p.file (taken_before p.file p.rows) p.at ≡ Ok list_ends = subst (λ (q : Progress). find_at q.file (taken_before q.file q.rows) q.at ≡ Ok list_ends) c.self.view_is
+    (c.in-Ok-End.ensures.found ∙ ap (λ s. Ok (found_of c.self.inside.mmb.now c.self.inside.rows s)) c.in-Ok-End.field-0-is) in
+    left-at-end p (run-of p.file (taken_before p.file p.rows) p.at list_ends here)

@@ -3,7 +3,7 @@ use Rattle.mz_checks.specs.Checks.{FailsFirst}
 use Rattle.mz_spec.specs.State.{env_of}
 use Rattle.mz_match.specs.declared.matching.Matching.{Matching}
 use Rattle.mz_match.specs.declared.verdict.Verdict.TheVariants as verdicts
-use Rattle.mz_match.specs.Match.{partner_checks}
+use Rattle.mz_match.specs.Match.{partner_checks, partner_of}
 use Rattle.mz_match.specs.Told.{IsTold}
 use Rattle.mz_match.specs.Verdict.{IsVerdict}
 use Rattle.mz_logic.specs.Declaration.{terms}
@@ -25,7 +25,7 @@ returns-in-Err-clause-stops c = λ text makes.
     let told = told-next t.progress (env_of c.args.spec.now) c.args.self.now t.before t.env t.later c.args.told.now t.matched t.passes in
     let here : IsTold c.args.mmb.now c.args.self.now.publics c.args.told.now t.before t.env t.passes.statement t.later.at =
     subst (λ f. IsTold f c.args.self.now.publics c.args.told.now t.before t.env t.passes.statement t.later.at) t.same_file told in
-    let fails : FailsFirst (partner_checks (drop c.args.self.now.done (env_of c.args.spec.now)) t.passes.statement.decl) c.in-Err.rule = c.in-Err.ensures t.before t.env t.passes.statement t.later.at here in
+    let fails : FailsFirst (partner_checks (drop c.args.self.now.done (env_of c.args.spec.now)) (partner_of t.before t.passes.statement)) c.in-Err.rule = c.in-Err.ensures t.before t.env t.passes.statement t.later.at here in
     subst (λ f. IsVerdict text f (verdicts.Match (c.args.self.now.done + 1) c.args.told.now.number c.in-Err.rule)) t.same_file
     (differs-here text c.args.spec.now t.progress c.args.self.now t.before t.env t.later c.args.told.now c.in-Err.rule makes t.matched t.passes c.if-not-told.true fails)
 

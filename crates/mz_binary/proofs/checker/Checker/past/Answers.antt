@@ -1,0 +1,50 @@
+use Rattle.std.proofs.Common.{◌≡◌, ◌+◌, ◌-◌, ◌*◌, ◌∙◌, ℕ, List, length, refl, ap, subst, arith}
+use Rattle.mz_cmd.specs.Codes.{statement_byte}
+use Rattle.mz_binary.specs.declared.statement.Statement.{Statement as Told}
+use Rattle.mz_binary.specs.Progress.{Progress, IsReached, most_left, next_row, rows_past}
+use Rattle.mz_binary.proofs.Heads.{head-at}
+use Rattle.mz_binary.proofs.Passing.{IsPast, passes, reached, further, taken-past}
+use Rattle.mz_binary.proofs.Counting.{left-past, most-past}
+use Rattle.mz_binary.proofs.checker.Checker.past.Goals as goal
+
+abbrev after_of : goal.After-after_rows → Progress
+after_of c = record { file = c.self.inside.mmb.now; at = c.args.head.next; passed = c.self.inside.passed + 1; rows = c.after_rows.result }
+
+abbrev told_of : goal.After-after_rows → Told
+told_of c = record { number = c.self.inside.passed + 1; at = c.self.inside.at; kind = c.kind_of.result; row = c.row_of.result; local = c.is_local.result }
+
+past-of : (c : goal.After-after_rows) → IsPast c.args.self (after_of c) (told_of c) c.args.head
+past-of c = record {
+  same_file = ap (λ (q : Progress). q.file) c.self.view_is;
+  goes_on = refl;
+  one_more = ap (λ (q : Progress). q.passed + 1) c.self.view_is;
+  rows_are = c.after_rows.ensures ∙ ap (λ (q : Progress). rows_past q.rows c.args.head.code) c.self.view_is;
+  number = ap (λ (q : Progress). q.passed + 1) c.self.view_is;
+  place = ap (λ (q : Progress). q.at) c.self.view_is;
+  kind = c.kind_of.ensures;
+  row = c.row_of.ensures ∙ ap (λ (q : Progress). next_row q.rows c.args.head.code) c.self.view_is;
+  mark = c.is_local.ensures;
+}
+
+pub invariant_of-after : goal.invariant_of-after
+invariant_of-after c =
+    reached c.args.self (after_of c) (told_of c) c.args.head (past-of c) c.requires.head c.requires.at c.requires.runs (subst IsReached c.self.view_is c.self.invariant)
+
+pub returns-clause-next : goal.returns-clause-next
+returns-clause-next c = λ ss env before. passes c.args.self (after_of c) (told_of c) c.args.head (past-of c) c.requires.head c.requires.at c.requires.runs ss env before
+
+pub returns-clause-left : goal.returns-clause-left
+returns-clause-left c =
+    let r : IsReached c.args.self = subst IsReached c.self.view_is c.self.invariant in
+    let past = past-of c in
+    let on = further c.args.self (after_of c) (told_of c) c.args.head past c.requires.head c.requires.at c.requires.runs r in
+    left-past c.args.self (after_of c) c.args.head.next _ c.requires.runs
+    (taken-past c.args.self (after_of c) (told_of c) c.args.head past c.requires.head c.requires.at c.requires.runs r) refl past.same_file on.0 on.1
+
+pub returns-clause-most : goal.returns-clause-most
+returns-clause-most c = λ old new few.
+    let p : Progress = c.args.self in
+    let head = c.args.head in
+    let same : most_left (after_of c) ≡ (length p.file - head.next) * (length p.file + 1) = ap (λ (f : List ℕ). (length f - head.next) * (length f + 1)) (past-of c).same_file in
+    let at-head = head-at p.file head.at (statement_byte head.code) head.body head.next c.requires.head in
+    omega (arith, same, most-past (length p.file) p.at head.body head.next old new (omega (arith, at-head.before, c.requires.at)) at-head.order at-head.within few)

@@ -1,0 +1,68 @@
+use Rattle.std.proofs.Common.{◌≡◌, ◌≤◌, ◌+◌, ◌-◌, ◌*◌, ◌∙◌, ℕ, length, Some, Ok, sym, subst, arith}
+use Rattle.mz_cmd.specs.declared.statement.StmtAt.TheVariants as there
+use Rattle.mz_cmd.specs.Codes.{statement_byte}
+use Rattle.mz_cmd.specs.StatementList.{statement_at}
+use Rattle.mz_machine.specs.FileRows.{Taken, body_bytes}
+use Rattle.mz_machine.specs.Before.{MayRun, heading_of, taken_before}
+use Rattle.mz_binary.specs.FileRun.{after_kind}
+use Rattle.mz_binary.specs.Progress.{Progress, IsReached, kind_byte, next_row}
+use Rattle.mz_binary.proofs.Heads.{head-at}
+use Rattle.mz_binary.proofs.Finding.{find-head}
+use Rattle.mz_binary.proofs.Passing.{body-here, code-of}
+use Rattle.mz_binary.proofs.Counting.{most-here}
+use Rattle.mz_binary.proofs.Running.{may-run}
+use Rattle.mz_binary.proofs.checker.Checker.past_body.Goals as goal
+
+pub check_body-requires-clause-may_run : goal.check_body-requires-clause-may_run
+check_body-requires-clause-may_run g c =
+    let p : Progress = c.args.self in
+    let head = c.args.head in
+    let taken : Taken = taken_before p.file p.rows in
+    let stands : statement_at p.file p.at ≡ Ok (there.Head (statement_byte head.code) head.body head.next) =
+    subst (λ (at : ℕ). statement_at p.file at ≡ Ok (there.Head (statement_byte head.code) head.body head.next)) c.requires.at c.requires.head in
+    let there_is = sym (find-head p.file taken p.at (statement_byte head.code) head.body head.next (Some head.code) stands (code-of head.code)) ∙ c.requires.body in
+    let may : MayRun p.file (kind_byte head.code) (next_row p.rows head.code) p.rows =
+    may-run p head.code head.body head.next (after_kind p.file taken head.code) (heading_of p.file (kind_byte head.code) (next_row p.rows head.code)) head.body (body_bytes p.file head.body head.next)
+    (subst IsReached c.self.view_is c.self.invariant) there_is in
+    let inside = subst (λ (q : Progress). MayRun q.file (kind_byte head.code) (next_row q.rows head.code) q.rows) (sym c.self.view_is) may in
+    subst (λ (k : ℕ). MayRun c.self.inside.mmb.now k c.row_of-row.result c.self.inside.rows) (sym c.kind_of-kind.ensures)
+    (subst (λ (row : ℕ). MayRun c.self.inside.mmb.now (kind_byte head.code) row c.self.inside.rows) (sym c.row_of-row.ensures) inside)
+
+pub check_body-requires-clause-order : goal.check_body-requires-clause-order
+check_body-requires-clause-order g c = (head-at c.args.self.file c.args.head.at (statement_byte c.args.head.code) c.args.head.body c.args.head.next c.requires.head).order
+
+pub check_body-requires-clause-within : goal.check_body-requires-clause-within
+check_body-requires-clause-within g c =
+    subst (λ (q : Progress). c.args.head.next ≤ length q.file) (sym c.self.view_is)
+    (head-at c.args.self.file c.args.head.at (statement_byte c.args.head.code) c.args.head.body c.args.head.next c.requires.head).within
+
+pub returns-in-Mem-clause-next : goal.returns-in-Mem-clause-next
+returns-in-Mem-clause-next g c = λ ss env before.
+    let p : Progress = c.args.self in
+    let head = c.args.head in
+    body-here p ss env before (after_kind p.file (taken_before p.file p.rows) head.code) head.next (heading_of p.file (kind_byte head.code) (next_row p.rows head.code)) head.body (body_bytes p.file head.body head.next)
+    c.requires.body
+
+-- of the body, over the checker's file
+pub returns-in-Good-clause-most : goal.returns-in-Good-clause-most
+returns-in-Good-clause-most g c =
+    let head = c.args.head in
+    c.past.ensures.most c.args.steps.now c.check_body.new.steps
+    (subst (λ (q : Progress). c.check_body.new.steps ≤ c.args.steps.now + (head.next - head.body) * (length q.file + 1)) c.self.view_is c.check_body.ensures.most)
+
+pub returns-in-Refused-clause-most : goal.returns-in-Refused-clause-most
+returns-in-Refused-clause-most g c =
+    let p : Progress = c.args.self in
+    let head = c.args.head in
+    let at-head = head-at p.file head.at (statement_byte head.code) head.body head.next c.requires.head in
+    c.refused.ensures.most c.args.steps.now c.check_body.new.steps
+    (most-here (length p.file) p.at head.body head.next c.args.steps.now c.check_body.new.steps (omega (arith, at-head.before, c.requires.at)) at-head.order at-head.within
+    (subst (λ (q : Progress). c.check_body.new.steps ≤ c.args.steps.now + (head.next - head.body) * (length q.file + 1)) c.self.view_is c.check_body.ensures.most))
+
+pub returns-in-Mem-clause-most : goal.returns-in-Mem-clause-most
+returns-in-Mem-clause-most g c =
+    let p : Progress = c.args.self in
+    let head = c.args.head in
+    let at-head = head-at p.file head.at (statement_byte head.code) head.body head.next c.requires.head in
+    most-here (length p.file) p.at head.body head.next c.args.steps.now c.check_body.new.steps (omega (arith, at-head.before, c.requires.at)) at-head.order at-head.within
+    (subst (λ (q : Progress). c.check_body.new.steps ≤ c.args.steps.now + (head.next - head.body) * (length q.file + 1)) c.self.view_is c.check_body.ensures.most)

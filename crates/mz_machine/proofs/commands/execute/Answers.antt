@@ -1,0 +1,30 @@
+use Rattle.std.proofs.lemmas.Result.{err_from_is_err_and}
+use Rattle.mz_unify.proofs.StoredIds.{are-still-in}
+use Rattle.mz_machine.proofs.commands.execute.Goals as goal
+
+pub returns-in_err-make-in-Makes-clause-row : goal.returns-in_err-make-in-Makes-clause-row
+returns-in_err-make-in-Makes-clause-row g c at =
+    let p = err_from_is_err_and c.from_residual.result c.from_residual.ensures.1 in
+    rw (p.1, p.2, c.in-Makes.is) (c.in_err-make-in-Makes.ensures.row at c.args.hyps.now.items c.requires.hyps)
+
+pub returns-in_err-make-in-Makes-clause-steps : goal.returns-in_err-make-in-Makes-clause-steps
+returns-in_err-make-in-Makes-clause-steps g c =
+    let p = err_from_is_err_and c.from_residual.result c.from_residual.ensures.1 in
+    rw (p.1, p.2, c.in-Makes.is) (c.in_err-make-in-Makes.ensures.steps c.args.hyps.now.items)
+
+pub returns-in_err-convert-in-Converts-clause-row : goal.returns-in_err-convert-in-Converts-clause-row
+returns-in_err-convert-in-Converts-clause-row g c at =
+    let p = err_from_is_err_and c.from_residual-in_err-convert-in-Converts.result c.from_residual-in_err-convert-in-Converts.ensures.1 in
+    rw (p.1, p.2, c.in-Converts.is) (c.in_err-convert-in-Converts.ensures.row at c.args.value c.args.hyps.now.items)
+
+pub returns-in_err-convert-in-Converts-clause-steps : goal.returns-in_err-convert-in-Converts-clause-steps
+returns-in_err-convert-in-Converts-clause-steps g c =
+    let p = err_from_is_err_and c.from_residual-in_err-convert-in-Converts.result c.from_residual-in_err-convert-in-Converts.ensures.1 in
+    rw (p.1, p.2, c.in-Converts.is) (c.in_err-convert-in-Converts.ensures.steps c.args.value c.args.hyps.now.items)
+
+pub returns-in_ok-make-in-Makes-clause-ids : goal.returns-in_ok-make-in-Makes-clause-ids
+returns-in_ok-make-in-Makes-clause-ids g c = (
+  c.in_ok-make-in-Makes.ensures.ids.0,
+  c.in_ok-make-in-Makes.ensures.ids.1,
+  are-still-in c.args.store.now c.make.new.store c.in_ok-make-in-Makes.ensures.grows.keeps c.args.hyps.now.items c.requires.hyps,
+)

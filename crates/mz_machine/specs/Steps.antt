@@ -1,0 +1,76 @@
+-- A machine that takes commands one by one.
+use Rattle.std.specs.Prelude.{◌≡◌, ℕ, ⊤, suc, Bool, true, false, ◌+◌, ◌≤◌, List, length, drop, Option, Some, None, Result, Ok, Err, slice_get, IsTrue}
+use Rattle.mz_cmd.specs.declared.rule.K.{K}
+use Rattle.mz_cmd.specs.declared.rule.K.TheVariants as k
+use Rattle.mz_cmd.specs.declared.command.Cmd.{Cmd}
+use Rattle.mz_cmd.specs.declared.code.ProofCode.{ProofCode}
+use Rattle.mz_cmd.specs.declared.code.ProofCode.TheVariants as code
+use Rattle.mz_logic.specs.Tree.{Tree}
+use Rattle.mz_unify.specs.Profile.{strict, Item}
+use Rattle.mz_machine.specs.Tables.{Tables, State, Heading}
+use Rattle.mz_machine.specs.Premises.{is_conversion}
+use Rattle.mz_machine.specs.ProofMachine.{proof_row, ends_with}
+use Rattle.mz_machine.specs.Bodies.{BodyCommand, ends, proves, body_command, row_steps, match_steps}
+use Rattle.mz_machine.specs.Before.{heading_of, tables_before}
+use Rattle.mz_machine.specs.declared.earlier.Rows.{Rows}
+
+-- a machine between two commands: the file, the statement whose body runs with the rows before it, the state, and how
+-- many expressions its store holds
+pub record Underway : Type 0 where
+  pub file : List ℕ
+  pub kind : ℕ
+  pub row : ℕ
+  pub before : Rows
+  pub state : State Tree
+  pub nodes : ℕ
+
+abbrev pub tables_for : Underway → Tables
+tables_for u = tables_before u.file u.before
+
+abbrev pub heading_for : Underway → Heading
+heading_for u = heading_of u.file u.kind u.row
+
+-- ---- one command
+
+-- the row of a command other than END; one that is not of this body has none
+abbrev pub row_by : Tables → ℕ → State Tree → Option BodyCommand → Result (State Tree) K
+row_by tables at st None = Err k.Command
+row_by tables at st (Some ends) = Err k.Command
+row_by tables at st (Some (proves c value)) = proof_row strict tables at c value st
+
+abbrev pub row_of : Tables → Heading → ℕ → State Tree → Cmd → Result (State Tree) K
+row_of tables h at st c = row_by tables at st (body_command strict h.kind c.code c.value)
+
+-- it and the unify commands that it executes
+abbrev pub steps_by : Tables → State Tree → Option BodyCommand → ℕ
+steps_by tables st None = 1
+steps_by tables st (Some ends) = 1
+steps_by tables st (Some (proves c value)) = suc (row_steps strict tables c value st)
+
+abbrev pub steps_for : Tables → Heading → State Tree → Cmd → ℕ
+steps_for tables h st c = steps_by tables st (body_command strict h.kind c.code c.value)
+
+-- the END, and the commands of the row's own stream that it executes
+abbrev pub end_steps : Tables → Heading → State Tree → ℕ
+end_steps tables h st = suc (match_steps strict tables st (ends_with strict tables h st))
+
+-- ---- commands that take no memory
+
+abbrev pub is_conversion_at : Option (Item Tree) → Bool
+is_conversion_at None = false
+is_conversion_at (Some x) = is_conversion x
+
+-- those that only compare, exchange or drop; and a reference to a conversion
+abbrev pub takes_none : ProofCode → ℕ → State Tree → Bool
+takes_none code.Conv value st = true
+takes_none code.Refl value st = true
+takes_none code.Symm value st = true
+takes_none code.ConvRef value st = true
+takes_none code.Sorry value st = true
+takes_none code.Ref value st = is_conversion_at (slice_get st.heap value)
+takes_none c value st = false
+
+abbrev pub TakesNone : State Tree → Option BodyCommand → Type 0
+TakesNone st None = ⊤
+TakesNone st (Some ends) = ⊤
+TakesNone st (Some (proves c value)) = IsTrue (takes_none c value st)

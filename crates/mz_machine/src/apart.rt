@@ -1,0 +1,86 @@
+//! Operands that are apart: none holds the variable of a bound parameter, but of its own and of those
+//! on which its parameter depends.
+ghost use Rattle.std.specs.Prelude.{◌≡◌, ◌<◌, ◌%◌, ◌==◌, ◌||◌, ◌&&◌, true, List, Ok, Some, length, not, nat_lt, slice_get, if◌then◌else◌};
+ghost use Rattle.mz_logic.specs.Tree.{Tree};
+ghost use Rattle.mz_logic.specs.Signature.{Signature};
+ghost use Rattle.mz_logic.specs.Words.{binders_of, word_bound, word_deps};
+ghost use Rattle.mz_logic.specs.declared.binder.Binder.{Binder};
+ghost use Rattle.mz_store.specs.Sharing.{IsIn, AreIn, IsOver, tree_of};
+ghost use Rattle.mz_store.specs.declared.item.DepsMode.TheVariants.{All};
+ghost use Rattle.mz_unify.specs.Stored.{trees_at};
+ghost use Rattle.mz_unify.specs.Tests.{is_bound_var, var_within};
+ghost use Rattle.mz_machine.specs.Premises.{operands_fit, apart_from, are_apart};
+ghost use Rattle.mz_machine.specs.Before.{signatures_of};
+ghost use Rattle.mz_machine.specs.OperandRows.{IsBefore, params_of};
+
+use crate::earlier::{Earlier, Row};
+use mz_logic::Word;
+use mz_store::{Id, Store};
+
+/// Whether each two operands of a row are apart, whichever of them comes first. They fit.
+pub(crate) fn are_apart(earlier: &Earlier, row: Row, store: &Store, operands: &[Id]) -> bool
+    requires row { IsBefore earlier.now row }
+    requires over { IsOver (signatures_of earlier.now) store.now }
+    requires mode { store.now.mode ≡ All }
+    requires ids { AreIn store.now operands.now }
+    requires many { length operands.now ≡ length (params_of earlier.now.file row) }
+    requires fit { operands_fit (signatures_of earlier.now) store.now.context (trees_at store.now operands.now) (binders_of (params_of earlier.now.file row)) ≡ Ok tt }
+    ensures { result ≡ are_apart store.now.context (trees_at store.now operands.now) (binders_of (params_of earlier.now.file row)) }
+{
+    'operands: for i in 0..earlier.arity_of(row) {
+        if !is_apart(earlier, row, store, operands, i) {
+            return false;
+        }
+    }
+    true
+}
+
+/// Whether the operand at a place is apart from all others.
+fn is_apart(earlier: &Earlier, row: Row, store: &Store, operands: &[Id], i: u32) -> bool
+    requires row { IsBefore earlier.now row }
+    requires over { IsOver (signatures_of earlier.now) store.now }
+    requires mode { store.now.mode ≡ All }
+    requires ids { AreIn store.now operands.now }
+    requires many { length operands.now ≡ length (params_of earlier.now.file row) }
+    requires fit { operands_fit (signatures_of earlier.now) store.now.context (trees_at store.now operands.now) (binders_of (params_of earlier.now.file row)) ≡ Ok tt }
+    requires place { i < length (params_of earlier.now.file row) }
+    ensures { (e : Tree) (p : Binder) → slice_get (trees_at store.now operands.now) i ≡ Some e → slice_get (binders_of (params_of earlier.now.file row)) i ≡ Some p → result ≡ apart_from store.now.context i p.deps e 0 (trees_at store.now operands.now) (binders_of (params_of earlier.now.file row)) }
+{
+    let id = operands[i as usize];
+    let word = earlier.word_of(row, i);
+    let mut bits = dependencies(word);
+    'others: for j in 0..earlier.arity_of(row) {
+        if earlier.word_of(row, j).bound() {
+            let exempt = may_meet(i, j, bits);
+            if !stands_beside(store, id, operands[j as usize], exempt) {
+                return false;
+            }
+            bits /= 2;
+        }
+    }
+    true
+}
+
+/// The bits of the bound parameters on which a parameter depends, none of a bound one.
+fn dependencies(word: Word) -> u64
+    ensures { result ≡ (if word_bound word then 0 else word_deps word) }
+{
+    if word.bound() { 0 } else { word.deps() }
+}
+
+/// Whether the i-th operand may hold the variable of the j-th: it is the same one, or the i-th parameter
+/// depends on the j-th, which comes before it and whose bit is the lowest.
+fn may_meet(i: u32, j: u32, bits: u64) -> bool
+    ensures { result ≡ (i == j || (nat_lt j i && bits % 2 == 1)) }
+{
+    i == j || (j < i && bits % 2 == 1)
+}
+
+/// Whether an operand may stand beside a bound variable: it doesn't hold that, or is exempt.
+fn stands_beside(store: &Store, id: Id, bound: Id, exempt: bool) -> bool
+    requires id { IsIn store.now id.0 }
+    requires bound { IsIn store.now bound.0 }
+    ensures { (sigs : List Signature) → IsOver sigs store.now → store.now.mode ≡ All → is_bound_var store.now.context (tree_of store.now bound.0) ≡ true → result ≡ (exempt || not (var_within store.now.context (tree_of store.now bound.0) (tree_of store.now id.0))) }
+{
+    exempt || store.deps(id) & store.deps(bound) == 0
+}

@@ -1,0 +1,142 @@
+//! The commands of a body.
+ghost use Rattle.std.specs.Prelude.{ℕ, ◌≡◌, IfSome, IfNone, Some, None};
+ghost use Rattle.mz_unify.specs.Profile.{strict};
+ghost use Rattle.mz_machine.specs.Bodies.{stands_in, body_command, proves};
+ghost use Rattle.mz_machine.specs.Before.{kind_at};
+ghost use Rattle.mz_machine.specs.OverStore.{kind_of, code_of};
+
+use mz_cmd::{K, ProofCode};
+
+/// Why a command doesn't go through.
+#[derive(Clone, Copy, Debug, PartialEq, Eq)]
+pub(crate) enum Stop {
+    /// A premise fails.
+    Rule(K),
+    /// Want of memory.
+    Mem,
+}
+
+impl From<K> for Stop {
+    ghost use Rattle.std.specs.Prelude.{◌≡◌};
+    ghost use Rattle.mz_machine.specs.declared.command.Stop.TheVariants.{Rule};
+
+    ghost from_gives = { λ rule stop. stop ≡ Rule rule };
+
+    fn from(rule: K) -> Stop {
+        Stop::Rule(rule)
+    }
+}
+
+/// The kind of a statement whose body runs.
+#[derive(Clone, Copy, Debug, PartialEq, Eq)]
+pub(crate) enum BodyKind {
+    Axiom,
+    Definition,
+    Theorem,
+}
+
+/// A command that makes an expression or a proof.
+#[derive(Clone, Copy, Debug, PartialEq, Eq)]
+pub(crate) enum Making {
+    Term,
+    TermSave,
+    Thm,
+    ThmSave,
+}
+
+/// A command over the heap.
+#[derive(Clone, Copy, Debug, PartialEq, Eq)]
+pub(crate) enum Keeping {
+    Ref,
+    ConvRef,
+    Dummy,
+    Hyp,
+    Save,
+}
+
+/// A command on conversions, and the gap.
+#[derive(Clone, Copy, Debug, PartialEq, Eq)]
+pub(crate) enum Converting {
+    Conv,
+    Refl,
+    Symm,
+    Cong,
+    Unfold,
+    ConvCut,
+    ConvSave,
+    Sorry,
+}
+
+/// A command of a body other than END; its operand stands beside it.
+#[derive(Clone, Copy, Debug, PartialEq, Eq)]
+pub(crate) enum Command {
+    Makes(Making),
+    Keeps(Keeping),
+    Converts(Converting),
+}
+
+/// The kind of a statement with this code: 02 an axiom, 05 a definition, 06 a theorem.
+pub(crate) fn kind_by(code: u8) -> BodyKind
+    ensures { kind_of result ≡ kind_at code }
+{
+    match code {
+        0x05 => BodyKind::Definition,
+        0x02 => BodyKind::Axiom,
+        _ => BodyKind::Theorem,
+    }
+}
+
+/// Whether the command stands in such bodies.
+fn stands_in(kind: BodyKind, code: ProofCode) -> bool
+    ensures { result ≡ stands_in strict (kind_of kind) code }
+{
+    match code {
+        ProofCode::Term
+        | ProofCode::TermSave
+        | ProofCode::Ref
+        | ProofCode::Dummy
+        | ProofCode::Save => true,
+        ProofCode::Hyp => matches!(kind, BodyKind::Axiom | BodyKind::Theorem),
+        _ => matches!(kind, BodyKind::Theorem),
+    }
+}
+
+/// The command with the code.
+fn command_of(code: ProofCode) -> Command
+    ensures { code_of result ≡ code }
+{
+    match code {
+        ProofCode::Term => Command::Makes(Making::Term),
+        ProofCode::TermSave => Command::Makes(Making::TermSave),
+        ProofCode::Thm => Command::Makes(Making::Thm),
+        ProofCode::ThmSave => Command::Makes(Making::ThmSave),
+        ProofCode::Ref => Command::Keeps(Keeping::Ref),
+        ProofCode::ConvRef => Command::Keeps(Keeping::ConvRef),
+        ProofCode::Dummy => Command::Keeps(Keeping::Dummy),
+        ProofCode::Hyp => Command::Keeps(Keeping::Hyp),
+        ProofCode::Save => Command::Keeps(Keeping::Save),
+        ProofCode::Conv => Command::Converts(Converting::Conv),
+        ProofCode::Refl => Command::Converts(Converting::Refl),
+        ProofCode::Symm => Command::Converts(Converting::Symm),
+        ProofCode::Cong => Command::Converts(Converting::Cong),
+        ProofCode::Unfold => Command::Converts(Converting::Unfold),
+        ProofCode::ConvCut => Command::Converts(Converting::ConvCut),
+        ProofCode::ConvSave => Command::Converts(Converting::ConvSave),
+        ProofCode::Sorry => Command::Converts(Converting::Sorry),
+    }
+}
+
+/// The command with a code other than END's, if it is one of such bodies.
+pub(crate) fn decoded(kind: BodyKind, code: u8) -> Option<Command>
+    requires { code ≡ 0 → ⊥ }
+    ensures some { IfSome result (λ c. (value : ℕ) → body_command strict (kind_of kind) code value ≡ Some (proves (code_of c) value)) }
+    ensures none { IfNone result ((value : ℕ) → body_command strict (kind_of kind) code value ≡ None) }
+{
+    let Ok(proof) = ProofCode::try_from(code) else {
+        return None;
+    };
+    if !stands_in(kind, proof) {
+        return None;
+    }
+    Some(command_of(proof))
+}

@@ -1,0 +1,238 @@
+//! What each command does: its premises in order, and what it leaves.
+pub(crate) mod conversions;
+pub(crate) mod heap;
+pub(crate) mod terms;
+
+ghost use Rattle.std.specs.Prelude.{ℕ, ◌≡◌, ◌<◌, ◌≤◌, ◌+◌, ◌++◌, ◌∷◌, ◌^◌, [], ⊤, List, OnOk, IsTrue, MatchResult, length};
+ghost use Rattle.mz_store.specs.Sharing.{AreIn, IsOver};
+ghost use Rattle.mz_store.specs.declared.item.Id.{Id};
+ghost use Rattle.mz_store.specs.declared.item.Item.TheVariants.{Proof};
+ghost use Rattle.mz_store.specs.declared.item.DepsMode.TheVariants.{All};
+ghost use Rattle.mz_unify.specs.Profile.{strict};
+ghost use Rattle.mz_unify.specs.Stored.{AreItemsIn};
+ghost use Rattle.mz_machine.specs.ProofMachine.{proof_row};
+ghost use Rattle.mz_machine.specs.Bodies.{row_steps};
+ghost use Rattle.mz_machine.specs.Before.{tables_of, signatures_of};
+ghost use Rattle.mz_machine.specs.Steps.{takes_none};
+ghost use Rattle.mz_machine.specs.OverStore.{state_at, code_of, code_of_making, code_of_keeping, code_of_converting, cites, for_theorems, Gives, NeverWants, StopsBy, UnlessMem, Grows};
+
+use crate::command::{Command, Converting, Keeping, Making, Stop};
+use crate::earlier::Earlier;
+use crate::stack::{push, push_id};
+use conversions::{cong, conv, conv_cut, conv_save, refl, symm, unfold};
+use heap::{conv_refer, dummy, hyp, refer, save};
+use mz_cmd::{K, Steps};
+use mz_store::{Id, Item, Store};
+use std::alloc::Global;
+use std::sync::ledger::Ledger;
+use terms::{term, thm};
+
+/// Executes a command that makes an expression or a proof.
+fn make<L: Ledger>(
+    alloc: Global,
+    earlier: &Earlier,
+    command: Making,
+    value: u32,
+    store: &mut Store,
+    heap: &mut Vec<Item>,
+    stack: &mut Vec<Item>,
+    steps: &mut Steps<L>,
+) -> Result<(), Stop>
+    requires over { IsOver (signatures_of earlier.now) store.old }
+    requires mode { IsTrue (cites command) → store.old.mode ≡ All }
+    requires heap { AreItemsIn store.old heap.old.items }
+    requires stack { AreItemsIn store.old stack.old.items }
+    ensures grows { OnOk result (Grows (signatures_of earlier.now) store.old store.new) }
+    ensures ids { OnOk result (AreItemsIn store.new heap.new.items × AreItemsIn store.new stack.new.items) }
+    ensures row { (at : ℕ) (hyps : List Id) → AreIn store.old hyps → Gives (proof_row strict (tables_of earlier.now) at (code_of_making command) value (state_at store.old heap.old.items stack.old.items hyps)) result (λ _. state_at store.new heap.new.items stack.new.items hyps) }
+    ensures steps { (hyps : List Id) → UnlessMem result (steps.new ≡ steps.old + row_steps strict (tables_of earlier.now) (code_of_making command) value (state_at store.old heap.old.items stack.old.items hyps)) }
+    ensures most { steps.new ≤ steps.old + length earlier.now.file }
+{
+    match command {
+        Making::Term => {
+            term(alloc, earlier, value, store, stack)?;
+            Ok(())
+        }
+        Making::TermSave => {
+            let made = term(alloc, earlier, value, store, stack)?;
+            push(heap, Item::Expr(made))?;
+            Ok(())
+        }
+        Making::Thm => {
+            thm(alloc, earlier, value, store, stack, steps)?;
+            Ok(())
+        }
+        Making::ThmSave => {
+            let proved = thm(alloc, earlier, value, store, stack, steps)?;
+            push(heap, Item::Proof(proved))?;
+            Ok(())
+        }
+    }
+}
+
+/// Executes a command over the heap.
+fn keep(
+    earlier: &Earlier,
+    command: Keeping,
+    value: u32,
+    store: &mut Store,
+    heap: &mut Vec<Item>,
+    stack: &mut Vec<Item>,
+    hyps: &mut Vec<Id>,
+) -> Result<(), Stop>
+    requires over { IsOver (signatures_of earlier.now) store.old }
+    requires heap { AreItemsIn store.old heap.old.items }
+    requires stack { AreItemsIn store.old stack.old.items }
+    requires hyps { AreIn store.old hyps.old.items }
+    requires few { length hyps.old.items < 2 ^ 32 }
+    ensures grows { OnOk result (Grows (signatures_of earlier.now) store.old store.new) }
+    ensures ids { OnOk result (AreItemsIn store.new heap.new.items × AreItemsIn store.new stack.new.items × AreIn store.new hyps.new.items) }
+    ensures few { OnOk result (length hyps.new.items < 2 ^ 32) }
+    ensures row { (at : ℕ) → Gives (proof_row strict (tables_of earlier.now) at (code_of_keeping command) value (state_at store.old heap.old.items stack.old.items hyps.old.items)) result (λ _. state_at store.new heap.new.items stack.new.items hyps.new.items) }
+    ensures never { IsTrue (takes_none (code_of_keeping command) value (state_at store.old heap.old.items stack.old.items hyps.old.items)) → NeverWants result }
+{
+    match command {
+        Keeping::Ref => {
+            refer(store, value, heap, stack)?;
+            Ok(())
+        }
+        Keeping::ConvRef => match conv_refer(store, value, heap, stack) {
+            Ok(()) => Ok(()),
+            Err(rule) => Err(Stop::Rule(rule)),
+        },
+        Keeping::Dummy => {
+            let made = dummy(earlier, value, store)?;
+            push(heap, Item::Expr(made))?;
+            push(stack, Item::Expr(made))?;
+            Ok(())
+        }
+        Keeping::Hyp => match hyp(earlier, store, stack) {
+            Ok(claim) => {
+                assume(claim, heap, hyps)?;
+                Ok(())
+            }
+            Err(rule) => Err(Stop::Rule(rule)),
+        },
+        Keeping::Save => match save(store, stack) {
+            Ok(item) => {
+                push(heap, item)?;
+                Ok(())
+            }
+            Err(rule) => Err(Stop::Rule(rule)),
+        },
+    }
+}
+
+/// Keeps a hypothesis, and a proof of it in the heap. There is no place for 2^32 hypotheses.
+fn assume(claim: Id, heap: &mut Vec<Item>, hyps: &mut Vec<Id>) -> Result<(), Stop>
+    requires few { length hyps.old.items < 2 ^ 32 }
+    ensures heap { OnOk result (heap.new.items ≡ heap.old.items ++ Proof claim ∷ []) }
+    ensures hyps { OnOk result (hyps.new.items ≡ hyps.old.items ++ claim ∷ []) }
+    ensures few { OnOk result (length hyps.new.items < 2 ^ 32) }
+    ensures err { MatchResult result (λ _. ⊤) (λ stop. StopsBy stop (λ _. ⊥)) }
+{
+    if hyps.len() >= u32::MAX as usize {
+        return Err(Stop::Mem);
+    }
+    push(heap, Item::Proof(claim))?;
+    push_id(hyps, claim)?;
+    Ok(())
+}
+
+/// Executes a command on conversions. A gap is refused.
+fn convert<L: Ledger>(
+    alloc: Global,
+    earlier: &Earlier,
+    command: Converting,
+    store: &Store,
+    heap: &mut Vec<Item>,
+    stack: &mut Vec<Item>,
+    steps: &mut Steps<L>,
+) -> Result<(), Stop>
+    requires over { IsOver (signatures_of earlier.now) store.now }
+    requires mode { store.now.mode ≡ All }
+    requires heap { AreItemsIn store.now heap.old.items }
+    requires stack { AreItemsIn store.now stack.old.items }
+    ensures ids { OnOk result (AreItemsIn store.now heap.new.items × AreItemsIn store.now stack.new.items) }
+    ensures row { (at value : ℕ) (hyps : List Id) → Gives (proof_row strict (tables_of earlier.now) at (code_of_converting command) value (state_at store.now heap.old.items stack.old.items hyps)) result (λ _. state_at store.now heap.new.items stack.new.items hyps) }
+    ensures never { (value : ℕ) (hyps : List Id) → IsTrue (takes_none (code_of_converting command) value (state_at store.now heap.old.items stack.old.items hyps)) → NeverWants result }
+    ensures steps { (value : ℕ) (hyps : List Id) → UnlessMem result (steps.new ≡ steps.old + row_steps strict (tables_of earlier.now) (code_of_converting command) value (state_at store.now heap.old.items stack.old.items hyps)) }
+    ensures most { steps.new ≤ steps.old + length earlier.now.file }
+{
+    match command {
+        Converting::Conv => match conv(store, stack) {
+            Ok(()) => Ok(()),
+            Err(rule) => Err(Stop::Rule(rule)),
+        },
+        Converting::Refl => match refl(store, stack) {
+            Ok(()) => Ok(()),
+            Err(rule) => Err(Stop::Rule(rule)),
+        },
+        Converting::Symm => match symm(store, stack) {
+            Ok(()) => Ok(()),
+            Err(rule) => Err(Stop::Rule(rule)),
+        },
+        Converting::Cong => {
+            cong(store, stack)?;
+            Ok(())
+        }
+        Converting::Unfold => {
+            unfold(earlier, store, stack, steps)?;
+            Ok(())
+        }
+        Converting::ConvCut => {
+            conv_cut(store, stack)?;
+            Ok(())
+        }
+        Converting::ConvSave => match conv_save(store, stack) {
+            Ok(item) => {
+                push(heap, item)?;
+                Ok(())
+            }
+            Err(rule) => Err(Stop::Rule(rule)),
+        },
+        Converting::Sorry => Err(Stop::Rule(K::Sorry)),
+    }
+}
+
+/// Executes a command.
+pub(crate) fn execute<L: Ledger>(
+    alloc: Global,
+    earlier: &Earlier,
+    command: Command,
+    value: u32,
+    store: &mut Store,
+    heap: &mut Vec<Item>,
+    stack: &mut Vec<Item>,
+    hyps: &mut Vec<Id>,
+    steps: &mut Steps<L>,
+) -> Result<(), Stop>
+    requires over { IsOver (signatures_of earlier.now) store.old }
+    requires mode { IsTrue (for_theorems command) → store.old.mode ≡ All }
+    requires heap { AreItemsIn store.old heap.old.items }
+    requires stack { AreItemsIn store.old stack.old.items }
+    requires hyps { AreIn store.old hyps.old.items }
+    requires few { length hyps.old.items < 2 ^ 32 }
+    ensures grows { OnOk result (Grows (signatures_of earlier.now) store.old store.new) }
+    ensures ids { OnOk result (AreItemsIn store.new heap.new.items × AreItemsIn store.new stack.new.items × AreIn store.new hyps.new.items) }
+    ensures few { OnOk result (length hyps.new.items < 2 ^ 32) }
+    ensures row { (at : ℕ) → Gives (proof_row strict (tables_of earlier.now) at (code_of command) value (state_at store.old heap.old.items stack.old.items hyps.old.items)) result (λ _. state_at store.new heap.new.items stack.new.items hyps.new.items) }
+    ensures never { IsTrue (takes_none (code_of command) value (state_at store.old heap.old.items stack.old.items hyps.old.items)) → NeverWants result }
+    ensures steps { UnlessMem result (steps.new ≡ steps.old + row_steps strict (tables_of earlier.now) (code_of command) value (state_at store.old heap.old.items stack.old.items hyps.old.items)) }
+    ensures most { steps.new ≤ steps.old + length earlier.now.file }
+{
+    match command {
+        Command::Makes(making) => {
+            make(alloc, earlier, making, value, store, heap, stack, steps)?;
+            Ok(())
+        }
+        Command::Keeps(keeping) => {
+            keep(earlier, keeping, value, store, heap, stack, hyps)?;
+            Ok(())
+        }
+        Command::Converts(converting) => {
+            convert(alloc, earlier, converting, store, heap, stack, steps)?;
+            Ok(())
+        }
+    }
+}

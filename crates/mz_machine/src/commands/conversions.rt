@@ -1,0 +1,211 @@
+//! Conversions: obligations that two expressions are convertible, and how they are paid.
+ghost use Rattle.std.specs.Prelude.{ℕ, ◌≡◌, ◌≤◌, ◌++◌, ◌∷◌, ◌+◌, ⊤, [], IfOk, OnOk, MatchResult, length};
+ghost use Rattle.mz_cmd.specs.declared.code.ProofCode.TheVariants as code;
+ghost use Rattle.mz_logic.specs.Tree.{Tree};
+ghost use Rattle.mz_store.specs.Sharing.{AreIn, IsIn, IsOver, tree_of};
+ghost use Rattle.mz_store.specs.declared.item.DepsMode.TheVariants.{All};
+ghost use Rattle.mz_unify.specs.Profile.{strict};
+ghost use Rattle.mz_unify.specs.Stored.{items_at, item_at, trees_at, AreItemsIn, IsItemIn};
+ghost use Rattle.mz_machine.specs.Premises.{pop_sides};
+ghost use Rattle.mz_machine.specs.Tables.{Tables, State};
+ghost use Rattle.mz_machine.specs.ProofMachine.{proof_row, sides};
+ghost use Rattle.mz_machine.specs.Bodies.{row_steps};
+ghost use Rattle.mz_machine.specs.Before.{tables_of, signatures_of};
+ghost use Rattle.mz_machine.specs.OverStore.{with_stack, pop_unfolding, Gives, GivesRule, StopsBy, UnlessMem};
+
+use crate::command::Stop;
+use crate::earlier::Earlier;
+use crate::stack::{pop, pop_conversion, pop_expr, pop_obligation, pop_proof, push, put_back};
+use mz_cmd::{K, Steps};
+use mz_logic::Terms;
+use mz_store::{Id, Item, Store};
+use mz_unify::{Unified, UnifyMode, unify};
+use std::sync::ledger::Ledger;
+
+/// From an expression and a proof below to a proof of the expression, which the obligation above is
+/// to pay. It takes no memory.
+#[tactic(auto, using(crate::proofs::Converting::put_in), unfolding(crate::specs::ProofMachine::proof_row))]
+pub(crate) fn conv(store: &Store, stack: &mut Vec<Item>) -> Result<(), K>
+    requires { AreItemsIn store.now stack.old.items }
+    ensures ids { OnOk result (AreItemsIn store.now stack.new.items) }
+    ensures row { (tables : Tables) (at n : ℕ) (st : State Tree) → st.stack ≡ items_at store.now stack.old.items → GivesRule (proof_row strict tables at code.Conv n st) result (λ _. with_stack st (items_at store.now stack.new.items)) }
+{
+    let proved = pop_proof(store, stack)?;
+    let claimed = pop_expr(store, stack)?;
+    put_back(stack, Item::Proof(claimed));
+    put_back(stack, Item::Obligation(claimed, proved));
+    Ok(())
+}
+
+/// Drops an obligation whose sides are the same. It takes no memory.
+#[tactic(auto, unfolding(crate::specs::ProofMachine::proof_row))]
+pub(crate) fn refl(store: &Store, stack: &mut Vec<Item>) -> Result<(), K>
+    requires { AreItemsIn store.now stack.old.items }
+    ensures ids { OnOk result (AreItemsIn store.now stack.new.items) }
+    ensures row { (tables : Tables) (at n : ℕ) (st : State Tree) → st.stack ≡ items_at store.now stack.old.items → GivesRule (proof_row strict tables at code.Refl n st) result (λ _. with_stack st (items_at store.now stack.new.items)) }
+{
+    let (left, right) = pop_obligation(store, stack)?;
+    if store.same(left, right) {
+        Ok(())
+    } else {
+        Err(K::Refl)
+    }
+}
+
+/// Turns an obligation round. It takes no memory.
+#[tactic(auto, using(crate::proofs::Converting::put_in), unfolding(crate::specs::ProofMachine::proof_row))]
+pub(crate) fn symm(store: &Store, stack: &mut Vec<Item>) -> Result<(), K>
+    requires { AreItemsIn store.now stack.old.items }
+    ensures ids { OnOk result (AreItemsIn store.now stack.new.items) }
+    ensures row { (tables : Tables) (at n : ℕ) (st : State Tree) → st.stack ≡ items_at store.now stack.old.items → GivesRule (proof_row strict tables at code.Symm n st) result (λ _. with_stack st (items_at store.now stack.new.items)) }
+{
+    let (left, right) = pop_obligation(store, stack)?;
+    put_back(stack, Item::Obligation(right, left));
+    Ok(())
+}
+
+/// From an obligation between two applications of one term to those between their operands, the
+/// first on top.
+#[tactic(auto, unfolding(crate::specs::ProofMachine::proof_row))]
+pub(crate) fn cong(store: &Store, stack: &mut Vec<Item>) -> Result<(), Stop>
+    requires { AreItemsIn store.now stack.old.items }
+    ensures ids { OnOk result (AreItemsIn store.now stack.new.items) }
+    ensures row { (tables : Tables) (at n : ℕ) (st : State Tree) → st.stack ≡ items_at store.now stack.old.items → Gives (proof_row strict tables at code.Cong n st) result (λ _. with_stack st (items_at store.now stack.new.items)) }
+{
+    let (left, right) = match pop_obligation(store, stack) {
+        Ok(sides) => sides,
+        Err(rule) => return Err(Stop::Rule(rule)),
+    };
+    let Some(term) = store.head(left) else {
+        return Err(Stop::Rule(K::Cong));
+    };
+    if store.head(right) != Some(term) {
+        return Err(Stop::Rule(K::Cong));
+    }
+    push_sides(store, store.args(left), store.args(right), stack)
+}
+
+/// Puts the obligations between the operands on the stack, the first one last.
+fn push_sides(store: &Store, lefts: &[Id], rights: &[Id], stack: &mut Vec<Item>) -> Result<(), Stop>
+    requires lefts { AreIn store.now lefts.now }
+    requires rights { AreIn store.now rights.now }
+    requires stack { AreItemsIn store.now stack.old.items }
+    ensures ids { OnOk result (AreItemsIn store.now stack.new.items) }
+    ensures sides { OnOk result (items_at store.now stack.new.items ≡ sides (trees_at store.now lefts.now) (trees_at store.now rights.now) (items_at store.now stack.old.items)) }
+    ensures err { MatchResult result (λ _. ⊤) (λ stop. StopsBy stop (λ _. ⊥)) }
+{
+    let mut at = lefts.len().min(rights.len());
+    'operands: while at > 0 {
+        at -= 1;
+        push(stack, Item::Obligation(lefts[at], rights[at]))?;
+    }
+    Ok(())
+}
+
+/// From an obligation whose left side is a definition's application, and what it unfolds to, to the
+/// obligation between that and the right side. The definition's stream runs on what it unfolds to.
+#[tactic(auto, unfolding(crate::specs::ProofMachine::proof_row))]
+pub(crate) fn unfold<L: Ledger>(
+    earlier: &Earlier,
+    store: &Store,
+    stack: &mut Vec<Item>,
+    steps: &mut Steps<L>,
+) -> Result<(), Stop>
+    requires over { IsOver (signatures_of earlier.now) store.now }
+    requires mode { store.now.mode ≡ All }
+    requires stack { AreItemsIn store.now stack.old.items }
+    ensures ids { OnOk result (AreItemsIn store.now stack.new.items) }
+    ensures row { (at n : ℕ) (st : State Tree) → st.ctx ≡ store.now.context → st.stack ≡ items_at store.now stack.old.items → Gives (proof_row strict (tables_of earlier.now) at code.Unfold n st) result (λ _. with_stack st (items_at store.now stack.new.items)) }
+    ensures steps { (n : ℕ) (st : State Tree) → st.ctx ≡ store.now.context → st.stack ≡ items_at store.now stack.old.items → UnlessMem result (steps.new ≡ steps.old + row_steps strict (tables_of earlier.now) code.Unfold n st) }
+    ensures most { steps.new ≤ steps.old + length earlier.now.file }
+{
+    let (unfolded, left, right) = match pop_unfolding(store, stack) {
+        Ok(items) => items,
+        Err(rule) => return Err(Stop::Rule(rule)),
+    };
+    let Some(term) = store.head(left) else {
+        return Err(Stop::Rule(K::Unfold));
+    };
+    if !earlier.has_body(term) {
+        return Err(Stop::Rule(K::Unfold));
+    }
+    let alloc = *stack.allocator();
+    let mut operands = Vec::new(alloc);
+    let Ok(()) = operands.extend_from_slice(store.args(left)) else {
+        return Err(Stop::Mem);
+    };
+    let mut none = Vec::new(alloc);
+    let stream = earlier.stream_of_term(term);
+    match unify(
+        earlier,
+        stream,
+        UnifyMode::Body,
+        &mut operands,
+        unfolded,
+        &mut none,
+        store,
+        steps,
+    ) {
+        Unified::Done { .. } => push(stack, Item::Obligation(unfolded, right)),
+        Unified::Refused { rule, .. } => Err(Stop::Rule(rule)),
+        Unified::Mem => Err(Stop::Mem),
+    }
+}
+
+/// What an unfolding takes: what is unfolded to, and below it the two sides of the obligation, perhaps
+/// with the left one once more above them.
+fn pop_unfolding(store: &Store, stack: &mut Vec<Item>) -> Result<(Id, Id, Id), K>
+    requires { AreItemsIn store.now stack.old.items }
+    ensures ids { IfOk result (λ ids. IsIn store.now ids.0.0 × IsIn store.now ids.1.0 × IsIn store.now ids.2.0 × AreItemsIn store.now stack.new.items) }
+    ensures taken { GivesRule (pop_unfolding (items_at store.now stack.old.items)) result (λ ids. (tree_of store.now ids.0.0, tree_of store.now ids.1.0, tree_of store.now ids.2.0, items_at store.now stack.new.items)) }
+{
+    let unfolded = pop_expr(store, stack)?;
+    let (left, right) = pop_sides(store, stack)?;
+    Ok((unfolded, left, right))
+}
+
+/// The two sides of an obligation, perhaps with the left one once more above it.
+fn pop_sides(store: &Store, stack: &mut Vec<Item>) -> Result<(Id, Id), K>
+    requires { AreItemsIn store.now stack.old.items }
+    ensures ids { IfOk result (λ ids. IsIn store.now ids.0.0 × IsIn store.now ids.1.0 × AreItemsIn store.now stack.new.items) }
+    ensures taken { GivesRule (pop_sides strict (items_at store.now stack.old.items)) result (λ ids. (tree_of store.now ids.0.0, tree_of store.now ids.1.0, items_at store.now stack.new.items)) }
+{
+    match pop(store, stack)? {
+        Item::Expr(middle) => {
+            let (left, right) = pop_obligation(store, stack)?;
+            if store.same(middle, left) {
+                Ok((left, right))
+            } else {
+                Err(K::Unfold)
+            }
+        }
+        Item::Obligation(left, right) => Ok((left, right)),
+        Item::Proof(_) | Item::Conversion(_, _) => Err(K::Kind),
+    }
+}
+
+/// Puts the conversion that an obligation asks for below the obligation.
+#[tactic(auto, using(crate::proofs::Converting::put_in), unfolding(crate::specs::ProofMachine::proof_row))]
+pub(crate) fn conv_cut(store: &Store, stack: &mut Vec<Item>) -> Result<(), Stop>
+    requires { AreItemsIn store.now stack.old.items }
+    ensures ids { OnOk result (AreItemsIn store.now stack.new.items) }
+    ensures row { (tables : Tables) (at n : ℕ) (st : State Tree) → st.stack ≡ items_at store.now stack.old.items → Gives (proof_row strict tables at code.ConvCut n st) result (λ _. with_stack st (items_at store.now stack.new.items)) }
+{
+    let (left, right) = match pop_obligation(store, stack) {
+        Ok(sides) => sides,
+        Err(rule) => return Err(Stop::Rule(rule)),
+    };
+    put_back(stack, Item::Conversion(left, right));
+    push(stack, Item::Obligation(left, right))
+}
+
+/// Takes a conversion from the stack, for the heap.
+#[tactic(auto, unfolding(crate::specs::ProofMachine::proof_row))]
+pub(crate) fn conv_save(store: &Store, stack: &mut Vec<Item>) -> Result<Item, K>
+    requires { AreItemsIn store.now stack.old.items }
+    ensures ids { IfOk result (λ item. IsItemIn store.now item × AreItemsIn store.now stack.new.items) }
+    ensures row { (tables : Tables) (at n : ℕ) (st : State Tree) → st.stack ≡ items_at store.now stack.old.items → GivesRule (proof_row strict tables at code.ConvSave n st) result (λ item. record (with_stack st (items_at store.now stack.new.items)) { heap = st.heap ++ item_at store.now item ∷ [] }) }
+{
+    let (left, right) = pop_conversion(store, stack)?;
+    Ok(Item::Conversion(left, right))
+}

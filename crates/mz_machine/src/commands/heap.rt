@@ -1,0 +1,169 @@
+//! The heap: references to it, and what is kept there.
+ghost use Rattle.std.specs.Prelude.{ℕ, ◌≡◌, ◌<◌, ◌++◌, ◌∷◌, [], IfOk, OnOk, slice_get, Some};
+ghost use Rattle.mz_cmd.specs.declared.code.ProofCode.TheVariants as code;
+ghost use Rattle.mz_logic.specs.Tree.{Tree};
+ghost use Rattle.mz_store.specs.Sharing.{IsIn, IsOver, tree_of};
+ghost use Rattle.mz_store.specs.declared.item.Item.TheVariants.{Conversion};
+ghost use Rattle.mz_store.specs.declared.item.Id.{Id};
+ghost use Rattle.mz_unify.specs.Profile.{strict, expr, proof, conversion};
+ghost use Rattle.mz_unify.specs.Stored.{items_at, item_at, AreItemsIn, IsItemIn};
+ghost use Rattle.mz_machine.specs.Tables.{Tables, State};
+ghost use Rattle.mz_machine.specs.Premises.{is_provable_sort, may_be_dummy_sort};
+ghost use Rattle.mz_machine.specs.ProofMachine.{proof_row, referred};
+ghost use Rattle.mz_machine.specs.Before.{tables_of, signatures_of};
+ghost use Rattle.mz_machine.specs.OverStore.{heap_at, with_stack, Gives, GivesRule, NeverWants, Grows};
+
+use crate::command::Stop;
+use crate::earlier::Earlier;
+use crate::stack::{conversion_of, is_obligation, kept_at, pop_expr, pop_obligation, push, top};
+use mz_cmd::K;
+use mz_logic::Terms;
+use mz_store::{Id, Item, Store};
+
+/// Pays the obligation on top by a conversion between the same sides. It takes no memory.
+fn pay(store: &Store, left: Id, right: Id, stack: &mut Vec<Item>) -> Result<(), K>
+    requires left { IsIn store.now left.0 }
+    requires right { IsIn store.now right.0 }
+    requires stack { AreItemsIn store.now stack.old.items }
+    ensures ids { OnOk result (AreItemsIn store.now stack.new.items) }
+    ensures row { (st : State Tree) → st.stack ≡ items_at store.now stack.old.items → GivesRule (referred strict (conversion (tree_of store.now left.0) (tree_of store.now right.0)) st) result (λ _. with_stack st (items_at store.now stack.new.items)) }
+{
+    let (owed_left, owed_right) = pop_obligation(store, stack)?;
+    if store.same(left, owed_left) && store.same(right, owed_right) {
+        Ok(())
+    } else {
+        Err(K::ConversionReference)
+    }
+}
+
+/// Pushes an item of the heap; a conversion pays the obligation on top instead.
+fn refer_to(store: &Store, item: Item, stack: &mut Vec<Item>) -> Result<(), Stop>
+    requires item { IsItemIn store.now item }
+    requires stack { AreItemsIn store.now stack.old.items }
+    ensures ids { OnOk result (AreItemsIn store.now stack.new.items) }
+    ensures row { (st : State Tree) → st.stack ≡ items_at store.now stack.old.items → Gives (referred strict (item_at store.now item) st) result (λ _. with_stack st (items_at store.now stack.new.items)) }
+    ensures never { (l r : Id) → item ≡ Conversion l r → NeverWants result }
+{
+    let Some((left, right)) = conversion_of(item) else {
+        push(stack, item)?;
+        return Ok(());
+    };
+    match pay(store, left, right, stack) {
+        Ok(()) => Ok(()),
+        Err(rule) => Err(Stop::Rule(rule)),
+    }
+}
+
+/// Pushes what stands at a place of the heap; a conversion pays the obligation on top instead, and
+/// takes no memory.
+pub(crate) fn refer(
+    store: &Store,
+    place: u32,
+    heap: &[Item],
+    stack: &mut Vec<Item>,
+) -> Result<(), Stop>
+    requires heap { AreItemsIn store.now heap.now }
+    requires stack { AreItemsIn store.now stack.old.items }
+    ensures ids { OnOk result (AreItemsIn store.now stack.new.items) }
+    ensures row { (tables : Tables) (at : ℕ) (st : State Tree) → st.heap ≡ heap_at store.now heap.now → st.stack ≡ items_at store.now stack.old.items → Gives (proof_row strict tables at code.Ref place st) result (λ _. with_stack st (items_at store.now stack.new.items)) }
+    ensures never { (l r : Id) → slice_get heap.now place ≡ Some (Conversion l r) → NeverWants result }
+{
+    let Some(item) = kept_at(heap, place) else {
+        return Err(Stop::Rule(K::HeapIndex));
+    };
+    refer_to(store, item, stack)?;
+    Ok(())
+}
+
+/// Pays the obligation on top with a conversion of the heap. It takes no memory.
+pub(crate) fn conv_refer(
+    store: &Store,
+    place: u32,
+    heap: &[Item],
+    stack: &mut Vec<Item>,
+) -> Result<(), K>
+    requires heap { AreItemsIn store.now heap.now }
+    requires stack { AreItemsIn store.now stack.old.items }
+    ensures ids { OnOk result (AreItemsIn store.now stack.new.items) }
+    ensures row { (tables : Tables) (at : ℕ) (st : State Tree) → st.heap ≡ heap_at store.now heap.now → st.stack ≡ items_at store.now stack.old.items → GivesRule (proof_row strict tables at code.ConvRef place st) result (λ _. with_stack st (items_at store.now stack.new.items)) }
+{
+    let Some(item) = kept_at(heap, place) else {
+        return Err(K::HeapIndex);
+    };
+    let Some((left, right)) = conversion_of(item) else {
+        return Err(K::Kind);
+    };
+    pay(store, left, right, stack)?;
+    Ok(())
+}
+
+/// The item on top, for the heap too: no obligation.
+pub(crate) fn save(store: &Store, stack: &[Item]) -> Result<Item, K>
+    requires { AreItemsIn store.now stack.now }
+    ensures ids { IfOk result (λ item. IsItemIn store.now item) }
+    ensures row { (tables : Tables) (at n : ℕ) (st : State Tree) → st.stack ≡ items_at store.now stack.now → GivesRule (proof_row strict tables at code.Save n st) result (λ item. record st { heap = st.heap ++ item_at store.now item ∷ [] }) }
+{
+    let Some(item) = top(stack) else {
+        return Err(K::Underflow);
+    };
+    if is_obligation(item) {
+        return Err(K::SaveKind);
+    }
+    Ok(item)
+}
+
+/// Whether dummies may have the sort: it is declared, neither strict nor free.
+fn may_be_dummy(earlier: &Earlier, sort: u32) -> bool
+    ensures { result ≡ may_be_dummy_sort (slice_get (tables_of earlier.now).sorts sort) }
+{
+    if sort >= earlier.sorts() {
+        return false;
+    }
+    let mods = earlier.mods(sort);
+    !mods.is_strict() && !mods.is_free()
+}
+
+/// A new bound variable of the sort, for the heap and the stack.
+pub(crate) fn dummy(earlier: &Earlier, sort: u32, store: &mut Store) -> Result<Id, Stop>
+    requires over { IsOver (signatures_of earlier.now) store.old }
+    ensures grows { OnOk result (Grows (signatures_of earlier.now) store.old store.new) }
+    ensures ids { IfOk result (λ id. IsIn store.new id.0) }
+    ensures row { (at : ℕ) (st : State Tree) → st.ctx ≡ store.old.context → Gives (proof_row strict (tables_of earlier.now) at code.Dummy sort st) result (λ id. record { ctx = store.new.context; heap = st.heap ++ expr (tree_of store.new id.0) ∷ []; stack = expr (tree_of store.new id.0) ∷ st.stack; hyps = st.hyps }) }
+{
+    if !may_be_dummy(earlier, sort) {
+        return Err(Stop::Rule(K::DummySort));
+    }
+    if store.bound_count() >= 55 {
+        return Err(Stop::Rule(K::DummyCount));
+    }
+    match store.dummy(sort) {
+        Ok(id) => Ok(id),
+        Err(_) => Err(Stop::Mem),
+    }
+}
+
+/// Whether claims may have the sort: it is declared and provable.
+pub(crate) fn is_provable(earlier: &Earlier, sort: u32) -> bool
+    ensures { result ≡ is_provable_sort (slice_get (tables_of earlier.now).sorts sort) }
+{
+    if sort >= earlier.sorts() {
+        return false;
+    }
+    earlier.mods(sort).is_provable()
+}
+
+/// Takes an expression of a provable sort from the stack: a hypothesis, of which the heap has a
+/// proof from then on.
+pub(crate) fn hyp(earlier: &Earlier, store: &Store, stack: &mut Vec<Item>) -> Result<Id, K>
+    requires over { IsOver (signatures_of earlier.now) store.now }
+    requires stack { AreItemsIn store.now stack.old.items }
+    ensures ids { IfOk result (λ id. IsIn store.now id.0 × AreItemsIn store.now stack.new.items) }
+    ensures row { (at n : ℕ) (st : State Tree) → st.ctx ≡ store.now.context → st.stack ≡ items_at store.now stack.old.items → GivesRule (proof_row strict (tables_of earlier.now) at code.Hyp n st) result (λ id. record { ctx = st.ctx; heap = st.heap ++ proof (tree_of store.now id.0) ∷ []; stack = items_at store.now stack.new.items; hyps = st.hyps ++ tree_of store.now id.0 ∷ [] }) }
+{
+    let claim = pop_expr(store, stack)?;
+    if is_provable(earlier, store.sort_of(claim)) {
+        Ok(claim)
+    } else {
+        Err(K::NotProvable)
+    }
+}

@@ -1,0 +1,153 @@
+//! Applications of terms, and citations of axioms and theorems.
+ghost use Rattle.std.specs.Prelude.{ℕ, ◌≡◌, ◌≤◌, ◌<◌, ◌+◌, ◌++◌, ◌∷◌, [], IfOk, OnOk, length, drop};
+ghost use Rattle.mz_cmd.specs.declared.code.ProofCode.TheVariants as code;
+ghost use Rattle.mz_logic.specs.Tree.{Tree};
+ghost use Rattle.mz_layout.specs.Tables.{thm_row};
+ghost use Rattle.mz_store.specs.Sharing.{AreIn, IsIn, IsOver, tree_of};
+ghost use Rattle.mz_store.specs.declared.item.DepsMode.TheVariants.{All};
+ghost use Rattle.mz_unify.specs.Profile.{strict, expr, proof};
+ghost use Rattle.mz_unify.specs.Stored.{items_at, matching_at, AreItemsIn};
+ghost use Rattle.mz_unify.specs.declared.unified.UnifyMode.TheVariants.{Use};
+ghost use Rattle.mz_machine.specs.Tables.{State};
+ghost use Rattle.mz_machine.specs.ProofMachine.{proof_row, built, citation};
+ghost use Rattle.mz_machine.specs.Bodies.{row_steps};
+ghost use Rattle.mz_machine.specs.Before.{tables_of, signatures_of};
+ghost use Rattle.mz_machine.specs.OverStore.{with_stack, Gives, UnlessMem, Grows};
+
+use crate::apart::are_apart;
+use crate::command::Stop;
+use crate::earlier::{Earlier, Row};
+use crate::fitting::{check_operands, pop_operands};
+use crate::stack::{pop_expr, push};
+use mz_cmd::{K, Steps};
+use mz_logic::Terms;
+use mz_store::{Id, Item, Store};
+use mz_unify::{Unified, UnifyMode, unify};
+use std::alloc::Global;
+use std::sync::ledger::Ledger;
+
+/// Makes the application of a term to the operands on top, which it takes.
+fn build(
+    alloc: Global,
+    earlier: &Earlier,
+    t: u32,
+    store: &mut Store,
+    stack: &mut Vec<Item>,
+) -> Result<Id, Stop>
+    requires over { IsOver (signatures_of earlier.now) store.old }
+    requires stack { AreItemsIn store.old stack.old.items }
+    ensures grows { OnOk result (Grows (signatures_of earlier.now) store.old store.new) }
+    ensures context { store.new.context ≡ store.old.context }
+    ensures ids { IfOk result (λ id. IsIn store.new id.0 × AreItemsIn store.new stack.new.items) }
+    ensures built { (at : ℕ) (st : State Tree) → st.ctx ≡ store.old.context → st.stack ≡ items_at store.old stack.old.items → Gives (built strict (tables_of earlier.now) at t st) result (λ id. (tree_of store.new id.0, items_at store.new stack.new.items)) }
+{
+    if t >= earlier.terms() {
+        return Err(Stop::Rule(K::TermIndex));
+    }
+    let operands = pop_operands(alloc, store, earlier.arity_of(Row::Term(t)), stack)?;
+    if let Err(rule) = check_operands(earlier, Row::Term(t), store, &operands) {
+        return Err(Stop::Rule(rule));
+    }
+    let Ok(made) = store.app(earlier, t, &operands) else {
+        return Err(Stop::Mem);
+    };
+    Ok(made)
+}
+
+/// Makes the application of a term to the operands on top, and puts it in their place.
+pub(crate) fn term(
+    alloc: Global,
+    earlier: &Earlier,
+    t: u32,
+    store: &mut Store,
+    stack: &mut Vec<Item>,
+) -> Result<Id, Stop>
+    requires over { IsOver (signatures_of earlier.now) store.old }
+    requires stack { AreItemsIn store.old stack.old.items }
+    ensures grows { OnOk result (Grows (signatures_of earlier.now) store.old store.new) }
+    ensures context { store.new.context ≡ store.old.context }
+    ensures ids { IfOk result (λ id. IsIn store.new id.0 × AreItemsIn store.new stack.new.items) }
+    ensures plain { (at : ℕ) (st : State Tree) → st.ctx ≡ store.old.context → st.stack ≡ items_at store.old stack.old.items → Gives (proof_row strict (tables_of earlier.now) at code.Term t st) result (λ _. with_stack st (items_at store.new stack.new.items)) }
+    ensures saved { (at : ℕ) (st : State Tree) → st.ctx ≡ store.old.context → st.stack ≡ items_at store.old stack.old.items → Gives (proof_row strict (tables_of earlier.now) at code.TermSave t st) result (λ id. record (with_stack st (items_at store.new stack.new.items)) { heap = st.heap ++ expr (tree_of store.new id.0) ∷ [] }) }
+{
+    let made = build(alloc, earlier, t, store, stack)?;
+    push(stack, Item::Expr(made))?;
+    Ok(made)
+}
+
+/// Cites an axiom or theorem for the expression on top, with the operands below: its stream runs on
+/// the expression, of which a proof stands then in their place, and takes the hypotheses.
+pub(crate) fn thm<L: Ledger>(
+    alloc: Global,
+    earlier: &Earlier,
+    t: u32,
+    store: &Store,
+    stack: &mut Vec<Item>,
+    steps: &mut Steps<L>,
+) -> Result<Id, Stop>
+    requires over { IsOver (signatures_of earlier.now) store.now }
+    requires mode { store.now.mode ≡ All }
+    requires stack { AreItemsIn store.now stack.old.items }
+    ensures ids { IfOk result (λ id. IsIn store.now id.0 × AreItemsIn store.now stack.new.items) }
+    ensures plain { (at : ℕ) (st : State Tree) → st.ctx ≡ store.now.context → st.stack ≡ items_at store.now stack.old.items → Gives (proof_row strict (tables_of earlier.now) at code.Thm t st) result (λ _. with_stack st (items_at store.now stack.new.items)) }
+    ensures saved { (at : ℕ) (st : State Tree) → st.ctx ≡ store.now.context → st.stack ≡ items_at store.now stack.old.items → Gives (proof_row strict (tables_of earlier.now) at code.ThmSave t st) result (λ id. record (with_stack st (items_at store.now stack.new.items)) { heap = st.heap ++ proof (tree_of store.now id.0) ∷ [] }) }
+    ensures steps { (st : State Tree) → st.ctx ≡ store.now.context → st.stack ≡ items_at store.now stack.old.items → UnlessMem result (steps.new ≡ steps.old + row_steps strict (tables_of earlier.now) code.Thm t st) }
+    ensures most { steps.new ≤ steps.old + length earlier.now.file }
+{
+    let (target, mut operands) = take_citation(alloc, earlier, t, store, stack)?;
+    let stream = earlier.stream_of_thm(t);
+    match unify(
+        earlier,
+        stream,
+        UnifyMode::Use,
+        &mut operands,
+        target,
+        stack,
+        store,
+        steps,
+    ) {
+        Unified::Done { .. } => {
+            push(stack, Item::Proof(target))?;
+            Ok(target)
+        }
+        Unified::Refused { rule, .. } => Err(Stop::Rule(rule)),
+        Unified::Mem => Err(Stop::Mem),
+    }
+}
+
+/// What a citation takes: the expression on top, and the operands below it, which fit their
+/// parameters and are apart.
+fn take_citation(
+    alloc: Global,
+    earlier: &Earlier,
+    t: u32,
+    store: &Store,
+    stack: &mut Vec<Item>,
+) -> Result<(Id, Vec<Id>), Stop>
+    requires over { IsOver (signatures_of earlier.now) store.now }
+    requires mode { store.now.mode ≡ All }
+    requires stack { AreItemsIn store.now stack.old.items }
+    ensures there { OnOk result (t < earlier.now.rows.thms) }
+    ensures ids { IfOk result (λ cited. IsIn store.now cited.0.0 × AreIn store.now cited.1.items × AreItemsIn store.now stack.new.items) }
+    ensures taken { (st : State Tree) → st.ctx ≡ store.now.context → st.stack ≡ items_at store.now stack.old.items → Gives (citation strict (tables_of earlier.now) t st) result (λ cited. matching_at store.now Use (drop (thm_row earlier.now.file t).stream_at earlier.now.file) cited.1.items cited.0 stack.new.items) }
+{
+    if t >= earlier.thms() {
+        return Err(Stop::Rule(K::TheoremIndex));
+    }
+    let arity = earlier.arity_of(Row::Thm(t));
+    if stack.len() <= arity as usize {
+        return Err(Stop::Rule(K::Underflow));
+    }
+    let target = match pop_expr(store, stack) {
+        Ok(target) => target,
+        Err(rule) => return Err(Stop::Rule(rule)),
+    };
+    let operands = pop_operands(alloc, store, arity, stack)?;
+    if let Err(rule) = check_operands(earlier, Row::Thm(t), store, &operands) {
+        return Err(Stop::Rule(rule));
+    }
+    if !are_apart(earlier, Row::Thm(t), store, &operands) {
+        return Err(Stop::Rule(K::Disjoint));
+    }
+    Ok((target, operands))
+}

@@ -1,0 +1,284 @@
+//! The END of a body: the one item that is left, and the row's own stream on it.
+ghost use Rattle.std.specs.Prelude.{◌≡◌, ◌≤◌, ◌<◌, ◌^◌, ◌+◌, ◌∷◌, [], List, IfOk, IfSome, length, map};
+ghost use Rattle.std.specs.List.{range_with_len};
+ghost use Rattle.mz_logic.specs.Tree.{Tree, var};
+ghost use Rattle.mz_layout.specs.Tables.{term_row};
+ghost use Rattle.mz_store.specs.Sharing.{AreIn, IsIn, IsOver, tree_of};
+ghost use Rattle.mz_store.specs.declared.item.Item.{Item as Kept};
+ghost use Rattle.mz_store.specs.declared.item.DepsMode.TheVariants.{Free};
+ghost use Rattle.mz_unify.specs.Profile.{strict};
+ghost use Rattle.mz_unify.specs.UnifyMachine.{unify, unify_steps};
+ghost use Rattle.mz_unify.specs.Stored.{items_at, item_at, trees_at, matching_at, AreItemsIn, IsItemIn, AreVariables};
+ghost use Rattle.mz_machine.specs.Tables.{State, is_axiom, is_definition};
+ghost use Rattle.mz_machine.specs.FreeVars.{free_within};
+ghost use Rattle.mz_machine.specs.ProofMachine.{proof_end, ends_with, ending, last_item, as_proofs};
+ghost use Rattle.mz_machine.specs.Bodies.{match_steps};
+ghost use Rattle.mz_machine.specs.Before.{tables_of, signatures_of, heading_by, IsNextRow};
+ghost use Rattle.mz_machine.specs.OverStore.{state_at, kind_of, mode_for, AreFirst, IsContextOf, Gives, GivesRule, UnlessMem};
+ghost use Rattle.mz_machine.specs.Endings.{mode_at, ended, items_of, IsOwnRun};
+
+use crate::command::{BodyKind, Stop};
+use crate::commands::heap::is_provable;
+use crate::earlier::Earlier;
+use mz_cmd::{K, Steps};
+use mz_logic::Word;
+use mz_store::{Id, Item, Store};
+use mz_unify::{Unified, UnifyMode, unify};
+use std::alloc::Global;
+use std::sync::ledger::Ledger;
+
+/// Ends the body of the next row of its kind: the stack is one item, for a theorem a proof and else
+/// an expression, and what the row's own stream spells.
+pub(crate) fn end<L: Ledger>(
+    alloc: Global,
+    earlier: &Earlier,
+    kind: BodyKind,
+    row: u32,
+    store: &Store,
+    stack: &[Item],
+    hyps: &[Id],
+    steps: &mut Steps<L>,
+) -> Result<(), Stop>
+    requires row { IsNextRow earlier.now.file earlier.now.rows row (kind_of kind) }
+    requires over { IsOver (signatures_of earlier.now) store.now }
+    requires mode { store.now.mode ≡ mode_for (kind_of kind) }
+    requires context { IsContextOf (heading_by earlier.now.file row (kind_of kind)).params store.now.context }
+    requires params { AreFirst store.now (length (heading_by earlier.now.file row (kind_of kind)).params) }
+    requires stack { AreItemsIn store.now stack.now }
+    requires hyps { AreIn store.now hyps.now }
+    ensures row { (heap : List Kept) → Gives (proof_end strict (tables_of earlier.now) (heading_by earlier.now.file row (kind_of kind)) (state_at store.now heap stack.now hyps.now)) result (λ _. state_at store.now heap stack.now hyps.now) }
+    ensures most { steps.new ≤ steps.old + length earlier.now.file }
+    ensures steps { (heap : List Kept) → UnlessMem result (steps.new ≡ steps.old + match_steps strict (tables_of earlier.now) (state_at store.now heap stack.now hyps.now) (ends_with strict (tables_of earlier.now) (heading_by earlier.now.file row (kind_of kind)) (state_at store.now heap stack.now hyps.now))) }
+{
+    let target = match last_item(kind, store, stack) {
+        Ok(target) => target,
+        Err(rule) => return Err(Stop::Rule(rule)),
+    };
+    if let Err(rule) = check_target(earlier, kind, row, store, target) {
+        return Err(Stop::Rule(rule));
+    }
+    let Some(operands) = first_ids(alloc, store, own_arity(earlier, kind, row)) else {
+        return Err(Stop::Mem);
+    };
+    let Some(proofs) = own_proofs(alloc, kind, store, hyps) else {
+        return Err(Stop::Mem);
+    };
+    let stream = own_stream(earlier, kind, row);
+    run_own(
+        earlier, kind, stream, operands, target, proofs, store, steps,
+    )
+}
+
+/// How many parameters the next row of the kind has.
+#[tactic(auto, using(crate::proofs::BeforeLaws::binders_many))]
+fn own_arity(earlier: &Earlier, kind: BodyKind, row: u32) -> u32
+    requires { IsNextRow earlier.now.file earlier.now.rows row (kind_of kind) }
+    ensures { result ≡ length (heading_by earlier.now.file row (kind_of kind)).params }
+{
+    match kind {
+        BodyKind::Axiom => earlier.own_thm_arity(row),
+        BodyKind::Theorem => earlier.own_thm_arity(row),
+        BodyKind::Definition => earlier.own_term_arity(row),
+    }
+}
+
+/// The unify stream of the next row of the kind, from its first byte to the file's end.
+fn own_stream<'a>(earlier: &Earlier<'a>, kind: BodyKind, row: u32) -> &'a [u8]
+    requires { IsNextRow earlier.now.file earlier.now.rows row (kind_of kind) }
+    ensures stream { result.now ≡ (heading_by earlier.now.file row (kind_of kind)).stream }
+    ensures fits { length result.now < 2 ^ 32 }
+    ensures within { length result.now ≤ length earlier.now.file }
+{
+    match kind {
+        BodyKind::Axiom => earlier.own_thm_stream(row),
+        BodyKind::Theorem => earlier.own_thm_stream(row),
+        BodyKind::Definition => earlier.own_term_stream(row),
+    }
+}
+
+/// Runs the row's own stream: at an assertion's end its hypotheses are taken too.
+fn run_own<L: Ledger>(
+    earlier: &Earlier,
+    kind: BodyKind,
+    stream: &[u8],
+    operands: Vec<Id>,
+    target: Id,
+    proofs: Vec<Item>,
+    store: &Store,
+    steps: &mut Steps<L>,
+) -> Result<(), Stop>
+    requires stream { length stream.now < 2 ^ 32 }
+    requires over { IsOver (signatures_of earlier.now) store.now }
+    requires operands { AreIn store.now operands.items }
+    requires variables { AreVariables store.now operands.items }
+    requires target { IsIn store.now target.0 }
+    requires proofs { AreItemsIn store.now proofs.items }
+    ensures run { IsOwnRun (unify strict (signatures_of earlier.now) store.now.context (matching_at store.now (mode_at (kind_of kind)) stream.now operands.items target proofs.items)) result }
+    ensures steps { UnlessMem result (steps.new ≡ steps.old + unify_steps strict (signatures_of earlier.now) store.now.context (matching_at store.now (mode_at (kind_of kind)) stream.now operands.items target proofs.items)) }
+    ensures most { steps.new ≤ steps.old + length stream.now }
+{
+    let mut operands = operands;
+    let mut proofs = proofs;
+    let mode = mode_of(kind);
+    match unify(
+        earlier,
+        stream,
+        mode,
+        &mut operands,
+        target,
+        &mut proofs,
+        store,
+        steps,
+    ) {
+        Unified::Done { .. } => Ok(()),
+        Unified::Refused { rule, .. } => Err(Stop::Rule(rule)),
+        Unified::Mem => Err(Stop::Mem),
+    }
+}
+
+fn mode_of(kind: BodyKind) -> UnifyMode
+    ensures { result ≡ mode_at (kind_of kind) }
+{
+    match kind {
+        BodyKind::Axiom | BodyKind::Theorem => UnifyMode::Final,
+        BodyKind::Definition => UnifyMode::Body,
+    }
+}
+
+/// The one item that is left: for a theorem a proof, else an expression.
+fn last_item(kind: BodyKind, store: &Store, stack: &[Item]) -> Result<Id, K>
+    requires { AreItemsIn store.now stack.now }
+    ensures ids { IfOk result (λ id. IsIn store.now id.0) }
+    ensures last { GivesRule (last_item (kind_of kind) (items_at store.now stack.now)) result (λ id. tree_of store.now id.0) }
+{
+    match stack {
+        [item] => only_item(kind, store, *item),
+        _ => Err(K::FinalStack),
+    }
+}
+
+/// What the item that is left proves or is.
+fn only_item(kind: BodyKind, store: &Store, item: Item) -> Result<Id, K>
+    requires { IsItemIn store.now item }
+    ensures ids { IfOk result (λ id. IsIn store.now id.0) }
+    ensures last { GivesRule (last_item (kind_of kind) (item_at store.now item ∷ [])) result (λ id. tree_of store.now id.0) }
+{
+    match (kind, item) {
+        (BodyKind::Theorem, Item::Proof(id)) => Ok(id),
+        (BodyKind::Axiom, Item::Expr(id)) => Ok(id),
+        (BodyKind::Definition, Item::Expr(id)) => Ok(id),
+        _ => Err(K::FinalStack),
+    }
+}
+
+/// What is asked of the expression before the row's own stream runs on it.
+fn check_target(
+    earlier: &Earlier,
+    kind: BodyKind,
+    row: u32,
+    store: &Store,
+    target: Id,
+) -> Result<(), K>
+    requires row { IsNextRow earlier.now.file earlier.now.rows row (kind_of kind) }
+    requires over { IsOver (signatures_of earlier.now) store.now }
+    requires mode { store.now.mode ≡ mode_for (kind_of kind) }
+    requires context { IsContextOf (heading_by earlier.now.file row (kind_of kind)).params store.now.context }
+    requires target { IsIn store.now target.0 }
+    ensures { (st : State Tree) → st.ctx ≡ store.now.context → GivesRule (ending strict (tables_of earlier.now) (heading_by earlier.now.file row (kind_of kind)) st (kind_of kind) (tree_of store.now target.0)) result (λ _. ended (heading_by earlier.now.file row (kind_of kind)) st (kind_of kind) (tree_of store.now target.0)) }
+{
+    match kind {
+        BodyKind::Theorem => Ok(()),
+        BodyKind::Axiom => check_claim(earlier, row, store, target),
+        BodyKind::Definition => check_body(earlier, row, store, target),
+    }
+}
+
+/// An axiom's expression has a provable sort.
+fn check_claim(earlier: &Earlier, row: u32, store: &Store, target: Id) -> Result<(), K>
+    requires over { IsOver (signatures_of earlier.now) store.now }
+    requires target { IsIn store.now target.0 }
+    ensures { (st : State Tree) → st.ctx ≡ store.now.context → GivesRule (ending strict (tables_of earlier.now) (heading_by earlier.now.file row is_axiom) st is_axiom (tree_of store.now target.0)) result (λ _. ended (heading_by earlier.now.file row is_axiom) st is_axiom (tree_of store.now target.0)) }
+{
+    if is_provable(earlier, store.sort_of(target)) {
+        Ok(())
+    } else {
+        Err(K::NotProvable)
+    }
+}
+
+/// A definition's body has the result's sort, and no free variables but those on which the result
+/// depends.
+fn check_body(earlier: &Earlier, row: u32, store: &Store, target: Id) -> Result<(), K>
+    requires row { IsNextRow earlier.now.file earlier.now.rows row is_definition }
+    requires over { IsOver (signatures_of earlier.now) store.now }
+    requires mode { store.now.mode ≡ Free }
+    requires context { IsContextOf (heading_by earlier.now.file row is_definition).params store.now.context }
+    requires target { IsIn store.now target.0 }
+    ensures { (st : State Tree) → st.ctx ≡ store.now.context → GivesRule (ending strict (tables_of earlier.now) (heading_by earlier.now.file row is_definition) st is_definition (tree_of store.now target.0)) result (λ _. ended (heading_by earlier.now.file row is_definition) st is_definition (tree_of store.now target.0)) }
+{
+    let result = earlier.own_result(row);
+    if store.sort_of(target) != result.sort() {
+        return Err(K::DefinitionSort);
+    }
+    if !are_free_within(earlier, row, store, target, result) {
+        return Err(K::DefinitionDependencies);
+    }
+    Ok(())
+}
+
+/// Whether the expression has no free variables but those whose bits the result's word has.
+fn are_free_within(earlier: &Earlier, row: u32, store: &Store, target: Id, word: Word) -> bool
+    requires row { IsNextRow earlier.now.file earlier.now.rows row is_definition }
+    requires over { IsOver (signatures_of earlier.now) store.now }
+    requires mode { store.now.mode ≡ Free }
+    requires context { IsContextOf (heading_by earlier.now.file row is_definition).params store.now.context }
+    requires target { IsIn store.now target.0 }
+    requires word { word ≡ (term_row earlier.now.file row).words.result }
+    ensures { result ≡ free_within (signatures_of earlier.now) store.now.context (heading_by earlier.now.file row is_definition).result.deps (tree_of store.now target.0) (length store.now.context) }
+{
+    let told = store.deps(target);
+    told & word.deps() == told
+}
+
+/// The ids of the row's parameters, which are the store's first; none where memory is wanting.
+fn first_ids(alloc: Global, store: &Store, count: u32) -> Option<Vec<Id>>
+    requires { AreFirst store.now count }
+    ensures trees { IfSome result (λ ids. trees_at store.now ids.items ≡ map var (range_with_len 0 count)) }
+    ensures ids { IfSome result (λ ids. AreIn store.now ids.items) }
+    ensures variables { IfSome result (λ ids. AreVariables store.now ids.items) }
+{
+    let mut ids = Vec::new(alloc);
+    'params: for i in 0..count {
+        let Ok(()) = ids.push(Id(u64::from(i))) else {
+            return None;
+        };
+    }
+    Some(ids)
+}
+
+/// The hypotheses as proofs, of which a definition has none; none where memory is wanting.
+fn own_proofs(alloc: Global, kind: BodyKind, store: &Store, hyps: &[Id]) -> Option<Vec<Item>>
+    requires { AreIn store.now hyps.now }
+    ensures items { IfSome result (λ items. items_at store.now items.items ≡ items_of (kind_of kind) (trees_at store.now hyps.now)) }
+    ensures ids { IfSome result (λ items. AreItemsIn store.now items.items) }
+{
+    match kind {
+        BodyKind::Definition => Some(Vec::new(alloc)),
+        BodyKind::Axiom | BodyKind::Theorem => proofs_of(alloc, store, hyps),
+    }
+}
+
+/// The hypotheses as proofs.
+fn proofs_of(alloc: Global, store: &Store, hyps: &[Id]) -> Option<Vec<Item>>
+    requires { AreIn store.now hyps.now }
+    ensures items { IfSome result (λ items. items_at store.now items.items ≡ as_proofs (trees_at store.now hyps.now)) }
+    ensures ids { IfSome result (λ items. AreItemsIn store.now items.items) }
+{
+    let mut items = Vec::new(alloc);
+    'hyps: for hyp in hyps {
+        let Ok(()) = items.push(Item::Proof(*hyp)) else {
+            return None;
+        };
+    }
+    Some(items)
+}

@@ -1,0 +1,206 @@
+-- What the row of a good statement says.
+use Rattle.std.proofs.Common.{◌≡◌, ◌≤◌, ◌<◌, ◌+◌, ◌-◌, ◌∙◌, ◌⊎◌, ℕ, zero, suc, Bool, true, false, cond, ltb, List, [], ◌∷◌, ◌++◌, length, drop, reverse, Option, Some, None, Ok, slice_get, refl, sym, ap, subst, inl, inr, arith, length-append, append_assoc}
+use Rattle.std.specs.Prelude.{if◌then◌else◌, ⊤}
+use Rattle.std.proofs.lemmas.Bool.{true≢false, false≢true, ltb-true, ltb-false}
+use Rattle.std.proofs.lemmas.Option.{slice_get_within}
+use Rattle.mz_cmd.specs.declared.command.Cmd.{Cmd}
+use Rattle.mz_logic.specs.Tree.{Tree, Trees, var, none, listed}
+use Rattle.mz_logic.specs.Signature.{Signature}
+use Rattle.mz_logic.specs.Declaration.{Declaration, sort_decl, term_decl, assertion_decl, Term, Assertion, Form, plain_form, abstract_form, defined, sorts, terms, signatures, assertions}
+use Rattle.mz_logic.specs.LegalLists.{Statement}
+use Rattle.mz_logic.specs.Words.{binders_of, signature_of}
+use Rattle.mz_logic.specs.declared.binder.Binder.{Binder}
+use Rattle.mz_layout.specs.Tables.{list_at, sort_count, term_count, thm_count, mods_of, term_row, thm_row}
+use Rattle.mz_unify.specs.Streams.{StreamKind, of_assertion, of_definition, UnifyCommand, StreamIs}
+use Rattle.mz_unify.specs.Spells.{Marks, Spells, SpellsHyps, SpellsText, Text, SpellsForm, at_first, variables_from}
+use Rattle.mz_machine.specs.RowWords.{bound_count}
+use Rattle.mz_machine.proofs.RightWords.{right-words}
+use Rattle.mz_machine.specs.FileRows.{stream_of, term_of_file, thm_of_file}
+use Rattle.mz_binary.specs.declared.statement.Statement.{Statement as Told}
+use Rattle.mz_binary.specs.Chains.{IsGoodStatement, GoodTo}
+use Rattle.mz_binary.specs.Laws.{HasRow, SaysTerm, SaysAssertion, is_defined}
+use Rattle.mz_binary.specs.Progress.{kind_code, row_after}
+use Rattle.mz_binary.specs.Spelling.{SpellsRow}
+use Rattle.mz_binary.proofs.RowLaws.{good-rows}
+use Rattle.mz_match.specs.declared.stream.Cursor.{Cursor}
+use Rattle.mz_match.specs.Streams.{AreMarks, IsSaid, HypsAreSaid}
+use Rattle.mz_match.specs.TellsRow.{SaysFirst, SaysForm, SaysClaims, IsTermRow, IsThmRow, IsRowOf}
+use Rattle.mz_match.specs.Told.{IsTold}
+use Rattle.mz_match.proofs.Steps.{command-takes}
+use Rattle.mz_match.proofs.Spelled.{length-binders}
+use Rattle.mz_match.proofs.FewDummies.{few-dummies}
+use Rattle.mz_match.proofs.SaidStreams.{joined, Grows, Segment, SaidFrom, HypsFrom, append-none, grows-on, grows-same, grows-not, hyps-grow, grows, spelled-said, hyps-said}
+
+-- ---- the signatures of what was declared are those of the rows
+
+abbrev Arities : List ℕ → List Declaration → Type 0
+Arities file env = (t : ℕ) (s : Signature) → slice_get (signatures env) t ≡ Some s → (t < term_count file) × (length s.params ≡ length (term_row file t).words.params)
+
+signatures-append : (env more : List Declaration) → signatures (env ++ more) ≡ signatures env ++ signatures more
+signatures-append [] more = refl
+signatures-append (sort_decl m ∷ env) more = signatures-append env more
+signatures-append (term_decl d ∷ env) more = ap (λ xs. d.signature ∷ xs) (signatures-append env more)
+signatures-append (assertion_decl a ∷ env) more = signatures-append env more
+
+length-signatures : (env : List Declaration) → length (signatures env) ≡ length (terms env)
+length-signatures [] = refl
+length-signatures (sort_decl m ∷ env) = length-signatures env
+length-signatures (term_decl d ∷ env) = ap suc (length-signatures env)
+length-signatures (assertion_decl a ∷ env) = length-signatures env
+
+get-in-two : (xs : List Signature) (s x : Signature) (t : ℕ) → slice_get (xs ++ s ∷ []) t ≡ Some x → (slice_get xs t ≡ Some x) ⊎ ((t ≡ length xs) × (s ≡ x))
+get-in-two [] s x zero at = inr (refl, cc)
+get-in-two [] s x (suc t) at = absurd cc
+get-in-two (y ∷ xs) s x zero at = inl at
+get-in-two (y ∷ xs) s x (suc t) at = elim (get-in-two xs s x t at) [
+  | inl before ↦ inl before
+  | inr last ↦ inr (ap suc last.0, last.1)
+]
+
+more-arities : (file : List ℕ) (env : List Declaration) (d : Declaration) → HasRow file env d → Arities file env → Arities file (env ++ d ∷ [])
+more-arities file env (sort_decl m) row so_far t s at = so_far t s (ap (λ xs. slice_get xs t) (append-none (signatures env) ∙ sym (signatures-append env (sort_decl m ∷ []))) ∙ at)
+more-arities file env (assertion_decl a) row so_far t s at = so_far t s (ap (λ xs. slice_get xs t) (append-none (signatures env) ∙ sym (signatures-append env (assertion_decl a ∷ []))) ∙ at)
+more-arities file env (term_decl d) (there, says) so_far t s at =
+    elim (get-in-two (signatures env) d.signature s t (ap (λ xs. slice_get xs t) (sym (signatures-append env (term_decl d ∷ []))) ∙ at)) [
+      | inl before ↦ so_far t s before
+      | inr last ↦ (
+          let row : t ≡ length (terms env) = last.0 ∙ length-signatures env in (
+            omega (arith, row, there),
+            ap (λ (x : Signature). length x.params) (sym last.1 ∙ says.signature) ∙ length-binders 0 [] (term_row file (length (terms env))).words.params ∙ ap (λ (r : ℕ). length (term_row file r).words.params) (sym row),
+          ))
+    ]
+
+chain-arities : (file : List ℕ) (env : List Declaration) (from : ℕ) (ss : List Statement) (env' : List Declaration) (to : ℕ) → GoodTo file env from ss env' to → Arities file env → Arities file env'
+chain-arities file env from [] env' to (same, _) so_far = subst (Arities file) (sym same) so_far
+chain-arities file env from (s ∷ ss) env' to (next, good, rest) so_far =
+    chain-arities file (env ++ s.decl ∷ []) next ss env' to rest (more-arities file env s.decl (good-rows file env from s next good) so_far)
+
+-- ---- a whole stream
+
+within-is : (file : List ℕ) (kind : StreamKind) (at : ℕ) (us : List UnifyCommand) → StreamIs kind (drop at file) us → at ≤ length file
+within-is file kind at [] (c, read, is) = let t = command-takes file at c read in omega (arith, t.0, t.1)
+within-is file kind at (u ∷ us) (c, read, is, going, rest) = let t = command-takes file at c read in omega (arith, t.0, t.1)
+
+length-variables : (i : ℕ) (ps : List Binder) → length (variables_from i ps) ≡ length ps
+length-variables i [] = refl
+length-variables i (p ∷ ps) = ap suc (length-variables (suc i) ps)
+
+variable-at : (i j : ℕ) (ps : List Binder) → j < length ps → slice_get (variables_from i ps) j ≡ Some (var (i + j))
+variable-at i j [] below = absurd (omega arith)
+variable-at i zero (p ∷ ps) below = ap (λ (x : ℕ). Some (var x)) (let e : i ≡ i + 0 = omega arith in e)
+variable-at i (suc j) (p ∷ ps) below = variable-at (suc i) j ps (omega arith) ∙ ap (λ (x : ℕ). Some (var x)) (let e : suc i + j ≡ i + suc j = omega arith in e)
+
+get-front : (xs ys : List Tree) (i : ℕ) → i < length xs → slice_get (xs ++ ys) i ≡ slice_get xs i
+get-front [] ys i below = absurd (omega arith)
+get-front (x ∷ xs) ys zero below = refl
+get-front (x ∷ xs) ys (suc i) below = get-front xs ys i (omega arith)
+
+get-back : (xs ys : List Tree) (j : ℕ) → slice_get (xs ++ ys) (length xs + j) ≡ slice_get ys j
+get-back [] ys j = ap (slice_get ys) (let e : 0 + j ≡ j = omega arith in e)
+get-back (x ∷ xs) ys j = ap (slice_get (x ∷ (xs ++ ys))) (let e : suc (length xs) + j ≡ suc (length xs + j) = omega arith in e) ∙ get-back xs ys j
+
+module _ (file : List ℕ) (sigs : List Signature) (params : List Binder) (start : ℕ)
+    (arities : (t : ℕ) (s : Signature) → slice_get sigs t ≡ Some s → (t < term_count file) × (length s.params ≡ length (term_row file t).words.params)) where
+  abbrev n : ℕ
+  n = length params
+
+  -- the marks of the whole
+  whole-marks : (last : Marks) (to d' : ℕ) (made : List Tree) → last.trees ≡ variables_from 0 params ++ made → length last.dummies ≤ 55 → Segment file n last start 0 to d' made → AreMarks file n start last
+  whole-marks last to d' made trees_are few seg = record {
+    params = λ i below.
+        let many = length-variables 0 params in
+        ap (λ xs. slice_get xs i) trees_are ∙ get-front (variables_from 0 params) made i (omega (arith, below, many)) ∙ variable-at 0 i params below ∙ ap (λ (x : ℕ). Some (var x)) (let e : 0 + i ≡ i = omega arith in e);
+    made = λ j f at.
+        let many = length-variables 0 params in
+        let there : length (variables_from 0 params) + j ≡ n + j = omega (arith, many) in
+        let h = seg.holds j f (sym (get-back (variables_from 0 params) made j) ∙ ap (slice_get (variables_from 0 params ++ made)) there ∙ ap (λ xs. slice_get xs (n + j)) (sym trees_are) ∙ at) in
+        record { many = h.many; place = h.place; end = h.end; found = h.found; made = h.made };
+    few = few;
+  }
+
+  -- what is said of a text
+  record SaidText (last : Marks) (hyps : Trees) (conclusion : Tree) : Type 0 where
+    first : SaysFirst file n start last conclusion
+    hyps_said : last.dummies ≡ [] → HypsAreSaid file n last first.to.at (reverse (listed hyps))
+
+  text-said : (kind : StreamKind) (hyps : Trees) (conclusion : Tree) (last : Marks) → SpellsText kind sigs params (drop start file) hyps conclusion last → length last.dummies ≤ 55 → SaidText last hyps conclusion
+  text-said kind hyps conclusion last (us, stream, mid, rest, spelled, spelled-hyps) few =
+      let on : Grows mid last = hyps-grow file n last kind sigs arities mid rest (reverse (listed hyps)) last spelled-hyps in
+      let first = spelled-said file n last kind sigs arities (at_first params) us conclusion mid rest start spelled stream on in
+      let later = hyps-said file n last kind sigs arities mid rest (reverse (listed hyps)) last first.to spelled-hyps first.rest (grows-not last) in
+      let segment = joined file n last start 0 first.to (length mid.dummies) later.to (length last.dummies) first.made later.made first.segment later.segment in
+      let trees_are : last.trees ≡ variables_from 0 params ++ (first.made ++ later.made) =
+      later.trees_are ∙ ap (λ xs. xs ++ later.made) first.trees_are ∙ append_assoc (variables_from 0 params) first.made later.made in
+      record {
+        first = record {
+          within = within-is file kind start us stream;
+          marks = whole-marks last later.to (length last.dummies) (first.made ++ later.made) trees_are few segment;
+          to = record { at = first.to; dummies = length mid.dummies };
+          said = first.said;
+        };
+        hyps_said = later.said;
+      }
+
+-- ---- rows
+
+form-said : (file : List ℕ) (env : List Declaration) (r : ℕ) (d : Term) → Arities file env → SaysTerm (sorts env) (term_row file r) d
+    → SpellsForm (signatures env) (term_of_file file r).signature.params (term_of_file file r).stream d.form
+    → ((dummies : List Binder) (body : Tree) → d.form ≡ defined dummies body → length dummies ≤ 55)
+    → SaysForm file (length (term_row file r).words.params) (term_row file r).stream_at d.form
+form-said file env r d arities says spelled few = go d.form refl says.form spelled
+  where
+    params : List Binder
+    params = binders_of (term_row file r).words.params
+
+    no-open : (o : Option (List ℕ)) → SpellsForm (signatures env) params o abstract_form → ⊥
+    no-open None spells = spells
+    no-open (Some stream) spells = spells
+
+    go : (f : Form) → d.form ≡ f → (term_row file r).words.has_body ≡ is_defined f → SpellsForm (signatures env) params (stream_of file (term_row file r)) f
+        → SaysForm file (length (term_row file r).words.params) (term_row file r).stream_at f
+    go plain_form is body spells = tt
+    go abstract_form is body spells = no-open (stream_of file (term_row file r)) spells
+    go (defined dummies e) is body spells =
+        let (last, text, met) = subst (λ (o : Option (List ℕ)). SpellsForm (signatures env) params o (defined dummies e)) (ap (λ (b : Bool). if b then Some (drop (term_row file r).stream_at file) else None) body) spells in
+        let enough : length last.dummies ≤ 55 = subst (λ (bs : List Binder). length bs ≤ 55) (sym met) (few dummies e is) in
+        let said = text-said file (signatures env) params (term_row file r).stream_at arities of_definition none e last text enough in
+        (last, subst (λ (k : ℕ). SaysFirst file k (term_row file r).stream_at last e) (length-binders 0 [] (term_row file r).words.params) said.first, met)
+
+claims-said : (file : List ℕ) (env : List Declaration) (r : ℕ) (a : Assertion) → Arities file env → Text of_assertion (signatures env) (binders_of (thm_row file r).params) (drop (thm_row file r).stream_at file) a.hyps a.conclusion []
+    → SaysClaims file (length (thm_row file r).params) (thm_row file r).stream_at a
+claims-said file env r a arities (last, text, met) =
+    let params = binders_of (thm_row file r).params in
+    let enough : length last.dummies ≤ 55 = subst (λ (bs : List Binder). length bs ≤ 55) (sym met) (omega arith) in
+    let said = text-said file (signatures env) params (thm_row file r).stream_at arities of_assertion a.hyps a.conclusion last text enough in
+    let whole : SaysClaims file (length params) (thm_row file r).stream_at a = record { marks = last; conclusion = said.first; no_dummies = met; hyps = said.hyps_said met } in
+    subst (λ (k : ℕ). SaysClaims file k (thm_row file r).stream_at a) (length-binders 0 [] (thm_row file r).params) whole
+
+row-told : (file : List ℕ) (env : List Declaration) (told : Told) (d : Declaration) → Arities file env → told.kind ≡ kind_code d → told.row ≡ row_after env d → HasRow file env d → SpellsRow file env d
+    → ((t : Term) (dummies : List Binder) (body : Tree) → d ≡ term_decl t → t.form ≡ defined dummies body → length dummies ≤ 55) → IsRowOf file told d
+row-told file env told (sort_decl m) arities kind row (here, is) spelled few = (kind, omega (arith, row, here), is ∙ ap (mods_of file) (sym row))
+row-told file env told (term_decl t) arities kind row (there, says) (_, spelled) few = (
+  kind,
+  subst (λ (r : ℕ). IsTermRow file r t) (sym row) (record {
+    there = there;
+    signature = says.signature;
+    few = (right-words (sorts env) (term_row file (length (terms env))).words.params says.params).3;
+    has_body = says.form;
+    form = form-said file env (length (terms env)) t arities says spelled.1 (λ dummies body is. few t dummies body refl is);
+  }),
+)
+row-told file env told (assertion_decl a) arities kind row (there, says) (_, spelled) few = (
+  kind,
+  subst (λ (r : ℕ). IsThmRow file r a) (sym row) (record {
+    there = there;
+    params = says.signature;
+    few = (right-words (sorts env) (thm_row file (length (assertions env))).params says.params).3;
+    claims = claims-said file env (length (assertions env)) a arities spelled.1;
+  }),
+)
+
+-- its row says what it declares
+pub told-row : (file rows : List ℕ) (told : Told) (ss : List Statement) (env : List Declaration) (s : Statement) (next : ℕ) → IsTold file rows told ss env s next → IsRowOf file told s.decl
+told-row file rows told ss env s next is =
+    let arities = chain-arities file [] (list_at file) ss env told.at is.before (λ t x at. absurd cc) in
+    row-told file env told s.decl arities is.tells.kind is.tells.row (good-rows file env told.at s next is.good) is.good.spelled.row
+    (λ t dummies body d-is form-is. few-dummies file ss env told.at s next t dummies body is.before is.good d-is form-is)

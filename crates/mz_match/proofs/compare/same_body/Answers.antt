@@ -1,0 +1,15 @@
+use Rattle.std.proofs.Common.{arith}
+use Rattle.mz_logic.specs.View.{tree}
+use Rattle.mz_match.specs.Beside.{beside}
+use Rattle.mz_match.proofs.Renaming.{same-body, says-nothing}
+use Rattle.mz_match.proofs.compare.same_body.Goals as goal
+
+pub same_at-requires : goal.same_at-requires
+same_at-requires c = c.requires
+
+pub returns : goal.returns
+returns c = λ m f to stream said.
+    let pairs = c.no_pairs-pairs in
+    let few = stream.marks.few in
+    same-body (beside c.args.sides.now m) pairs.result c.same_at.new.pairs (tree c.args.body.now) f c.same_at.result to c.is_some.result
+    (says-nothing pairs.result pairs.ensures.none_yet) (omega (arith, few, pairs.ensures.many)) c.is_some.ensures (c.same_at.ensures m f to stream said)

@@ -1,0 +1,10 @@
+use Rattle.std.proofs.Common.{◌<◌, ap, subst, arith}
+use Rattle.mz_layout.proofs.TableLists.{length-term_words}
+use Rattle.mz_match.specs.declared.signature.RowOf.{RowOf}
+use Rattle.mz_match.specs.RowWords.{IsRow}
+use Rattle.mz_match.proofs.signature.RowOf.arity.Goals as goal
+
+pub arity-requires : goal.arity-requires
+arity-requires c =
+    let there = subst (IsRow c.args.mmb.now) c.in-Term.is c.requires in
+    omega (arith, there, length-term_words c.args.mmb.now)

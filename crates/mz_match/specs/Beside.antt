@@ -1,0 +1,40 @@
+-- A unify stream of a binary beside expressions of a specification.
+use Rattle.std.specs.Prelude.{◌≡◌, ◌≤◌, List, [], length}
+use Rattle.mz_logic.specs.Tree.{Tree, Trees}
+use Rattle.mz_unify.specs.Spells.{Marks}
+use Rattle.mz_match.specs.declared.compare.Sides.{Sides}
+use Rattle.mz_match.specs.declared.stream.Cursor.{Cursor}
+use Rattle.mz_match.specs.Streams.{IsSaid, AreSaid, IsMade, AreMarks, HypsAreSaid}
+use Rattle.mz_match.specs.Comparing.{Beside}
+
+-- what is compared, where the stream has these marks
+abbrev pub beside : Sides → Marks → Beside
+beside s m = record { rows = s.publics.now; params = s.params; ds = s.dummies.now; es = m.dummies }
+
+-- the stream has these marks
+pub record IsStream (s : Sides) (m : Marks) : Type 0 where
+  pub within : s.start ≤ length s.mmb.now
+  pub marks : AreMarks s.mmb.now s.params s.start m
+
+abbrev pub at_start : Sides → Cursor
+at_start s = record { at = s.start; dummies = 0 }
+
+-- it says an expression from a place to another
+abbrev pub SaidAt : Sides → Marks → Cursor → Tree → Cursor → Type 0
+SaidAt s m from f to = IsSaid s.mmb.now s.params m from.at from.dummies f to.at to.dummies
+
+abbrev pub AllSaidAt : Sides → Marks → Cursor → Trees → Cursor → Type 0
+AllSaidAt s m from fs to = AreSaid s.mmb.now s.params m from.at from.dummies fs to.at to.dummies
+
+abbrev pub MadeAt : Sides → Marks → Cursor → Tree → Cursor → Type 0
+MadeAt s m from f to = IsMade s.mmb.now s.params m from.at from.dummies f to.at to.dummies
+
+-- as the stream of an assertion does: without dummies
+pub record IsPlainStream (s : Sides) (m : Marks) : Type 0 where
+  pub stream : IsStream s m
+  pub no_dummies : m.dummies ≡ []
+  pub none_beside : s.dummies.now ≡ []
+
+-- behind a conclusion it says these hypotheses, in the order of the stream
+abbrev pub HypsSaidAt : Sides → Marks → List Tree → Type 0
+HypsSaidAt s m hs = (conclusion : Tree) × (to : Cursor) × SaidAt s m (at_start s) conclusion to × HypsAreSaid s.mmb.now s.params m to.at hs

@@ -1,0 +1,51 @@
+-- What the row of a statement that is told says.
+use Rattle.std.specs.Prelude.{◌≡◌, ◌≤◌, ◌<◌, ⊤, ℕ, Bool, List, [], length, reverse, if◌then◌else◌}
+use Rattle.mz_logic.specs.Tree.{Tree, listed}
+use Rattle.mz_logic.specs.Declaration.{Declaration, sort_decl, term_decl, assertion_decl, Term, Assertion, Form, plain_form, abstract_form, defined}
+use Rattle.mz_logic.specs.Words.{binders_of, signature_of}
+use Rattle.mz_layout.specs.Tables.{sort_count, term_count, thm_count, mods_of, term_row, thm_row}
+use Rattle.mz_unify.specs.Spells.{Marks}
+use Rattle.mz_machine.specs.RowWords.{bound_count}
+use Rattle.mz_binary.specs.Laws.{is_defined}
+use Rattle.mz_binary.specs.declared.statement.Statement.{Statement as Told}
+use Rattle.mz_match.specs.declared.stream.Cursor.{Cursor}
+use Rattle.mz_match.specs.Streams.{AreMarks, IsSaid, HypsAreSaid}
+
+-- a stream that begins at a place, over n parameters: its marks, and the expression that it says first
+pub record SaysFirst (file : List ℕ) (n start : ℕ) (m : Marks) (f : Tree) : Type 0 where
+  pub within : start ≤ length file
+  pub marks : AreMarks file n start m
+  pub to : Cursor
+  pub said : IsSaid file n m start 0 f to.at to.dummies
+
+-- a definition's stream says its body, with its dummies; no row is left open
+abbrev pub SaysForm : List ℕ → ℕ → ℕ → Form → Type 0
+SaysForm file n start plain_form = ⊤
+SaysForm file n start abstract_form = ⊥
+SaysForm file n start (defined dummies body) = (m : Marks) × SaysFirst file n start m body × (m.dummies ≡ dummies)
+
+-- an assertion's stream says its conclusion, and behind it the hypotheses from the last to the first
+pub record SaysClaims (file : List ℕ) (n start : ℕ) (a : Assertion) : Type 0 where
+  pub marks : Marks
+  pub conclusion : SaysFirst file n start marks a.conclusion
+  pub no_dummies : marks.dummies ≡ []
+  pub hyps : HypsAreSaid file n marks conclusion.to.at (reverse (listed a.hyps))
+
+pub record IsTermRow (file : List ℕ) (row : ℕ) (d : Term) : Type 0 where
+  pub there : row < term_count file
+  pub signature : d.signature ≡ signature_of (term_row file row).words
+  pub few : bound_count (term_row file row).words.params ≤ 55
+  pub has_body : (term_row file row).words.has_body ≡ is_defined d.form
+  pub form : SaysForm file (length (term_row file row).words.params) (term_row file row).stream_at d.form
+
+pub record IsThmRow (file : List ℕ) (row : ℕ) (a : Assertion) : Type 0 where
+  pub there : row < thm_count file
+  pub params : a.params ≡ binders_of (thm_row file row).params
+  pub few : bound_count (thm_row file row).params ≤ 55
+  pub claims : SaysClaims file (length (thm_row file row).params) (thm_row file row).stream_at a
+
+-- the row of the statement that is told says the declaration
+abbrev pub IsRowOf : List ℕ → Told → Declaration → Type 0
+IsRowOf bin told (sort_decl m) = (told.kind ≡ 0x04) × (told.row < sort_count bin) × (m ≡ mods_of bin told.row)
+IsRowOf bin told (term_decl d) = (told.kind ≡ 0x05) × IsTermRow bin told.row d
+IsRowOf bin told (assertion_decl a) = (told.kind ≡ (if a.is_axiom then 0x02 else 0x06)) × IsThmRow bin told.row a

@@ -1,0 +1,104 @@
+-- The body of a definition, and its free variables.
+use Rattle.std.proofs.Common.{◌≡◌, ◌<◌, ◌++◌, ℕ, List, [], ◌∷◌, length, map, Option, Some, None, slice_get, Contains, sym, refl, subst, inl, arith, length-append}
+use Rattle.std.proofs.lemmas.List.{map-append, length-map}
+use Rattle.std.proofs.lemmas.List.Elements.{All-contains}
+use Rattle.std.proofs.lemmas.Option.{slice_get_within}
+use Rattle.mz_lex.specs.Lexemes.{Lexeme}
+use Rattle.mz_lex.specs.declared.rule.S.TheVariants as rules
+use Rattle.mz_checks.specs.Checks.{AllHold, FailsFirst, each_in_order}
+use Rattle.mz_checks.proofs.InOrder.{all_hold-both, fails-after}
+use Rattle.mz_logic.specs.Tree.{Tree}
+use Rattle.mz_logic.specs.Declaration.{signatures}
+use Rattle.mz_logic.specs.Variables.{InFV}
+use Rattle.mz_logic.specs.declared.binder.ResultType.{ResultType}
+use Rattle.mz_logic.proofs.Scoped.{DepsInside}
+use Rattle.mz_math.specs.declared.pieces.Piece.{Piece}
+use Rattle.mz_math.specs.declared.formula.Wanted.TheVariants.{Sort as of_sort}
+use Rattle.mz_math.specs.Formula.{Variables}
+use Rattle.mz_math.specs.Pieces.{Pieces}
+use Rattle.mz_math.specs.Readable.{IsTable, AreVariables}
+use Rattle.mz_math.proofs.Lawful.{one-meaning}
+use Rattle.mz_grammar.specs.Reading.{OnFault}
+use Rattle.mz_grammar.specs.Statement.{TypeText, Head, definition_statement}
+use Rattle.mz_grammar.specs.declared.refusal.Halt.{Halt}
+use Rattle.mz_spec.specs.Code.{AreParts, EndsSmall, all_of, variable}
+use Rattle.mz_spec.specs.Formulas.{AreTokens, IsMeant, CoversFreeVariables, inner, string_checks, strings_checks, free_checks}
+use Rattle.mz_spec.specs.Kept.{IsSpelled}
+use Rattle.mz_spec.specs.Rules.{Every, body_rules}
+use Rattle.mz_spec.specs.State.{State, binder_of, dep_places, param_binders, dummy_binders, result_of, scope_of, reader_of, sort_number, variable_bytes}
+use Rattle.mz_spec.specs.View.{Variable, body, params_of, dummies_of}
+use Rattle.mz_spec.specs.declared.parts.Parts.{Parts}
+use Rattle.mz_spec.proofs.Loops.{mem-before}
+use Rattle.mz_spec.proofs.Naming.{body-small}
+use Rattle.mz_spec.proofs.Places.{all-places, get-back}
+use Rattle.mz_spec.proofs.Strung.{last-halt, all-strings}
+
+-- ---- its rules
+
+module _ (σ : State) (place : ℕ) (vs : List Variable) (l : Lexeme) (t : TypeText) (tokens : List (List Piece)) (are : AreTokens σ (body l t ∷ []) tokens) where
+  -- the string breaks a rule, or memory is wanting there
+  pub body-halt : (halt : Halt) → ((ps : List Piece) → Pieces σ.table.delimiters (inner l) ps → OnFault halt (FailsFirst (string_checks σ vs (body l t) ps)))
+      → OnFault halt (FailsFirst (body_rules σ place vs (body l t ∷ []) tokens))
+  body-halt halt fails =
+      mem-before (strings_checks σ vs (body l t ∷ []) tokens) (each_in_order (free_checks σ place vs) (body l t ∷ [])) halt
+      (last-halt σ vs [] (body l t) tokens halt are (λ before cut. tt) fails)
+
+  module _ (holds : (ps : List Piece) → Pieces σ.table.delimiters (inner l) ps → AllHold (string_checks σ vs (body l t) ps)) (e : Tree) (meant : IsMeant σ vs (body l t) e) where
+    strings-hold : AllHold (strings_checks σ vs (body l t ∷ []) tokens)
+    strings-hold = all-strings σ vs [] (body l t) tokens are (λ before cut. tt) holds
+
+    -- the result depends on each free variable
+    pub body-holds : CoversFreeVariables σ vs t e → AllHold (body_rules σ place vs (body l t ∷ []) tokens)
+    body-holds free =
+        all_hold-both (strings_checks σ vs (body l t ∷ []) tokens) (each_in_order (free_checks σ place vs) (body l t ∷ [])) strings-hold ((e, meant, free), tt)
+
+    -- or not
+    pub body-fails : IsTable σ.table → AreVariables (scope_of σ vs).names → (CoversFreeVariables σ vs t e → ⊥)
+        → FailsFirst (body_rules σ place vs (body l t ∷ []) tokens) (record { at = place; rule = rules.DefinitionDependencies })
+    body-fails table names out =
+        fails-after (strings_checks σ vs (body l t ∷ []) tokens) (each_in_order (free_checks σ place vs) (body l t ∷ [])) (record { at = place; rule = rules.DefinitionDependencies }) strings-hold
+        (inl ((λ q. out (subst (CoversFreeVariables σ vs t) (one-meaning (reader_of σ vs) (of_sort (sort_number σ t)) (inner l) table names q.0 e q.1 meant) q.2)), refl))
+
+-- ---- its scope
+
+module _ (σ : State) (vs : List Variable) where
+  abbrev ps : List Variable
+  ps = params_of vs
+
+  dep-within : (ds : List Lexeme) (x : ℕ) → Contains (dep_places 0 ps ds) x → x < length ps
+  dep-within ds x has = All-contains (λ j. j < length ps) (dep_places 0 ps ds) x (all-places (λ j. j < length ps) 0 ps ds (λ k v at is. let within = slice_get_within ps k v at in omega (arith, within))) has
+
+  -- what a variable depends on stands in the scope
+  pub deps-inside : DepsInside (scope_of σ vs).binders
+  deps-inside i b at x has =
+      let joined = map-append (binder_of σ ps) ps (dummies_of vs) in
+      let found = get-back (binder_of σ ps) (ps ++ dummies_of vs) i b (subst (λ bs. slice_get bs i ≡ Some b) (sym joined) at) in
+      let below = dep-within found.0.type.deps x (subst (λ c. Contains c.deps x) found.2 has) in
+      let long = length-append (param_binders σ vs) (dummy_binders σ vs) in
+      let same = length-map ps (binder_of σ ps) in
+      omega (arith, below, long, same)
+
+-- ---- what the code's scope and result say of free variables
+
+module _ (σ : State) (vs : List Variable) (t : TypeText) (e : Tree) (scope : Variables) (result : ResultType) (is_scope : scope ≡ scope_of σ vs) (is_result : result ≡ result_of σ vs t) where
+  abbrev pub Covers : Type 0
+  Covers = (x : ℕ) → InFV (signatures σ.env) scope.binders x e → Contains result.deps x
+
+  pub covers-all : Covers → CoversFreeVariables σ vs t e
+  covers-all all x free = subst (λ r. Contains r.deps x) is_result (all x (subst (λ s. InFV (signatures σ.env) s.binders x e) (sym is_scope) free))
+
+  pub all-covers : CoversFreeVariables σ vs t e → Covers
+  all-covers all x free = subst (λ r. Contains r.deps x) (sym is_result) (all x (subst (λ s. InFV (signatures σ.env) s.binders x e) is_scope free))
+
+-- ---- its names are those of the parts
+
+pub scope-names : (σ : State) (p : Parts) (vs : List Variable) (ts rs : List TypeText) → AreParts p vs ts rs
+    → AreVariables (map variable_bytes (map variable p.params.items) ++ map variable_bytes (map variable p.dummies.items)) → AreVariables (scope_of σ vs).names
+scope-names σ p vs ts rs parts names =
+    subst (λ xs. AreVariables (map variable_bytes (params_of vs) ++ map variable_bytes xs)) parts.dummies
+    (subst (λ xs. AreVariables (map variable_bytes xs ++ map variable_bytes (map variable p.dummies.items))) parts.params names)
+
+-- a body ends before 2 ^ 32
+pub bodies-small : (h : Head) (t : TypeText) (b : Option Lexeme) → IsSpelled (definition_statement h t b) → Every EndsSmall (all_of b)
+bodies-small h t None is = tt
+bodies-small h t (Some l) is = (body-small h t l is, tt)

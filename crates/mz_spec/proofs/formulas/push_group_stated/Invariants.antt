@@ -1,0 +1,8 @@
+use Rattle.std.proofs.Common.{◌≡◌, ◌++◌, map, drop}
+use Rattle.mz_grammar.specs.Code.{group}
+use Rattle.mz_spec.specs.Code.{stated}
+use Rattle.mz_spec.specs.View.{group_stated}
+use Rattle.mz_spec.proofs.formulas.push_group_stated.Given as goal
+
+abbrev pub invariant-loop-group : goal.invariant-loop-group
+invariant-loop-group l = map stated l.stated.items ++ group_stated (map group (drop l.group-index l.groups)) ≡ map stated l.initial.stated.items ++ group_stated (map group l.groups)

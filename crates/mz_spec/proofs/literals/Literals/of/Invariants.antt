@@ -1,0 +1,17 @@
+use Rattle.std.proofs.Common.{◌≡◌, ◌++◌, ◌∷◌, [], List, map, drop}
+use Rattle.mz_checks.proofs.InOrder.{Decides}
+use Rattle.mz_grammar.specs.Code.{literal}
+use Rattle.mz_grammar.specs.Statement.{LiteralText}
+use Rattle.mz_spec.specs.Forms.{AreLiterals}
+use Rattle.mz_spec.specs.Noting.{IsNumeral}
+use Rattle.mz_spec.specs.Rules.{Every}
+use Rattle.mz_spec.specs.View.{literal_levels}
+use Rattle.mz_spec.proofs.Spans.{levels_in}
+use Rattle.mz_spec.proofs.literals.Literals.of.Given as goal
+
+abbrev pub invariant-loop-literal : goal.invariant-loop-literal
+invariant-loop-literal l = record {
+  spans : (ls : List LiteralText) × AreLiterals l.all.text.items ls l.all.spans.items × (ls ++ map literal (drop l.literal-index l.literals) ≡ map literal l.literals);
+  numerals : Every IsNumeral (literal_levels (map literal (drop l.literal-index l.literals) ++ literal l.last ∷ []));
+  left : Decides (levels_in (map literal (drop l.literal-index l.literals) ++ literal l.last ∷ [])) (levels_in (map literal l.literals ++ literal l.last ∷ []));
+}

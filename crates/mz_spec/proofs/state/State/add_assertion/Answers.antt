@@ -1,0 +1,15 @@
+use Rattle.mz_grammar.specs.Code.{assertion}
+use Rattle.mz_logic.specs.DeclView.{assertion_of}
+use Rattle.mz_spec.specs.Entries.{state}
+use Rattle.mz_spec.specs.View.{view}
+use Rattle.mz_spec.proofs.Legal.{declared-legal}
+use Rattle.mz_spec.proofs.Tokens.{formulas-tokens}
+use Rattle.mz_spec.proofs.state.State.add_assertion.Goals as goal
+
+pub push-requires : goal.push-requires
+push-requires c = let t = formulas-tokens (state c.args.self.now) (view (assertion c.args.assertion.now)).formulas in (c.in_ok-decl.ensures.judged t.0 t.1).0
+
+pub push_decl-requires-clause-legal : goal.push_decl-requires-clause-legal
+push_decl-requires-clause-legal c =
+    let t = formulas-tokens (state c.args.self.now) (view (assertion c.args.assertion.now)).formulas in
+    declared-legal (state c.args.self.now) c.args.place c.requires.kept (assertion c.args.assertion.now) (assertion_of c.in_ok-decl.decl) t.0 c.requires.spelled (c.in_ok-decl.ensures.judged t.0 t.1) c.in_ok-decl.ensures.declares

@@ -1,0 +1,15 @@
+use Rattle.mz_grammar.specs.Code.{definition}
+use Rattle.mz_logic.specs.DeclView.{term_of}
+use Rattle.mz_spec.specs.Entries.{state}
+use Rattle.mz_spec.specs.View.{view}
+use Rattle.mz_spec.proofs.Legal.{declared-legal}
+use Rattle.mz_spec.proofs.Tokens.{formulas-tokens}
+use Rattle.mz_spec.proofs.state.State.add_definition.Goals as goal
+
+pub push_term-requires-clause-new : goal.push_term-requires-clause-new
+push_term-requires-clause-new c = let t = formulas-tokens (state c.args.self.now) (view (definition c.args.definition.now)).formulas in (c.in_ok-decl.ensures.judged t.0 t.1).0
+
+pub push_term-requires-clause-legal : goal.push_term-requires-clause-legal
+push_term-requires-clause-legal c =
+    let t = formulas-tokens (state c.args.self.now) (view (definition c.args.definition.now)).formulas in
+    declared-legal (state c.args.self.now) c.args.place c.requires.kept (definition c.args.definition.now) (term_of c.in_ok-decl.decl) t.0 c.requires.spelled (c.in_ok-decl.ensures.judged t.0 t.1) c.in_ok-decl.ensures.declares

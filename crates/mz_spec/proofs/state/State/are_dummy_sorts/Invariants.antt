@@ -1,0 +1,9 @@
+use Rattle.std.proofs.Common.{map, drop}
+use Rattle.std.specs.Prelude.{◌↔◌}
+use Rattle.mz_spec.specs.Code.{variable}
+use Rattle.mz_spec.specs.Entries.{state}
+use Rattle.mz_spec.specs.Rules.{Every, IsDummySort}
+use Rattle.mz_spec.proofs.state.State.are_dummy_sorts.Given as goal
+
+abbrev pub invariant-loop-dummy : goal.invariant-loop-dummy
+invariant-loop-dummy l = Every (IsDummySort (state l.self)) (map variable (drop l.dummy-index l.dummies)) ↔ Every (IsDummySort (state l.self)) (map variable l.dummies)

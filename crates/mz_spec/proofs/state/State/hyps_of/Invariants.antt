@@ -1,0 +1,21 @@
+use Rattle.std.proofs.Common.{◌≡◌, List, map, drop}
+use Rattle.mz_checks.proofs.InOrder.{Decides}
+use Rattle.mz_logic.specs.Tree.{Trees, followed_by}
+use Rattle.mz_math.specs.declared.pieces.Piece.{Piece}
+use Rattle.mz_spec.specs.Code.{EndsSmall, stated}
+use Rattle.mz_spec.specs.Entries.{state}
+use Rattle.mz_spec.specs.Formulas.{AreHyps, AreTokens, strings_checks}
+use Rattle.mz_spec.specs.Rules.{Every}
+use Rattle.mz_spec.specs.State.{scope_of}
+use Rattle.mz_spec.specs.View.{Variable, stated_claim}
+use Rattle.mz_spec.proofs.state.State.hyps_of.Given as goal
+
+abbrev pub invariant-loop-hyp : goal.invariant-loop-hyp
+invariant-loop-hyp l = record {
+  small : Every (λ h. EndsSmall h.math) (map stated (drop l.hyp-index l.stated));
+  judged : (vs : List Variable) → l.scope ≡ scope_of (state l.self) vs → (tokens : List (List Piece)) → AreTokens (state l.self) (map stated_claim (map stated l.stated)) tokens
+      → (rest : List (List Piece)) × AreTokens (state l.self) (map stated_claim (map stated (drop l.hyp-index l.stated))) rest
+      × Decides (strings_checks (state l.self) vs (map stated_claim (map stated (drop l.hyp-index l.stated))) rest) (strings_checks (state l.self) vs (map stated_claim (map stated l.stated)) tokens);
+  meant : (vs : List Variable) → l.scope ≡ scope_of (state l.self) vs → (rest : Trees) → AreHyps (state l.self) vs (map stated (drop l.hyp-index l.stated)) rest
+      → AreHyps (state l.self) vs (map stated l.stated) (followed_by l.hyps rest);
+}

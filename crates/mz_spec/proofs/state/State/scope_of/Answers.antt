@@ -1,0 +1,13 @@
+use Rattle.std.proofs.Common.{◌≡◌, ◌∙◌, ◌++◌, map, ap, sym, subst}
+use Rattle.mz_math.specs.Readable.{AreVariables}
+use Rattle.mz_spec.specs.Code.{variable}
+use Rattle.mz_spec.specs.State.{variable_bytes}
+use Rattle.mz_spec.proofs.Places.{front-variables}
+use Rattle.mz_spec.proofs.state.State.scope_of.Goals as goal
+
+pub push_variables-requires-clause-names : goal.push_variables-requires-clause-names
+push_variables-requires-clause-names c =
+    let names = map variable_bytes (map variable c.args.parts.now.params.items) in
+    let none = ap (λ x. x.names) c.new-scope.ensures in
+    let same : c.new-scope.result.names ++ map variable_bytes (map variable c.deref-2.result.now) ≡ names = ap (λ xs. xs ++ map variable_bytes (map variable c.deref-2.result.now)) none ∙ ap (λ xs. map variable_bytes (map variable xs)) c.deref-2.ensures.value in
+    subst AreVariables (sym same) (front-variables names _ c.requires.names)

@@ -1,0 +1,344 @@
+// Statements that declare something: sorts, terms, axioms and theorems, and definitions.
+ghost use Rattle.std.specs.Prelude.{◌≡◌, ◌+◌, ◌<◌, ◌^◌, ◌++◌, ◌∷◌, [], List, Some, IfErr, IfOk, IsTrue, OnOk, length, map, option_map};
+ghost use Rattle.mz_grammar.specs.Code.{assertion as assertion_lem, definition as definition_lem, head, lexeme, modifiers as modifiers_lem, source, term as term_lem, type_text};
+ghost use Rattle.mz_grammar.specs.Statement.{TypeText as TypeLem, sort_statement};
+ghost use Rattle.mz_lex.specs.Kinds.{is_name};
+ghost use Rattle.mz_logic.specs.DeclView.{assertion_of, form, is_axiom as is_axiom_lem, term_of};
+ghost use Rattle.mz_logic.specs.Legality.{IsLegalDecl};
+ghost use Rattle.mz_logic.specs.View.{tree};
+ghost use Rattle.mz_math.specs.Readable.{AreVariables};
+ghost use Rattle.mz_math.specs.declared.pieces.Piece.{Piece};
+ghost use Rattle.mz_spec.specs.Answers.{JudgesOrMem, JudgesStatement};
+ghost use Rattle.mz_spec.specs.Code.{AreParts, EndsSmall, all_of, variable};
+ghost use Rattle.mz_spec.specs.Declaring.{After, Declares, IsForm, is_axiom, sort_bits};
+ghost use Rattle.mz_spec.specs.Entries.{state};
+ghost use Rattle.mz_spec.specs.Kept.{IsKept, IsSpelled};
+ghost use Rattle.mz_spec.specs.Formulas.{AreHyps, AreTokens, IsMeant, math_of, strings_checks};
+ghost use Rattle.mz_spec.specs.Names.{IsNew};
+ghost use Rattle.mz_spec.specs.Rules.{Every, body_rules, parts_rules, variable_rules};
+ghost use Rattle.mz_spec.specs.State.{result_of, variable_bytes, with_term};
+ghost use Rattle.mz_spec.specs.View.{Variable as VariableLem, body, body_formulas, claim, stated_of, view};
+
+use crate::formulas::{push_group_stated, push_premise_stated};
+use crate::parts::{Parts, TypeAt};
+use crate::rules::{check_new, distinct_names};
+use crate::spec::Mark;
+use crate::state::State;
+use crate::variables::Variable;
+use mz_grammar::{
+    AssertKind, AssertText, DefinitionText, Fault, Halt, Lexeme, Modifiers, TermText,
+};
+use mz_lex::S;
+use mz_logic::{Decl, Expr, Exprs, ResultType, SortMods, TermDecl, TermForm, ThmDecl, ThmForm};
+use mz_math::Wanted;
+use std::alloc::Global;
+
+/// The modifiers as the logic has them.
+fn mods(modifiers: Modifiers) -> SortMods
+    ensures { result.0 ≡ sort_bits (modifiers_lem modifiers) }
+{
+    SortMods(
+        u8::from(modifiers.is_pure)
+            + 2 * u8::from(modifiers.is_strict)
+            + 4 * u8::from(modifiers.is_provable)
+            + 8 * u8::from(modifiers.is_free),
+    )
+}
+
+fn mark_of(name: Lexeme<'_>, place: u32) -> Mark
+    ensures { result ≡ record { from = name.entry.from; to = name.entry.to; place = place } }
+{
+    Mark {
+        from: name.from,
+        to: name.to,
+        place,
+    }
+}
+
+fn thm_form(kind: AssertKind) -> ThmForm
+    ensures { is_axiom_lem result ≡ is_axiom kind }
+{
+    match kind {
+        AssertKind::Axiom => ThmForm::Axiom,
+        AssertKind::Theorem => ThmForm::Theorem,
+    }
+}
+
+impl<'a> State<'a> {
+    /// Adds a sort.
+    pub fn add_sort(
+        &mut self,
+        place: u32,
+        modifiers: Modifiers,
+        name: Lexeme<'a>,
+    ) -> Result<(), Halt>
+        requires kept { IsKept (state self.old) }
+        requires few { length self.old.marks.items + 1 < 2 ^ 32 }
+        ensures judged { JudgesStatement result (state self.old) place (sort_statement (modifiers_lem modifiers) (lexeme name.entry)) }
+        ensures after { OnOk result (After (state self.old) place (sort_statement (modifiers_lem modifiers) (lexeme name.entry)) (state self.new)) }
+    {
+        check_new(&self.sort_names, name)?;
+        self.sort_names.push(name.bytes)?;
+        self.env.push_decl(Decl::Sort(mods(modifiers)))?;
+        self.marks.push(mark_of(name, place))?;
+        Ok(())
+    }
+
+    // ---- terms
+
+    /// Adds a term or a definition.
+    fn push_term(&mut self, place: u32, name: Lexeme<'a>, term: TermDecl) -> Result<(), Halt>
+        requires kept { IsKept (state self.old) }
+        requires few { length self.old.marks.items + 1 < 2 ^ 32 }
+        requires new { IsNew (state self.old).term_names name.bytes.now }
+        requires name { IsTrue (is_name name.bytes.now) }
+        requires legal { IsLegalDecl self.old.env (term_of term) }
+        ensures mem { IfErr result (λ halt. halt ≡ Halt.Mem) }
+        ensures with { OnOk result (state self.new ≡ with_term (state self.old) place (lexeme name.entry) (term_of term)) }
+    {
+        let number = self.term_names.len() as u32;
+        let Ok(()) = self.notations.add_term_name(&self.env, name.bytes, number) else {
+            return Err(Halt::Mem);
+        };
+        self.term_names.push(name.bytes)?;
+        self.env.push_decl(Decl::Term(term))?;
+        self.marks.push(mark_of(name, place))?;
+        Ok(())
+    }
+
+    /// The names, types and binders of a statement are right.
+    fn check_parts(&self, alloc: Global, place: u32, parts: &Parts<'_, 'a>) -> Result<(), Halt>
+        requires kept { IsKept (state self.now) }
+        ensures { (vs : List VariableLem) (types results : List TypeLem) → AreParts parts.now vs types results → JudgesOrMem result (parts_rules (state self.now) place vs types results) }
+    {
+        self.check_variables(alloc, &parts.variables, &parts.types)?;
+        self.check_binders(place, parts)?;
+        Ok(())
+    }
+
+    /// The names of variables are their own, and the names in types are known.
+    pub fn check_variables(
+        &self,
+        alloc: Global,
+        variables: &[Variable<'_, 'a>],
+        types: &[TypeAt<'_, 'a>],
+    ) -> Result<(), Halt>
+        ensures { JudgesOrMem result (variable_rules (state self.now) (map variable variables.now) (map (λ t. type_text t.ty.now) types.now)) }
+    {
+        let names = distinct_names(alloc, variables)?;
+        self.check_types(&names, types)?;
+        Ok(())
+    }
+
+    /// What a term declares.
+    fn term_of(&self, alloc: Global, place: u32, term: &TermText<'a>) -> Result<TermDecl, Halt>
+        requires kept { IsKept (state self.now) }
+        requires few { length self.now.marks.items + 1 < 2 ^ 32 }
+        requires spelled { IsSpelled (term_lem term.now) }
+        ensures judged { JudgesStatement result (state self.now) place (term_lem term.now) }
+        ensures declares { IfOk result (λ d. Declares (state self.now) (term_lem term.now) (term_of d)) }
+    {
+        check_new(&self.term_names, term.head.name)?;
+        let parts = Parts::of_term(alloc, term)?;
+        self.check_parts(alloc, place, &parts)?;
+        Ok(TermDecl {
+            params: self.binders_of(alloc, &parts.params, &parts.params)?,
+            result: self.result_of(alloc, &parts, &term.result)?,
+            form: TermForm::Plain,
+        })
+    }
+
+    /// Adds a term.
+    pub fn add_term(&mut self, alloc: Global, place: u32, term: &TermText<'a>) -> Result<(), Halt>
+        requires kept { IsKept (state self.old) }
+        requires few { length self.old.marks.items + 1 < 2 ^ 32 }
+        requires spelled { IsSpelled (term_lem term.now) }
+        ensures judged { JudgesStatement result (state self.old) place (term_lem term.now) }
+        ensures after { OnOk result (After (state self.old) place (term_lem term.now) (state self.new)) }
+    {
+        let decl = self.term_of(alloc, place, term)?;
+        self.push_term(place, term.head.name, decl)
+    }
+
+    // ---- definitions
+
+    /// The form of a definition, at a place, with these parts and this result: its dummies and its body,
+    /// where that is given.
+    fn form_of(
+        &self,
+        alloc: Global,
+        place: u32,
+        parts: &Parts<'_, 'a>,
+        result_type: &ResultType,
+        body: Option<Lexeme<'a>>,
+    ) -> Result<TermForm, Halt>
+        requires kept { IsKept (state self.now) }
+        requires few { length self.now.marks.items + 1 < 2 ^ 32 }
+        requires room { length parts.now.params.items + length parts.now.dummies.items < 2 ^ 32 }
+        requires names { AreVariables (map variable_bytes (map variable parts.now.params.items) ++ map variable_bytes (map variable parts.now.dummies.items)) }
+        requires small { Every EndsSmall (all_of (option_map lexeme body)) }
+        requires parts { (vs : List VariableLem) × (ts : List TypeLem) × (t : TypeLem) × AreParts parts.now vs ts (t ∷ []) }
+        ensures judged { (vs : List VariableLem) (ts : List TypeLem) (t : TypeLem) → AreParts parts.now vs ts (t ∷ []) → result_type.now ≡ result_of (state self.now) vs t
+            → (tokens : List (List Piece)) → AreTokens (state self.now) (body_formulas t (option_map lexeme body.entry)) tokens
+            → JudgesOrMem result (body_rules (state self.now) place vs (body_formulas t (option_map lexeme body.entry)) tokens) }
+        ensures form { IfOk result (λ f. (vs : List VariableLem) (ts : List TypeLem) (t : TypeLem) → AreParts parts.now vs ts (t ∷ []) → result_type.now ≡ result_of (state self.now) vs t
+            → IsForm (state self.now) vs t (option_map lexeme body.entry) (form f)) }
+    {
+        match body {
+            None => Ok(TermForm::Abstract),
+            Some(body) => self.body_of(alloc, place, parts, result_type, body),
+        }
+    }
+
+    /// The same with a body.
+    fn body_of(
+        &self,
+        alloc: Global,
+        place: u32,
+        parts: &Parts<'_, 'a>,
+        result_type: &ResultType,
+        math: Lexeme<'a>,
+    ) -> Result<TermForm, Halt>
+        requires kept { IsKept (state self.now) }
+        requires few { length self.now.marks.items + 1 < 2 ^ 32 }
+        requires room { length parts.now.params.items + length parts.now.dummies.items < 2 ^ 32 }
+        requires names { AreVariables (map variable_bytes (map variable parts.now.params.items) ++ map variable_bytes (map variable parts.now.dummies.items)) }
+        requires small { EndsSmall (lexeme math) }
+        requires parts { (vs : List VariableLem) × (ts : List TypeLem) × (t : TypeLem) × AreParts parts.now vs ts (t ∷ []) }
+        ensures judged { (vs : List VariableLem) (ts : List TypeLem) (t : TypeLem) → AreParts parts.now vs ts (t ∷ []) → result_type.now ≡ result_of (state self.now) vs t
+            → (tokens : List (List Piece)) → AreTokens (state self.now) (body (lexeme math.entry) t ∷ []) tokens
+            → JudgesOrMem result (body_rules (state self.now) place vs (body (lexeme math.entry) t ∷ []) tokens) }
+        ensures form { IfOk result (λ f. (vs : List VariableLem) (ts : List TypeLem) (t : TypeLem) → AreParts parts.now vs ts (t ∷ []) → result_type.now ≡ result_of (state self.now) vs t
+            → IsForm (state self.now) vs t (Some (lexeme math.entry)) (form f)) }
+    {
+        let scope = self.scope_of(alloc, parts)?;
+        let body = self.formula(alloc, &scope, math, Wanted::Sort(result_type.sort))?;
+        if !self.has_free_variables(&scope, &body, &result_type.deps) {
+            return Err(Halt::Fault(Fault {
+                at: place,
+                rule: S::DefinitionDependencies,
+            }));
+        }
+        let dummies = self.binders_of(alloc, &parts.params, &parts.dummies)?;
+        Ok(TermForm::Body { dummies, body })
+    }
+
+    /// What a definition declares.
+    fn definition_of(
+        &self,
+        alloc: Global,
+        place: u32,
+        definition: &DefinitionText<'a>,
+    ) -> Result<TermDecl, Halt>
+        requires kept { IsKept (state self.now) }
+        requires few { length self.now.marks.items + 1 < 2 ^ 32 }
+        requires spelled { IsSpelled (definition_lem definition.now) }
+        ensures judged { JudgesStatement result (state self.now) place (definition_lem definition.now) }
+        ensures declares { IfOk result (λ d. Declares (state self.now) (definition_lem definition.now) (term_of d)) }
+    {
+        check_new(&self.term_names, definition.head.name)?;
+        let parts = Parts::of_definition(alloc, definition)?;
+        self.check_parts(alloc, place, &parts)?;
+        let params = self.binders_of(alloc, &parts.params, &parts.params)?;
+        let result_type = self.result_of(alloc, &parts, &definition.result)?;
+        let form = self.form_of(alloc, place, &parts, &result_type, definition.body)?;
+        Ok(TermDecl {
+            params,
+            result: result_type,
+            form,
+        })
+    }
+
+    /// Adds a definition.
+    pub fn add_definition(
+        &mut self,
+        alloc: Global,
+        place: u32,
+        definition: &DefinitionText<'a>,
+    ) -> Result<(), Halt>
+        requires kept { IsKept (state self.old) }
+        requires few { length self.old.marks.items + 1 < 2 ^ 32 }
+        requires spelled { IsSpelled (definition_lem definition.now) }
+        ensures judged { JudgesStatement result (state self.old) place (definition_lem definition.now) }
+        ensures after { OnOk result (After (state self.old) place (definition_lem definition.now) (state self.new)) }
+    {
+        let decl = self.definition_of(alloc, place, definition)?;
+        self.push_term(place, definition.head.name, decl)
+    }
+
+    // ---- axioms and theorems
+
+    /// The hypotheses and the conclusion, with these parts.
+    fn claims_of(
+        &self,
+        alloc: Global,
+        parts: &Parts<'_, 'a>,
+        assertion: &AssertText<'a>,
+    ) -> Result<(Exprs, Expr), Halt>
+        requires kept { IsKept (state self.now) }
+        requires few { length self.now.marks.items + 1 < 2 ^ 32 }
+        requires room { length parts.now.params.items + length parts.now.dummies.items < 2 ^ 32 }
+        requires names { AreVariables (map variable_bytes (map variable parts.now.params.items) ++ map variable_bytes (map variable parts.now.dummies.items)) }
+        requires small { Every (λ f. EndsSmall (math_of f)) (view (assertion_lem assertion.now)).formulas }
+        ensures judged { AreParts parts.now (view (assertion_lem assertion.now)).variables (view (assertion_lem assertion.now)).types []
+            → (tokens : List (List Piece)) → AreTokens (state self.now) (view (assertion_lem assertion.now)).formulas tokens
+            → JudgesOrMem result (strings_checks (state self.now) (view (assertion_lem assertion.now)).variables (view (assertion_lem assertion.now)).formulas tokens) }
+        ensures claims { IfOk result (λ claims. AreParts parts.now (view (assertion_lem assertion.now)).variables (view (assertion_lem assertion.now)).types []
+            → AreHyps (state self.now) (view (assertion_lem assertion.now)).variables (stated_of (head assertion.now.head).groups (map source assertion.now.premises.items)) claims.0
+            × IsMeant (state self.now) (view (assertion_lem assertion.now)).variables (claim (lexeme assertion.now.conclusion)) (tree claims.1)) }
+    {
+        let scope = self.scope_of(alloc, parts)?;
+        let mut stated = Vec::new(alloc);
+        push_group_stated(&mut stated, &assertion.head.groups)?;
+        push_premise_stated(&mut stated, &assertion.premises)?;
+        let hyps = self.hyps_of(alloc, &scope, &stated)?;
+        let conclusion = self.formula(alloc, &scope, assertion.conclusion, Wanted::Provable)?;
+        Ok((hyps, conclusion))
+    }
+
+    /// What an axiom or a theorem declares.
+    fn assertion_of(
+        &self,
+        alloc: Global,
+        place: u32,
+        assertion: &AssertText<'a>,
+    ) -> Result<ThmDecl, Halt>
+        requires kept { IsKept (state self.now) }
+        requires few { length self.now.marks.items + 1 < 2 ^ 32 }
+        requires spelled { IsSpelled (assertion_lem assertion.now) }
+        ensures judged { JudgesStatement result (state self.now) place (assertion_lem assertion.now) }
+        ensures declares { IfOk result (λ d. Declares (state self.now) (assertion_lem assertion.now) (assertion_of d)) }
+    {
+        check_new(&self.assertion_names, assertion.head.name)?;
+        let parts = Parts::of_assertion(alloc, assertion)?;
+        self.check_parts(alloc, place, &parts)?;
+        let (hyps, conclusion) = self.claims_of(alloc, &parts, assertion)?;
+        let params = self.binders_of(alloc, &parts.params, &parts.params)?;
+        Ok(ThmDecl {
+            form: thm_form(assertion.kind),
+            params,
+            hyps,
+            conclusion,
+        })
+    }
+
+    /// Adds an axiom or a theorem.
+    pub fn add_assertion(
+        &mut self,
+        alloc: Global,
+        place: u32,
+        assertion: &AssertText<'a>,
+    ) -> Result<(), Halt>
+        requires kept { IsKept (state self.old) }
+        requires few { length self.old.marks.items + 1 < 2 ^ 32 }
+        requires spelled { IsSpelled (assertion_lem assertion.now) }
+        ensures judged { JudgesStatement result (state self.old) place (assertion_lem assertion.now) }
+        ensures after { OnOk result (After (state self.old) place (assertion_lem assertion.now) (state self.new)) }
+    {
+        let decl = self.assertion_of(alloc, place, assertion)?;
+        self.assertion_names.push(assertion.head.name.bytes)?;
+        self.env.push_decl(Decl::Thm(decl))?;
+        self.marks.push(mark_of(assertion.head.name, place))?;
+        Ok(())
+    }
+}

@@ -1,0 +1,195 @@
+// The formulas of a statement.
+ghost use Rattle.std.specs.Prelude.{◌≡◌, ◌↔◌, ◌+◌, ◌<◌, ◌^◌, ◌++◌, ℕ, List, IfOk, IsTrue, OnOk, Contains, length, map};
+ghost use Rattle.mz_checks.specs.Checks.{retold};
+ghost use Rattle.mz_grammar.specs.Code.{group as group_lem, lexeme, source as source_lem};
+ghost use Rattle.mz_lex.specs.Kinds.{inside_of};
+ghost use Rattle.mz_logic.specs.Declaration.{signatures};
+ghost use Rattle.mz_logic.specs.Legality.{Each};
+ghost use Rattle.mz_logic.specs.Sorts.{HasSort};
+ghost use Rattle.mz_logic.specs.Tree.{Tree, followed_by};
+ghost use Rattle.mz_logic.specs.Variables.{InFV};
+ghost use Rattle.mz_logic.specs.View.{tree};
+ghost use Rattle.mz_math.specs.Formula.{IsFormula, formula_checks};
+ghost use Rattle.mz_math.specs.Pieces.{Pieces};
+ghost use Rattle.mz_math.specs.declared.formula.Wanted.TheVariants.{Provable as provable};
+ghost use Rattle.mz_math.specs.declared.pieces.Piece.{Piece};
+ghost use Rattle.mz_spec.specs.Answers.{JudgesOrMem};
+ghost use Rattle.mz_spec.specs.Code.{EndsSmall, stated as stated_lem};
+ghost use Rattle.mz_spec.specs.Entries.{state};
+ghost use Rattle.mz_spec.specs.Formulas.{AreHyps, AreTokens, copies, inner as inner_lem, place_of, strings_checks, told as told_lem};
+ghost use Rattle.mz_spec.specs.Rules.{Every};
+ghost use Rattle.mz_spec.specs.State.{scope_of};
+ghost use Rattle.mz_spec.specs.View.{Variable, group_stated, premise_stated, stated_claim};
+
+use crate::state::State;
+use mz_grammar::{Fault, Group, Halt, Lexeme, Source};
+use mz_lex::S;
+use mz_logic::{Deps, Expr, Exprs, copy_of, has_place, in_free_vars};
+use mz_math::{Parsed, Scope, Wanted, parse_formula};
+use std::alloc::{AllocError, Global};
+
+/// A formula of an axiom or a theorem, with the number of hypotheses that it makes.
+#[derive(Clone, Copy)]
+pub struct Stated<'a> {
+    pub math: Lexeme<'a>,
+    pub times: usize,
+}
+
+/// Adds the formulas of groups, each of which is a hypothesis for each name.
+pub fn push_group_stated<'a>(
+    stated: &mut Vec<Stated<'a>>,
+    groups: &[Group<'a>],
+) -> Result<(), AllocError>
+    ensures { OnOk result (map stated_lem stated.new.items ≡ map stated_lem stated.old.items ++ group_stated (map group_lem groups.now)) }
+{
+    for group in groups {
+        if let Source::Formula(math) = &group.source {
+            stated.push(Stated {
+                math: *math,
+                times: group.names.len(),
+            })?;
+        }
+    }
+    Ok(())
+}
+
+/// Adds the formulas before a `>`.
+pub fn push_premise_stated<'a>(
+    stated: &mut Vec<Stated<'a>>,
+    premises: &[Source<'a>],
+) -> Result<(), AllocError>
+    ensures { OnOk result (map stated_lem stated.new.items ≡ map stated_lem stated.old.items ++ premise_stated (map source_lem premises.now)) }
+{
+    for premise in premises {
+        if let Source::Formula(math) = premise {
+            stated.push(Stated {
+                math: *math,
+                times: 1,
+            })?;
+        }
+    }
+    Ok(())
+}
+
+/// What stands between the two `$` of a math string.
+pub fn inner<'a>(math: Lexeme<'a>) -> &'a [u8]
+    ensures { result.now ≡ inner_lem (lexeme math.entry) }
+{
+    let bytes = math.bytes;
+    if bytes.len() < 2 {
+        return &[];
+    }
+    &bytes[1..bytes.len() - 1]
+}
+
+/// An unknown token is told where it stands, the other rules at the `$`.
+fn place_in(math: Lexeme<'_>, at: u32, rule: S) -> u32
+    requires { math.from + 1 + at < 2 ^ 32 }
+    ensures { result ≡ place_of (lexeme math.entry) rule at }
+{
+    match rule {
+        S::MathToken => math.from + 1 + at,
+        _ => math.from,
+    }
+}
+
+/// Adds so many copies of an expression.
+fn push_copies(
+    alloc: Global,
+    exprs: &mut Exprs,
+    expr: &Expr,
+    times: usize,
+) -> Result<(), AllocError>
+    ensures { OnOk result (exprs.new ≡ followed_by exprs.old (copies times (tree expr.now))) }
+{
+    for _ in 0..times {
+        exprs.push(copy_of(alloc, expr)?)?;
+    }
+    Ok(())
+}
+
+impl<'a> State<'a> {
+    /// What a math string stands for.
+    pub fn formula(
+        &self,
+        alloc: Global,
+        scope: &Scope,
+        math: Lexeme<'a>,
+        wanted: Wanted,
+    ) -> Result<Expr, Halt>
+        requires small { EndsSmall (lexeme math) }
+        ensures judged { (ps : List Piece) → Pieces self.now.notations.delimiters (inner_lem (lexeme math.entry)) ps
+            → JudgesOrMem result (retold (told_lem (lexeme math.entry)) (formula_checks (record { env = self.now.env; table = self.now.notations; scope = scope.now }) wanted (inner_lem (lexeme math.entry)) ps)) }
+        ensures meant { IfOk result (λ e. IsFormula (record { env = self.now.env; table = self.now.notations; scope = scope.now }) wanted (inner_lem (lexeme math.entry)) (tree e)) }
+    {
+        match parse_formula(
+            alloc,
+            &self.notations,
+            &self.env,
+            scope,
+            inner(math),
+            wanted,
+        ) {
+            Parsed::Tree(expr) => Ok(expr),
+            Parsed::Refused { at, rule } => Err(Halt::Fault(Fault {
+                at: place_in(math, at, rule),
+                rule,
+            })),
+            Parsed::Mem => Err(Halt::Mem),
+        }
+    }
+
+    /// Adds the hypotheses that a formula makes.
+    fn push_hyp(
+        &self,
+        alloc: Global,
+        scope: &Scope,
+        hyps: &mut Exprs,
+        hyp: &Stated<'a>,
+    ) -> Result<(), Halt>
+        requires small { EndsSmall (stated_lem hyp.now).math }
+        ensures judged { (ps : List Piece) → Pieces self.now.notations.delimiters (inner_lem (stated_lem hyp.now).math) ps
+            → JudgesOrMem result (retold (told_lem (stated_lem hyp.now).math) (formula_checks (record { env = self.now.env; table = self.now.notations; scope = scope.now }) provable (inner_lem (stated_lem hyp.now).math) ps)) }
+        ensures meant { OnOk result ((e : Tree) × IsFormula (record { env = self.now.env; table = self.now.notations; scope = scope.now }) provable (inner_lem (stated_lem hyp.now).math) e
+            × (hyps.new ≡ followed_by hyps.old (copies (stated_lem hyp.now).times e))) }
+    {
+        let expr = self.formula(alloc, scope, hyp.math, Wanted::Provable)?;
+        push_copies(alloc, hyps, &expr, hyp.times)?;
+        Ok(())
+    }
+
+    /// The hypotheses that formulas make.
+    pub fn hyps_of(
+        &self,
+        alloc: Global,
+        scope: &Scope,
+        stated: &[Stated<'a>],
+    ) -> Result<Exprs, Halt>
+        requires small { Every (λ h. EndsSmall h.math) (map stated_lem stated.now) }
+        ensures judged { (vs : List Variable) → scope.now ≡ scope_of (state self.now) vs
+            → (tokens : List (List Piece)) → AreTokens (state self.now) (map stated_claim (map stated_lem stated.now)) tokens
+            → JudgesOrMem result (strings_checks (state self.now) vs (map stated_claim (map stated_lem stated.now)) tokens) }
+        ensures meant { IfOk result (λ hyps. (vs : List Variable) → scope.now ≡ scope_of (state self.now) vs → AreHyps (state self.now) vs (map stated_lem stated.now) hyps) }
+    {
+        let mut hyps = Exprs::new(alloc);
+        for hyp in stated {
+            self.push_hyp(alloc, scope, &mut hyps, hyp)?;
+        }
+        Ok(hyps)
+    }
+
+    /// Whether the result depends on each free variable of the body.
+    pub fn has_free_variables(&self, scope: &Scope, body: &Expr, deps: &Deps) -> bool
+        requires sorted { (s : ℕ) × HasSort (signatures self.now.env) scope.now.binders (tree body.now) s }
+        requires small { length scope.now.binders < 2 ^ 32 }
+        requires scoped { Each scope.now.binders (λ _ b. (x : ℕ) → Contains b.deps x → x < length scope.now.binders) }
+        ensures { IsTrue result ↔ ((x : ℕ) → InFV (signatures self.now.env) scope.now.binders x (tree body.now) → Contains deps.now x) }
+    {
+        for x in 0..scope.binders().len() {
+            if in_free_vars(&self.env, scope.binders(), body, x as u32) && !has_place(deps, x) {
+                return false;
+            }
+        }
+        true
+    }
+}

@@ -1,0 +1,98 @@
+// The literals of a general notation.
+ghost use Rattle.std.specs.Prelude.{◌≡◌, ◌++◌, ◌∷◌, [], List, ℕ, IfErr, IfOk, OnOk, length, map, ◌+◌};
+ghost use Rattle.mz_checks.specs.Checks.{each_in_order};
+ghost use Rattle.mz_grammar.specs.Code.{literal as literal_lem};
+ghost use Rattle.mz_grammar.specs.Statement.{LiteralText as LiteralLem};
+ghost use Rattle.mz_spec.specs.Answers.{JudgesOrMem};
+ghost use Rattle.mz_spec.specs.Forms.{AreLiterals, IsLiteral};
+ghost use Rattle.mz_spec.specs.Noting.{IsNumeral};
+ghost use Rattle.mz_spec.specs.Rules.{Every, is_level};
+ghost use Rattle.mz_spec.specs.View.{literal_levels};
+
+use crate::formulas::inner;
+use crate::levels::level_of;
+use mz_grammar::{Halt, LiteralText};
+use mz_math::Literal;
+use std::alloc::Global;
+
+/// Literals as spans of a text, which holds a copy of each.
+#[derive(Drop)]
+pub struct Literals {
+    pub text: Vec<u8>,
+    pub spans: Vec<Literal>,
+}
+
+impl Literals {
+    /// The literals, the last one apart.
+    ///
+    /// # Errors
+    ///
+    /// At the first level that is past the highest one; or where there is no memory.
+    pub fn of(
+        alloc: Global,
+        literals: &[LiteralText<'_>],
+        last: LiteralText<'_>,
+    ) -> Result<Literals, Halt>
+        requires { Every IsNumeral (literal_levels (map literal_lem literals.now ++ literal_lem last ∷ [])) }
+        ensures judged { JudgesOrMem result (each_in_order is_level (literal_levels (map literal_lem literals.now ++ literal_lem last.entry ∷ []))) }
+        ensures literals { IfOk result (λ ls. AreLiterals ls.text.items (map literal_lem literals.now ++ literal_lem last.entry ∷ []) ls.spans.items) }
+    {
+        let mut all = Literals {
+            text: Vec::new(alloc),
+            spans: Vec::new(alloc),
+        };
+        for literal in literals {
+            all.push(*literal)?;
+        }
+        all.push(last)?;
+        Ok(all)
+    }
+
+    /// Adds a literal.
+    fn push(&mut self, literal: LiteralText<'_>) -> Result<(), Halt>
+        requires { Every IsNumeral (literal_levels (literal_lem literal ∷ [])) }
+        ensures judged { JudgesOrMem result (each_in_order is_level (literal_levels (literal_lem literal.entry ∷ []))) }
+        ensures literals { OnOk result ((ls : List LiteralLem) → AreLiterals self.old.text.items ls self.old.spans.items → AreLiterals self.new.text.items (ls ++ literal_lem literal.entry ∷ []) self.new.spans.items) }
+    {
+        let span = span_of(&mut self.text, literal)?;
+        self.spans.push(span)?;
+        Ok(())
+    }
+}
+
+/// A literal as a span of the text, to whose end it is added.
+fn span_of(text: &mut Vec<u8>, literal: LiteralText<'_>) -> Result<Literal, Halt>
+    requires { Every IsNumeral (literal_levels (literal_lem literal ∷ [])) }
+    ensures judged { JudgesOrMem result (each_in_order is_level (literal_levels (literal_lem literal.entry ∷ []))) }
+    ensures span { IfOk result (λ k. IsLiteral text.new.items (literal_lem literal.entry) k) }
+    ensures text { OnOk result ((more : List ℕ) × (text.new.items ≡ text.old.items ++ more)) }
+{
+    match literal {
+        LiteralText::Constant(constant, level) => {
+            let level = level_of(level)?;
+            let (from, to) = push_bytes(text, inner(constant))?;
+            Ok(Literal::Constant { from, to, level })
+        }
+        LiteralText::Name(name) => {
+            let (from, to) = push_bytes(text, name.bytes)?;
+            Ok(Literal::Name { from, to })
+        }
+    }
+}
+
+/// Adds bytes to a text, and says where they stand. A text that has no places left for them counts as
+/// want of memory.
+fn push_bytes(text: &mut Vec<u8>, bytes: &[u8]) -> Result<(u32, u32), Halt>
+    ensures mem { IfErr result (λ halt. halt ≡ Halt.Mem) }
+    ensures text { OnOk result (text.new.items ≡ text.old.items ++ bytes.now) }
+    ensures span { IfOk result (λ span. (span.0 ≡ length text.old.items) × (span.1 ≡ length text.old.items + length bytes.now)) }
+{
+    let Ok(from) = u32::try_from(text.len()) else {
+        return Err(Halt::Mem);
+    };
+    text.extend_from_slice(bytes)?;
+    let Ok(to) = u32::try_from(text.len()) else {
+        return Err(Halt::Mem);
+    };
+    Ok((from, to))
+}

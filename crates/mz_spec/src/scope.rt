@@ -1,0 +1,139 @@
+// The variables of a statement over what is declared.
+ghost use Rattle.std.specs.Prelude.{◌≡◌, ◌+◌, ◌<◌, ◌^◌, ◌++◌, List, IfOk, OnOk, length, map, option_map};
+ghost use Rattle.mz_grammar.specs.Code.{lexeme, type_text};
+ghost use Rattle.mz_grammar.specs.Statement.{TypeText as TypeLem};
+ghost use Rattle.mz_math.specs.Readable.{AreVariables};
+ghost use Rattle.mz_spec.specs.Code.{AreParts, variable as variable_lem};
+ghost use Rattle.mz_spec.specs.Entries.{state};
+ghost use Rattle.mz_spec.specs.State.{binder_of as binder_of_lem, bytes_of as bytes_of_lem, result_of, scope_of as scope_of_lem, sort_number as sort_number_lem, term_number as term_number_lem, variable_bytes};
+ghost use Rattle.mz_spec.specs.View.{Variable as VariableLem, alone};
+
+use crate::parts::Parts;
+use crate::state::State;
+use crate::variables::{Variable, dep_places};
+use mz_grammar::{Lexeme, TypeText};
+use mz_logic::{Binder, Binders, ResultType};
+use mz_math::Scope;
+use std::alloc::{AllocError, Global};
+
+impl<'a> State<'a> {
+    /// The number of the sort of this name; 0 where there is none.
+    pub fn sort_number(&self, name: Lexeme<'a>) -> u32
+        requires few { length (state self.now).sort_names < 2 ^ 32 }
+        ensures { result ≡ sort_number_lem (state self.now) (alone (lexeme name.entry)) }
+    {
+        match self.sort_names.number_of(name.bytes) {
+            Some(number) => number as u32,
+            None => 0,
+        }
+    }
+
+    /// The number of the term of this name; 0 where there is none.
+    pub fn term_number(&self, name: Lexeme<'a>) -> u32
+        requires few { length (state self.now).term_names < 2 ^ 32 }
+        ensures { result ≡ term_number_lem (state self.now) (lexeme name.entry) }
+    {
+        match self.term_names.number_of(name.bytes) {
+            Some(number) => number as u32,
+            None => 0,
+        }
+    }
+
+    /// The binder of a variable, over these parameters.
+    fn binder_of(
+        &self,
+        alloc: Global,
+        params: &[Variable<'_, 'a>],
+        variable: &Variable<'_, 'a>,
+    ) -> Result<Binder, AllocError>
+        requires few { length (state self.now).sort_names < 2 ^ 32 }
+        requires small { length params.now < 2 ^ 32 }
+        ensures { IfOk result (λ binder. binder ≡ binder_of_lem (state self.now) (map variable_lem params.now) (variable_lem variable.now)) }
+    {
+        Ok(Binder {
+            sort: self.sort_number(variable.ty.sort),
+            bound: variable.is_bound,
+            deps: dep_places(alloc, params, &variable.ty.deps)?,
+        })
+    }
+
+    /// The binders of variables, over these parameters.
+    pub fn binders_of(
+        &self,
+        alloc: Global,
+        params: &[Variable<'_, 'a>],
+        variables: &[Variable<'_, 'a>],
+    ) -> Result<Binders, AllocError>
+        requires few { length (state self.now).sort_names < 2 ^ 32 }
+        requires small { length params.now < 2 ^ 32 }
+        ensures { IfOk result (λ binders. binders ≡ map (binder_of_lem (state self.now) (map variable_lem params.now)) (map variable_lem variables.now)) }
+    {
+        let mut binders = Binders::new(alloc);
+        for variable in variables {
+            binders.push(self.binder_of(alloc, params, variable)?)?;
+        }
+        Ok(binders)
+    }
+
+    /// The result of this type, over the statement's parameters.
+    pub fn result_of(
+        &self,
+        alloc: Global,
+        parts: &Parts<'_, 'a>,
+        ty: &TypeText<'a>,
+    ) -> Result<ResultType, AllocError>
+        requires few { length (state self.now).sort_names < 2 ^ 32 }
+        requires small { length parts.now.params.items < 2 ^ 32 }
+        ensures { IfOk result (λ r. (vs : List VariableLem) (types results : List TypeLem) → AreParts parts.now vs types results → r ≡ result_of (state self.now) vs (type_text ty.now)) }
+    {
+        Ok(ResultType {
+            sort: self.sort_number(ty.sort),
+            deps: dep_places(alloc, &parts.params, &ty.deps)?,
+        })
+    }
+
+    /// Adds variables, with their binders over these parameters, to a scope.
+    fn push_variables(
+        &self,
+        alloc: Global,
+        scope: &mut Scope,
+        params: &[Variable<'_, 'a>],
+        variables: &[Variable<'_, 'a>],
+    ) -> Result<(), AllocError>
+        requires few { length (state self.now).sort_names < 2 ^ 32 }
+        requires small { length params.now < 2 ^ 32 }
+        requires room { length scope.old.names + length variables.now < 2 ^ 32 }
+        requires names { AreVariables (scope.old.names ++ map variable_bytes (map variable_lem variables.now)) }
+        ensures names { OnOk result (scope.new.names ≡ scope.old.names ++ map variable_bytes (map variable_lem variables.now)) }
+        ensures binders { OnOk result (scope.new.binders ≡ scope.old.binders ++ map (binder_of_lem (state self.now) (map variable_lem params.now)) (map variable_lem variables.now)) }
+    {
+        for variable in variables {
+            let binder = self.binder_of(alloc, params, variable)?;
+            scope.push(bytes_of(variable.name), binder)?;
+        }
+        Ok(())
+    }
+
+    /// What the statement's math strings see of its variables: parameters first, then dummies.
+    pub fn scope_of(&self, alloc: Global, parts: &Parts<'_, 'a>) -> Result<Scope, AllocError>
+        requires few { length (state self.now).sort_names < 2 ^ 32 }
+        requires room { length parts.now.params.items + length parts.now.dummies.items < 2 ^ 32 }
+        requires names { AreVariables (map variable_bytes (map variable_lem parts.now.params.items) ++ map variable_bytes (map variable_lem parts.now.dummies.items)) }
+        ensures { IfOk result (λ scope. (vs : List VariableLem) (types results : List TypeLem) → AreParts parts.now vs types results → scope ≡ scope_of_lem (state self.now) vs) }
+    {
+        let mut scope = Scope::new(alloc);
+        self.push_variables(alloc, &mut scope, &parts.params, &parts.params)?;
+        self.push_variables(alloc, &mut scope, &parts.params, &parts.dummies)?;
+        Ok(scope)
+    }
+}
+
+/// The bytes of a name, none where there is none.
+fn bytes_of<'a>(name: Option<Lexeme<'a>>) -> &'a [u8]
+    ensures { result.now ≡ bytes_of_lem (option_map lexeme name.entry) }
+{
+    match name {
+        Some(name) => name.bytes,
+        None => &[],
+    }
+}
