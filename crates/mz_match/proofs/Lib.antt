@@ -12,4 +12,5 @@ pub mod RowPairs
 pub mod Spelled
 pub mod OneVerdict
 pub mod Pairing
+mod ProvingTheorems
 pub mod SomeVerdict

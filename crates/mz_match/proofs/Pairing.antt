@@ -31,6 +31,7 @@ use Rattle.mz_match.specs.declared.verdict.Verdict.TheVariants as verdicts
 use Rattle.mz_match.specs.Match.{partner_of, publics_after, publics, term_row_of, term_rows, Agrees, Leaves, partner_checks}
 use Rattle.mz_match.specs.Told.{IsTold, IsMatched}
 use Rattle.mz_match.specs.Verdict.{IsDifference, Ticks, counts_of, IsSoundIfAccepted, IsVerdict}
+use Rattle.mz_match.proofs.ProvingTheorems.{theorems-proved}
 use Rattle.mz_match.proofs.Lists.{append-nil, publics-append, publics-local, publics-public, term_rows-append, drop-further, drop-past, kinds-total, length-declarations, length-env, leaves-nothing, leaves-local, leaves-public, partner-there}
 
 abbrev assertion_code : Bool → ℕ
@@ -223,6 +224,7 @@ sound spec bin (verdicts.Accepted counts) (a, is) = record {
   statements = a.statements;
   is_spec = a.is_spec;
   spelled = good-spelled bin a.statements a.is_good;
+  theorems = theorems-proved a.declared a.statements (good-legal bin a.statements a.is_good) a.agrees;
   legal = good-legal bin a.statements a.is_good;
   closed = legal_list_is_closed any_derivation a.statements (good-legal bin a.statements a.is_good);
   agrees = a.agrees;

@@ -5,6 +5,7 @@ pub mod Beside
 pub mod RowWords
 pub mod TellsRow
 pub mod Match
+pub mod Proved
 pub mod Lines
 pub mod Verdict
 pub mod Told

@@ -20,6 +20,7 @@ use Rattle.mz_match.specs.declared.verdict.Verdict.TheVariants as verdicts
 use Rattle.mz_binary.specs.RefusalLine.{refusal_line}
 use Rattle.mz_match.specs.Lines.{accepted_line, spec_line, match_line}
 use Rattle.mz_match.specs.Match.{partner_of, publics, kind_of, is_kind, Agrees, Leaves, partner_checks, end_checks}
+use Rattle.mz_match.specs.Proved.{TheoremsAreProved}
 
 -- ---- accepted
 
@@ -49,13 +50,14 @@ pub record Accepts (spec bin : List ℕ) : Type 0 where
 abbrev pub AcceptsWith : List ℕ → List ℕ → Counts → Type 0
 AcceptsWith spec bin counts = (accepts : Accepts spec bin) × (counts ≡ counts_of accepts.declared)
 
--- The binary's statements are a legal list, and each theorem has a closed derivation, whose only citations are of axioms
--- before it; the public ones agree with what the specification declares.
+-- The specification and the binary's statements agree, and every theorem of the specification is proved. All of the
+-- binary's statements are a legal list too, and each of its theorems has a closed derivation.
 pub record IsSound (spec bin : List ℕ) : Type 0 where
   pub declared : List Declaration
   pub statements : List Statement
   pub is_spec : SpecOf spec declared
   pub spelled : Statements bin statements
+  pub theorems : TheoremsAreProved declared statements
   pub legal : Legal statements
   pub closed : TheoremsClosed statements
   pub agrees : Agrees declared (publics statements)
