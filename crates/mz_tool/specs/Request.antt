@@ -48,3 +48,8 @@ HasLonger limit file names = Any (λ name. IsLonger limit (file name)) names
 -- one of the files is there, and longer than any that is read
 abbrev pub HasLong : Files → List (List ℕ) → Type 0
 HasLong file names = HasLonger longest file names
+
+-- the first of the files is there, and longer than the limit
+abbrev pub BeginsLonger : ℕ → Files → List (List ℕ) → Type 0
+BeginsLonger limit file [] = ⊥
+BeginsLonger limit file (name ∷ names) = IsLonger limit (file name)

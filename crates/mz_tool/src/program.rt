@@ -1,7 +1,7 @@
 // The program, over any folder and sink.
 ghost use Rattle.std.specs.Prelude.{◌≡◌, ◌≤◌, ◌<◌, ◌^◌, ◌++◌, ◌⊎◌, ℕ, List, length, map, string_bytes};
 ghost use Rattle.mz_io.specs.Outside.{Rose, SameFiles, AppendsPrefix};
-ghost use Rattle.mz_tool.specs.Request.{Request, Asks, names_read, AreReadable, AreThere, HasLong, HasLonger};
+ghost use Rattle.mz_tool.specs.Request.{Request, Asks, names_read, AreReadable, AreThere, BeginsLonger, HasLong, HasLonger, longest};
 ghost use Rattle.mz_tool.specs.Run.{IsYes, IsNo, IsAnswer, IsListedFor, IsProved, IsQuiet, IsShow};
 ghost use Rattle.mz_tool.specs.Asked.{request};
 
@@ -62,8 +62,11 @@ pub fn run<F: Folder, O: Sink>(
     ensures files { F.told → SameFiles (F.file folder.old) (F.file folder.new) }
     ensures put_faults { F.put_faults folder.new ≡ F.put_faults folder.old }
 
-    // Where no coming call is listed to fail, only a missing file and a full sink are faults.
+    // Where no coming call is listed to fail, only a missing file and a full sink are faults; after a file that is too
+    // long none is looked for.
     ensures only_missing { F.is_clear folder.old → ((asked : Request) → Asks (map string_bytes words.now) asked → AreThere (F.file folder.old) (names_read asked))
+        → F.faults folder.new ≡ F.faults folder.old }
+    ensures unread { F.told → F.is_clear folder.old → ((asked : Request) → Asks (map string_bytes words.now) asked → BeginsLonger longest (F.file folder.old) (names_read asked))
         → F.faults folder.new ≡ F.faults folder.old }
     ensures only_full { F.told → O.is_clear out.old → ((asked : Request) (text : List ℕ) → Asks (map string_bytes words.now) asked → IsAnswer (F.file folder.old) asked text
         → length text ≤ O.room out.old) → O.faults out.new ≡ O.faults out.old }
@@ -102,6 +105,7 @@ pub fn answer<F: Folder, O: Sink>(
     ensures files { F.told → SameFiles (F.file folder.old) (F.file folder.new) }
     ensures put_faults { F.put_faults folder.new ≡ F.put_faults folder.old }
     ensures only_missing { F.is_clear folder.old → AreThere (F.file folder.old) (names_read (request command.entry)) → F.faults folder.new ≡ F.faults folder.old }
+    ensures unread { F.told → F.is_clear folder.old → BeginsLonger limit (F.file folder.old) (names_read (request command.entry)) → F.faults folder.new ≡ F.faults folder.old }
     ensures only_full { F.told → O.is_clear out.old → ((text : List ℕ) → IsAnswer (F.file folder.old) (request command.entry) text → length text ≤ O.room out.old)
         → O.faults out.new ≡ O.faults out.old }
 {

@@ -2,7 +2,7 @@
 ghost use Rattle.std.specs.Prelude.{◌≡◌, ◌≤◌, ◌<◌, ◌++◌, ◌⊎◌, ◌^◌, ℕ, List, length, IfOk};
 ghost use Rattle.mz_io.specs.Outside.{Rose, SameFiles, AppendsPrefix};
 ghost use Rattle.mz_binary.specs.RefusalLine.{refusal_line as refusal_text};
-ghost use Rattle.mz_tool.specs.Request.{show as show_file, AreThere, HasLonger, names_read};
+ghost use Rattle.mz_tool.specs.Request.{show as show_file, AreThere, BeginsLonger, HasLonger, names_read};
 ghost use Rattle.mz_tool.specs.Run.{IsYes, IsNo, IsAnswer, IsListedFor, IsProved, IsQuiet};
 ghost use Rattle.mz_tool.specs.Reported.{IsReported};
 
@@ -40,6 +40,7 @@ pub fn show<F: Folder, O: Sink>(
     ensures files { F.told → SameFiles (F.file folder.old) (F.file folder.new) }
     ensures put_faults { F.put_faults folder.new ≡ F.put_faults folder.old }
     ensures only_missing { F.is_clear folder.old → AreThere (F.file folder.old) (names_read (show_file bin_name.now)) → F.faults folder.new ≡ F.faults folder.old }
+    ensures unread { F.told → F.is_clear folder.old → BeginsLonger limit (F.file folder.old) (names_read (show_file bin_name.now)) → F.faults folder.new ≡ F.faults folder.old }
     ensures only_full { F.told → O.is_clear out.old → ((text : List ℕ) → IsAnswer (F.file folder.old) (show_file bin_name.now) text → length text ≤ O.room out.old)
         → O.faults out.new ≡ O.faults out.old }
 {

@@ -2,7 +2,7 @@
 ghost use Rattle.std.specs.Prelude.{◌≡◌, ◌≤◌, ◌<◌, ◌++◌, ◌⊎◌, ◌^◌, ℕ, List, length};
 ghost use Rattle.mz_io.specs.Outside.{Rose, SameFiles, AppendsPrefix};
 ghost use Rattle.mz_match.specs.Verdict.{IsVerdict, IsSoundIfAccepted, AcceptsWith, FirstRefusal, line_of};
-ghost use Rattle.mz_tool.specs.Request.{verify as verify_files, AreThere, HasLonger, names_read};
+ghost use Rattle.mz_tool.specs.Request.{verify as verify_files, AreThere, BeginsLonger, HasLonger, names_read};
 ghost use Rattle.mz_tool.specs.Run.{IsYes, IsNo, IsAnswer, IsProved, IsQuiet};
 ghost use Rattle.mz_tool.specs.Reported.{IsAccepted, IsRefused, IsReported};
 
@@ -42,6 +42,7 @@ pub fn verify<F: Folder, O: Sink>(
     ensures files { F.told → SameFiles (F.file folder.old) (F.file folder.new) }
     ensures put_faults { F.put_faults folder.new ≡ F.put_faults folder.old }
     ensures only_missing { F.is_clear folder.old → AreThere (F.file folder.old) (names_read (verify_files spec_name.now bin_name.now)) → F.faults folder.new ≡ F.faults folder.old }
+    ensures unread { F.told → F.is_clear folder.old → BeginsLonger limit (F.file folder.old) (names_read (verify_files spec_name.now bin_name.now)) → F.faults folder.new ≡ F.faults folder.old }
     ensures only_full { F.told → O.is_clear out.old → ((text : List ℕ) → IsAnswer (F.file folder.old) (verify_files spec_name.now bin_name.now) text → length text ≤ O.room out.old)
         → O.faults out.new ≡ O.faults out.old }
 {
