@@ -1,7 +1,10 @@
 // Texts, each with what it is read as.
+mod long;
+mod order;
 mod page;
+mod worked;
 
-use page::{Long, compare, compare_long};
+use page::compare;
 
 /// Sorts and terms that stand before a text.
 const LOGIC: &str =
@@ -687,64 +690,6 @@ const COERCIONS: [(&str, &str); 13] = [
     ),
 ];
 
-/// Long math strings: the rule, the statement and the place.
-const LONG: [(Long, (u32, u32, u32)); 6] = [
-    (
-        Long {
-            head: "provable sort w; axiom x (a: w): $ ",
-            piece: "a ",
-            times: 4096,
-            tail: "$;",
-        },
-        (10, 2, 33),
-    ),
-    (
-        Long {
-            head: "provable sort w; axiom x (a: w): $ ",
-            piece: "a ",
-            times: 4097,
-            tail: "$;",
-        },
-        (17, 2, 33),
-    ),
-    (
-        Long {
-            head: "provable sort w; axiom x (a: w): $ ",
-            piece: "a ",
-            times: 4096,
-            tail: "b $;",
-        },
-        (9, 2, 8227),
-    ),
-    (
-        Long {
-            head: "provable sort w; sort n; term f (a: n): n; prefix f: $~$ prec 1; term c (a: n): w; coercion c: n > w; axiom x (a: n): $ ",
-            piece: "~ ",
-            times: 500,
-            tail: "a $;",
-        },
-        (0, 0, 0),
-    ),
-    (
-        Long {
-            head: "provable sort w; sort n; term f (a: n): n; prefix f: $~$ prec 1; term c (a: n): w; coercion c: n > w; def d (a: n): w = $ ",
-            piece: "~ ",
-            times: 500,
-            tail: "a $;",
-        },
-        (0, 0, 0),
-    ),
-    (
-        Long {
-            head: "provable sort w; sort n; term f (a: n): n; prefix f: $~$ prec 1; term c (a: n): w; coercion c: n > w; axiom x (a: n): $ a $ > $ ",
-            piece: "( ",
-            times: 4096,
-            tail: "a $ > $ q $;",
-        },
-        (17, 7, 126),
-    ),
-];
-
 #[test]
 fn texts_of_sorts_and_terms(rt: HostRuntime) {
     let alloc = rt.alloc();
@@ -773,9 +718,4 @@ fn wrapping(rt: HostRuntime) {
     let alloc = rt.alloc();
     compare(&rt, alloc, SORTS, &WRAPS);
     compare(&rt, alloc, SORTS, &COERCIONS);
-}
-
-#[test]
-fn long_math_strings(rt: HostRuntime) {
-    compare_long(&rt, rt.alloc(), &LONG);
 }
