@@ -62,10 +62,11 @@ pub fn push_premise_stated<'a>(
 {
     for premise in premises {
         if let Source::Formula(math) = premise {
-            stated.push(Stated {
+            let once = Stated {
                 math: *math,
                 times: 1,
-            })?;
+            };
+            stated.push(once)?;
         }
     }
     Ok(())

@@ -5,63 +5,46 @@ use super::page::compare;
 pub const RULED: &str =
     "provable sort wff; sort nat; pure sort pu; strict sort st; free sort fr; term im (a b: wff): wff; term all {x: nat} (p: wff x): wff; term suc (a: nat): nat; term tr: wff; term isf (a: fr): wff; infixr im: $->$ prec 25; axiom ax: $ tr $; ";
 
-/// Each lexeme is tried before the next one is read; the other rules, once the statement is whole.
+/// Each lexeme is tried before the next one is read, and the other rules once the statement is whole.
 const LEXEMES: [(&str, &str); 29] = [
-    // S3 before S2 and S1
+    // a lexeme that doesn't fit, before what stands behind it
     ("sort ; #", "S3 1 5"),
     ("sort ; \x01", "S3 1 5"),
-    // S2 before S3
+    ("$ \n $", "S3 1 0"),
+    ("axiom x: $ a $ > ;", "S3 1 17"),
+    // bytes and lexemes
     ("sort # ;", "S2 1 5"),
-    // S1 before S3
-    ("sort \x01 ;", "S1 1 5"),
-    // S2 before S1
     ("sort # \x01", "S2 1 5"),
-    // S1 before S2
+    ("sort \x01 ;", "S1 1 5"),
     ("sort \x01 #", "S1 1 5"),
     ("axiom x: $ \x7f $ # ;", "S1 1 11"),
-    // S9 before S1
-    ("sort s; axiom x: $ s $ ; $ \x02", "S9 2 19"),
-    // S3
-    ("$ \n $", "S3 1 0"),
-    // S1 before S2
     ("sort s; $ a \x7f", "S1 2 12"),
-    // S16 before S2, S1 and S3
+    // what is left out, before all behind its first lexeme
     ("input #", "S16 1 0"),
     ("output \x01", "S16 1 0"),
     ("input", "S16 1 0"),
     ("output output", "S16 1 0"),
     ("input s; # ;", "S16 1 0"),
     ("sort input; input sort;", "S16 2 12"),
-    // S4 before S2
+    // the other rules, behind the last lexeme
+    ("infixl t: $+$ prec 4294967295 #", "S2 1 30"),
+    ("infixl t: $+$ prec 4294967295", "S3 1 29"),
+    ("notation t: s = ($+$: 4294967295) : \x01", "S1 1 36"),
+    ("pure sort p; term t: p #", "S2 2 23"),
+    ("strict sort s; def d (.x: s): s", "S3 2 31"),
+    ("axiom x: $ a $ > $ b \x01 $;", "S1 1 21"),
+    ("sort wff; sort wff", "S3 2 18"),
+    // and before the next statement
     ("sort s; sort s; #", "S4 2 13"),
-    // S5 before S1, S16 and S5
     ("sort s; term t: r; \x01", "S5 2 16"),
     ("term t: s; output", "S5 1 8"),
-    ("sort s; term t: r output;", "S5 2 16"),
-    // S2 before S15
-    ("infixl t: $+$ prec 4294967295 #", "S2 1 30"),
-    // S3 before S15
-    ("infixl t: $+$ prec 4294967295", "S3 1 29"),
-    // S1 before S15
-    ("notation t: s = ($+$: 4294967295) : \x01", "S1 1 36"),
-    // S15 before S2
-    ("infixl t: $+$ prec 4294967295; #", "S15 1 19"),
-    // S2 before S7
-    ("pure sort p; term t: p #", "S2 2 23"),
-    // S3 before S19
-    ("strict sort s; def d (.x: s): s", "S3 2 31"),
-    // S1 before S9
-    ("axiom x: $ a $ > $ b \x01 $;", "S1 1 21"),
-    // S3 before S9
-    ("axiom x: $ a $ > ;", "S3 1 17"),
-    // S5 before S3
     ("sort s; coercion c: s > s ; ;", "S5 2 17"),
+    ("sort s; axiom x: $ s $ ; $ \x02", "S9 2 19"),
+    ("infixl t: $+$ prec 4294967295; #", "S15 1 19"),
 ];
 
 /// Sorts and terms.
-const TERMS: [(&str, &str); 22] = [
-    // S3 before S4
-    ("sort wff", "S3 13 8"),
+const TERMS: [(&str, &str); 21] = [
     // S4 before S4, S5, S6 and S7
     ("sort nat;", "S4 13 5"),
     ("pure strict sort im; sort nat;", "S4 14 26"),
