@@ -109,7 +109,7 @@ axioms-declared : (ds : List Declaration) (ss : List Statement) → Legal ss →
 axioms-declared ds ss legal agrees front back s b is says is_axiom =
     let stands : s.is_local ≡ false = never-local s b s.is_local refl (legal_at any_derivation [] front back s (subst Legal is legal)).1 says is_axiom in
     let parts : publics ss ≡ publics front ++ partner_of front s ∷ publics_after (front ++ s ∷ []) back =
-        ap publics is ∙ publics-append [] front (s ∷ back) ∙ ap (λ ps. publics front ++ ps) (publics-public front s back stands) in
+    ap publics is ∙ publics-append [] front (s ∷ back) ∙ ap (λ ps. publics front ++ ps) (publics-public front s back stands) in
     (stands, agrees-at ds (publics front) (publics_after (front ++ s ∷ []) back) (partner_of front s) (subst (Agrees ds) parts agrees))
 
 -- ---- theorems
