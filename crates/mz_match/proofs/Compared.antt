@@ -1,19 +1,19 @@
 -- One step of a comparison: what the stream says at a place, beside an expression.
-use Rattle.std.proofs.Common.{◌≡◌, ◌≤◌, ◌<◌, ◌+◌, ◌-◌, ◌⊎◌, ℕ, zero, suc, Bool, true, false, cond, ltb, eqb, List, [], ◌∷◌, length, drop, Option, Some, None, slice_get, get_or, refl, ap, sym, ◌∙◌, subst, arith, inl, inr}
-use Rattle.std.specs.Prelude.{IsTrue, MatchBool, ◌↔◌, nat_lt, ◌==◌, is_some}
+use Rattle.std.proofs.Common.{◌≡◌, ◌≤◌, ◌<◌, ◌+◌, ◌-◌, ℕ, suc, Bool, true, false, cond, ltb, eqb, List, length, drop, Option, Some, None, slice_get, get_or, refl, ap, sym, ◌∙◌, subst, arith, inl, inr}
+use Rattle.std.specs.Prelude.{IsTrue, MatchBool, ◌↔◌, is_some}
 use Rattle.std.proofs.lemmas.List.{drop_more}
 use Rattle.std.proofs.lemmas.Bool.{true≢false, false≢true, ltb-true, ltb-false, eqb-true, eqb-false}
 use Rattle.mz_cmd.specs.declared.code.UnifyCode.{UnifyCode}
 use Rattle.mz_cmd.specs.declared.code.UnifyCode.TheVariants as codes
-use Rattle.mz_logic.specs.Tree.{Tree, Trees, var, app, none, more, listed, size, trees_size}
+use Rattle.mz_logic.specs.Tree.{Tree, Trees, var, app, none, more, listed}
 use Rattle.mz_logic.specs.declared.expr.Expr.{Expr}
 use Rattle.mz_logic.specs.View.{tree, trees}
-use Rattle.mz_layout.specs.Tables.{term_count, term_row}
+use Rattle.mz_layout.specs.Tables.{term_row}
 use Rattle.mz_unify.specs.Spells.{Marks, dummy_of}
 use Rattle.mz_match.specs.declared.stream.Step.{Step}
 use Rattle.mz_match.specs.declared.stream.Cursor.{Cursor}
-use Rattle.mz_match.specs.Streams.{step_at, Says, HasArity, IsSaid, AreSaid, IsMade, IsMarkAt, AreMarks, mark_from}
-use Rattle.mz_match.specs.Comparing.{Answers, Beside, is_number, makes_term, dummy_compared, variable_compared, compared, all_compared, and_then, beside_dummy}
+use Rattle.mz_match.specs.Streams.{step_at, Says, HasArity, IsSaid, AreSaid, IsMade, IsMarkAt, AreMarks}
+use Rattle.mz_match.specs.Comparing.{Answers, Beside, is_number, makes_term, dummy_compared, compared, all_compared, and_then, beside_dummy}
 use Rattle.mz_match.proofs.Steps.{step-takes, says-is, says-no}
 
 abbrev StepIs : List ℕ → ℕ → Step → UnifyCode → ℕ → ℕ → Type 0

@@ -1,37 +1,33 @@
 -- A definition has at most 55 dummies: its body finds them among the bound variables of its context.
-use Rattle.std.proofs.Common.{◌≡◌, ◌≤◌, ◌<◌, ◌+◌, ◌⊎◌, ◌∙◌, ℕ, zero, suc, Bool, true, false, not, cond, ltb, eqb, List, [], ◌∷◌, ◌++◌, length, drop, map, Option, Some, None, Result, Ok, Err, slice_get, get_or, refl, sym, ap, subst, inl, inr, arith, length-append}
-use Rattle.std.specs.Prelude.{if◌then◌else◌, Contains, ◌&&◌, ◌==◌, IsTrue}
+use Rattle.std.proofs.Common.{◌≡◌, ◌≤◌, ◌+◌, ◌⊎◌, ◌∙◌, ℕ, zero, suc, Bool, true, false, not, cond, ltb, eqb, List, [], ◌∷◌, ◌++◌, length, drop, Option, Some, None, Result, Ok, Err, slice_get, refl, sym, ap, subst, inl, inr, arith}
+use Rattle.std.specs.Prelude.{if◌then◌else◌, Contains, ◌&&◌, ◌==◌}
 use Rattle.std.specs.List.{filter}
-use Rattle.std.proofs.lemmas.Bool.{true≢false, false≢true, ltb-true}
-use Rattle.mz_checks.specs.Checks.{Checks, AllHold}
+use Rattle.std.proofs.lemmas.Bool.{false≢true, ltb-true}
+use Rattle.mz_checks.specs.Checks.{AllHold}
 use Rattle.mz_checks.proofs.InOrder.{all_hold-rest}
-use Rattle.mz_cmd.specs.declared.rule.K.{K}
 use Rattle.mz_cmd.specs.declared.rule.K.TheVariants as k
 use Rattle.mz_cmd.specs.declared.command.Cmd.{Cmd}
 use Rattle.mz_cmd.specs.declared.command.CmdFault.{CmdFault}
 use Rattle.mz_cmd.specs.declared.code.ProofCode.{ProofCode}
 use Rattle.mz_cmd.specs.declared.code.ProofCode.TheVariants as code
-use Rattle.mz_cmd.specs.declared.code.StatementCode.{StatementCode}
-use Rattle.mz_cmd.specs.declared.code.StatementCode.TheVariants as kinds
 use Rattle.mz_cmd.specs.declared.statement.StmtAt.{StmtAt}
-use Rattle.mz_cmd.specs.declared.statement.StmtAt.TheVariants.{Head}
 use Rattle.mz_cmd.specs.declared.statement.StmtFault.{StmtFault}
 use Rattle.mz_cmd.specs.Codes.{proof_code, statement_code}
 use Rattle.mz_cmd.specs.Reading.{first_command}
 use Rattle.mz_logic.specs.Tree.{Tree, none}
-use Rattle.mz_logic.specs.Declaration.{Declaration, term_decl, Term, Form, plain_form, abstract_form, defined, sorts, terms, signatures}
+use Rattle.mz_logic.specs.Declaration.{Declaration, term_decl, Term, defined, sorts, terms, signatures}
 use Rattle.mz_logic.specs.LegalLists.{Statement}
-use Rattle.mz_logic.specs.Conversions.{IsBoundOf, AreFresh}
+use Rattle.mz_logic.specs.Conversions.{AreFresh}
 use Rattle.mz_logic.specs.Words.{binders_from, binders_of, word_bound}
 use Rattle.mz_logic.specs.declared.binder.Binder.{Binder}
 use Rattle.mz_logic.specs.declared.word.Word.{Word}
 use Rattle.mz_layout.specs.Tables.{list_at, term_row}
-use Rattle.mz_unify.specs.Steps.{◌>>◌, ◌>>=◌, need, at_place, Turn, over, goes_on, follow}
+use Rattle.mz_unify.specs.Steps.{◌>>◌, need, at_place, Turn, over, goes_on, follow}
 use Rattle.mz_unify.specs.Streams.{of_definition}
-use Rattle.mz_unify.specs.Spells.{trees_of, dummy_of, variables_from, SpellsForm, SpellsTerm, TermRow}
+use Rattle.mz_unify.specs.Spells.{trees_of, dummy_of, variables_from, SpellsForm}
 use Rattle.mz_unify.specs.Profile.{strict, Item, expr, proof, obligation, conversion}
 use Rattle.mz_unify.specs.Sorted.{Sorted, ItemsSorted}
-use Rattle.mz_unify.specs.UnifyMachine.{in_definition, UnifyState, unify, is_empty}
+use Rattle.mz_unify.specs.UnifyMachine.{in_definition, is_empty}
 use Rattle.mz_unify.proofs.Inverting.{from_bind, from_need, from_want, taken, taken-is, place-ok}
 use Rattle.mz_unify.proofs.Spelled.{place_from, renamed}
 use Rattle.mz_unify.proofs.OwnStream.{definition-spelled}
@@ -45,17 +41,15 @@ use Rattle.mz_machine.specs.RowWords.{bound_count as bound_words, word_checks}
 use Rattle.mz_machine.specs.Lists.{definition_of}
 use Rattle.mz_machine.specs.FileRows.{taken_by, rows_taken, term_of_file, body_bytes}
 use Rattle.mz_machine.specs.ProofMachine.{ends_with, matched_by, built, referred, proof_row, proof_end, last_item, ending, own_stream}
-use Rattle.mz_machine.specs.Bodies.{BodyCommand, ends, proves, stands_in, if_allowed, body_command, body_turn, body_turn_by, body_from, body_run, body_start, body_checks, Runs}
-use Rattle.mz_machine.specs.Facts.{Fact}
+use Rattle.mz_machine.specs.Bodies.{BodyCommand, ends, proves, stands_in, if_allowed, body_command, body_turn, body_turn_by, body_from, body_start, Runs}
 use Rattle.mz_machine.proofs.Outcomes.{bodies-checked}
-use Rattle.mz_machine.proofs.Declared.{signatures-are}
 use Rattle.mz_machine.proofs.WholeBody.{body-fact}
 use Rattle.mz_machine.proofs.Assertions.{end-ran, own-run}
 use Rattle.mz_machine.proofs.RightWords.{right-words}
 use Rattle.mz_binary.specs.Chains.{IsGoodStatement, GoodTo}
 use Rattle.mz_binary.specs.Checking.{checks_of, kind_checks, term_checks, term_body_checks}
-use Rattle.mz_binary.specs.Laws.{SaysTerm, HasRow}
-use Rattle.mz_binary.specs.Spelling.{IsKindOf, HasKind, SpellsRow}
+use Rattle.mz_binary.specs.Laws.{HasRow}
+use Rattle.mz_binary.specs.Spelling.{IsKindOf, SpellsRow}
 use Rattle.mz_binary.proofs.LegalChains.{well-chain}
 use Rattle.mz_binary.proofs.RowLaws.{good-rows}
 

@@ -1,21 +1,20 @@
 -- The expressions of an assertion: over parameters alone, where the same trees have the same variables.
-use Rattle.std.proofs.Common.{◌≡◌, ◌≤◌, ◌<◌, ◌+◌, ◌-◌, ◌⊎◌, ℕ, zero, suc, Bool, true, false, cond, ltb, eqb, List, [], ◌∷◌, ◌++◌, length, take, drop, reverse, get_or, Option, Some, None, slice_get, refl, ap, sym, ◌∙◌, subst, arith, inl, inr}
+use Rattle.std.proofs.Common.{◌≡◌, ◌≤◌, ◌<◌, ◌+◌, ◌-◌, ◌⊎◌, ℕ, zero, suc, Bool, true, false, ltb, eqb, List, [], ◌∷◌, ◌++◌, length, take, reverse, get_or, Option, Some, None, slice_get, refl, ap, sym, ◌∙◌, subst, arith, inl, inr}
 use Rattle.std.specs.Prelude.{IsTrue, ◌↔◌, MatchOption, ⊤, is_some}
 use Rattle.std.proofs.lemmas.List.{reverse-append, length-take-le, take_all}
-use Rattle.std.proofs.lemmas.Bool.{true≢false, false≢true, ltb-true, ltb-false, eqb-true}
+use Rattle.std.proofs.lemmas.Bool.{false≢true, ltb-true, ltb-false, eqb-true}
 use Rattle.mz_cmd.specs.declared.code.UnifyCode.{UnifyCode}
 use Rattle.mz_cmd.specs.declared.code.UnifyCode.TheVariants as codes
-use Rattle.mz_logic.specs.Tree.{Tree, Trees, var, app, none, more, listed}
+use Rattle.mz_logic.specs.Tree.{Tree, Trees, var, app, none, more}
 use Rattle.mz_logic.specs.View.{tree, trees}
 use Rattle.mz_logic.specs.declared.expr.Expr.{Expr}
 use Rattle.mz_unify.specs.Spells.{Marks, dummy_of, trees_of}
-use Rattle.mz_match.specs.declared.stream.Step.{Step}
 use Rattle.mz_match.specs.declared.stream.Cursor.{Cursor}
-use Rattle.mz_match.specs.Streams.{step_at, Says, Passes, IsSaid, AreSaid, IsMade, IsMarkAt, AreMarks, HypsAreSaid}
+use Rattle.mz_match.specs.Streams.{step_at, Says, Passes, IsSaid, AreSaid, IsMade, AreMarks, HypsAreSaid}
 use Rattle.mz_match.specs.Trees.{SameOver, AllSameOver, SameTree, SameTrees, Pairs, IsPaired}
-use Rattle.mz_match.specs.Comparing.{Answers, Beside, compared}
+use Rattle.mz_match.specs.Comparing.{Beside, compared}
 use Rattle.mz_match.proofs.Steps.{step-takes}
-use Rattle.mz_match.proofs.Renaming.{Extends, SaysNothing, weaker, no-pairs, no-dummy, sound, complete}
+use Rattle.mz_match.proofs.Renaming.{SaysNothing, weaker, no-pairs, no-dummy, sound, complete}
 
 -- ---- over parameters alone
 

@@ -1,15 +1,14 @@
 -- Where a legal list of statements agrees with the declarations, each theorem among these is proved by it.
-use Rattle.std.proofs.Common.{◌≡◌, ◌∙◌, ℕ, zero, suc, Bool, true, false, List, [], ◌∷◌, ◌++◌, length, take, Some, refl, sym, ap, subst, append_assoc}
+use Rattle.std.proofs.Common.{◌≡◌, ◌∙◌, ℕ, zero, suc, Bool, true, false, List, [], ◌∷◌, ◌++◌, take, Some, refl, sym, ap, subst, append_assoc}
 use Rattle.std.specs.Prelude.{if◌then◌else◌, slice_get}
 use Rattle.mz_checks.specs.Checks.{AllHold}
 use Rattle.mz_logic.specs.Declaration.{Declaration, Assertion, Form, plain_form, abstract_form, defined, sort_decl, term_decl, assertion_decl}
 use Rattle.mz_logic.specs.Derivations.{Derivation}
-use Rattle.mz_logic.specs.LegalLists.{Statement, declarations, any_derivation, MayBeLocal, LegalAfter, Legal}
+use Rattle.mz_logic.specs.LegalLists.{Statement, any_derivation, MayBeLocal, LegalAfter, Legal}
 use Rattle.mz_logic.proofs.Closing.{legal_at, legal_list_is_closed}
-use Rattle.mz_match.specs.declared.kind.Kind.{Kind}
 use Rattle.mz_match.specs.declared.kind.Kind.TheVariants as kinds
 use Rattle.mz_match.specs.Match.{Partner, partner_of, publics_after, publics, kind_of, kind_of_form, match_checks, Agrees}
-use Rattle.mz_match.specs.Proved.{AxiomsAreDeclared, ProvesTheorem, TheoremsAreProved}
+use Rattle.mz_match.specs.Proved.{AxiomsAreDeclared, TheoremsAreProved}
 use Rattle.mz_match.proofs.Lists.{append-nil, publics-append, publics-public}
 
 -- ---- fronts

@@ -1,13 +1,13 @@
 -- A comparison finds the pairs of dummies exactly where there are any.
-use Rattle.std.proofs.Common.{◌≡◌, ◌≤◌, ◌<◌, ◌+◌, ◌-◌, ◌⊎◌, ℕ, zero, suc, Bool, true, false, cond, ltb, eqb, List, [], ◌∷◌, length, Option, Some, None, slice_get, refl, ap, sym, ◌∙◌, subst, arith, inl, inr}
+use Rattle.std.proofs.Common.{◌≡◌, ◌≤◌, ◌<◌, ◌+◌, ◌-◌, ℕ, zero, suc, Bool, true, false, cond, ltb, eqb, List, [], ◌∷◌, length, Option, Some, None, slice_get, refl, ap, sym, ◌∙◌, subst, arith, inl, inr}
 use Rattle.std.specs.Prelude.{IsTrue, ◌↔◌, is_some, slice_set, ◌||◌}
 use Rattle.std.specs.List.{list_any}
 use Rattle.std.proofs.lemmas.Bool.{true≢false, false≢true, ltb-true, ltb-false, eqb-true, eqb-false}
 use Rattle.mz_logic.specs.Tree.{Tree, Trees, var, app, none, more}
 use Rattle.mz_logic.specs.declared.binder.Binder.{Binder}
-use Rattle.mz_match.specs.Trees.{SameOver, AllSameOver, SameTree, SameTrees, Pairs, IsPaired, SameBody}
+use Rattle.mz_match.specs.Trees.{SameOver, AllSameOver, Pairs, IsPaired, SameBody}
 use Rattle.mz_match.specs.declared.stream.Cursor.{Cursor}
-use Rattle.mz_match.specs.Comparing.{all_none, Answers, Beside, is_number, is_taken, has_sort, paired, paired_by, dummy_compared, beside_dummy, variable_compared, compared, all_compared, and_then}
+use Rattle.mz_match.specs.Comparing.{all_none, Answers, Beside, is_number, is_taken, has_sort, paired, paired_by, beside_dummy, variable_compared, compared, all_compared, and_then}
 
 -- ---- tests
 

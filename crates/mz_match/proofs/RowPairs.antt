@@ -1,23 +1,21 @@
 -- A statement that is told beside its declaration.
-use Rattle.std.proofs.Common.{◌≡◌, ◌<◌, ◌≤◌, ◌∙◌, ◌⊎◌, ℕ, Bool, true, false, not, List, [], ◌∷◌, length, Ok, Err, refl, sym, ap, subst, inl, inr, arith, Result}
+use Rattle.std.proofs.Common.{◌≡◌, ◌<◌, ◌∙◌, ℕ, Bool, true, false, List, [], ◌∷◌, length, Ok, Err, refl, sym, ap, subst, inl, inr, arith, Result}
 use Rattle.std.specs.Prelude.{if◌then◌else◌, OnErr}
 use Rattle.std.proofs.lemmas.Bool.{true≢false, false≢true}
 use Rattle.mz_checks.specs.Checks.{Checks, AllHold, FailsFirst, Judges, demand, ◌>>◌}
-use Rattle.mz_checks.proofs.InOrder.{judges-after, fails-before, all_hold-first}
+use Rattle.mz_checks.proofs.InOrder.{judges-after, fails-before}
 use Rattle.mz_logic.specs.Signature.{Signature}
 use Rattle.mz_logic.specs.declared.binder.SortMods.{SortMods}
-use Rattle.mz_logic.specs.declared.binder.Binder.{Binder}
 use Rattle.mz_logic.specs.Declaration.{Declaration, sort_decl, term_decl, assertion_decl, Term, Assertion, Form, plain_form, abstract_form, defined}
 use Rattle.mz_logic.specs.Words.{signature_of}
-use Rattle.mz_layout.specs.Tables.{sort_count, term_count, mods_of, term_row}
-use Rattle.mz_machine.specs.RowWords.{bound_count}
+use Rattle.mz_layout.specs.Tables.{sort_count, mods_of, term_row}
 use Rattle.mz_binary.specs.Laws.{is_defined}
 use Rattle.mz_binary.specs.declared.statement.Statement.{Statement as Told}
 use Rattle.mz_match.specs.declared.kind.Kind.{Kind}
 use Rattle.mz_match.specs.declared.kind.Kind.TheVariants as kinds
 use Rattle.mz_match.specs.declared.rule.M.{M}
 use Rattle.mz_match.specs.declared.rule.M.TheVariants as rules
-use Rattle.mz_match.specs.Match.{Partner, kind_of_form, is_plain, match_checks, partner_checks, part_checks, signature_checks, form_checks, assertion_checks}
+use Rattle.mz_match.specs.Match.{Partner, kind_of_form, is_plain, match_checks, partner_checks, signature_checks, form_checks, assertion_checks}
 use Rattle.mz_match.specs.TellsRow.{SaysForm, IsTermRow, IsThmRow, IsRowOf}
 use Rattle.mz_match.proofs.Spelled.{length-binders}
 

@@ -1,35 +1,30 @@
 -- What the row of a good statement says.
-use Rattle.std.proofs.Common.{◌≡◌, ◌≤◌, ◌<◌, ◌+◌, ◌-◌, ◌∙◌, ◌⊎◌, ℕ, zero, suc, Bool, true, false, cond, ltb, List, [], ◌∷◌, ◌++◌, length, drop, reverse, Option, Some, None, Ok, slice_get, refl, sym, ap, subst, inl, inr, arith, length-append, append_assoc}
-use Rattle.std.specs.Prelude.{if◌then◌else◌, ⊤}
-use Rattle.std.proofs.lemmas.Bool.{true≢false, false≢true, ltb-true, ltb-false}
-use Rattle.std.proofs.lemmas.Option.{slice_get_within}
-use Rattle.mz_cmd.specs.declared.command.Cmd.{Cmd}
+use Rattle.std.proofs.Common.{◌≡◌, ◌≤◌, ◌<◌, ◌+◌, ◌∙◌, ◌⊎◌, ℕ, zero, suc, Bool, List, [], ◌∷◌, ◌++◌, length, drop, reverse, Option, Some, None, slice_get, refl, sym, ap, subst, inl, inr, arith, append_assoc}
+use Rattle.std.specs.Prelude.{if◌then◌else◌}
 use Rattle.mz_logic.specs.Tree.{Tree, Trees, var, none, listed}
 use Rattle.mz_logic.specs.Signature.{Signature}
 use Rattle.mz_logic.specs.Declaration.{Declaration, sort_decl, term_decl, assertion_decl, Term, Assertion, Form, plain_form, abstract_form, defined, sorts, terms, signatures, assertions}
 use Rattle.mz_logic.specs.LegalLists.{Statement}
-use Rattle.mz_logic.specs.Words.{binders_of, signature_of}
+use Rattle.mz_logic.specs.Words.{binders_of}
 use Rattle.mz_logic.specs.declared.binder.Binder.{Binder}
-use Rattle.mz_layout.specs.Tables.{list_at, sort_count, term_count, thm_count, mods_of, term_row, thm_row}
+use Rattle.mz_layout.specs.Tables.{list_at, term_count, mods_of, term_row, thm_row}
 use Rattle.mz_unify.specs.Streams.{StreamKind, of_assertion, of_definition, UnifyCommand, StreamIs}
-use Rattle.mz_unify.specs.Spells.{Marks, Spells, SpellsHyps, SpellsText, Text, SpellsForm, at_first, variables_from}
-use Rattle.mz_machine.specs.RowWords.{bound_count}
+use Rattle.mz_unify.specs.Spells.{Marks, SpellsText, Text, SpellsForm, at_first, variables_from}
 use Rattle.mz_machine.proofs.RightWords.{right-words}
-use Rattle.mz_machine.specs.FileRows.{stream_of, term_of_file, thm_of_file}
+use Rattle.mz_machine.specs.FileRows.{stream_of, term_of_file}
 use Rattle.mz_binary.specs.declared.statement.Statement.{Statement as Told}
-use Rattle.mz_binary.specs.Chains.{IsGoodStatement, GoodTo}
-use Rattle.mz_binary.specs.Laws.{HasRow, SaysTerm, SaysAssertion, is_defined}
+use Rattle.mz_binary.specs.Chains.{GoodTo}
+use Rattle.mz_binary.specs.Laws.{HasRow, SaysTerm, is_defined}
 use Rattle.mz_binary.specs.Progress.{kind_code, row_after}
 use Rattle.mz_binary.specs.Spelling.{SpellsRow}
 use Rattle.mz_binary.proofs.RowLaws.{good-rows}
-use Rattle.mz_match.specs.declared.stream.Cursor.{Cursor}
-use Rattle.mz_match.specs.Streams.{AreMarks, IsSaid, HypsAreSaid}
+use Rattle.mz_match.specs.Streams.{AreMarks, HypsAreSaid}
 use Rattle.mz_match.specs.TellsRow.{SaysFirst, SaysForm, SaysClaims, IsTermRow, IsThmRow, IsRowOf}
 use Rattle.mz_match.specs.Told.{IsTold}
 use Rattle.mz_match.proofs.Steps.{command-takes}
 use Rattle.mz_match.proofs.Spelled.{length-binders}
 use Rattle.mz_match.proofs.FewDummies.{few-dummies}
-use Rattle.mz_match.proofs.SaidStreams.{joined, Grows, Segment, SaidFrom, HypsFrom, append-none, grows-on, grows-same, grows-not, hyps-grow, grows, spelled-said, hyps-said}
+use Rattle.mz_match.proofs.SaidStreams.{joined, Grows, Segment, append-none, grows-not, hyps-grow, spelled-said, hyps-said}
 
 -- ---- the signatures of what was declared are those of the rows
 

@@ -1,5 +1,5 @@
 -- What the row of a statement that is told says.
-use Rattle.std.specs.Prelude.{◌≡◌, ◌≤◌, ◌<◌, ⊤, ℕ, Bool, List, [], length, reverse, if◌then◌else◌}
+use Rattle.std.specs.Prelude.{◌≡◌, ◌≤◌, ◌<◌, ⊤, ℕ, List, [], length, reverse, if◌then◌else◌}
 use Rattle.mz_logic.specs.Tree.{Tree, listed}
 use Rattle.mz_logic.specs.Declaration.{Declaration, sort_decl, term_decl, assertion_decl, Term, Assertion, Form, plain_form, abstract_form, defined}
 use Rattle.mz_logic.specs.Words.{binders_of, signature_of}

@@ -1,17 +1,15 @@
-use Rattle.std.proofs.Common.{◌≡◌, ◌≤◌, ◌<◌, ◌+◌, ◌-◌, ◌*◌, ◌∙◌, ℕ, List, [], suc, Option, Some, None, Bool, true, false, length, drop, slice_get, sym, ap, subst, refl, inl, inr, arith}
-use Rattle.std.specs.Prelude.{MatchBool, MatchOption}
-use Rattle.mz_logic.specs.Tree.{Tree, Trees, var, app, none, more, listed, size, trees_size}
+use Rattle.std.proofs.Common.{◌≡◌, ◌≤◌, ◌+◌, ◌-◌, ◌∙◌, ℕ, List, [], Some, None, Bool, length, drop, sym, ap, subst, arith}
+use Rattle.std.specs.Prelude.{MatchBool}
+use Rattle.mz_logic.specs.Tree.{Tree, Trees, var, more, size, trees_size}
 use Rattle.mz_logic.specs.declared.expr.Expr.{Expr}
 use Rattle.mz_logic.specs.View.{tree, trees}
-use Rattle.mz_unify.specs.Spells.{Marks}
-use Rattle.mz_match.specs.declared.stream.Step.{Step}
 use Rattle.mz_match.specs.declared.stream.Cursor.{Cursor}
 use Rattle.std.proofs.lemmas.List.{drop_all}
-use Rattle.std.proofs.lemmas.Bool.{true≢false, false≢true}
+use Rattle.std.proofs.lemmas.Bool.{false≢true}
 use Rattle.mz_match.specs.Streams.{step_at, mark_from, AreSaid, IsMade}
-use Rattle.mz_match.specs.Comparing.{Answers, compared, all_compared, makes_term}
+use Rattle.mz_match.specs.Comparing.{compared, all_compared}
 use Rattle.mz_match.specs.Beside.{beside}
-use Rattle.mz_match.proofs.Compared.{cursor-is, said-within, made-within, said-no, made-no, said-made, said-mark, mark-made, mark-param, made-dummy, made-term, made-variable, compared-param, compared-dummy, compared-app, compared-other, found-place, differs-app, marked, answered, next-of, all-next, all-stopped, all-goes-on, all-done}
+use Rattle.mz_match.proofs.Compared.{cursor-is, said-within, made-within, said-no, made-no, said-made, said-mark, mark-made, mark-param, made-term, compared-param, found-place, differs-app, marked, answered, next-of, all-next, all-stopped, all-goes-on, all-done}
 use Rattle.mz_match.proofs.compare.+same_at.Goals as goal
 
 -- ---- same_at

@@ -1,15 +1,13 @@
-use Rattle.std.proofs.Common.{◌≡◌, ◌≤◌, ◌<◌, ◌-◌, ◌∙◌, ℕ, suc, zero, List, [], ◌∷◌, Some, None, true, false, eqb, length, take, reverse, sym, ap, subst, refl, arith}
-use Rattle.std.specs.Prelude.{IsTrue, ◌↔◌}
-use Rattle.std.proofs.lemmas.Bool.{false≢true, eqb-true}
+use Rattle.std.proofs.Common.{◌≡◌, ◌≤◌, ◌-◌, ◌∙◌, ℕ, suc, List, length, take, reverse, sym, ap, subst, arith}
+use Rattle.std.specs.Prelude.{◌↔◌}
+use Rattle.std.proofs.lemmas.Bool.{false≢true}
 use Rattle.mz_cmd.specs.declared.code.UnifyCode.TheVariants as codes
-use Rattle.mz_logic.specs.Tree.{Tree, none}
-use Rattle.mz_logic.specs.View.{tree, trees}
-use Rattle.mz_logic.specs.declared.expr.Expr.{Expr}
-use Rattle.mz_unify.specs.Spells.{Marks, trees_of}
-use Rattle.mz_match.specs.declared.stream.Cursor.{Cursor}
-use Rattle.mz_match.specs.Trees.{SameTree, SameTrees}
-use Rattle.mz_match.specs.Streams.{step_at, Passes, HypsAreSaid, Says}
-use Rattle.mz_match.proofs.PlainTrees.{said-passes, said-ends, next-hyp-same, none-beside-more, some-beside-none, all-left, left-answer, hyp-left, hyp-there}
+use Rattle.mz_logic.specs.Tree.{Tree}
+use Rattle.mz_logic.specs.View.{trees}
+use Rattle.mz_unify.specs.Spells.{trees_of}
+use Rattle.mz_match.specs.Trees.{SameTrees}
+use Rattle.mz_match.specs.Streams.{step_at, Passes, Says}
+use Rattle.mz_match.proofs.PlainTrees.{said-passes, said-ends, next-hyp-same, all-left, left-answer, hyp-left, hyp-there}
 use Rattle.mz_match.proofs.compare.same_hyps.Goals as goal
 
 pub hyps-init : goal.hyps-init

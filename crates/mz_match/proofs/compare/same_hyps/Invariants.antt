@@ -1,4 +1,4 @@
-use Rattle.std.proofs.Common.{◌≡◌, ◌≤◌, ℕ, List, length, take, reverse}
+use Rattle.std.proofs.Common.{◌≤◌, ℕ, List, length, take, reverse}
 use Rattle.std.specs.Prelude.{◌↔◌}
 use Rattle.mz_logic.specs.Tree.{Tree}
 use Rattle.mz_logic.specs.View.{trees}

@@ -1,4 +1,4 @@
-use Rattle.std.proofs.Common.{◌≡◌, ◌<◌, ◌∙◌, ℕ, List, [], length, Bool, true, false, refl, sym, ap, subst, inl, inr, arith}
+use Rattle.std.proofs.Common.{◌∙◌, List, length, Bool, sym, ap, subst, arith}
 use Rattle.std.specs.Prelude.{IsTrue, ◌↔◌, MatchBool}
 use Rattle.std.proofs.lemmas.Bool.{true≢false}
 use Rattle.mz_checks.specs.Checks.{AllHold, FailsFirst}

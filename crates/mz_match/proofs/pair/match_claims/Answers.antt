@@ -1,9 +1,6 @@
-use Rattle.std.proofs.Common.{◌≡◌, ◌∙◌, ℕ, List, [], reverse, length, refl, sym, ap, subst, inl, inr}
+use Rattle.std.proofs.Common.{◌∙◌, ℕ, reverse, length, refl, sym, subst, inl, inr}
 use Rattle.mz_logic.specs.Tree.{listed}
-use Rattle.mz_logic.specs.View.{tree}
-use Rattle.mz_logic.specs.Declaration.{Assertion}
 use Rattle.mz_layout.specs.Tables.{thm_row}
-use Rattle.mz_match.specs.Trees.{SameTree, SameTrees}
 use Rattle.mz_match.specs.TellsRow.{SaysClaims}
 use Rattle.mz_match.proofs.BesideRows.{claims-plain, turned-twice, exact-no, exact-yes}
 use Rattle.mz_match.proofs.pair.match_claims.Goals as goal

@@ -1,4 +1,4 @@
-use Rattle.std.proofs.Common.{◌≡◌, suc, drop, sym, ap, subst, List, ℕ}
+use Rattle.std.proofs.Common.{suc, drop, subst, List, ℕ}
 use Rattle.mz_checks.specs.Checks.{Judges}
 use Rattle.mz_logic.specs.DeclView.{declaration}
 use Rattle.mz_spec.specs.State.{env_of}

@@ -1,5 +1,4 @@
-use Rattle.std.proofs.Common.{◌≡◌, ◌<◌, ◌+◌, ◌-◌, ◌∙◌, ℕ, suc, length, Some, None, sym, ap, subst, arith}
-use Rattle.mz_match.specs.declared.stream.Cursor.{Cursor}
+use Rattle.std.proofs.Common.{◌≡◌, ◌+◌, ◌-◌, ◌∙◌, ℕ, suc, Some, sym, subst, arith}
 use Rattle.mz_match.specs.Streams.{mark_from, dummies_in}
 use Rattle.mz_match.proofs.Steps.{step-takes, dummies-fewer, no-mark-at-end, mark-first, mark-next, mark-past}
 use Rattle.mz_match.proofs.stream.find_mark.Goals.{then-makes_mark+else-left-eq0, else-makes_mark}

@@ -1,8 +1,8 @@
-use Rattle.std.proofs.Common.{◌≡◌, ◌∙◌, ℕ, length, Some, None, sym, ap, subst, arith, true, false}
+use Rattle.std.proofs.Common.{◌≡◌, ◌∙◌, Some, sym, ap, arith}
 use Rattle.mz_cmd.specs.declared.code.UnifyCode.TheVariants as codes
 use Rattle.std.proofs.lemmas.Bool.{true≢false}
 use Rattle.mz_match.specs.declared.stream.Step.{Step}
-use Rattle.mz_match.specs.Streams.{Passes, Says, step_at}
+use Rattle.mz_match.specs.Streams.{step_at}
 use Rattle.mz_match.proofs.Steps.{step-takes, passes-on, passes-stay, passes-end, says-is, says-next, says-no, ends-no}
 use Rattle.mz_match.proofs.stream.next_hyp.Goals as goal
 

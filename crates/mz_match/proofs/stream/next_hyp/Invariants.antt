@@ -1,4 +1,4 @@
-use Rattle.std.proofs.Common.{◌≤◌, ◌-◌, ◌⊎◌, ◌≡◌, ℕ, length, None}
+use Rattle.std.proofs.Common.{◌≤◌, ◌-◌, ◌≡◌, ℕ, length, None}
 use Rattle.mz_cmd.specs.declared.code.UnifyCode.TheVariants as codes
 use Rattle.mz_match.specs.Streams.{Passes, Says, step_at}
 use Rattle.mz_match.proofs.stream.next_hyp.Given as goal

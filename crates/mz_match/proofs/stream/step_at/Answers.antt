@@ -1,5 +1,4 @@
-use Rattle.std.proofs.Common.{arith, sym, ap, ◌∙◌}
-use Rattle.mz_match.specs.Streams.{step_of, step_by}
+use Rattle.std.proofs.Common.{arith, sym}
 use Rattle.mz_match.proofs.Steps.{command-takes}
 use Rattle.mz_match.proofs.stream.step_at.Goals as goal
 

@@ -1,6 +1,5 @@
-use Rattle.std.proofs.Common.{◌<◌, ap, subst, arith}
+use Rattle.std.proofs.Common.{subst, arith}
 use Rattle.mz_layout.proofs.TableLists.{length-term_words}
-use Rattle.mz_match.specs.declared.signature.RowOf.{RowOf}
 use Rattle.mz_match.specs.RowWords.{IsRow}
 use Rattle.mz_match.proofs.signature.RowOf.arity.Goals as goal
 

@@ -1,4 +1,4 @@
-use Rattle.std.proofs.Common.{◌<◌, ◌∙◌, ap, sym, subst, length, arith}
+use Rattle.std.proofs.Common.{◌<◌, ap, subst, length, arith}
 use Rattle.mz_logic.specs.Words.{TermWords}
 use Rattle.mz_layout.proofs.TableLists.{length-term_words, term_at-words}
 use Rattle.mz_match.specs.declared.signature.RowOf.{RowOf}
