@@ -5,8 +5,6 @@
 //! list, statement by statement, and tells each one or the first rule that fails, at its place.
 #![tactic(auto)]
 
-#[cfg(test)]
-mod body_tests;
 mod checker;
 mod examples;
 mod laws;
@@ -18,8 +16,6 @@ mod tests;
 mod whole;
 mod whole_laws;
 mod words;
-#[cfg(test)]
-mod worked;
 
 pub use checker::{Checker, Next};
 pub use examples::worked_files;
