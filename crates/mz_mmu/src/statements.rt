@@ -189,8 +189,15 @@ impl<'r, 'a> Reader<'r, 'a> {
         })
     }
 
-    /// What is left of `(term N (binder ..) (s (dep ..)))`.
-    fn term(&self, names: &Names<'a>, n: u32, rest: Option<u32>) -> Result<Declared<'a>, Stop>
+    /// The same, with room for the names of its variables.
+    fn term_in(
+        &self,
+        names: &Names<'a>,
+        vars: &mut Space<'a>,
+        n: u32,
+        rest: Option<u32>,
+    ) -> Result<Declared<'a>, Stop>
+        requires no_variables { vars.old ≡ [] }
         requires within { n < node_count self.now.nodes.now }
         requires there { IsThere self.now.nodes.now rest }
         requires few { nodes_size (nodes_from self.now.nodes.now rest) < 2 ^ 32 }
@@ -201,9 +208,8 @@ impl<'r, 'a> Reader<'r, 'a> {
             return Err(self.wrong(n, U::Form));
         };
         let name = self.new_name(&names.terms, name)?;
-        let mut vars = Space::new(self.alloc);
-        let params = self.params(names, &mut vars, params)?;
-        let result = self.result(names, &vars, result)?;
+        let params = self.params(names, vars, params)?;
+        let result = self.result(names, vars, result)?;
         let form = TermForm::Plain;
         Ok(Declared {
             name,
@@ -217,8 +223,26 @@ impl<'r, 'a> Reader<'r, 'a> {
         })
     }
 
-    /// What is left of `(axiom N (binder ..) (expr ..) expr)`.
-    fn axiom(&self, names: &Names<'a>, n: u32, rest: Option<u32>) -> Result<Declared<'a>, Stop>
+    /// What is left of `(term N (binder ..) (s (dep ..)))`.
+    fn term(&self, names: &Names<'a>, n: u32, rest: Option<u32>) -> Result<Declared<'a>, Stop>
+        requires within { n < node_count self.now.nodes.now }
+        requires there { IsThere self.now.nodes.now rest }
+        requires few { nodes_size (nodes_from self.now.nodes.now rest) < 2 ^ 32 }
+        ensures read { IfOk result (λ d. (mark : Bool) → IsDeclared (names_view names.now) term_kind (nodes_from self.now.nodes.now rest) (stated mark d)) }
+        ensures stops { IfErr result (λ stop. Stops stop (declared_asked term_kind (place (node_at self.now.nodes.now n)) (names_view names.now) (nodes_from self.now.nodes.now rest))) }
+    {
+        self.term_in(names, &mut Space::new(self.alloc), n, rest)
+    }
+
+    /// The same, with room for the names of its variables.
+    fn axiom_in(
+        &self,
+        names: &Names<'a>,
+        vars: &mut Space<'a>,
+        n: u32,
+        rest: Option<u32>,
+    ) -> Result<Declared<'a>, Stop>
+        requires no_variables { vars.old ≡ [] }
         requires within { n < node_count self.now.nodes.now }
         requires there { IsThere self.now.nodes.now rest }
         requires few { nodes_size (nodes_from self.now.nodes.now rest) < 2 ^ 32 }
@@ -229,9 +253,8 @@ impl<'r, 'a> Reader<'r, 'a> {
             return Err(self.wrong(n, U::Form));
         };
         let name = self.new_name(&names.assertions, name)?;
-        let mut vars = Space::new(self.alloc);
-        let params = self.params(names, &mut vars, params)?;
-        let sc = Scope { names, vars: &vars };
+        let params = self.params(names, vars, params)?;
+        let sc = Scope { names, vars };
         let hyps = self.expr_list(&sc, hyps)?;
         let conclusion = self.expr(&sc, conclusion)?;
         let form = ThmForm::Axiom;
@@ -248,8 +271,26 @@ impl<'r, 'a> Reader<'r, 'a> {
         })
     }
 
-    /// What is left of `(def N (binder ..) (s (dep ..)) (dummy ..) expr)`.
-    fn def(&self, names: &Names<'a>, n: u32, rest: Option<u32>) -> Result<Declared<'a>, Stop>
+    /// What is left of `(axiom N (binder ..) (expr ..) expr)`.
+    fn axiom(&self, names: &Names<'a>, n: u32, rest: Option<u32>) -> Result<Declared<'a>, Stop>
+        requires within { n < node_count self.now.nodes.now }
+        requires there { IsThere self.now.nodes.now rest }
+        requires few { nodes_size (nodes_from self.now.nodes.now rest) < 2 ^ 32 }
+        ensures read { IfOk result (λ d. (mark : Bool) → IsDeclared (names_view names.now) axiom_kind (nodes_from self.now.nodes.now rest) (stated mark d)) }
+        ensures stops { IfErr result (λ stop. Stops stop (declared_asked axiom_kind (place (node_at self.now.nodes.now n)) (names_view names.now) (nodes_from self.now.nodes.now rest))) }
+    {
+        self.axiom_in(names, &mut Space::new(self.alloc), n, rest)
+    }
+
+    /// The same, with room for the names of its variables.
+    fn def_in(
+        &self,
+        names: &Names<'a>,
+        vars: &mut Space<'a>,
+        n: u32,
+        rest: Option<u32>,
+    ) -> Result<Declared<'a>, Stop>
+        requires no_variables { vars.old ≡ [] }
         requires within { n < node_count self.now.nodes.now }
         requires there { IsThere self.now.nodes.now rest }
         requires few { nodes_size (nodes_from self.now.nodes.now rest) < 2 ^ 32 }
@@ -260,11 +301,10 @@ impl<'r, 'a> Reader<'r, 'a> {
             return Err(self.wrong(n, U::Form));
         };
         let name = self.new_name(&names.terms, name)?;
-        let mut vars = Space::new(self.alloc);
-        let params = self.params(names, &mut vars, params)?;
-        let result = self.result(names, &vars, result)?;
-        let dummies = self.dummies(names, &mut vars, dummies)?;
-        let body = self.expr(&Scope { names, vars: &vars }, body)?;
+        let params = self.params(names, vars, params)?;
+        let result = self.result(names, vars, result)?;
+        let dummies = self.dummies(names, vars, dummies)?;
+        let body = self.expr(&Scope { names, vars }, body)?;
         let form = TermForm::Body { dummies, body };
         Ok(Declared {
             name,
@@ -276,6 +316,17 @@ impl<'r, 'a> Reader<'r, 'a> {
             dummies: Binders::new(self.alloc),
             proof: None,
         })
+    }
+
+    /// What is left of `(def N (binder ..) (s (dep ..)) (dummy ..) expr)`.
+    fn def(&self, names: &Names<'a>, n: u32, rest: Option<u32>) -> Result<Declared<'a>, Stop>
+        requires within { n < node_count self.now.nodes.now }
+        requires there { IsThere self.now.nodes.now rest }
+        requires few { nodes_size (nodes_from self.now.nodes.now rest) < 2 ^ 32 }
+        ensures read { IfOk result (λ d. (mark : Bool) → IsDeclared (names_view names.now) def_kind (nodes_from self.now.nodes.now rest) (stated mark d)) }
+        ensures stops { IfErr result (λ stop. Stops stop (declared_asked def_kind (place (node_at self.now.nodes.now n)) (names_view names.now) (nodes_from self.now.nodes.now rest))) }
+    {
+        self.def_in(names, &mut Space::new(self.alloc), n, rest)
     }
 
     /// The hypotheses of a theorem that sees these variables.
@@ -321,8 +372,17 @@ impl<'r, 'a> Reader<'r, 'a> {
         self.proof(&Scope { names, vars }, labels, &mut lets, n)
     }
 
-    /// What is left of `(theorem N (binder ..) ((h expr) ..) expr (dummy ..) proof)`.
-    fn theorem(&self, names: &Names<'a>, n: u32, rest: Option<u32>) -> Result<Declared<'a>, Stop>
+    /// The same, with room for the names of its variables and of its hypotheses.
+    fn theorem_in(
+        &self,
+        names: &Names<'a>,
+        vars: &mut Space<'a>,
+        labels: &mut Space<'a>,
+        n: u32,
+        rest: Option<u32>,
+    ) -> Result<Declared<'a>, Stop>
+        requires no_variables { vars.old ≡ [] }
+        requires no_labels { labels.old ≡ [] }
         requires within { n < node_count self.now.nodes.now }
         requires there { IsThere self.now.nodes.now rest }
         requires few { nodes_size (nodes_from self.now.nodes.now rest) < 2 ^ 32 }
@@ -333,13 +393,11 @@ impl<'r, 'a> Reader<'r, 'a> {
             return Err(self.wrong(n, U::Form));
         };
         let name = self.new_name(&names.assertions, name)?;
-        let mut vars = Space::new(self.alloc);
-        let params = self.params(names, &mut vars, params)?;
-        let mut labels = Space::new(self.alloc);
-        let hyps = self.hyps_over(names, &vars, &mut labels, hyps)?;
-        let conclusion = self.expr_over(names, &vars, conclusion)?;
-        let dummies = self.dummies(names, &mut vars, dummies)?;
-        let proof = self.proof_over(names, &vars, &labels, proof)?;
+        let params = self.params(names, vars, params)?;
+        let hyps = self.hyps_over(names, vars, labels, hyps)?;
+        let conclusion = self.expr_over(names, vars, conclusion)?;
+        let dummies = self.dummies(names, vars, dummies)?;
+        let proof = self.proof_over(names, vars, labels, proof)?;
         let form = ThmForm::Theorem;
         Ok(Declared {
             name,
@@ -352,6 +410,19 @@ impl<'r, 'a> Reader<'r, 'a> {
             dummies,
             proof: Some(proof),
         })
+    }
+
+    /// What is left of `(theorem N (binder ..) ((h expr) ..) expr (dummy ..) proof)`.
+    fn theorem(&self, names: &Names<'a>, n: u32, rest: Option<u32>) -> Result<Declared<'a>, Stop>
+        requires within { n < node_count self.now.nodes.now }
+        requires there { IsThere self.now.nodes.now rest }
+        requires few { nodes_size (nodes_from self.now.nodes.now rest) < 2 ^ 32 }
+        ensures read { IfOk result (λ d. (mark : Bool) → IsDeclared (names_view names.now) theorem_kind (nodes_from self.now.nodes.now rest) (stated mark d)) }
+        ensures stops { IfErr result (λ stop. Stops stop (declared_asked theorem_kind (place (node_at self.now.nodes.now n)) (names_view names.now) (nodes_from self.now.nodes.now rest))) }
+    {
+        let mut vars = Space::new(self.alloc);
+        let mut labels = Space::new(self.alloc);
+        self.theorem_in(names, &mut vars, &mut labels, n, rest)
     }
 
     /// What is left of a statement of this kind.

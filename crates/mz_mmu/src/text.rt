@@ -1,7 +1,11 @@
-ghost use Rattle.std.specs.Prelude.{◌<◌, ◌^◌, length, IfOk, IfErr};
+ghost use Rattle.std.specs.Prelude.{◌≡◌, ◌<◌, ◌^◌, ◌-◌, ◌++◌, ◌∷◌, [], length, IfOk, IfErr, OnOk};
+ghost use Rattle.mz_logic.specs.DeclView.{declaration};
+ghost use Rattle.mz_mmu.specs.Name.{IsName};
+ghost use Rattle.mz_mmu.specs.NamesMore.{IsUnused, AreFew};
 ghost use Rattle.mz_mmu.specs.EntryView.{IsRooted};
 ghost use Rattle.mz_mmu.specs.Order.{statements_asked};
-ghost use Rattle.mz_mmu.specs.Statements.{no_names};
+ghost use Rattle.mz_mmu.specs.ScopeView.{names as names_view};
+ghost use Rattle.mz_mmu.specs.Statements.{no_names, names_with};
 ghost use Rattle.mz_mmu.specs.TextRead.{IsReading};
 ghost use Rattle.mz_mmu.specs.TextStops.{IsStopped, TextStops, IsRefusal};
 ghost use Rattle.mz_mmu.specs.Cursor.{nodes_size};
@@ -13,7 +17,7 @@ use crate::scope::Names;
 use crate::statements::Declared;
 use mz_logic::{Binders, Decl};
 use mz_sexpr::{SexprRead, Sexprs, TextRefusal, read_sexprs};
-use std::alloc::Global;
+use std::alloc::{AllocError, Global};
 use std::marker::Model;
 
 /// A statement of a text, with its node and its mark.
@@ -77,35 +81,80 @@ fn in_statement(statement: u32, stop: Stop) -> TextStop
     }
 }
 
+/// Puts a statement behind the others, and its name to theirs.
+fn put<'a>(
+    names: &mut Names<'a>,
+    entries: &mut Vec<Entry<'a>>,
+    entry: Entry<'a>,
+) -> Result<(), AllocError>
+    requires name { IsName entry.declared.name.now }
+    requires unused { IsUnused (names_view names.old) entry.declared.name.now (declaration entry.declared.decl) }
+    requires few { AreFew (names_view names.old) (2 ^ 32 - 2) }
+    ensures named { OnOk result (names_view names.new ≡ names_with (names_view names.old) entry.entry.declared.name.now (declaration entry.entry.declared.decl)) }
+    ensures listed { OnOk result (entries.new.items ≡ entries.old.items ++ (entry.entry ∷ [])) }
+{
+    names.add(entry.declared.name, &entry.declared.decl)?;
+    entries.push(entry)?;
+    Ok(())
+}
+
+/// Puts the statements of a text's nodes behind no others, and their names to no others.
+fn read_all<'a>(
+    alloc: Global,
+    nodes: &Sexprs<'a>,
+    names: &mut Names<'a>,
+    entries: &mut Vec<Entry<'a>>,
+) -> Result<(), TextStop>
+    requires few { nodes_size nodes.now < 2 ^ 32 }
+    requires no_names { names_view names.old ≡ no_names }
+    requires no_entries { entries.old.items ≡ [] }
+    ensures read { OnOk result (IsRooted nodes.now entries.new.items) }
+    ensures stops { IfErr result (λ stop. TextStops stop (statements_asked 1 no_names nodes.now)) }
+{
+    let reader = Reader { alloc, nodes };
+    let mut left = nodes.roots();
+    while let Some(n) = left {
+        let number = entries.len() as u32 + 1;
+        let (is_local, declared) = match reader.statement(names, n) {
+            Ok(read) => read,
+            Err(stop) => return Err(in_statement(number, stop)),
+        };
+        let entry = Entry {
+            root: n,
+            is_local,
+            declared,
+        };
+        let Ok(()) = put(names, entries, entry) else {
+            return Err(TextStop::Mem);
+        };
+        left = nodes.next(n);
+    }
+    Ok(())
+}
+
+/// The statements of a text's nodes, whose names are put to no others.
+fn read_named<'a>(
+    alloc: Global,
+    nodes: &Sexprs<'a>,
+    names: &mut Names<'a>,
+) -> Result<Vec<Entry<'a>>, TextStop>
+    requires few { nodes_size nodes.now < 2 ^ 32 }
+    requires no_names { names_view names.old ≡ no_names }
+    ensures read { IfOk result (λ entries. IsRooted nodes.now entries.items) }
+    ensures stops { IfErr result (λ stop. TextStops stop (statements_asked 1 no_names nodes.now)) }
+{
+    let mut entries: Vec<Entry<'a>> = Vec::new(alloc);
+    read_all(alloc, nodes, names, &mut entries)?;
+    Ok(entries)
+}
+
 /// The statements of a text's nodes.
 fn read_entries<'a>(alloc: Global, nodes: &Sexprs<'a>) -> Result<Vec<Entry<'a>>, TextStop>
     requires { nodes_size nodes.now < 2 ^ 32 }
     ensures read { IfOk result (λ entries. IsRooted nodes.now entries.items) }
     ensures stops { IfErr result (λ stop. TextStops stop (statements_asked 1 no_names nodes.now)) }
 {
-    let reader = Reader { alloc, nodes };
-    let mut names = Names::new(alloc);
-    let mut entries: Vec<Entry<'a>> = Vec::new(alloc);
-    let mut left = nodes.roots();
-    while let Some(n) = left {
-        let number = entries.len() as u32 + 1;
-        let (is_local, declared) = match reader.statement(&names, n) {
-            Ok(read) => read,
-            Err(stop) => return Err(in_statement(number, stop)),
-        };
-        let Ok(()) = names.add(declared.name, &declared.decl) else {
-            return Err(TextStop::Mem);
-        };
-        let Ok(()) = entries.push(Entry {
-            root: n,
-            is_local,
-            declared,
-        }) else {
-            return Err(TextStop::Mem);
-        };
-        left = nodes.next(n);
-    }
-    Ok(entries)
+    read_named(alloc, nodes, &mut Names::new(alloc))
 }
 
 /// The answer where a text has no statements.

@@ -13,24 +13,24 @@ use Rattle.mz_mmu.proofs.Keys.{length-more}
 use Rattle.std.proofs.lemmas.List.{map-append}
 use Rattle.mz_mmu.specs.NamesMore.{AreFew}
 use Rattle.mz_mmu.proofs.TextSteps.{statements_read_more, statements_asked_more, numbers_more, few_more, agrees_more, agrees_first, few_first, text_stops}
-use Rattle.mz_mmu.proofs.text.read_entries.Goals as goal
+use Rattle.mz_mmu.proofs.text.read_all.Goals as goal
 
 pub loop-left-init : goal.loop-left-init
 loop-left-init c =
     let all = c.args.nodes.now in
     let start = stands_from all c.roots-left.result all c.roots-left.ensures in
-    let none = ap length c.new-entries.ensures.items in
+    let none = ap length c.requires.no_entries in
     let sizes = ap nodes_size start in
     record {
       there = stands_there all c.roots-left.result all c.roots-left.ensures;
-      few = omega (arith, none, sizes, c.requires);
-      counts = subst (λ x. AreFew x (length c.new-entries.result.items)) (sym c.new-names.ensures) (few_first (length c.new-entries.result.items));
-      agrees = subst Agrees (sym c.new-names.ensures) agrees_first;
-      read = λ ss r. subst (λ xs. AreStatements no_names all (map entry xs ++ ss)) (sym c.new-entries.ensures.items)
-          (subst (λ ns. AreStatements no_names ns ss) (sym start) (subst (λ x. AreStatements x (nodes_from all c.roots-left.result) ss) c.new-names.ensures r));
-      roots = λ ks r. subst (λ xs. AreNumbers all all (map root xs ++ ks)) (sym c.new-entries.ensures.items) (subst (λ ns. AreNumbers all ns ks) (sym start) r);
-      asked = subst (λ k. Decides (statements_asked (suc k) (names c.new-names.result) (nodes_from all c.roots-left.result)) (statements_asked 1 no_names all)) (sym none)
-          (subst (λ x. Decides (statements_asked 1 x (nodes_from all c.roots-left.result)) (statements_asked 1 no_names all)) (sym c.new-names.ensures)
+      few = omega (arith, none, sizes, c.requires.few);
+      counts = subst (λ x. AreFew x (length c.args.entries.now.items)) (sym c.requires.no_names) (few_first (length c.args.entries.now.items));
+      agrees = subst Agrees (sym c.requires.no_names) agrees_first;
+      read = λ ss r. subst (λ xs. AreStatements no_names all (map entry xs ++ ss)) (sym c.requires.no_entries)
+          (subst (λ ns. AreStatements no_names ns ss) (sym start) (subst (λ x. AreStatements x (nodes_from all c.roots-left.result) ss) c.requires.no_names r));
+      roots = λ ks r. subst (λ xs. AreNumbers all all (map root xs ++ ks)) (sym c.requires.no_entries) (subst (λ ns. AreNumbers all ns ks) (sym start) r);
+      asked = subst (λ k. Decides (statements_asked (suc k) (names c.args.names.now) (nodes_from all c.roots-left.result)) (statements_asked 1 no_names all)) (sym none)
+          (subst (λ x. Decides (statements_asked 1 x (nodes_from all c.roots-left.result)) (statements_asked 1 no_names all)) (sym c.requires.no_names)
           (subst (λ ns. Decides (statements_asked 1 no_names ns) (statements_asked 1 no_names all)) start (decides-whole (statements_asked 1 no_names all))));
     }
 
@@ -38,27 +38,27 @@ pub loop-left-preserved : goal.loop-left-preserved
 loop-left-preserved c =
     let all = c.args.nodes.now in
     let ns = names c.loop-left.names in
-    let later = names c.add.new.self in
+    let later = names c.put.new.names in
     let m = node_at all c.in-Some.n in
     let s = stated c.in-Ok.read.0 c.in-Ok.read.1 in
     let step = stepped all c.loop-left.left c.in-Some.n c.next-left.result c.in-Some.is c.next-left.ensures in
     let old = c.loop-left.entries.items in
     let sizes = ap nodes_size step in
     let size = node_size_positive m in
-    let one = ap length c.in-Ok-push.ensures.items ∙ length-more old (record { root = c.in-Some.n; is_local = c.in-Ok.read.0; declared = c.in-Ok.read.1 }) in
-    let entries = ap (map entry) c.in-Ok-push.ensures.items ∙ map-append entry old (record { root = c.in-Some.n; is_local = c.in-Ok.read.0; declared = c.in-Ok.read.1 } ∷ []) in
-    let roots = ap (map root) c.in-Ok-push.ensures.items ∙ map-append root old (record { root = c.in-Some.n; is_local = c.in-Ok.read.0; declared = c.in-Ok.read.1 } ∷ []) in
+    let one = ap length c.in-Ok-put.ensures.listed ∙ length-more old (record { root = c.in-Some.n; is_local = c.in-Ok.read.0; declared = c.in-Ok.read.1 }) in
+    let entries = ap (map entry) c.in-Ok-put.ensures.listed ∙ map-append entry old (record { root = c.in-Some.n; is_local = c.in-Ok.read.0; declared = c.in-Ok.read.1 } ∷ []) in
+    let roots = ap (map root) c.in-Ok-put.ensures.listed ∙ map-append root old (record { root = c.in-Some.n; is_local = c.in-Ok.read.0; declared = c.in-Ok.read.1 } ∷ []) in
     let within = subst (IsThere all) c.in-Some.is c.loop-left.invariant.there in
     record {
       there = stands_there all c.next-left.result (nodes_after all c.in-Some.n) c.next-left.ensures;
       few = omega (arith, sizes, size, one, c.loop-left.invariant.few);
-      counts = few_more ns later s.name s.decl (length old) (length c.push.new.self.items) c.in-Ok-add.ensures one c.loop-left.invariant.counts;
-      agrees = agrees_more ns later s.name s.decl c.in-Ok-add.ensures c.loop-left.invariant.agrees;
-      read = statements_read_more ns later (nodes_from all c.loop-left.left) (nodes_from all c.next-left.result) m step s c.in-Ok.ensures.read c.in-Ok-add.ensures
-          (AreStatements no_names all) (map entry old) (map entry c.push.new.self.items) entries c.loop-left.invariant.read;
-      roots = numbers_more all (nodes_from all c.loop-left.left) (nodes_from all c.next-left.result) c.in-Some.n step within (AreNumbers all all) (map root old) (map root c.push.new.self.items) roots c.loop-left.invariant.roots;
+      counts = few_more ns later s.name s.decl (length old) (length c.put.new.entries.items) c.in-Ok-put.ensures.named one c.loop-left.invariant.counts;
+      agrees = agrees_more ns later s.name s.decl c.in-Ok-put.ensures.named c.loop-left.invariant.agrees;
+      read = statements_read_more ns later (nodes_from all c.loop-left.left) (nodes_from all c.next-left.result) m step s c.in-Ok.ensures.read c.in-Ok-put.ensures.named
+          (AreStatements no_names all) (map entry old) (map entry c.put.new.entries.items) entries c.loop-left.invariant.read;
+      roots = numbers_more all (nodes_from all c.loop-left.left) (nodes_from all c.next-left.result) c.in-Some.n step within (AreNumbers all all) (map root old) (map root c.put.new.entries.items) roots c.loop-left.invariant.roots;
       asked = subst (λ k. Decides (statements_asked (suc k) later (nodes_from all c.next-left.result)) (statements_asked 1 no_names all)) (sym one)
-          (statements_asked_more ns later (nodes_from all c.loop-left.left) (nodes_from all c.next-left.result) m step s c.in-Ok.ensures.read c.in-Ok-add.ensures (suc (length old)) (statements_asked 1 no_names all) c.loop-left.invariant.asked);
+          (statements_asked_more ns later (nodes_from all c.loop-left.left) (nodes_from all c.next-left.result) m step s c.in-Ok.ensures.read c.in-Ok-put.ensures.named (suc (length old)) (statements_asked 1 no_names all) c.loop-left.invariant.asked);
     }
 
 pub loop-left-smaller : goal.loop-left-smaller
@@ -75,12 +75,12 @@ returns-in-Err-clause-stops c =
     text_stops (names c.loop-left.names) (nodes_from all c.loop-left.left) (nodes_after all c.in-Some.n) (node_at all c.in-Some.n) (suc (length c.loop-left.entries.items)) (c.len.result + 1)
     (statements_asked 1 no_names all) c.in-Err.stop c.in_statement.result number c.in_statement.ensures (ap (nodes_from all) c.in-Some.is) c.loop-left.invariant.asked c.in-Err.ensures.stops
 
-pub add-requires-clause-name : goal.add-requires-clause-name
-add-requires-clause-name c =
+pub put-requires-clause-name : goal.put-requires-clause-name
+put-requires-clause-name c =
     ((statement_says (names c.loop-left.names) (node_at c.args.nodes.now c.in-Some.n) (stated c.in-Ok.read.0 c.in-Ok.read.1) c.in-Ok.ensures.read).2 c.loop-left.invariant.agrees).0
 
-pub add-requires-clause-unused : goal.add-requires-clause-unused
-add-requires-clause-unused c =
+pub put-requires-clause-unused : goal.put-requires-clause-unused
+put-requires-clause-unused c =
     ((statement_says (names c.loop-left.names) (node_at c.args.nodes.now c.in-Some.n) (stated c.in-Ok.read.0 c.in-Ok.read.1) c.in-Ok.ensures.read).2 c.loop-left.invariant.agrees).1
 
 pub returns-clause-read : goal.returns-clause-read

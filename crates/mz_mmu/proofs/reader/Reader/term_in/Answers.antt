@@ -9,7 +9,7 @@ use Rattle.mz_mmu.specs.ScopeView.{names}
 use Rattle.mz_mmu.specs.Stops.{Stops}
 use Rattle.mz_mmu.proofs.Hold.{new_holds, params_hold}
 use Rattle.mz_mmu.proofs.Stopping.{failed, stops_before, stops_after}
-use Rattle.mz_mmu.proofs.reader.Reader.term.Goals as goal
+use Rattle.mz_mmu.proofs.reader.Reader.term_in.Goals as goal
 
 pub returns-in_err-params-clause-stops : goal.returns-in_err-params-clause-stops
 returns-in_err-params-clause-stops c =

@@ -12,7 +12,7 @@ use Rattle.mz_mmu.specs.Stops.{Stops}
 use Rattle.mz_mmu.proofs.Hold.{names_few, new_holds, params_hold, dummies_hold, expr_holds}
 use Rattle.mz_mmu.proofs.HoldStatements.{hyps_hold}
 use Rattle.mz_mmu.proofs.Stopping.{failed, stops_before, stops_after}
-use Rattle.mz_mmu.proofs.reader.Reader.theorem.Goals as goal
+use Rattle.mz_mmu.proofs.reader.Reader.theorem_in.Goals as goal
 
 pub returns-in_err-params-clause-stops : goal.returns-in_err-params-clause-stops
 returns-in_err-params-clause-stops c =

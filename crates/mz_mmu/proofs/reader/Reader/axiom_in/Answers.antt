@@ -10,7 +10,7 @@ use Rattle.mz_mmu.specs.ScopeView.{names}
 use Rattle.mz_mmu.specs.Stops.{Stops}
 use Rattle.mz_mmu.proofs.Hold.{new_holds, params_hold, expr_list_holds}
 use Rattle.mz_mmu.proofs.Stopping.{failed, stops_before, stops_after}
-use Rattle.mz_mmu.proofs.reader.Reader.axiom.Goals as goal
+use Rattle.mz_mmu.proofs.reader.Reader.axiom_in.Goals as goal
 
 pub returns-in_err-params-clause-stops : goal.returns-in_err-params-clause-stops
 returns-in_err-params-clause-stops c =

@@ -8,7 +8,7 @@ use Rattle.mz_mmu.specs.Statements.{no_names, AreStatements}
 use Rattle.mz_mmu.specs.Order.{statements_asked}
 use Rattle.mz_mmu.specs.ScopeView.{names}
 use Rattle.mz_mmu.proofs.Declared.{Agrees}
-use Rattle.mz_mmu.proofs.text.read_entries.Given as goal
+use Rattle.mz_mmu.proofs.text.read_all.Given as goal
 
 abbrev pub decreases-loop-left : goal.decreases-loop-left
 decreases-loop-left l = nodes_size (nodes_from l.nodes l.left)
