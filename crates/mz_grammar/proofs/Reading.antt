@@ -24,7 +24,7 @@ use Rattle.mz_grammar.specs.CodeProgress.{progress}
 use Rattle.mz_grammar.specs.Statement.{IsPrefix}
 use Rattle.mz_grammar.specs.Progress.{Progress, whole, start, next, Leads}
 use Rattle.mz_grammar.specs.Stops.{StopsBy, misfit_rule}
-use Rattle.mz_grammar.specs.Reading.{IsReadTo, IsRead, StopsFrom}
+use Rattle.mz_grammar.specs.Reading.{IsReadTo, IsRead, StopsFrom, EndsAt}
 use Rattle.mz_grammar.proofs.Adding.{leads-spells}
 use Rattle.mz_grammar.proofs.Leading.{leads-append}
 use Rattle.mz_grammar.proofs.Grammar.{leads-prefix, misfit-prefix, open-statement, no-empty, IsOpen}
@@ -78,6 +78,10 @@ pub stop-in_end : (text : List ℕ) (from place at : ℕ) (p : Progress) → IsR
     → StopsFrom text from (record { at = length text; rule = rules.Statement })
 stop-in_end text from place at p read is_open ends =
     stop-end text from place at p None (record { at = length text; rule = rules.Statement }) read is_open ends (λ first more. refl)
+
+pub stop-ending : (text : List ℕ) (from place at : ℕ) (p : Progress) (fault : Fault) → IsReadTo text from place p at → IsOpen p → EndsAt text at fault → StopsFrom text from fault
+stop-ending text from place at p fault read is_open (None, ends, e) = subst (StopsFrom text from) (sym e) (stop-in_end text from place at p read is_open ends)
+stop-ending text from place at p fault read is_open (Some f, ends, e) = subst (StopsFrom text from) (sym e) (stop-in_fault text from place at p f read is_open ends)
 
 -- behind others a lexeme doesn't fit
 pub stop-misfit : (text : List ℕ) (from place at : ℕ) (p : Progress) (l : Lexeme) → IsReadTo text from place p at → IsOpen p → IsNext text at l → next p l ≡ None

@@ -1,8 +1,10 @@
 -- What reading a statement answers.
 use Rattle.std.specs.Prelude.{◌≡◌, ⊤, ℕ, List, [], ◌∷◌, length, Option}
-use Rattle.std.proofs.Common.{Result, Ok, Err}
-use Rattle.mz_lex.specs.Lexemes.{Lexeme, LexemesTo, LexesFrom}
+use Rattle.std.proofs.Common.{Result, Ok, Err, Some, None}
+use Rattle.mz_lex.specs.Lexemes.{Lexeme, LexemesTo, LexesFrom, EndsBy}
 use Rattle.mz_lex.specs.declared.token.LexFault.{LexFault}
+use Rattle.mz_lex.specs.declared.rule.S.TheVariants as rules
+use Rattle.mz_lex.specs.RuleText.{place_of, rule_of}
 use Rattle.mz_grammar.specs.declared.refusal.Fault.{Fault}
 use Rattle.mz_grammar.specs.declared.refusal.Halt.{Halt}
 use Rattle.mz_grammar.specs.declared.refusal.Halt.TheVariants as halts
@@ -27,6 +29,15 @@ IsRead text from read = (front : List Lexeme) × LexemesTo text from front read.
 -- the lexemes from a place on stop with this fault
 abbrev pub StopsFrom : List ℕ → ℕ → Fault → Type 0
 StopsFrom text from fault = (ls : List Lexeme) (ending : Option LexFault) → LexesFrom text from ls ending → Stops (length text) ls ending fault
+
+-- the fault where no lexeme comes within a statement: the end of the text, or of what stands there
+abbrev pub ending_fault : ℕ → Option LexFault → Fault
+ending_fault size None = record { at = size; rule = rules.Statement }
+ending_fault size (Some fault) = record { at = place_of fault; rule = rule_of fault }
+
+-- no lexeme comes from a place on, with this fault within a statement
+abbrev pub EndsAt : List ℕ → ℕ → Fault → Type 0
+EndsAt text at fault = (e : Option LexFault) × EndsBy text at e × (fault ≡ ending_fault (length text) e)
 
 -- a fault has the property; want of memory tells nothing
 abbrev pub OnFault : Halt → (Fault → Type 0) → Type 0

@@ -198,9 +198,16 @@ impl<'a> Progress<'a> {
                     body: Some(body),
                 })),
             )),
-            Progress::Whole(_) => Ok(None),
+            Progress::Whole(statement) => Ok(behind(statement)),
         }
     }
+}
+
+/// Nothing stands behind a whole statement.
+fn behind<'a>(_statement: Statement<'a>) -> Option<Progress<'a>>
+    ensures { result ≡ None }
+{
+    None
 }
 
 /// The progress, where the lexeme fits.

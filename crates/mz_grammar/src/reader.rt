@@ -1,10 +1,10 @@
 // Reading a statement.
-ghost use Rattle.std.specs.Prelude.{◌≡◌, ◌≤◌, ◌<◌, ◌^◌, [], ⊤, length, IfOk, MatchOption};
-ghost use Rattle.mz_lex.specs.Lexemes.{IsBlank};
+ghost use Rattle.std.specs.Prelude.{◌≡◌, ◌≤◌, ◌<◌, ◌^◌, [], ⊤, length, IfOk, IfErr, MatchOption};
+ghost use Rattle.mz_lex.specs.Lexemes.{IsBlank, IsNext};
 ghost use Rattle.mz_lex.specs.RuleText.{place_of, rule_of};
 ghost use Rattle.mz_grammar.specs.Code.{lexeme};
 ghost use Rattle.mz_grammar.specs.CodeProgress.{progress as progress_lem};
-ghost use Rattle.mz_grammar.specs.Reading.{IfFault, IsRead, IsReadTo, StopsFrom};
+ghost use Rattle.mz_grammar.specs.Reading.{EndsAt, IfFault, IsRead, IsReadTo, StopsFrom};
 ghost use Rattle.mz_grammar.specs.Stops.{misfit_rule};
 
 use crate::lexeme::Lexeme;
@@ -75,6 +75,28 @@ pub fn read_statement(
     Ok(Some(read))
 }
 
+/// The next lexeme within a statement.
+///
+/// # Errors
+///
+/// Where none comes.
+fn lexeme_at(text: &[u8], at: usize) -> Result<Lexeme<'_>, Fault>
+    requires at { at ≤ length text.now }
+    requires small { length text.now < 2 ^ 32 }
+    ensures next { IfOk result (λ found. IsNext text.now at (lexeme found)) }
+    ensures span { IfOk result (λ found. (at < found.to) × (found.to ≤ length text.now)) }
+    ensures ends { IfErr result (EndsAt text.now at) }
+{
+    match next_token(text, at) {
+        Ok(None) => Err(Fault {
+            at: text.len() as u32,
+            rule: S::Statement,
+        }),
+        Ok(Some(token)) => Ok(Lexeme::new(text, token)),
+        Err(fault) => Err(no_lexeme(fault)),
+    }
+}
+
 /// Reads a statement behind its first lexeme.
 fn read_rest<'a>(
     alloc: Global,
@@ -100,15 +122,9 @@ fn read_rest<'a>(
                 end: at,
             });
         }
-        let found = match next_token(text, at) {
-            Ok(None) => {
-                return Err(Halt::Fault(Fault {
-                    at: text.len() as u32,
-                    rule: S::Statement,
-                }));
-            }
-            Ok(Some(token)) => Lexeme::new(text, token),
-            Err(fault) => return Err(Halt::Fault(no_lexeme(fault))),
+        let found = match lexeme_at(text, at) {
+            Ok(found) => found,
+            Err(fault) => return Err(Halt::Fault(fault)),
         };
         let Some(next) = progress.next(alloc, found)? else {
             return Err(Halt::Fault(Fault {
