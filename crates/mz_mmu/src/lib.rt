@@ -5,8 +5,6 @@
 mod binders;
 mod conv;
 mod convs;
-#[cfg(test)]
-mod deep_tests;
 mod exprs;
 mod fault;
 mod keyword;
@@ -18,8 +16,6 @@ mod reader;
 mod scope;
 mod space;
 mod statements;
-#[cfg(test)]
-mod tests;
 mod text;
 
 pub use conv::{Conv, ConvBox, Convs, Vars};

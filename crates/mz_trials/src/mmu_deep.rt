@@ -1,4 +1,4 @@
-use crate::{TextRead, read_text};
+use mz_mmu::{TextRead, read_text};
 use std::alloc::{AllocError, Global};
 use std::test::Fail;
 

@@ -1,4 +1,4 @@
-use Rattle.mz_mmu.proofs.tests.Page.+proof.Given as goal
+use Rattle.mz_trials.proofs.mmu.Page.+proof.Given as goal
 
 abbrev pub decreases-proof : goal.decreases-proof
 decreases-proof l = l.limit

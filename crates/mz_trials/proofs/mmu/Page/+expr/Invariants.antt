@@ -1,4 +1,4 @@
-use Rattle.mz_mmu.proofs.tests.Page.+expr.Given as goal
+use Rattle.mz_trials.proofs.mmu.Page.+expr.Given as goal
 
 abbrev pub decreases-expr : goal.decreases-expr
 decreases-expr l = l.limit

@@ -1,4 +1,4 @@
-use Rattle.mz_mmu.proofs.tests.Page.+conv.Given as goal
+use Rattle.mz_trials.proofs.mmu.Page.+conv.Given as goal
 
 abbrev pub decreases-conv : goal.decreases-conv
 decreases-conv l = l.limit
