@@ -144,7 +144,7 @@ pub record RowsWithin (file : List ℕ) (rows : Rows) (passed : ℕ) : Type 0 wh
   pub many : passed ≡ rows.sorts + rows.terms + rows.thms
 
 module _ (file : List ℕ) (rows : Rows) (env : List Declaration) (counts : CountsRows rows env) (at body next passed : ℕ) (before : RowsWithin file rows passed) where
-  pub within-past : (k : StatementCode) → AllHold (kind_checks file (taken_by env) at body next (Some k)) → RowsWithin file (rows_past rows k) (passed + 1)
+  pub within-past : (k : StatementCode) → AllHold (kind_checks false file (taken_by env) at body next (Some k)) → RowsWithin file (rows_past rows k) (passed + 1)
   within-past codes.Sort all = record { sorts_within = omega (arith, all.0, counts.sorts_are); terms_within = before.terms_within; thms_within = before.thms_within; many = omega (arith, before.many) }
   within-past codes.Term all = record { sorts_within = before.sorts_within; terms_within = omega (arith, all.0, counts.terms_are); thms_within = before.thms_within; many = omega (arith, before.many) }
   within-past codes.LocalDefinition all = record { sorts_within = before.sorts_within; terms_within = omega (arith, all.0, counts.terms_are); thms_within = before.thms_within; many = omega (arith, before.many) }
@@ -154,19 +154,19 @@ module _ (file : List ℕ) (rows : Rows) (env : List Declaration) (counts : Coun
 
 -- ---- what is found runs
 
-pub run-of : (file : List ℕ) (t : Taken) (at : ℕ) (f : Found) → find_at file t at ≡ Ok f → run_place file t at ≡ run_found file t f
-run-of file t at f e = ap (λ r. r >>= run_found file t) e
+pub run-of : (file : List ℕ) (t : Taken) (at : ℕ) (f : Found) → find_at file t at ≡ Ok f → run_place false file t at ≡ run_found false file t f
+run-of file t at f e = ap (λ r. r >>= run_found false file t) e
 
 -- ---- what stops the checker
 
 module _ (p : Progress) (ss : List Statement) (env : List Declaration) (before : HasPassed p ss env) where
   -- the place is judged after what env declares
-  judged-here : (r : Result Onward (ℕ × K)) → run_place p.file (taken_before p.file p.rows) p.at ≡ r → Judges r (place_checks p.file (taken_by env) p.at)
+  judged-here : (r : Result Onward (ℕ × K)) → run_place false p.file (taken_before p.file p.rows) p.at ≡ r → Judges r (place_checks false p.file (taken_by env) p.at)
   judged-here r e =
-      subst (λ (x : Result Onward (ℕ × K)). Judges x (place_checks p.file (taken_by env) p.at)) (ap (λ t. run_place p.file t p.at) (taken p ss env before) ∙ e) (place-judged p.file (taken_by env) p.at)
+      subst (λ (x : Result Onward (ℕ × K)). Judges x (place_checks false p.file (taken_by env) p.at)) (ap (λ t. run_place false p.file t p.at) (taken p ss env before) ∙ e) (place-judged false p.file (taken_by env) p.at)
 
   -- the first rule that fails after the statements before
-  pub fails-here : (refusal : Refusal) → IsReached p → refusal.statement ≡ p.passed + 1 → run_place p.file (taken_before p.file p.rows) p.at ≡ Err (refusal.at, refusal.rule) → FailsAfter p.file ss env p.at refusal
+  pub fails-here : (refusal : Refusal) → IsReached p → refusal.statement ≡ p.passed + 1 → run_place false p.file (taken_before p.file p.rows) p.at ≡ Err (refusal.at, refusal.rule) → FailsAfter false p.file ss env p.at refusal
   fails-here refusal reached number e =
       record { layout = reached.binary.layout; statements = before.statements; number = omega (arith, number, before.many); fails = judged-here (Err (refusal.at, refusal.rule)) e }
 
@@ -174,17 +174,17 @@ module _ (p : Progress) (ss : List Statement) (env : List Declaration) (before :
   found-here f e = ap (λ t. find_at p.file t p.at) (taken p ss env before) ∙ e
 
   -- the list's end after the statements before
-  pub ends-here : IsReached p → find_at p.file (taken_before p.file p.rows) p.at ≡ Ok list_ends → Good p.file ss
+  pub ends-here : IsReached p → find_at p.file (taken_before p.file p.rows) p.at ≡ Ok list_ends → Good false p.file ss
   ends-here reached e =
-      let ran : run_place p.file (taken_by env) p.at ≡ Ok ended = run-of p.file (taken_by env) p.at list_ends (found-here list_ends e) in
+      let ran : run_place false p.file (taken_by env) p.at ≡ Ok ended = run-of p.file (taken_by env) p.at list_ends (found-here list_ends e) in
       record {
         layout = reached.binary.layout;
         env = env;
         to = p.at;
         statements = before.statements;
         ends = record {
-          ends = ends-there p.file (taken_by env) p.at ran;
-          passes = subst (λ (x : Result Onward (ℕ × K)). Judges x (place_checks p.file (taken_by env) p.at)) ran (place-judged p.file (taken_by env) p.at);
+          ends = ends-there false p.file (taken_by env) p.at ran;
+          passes = subst (λ (x : Result Onward (ℕ × K)). Judges x (place_checks false p.file (taken_by env) p.at)) ran (place-judged false p.file (taken_by env) p.at);
         };
       }
 
@@ -193,20 +193,20 @@ module _ (p : Progress) (ss : List Statement) (env : List Declaration) (before :
 
   -- ---- a good statement
 
-  module _ (head : Head) (stands : IsHead p.file head) (place : head.at ≡ p.at) (ran : run_place p.file (taken_before p.file p.rows) p.at ≡ Ok (onward (after_kind p.file (taken_before p.file p.rows) head.code) head.next)) where
+  module _ (head : Head) (stands : IsHead p.file head) (place : head.at ≡ p.at) (ran : run_place false p.file (taken_before p.file p.rows) p.at ≡ Ok (onward (after_kind p.file (taken_before p.file p.rows) head.code) head.next)) where
     stands-there : statement_at p.file p.at ≡ Ok (there.Head (statement_byte head.code) head.body head.next)
     stands-there = subst (λ at. statement_at p.file at ≡ Ok (there.Head (statement_byte head.code) head.body head.next)) place stands
 
-    passes-all : AllHold (place_checks p.file (taken_by env) p.at)
+    passes-all : AllHold (place_checks false p.file (taken_by env) p.at)
     passes-all = judged-here (Ok (onward (after_kind p.file (taken_before p.file p.rows) head.code) head.next)) ran
 
-    kind-holds : AllHold (kind_checks p.file (taken_by env) p.at head.body head.next (Some head.code))
-    kind-holds = at-head p.file env p.at (statement_byte head.code) head.body head.next head.code stands-there (code-of head.code) passes-all
+    kind-holds : AllHold (kind_checks false p.file (taken_by env) p.at head.body head.next (Some head.code))
+    kind-holds = at-head false p.file env p.at (statement_byte head.code) head.body head.next head.code stands-there (code-of head.code) passes-all
 
-    follows : FollowedBy p.file env p.at head.body head.next head.code
+    follows : FollowedBy false p.file env p.at head.body head.next head.code
     follows =
-        let (legal, declares) = well-chain p.file [] (list_at p.file) ss env p.at before.statements tt (record { sorts_are = refl; terms_are = tt; thms_are = tt }) in
-        followed p.file env p.at (statement_byte head.code) head.body head.next stands-there head.code (code-of head.code) legal declares kind-holds
+        let (legal, declares) = well-chain false p.file [] (list_at p.file) ss env p.at before.statements tt (record { sorts_are = refl; terms_are = tt; thms_are = tt }) in
+        followed false p.file env p.at (statement_byte head.code) head.body head.next stands-there head.code (code-of head.code) legal declares kind-holds
 
 -- the checker and what it tells, past a statement
 pub record IsPast (p after : Progress) (told : Told) (head : Head) : Type 0 where
@@ -227,21 +227,21 @@ spelled-kind file env at s next code body sp e =
     subst (λ (z : ℕ). HasKind z s) same sp.kind
 
 module _ (p after : Progress) (told : Told) (head : Head) (past : IsPast p after told head) (stands : IsHead p.file head) (place : head.at ≡ p.at)
-    (ran : run_place p.file (taken_before p.file p.rows) p.at ≡ Ok (onward (after_kind p.file (taken_before p.file p.rows) head.code) head.next)) where
+    (ran : run_place false p.file (taken_before p.file p.rows) p.at ≡ Ok (onward (after_kind p.file (taken_before p.file p.rows) head.code) head.next)) where
   module _ (ss : List Statement) (env : List Declaration) (before : HasPassed p ss env) where
-    f : FollowedBy p.file env p.at head.body head.next head.code
+    f : FollowedBy false p.file env p.at head.body head.next head.code
     f = follows p ss env before head stands place ran
 
     abbrev s : Statement
     s = f.statement
 
-    good : IsGoodStatement p.file env p.at s after.at
-    good = subst (λ (to : ℕ). IsGoodStatement p.file env p.at s to) (sym past.goes_on) (record { spelled = f.spelled; passes = passes-all p ss env before head stands place ran })
+    good : IsGoodStatement false p.file env p.at s after.at
+    good = subst (λ (to : ℕ). IsGoodStatement false p.file env p.at s to) (sym past.goes_on) (record { spelled = f.spelled; passes = passes-all p ss env before head stands place ran })
 
     passed : HasPassed after (ss ++ s ∷ []) (env ++ s.decl ∷ [])
     passed = record {
-      statements = subst (λ file. GoodTo file [] (list_at file) (ss ++ s ∷ []) (env ++ s.decl ∷ []) after.at) (sym past.same_file)
-          (chain-more (IsGoodStatement p.file) [] (list_at p.file) ss env p.at s after.at before.statements good);
+      statements = subst (λ file. GoodTo false file [] (list_at file) (ss ++ s ∷ []) (env ++ s.decl ∷ []) after.at) (sym past.same_file)
+          (chain-more (IsGoodStatement false p.file) [] (list_at p.file) ss env p.at s after.at before.statements good);
       many = omega (arith, past.one_more, before.many, length-append ss (s ∷ []));
       rows = subst (λ r. CountsRows r (env ++ s.decl ∷ [])) (sym past.rows_are) (counts-past p.rows env before.rows p.file head.code (env ++ s.decl ∷ []) f.taken);
     }
@@ -305,7 +305,7 @@ module _ (p after : Progress) (told : Told) (head : Head) (past : IsPast p after
   pub row-there : IsReached p → next_row p.rows head.code < sort_count p.file + term_count p.file + thm_count p.file
   row-there r = let (ss, env, before) = r.before in go env before.rows head.code (kind-holds p ss env before head stands place ran)
     where
-      go : (env : List Declaration) → CountsRows p.rows env → (k : StatementCode) → AllHold (kind_checks p.file (taken_by env) p.at head.body head.next (Some k))
+      go : (env : List Declaration) → CountsRows p.rows env → (k : StatementCode) → AllHold (kind_checks false p.file (taken_by env) p.at head.body head.next (Some k))
           → next_row p.rows k < sort_count p.file + term_count p.file + thm_count p.file
       go env counts codes.Sort all = omega (arith, all.0, counts.sorts_are)
       go env counts codes.Term all = omega (arith, all.0, counts.terms_are)

@@ -61,5 +61,5 @@ one-spelled file env at s t next next' a b =
     let place : next ≡ next' = cc in
     (same-statement s t (a.kind.1 ∙ ap is_local_code code ∙ sym b.kind.1) (one-declaration file env b.code s.decl t.decl (subst (λ (z : ℕ). IsKindOf z s.decl) code a.kind.0) b.kind.0 a.row b.row), place)
 
-pub one-good : (file : List ℕ) (env : List Declaration) (at : ℕ) (s t : Statement) (next next' : ℕ) → IsGoodStatement file env at s next → IsGoodStatement file env at t next' → (s ≡ t) × (next ≡ next')
-one-good file env at s t next next' a b = one-spelled file env at s t next next' a.spelled b.spelled
+pub one-good : (gaps : Bool) (file : List ℕ) (env : List Declaration) (at : ℕ) (s t : Statement) (next next' : ℕ) → IsGoodStatement gaps file env at s next → IsGoodStatement gaps file env at t next' → (s ≡ t) × (next ≡ next')
+one-good gaps file env at s t next next' a b = one-spelled file env at s t next next' a.spelled b.spelled

@@ -1,5 +1,5 @@
 -- Statements that follow one another in the list.
-use Rattle.std.specs.Prelude.{◌≡◌, ℕ, List, [], ◌∷◌, ◌++◌, Ok}
+use Rattle.std.specs.Prelude.{◌≡◌, ℕ, List, [], ◌∷◌, ◌++◌, Ok, Bool}
 use Rattle.mz_checks.specs.Checks.{AllHold}
 use Rattle.mz_cmd.specs.declared.statement.StmtAt.TheVariants.{End}
 use Rattle.mz_cmd.specs.StatementList.{statement_at}
@@ -33,14 +33,14 @@ pub record Statements (file : List ℕ) (ss : List Statement) : Type 0 where
 -- ---- good statements
 
 -- the statement stands at a place after env, and nothing that is asked of the place fails
-pub record IsGoodStatement (file : List ℕ) (env : List Declaration) (at : ℕ) (s : Statement) (next : ℕ) : Type 0 where
+pub record IsGoodStatement (gaps : Bool) (file : List ℕ) (env : List Declaration) (at : ℕ) (s : Statement) (next : ℕ) : Type 0 where
   pub spelled : IsSpelled file env at s next
-  pub passes : AllHold (list_checks file env at)
+  pub passes : AllHold (list_checks gaps file env at)
 
-abbrev pub GoodTo : List ℕ → List Declaration → ℕ → List Statement → List Declaration → ℕ → Type 0
-GoodTo file = Chain (IsGoodStatement file)
+abbrev pub GoodTo : Bool → List ℕ → List Declaration → ℕ → List Statement → List Declaration → ℕ → Type 0
+GoodTo gaps file = Chain (IsGoodStatement gaps file)
 
 -- the list ends there after env, and no row is left
-pub record EndsAt (file : List ℕ) (env : List Declaration) (at : ℕ) : Type 0 where
+pub record EndsAt (gaps : Bool) (file : List ℕ) (env : List Declaration) (at : ℕ) : Type 0 where
   pub ends : IsListEnd file at
-  pub passes : AllHold (list_checks file env at)
+  pub passes : AllHold (list_checks gaps file env at)

@@ -1,5 +1,5 @@
 -- Good binaries, and the first fault of another.
-use Rattle.std.specs.Prelude.{◌≡◌, ◌⊎◌, ℕ, ◌+◌, List, [], length}
+use Rattle.std.specs.Prelude.{◌≡◌, ◌⊎◌, ℕ, ◌+◌, List, [], length, Bool}
 use Rattle.mz_checks.specs.Checks.{FailsFirst}
 use Rattle.mz_cmd.specs.declared.rule.Refusal.{Refusal}
 use Rattle.mz_logic.specs.Declaration.{Declaration}
@@ -10,23 +10,23 @@ use Rattle.mz_binary.specs.Checking.{list_checks}
 use Rattle.mz_binary.specs.Chains.{GoodTo, EndsAt}
 
 -- header and tables are in order, and these are the statements, all good, of the whole list
-pub record Good (file : List ℕ) (ss : List Statement) : Type 0 where
+pub record Good (gaps : Bool) (file : List ℕ) (ss : List Statement) : Type 0 where
   pub layout : Layout file
   pub env : List Declaration
   pub to : ℕ
-  pub statements : GoodTo file [] (list_at file) ss env to
-  pub ends : EndsAt file env to
+  pub statements : GoodTo gaps file [] (list_at file) ss env to
+  pub ends : EndsAt gaps file env to
 
 -- header and tables are in order, these statements, which declare env, are good, and after them the refusal's rule is
 -- the first that fails
-pub record FailsAfter (file : List ℕ) (ss : List Statement) (env : List Declaration) (at : ℕ) (refusal : Refusal) : Type 0 where
+pub record FailsAfter (gaps : Bool) (file : List ℕ) (ss : List Statement) (env : List Declaration) (at : ℕ) (refusal : Refusal) : Type 0 where
   pub layout : Layout file
-  pub statements : GoodTo file [] (list_at file) ss env at
+  pub statements : GoodTo gaps file [] (list_at file) ss env at
   pub number : refusal.statement ≡ length ss + 1
-  pub fails : FailsFirst (list_checks file env at) (refusal.at, refusal.rule)
+  pub fails : FailsFirst (list_checks gaps file env at) (refusal.at, refusal.rule)
 
 -- the first fault of a file: of header and tables, as statement 0, or else of a statement
-abbrev pub BinaryFault : List ℕ → Refusal → Type 0
-BinaryFault file refusal =
+abbrev pub BinaryFault : Bool → List ℕ → Refusal → Type 0
+BinaryFault gaps file refusal =
     ((refusal.statement ≡ 0) × FailsFirst (layout_checks file) (refusal.at, refusal.rule))
-    ⊎ ((ss : List Statement) × (env : List Declaration) × (at : ℕ) × FailsAfter file ss env at refusal)
+    ⊎ ((ss : List Statement) × (env : List Declaration) × (at : ℕ) × FailsAfter gaps file ss env at refusal)

@@ -1,5 +1,5 @@
 -- What a checker answers.
-use Rattle.std.specs.Prelude.{◌≡◌, ◌≤◌, ◌<◌, ⊤, ℕ, ◌+◌, List, [], ◌∷◌, ◌++◌, length}
+use Rattle.std.specs.Prelude.{◌≡◌, ◌≤◌, ◌<◌, ⊤, ℕ, ◌+◌, List, [], ◌∷◌, ◌++◌, length, false}
 use Rattle.mz_logic.specs.Declaration.{Declaration}
 use Rattle.mz_logic.specs.LegalLists.{Statement, Legal, declarations}
 use Rattle.mz_logic.specs.Closed.{TheoremsClosed}
@@ -19,7 +19,7 @@ use Rattle.mz_binary.specs.Progress.{Progress, HasPassed, CountsRows, Tells, nex
 -- the next statement is good, it is what is told, and the checker has passed it
 pub record Passes (p : Progress) (ss : List Statement) (env : List Declaration) (after : Progress) (told : Told) : Type 0 where
   pub statement : Statement
-  pub good : IsGoodStatement p.file env p.at statement after.at
+  pub good : IsGoodStatement false p.file env p.at statement after.at
   pub passed : HasPassed after (ss ++ statement ∷ []) (env ++ statement.decl ∷ [])
   pub tells : Tells told (length ss + 1) p.at env statement
   pub same_file : after.file ≡ p.file
@@ -29,8 +29,8 @@ pub record Passes (p : Progress) (ss : List Statement) (env : List Declaration) 
 -- after good statements, which declare env, what comes next; want of memory only where a body runs
 abbrev pub IsNext : Progress → List Statement → List Declaration → Next → Type 0
 IsNext p ss env (next.Statement after told) = Passes p ss env after told
-IsNext p ss env (next.End rows) = Good p.file ss × CountsRows rows env
-IsNext p ss env (next.Refused refusal) = FailsAfter p.file ss env p.at refusal
+IsNext p ss env (next.End rows) = Good false p.file ss × CountsRows rows env
+IsNext p ss env (next.Refused refusal) = FailsAfter false p.file ss env p.at refusal
 IsNext p ss env next.Mem = RunsBody p.file (taken_by env) p.at
 
 -- the answer is another than want of memory
@@ -60,14 +60,14 @@ pub record RunsSomeBody (file : List ℕ) : Type 0 where
   pub before : List Statement
   pub env : List Declaration
   pub at : ℕ
-  pub statements : GoodTo file [] (list_at file) before env at
+  pub statements : GoodTo false file [] (list_at file) before env at
   pub runs : RunsBody file (taken_by env) at
 
 -- The file is good, by statements that are a legal list, with closed derivations of all theorems, and that take so
 -- many rows; or this is its first fault. It is want of memory only where a body runs.
 abbrev pub IsChecked : List ℕ → Checked → Type 0
-IsChecked file (checked.Good rows) = (ss : List Statement) × Good file ss × Legal ss × TheoremsClosed ss × CountsRows rows (declarations ss)
-IsChecked file (checked.Refused refusal) = BinaryFault file refusal
+IsChecked file (checked.Good rows) = (ss : List Statement) × Good false file ss × Legal ss × TheoremsClosed ss × CountsRows rows (declarations ss)
+IsChecked file (checked.Refused refusal) = BinaryFault false file refusal
 IsChecked file checked.Mem = RunsSomeBody file
 
 -- what is said is other than want of memory

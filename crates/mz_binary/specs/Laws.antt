@@ -35,4 +35,4 @@ HasRow file env (assertion_decl a) = (length (assertions env) < thm_count file) 
 
 -- a good statement's row is there
 abbrev pub GoodStatementsHaveRows : Type 0
-GoodStatementsHaveRows = (file : List ℕ) (env : List Declaration) (at : ℕ) (s : Statement) (next : ℕ) → IsGoodStatement file env at s next → HasRow file env s.decl
+GoodStatementsHaveRows = (gaps : Bool) (file : List ℕ) (env : List Declaration) (at : ℕ) (s : Statement) (next : ℕ) → IsGoodStatement gaps file env at s next → HasRow file env s.decl

@@ -98,7 +98,7 @@ pub record Progress : Type 0 where
 
 -- these are the statements before, all good, and they declare env
 pub record HasPassed (p : Progress) (ss : List Statement) (env : List Declaration) : Type 0 where
-  pub statements : GoodTo p.file [] (list_at p.file) ss env p.at
+  pub statements : GoodTo false p.file [] (list_at p.file) ss env p.at
   pub many : p.passed ≡ length ss
   pub rows : CountsRows p.rows env
 
@@ -116,11 +116,11 @@ pub record IsReached (p : Progress) : Type 0 where
 
 -- in the body of the next statement, up to the rule that fails
 abbrev pub next_steps : Progress → ℕ
-next_steps p = found_steps p.file (taken_before p.file p.rows) (find_at p.file (taken_before p.file p.rows) p.at)
+next_steps p = found_steps false p.file (taken_before p.file p.rows) (find_at p.file (taken_before p.file p.rows) p.at)
 
 -- in all that is left of the list, up to its first fault
 abbrev pub steps_left : Progress → ℕ
-steps_left p = list_steps p.file (length p.file + 1) (taken_before p.file p.rows) p.at
+steps_left p = list_steps false p.file (length p.file + 1) (taken_before p.file p.rows) p.at
 
 -- the most that can be: a command of a body executes itself and at most one of a stream a byte of the file
 abbrev pub most_left : Progress → ℕ

@@ -1,6 +1,6 @@
 -- Whole files whose verdict is known from outside: the statement, the place and the rule of the first fault, and how
 -- many commands are executed.
-use Rattle.std.specs.Prelude.{◌≡◌, ℕ, List, [], ◌∷◌, take, Option, Some, None, Result, Ok, Err}
+use Rattle.std.specs.Prelude.{◌≡◌, ℕ, List, [], ◌∷◌, take, Option, Some, None, Result, Ok, Err, false}
 use Rattle.mz_cmd.specs.declared.rule.K.{K}
 use Rattle.mz_cmd.specs.declared.rule.K.TheVariants as k
 use Rattle.mz_cmd.specs.declared.rule.Refusal.{Refusal}
@@ -15,7 +15,7 @@ abbrev pub refused : ℕ → ℕ → K → Option Refusal
 refused = λ n at rule. Some (record { statement = n; at = at; rule = rule })
 
 abbrev pub first_fault : List ℕ → Option Refusal
-first_fault file = fault_of (run_file file)
+first_fault file = fault_of (run_file false file)
 
 -- good files
 abbrev pub AcceptedFiles : Type 0
@@ -110,14 +110,14 @@ BodiesChanged =
 -- the commands executed, up to the first fault
 abbrev pub StepsOfFiles : Type 0
 StepsOfFiles =
-    (file_steps one ≡ 0)
-    × (file_steps imp ≡ 68)
-    × (file_steps (with_byte 104 0x01 gen) ≡ 34)
-    × (file_steps gen ≡ 21)
-    × (file_steps fold ≡ 35)
-    × (file_steps saved ≡ 47)
-    × (file_steps (with_bytes 72 (0x02 ∷ 0x00 ∷ 0x00 ∷ 0x00 ∷ 0x00 ∷ 0x00 ∷ 0x00 ∷ 0x81 ∷ []) (with_bytes 64 (0x01 ∷ 0x00 ∷ 0x00 ∷ 0x00 ∷ 0x00 ∷ 0x00 ∷ 0x00 ∷ 0x81 ∷ []) dummy)) ≡ 8)
-    × (file_steps dummy ≡ 4)
-    × (file_steps (with_byte 190 0x14 imp) ≡ 1)
-    × (file_steps (with_byte 190 0x00 imp) ≡ 0)
-    × (file_steps (with_byte 76 0xDE imp) ≡ 28)
+    (file_steps false one ≡ 0)
+    × (file_steps false imp ≡ 68)
+    × (file_steps false (with_byte 104 0x01 gen) ≡ 34)
+    × (file_steps false gen ≡ 21)
+    × (file_steps false fold ≡ 35)
+    × (file_steps false saved ≡ 47)
+    × (file_steps false (with_bytes 72 (0x02 ∷ 0x00 ∷ 0x00 ∷ 0x00 ∷ 0x00 ∷ 0x00 ∷ 0x00 ∷ 0x81 ∷ []) (with_bytes 64 (0x01 ∷ 0x00 ∷ 0x00 ∷ 0x00 ∷ 0x00 ∷ 0x00 ∷ 0x00 ∷ 0x81 ∷ []) dummy)) ≡ 8)
+    × (file_steps false dummy ≡ 4)
+    × (file_steps false (with_byte 190 0x14 imp) ≡ 1)
+    × (file_steps false (with_byte 190 0x00 imp) ≡ 0)
+    × (file_steps false (with_byte 76 0xDE imp) ≡ 28)

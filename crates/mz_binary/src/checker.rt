@@ -1,5 +1,5 @@
 // The list of statements, one after another.
-ghost use Rattle.std.specs.Prelude.{◌≡◌, ◌≤◌, ◌<◌, ◌+◌, ◌-◌, ◌*◌, ◌^◌, ℕ, List, [], length, Ok, Err};
+ghost use Rattle.std.specs.Prelude.{◌≡◌, ◌≤◌, ◌<◌, ◌+◌, ◌-◌, ◌*◌, ◌^◌, ℕ, List, [], length, Ok, Err, false};
 ghost use Rattle.mz_logic.specs.Declaration.{Declaration};
 ghost use Rattle.mz_logic.specs.LegalLists.{Statement as Declared};
 ghost use Rattle.mz_machine.specs.Before.{taken_before};
@@ -55,7 +55,7 @@ impl<'a> Checker<'a> {
     pub fn new(alloc: Global, mmb: &'a Mmb<'a>) -> Checker<'a>
         ensures file { result.file ≡ mmb.now }
         ensures nothing { HasPassed result [] [] }
-        ensures steps { steps_left result ≡ file_steps mmb.now }
+        ensures steps { steps_left result ≡ file_steps false mmb.now }
     {
         let at = mmb.proof_at();
         let rows = Rows {
@@ -111,7 +111,7 @@ impl<'a> Checker<'a> {
     fn past(self, head: Head) -> Next<'a>
         requires head { IsHead self.file head }
         requires at { head.at ≡ self.at }
-        requires runs { run_place self.file (taken_before self.file self.rows) self.at ≡ Ok (onward (after_kind self.file (taken_before self.file self.rows) head.code) head.next) }
+        requires runs { run_place false self.file (taken_before self.file self.rows) self.at ≡ Ok (onward (after_kind self.file (taken_before self.file self.rows) head.code) head.next) }
         ensures next { (ss : List Declared) (env : List Declaration) → HasPassed self.entry ss env → IsNext self.entry ss env result }
         ensures left { IsLeft self.entry result }
         ensures most { (old new : ℕ) → new ≤ old + (head.next - head.body) * (length self.entry.file + 1) → IsMost self.entry old new result }
@@ -135,7 +135,7 @@ impl<'a> Checker<'a> {
 
     /// The rule that fails at the next statement.
     fn refused(self, fault: Fault) -> Next<'a>
-        requires { run_place self.file (taken_before self.file self.rows) self.at ≡ Err fault }
+        requires { run_place false self.file (taken_before self.file self.rows) self.at ≡ Err fault }
         ensures next { (ss : List Declared) (env : List Declaration) → HasPassed self.entry ss env → IsNext self.entry ss env result }
         ensures left { IsLeft self.entry result }
         ensures most { (old new : ℕ) → new ≤ old + most_left self.entry → IsMost self.entry old new result }

@@ -1,5 +1,5 @@
 // A whole binary.
-ghost use Rattle.std.specs.Prelude.{◌≡◌, ◌≤◌, ◌<◌, ◌+◌, ◌*◌, ◌^◌, List, [], length};
+ghost use Rattle.std.specs.Prelude.{◌≡◌, ◌≤◌, ◌<◌, ◌+◌, ◌*◌, ◌^◌, List, [], length, false};
 ghost use Rattle.mz_layout.specs.Layout.{Layout};
 ghost use Rattle.mz_binary.specs.FileRun.{file_steps};
 ghost use Rattle.mz_binary.specs.Progress.{HasPassed, most_left, steps_left};
@@ -27,7 +27,7 @@ pub enum Checked {
 pub fn check_all<L: Ledger>(alloc: Global, file: &[u8], steps: &mut Steps<L>) -> Checked
     requires { length file.now < 2 ^ 32 }
     ensures checked { IsChecked file.now result }
-    ensures steps { IfJudged result (steps.new ≡ steps.old + file_steps file.now) }
+    ensures steps { IfJudged result (steps.new ≡ steps.old + file_steps false file.now) }
     ensures bound { steps.new ≤ steps.old + (length file.now * length file.now + length file.now) }
 {
     match Mmb::read(file) {

@@ -1,10 +1,11 @@
 // Laws of whole files, of all kinds of statements.
-ghost use Rattle.mz_binary.specs.WholeLaws.{BoundNeverEndsAList, GoodFilesAreLegal, GoodFilesSpell, GoodOrFault, NotBoth, OneFault, OneListOfStatements, RunsAreExact, StepsOfAFile, TheoremsCiteAsTheirBodies};
+ghost use Rattle.mz_binary.specs.WholeLaws.{BoundNeverEndsAList, GoodFilesAreClosed, GoodFilesAreLegal, GoodFilesSpell, GoodOrFault, NotBoth, OneFault, OneListOfStatements, RunsAreExact, StepsOfAFile, TheoremsCiteAsTheirBodies};
 
 /// The statements of a good file are a legal list, with closed derivations; and a theorem's derivation
 /// cites what its body cites.
 pub fn whole_files_are_legal()
     ensures legal { GoodFilesAreLegal }
+    ensures closed { GoodFilesAreClosed }
     ensures citations { TheoremsCiteAsTheirBodies }
 {}
 

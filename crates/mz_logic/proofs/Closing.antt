@@ -6,8 +6,8 @@ use Rattle.mz_logic.specs.Declaration.{Assertion, Declaration, sort_decl, term_d
 use Rattle.mz_logic.specs.Sorts.{Fits, AreProvable}
 use Rattle.mz_logic.specs.Variables.{Apart}
 use Rattle.mz_logic.specs.Legality.{IsLegalDecl, IsBinderThere, LegalEnvAfter, IsLegalEnv}
-use Rattle.mz_logic.specs.Derivations.{Derivation, Derivations, hypothesis, cite, convert, no_derivs, more_derivs, Derives, AllDerive, AllCiteOnly}
-use Rattle.mz_logic.specs.LegalLists.{AreDummies, IsProvedBy, IsProvedIfTheorem, Statement, IsLegalStatement, LegalAfter, LegalBy, declarations}
+use Rattle.mz_logic.specs.Derivations.{Derivation, Derivations, hypothesis, cite, convert, gap, no_derivs, more_derivs, Derives, AllDerive, CitesOnly, AllCiteOnly, Uses, without_gaps, IsGapFree}
+use Rattle.mz_logic.specs.LegalLists.{AreDummies, IsProvedBy, IsProvedIfTheorem, Statement, IsLegalStatement, LegalAfter, LegalBy, Legal, gap_free, declarations}
 use Rattle.mz_logic.specs.Closed.{IsAxiomIn, CitesAxioms, IsClosed, TheoremsClosed}
 use Rattle.mz_logic.specs.declared.binder.Binder.{Binder}
 use Rattle.mz_logic.specs.declared.binder.SortMods.{SortMods}
@@ -55,7 +55,7 @@ module _ (env : List Declaration) (right : RightEnv env) (closed : AreClosed env
   Closes ctx e = (new : List Binder) × AreDummies (sorts env) new × ((d : Derivation) × CitesAxioms env d × Derives env (ctx ++ new) hyps d e)
 
   abbrev AllClose : List Binder → Trees → Type 0
-  AllClose ctx es = (new : List Binder) × AreDummies (sorts env) new × ((ds : Derivations) × AllCiteOnly (IsAxiomIn env) ds × AllDerive env (ctx ++ new) hyps ds es)
+  AllClose ctx es = (new : List Binder) × AreDummies (sorts env) new × ((ds : Derivations) × AllCiteOnly (without_gaps (IsAxiomIn env)) ds × AllDerive env (ctx ++ new) hyps ds es)
 
   -- the same environment
   same_env : EnvExtends env env
@@ -64,10 +64,10 @@ module _ (env : List Declaration) (right : RightEnv env) (closed : AreClosed env
   -- a cited theorem's closed derivation takes the place of the citation
   cite_closed : (ctx new : List Binder) → IsScoped ctx → AreDummies (sorts env) new → (T : ℕ) (a : Assertion) → slice_get (assertions env) T ≡ Some a
       → (es : Trees) → Fits (signatures env) ctx es a.params → Apart ctx es a.params
-      → (ds : Derivations) → AllCiteOnly (IsAxiomIn env) ds → AllDerive env (ctx ++ new) hyps ds (instances es a.hyps)
+      → (ds : Derivations) → AllCiteOnly (without_gaps (IsAxiomIn env)) ds → AllDerive env (ctx ++ new) hyps ds (instances es a.hyps)
       → IsClosed env a → Closes ctx (instance es a.conclusion)
   cite_closed ctx new scoped new_dummies T a at es fits apart ds cites they (bs, bs_dummies, (d, d_cites, d_derives)) =
-      (new ++ bs, dummies_append (sorts env) new bs new_dummies bs_dummies, (graft f ds d, cites_graft (IsAxiomIn env) f ds cites d d_cites, derives_all))
+      (new ++ bs, dummies_append (sorts env) new bs new_dummies bs_dummies, (graft f ds d, cites_graft (without_gaps (IsAxiomIn env)) f ds cites d d_cites, derives_all))
     where
       ctx₂ : List Binder
       ctx₂ = ctx ++ new
@@ -135,21 +135,22 @@ module _ (env : List Declaration) (right : RightEnv env) (closed : AreClosed env
       go false is = cite_closed ctx new scoped new_dummies T a at es fits apart ds cites they (closed T a at is)
 
   mutual
-    closes : (d : Derivation) (ctx : List Binder) → IsScoped ctx → (e : Tree) → Derives env ctx hyps d e → Closes ctx e
-    closes (hypothesis i) ctx scoped e at = ([], λ k b is. absurd (none_some is), (hypothesis i, tt, at))
-    closes (cite T es ds) ctx scoped e (a, at, is, fits, apart, h) =
-        subst (Closes ctx) (sym is) (cite_either ctx scoped T a at es fits apart (all_close ds ctx scoped (instances es a.hyps) h))
-    closes (convert x c d) ctx scoped e (is, (g, h, k)) =
-        let r = closes d ctx scoped g k in
-        (r.0, r.1, (convert x c r.2.0, r.2.1, (is, (g, between_extends env env ctx (ctx ++ r.0) same_env (extends_append ctx r.0) c x g h, r.2.2))))
+    closes : (d : Derivation) → IsGapFree d → (ctx : List Binder) → IsScoped ctx → (e : Tree) → Derives env ctx hyps d e → Closes ctx e
+    closes (hypothesis i) free ctx scoped e at = ([], λ k b is. absurd (none_some is), (hypothesis i, tt, at))
+    closes (cite T es ds) (_, free) ctx scoped e (a, at, is, fits, apart, h) =
+        subst (Closes ctx) (sym is) (cite_either ctx scoped T a at es fits apart (all_close ds free ctx scoped (instances es a.hyps) h))
+    closes (convert x c d) (c_free, free) ctx scoped e (is, (g, h, k)) =
+        let r = closes d free ctx scoped g k in
+        (r.0, r.1, (convert x c r.2.0, (c_free, r.2.1), (is, (g, between_extends env env ctx (ctx ++ r.0) same_env (extends_append ctx r.0) c x g h, r.2.2))))
+    closes (gap x) free ctx scoped e h = absurd free
 
-    all_close : (ds : Derivations) (ctx : List Binder) → IsScoped ctx → (es : Trees) → AllDerive env ctx hyps ds es → AllClose ctx es
-    all_close no_derivs ctx scoped none h = ([], λ k b is. absurd (none_some is), (no_derivs, tt, tt))
-    all_close no_derivs ctx scoped (more e es) h = absurd h
-    all_close (more_derivs d ds) ctx scoped none h = absurd h
-    all_close (more_derivs d ds) ctx scoped (more e es) (h, rest) =
-        let r = closes d ctx scoped e h in
-        let q = all_close ds (ctx ++ r.0) (scoped_with_dummies ctx r.0 scoped (all_dummies (sorts env) r.0 r.1)) es
+    all_close : (ds : Derivations) → AllCiteOnly (without_gaps (λ T. Unit {0})) ds → (ctx : List Binder) → IsScoped ctx → (es : Trees) → AllDerive env ctx hyps ds es → AllClose ctx es
+    all_close no_derivs free ctx scoped none h = ([], λ k b is. absurd (none_some is), (no_derivs, tt, tt))
+    all_close no_derivs free ctx scoped (more e es) h = absurd h
+    all_close (more_derivs d ds) free ctx scoped none h = absurd h
+    all_close (more_derivs d ds) (d_free, free) ctx scoped (more e es) (h, rest) =
+        let r = closes d d_free ctx scoped e h in
+        let q = all_close ds free (ctx ++ r.0) (scoped_with_dummies ctx r.0 scoped (all_dummies (sorts env) r.0 r.1)) es
         (all_derive_extends env env ctx (ctx ++ r.0) same_env (extends_append ctx r.0) hyps ds es rest) in (
           r.0 ++ q.0,
           dummies_append (sorts env) r.0 q.0 r.1 q.1,
@@ -172,7 +173,7 @@ closed_extends env env' m a (bs, dummies, (d, cites, h)) = (
   dummies_extend (sorts env) (sorts env') m.sorts_too bs dummies,
   (
     d,
-    cites_more (IsAxiomIn env) (IsAxiomIn env') (axiom_extends env env' m) d cites,
+    cites_more (without_gaps (IsAxiomIn env)) (without_gaps (IsAxiomIn env')) (axiom_extends env env' m) (λ none. none) d cites,
     derives_extends env env' (a.params ++ bs) (a.params ++ bs) m (extends_itself _) a.hyps d a.conclusion h,
   ),
 )
@@ -186,17 +187,17 @@ params_scoped env a legal = record { no_deps = λ i b at bd. ((binders_right env
         (each_from_all (IsBinderThere (sorts env) (length a.params)) a.params (names_there env (assertion_decl a) legal).0 i b at).1 has
 
 close_theorem : (env : List Declaration) → RightEnv env → AreClosed env → (a : Assertion) → IsLegalDecl env (assertion_decl a)
-    → (Q : List Declaration → Derivation → Type 0) → IsProvedBy Q env a → IsClosed env a
-close_theorem env right closed a legal Q (bs, dummies, (d, allowed, h)) =
-    let r = closes env right closed a.hyps d (a.params ++ bs) (scoped_with_dummies a.params bs (params_scoped env a legal) (all_dummies (sorts env) bs dummies)) a.conclusion h in
+    → IsProvedBy gap_free env a → IsClosed env a
+close_theorem env right closed a legal (bs, dummies, (d, free, h)) =
+    let r = closes env right closed a.hyps d free (a.params ++ bs) (scoped_with_dummies a.params bs (params_scoped env a legal) (all_dummies (sorts env) bs dummies)) a.conclusion h in
     (bs ++ r.0, dummies_append (sorts env) bs r.0 dummies r.1, (r.2.0, r.2.1, subst (λ c. Derives env c a.hyps r.2.0 a.conclusion) (append_assoc a.params bs r.0) r.2.2))
 
 -- a statement's theorem is closed over the statements before it
-closed_if_theorem : (Q : List Declaration → Derivation → Type 0) (env : List Declaration) → RightEnv env → AreClosed env → (d : Declaration)
-    → IsLegalDecl env d → IsProvedIfTheorem Q env d → IsProvedIfTheorem CitesAxioms env d
-closed_if_theorem Q env right closed (sort_decl _) legal proved = tt
-closed_if_theorem Q env right closed (term_decl _) legal proved = tt
-closed_if_theorem Q env right closed (assertion_decl a) legal proved = λ is_theorem. close_theorem env right closed a legal Q (proved is_theorem)
+closed_if_theorem : (env : List Declaration) → RightEnv env → AreClosed env → (d : Declaration)
+    → IsLegalDecl env d → IsProvedIfTheorem gap_free env d → IsProvedIfTheorem CitesAxioms env d
+closed_if_theorem env right closed (sort_decl _) legal proved = tt
+closed_if_theorem env right closed (term_decl _) legal proved = tt
+closed_if_theorem env right closed (assertion_decl a) legal proved = λ is_theorem. close_theorem env right closed a legal (proved is_theorem)
 
 closed_step : (env : List Declaration) (d : Declaration) → AreClosed env → IsProvedIfTheorem CitesAxioms env d → AreClosed (env ++ d ∷ [])
 closed_step env d closed proved T a at is_theorem =
@@ -215,19 +216,19 @@ closed_step env d closed proved T a at is_theorem =
         let same : a' ≡ a = one_at refl new in subst (λ x. IsProvedIfTheorem CitesAxioms env (assertion_decl x)) same p is_theorem
     new_one (assertion_decl a') p (suc j) new = absurd (none_some new)
 
-closed_after : (Q : List Declaration → Derivation → Type 0) (env : List Declaration) (list : List Statement) → RightEnv env → AreClosed env
-    → LegalAfter Q env list → LegalAfter CitesAxioms env list
-closed_after Q env [] right closed h = tt
-closed_after Q env (s ∷ ss) right closed ((legal, mark, proved), rest) =
-    let here : IsProvedIfTheorem CitesAxioms env s.decl = closed_if_theorem Q env right closed s.decl legal proved in (
+closed_after : (env : List Declaration) (list : List Statement) → RightEnv env → AreClosed env
+    → LegalAfter gap_free env list → LegalAfter CitesAxioms env list
+closed_after env [] right closed h = tt
+closed_after env (s ∷ ss) right closed ((legal, mark, proved), rest) =
+    let here : IsProvedIfTheorem CitesAxioms env s.decl = closed_if_theorem env right closed s.decl legal proved in (
       (legal, mark, here),
-      closed_after Q (env ++ s.decl ∷ []) ss (right_step env s.decl right legal) (closed_step env s.decl closed here) rest,
+      closed_after (env ++ s.decl ∷ []) ss (right_step env s.decl right legal) (closed_step env s.decl closed here) rest,
     )
 
 -- a legal list is one by citations of axioms alone
-pub legal_list_by_axioms : (Q : List Declaration → Derivation → Type 0) (list : List Statement) → LegalBy Q list → LegalBy CitesAxioms list
-legal_list_by_axioms Q list h =
-    closed_after Q [] list (record { terms_right = λ t d at. absurd (none_some at); assertions_right = λ t a at. absurd (none_some at) }) (λ T a at is. absurd (none_some at)) h
+pub legal_list_by_axioms : (list : List Statement) → Legal list → LegalBy CitesAxioms list
+legal_list_by_axioms list h =
+    closed_after [] list (record { terms_right = λ t d at. absurd (none_some at); assertions_right = λ t a at. absurd (none_some at) }) (λ T a at is. absurd (none_some at)) h
 
 -- ---- a list read statement by statement
 
@@ -238,10 +239,10 @@ legal_at Q env [] after s h = subst (λ e. IsLegalStatement Q e s) (sym (append-
 legal_at Q env (b ∷ before) after s h =
     subst (λ e. IsLegalStatement Q e s) (append_assoc env (b.decl ∷ []) (declarations before)) (legal_at Q (env ++ b.decl ∷ []) before after s h.1)
 
-pub legal_list_is_closed : (Q : List Declaration → Derivation → Type 0) (list : List Statement) → LegalBy Q list → TheoremsClosed list
-legal_list_is_closed Q list h before after s a is is_a is_theorem =
+pub legal_list_is_closed : (list : List Statement) → Legal list → TheoremsClosed list
+legal_list_is_closed list h before after s a is is_a is_theorem =
     subst (IsProvedIfTheorem CitesAxioms (declarations before)) is_a
-    (legal_at CitesAxioms [] before after s (subst (LegalBy CitesAxioms) is (legal_list_by_axioms Q list h))).2 is_theorem
+    (legal_at CitesAxioms [] before after s (subst (LegalBy CitesAxioms) is (legal_list_by_axioms list h))).2 is_theorem
 
 -- the declarations of a legal list are a legal environment
 legal_env_after : (Q : List Declaration → Derivation → Type 0) (env : List Declaration) (list : List Statement) → LegalAfter Q env list → LegalEnvAfter env (declarations list)

@@ -3,10 +3,11 @@ use Rattle.std.proofs.Common.{ℕ, zero, suc, ◌≡◌, List, [], ◌∷◌, �
 use Rattle.mz_logic.specs.Tree.{Tree, Trees, var, app, none, more, operand, instance, instances, followed_by, variables}
 use Rattle.mz_logic.specs.Signature.{Signature}
 use Rattle.mz_logic.specs.Declaration.{Declaration, sort_decl, term_decl, assertion_decl, sorts, terms, signatures, assertions}
+use Rattle.mz_logic.specs.Modifiers.{MayBeClaimSort}
 use Rattle.mz_logic.specs.Sorts.{IsBoundVar, HasSort, Fits, IsSorted}
 use Rattle.mz_logic.specs.Variables.{InV, InSomeV, Apart}
-use Rattle.mz_logic.specs.Conversions.{Conversion, Conversions, refl_conv, sym_conv, cong_conv, unfold_conv, no_convs, more_convs, IsBoundOf, AreFresh, Between, AllBetween}
-use Rattle.mz_logic.specs.Derivations.{Derivation, Derivations, hypothesis, cite, convert, no_derivs, more_derivs, Derives, AllDerive}
+use Rattle.mz_logic.specs.Conversions.{Conversion, Conversions, refl_conv, sym_conv, cong_conv, unfold_conv, gap_conv, no_convs, more_convs, IsBoundOf, AreFresh, Between, AllBetween}
+use Rattle.mz_logic.specs.Derivations.{Derivation, Derivations, hypothesis, cite, convert, gap, no_derivs, more_derivs, Derives, AllDerive}
 use Rattle.mz_logic.specs.declared.binder.Binder.{Binder}
 use Rattle.mz_logic.proofs.Instance.{one_at, none_some}
 use Rattle.mz_logic.proofs.Apart.{operand_has_sort}
@@ -130,6 +131,9 @@ module _ (env env' : List Declaration) (ctx ctx' : List Binder) (m : EnvExtends 
   pub sorted_extends : (e : Tree) → IsSorted env ctx e → IsSorted env' ctx' e
   sorted_extends e (s, h) = (s, sort_extends (signatures env) (signatures env') ctx ctx' m.signatures_too l e s h)
 
+  claim_extends : (s : ℕ) → MayBeClaimSort (sorts env) s → MayBeClaimSort (sorts env') s
+  claim_extends s (k, at, provable) = (k, m.sorts_too s k at, provable)
+
   mutual
     pub between_extends : (c : Conversion) (a b : Tree) → Between env ctx c a b → Between env' ctx' c a b
     between_extends (refl_conv e) a b (p, q, is, is') = (sorted_extends a p, sorted_extends b q, is, is')
@@ -149,6 +153,13 @@ module _ (env env' : List Declaration) (ctx ctx' : List Binder) (m : EnvExtends 
         fresh_extends (signatures env) ctx ctx' l es d.signature.params fits ys dummies fresh,
         between_extends c (instance (followed_by es (variables ys)) body) b h,
       ),
+    )
+    between_extends (gap_conv x y) a b (p, q, is, is', (s, h, k)) = (
+      sorted_extends a p,
+      sorted_extends b q,
+      is,
+      is',
+      (s, sort_extends (signatures env) (signatures env') ctx ctx' m.signatures_too l a s h, sort_extends (signatures env) (signatures env') ctx ctx' m.signatures_too l b s k),
     )
 
     pub all_between_extends : (cs : Conversions) (us bs : Trees) → AllBetween env ctx cs us bs → AllBetween env' ctx' cs us bs
@@ -171,6 +182,8 @@ module _ (env env' : List Declaration) (ctx ctx' : List Binder) (m : EnvExtends 
       all_derive_extends hyps ds (instances es a.hyps) h,
     )
     derives_extends hyps (convert f c d) e (is, (g, h, k)) = (is, (g, between_extends c f g h, derives_extends hyps d g k))
+    derives_extends hyps (gap f) e (is, (s, h, provable)) =
+        (is, (s, sort_extends (signatures env) (signatures env') ctx ctx' m.signatures_too l e s h, claim_extends s provable))
 
     pub all_derive_extends : (hyps : Trees) (ds : Derivations) (es : Trees) → AllDerive env ctx hyps ds es → AllDerive env' ctx' hyps ds es
     all_derive_extends hyps no_derivs none h = tt

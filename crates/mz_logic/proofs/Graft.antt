@@ -4,8 +4,8 @@ use Rattle.mz_logic.specs.Tree.{Tree, Trees, var, app, none, more, listed, opera
 use Rattle.mz_logic.specs.Declaration.{Declaration, signatures}
 use Rattle.mz_logic.specs.Sorts.{IsBoundVar, HasSort, Fits, IsSorted}
 use Rattle.mz_logic.specs.Variables.{InV, InSomeV, Apart}
-use Rattle.mz_logic.specs.Conversions.{Conversion, Conversions, refl_conv, sym_conv, cong_conv, unfold_conv, no_convs, more_convs, IsBoundOf, AreFresh, Between, AllBetween}
-use Rattle.mz_logic.specs.Derivations.{Derivation, Derivations, hypothesis, cite, convert, no_derivs, more_derivs, Derives, AllDerive, CitesOnly, AllCiteOnly}
+use Rattle.mz_logic.specs.Conversions.{Conversion, Conversions, refl_conv, sym_conv, cong_conv, unfold_conv, gap_conv, no_convs, more_convs, IsBoundOf, AreFresh, Between, AllBetween, GapsOnly, AllGapsOnly}
+use Rattle.mz_logic.specs.Derivations.{Derivation, Derivations, hypothesis, cite, convert, gap, no_derivs, more_derivs, Derives, AllDerive, Uses, CitesOnly, AllCiteOnly}
 use Rattle.mz_logic.specs.declared.binder.Binder.{Binder}
 use Rattle.mz_logic.proofs.Instance.{one_at, none_some, bound_operand, sort_of_operand, sort_of_instance, fits_of_instances}
 use Rattle.mz_logic.proofs.Apart.{in_v_of_pattern, apart_of_instances}
@@ -28,6 +28,7 @@ abbrev mutual
   conv_instance f (sym_conv c) = sym_conv (conv_instance f c)
   conv_instance f (cong_conv t cs) = cong_conv t (convs_instance f cs)
   conv_instance f (unfold_conv t es ys c) = unfold_conv t (instances f es) (renamed f ys) (conv_instance f c)
+  conv_instance f (gap_conv l r) = gap_conv (instance f l) (instance f r)
 
   pub convs_instance : Trees → Conversions → Conversions
   convs_instance f no_convs = no_convs
@@ -43,6 +44,7 @@ abbrev mutual
   graft f given (hypothesis i) = derivation_at given i
   graft f given (cite T es ds) = cite T (instances f es) (grafts f given ds)
   graft f given (convert e c d) = convert (instance f e) (conv_instance f c) (graft f given d)
+  graft f given (gap e) = gap (instance f e)
 
   pub grafts : Trees → Derivations → Derivations → Derivations
   grafts f given no_derivs = no_derivs
@@ -139,6 +141,13 @@ module _ (env : List Declaration) (ctx params : List Binder) (no_deps : BoundAre
             (between_instance c (instance (followed_by es (variables ys)) body) r k),
       ),
     )
+    between_instance (gap_conv a b) l r (p, q, is, is', (s, h, k)) = (
+      sorted_instance l p,
+      sorted_instance r q,
+      ap (instance f) is,
+      ap (instance f) is',
+      (s, sort_of_instance (signatures env) ctx params f fits l s h, sort_of_instance (signatures env) ctx params f fits r s k),
+    )
 
     pub all_between_instance : (cs : Conversions) (ls rs : Trees) → AllBetween env params cs ls rs → AllBetween env ctx (convs_instance f cs) (instances f ls) (instances f rs)
     all_between_instance no_convs none none h = tt
@@ -170,6 +179,7 @@ module _ (env : List Declaration) (ctx params : List Binder) (no_deps : BoundAre
         subst (AllDerive env ctx hyps' (grafts f given ds)) (instances-instances f es a.hyps) (all_derive_graft ds (instances es a.hyps) rest),
       )
       derives_graft (convert x c d) e (is, (g, h, k)) = (ap (instance f) is, (instance f g, between_instance c x g h, derives_graft d g k))
+      derives_graft (gap x) e (is, (s, h, provable)) = (ap (instance f) is, (s, sort_of_instance (signatures env) ctx params f fits e s h, provable))
 
       pub all_derive_graft : (ds : Derivations) (es : Trees) → AllDerive env params hyps ds es → AllDerive env ctx hyps' (grafts f given ds) (instances f es)
       all_derive_graft no_derivs none h = tt
@@ -177,29 +187,56 @@ module _ (env : List Declaration) (ctx params : List Binder) (no_deps : BoundAre
       all_derive_graft (more_derivs d ds) none h = absurd h
       all_derive_graft (more_derivs d ds) (more e es) (h, rest) = (derives_graft d e h, all_derive_graft ds es rest)
 
+-- an instance of a conversion has its gaps
+mutual
+  pub gaps_instance : (G : Type 0) (f : Trees) (c : Conversion) → GapsOnly G c → GapsOnly G (conv_instance f c)
+  gaps_instance G f (refl_conv e) h = tt
+  gaps_instance G f (sym_conv c) h = gaps_instance G f c h
+  gaps_instance G f (cong_conv t cs) h = all_gaps_instance G f cs h
+  gaps_instance G f (unfold_conv t es ys c) h = gaps_instance G f c h
+  gaps_instance G f (gap_conv l r) h = h
+
+  pub all_gaps_instance : (G : Type 0) (f : Trees) (cs : Conversions) → AllGapsOnly G cs → AllGapsOnly G (convs_instance f cs)
+  all_gaps_instance G f no_convs h = tt
+  all_gaps_instance G f (more_convs c cs) (h, rest) = (gaps_instance G f c h, all_gaps_instance G f cs rest)
+
+mutual
+  pub gaps_more : (G H : Type 0) → (G → H) → (c : Conversion) → GapsOnly G c → GapsOnly H c
+  gaps_more G H m (refl_conv e) h = tt
+  gaps_more G H m (sym_conv c) h = gaps_more G H m c h
+  gaps_more G H m (cong_conv t cs) h = all_gaps_more G H m cs h
+  gaps_more G H m (unfold_conv t es ys c) h = gaps_more G H m c h
+  gaps_more G H m (gap_conv l r) h = m h
+
+  pub all_gaps_more : (G H : Type 0) → (G → H) → (cs : Conversions) → AllGapsOnly G cs → AllGapsOnly H cs
+  all_gaps_more G H m no_convs h = tt
+  all_gaps_more G H m (more_convs c cs) (h, rest) = (gaps_more G H m c h, all_gaps_more G H m cs rest)
+
 -- what is cited is cited by the derivation or by those that are put in
-cites_at : (P : ℕ → Type 0) (ds : Derivations) → AllCiteOnly P ds → (i : ℕ) → CitesOnly P (derivation_at ds i)
+cites_at : (P : Uses) (ds : Derivations) → AllCiteOnly P ds → (i : ℕ) → CitesOnly P (derivation_at ds i)
 cites_at P no_derivs h i = tt
 cites_at P (more_derivs d ds) h zero = h.0
 cites_at P (more_derivs d ds) h (suc i) = cites_at P ds h.1 i
 
 mutual
-  pub cites_graft : (P : ℕ → Type 0) (f : Trees) (given : Derivations) → AllCiteOnly P given → (d : Derivation) → CitesOnly P d → CitesOnly P (graft f given d)
+  pub cites_graft : (P : Uses) (f : Trees) (given : Derivations) → AllCiteOnly P given → (d : Derivation) → CitesOnly P d → CitesOnly P (graft f given d)
   cites_graft P f given h (hypothesis i) k = cites_at P given h i
   cites_graft P f given h (cite T es ds) (k, rest) = (k, all_cite_graft P f given h ds rest)
-  cites_graft P f given h (convert e c d) k = cites_graft P f given h d k
+  cites_graft P f given h (convert e c d) (c_gaps, k) = (gaps_instance P.gaps f c c_gaps, cites_graft P f given h d k)
+  cites_graft P f given h (gap e) k = k
 
-  pub all_cite_graft : (P : ℕ → Type 0) (f : Trees) (given : Derivations) → AllCiteOnly P given → (ds : Derivations) → AllCiteOnly P ds → AllCiteOnly P (grafts f given ds)
+  pub all_cite_graft : (P : Uses) (f : Trees) (given : Derivations) → AllCiteOnly P given → (ds : Derivations) → AllCiteOnly P ds → AllCiteOnly P (grafts f given ds)
   all_cite_graft P f given h no_derivs k = tt
   all_cite_graft P f given h (more_derivs d ds) (k, rest) = (cites_graft P f given h d k, all_cite_graft P f given h ds rest)
 
 -- what has P has Q, so the citations have Q
 mutual
-  pub cites_more : (P Q : ℕ → Type 0) → ((T : ℕ) → P T → Q T) → (d : Derivation) → CitesOnly P d → CitesOnly Q d
-  cites_more P Q m (hypothesis i) h = tt
-  cites_more P Q m (cite T es ds) (h, rest) = (m T h, all_cite_more P Q m ds rest)
-  cites_more P Q m (convert e c d) h = cites_more P Q m d h
+  pub cites_more : (P Q : Uses) → ((T : ℕ) → P.cites T → Q.cites T) → (P.gaps → Q.gaps) → (d : Derivation) → CitesOnly P d → CitesOnly Q d
+  cites_more P Q m g (hypothesis i) h = tt
+  cites_more P Q m g (cite T es ds) (h, rest) = (m T h, all_cite_more P Q m g ds rest)
+  cites_more P Q m g (convert e c d) (k, h) = (gaps_more P.gaps Q.gaps g c k, cites_more P Q m g d h)
+  cites_more P Q m g (gap e) h = g h
 
-  pub all_cite_more : (P Q : ℕ → Type 0) → ((T : ℕ) → P T → Q T) → (ds : Derivations) → AllCiteOnly P ds → AllCiteOnly Q ds
-  all_cite_more P Q m no_derivs h = tt
-  all_cite_more P Q m (more_derivs d ds) (h, rest) = (cites_more P Q m d h, all_cite_more P Q m ds rest)
+  pub all_cite_more : (P Q : Uses) → ((T : ℕ) → P.cites T → Q.cites T) → (P.gaps → Q.gaps) → (ds : Derivations) → AllCiteOnly P ds → AllCiteOnly Q ds
+  all_cite_more P Q m g no_derivs h = tt
+  all_cite_more P Q m g (more_derivs d ds) (h, rest) = (cites_more P Q m g d h, all_cite_more P Q m g ds rest)

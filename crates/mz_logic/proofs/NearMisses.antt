@@ -6,7 +6,7 @@ use Rattle.mz_logic.specs.Modifiers.{IsFree}
 use Rattle.mz_logic.specs.Sorts.{HasSort}
 use Rattle.mz_logic.specs.Variables.{InFV, InSomeFV, InSomeV, IsOperandAt, Apart}
 use Rattle.mz_logic.specs.Conversions.{AreFresh}
-use Rattle.mz_logic.specs.Derivations.{Derivation, hypothesis, cite, convert, Derives}
+use Rattle.mz_logic.specs.Derivations.{Derivation, hypothesis, cite, convert, gap, Derives, IsGapFree}
 use Rattle.mz_logic.specs.Examples.{wff, wff_sort, nat, wff_x, y_and_q}
 use Rattle.mz_logic.specs.NearMisses.{NotApartThoughLater, of_nat, at_y, FreeByTheResult, BoundByTheTerm, generalized, CitesWhereItDepends, CitesNotApart, rel, relation, result_wff, UnfoldsWithFresh, UnfoldsWithOperand, UnfoldsWithOneForTwo, NoSortNoConversion, FreeDummy, CitesItself}
 use Rattle.mz_logic.specs.declared.binder.Binder.{Binder}
@@ -111,12 +111,13 @@ free_dummy h = let (m, at, strict, free) = (h 0 (record { sort = 0; bound = true
     free (subst (λ (n : SortMods). IsFree n) (one_at refl at) (λ is. (let e : 8 ≡ 0 = is in absurd (omega (arith, e)))))
 
 -- from no hypotheses and no assertions nothing is derived
-nothing_derived : (ctx : List Binder) (d : Derivation) (e : Tree) → Derives (wff_sort ∷ []) ctx none d e → ⊥
-nothing_derived ctx (hypothesis i) e at = none_some at
-nothing_derived ctx (cite T es ds) e (a, at, _, _, _, _) = none_some at
-nothing_derived ctx (convert f c d) e (_, (g, _, derives)) = nothing_derived ctx d g derives
+nothing_derived : (ctx : List Binder) (d : Derivation) (e : Tree) → IsGapFree d → Derives (wff_sort ∷ []) ctx none d e → ⊥
+nothing_derived ctx (hypothesis i) e free at = none_some at
+nothing_derived ctx (cite T es ds) e free (a, at, _, _, _, _) = none_some at
+nothing_derived ctx (convert f c d) e (_, free) (_, (g, _, derives)) = nothing_derived ctx d g free derives
+nothing_derived ctx (gap f) e free h = free
 
 pub cites_itself : CitesItself
 cites_itself h =
     let proved = h.1.0.2 refl in
-    nothing_derived (wff ∷ proved.0) proved.2.0 (var 0) proved.2.2
+    nothing_derived (wff ∷ proved.0) proved.2.0 (var 0) proved.2.1 proved.2.2

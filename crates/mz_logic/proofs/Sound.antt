@@ -6,8 +6,8 @@ use Rattle.mz_logic.specs.Declaration.{defined, Term, Assertion, Declaration, so
 use Rattle.mz_logic.specs.Modifiers.{MayBeClaimSort}
 use Rattle.mz_logic.specs.Sorts.{HasSort, Fits, IsSorted, HasProvable, AreProvable}
 use Rattle.mz_logic.specs.Legality.{Each, IsDummy}
-use Rattle.mz_logic.specs.Conversions.{Conversion, refl_conv, sym_conv, cong_conv, unfold_conv, AreFresh, Between}
-use Rattle.mz_logic.specs.Derivations.{Derivation, hypothesis, cite, convert, Derives}
+use Rattle.mz_logic.specs.Conversions.{Conversion, refl_conv, sym_conv, cong_conv, unfold_conv, gap_conv, AreFresh, Between}
+use Rattle.mz_logic.specs.Derivations.{Derivation, hypothesis, cite, convert, gap, Derives}
 use Rattle.mz_logic.specs.declared.binder.Binder.{Binder}
 use Rattle.mz_logic.proofs.Instance.{one_at, none_some, sort_of_instance}
 use Rattle.mz_logic.specs.Laws.{BoundArePlain}
@@ -65,6 +65,7 @@ module _ (env : List Declaration) (ctx : List Binder) (right : RightEnv env) whe
       (sort_of_instance (signatures env) ctx (d.signature.params ++ dummies) (followed_by es (variables ys))
       (fits_followed_by (signatures env) ctx es (variables ys) d.signature.params dummies fits (fresh_fit (signatures env) ctx es ys dummies fresh))
       body s (subst (HasSort (signatures env) (d.signature.params ++ dummies) body) same (right.terms_right t d at dummies body form).0))
+  same_sort (gap_conv a b) l r s (_, _, _, _, (s', h', k)) h = subst (HasSort (signatures env) ctx r) (one_sort (signatures env) ctx l s' s h' h) k
 
   -- what is derived from provable hypotheses has a provable sort
   pub derived_is_provable : (hyps : Trees) → AreProvable env ctx hyps → (d : Derivation) (e : Tree) → Derives env ctx hyps d e → HasProvable env ctx e
@@ -72,6 +73,7 @@ module _ (env : List Declaration) (ctx : List Binder) (right : RightEnv env) whe
   derived_is_provable hyps given (cite T es ds) e (a, at, is, fits, _, _) =
       let k = (right.assertions_right T a at).2 in
       (k.0, subst (λ x. HasSort (signatures env) ctx x k.0) (sym is) (sort_of_instance (signatures env) ctx a.params es fits a.conclusion k.0 k.1), k.2)
+  derived_is_provable hyps given (gap f) e h = h.1
   derived_is_provable hyps given (convert f c d) e (is, (g, between, h)) = go (derived_is_provable hyps given d g h) (sorted_left c f g between)
     where
       sorted_left : (c : Conversion) (l r : Tree) → Between env ctx c l r → IsSorted env ctx l
@@ -79,6 +81,7 @@ module _ (env : List Declaration) (ctx : List Binder) (right : RightEnv env) whe
       sorted_left (sym_conv _) l r h = h.0
       sorted_left (cong_conv _ _) l r h = h.0
       sorted_left (unfold_conv _ _ _ _) l r h = h.0
+      sorted_left (gap_conv _ _) l r h = h.0
 
       go : HasProvable env ctx g → IsSorted env ctx f → HasProvable env ctx e
       go (s, k, provable) (s', k') = (

@@ -7,7 +7,7 @@ use Rattle.mz_logic.specs.Modifiers.{MayBeClaimSort}
 use Rattle.mz_logic.specs.Sorts.{HasSort, AreProvable}
 use Rattle.mz_logic.specs.Variables.{InV, InFV, InSomeFV, IsOperandAt, IsBoundAt, Apart}
 use Rattle.mz_logic.specs.Legality.{AreParams, IsLegalDecl, NamesThere, BindersRight, AreBindersThere}
-use Rattle.mz_logic.specs.LegalLists.{IsProvedBy, any_derivation}
+use Rattle.mz_logic.specs.LegalLists.{IsProvedBy, gap_free}
 use Rattle.mz_logic.specs.Derivations.{hypothesis, cite, no_derivs, more_derivs, AllDerive}
 use Rattle.mz_logic.specs.Laws.{SortsThere}
 use Rattle.mz_logic.specs.Examples.{wff, two, im, im_declared, im_term, wff_sort, ax_1, ax_mp, implication, A1iDerives, A1iTurnedFails, same_twice, FourAreLegal, LocalAxiomFails, nat, wff_x, all_signature, quantifier, y_and_q, NotApart, ApartWhereItDepends, all_y_q, NotApartThoughNotFree, wff_y, plain_term, MissingDependency, LaterDependency, neg, one_param, negation, NnUnfolds}
@@ -143,13 +143,13 @@ four_are_legal = (
       (0, im_sort (signatures implication) (wff ∷ []) refl (var 0) (im (var 0) (var 0)) v (im_sort (signatures implication) (wff ∷ []) refl (var 0) (var 0) v v), provable),
     )
 
-    proved : IsProvedBy any_derivation (wff_sort ∷ im_term ∷ assertion_decl ax_1 ∷ []) same_twice
+    proved : IsProvedBy gap_free (wff_sort ∷ im_term ∷ assertion_decl ax_1 ∷ []) same_twice
     proved = (
       [],
       (λ i b at. absurd (none_some at)),
       (
         cite 0 (more (var 0) (more (var 0) none)) no_derivs,
-        tt,
+        (tt, tt),
         (
           ax_1,
           refl,

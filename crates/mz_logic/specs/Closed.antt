@@ -1,7 +1,7 @@
--- Closed derivations: their only citations are of axioms, so that they rest on nothing else.
+-- Closed derivations: their only citations are of axioms, and they have no gap, so that they rest on nothing else.
 use Rattle.std.specs.Prelude.{ℕ, ◌≡◌, true, false, List, ◌∷◌, ◌++◌, slice_get, Some}
 use Rattle.mz_logic.specs.Declaration.{Assertion, Declaration, assertion_decl, assertions}
-use Rattle.mz_logic.specs.Derivations.{Derivation, CitesOnly}
+use Rattle.mz_logic.specs.Derivations.{Derivation, CitesOnly, without_gaps}
 use Rattle.mz_logic.specs.LegalLists.{Statement, declarations, IsProvedBy}
 
 -- the T-th assertion is an axiom
@@ -9,7 +9,7 @@ abbrev pub IsAxiomIn : List Declaration → ℕ → Type 0
 IsAxiomIn env T = (a : Assertion) × (slice_get (assertions env) T ≡ Some a) × (a.is_axiom ≡ true)
 
 abbrev pub CitesAxioms : List Declaration → Derivation → Type 0
-CitesAxioms env d = CitesOnly (IsAxiomIn env) d
+CitesAxioms env d = CitesOnly (without_gaps (IsAxiomIn env)) d
 
 -- the conclusion has a closed derivation over env from the hypotheses, with finitely many dummies
 abbrev pub IsClosed : List Declaration → Assertion → Type 0

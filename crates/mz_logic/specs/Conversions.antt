@@ -3,18 +3,20 @@
 use Rattle.std.specs.Prelude.{ℕ, ◌≡◌, ⊤, true, List, [], ◌∷◌, slice_get, Contains, Some}
 use Rattle.mz_logic.specs.Tree.{Tree, Trees, app, none, more, instance, followed_by, variables}
 use Rattle.mz_logic.specs.Declaration.{Term, defined, Declaration, terms, signatures}
-use Rattle.mz_logic.specs.Sorts.{Fits, IsSorted}
+use Rattle.mz_logic.specs.Sorts.{HasSort, Fits, IsSorted}
 use Rattle.mz_logic.specs.Variables.{InSomeV}
 use Rattle.mz_logic.specs.declared.binder.Binder.{Binder}
 
 -- e is e; the sides turned; under a term; and a definition's unfolding, with the operands es for its
--- parameters and the variables ys for its dummies, followed by a conversion of the body
+-- parameters and the variables ys for its dummies, followed by a conversion of the body; and a gap, from
+-- l to r
 mutual
   pub data Conversion : Type 0 where
     refl_conv : Tree → Conversion
     sym_conv : Conversion → Conversion
     cong_conv : ℕ → Conversions → Conversion
     unfold_conv : ℕ → Trees → List ℕ → Conversion → Conversion
+    gap_conv : Tree → Tree → Conversion
 
   pub data Conversions : Type 0 where
     no_convs : Conversions
@@ -46,6 +48,8 @@ abbrev mutual
       × ((d : Term) × (dummies : List Binder) × (body : Tree) × IsDefined env t d dummies body
       × Fits (signatures env) ctx es d.signature.params × AreFresh ctx es ys dummies
       × Between env ctx c (instance (followed_by es (variables ys)) body) r)
+  Between env ctx (gap_conv a b) l r = IsSorted env ctx l × IsSorted env ctx r × (l ≡ a) × (r ≡ b)
+      × ((s : ℕ) × HasSort (signatures env) ctx l s × HasSort (signatures env) ctx r s)
 
   pub AllBetween : List Declaration → List Binder → Conversions → Trees → Trees → Type 0
   AllBetween env ctx no_convs none none = ⊤
@@ -54,3 +58,16 @@ abbrev mutual
   AllBetween env ctx (more_convs c cs) none rs = ⊥
   AllBetween env ctx (more_convs c cs) (more l ls) none = ⊥
   AllBetween env ctx (more_convs c cs) (more l ls) (more r rs) = Between env ctx c l r × AllBetween env ctx cs ls rs
+
+-- a gap stands in the conversion only where G holds
+abbrev mutual
+  pub GapsOnly : Type 0 → Conversion → Type 0
+  GapsOnly G (refl_conv e) = ⊤
+  GapsOnly G (sym_conv c) = GapsOnly G c
+  GapsOnly G (cong_conv t cs) = AllGapsOnly G cs
+  GapsOnly G (unfold_conv t es ys c) = GapsOnly G c
+  GapsOnly G (gap_conv l r) = G
+
+  pub AllGapsOnly : Type 0 → Conversions → Type 0
+  AllGapsOnly G no_convs = ⊤
+  AllGapsOnly G (more_convs c cs) = GapsOnly G c × AllGapsOnly G cs

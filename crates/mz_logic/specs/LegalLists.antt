@@ -5,7 +5,7 @@ use Rattle.mz_logic.specs.Tree.{none}
 use Rattle.mz_logic.specs.Declaration.{Assertion, Declaration, sort_decl, term_decl, assertion_decl, body_of, sorts}
 use Rattle.mz_logic.specs.Modifiers.{MayBeDummySort}
 use Rattle.mz_logic.specs.Legality.{IsLegalDecl, IsDummy, Each}
-use Rattle.mz_logic.specs.Derivations.{Derivation, Derives}
+use Rattle.mz_logic.specs.Derivations.{Derivation, Derives, IsGapFree}
 use Rattle.mz_logic.specs.declared.binder.Binder.{Binder}
 use Rattle.mz_logic.specs.declared.binder.SortMods.{SortMods}
 
@@ -56,5 +56,18 @@ LegalBy Q list = LegalAfter Q [] list
 abbrev pub any_derivation : List Declaration → Derivation → Type 0
 any_derivation env d = ⊤
 
+-- the gap-free ones are
+abbrev pub gap_free : List Declaration → Derivation → Type 0
+gap_free env d = IsGapFree d
+
 abbrev pub Legal : List Statement → Type 0
-Legal list = LegalBy any_derivation list
+Legal list = LegalBy gap_free list
+
+-- a legal list, but that gaps may stand in its derivations
+abbrev pub DraftLegal : List Statement → Type 0
+DraftLegal list = LegalBy any_derivation list
+
+-- what is allowed by whether gaps are
+abbrev pub allowed_with : Bool → List Declaration → Derivation → Type 0
+allowed_with false = gap_free
+allowed_with true = any_derivation

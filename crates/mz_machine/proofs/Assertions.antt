@@ -8,14 +8,14 @@ use Rattle.mz_logic.specs.Signature.{Signature}
 use Rattle.mz_logic.specs.Declaration.{Assertion, Declaration, assertion_decl, sorts, signatures}
 use Rattle.mz_logic.specs.Sorts.{HasProvable, AreProvable}
 use Rattle.mz_logic.specs.Legality.{IsLegalDecl, IsLegalEnv}
-use Rattle.mz_logic.specs.Derivations.{Derives}
+use Rattle.mz_logic.specs.Derivations.{Uses, Derives}
 use Rattle.mz_logic.specs.LegalLists.{IsProvedBy}
 use Rattle.mz_logic.specs.declared.binder.Binder.{Binder}
 use Rattle.mz_logic.proofs.PlainLegality.{assertions_are_sorted}
 use Rattle.mz_logic.proofs.Longer.{derived_has_provable}
 use Rattle.mz_unify.specs.Streams.{of_assertion}
 use Rattle.mz_unify.specs.Spells.{trees_of, variables_from, Text, SpellsThm}
-use Rattle.mz_unify.specs.Profile.{strict, Item, expr, proof}
+use Rattle.mz_unify.specs.Profile.{plain, strict, Item, expr, proof}
 use Rattle.mz_unify.specs.Sorted.{Sorted, AllSorted, ItemsSorted}
 use Rattle.mz_unify.specs.UnifyMachine.{UnifyMode, at_end, Matching, UnifyState, unify}
 use Rattle.mz_unify.proofs.Inverting.{from_bind, from_need, rule_of-ok, taken-is}
@@ -26,7 +26,7 @@ use Rattle.mz_machine.specs.Tables.{Tables, signatures_in, State, Kind, is_axiom
 use Rattle.mz_machine.specs.ProofMachine.{last_item, ending, own_variables, own_stream, as_proofs, has_provable_sort, matched_by, ends_with, proof_end}
 use Rattle.mz_machine.specs.Bodies.{body_run}
 use Rattle.mz_machine.specs.Facts.{Derivable, StackHolds, AreProvableClaims, Fact}
-use Rattle.mz_machine.specs.Sound.{IsCited, cites_as, AreRowParams, thm_row}
+use Rattle.mz_machine.specs.Sound.{used_by, cites_as, AreRowParams, thm_row}
 use Rattle.mz_machine.proofs.Declared.{signatures-are}
 use Rattle.mz_machine.proofs.RowsKeep.{claim}
 use Rattle.mz_machine.proofs.WholeBody.{body-fact}
@@ -93,7 +93,7 @@ abbrev pub made : Heading → Bool → State Tree → Tree → Assertion
 made h without_proof last e = record { is_axiom = without_proof; params = h.params; hyps = trees_of last.hyps; conclusion = e }
 
 -- the row spells it, and it is legal where the conclusion has a provable sort
-pub made-legal : (tables : Tables) (env : List Declaration) (declares : Declares tables env) (h : Heading) (without_proof : Bool) (P : ℕ → Type 0) (last : State Tree) (e : Tree) (m : Matching Tree) (u : UnifyState Tree)
+pub made-legal : (tables : Tables) (env : List Declaration) (declares : Declares tables env) (h : Heading) (without_proof : Bool) (P : Uses) (last : State Tree) (e : Tree) (m : Matching Tree) (u : UnifyState Tree)
     → AreRowParams (sorts env) h.params → Fact P env h.params last.ctx last → HasProvable env last.ctx e
     → own_stream strict h at_end e (as_proofs last.hyps) ≡ m → unify strict (signatures_in tables) last.ctx m ≡ Ok u
     → SpellsThm (signatures env) (thm_row h) (made h without_proof last e) × IsLegalDecl env (assertion_decl (made h without_proof last e))
@@ -112,7 +112,7 @@ made-legal tables env declares h without_proof P last e m u (there, params-right
 
 -- ---- theorems
 
-last-proved : (P : ℕ → Type 0) (env : List Declaration) (full : List Binder) (ctx : List Binder) (hyps : List Tree) (xs : List (Item Tree)) (e : Tree) → last_item is_theorem xs ≡ Ok e → StackHolds P env full hyps xs → Derivable P env full hyps e
+last-proved : (P : Uses) (env : List Declaration) (full : List Binder) (ctx : List Binder) (hyps : List Tree) (xs : List (Item Tree)) (e : Tree) → last_item is_theorem xs ≡ Ok e → StackHolds P env full hyps xs → Derivable P env full hyps e
 last-proved P env full ctx hyps (proof x ∷ []) e is (d, _) = subst (Derivable P env full hyps) (taken-is x e is) d
 last-proved P env full ctx hyps _ e is h = absurd cc
 
@@ -120,27 +120,27 @@ last-expr : (sigs : List Signature) (ctx : List Binder) (xs : List (Item Tree)) 
 last-expr sigs ctx (expr x ∷ []) e is (s, _) = subst (Sorted sigs ctx) (taken-is x e is) s
 last-expr sigs ctx _ e is h = absurd cc
 
-pub theorem-legal : (tables : Tables) (env : List Declaration) → IsLegalEnv env → Declares tables env → (h : Heading) (at : ℕ) (bytes : List ℕ) (last : State Tree)
-    → h.kind ≡ is_theorem → AreRowParams (sorts env) h.params → body_run strict tables h at bytes ≡ Ok last
-    → (a : Assertion) × (a.is_axiom ≡ false) × SpellsThm (signatures env) (thm_row h) a × IsLegalDecl env (assertion_decl a) × IsProvedBy (cites_as bytes) env a
-theorem-legal tables env legal declares h at bytes last kind right run-is =
-    let (fact, done) = body-fact tables env declares h at bytes last run-is in
+pub theorem-legal : (gaps : Bool) (tables : Tables) (env : List Declaration) → IsLegalEnv env → Declares tables env → (h : Heading) (at : ℕ) (bytes : List ℕ) (last : State Tree)
+    → h.kind ≡ is_theorem → AreRowParams (sorts env) h.params → body_run (plain gaps) tables h at bytes ≡ Ok last
+    → (a : Assertion) × (a.is_axiom ≡ false) × SpellsThm (signatures env) (thm_row h) a × IsLegalDecl env (assertion_decl a) × IsProvedBy (cites_as gaps bytes) env a
+theorem-legal gaps tables env legal declares h at bytes last kind right run-is =
+    let (fact, done) = body-fact gaps tables env declares h at bytes last run-is in
     end-ran tables h last done λ e m u e-is ending-is ran.
     let m-is : own_stream strict h at_end e (as_proofs last.hyps) ≡ m = taken-is _ m (subst (λ (z : Kind). ending strict tables h last z e ≡ Ok m) kind ending-is) in
-    let (d, cites, derives) = last-proved (IsCited env bytes) env last.ctx last.ctx last.hyps last.stack e (subst (λ (z : Kind). last_item z last.stack ≡ Ok e) kind e-is) fact.stack_holds in
+    let (d, cites, derives) = last-proved (used_by gaps env bytes) env last.ctx last.ctx last.hyps last.stack e (subst (λ (z : Kind). last_item z last.stack ≡ Ok e) kind e-is) fact.stack_holds in
     let claim-is : HasProvable env last.ctx e = derived_has_provable env legal last.ctx (trees_of last.hyps) (claims-provable env last.ctx last.hyps fact.hyps_provable) d e derives in
     let (dummies, ctx-is, are) = fact.context in
-    let (spells, is-legal) = made-legal tables env declares h false (IsCited env bytes) last e m u right fact claim-is m-is ran in
+    let (spells, is-legal) = made-legal tables env declares h false (used_by gaps env bytes) last e m u right fact claim-is m-is ran in
     (made h false last e, refl, spells, is-legal, (dummies, are, (d, cites, subst (λ (c : List Binder). Derives env c (trees_of last.hyps) d e) ctx-is derives)))
 
-pub axiom-legal : (tables : Tables) (env : List Declaration) → Declares tables env → (h : Heading) (at : ℕ) (bytes : List ℕ) (last : State Tree)
-    → h.kind ≡ is_axiom → AreRowParams (sorts env) h.params → body_run strict tables h at bytes ≡ Ok last
+pub axiom-legal : (gaps : Bool) (tables : Tables) (env : List Declaration) → Declares tables env → (h : Heading) (at : ℕ) (bytes : List ℕ) (last : State Tree)
+    → h.kind ≡ is_axiom → AreRowParams (sorts env) h.params → body_run (plain gaps) tables h at bytes ≡ Ok last
     → (a : Assertion) × (a.is_axiom ≡ true) × SpellsThm (signatures env) (thm_row h) a × IsLegalDecl env (assertion_decl a)
-axiom-legal tables env declares h at bytes last kind right run-is =
-    let (fact, done) = body-fact tables env declares h at bytes last run-is in
+axiom-legal gaps tables env declares h at bytes last kind right run-is =
+    let (fact, done) = body-fact gaps tables env declares h at bytes last run-is in
     end-ran tables h last done λ e m u e-is ending-is ran.
     from_need (has_provable_sort strict tables last.ctx e) k.NotProvable _ m (subst (λ (z : Kind). ending strict tables h last z e ≡ Ok m) kind ending-is) λ provable e1.
     let sorted : Sorted (signatures env) last.ctx e = last-expr (signatures env) last.ctx last.stack e (subst (λ (z : Kind). last_item z last.stack ≡ Ok e) kind e-is) fact.stack_sorted in
-    let claim-is : HasProvable env last.ctx e = claim (IsCited env bytes) tables env declares h.params last.ctx last.ctx e sorted provable in
-    let (spells, is-legal) = made-legal tables env declares h true (IsCited env bytes) last e m u right fact claim-is (taken-is (own_stream strict h at_end e (as_proofs last.hyps)) m e1) ran in
+    let claim-is : HasProvable env last.ctx e = claim (used_by gaps env bytes) tables env declares h.params last.ctx last.ctx e sorted provable in
+    let (spells, is-legal) = made-legal tables env declares h true (used_by gaps env bytes) last e m u right fact claim-is (taken-is (own_stream strict h at_end e (as_proofs last.hyps)) m e1) ran in
     (made h true last e, refl, spells, is-legal)

@@ -24,7 +24,7 @@ use Rattle.mz_logic.proofs.Rules.{sort_is, range_of_sort}
 use Rattle.mz_logic.proofs.Scoped.{DepsInside, free_below}
 use Rattle.mz_unify.specs.Streams.{of_definition}
 use Rattle.mz_unify.specs.Spells.{trees_of, dummy_of, variables_from, SpellsTerm}
-use Rattle.mz_unify.specs.Profile.{strict, Item, expr}
+use Rattle.mz_unify.specs.Profile.{plain, strict, Item, expr}
 use Rattle.mz_unify.specs.Sorted.{Sorted, ItemsSorted}
 use Rattle.mz_unify.specs.UnifyMachine.{in_definition, UnifyState, unify}
 use Rattle.mz_unify.proofs.Inverting.{from_need, some_is, taken-is}
@@ -248,11 +248,11 @@ built-legal env h mds e u (sorts-there, right) (result-sort, result-deps) are e-
     all_from_each (λ b. IsDummy b × MayBeDummySort (sorts env) b.sort) ds (dummies-right sigs (sorts env) h.params mds right ys ds fresh plain-ds are) in
     (d, (refl, text), (terms_are_sorted env d).1 (sorts-there, right, dummies-legal, result-sort, result-deps, ((p-sort, free), tt)))
 
-pub definition-legal : (tables : Tables) (env : List Declaration) → Declares tables env → (h : Heading) (at : ℕ) (bytes : List ℕ) (last : State Tree)
-    → h.kind ≡ is_definition → AreRowParams (sorts env) h.params → IsRowResult (sorts env) h.params h.result → body_run strict tables h at bytes ≡ Ok last
+pub definition-legal : (gaps : Bool) (tables : Tables) (env : List Declaration) → Declares tables env → (h : Heading) (at : ℕ) (bytes : List ℕ) (last : State Tree)
+    → h.kind ≡ is_definition → AreRowParams (sorts env) h.params → IsRowResult (sorts env) h.params h.result → body_run (plain gaps) tables h at bytes ≡ Ok last
     → (d : Term) × SpellsTerm (signatures env) (term_row h) d × IsLegalDecl env (term_decl d)
-definition-legal tables env declares h at bytes last kind right result run-is =
-    let (fact, done) = body-fact tables env declares h at bytes last run-is in
+definition-legal gaps tables env declares h at bytes last kind right result run-is =
+    let (fact, done) = body-fact gaps tables env declares h at bytes last run-is in
     let same-sigs = signatures-are tables env declares in
     end-ran tables h last done λ e m u e-is ending-is ran.
     from_need (sort_of (signatures_in tables) last.ctx e == h.result.sort) k.DefinitionSort _ m (subst (λ (z : Kind). ending strict tables h last z e ≡ Ok m) kind ending-is) λ sort-test e1.

@@ -1,5 +1,6 @@
 pub mod Outcomes
 pub mod BodyRuns
+pub mod PlainRows
 pub mod Stacks
 pub mod Declared
 pub mod Operands
@@ -33,3 +34,5 @@ pub mod BodyRunning
 pub mod Dummies
 pub mod Machines
 pub mod Beginning
+pub mod Ungapped
+pub mod StrictRuns

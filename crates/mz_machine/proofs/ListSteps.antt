@@ -1,8 +1,8 @@
 -- The commands that are executed for a list of rows.
-use Rattle.std.proofs.Common.{◌≡◌, ℕ, zero, suc, ◌+◌, ◌*◌, ◌≤◌, List, [], ◌∷◌, length, Option, Some, None, refl, ap, subst, ◌∙◌, ◌⊎◌, inl, inr, arith, suc-mul, mul-suc}
+use Rattle.std.proofs.Common.{◌≡◌, ℕ, zero, suc, ◌+◌, ◌*◌, ◌≤◌, Bool, List, [], ◌∷◌, length, Option, Some, None, refl, ap, subst, ◌∙◌, ◌⊎◌, inl, inr, arith, suc-mul, mul-suc}
 use Rattle.std.specs.Prelude.{slice_get}
 use Rattle.mz_logic.proofs.Fresh.{split_at}
-use Rattle.mz_unify.specs.Profile.{strict}
+use Rattle.mz_unify.specs.Profile.{plain}
 use Rattle.mz_unify.specs.Spells.{TermRow, ThmRow}
 use Rattle.mz_machine.specs.Tables.{Tables, Heading}
 use Rattle.mz_machine.specs.Bodies.{body_start, body_steps}
@@ -54,28 +54,28 @@ grown n tables (an_assertion is_local without_proof row body) (h, k) w = (h, λ 
     go t r (inl before) = k t r before
     go t r (inr (j, _, at)) = subst (λ (z : ThmRow). length z.stream ≤ n) (last-is row r j at) w
 
-body-le : (n : ℕ) (tables : Tables) (h : Heading) (body : Body) → TablesWithin n tables → length h.stream ≤ n → body_steps strict tables h body.at body.bytes ≤ length body.bytes * (n + 1)
-body-le n tables h body (a, b) own = steps-le strict tables h n (record { own = own; of_terms = a; of_thms = b }) (length body.bytes) (length body.bytes) body.at body.bytes (body_start strict h) (omega arith)
+body-le : (gaps : Bool) (n : ℕ) (tables : Tables) (h : Heading) (body : Body) → TablesWithin n tables → length h.stream ≤ n → body_steps (plain gaps) tables h body.at body.bytes ≤ length body.bytes * (n + 1)
+body-le gaps n tables h body (a, b) own = steps-le (plain gaps) tables h n (record { own = own; of_terms = a; of_thms = b }) (length body.bytes) (length body.bytes) body.at body.bytes (body_start (plain gaps) h) (omega arith)
 
-term-le : (n : ℕ) (tables : Tables) (row : TermRow) (body : Body) → TablesWithin n tables → (o : Option (List ℕ)) → row.stream ≡ o → ((stream : List ℕ) → row.stream ≡ Some stream → length stream ≤ n) → term_steps tables row body o ≤ length body.bytes * (n + 1)
-term-le n tables row body h None is w = omega arith
-term-le n tables row body h (Some stream) is w = body-le n tables (definition_of row stream) body h (w stream is)
+term-le : (gaps : Bool) (n : ℕ) (tables : Tables) (row : TermRow) (body : Body) → TablesWithin n tables → (o : Option (List ℕ)) → row.stream ≡ o → ((stream : List ℕ) → row.stream ≡ Some stream → length stream ≤ n) → term_steps gaps tables row body o ≤ length body.bytes * (n + 1)
+term-le gaps n tables row body h None is w = omega arith
+term-le gaps n tables row body h (Some stream) is w = body-le gaps n tables (definition_of row stream) body h (w stream is)
 
-entry-le : (n : ℕ) (tables : Tables) (e : Entry) → TablesWithin n tables → StreamWithin n e → entry_steps tables e ≤ body_length e * (n + 1)
-entry-le n tables (a_sort m) h w = omega arith
-entry-le n tables (a_term is_local row body) h w = term-le n tables row body h row.stream refl w
-entry-le n tables (an_assertion is_local without_proof row body) h w = body-le n tables (assertion_of without_proof row) body h w
+entry-le : (gaps : Bool) (n : ℕ) (tables : Tables) (e : Entry) → TablesWithin n tables → StreamWithin n e → entry_steps gaps tables e ≤ body_length e * (n + 1)
+entry-le gaps n tables (a_sort m) h w = omega arith
+entry-le gaps n tables (a_term is_local row body) h w = term-le gaps n tables row body h row.stream refl w
+entry-le gaps n tables (an_assertion is_local without_proof row body) h w = body-le gaps n tables (assertion_of without_proof row) body h w
 
-all-le : (n : ℕ) (tables : Tables) (es : List Entry) → TablesWithin n tables → AllStreamsWithin n es → steps_of tables es ≤ bodies_length es * (n + 1)
-all-le n tables [] h w = omega arith
-all-le n tables (e ∷ es) h (w, ws) = sum-le (entry_steps tables e) (steps_of (with_entry tables e) es) (body_length e) (bodies_length es) n
-    (entry-le n tables e h w) (all-le n (with_entry tables e) es (grown n tables e h w) ws)
+all-le : (gaps : Bool) (n : ℕ) (tables : Tables) (es : List Entry) → TablesWithin n tables → AllStreamsWithin n es → steps_of gaps tables es ≤ bodies_length es * (n + 1)
+all-le gaps n tables [] h w = omega arith
+all-le gaps n tables (e ∷ es) h (w, ws) = sum-le (entry_steps gaps tables e) (steps_of gaps (with_entry tables e) es) (body_length e) (bodies_length es) n
+    (entry-le gaps n tables e h w) (all-le gaps n (with_entry tables e) es (grown n tables e h w) ws)
   where
     sum-le : (a b c d m : ℕ) → a ≤ c * (m + 1) → b ≤ d * (m + 1) → a + b ≤ (c + d) * (m + 1)
     sum-le a b c d m p q = omega (arith, add-times c d (m + 1))
 
-pub list-steps : (es : List Entry) (n : ℕ) → AllStreamsWithin n es → bodies_length es ≤ n → steps_of no_tables es ≤ n * n + n
-list-steps es n w le = whole (steps_of no_tables es) (bodies_length es) n (all-le n no_tables es ((λ t row stream at is. absurd cc), λ t row at. absurd cc) w) le
+pub list-steps : (gaps : Bool) (es : List Entry) (n : ℕ) → AllStreamsWithin n es → bodies_length es ≤ n → steps_of gaps no_tables es ≤ n * n + n
+list-steps gaps es n w le = whole (steps_of gaps no_tables es) (bodies_length es) n (all-le gaps n no_tables es ((λ t row stream at is. absurd cc), λ t row at. absurd cc) w) le
   where
     whole : (a b m : ℕ) → a ≤ b * (m + 1) → b ≤ m → a ≤ m * m + m
     whole a b m p q =

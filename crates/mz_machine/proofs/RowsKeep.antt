@@ -10,11 +10,11 @@ use Rattle.mz_logic.specs.Tree.{Tree, var, app, none, listed, instances}
 use Rattle.mz_logic.specs.Signature.{Signature}
 use Rattle.mz_logic.specs.Declaration.{Form, plain_form, abstract_form, defined, Declaration, sorts, terms, signatures, assertions}
 use Rattle.mz_logic.specs.Modifiers.{MayBeDummySort}
-use Rattle.mz_logic.specs.Sorts.{Fits, HasProvable}
+use Rattle.mz_logic.specs.Sorts.{HasSort, Fits, HasProvable}
 use Rattle.mz_logic.specs.Variables.{Apart}
 use Rattle.mz_logic.specs.Legality.{sort_of, IsDummy}
-use Rattle.mz_logic.specs.Conversions.{refl_conv, sym_conv, cong_conv, unfold_conv, Between, AreFresh}
-use Rattle.mz_logic.specs.Derivations.{hypothesis, cite, convert, AllDerive}
+use Rattle.mz_logic.specs.Conversions.{refl_conv, sym_conv, cong_conv, unfold_conv, gap_conv, Between, AreFresh}
+use Rattle.mz_logic.specs.Derivations.{hypothesis, cite, convert, gap, Uses, AllDerive}
 use Rattle.mz_logic.specs.LegalLists.{AreDummies}
 use Rattle.mz_logic.specs.declared.binder.Binder.{Binder}
 use Rattle.mz_logic.proofs.Extend.{extends_itself, sort_extends, fits_extends, apart_extends, fresh_extends}
@@ -22,7 +22,7 @@ use Rattle.mz_logic.proofs.Fresh.{split_at}
 use Rattle.mz_logic.proofs.Rules.{sort_is}
 use Rattle.mz_unify.specs.Streams.{of_definition}
 use Rattle.mz_unify.specs.Spells.{trees_of, dummy_of, Text, TermRow, SpellsForm, SpellsTerm, SpellsThm}
-use Rattle.mz_unify.specs.Profile.{strict, tree_parts, Item, expr, proof, obligation, conversion}
+use Rattle.mz_unify.specs.Profile.{plain, strict, tree_parts, Item, expr, proof, obligation, conversion}
 use Rattle.mz_unify.specs.Sorted.{Sorted, ItemSorted, ItemsSorted}
 use Rattle.mz_unify.specs.Tests.{same_tree}
 use Rattle.mz_unify.specs.UnifyMachine.{in_citation, in_definition, Matching, UnifyState, unify}
@@ -32,10 +32,11 @@ use Rattle.mz_unify.proofs.Citations.{citation-is}
 use Rattle.mz_unify.proofs.Unfolding.{unfolding-is}
 use Rattle.mz_machine.specs.Tables.{Tables, signatures_in, State, Declares}
 use Rattle.mz_machine.specs.Premises.{pop, pop_expr, pop_proof, pop_obligation, pop_conversion, pop_operands, pop_sides, is_conversion, is_obligation, may_be_dummy_sort, is_provable_sort, bound_count, operands_fit, are_apart}
-use Rattle.mz_machine.specs.ProofMachine.{built, citation, matched_by, cited, referred, sides, same_term, stream_of, unfolding_of, has_provable_sort, proof_row}
+use Rattle.mz_machine.specs.ProofMachine.{built, citation, matched_by, cited, referred, sides, same_term, stream_of, unfolding_of, gapped, has_provable_sort, proof_row}
 use Rattle.mz_machine.specs.Facts.{Derivable, Convertible, Holds, StackHolds, IsFront, AreProvableClaims, Fact, Keeps}
 use Rattle.mz_machine.proofs.Declared.{pair-at, signatures-are, signature-at}
 use Rattle.mz_machine.proofs.Operands.{provable-sort, dummy-sort, fits-from, apart-from-test}
+use Rattle.mz_machine.proofs.PlainRows.{row-plain}
 use Rattle.mz_machine.proofs.Stacks.{item-at, holds-at, sorted-push, holds-push, claims-push, expr-top, proof-top, obligation-top, conversion-top, sides-top, operands-top, heap-hyps, stack-hyps, each-reverse, derive-all, proofs-below, sorted-below, sides-sorted, sides-hold}
 
 same-trees : (es : List Tree) → map (λ e. e) es ≡ es
@@ -93,7 +94,7 @@ definition-of sigs params (Some other) stream (defined dummies body) is s =
     let same : other ≡ stream = cc in
     (dummies, body, refl, subst (λ (z : List ℕ). Text of_definition sigs params z none body dummies) same s)
 
-module _ (P : ℕ → Type 0) (tables : Tables) (env : List Declaration) (declares : Declares tables env) (params full : List Binder) where
+module _ (P : Uses) (tables : Tables) (env : List Declaration) (declares : Declares tables env) (params full : List Binder) where
   abbrev Sigs : List Signature
   Sigs = signatures env
 
@@ -187,7 +188,7 @@ module _ (P : ℕ → Type 0) (tables : Tables) (env : List Declaration) (declar
             let (left, right) = both-true (same_tree a o.0) (same_tree b o.1) same in
             let left-is : a ≡ o.0 = same_tree-true a o.0 left in
             let right-is : b ≡ o.1 = same_tree-true b o.1 right in
-            let paid : Convertible env full o.0 o.1 = subst (λ (z : Tree). Convertible env full z o.1) left-is (subst (λ (z : Tree). Convertible env full a z) right-is (known fact).1) in
+            let paid : Convertible P.gaps env full o.0 o.1 = subst (λ (z : Tree). Convertible P.gaps env full z o.1) left-is (subst (λ (z : Tree). Convertible P.gaps env full a z) right-is (known fact).1) in
             (with-stack st o.2 fact rest-sorted (rest-holds paid)),
       )
 
@@ -221,7 +222,7 @@ module _ (P : ℕ → Type 0) (tables : Tables) (env : List Declaration) (declar
             let (l-sorted, rest-sorted, rest-holds) = expr-top P env full st.ctx st.hyps p.1 l popping-l p-rest p-holds in
             (with-stack st (obligation l.0 p.0 ∷ proof l.0 ∷ l.1) fact
             ((l-sorted, p-sorted), (l-sorted, rest-sorted))
-            (tt, λ paid. ((convert l.0 paid.0 d, cites, (refl, (p.0, paid.1, derives))), λ _. rest-holds))),
+            (tt, λ paid. ((convert l.0 paid.0 d, (paid.1, cites), (refl, (p.0, paid.2, derives))), λ _. rest-holds))),
       )
 
   keeps-refl : (at n : ℕ) (st st' : State Tree) → proof_row strict tables at code.Refl n st ≡ Ok st' → Keeps P env params full st st'
@@ -233,7 +234,7 @@ module _ (P : ℕ → Type 0) (tables : Tables) (env : List Declaration) (declar
         front,
         λ fact.
             let (l-sorted, r-sorted, rest-sorted, rest-holds) = obligation-top P env full st.ctx st.hyps st.stack o popping fact.stack_sorted fact.stack_holds in
-            (with-stack st o.2 fact rest-sorted (rest-holds (refl_conv o.0, (sorted-full st.ctx front o.0 l-sorted, sorted-full st.ctx front o.1 r-sorted, refl, sym (same_tree-true o.0 o.1 same))))),
+            (with-stack st o.2 fact rest-sorted (rest-holds (refl_conv o.0, tt, (sorted-full st.ctx front o.0 l-sorted, sorted-full st.ctx front o.1 r-sorted, refl, sym (same_tree-true o.0 o.1 same))))),
       )
 
   keeps-symm : (at n : ℕ) (st st' : State Tree) → proof_row strict tables at code.Symm n st ≡ Ok st' → Keeps P env params full st st'
@@ -245,7 +246,7 @@ module _ (P : ℕ → Type 0) (tables : Tables) (env : List Declaration) (declar
         λ fact.
             let (l-sorted, r-sorted, rest-sorted, rest-holds) = obligation-top P env full st.ctx st.hyps st.stack o popping fact.stack_sorted fact.stack_holds in
             (with-stack st (obligation o.1 o.0 ∷ o.2) fact ((r-sorted, l-sorted), rest-sorted)
-            (tt, λ paid. rest-holds (sym_conv paid.0, (sorted-full st.ctx front o.0 l-sorted, sorted-full st.ctx front o.1 r-sorted, paid.1)))),
+            (tt, λ paid. rest-holds (sym_conv paid.0, paid.1, (sorted-full st.ctx front o.0 l-sorted, sorted-full st.ctx front o.1 r-sorted, paid.2)))),
       )
 
   keeps-conv_cut : (at n : ℕ) (st st' : State Tree) → proof_row strict tables at code.ConvCut n st ≡ Ok st' → Keeps P env params full st st'
@@ -271,10 +272,6 @@ module _ (P : ℕ → Type 0) (tables : Tables) (env : List Declaration) (declar
             let (l-sorted, r-sorted, converts, rest-sorted, rest-holds) = conversion-top P env full st.ctx st.hyps st.stack o popping fact.stack_sorted fact.stack_holds in
             (with-both st o.2 (conversion o.0 o.1) fact rest-sorted rest-holds (l-sorted, r-sorted) converts),
       )
-
-  keeps-sorry : (at n : ℕ) (st st' : State Tree) → proof_row strict tables at code.Sorry n st ≡ Ok st' → Keeps P env params full st st'
-  unfolding proof_row
-  keeps-sorry at n st st' e = absurd cc
 
   keeps-save : (at n : ℕ) (st st' : State Tree) → proof_row strict tables at code.Save n st ≡ Ok st' → Keeps P env params full st st'
   unfolding proof_row
@@ -377,7 +374,7 @@ module _ (P : ℕ → Type 0) (tables : Tables) (env : List Declaration) (declar
   abbrev Proved : State Tree → Tree × List (Item Tree) → Type 0
   Proved st r = Sorted Sigs st.ctx r.0 × Derivable P env full st.hyps r.0 × ItemsSorted Sigs st.ctx r.1 × StackHolds P env full st.hyps r.1
 
-  cited-proved : (t : ℕ) (st : State Tree) (r : Tree × List (Item Tree)) → (t < length (assertions env) → P t)
+  cited-proved : (t : ℕ) (st : State Tree) (r : Tree × List (Item Tree)) → (t < length (assertions env) → P.cites t)
       → cited strict tables t st ≡ Ok r → IsFront st.ctx full → Fact P env params full st → Proved st r
   unfolding cited citation
   cited-proved t st r has-p e front fact =
@@ -414,7 +411,7 @@ module _ (P : ℕ → Type 0) (tables : Tables) (env : List Declaration) (declar
         below,
       )
 
-  keeps-thm : (at t : ℕ) (st st' : State Tree) → (t < length (assertions env) → P t) → proof_row strict tables at code.Thm t st ≡ Ok st' → Keeps P env params full st st'
+  keeps-thm : (at t : ℕ) (st st' : State Tree) → (t < length (assertions env) → P.cites t) → proof_row strict tables at code.Thm t st ≡ Ok st' → Keeps P env params full st st'
   unfolding proof_row
   keeps-thm at t st st' has-p e =
       from_bind (cited strict tables t st) _ st' e λ r citing e1.
@@ -425,7 +422,7 @@ module _ (P : ℕ → Type 0) (tables : Tables) (env : List Declaration) (declar
             with-stack st (proof r.0 ∷ r.1) fact (sorted, rest-sorted) (derives, λ _. rest-holds),
       )
 
-  keeps-thm_save : (at t : ℕ) (st st' : State Tree) → (t < length (assertions env) → P t) → proof_row strict tables at code.ThmSave t st ≡ Ok st' → Keeps P env params full st st'
+  keeps-thm_save : (at t : ℕ) (st st' : State Tree) → (t < length (assertions env) → P.cites t) → proof_row strict tables at code.ThmSave t st ≡ Ok st' → Keeps P env params full st st'
   unfolding proof_row
   keeps-thm_save at t st st' has-p e =
       from_bind (cited strict tables t st) _ st' e λ r citing e1.
@@ -453,14 +450,14 @@ module _ (P : ℕ → Type 0) (tables : Tables) (env : List Declaration) (declar
             let same-d : d ≡ d' = some_is d-at d'-at in
             let len : length es.0 ≡ length es.1 = ls-len ∙ ap (λ (z : Signature). length z.params) same-d ∙ sym rs-len in
             with-stack st (sides es.0 es.1 o.2) fact (sides-sorted P env full st.ctx es.0 es.1 o.2 ls-sorted rs-sorted rest-sorted)
-            (sides-hold P env full st.hyps es.0 es.1 o.2 len λ cs all.
-            rest-holds (cong_conv t cs, (sorted-full st.ctx front o.0 l-sorted, sorted-full st.ctx front o.1 r-sorted, (trees_of es.0, trees_of es.1, l-is, r-is, all)))),
+            (sides-hold P env full st.hyps es.0 es.1 o.2 len λ cs few all.
+            rest-holds (cong_conv t cs, few, (sorted-full st.ctx front o.0 l-sorted, sorted-full st.ctx front o.1 r-sorted, (trees_of es.0, trees_of es.1, l-is, r-is, all)))),
       )
 
   -- ---- unfolding
 
   abbrev Unfolded : State Tree → Matching Tree × Tree × List (Item Tree) → Type 0
-  Unfolded st r = Sorted Sigs st.ctx r.0.target × Sorted Sigs st.ctx r.1 × ItemsSorted Sigs st.ctx r.2 × (Convertible env full r.0.target r.1 → StackHolds P env full st.hyps r.2)
+  Unfolded st r = Sorted Sigs st.ctx r.0.target × Sorted Sigs st.ctx r.1 × ItemsSorted Sigs st.ctx r.2 × (Convertible P.gaps env full r.0.target r.1 → StackHolds P env full st.hyps r.2)
 
   unfolded : (st : State Tree) (r : Matching Tree × Tree × List (Item Tree)) (u : UnifyState Tree) → unfolding_of strict tables st ≡ Ok r → matched_by strict tables st.ctx r.0 ≡ Ok u
       → IsFront st.ctx full → Fact P env params full st → Unfolded st r
@@ -493,11 +490,12 @@ module _ (P : ℕ → Type 0) (tables : Tables) (env : List Declaration) (declar
         rest-sorted,
         λ paid. rest-holds (
           unfold_conv p.0 (trees_of p.1) ys paid.0,
+          paid.1,
           (
             sorted-full st.ctx front o.0 l-sorted,
             sorted-full st.ctx front o.1 r-sorted,
             l-is,
-            (d, dummies, b, (d-at, form), fits-full, fresh-full, subst (λ (z : Tree). Between env full paid.0 z o.1) x-is paid.1),
+            (d, dummies, b, (d-at, form), fits-full, fresh-full, subst (λ (z : Tree). Between env full paid.0 z o.1) x-is paid.2),
           ),
         ),
       )
@@ -514,27 +512,72 @@ module _ (P : ℕ → Type 0) (tables : Tables) (env : List Declaration) (declar
             with-stack st (obligation m.0.target m.1 ∷ m.2) fact ((x-sorted, r-sorted), rest-sorted) (tt, rest-holds),
       )
 
+  -- ---- gaps
+
+  claim-full : (ctx : List Binder) → IsFront ctx full → (e : Tree) → HasProvable env ctx e → HasProvable env full e
+  claim-full ctx front e (s, h, provable) = (s, sort_extends Sigs Sigs ctx full (extends_itself Sigs) front e s h, provable)
+
+  -- two expressions of which the machine reads one sort have one
+  one-sort-full : (ctx : List Binder) → IsFront ctx full → (l r : Tree) → Sorted Sigs ctx l → Sorted Sigs ctx r → eqb (sort_of (signatures_in tables) ctx l) (sort_of (signatures_in tables) ctx r) ≡ true
+      → (s : ℕ) × HasSort Sigs full l s × HasSort Sigs full r s
+  one-sort-full ctx front l r (s, h) (s', h') same =
+      let sigs-are = signatures-are tables env declares in
+      let l-is : sort_of (signatures_in tables) ctx l ≡ s = ap (λ (z : List Signature). sort_of z ctx l) sigs-are ∙ sort_is Sigs ctx l s h in
+      let r-is : sort_of (signatures_in tables) ctx r ≡ s' = ap (λ (z : List Signature). sort_of z ctx r) sigs-are ∙ sort_is Sigs ctx r s' h' in
+      let one : s' ≡ s = sym r-is ∙ sym (eqb-true _ _ same) ∙ l-is in
+      (s, sort_extends Sigs Sigs ctx full (extends_itself Sigs) front l s h, sort_extends Sigs Sigs ctx full (extends_itself Sigs) front r s (subst (HasSort Sigs ctx r) one h'))
+
+  keeps-gapped : (gaps : Bool) (x : Item Tree) (xs : List (Item Tree)) (st st' : State Tree) → P.gaps → st.stack ≡ x ∷ xs → gapped (plain gaps) tables st x xs ≡ Ok st' → Keeps P env params full st st'
+  keeps-gapped gaps (expr a) xs st st' ok stack-is e =
+      from_need (has_provable_sort strict tables st.ctx a) k.NotProvable _ st' e λ provable e1.
+      step-is st (record st { stack = proof a ∷ xs }) st' e1 λ front. (
+        front,
+        λ fact.
+            let sorted = subst (ItemsSorted Sigs st.ctx) stack-is fact.stack_sorted in
+            let holds = subst (StackHolds P env full st.hyps) stack-is fact.stack_holds in
+            with-stack st (proof a ∷ xs) fact (sorted.0, sorted.1) ((gap a, ok, (refl, claim-full st.ctx front a (claim st.ctx a sorted.0 provable))), λ _. holds.1 tt),
+      )
+  keeps-gapped gaps (obligation l r) xs st st' ok stack-is e =
+      from_need (eqb (sort_of (signatures_in tables) st.ctx l) (sort_of (signatures_in tables) st.ctx r)) k.Sorry _ st' e λ same e1.
+      step-is st (record st { stack = xs }) st' e1 λ front. (
+        front,
+        λ fact.
+            let sorted = subst (ItemsSorted Sigs st.ctx) stack-is fact.stack_sorted in
+            let holds = subst (StackHolds P env full st.hyps) stack-is fact.stack_holds in
+            with-stack st xs fact sorted.1
+            (holds.1 (gap_conv l r, ok, (sorted-full st.ctx front l sorted.0.0, sorted-full st.ctx front r sorted.0.1, refl, refl, one-sort-full st.ctx front l r sorted.0.0 sorted.0.1 same))),
+      )
+  keeps-gapped gaps (proof a) xs st st' ok stack-is e = absurd cc
+  keeps-gapped gaps (conversion l r) xs st st' ok stack-is e = absurd cc
+
+  keeps-sorry : (gaps : Bool) (at n : ℕ) (st st' : State Tree) → (gaps ≡ true → P.gaps) → proof_row (plain gaps) tables at code.Sorry n st ≡ Ok st' → Keeps P env params full st st'
+  unfolding proof_row
+  keeps-sorry gaps at n st st' ok e =
+      from_need gaps k.Sorry _ st' e λ on e1.
+      from_bind (pop st.stack) _ st' e1 λ x popping e2.
+      keeps-gapped gaps x.0 x.1 st st' (ok on) (pop-is st.stack x popping) e2
+
   -- ---- every row
 
-  -- a citation is of a number with P
-  abbrev pub Allowed : ProofCode → ℕ → Type 0
-  Allowed c value = ((c ≡ code.Thm) ⊎ (c ≡ code.ThmSave)) → value < length (assertions env) → P value
+  -- a citation is of a number that may be cited, and a gap stands where gaps may
+  abbrev pub Allowed : Bool → ProofCode → ℕ → Type 0
+  Allowed gaps c value = (((c ≡ code.Thm) ⊎ (c ≡ code.ThmSave)) → value < length (assertions env) → P.cites value) × (c ≡ code.Sorry → gaps ≡ true → P.gaps)
 
-  pub keeps : (at : ℕ) (c : ProofCode) (n : ℕ) (st st' : State Tree) → Allowed c n → proof_row strict tables at c n st ≡ Ok st' → Keeps P env params full st st'
-  keeps at code.Term n st st' ok e = keeps-term at n st st' e
-  keeps at code.TermSave n st st' ok e = keeps-term_save at n st st' e
-  keeps at code.Ref n st st' ok e = keeps-ref at n st st' e
-  keeps at code.Dummy n st st' ok e = keeps-dummy at n st st' e
-  keeps at code.Thm n st st' ok e = keeps-thm at n st st' (ok (inl refl)) e
-  keeps at code.ThmSave n st st' ok e = keeps-thm_save at n st st' (ok (inr refl)) e
-  keeps at code.Hyp n st st' ok e = keeps-hyp at n st st' e
-  keeps at code.Conv n st st' ok e = keeps-conv at n st st' e
-  keeps at code.Refl n st st' ok e = keeps-refl at n st st' e
-  keeps at code.Symm n st st' ok e = keeps-symm at n st st' e
-  keeps at code.Cong n st st' ok e = keeps-cong at n st st' e
-  keeps at code.Unfold n st st' ok e = keeps-unfold at n st st' e
-  keeps at code.ConvCut n st st' ok e = keeps-conv_cut at n st st' e
-  keeps at code.ConvRef n st st' ok e = keeps-conv_ref at n st st' e
-  keeps at code.ConvSave n st st' ok e = keeps-conv_save at n st st' e
-  keeps at code.Save n st st' ok e = keeps-save at n st st' e
-  keeps at code.Sorry n st st' ok e = keeps-sorry at n st st' e
+  pub keeps : (gaps : Bool) (at : ℕ) (c : ProofCode) (n : ℕ) (st st' : State Tree) → Allowed gaps c n → proof_row (plain gaps) tables at c n st ≡ Ok st' → Keeps P env params full st st'
+  keeps gaps at code.Term n st st' ok e = keeps-term at n st st' (sym (row-plain gaps tables at code.Term n st λ is. cc) ∙ e)
+  keeps gaps at code.TermSave n st st' ok e = keeps-term_save at n st st' (sym (row-plain gaps tables at code.TermSave n st λ is. cc) ∙ e)
+  keeps gaps at code.Ref n st st' ok e = keeps-ref at n st st' (sym (row-plain gaps tables at code.Ref n st λ is. cc) ∙ e)
+  keeps gaps at code.Dummy n st st' ok e = keeps-dummy at n st st' (sym (row-plain gaps tables at code.Dummy n st λ is. cc) ∙ e)
+  keeps gaps at code.Thm n st st' ok e = keeps-thm at n st st' (ok.0 (inl refl)) (sym (row-plain gaps tables at code.Thm n st λ is. cc) ∙ e)
+  keeps gaps at code.ThmSave n st st' ok e = keeps-thm_save at n st st' (ok.0 (inr refl)) (sym (row-plain gaps tables at code.ThmSave n st λ is. cc) ∙ e)
+  keeps gaps at code.Hyp n st st' ok e = keeps-hyp at n st st' (sym (row-plain gaps tables at code.Hyp n st λ is. cc) ∙ e)
+  keeps gaps at code.Conv n st st' ok e = keeps-conv at n st st' (sym (row-plain gaps tables at code.Conv n st λ is. cc) ∙ e)
+  keeps gaps at code.Refl n st st' ok e = keeps-refl at n st st' (sym (row-plain gaps tables at code.Refl n st λ is. cc) ∙ e)
+  keeps gaps at code.Symm n st st' ok e = keeps-symm at n st st' (sym (row-plain gaps tables at code.Symm n st λ is. cc) ∙ e)
+  keeps gaps at code.Cong n st st' ok e = keeps-cong at n st st' (sym (row-plain gaps tables at code.Cong n st λ is. cc) ∙ e)
+  keeps gaps at code.Unfold n st st' ok e = keeps-unfold at n st st' (sym (row-plain gaps tables at code.Unfold n st λ is. cc) ∙ e)
+  keeps gaps at code.ConvCut n st st' ok e = keeps-conv_cut at n st st' (sym (row-plain gaps tables at code.ConvCut n st λ is. cc) ∙ e)
+  keeps gaps at code.ConvRef n st st' ok e = keeps-conv_ref at n st st' (sym (row-plain gaps tables at code.ConvRef n st λ is. cc) ∙ e)
+  keeps gaps at code.ConvSave n st st' ok e = keeps-conv_save at n st st' (sym (row-plain gaps tables at code.ConvSave n st λ is. cc) ∙ e)
+  keeps gaps at code.Save n st st' ok e = keeps-save at n st st' (sym (row-plain gaps tables at code.Save n st λ is. cc) ∙ e)
+  keeps gaps at code.Sorry n st st' ok e = keeps-sorry gaps at n st st' (ok.1 refl) e

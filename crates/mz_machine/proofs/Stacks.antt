@@ -6,8 +6,8 @@ use Rattle.mz_cmd.specs.declared.rule.K.TheVariants as k
 use Rattle.mz_logic.specs.Tree.{Tree, Trees, none, more, listed}
 use Rattle.mz_logic.specs.Declaration.{Declaration, signatures}
 use Rattle.mz_logic.specs.Sorts.{HasProvable}
-use Rattle.mz_logic.specs.Conversions.{Conversions, no_convs, more_convs, AllBetween}
-use Rattle.mz_logic.specs.Derivations.{Derivation, Derivations, hypothesis, cite, convert, no_derivs, more_derivs, Derives, AllDerive, AllCiteOnly}
+use Rattle.mz_logic.specs.Conversions.{Conversions, no_convs, more_convs, AllBetween, AllGapsOnly}
+use Rattle.mz_logic.specs.Derivations.{Derivation, Derivations, hypothesis, cite, convert, gap, no_derivs, more_derivs, Derives, AllDerive, Uses, AllCiteOnly}
 use Rattle.mz_logic.specs.declared.binder.Binder.{Binder}
 use Rattle.mz_unify.specs.Spells.{trees_of}
 use Rattle.mz_unify.specs.Profile.{strict, Item, expr, proof, obligation, conversion}
@@ -19,7 +19,7 @@ use Rattle.mz_machine.specs.Premises.{pop_expr, pop_proof, pop_obligation, pop_c
 use Rattle.mz_machine.specs.ProofMachine.{sides}
 use Rattle.mz_machine.specs.Facts.{Derivable, Convertible, Holds, HeapHolds, StackHolds, AreProvableClaims}
 
-module _ (P : ℕ → Type 0) (env : List Declaration) (full : List Binder) where
+module _ (P : Uses) (env : List Declaration) (full : List Binder) where
   -- ---- heaps
 
   pub item-at : (ctx : List Binder) (xs : List (Item Tree)) (i : ℕ) (x : Item Tree) → slice_get xs i ≡ Some x → ItemsSorted (signatures env) ctx xs → ItemSorted (signatures env) ctx x
@@ -69,7 +69,7 @@ module _ (P : ℕ → Type 0) (env : List Declaration) (full : List Binder) wher
   proof-top ctx hyps (conversion a b ∷ xs) r e s h = absurd cc
 
   abbrev pub ObligationTop : List Binder → List Tree → Tree × Tree × List (Item Tree) → Type 0
-  ObligationTop ctx hyps r = Sorted (signatures env) ctx r.0 × Sorted (signatures env) ctx r.1 × ItemsSorted (signatures env) ctx r.2 × (Convertible env full r.0 r.1 → StackHolds P env full hyps r.2)
+  ObligationTop ctx hyps r = Sorted (signatures env) ctx r.0 × Sorted (signatures env) ctx r.1 × ItemsSorted (signatures env) ctx r.2 × (Convertible P.gaps env full r.0 r.1 → StackHolds P env full hyps r.2)
 
   pub obligation-top : (ctx : List Binder) (hyps : List Tree) (xs : List (Item Tree)) (r : Tree × Tree × List (Item Tree))
       → pop_obligation xs ≡ Ok r → ItemsSorted (signatures env) ctx xs → StackHolds P env full hyps xs → ObligationTop ctx hyps r
@@ -80,7 +80,7 @@ module _ (P : ℕ → Type 0) (env : List Declaration) (full : List Binder) wher
   obligation-top ctx hyps (conversion a b ∷ xs) r e s h = absurd cc
 
   abbrev pub ConversionTop : List Binder → List Tree → Tree × Tree × List (Item Tree) → Type 0
-  ConversionTop ctx hyps r = Sorted (signatures env) ctx r.0 × Sorted (signatures env) ctx r.1 × Convertible env full r.0 r.1 × ItemsSorted (signatures env) ctx r.2 × StackHolds P env full hyps r.2
+  ConversionTop ctx hyps r = Sorted (signatures env) ctx r.0 × Sorted (signatures env) ctx r.1 × Convertible P.gaps env full r.0 r.1 × ItemsSorted (signatures env) ctx r.2 × StackHolds P env full hyps r.2
 
   pub conversion-top : (ctx : List Binder) (hyps : List Tree) (xs : List (Item Tree)) (r : Tree × Tree × List (Item Tree))
       → pop_conversion xs ≡ Ok r → ItemsSorted (signatures env) ctx xs → StackHolds P env full hyps xs → ConversionTop ctx hyps r
@@ -135,6 +135,7 @@ module _ (P : ℕ → Type 0) (env : List Declaration) (full : List Binder) wher
     derives-more hs gs front (hypothesis i) e h = front i e h
     derives-more hs gs front (cite T es ds) e (a, at, is, fits, apart, h) = (a, at, is, fits, apart, all-derive-more hs gs front ds _ h)
     derives-more hs gs front (convert f c d) e (is, (g, between, h)) = (is, (g, between, derives-more hs gs front d g h))
+    derives-more hs gs front (gap f) e h = h
 
     all-derive-more : (hs gs : Trees) → ((i : ℕ) (e : Tree) → slice_get (listed hs) i ≡ Some e → slice_get (listed gs) i ≡ Some e) → (ds : Derivations) (es : Trees) → AllDerive env full hs ds es → AllDerive env full gs ds es
     all-derive-more hs gs front no_derivs none h = tt
@@ -197,9 +198,9 @@ module _ (P : ℕ → Type 0) (env : List Declaration) (full : List Binder) wher
   sides-sorted ctx (l ∷ ls) (r ∷ rs) xs (l-sorted, sl) (r-sorted, sr) h = ((l-sorted, r-sorted), sides-sorted ctx ls rs xs sl sr h)
 
   pub sides-hold : (hyps ls rs : List Tree) (xs : List (Item Tree)) → length ls ≡ length rs
-      → ((cs : Conversions) → AllBetween env full cs (trees_of ls) (trees_of rs) → StackHolds P env full hyps xs) → StackHolds P env full hyps (sides ls rs xs)
-  sides-hold hyps [] [] xs len then = then no_convs tt
+      → ((cs : Conversions) → AllGapsOnly P.gaps cs → AllBetween env full cs (trees_of ls) (trees_of rs) → StackHolds P env full hyps xs) → StackHolds P env full hyps (sides ls rs xs)
+  sides-hold hyps [] [] xs len then = then no_convs tt tt
   sides-hold hyps [] (r ∷ rs) xs len then = absurd (omega arith)
   sides-hold hyps (l ∷ ls) [] xs len then = absurd (omega arith)
   sides-hold hyps (l ∷ ls) (r ∷ rs) xs len then =
-      (tt, λ paid. sides-hold hyps ls rs xs (omega arith) λ cs all. then (more_convs paid.0 cs) (paid.1, all))
+      (tt, λ paid. sides-hold hyps ls rs xs (omega arith) λ cs few all. then (more_convs paid.0 cs) (paid.1, few) (paid.2, all))

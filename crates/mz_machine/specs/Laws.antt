@@ -1,10 +1,10 @@
 -- What is promised of the machine as a definition, whatever a body means.
-use Rattle.std.specs.Prelude.{◌≡◌, ℕ, ◌+◌, ◌*◌, ◌≤◌, ◌⊎◌, ◌↔◌, List, [], ◌∷◌, ◌++◌, length, Some, slice_get}
+use Rattle.std.specs.Prelude.{◌≡◌, ℕ, Bool, ◌+◌, ◌*◌, ◌≤◌, ◌⊎◌, ◌↔◌, List, [], ◌∷◌, ◌++◌, length, Some, slice_get}
 use Rattle.mz_checks.specs.Checks.{AllHold, FailsFirst, AreDecided}
 use Rattle.mz_cmd.specs.declared.rule.K.{K}
 use Rattle.mz_logic.specs.Declaration.{Term, Assertion, Declaration, sort_decl, term_decl, assertion_decl, signatures}
 use Rattle.mz_logic.specs.declared.binder.SortMods.{SortMods}
-use Rattle.mz_unify.specs.Profile.{Profile}
+use Rattle.mz_unify.specs.Profile.{Profile, plain, strict}
 use Rattle.mz_unify.specs.Spells.{TermRow, ThmRow, SpellsTerm, SpellsThm}
 use Rattle.mz_machine.specs.Tables.{Tables, Heading, State, Declares}
 use Rattle.mz_machine.specs.Bodies.{body_from, Runs, Stops, body_steps_from, body_checks}
@@ -73,3 +73,9 @@ BodiesAreChecked P = (tables : Tables) (h : Heading) (at : ℕ) (bytes : List �
     → (AllHold (body_checks P tables h at bytes) ↔ Runs P tables h at bytes)
     × ((place : ℕ) (rule : K) → FailsFirst (body_checks P tables h at bytes) (place, rule) ↔ Stops P tables h at bytes place rule)
     × AreDecided (body_checks P tables h at bytes)
+
+-- ---- gaps
+
+-- a body that runs by the published table runs where gaps are let through
+abbrev pub StrictRunsWithGaps : Type 0
+StrictRunsWithGaps = (gaps : Bool) (tables : Tables) (h : Heading) (at : ℕ) (bytes : List ℕ) → Runs strict tables h at bytes → Runs (plain gaps) tables h at bytes

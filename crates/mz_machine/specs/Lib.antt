@@ -7,6 +7,7 @@ pub mod Facts
 pub mod Laws
 pub mod Sound
 pub mod Lists
+pub mod Gapped
 pub mod Examples
 pub mod Cases
 pub mod RowWords

@@ -2,9 +2,9 @@
 use Rattle.std.specs.Prelude.{◌≡◌, ℕ, ⊤, Bool, true, false, ◌+◌, ◌*◌, ◌≤◌, List, [], ◌∷◌, ◌++◌, length, Option, Some, None}
 use Rattle.mz_logic.specs.Signature.{Signature}
 use Rattle.mz_logic.specs.Declaration.{Term, Assertion, Declaration, sort_decl, term_decl, assertion_decl, signatures}
-use Rattle.mz_logic.specs.LegalLists.{Statement, IsProvedBy, Legal}
+use Rattle.mz_logic.specs.LegalLists.{Statement, IsProvedBy, LegalBy, allowed_with}
 use Rattle.mz_logic.specs.declared.binder.SortMods.{SortMods}
-use Rattle.mz_unify.specs.Profile.{strict}
+use Rattle.mz_unify.specs.Profile.{plain}
 use Rattle.mz_unify.specs.Spells.{TermRow, ThmRow, SpellsTerm, SpellsThm}
 use Rattle.mz_machine.specs.Tables.{Tables, Kind, is_axiom, is_theorem, is_definition, Heading}
 use Rattle.mz_machine.specs.Bodies.{Runs, body_steps}
@@ -40,22 +40,22 @@ abbrev pub assertion_of : Bool → ThmRow → Heading
 assertion_of without_proof row = record { kind = kind_of without_proof; params = row.params; result = record { sort = 0; deps = [] }; stream = row.stream }
 
 -- only definitions may be local, and their bodies run
-abbrev pub BodyIsGood : Tables → Bool → TermRow → Body → Option (List ℕ) → Type 0
-BodyIsGood tables is_local row body None = is_local ≡ false
-BodyIsGood tables is_local row body (Some stream) = Runs strict tables (definition_of row stream) body.at body.bytes
+abbrev pub BodyIsGood : Bool → Tables → Bool → TermRow → Body → Option (List ℕ) → Type 0
+BodyIsGood gaps tables is_local row body None = is_local ≡ false
+BodyIsGood gaps tables is_local row body (Some stream) = Runs (plain gaps) tables (definition_of row stream) body.at body.bytes
 
-abbrev pub IsGoodEntry : Tables → Entry → Type 0
-IsGoodEntry tables (a_sort m) = ⊤
-IsGoodEntry tables (a_term is_local row body) =
+abbrev pub IsGoodEntry : Bool → Tables → Entry → Type 0
+IsGoodEntry gaps tables (a_sort m) = ⊤
+IsGoodEntry gaps tables (a_term is_local row body) =
     AreRowParams tables.sorts row.signature.params × IsRowResult tables.sorts row.signature.params row.signature.result
-    × BodyIsGood tables is_local row body row.stream
-IsGoodEntry tables (an_assertion is_local without_proof row body) =
+    × BodyIsGood gaps tables is_local row body row.stream
+IsGoodEntry gaps tables (an_assertion is_local without_proof row body) =
     (is_local ≡ true → without_proof ≡ false) × AreRowParams tables.sorts row.params
-    × Runs strict tables (assertion_of without_proof row) body.at body.bytes
+    × Runs (plain gaps) tables (assertion_of without_proof row) body.at body.bytes
 
-abbrev pub AreGood : Tables → List Entry → Type 0
-AreGood tables [] = ⊤
-AreGood tables (e ∷ es) = IsGoodEntry tables e × AreGood (with_entry tables e) es
+abbrev pub AreGood : Bool → Tables → List Entry → Type 0
+AreGood gaps tables [] = ⊤
+AreGood gaps tables (e ∷ es) = IsGoodEntry gaps tables e × AreGood gaps (with_entry tables e) es
 
 -- ---- what an entry spells
 
@@ -73,24 +73,24 @@ SpellEntries env (e ∷ es) [] = ⊥
 SpellEntries env (e ∷ es) (s ∷ ss) = SpellsEntry (signatures env) e s × SpellEntries (env ++ s.decl ∷ []) es ss
 
 -- a theorem has a derivation that cites only what its body cites
-abbrev pub ProvedByBody : List Declaration → Entry → Declaration → Type 0
-ProvedByBody env (a_sort m) d = ⊤
-ProvedByBody env (a_term is_local row body) d = ⊤
-ProvedByBody env (an_assertion is_local without_proof row body) (sort_decl m) = ⊤
-ProvedByBody env (an_assertion is_local without_proof row body) (term_decl t) = ⊤
-ProvedByBody env (an_assertion is_local without_proof row body) (assertion_decl a) = a.is_axiom ≡ false → IsProvedBy (cites_as body.bytes) env a
+abbrev pub ProvedByBody : Bool → List Declaration → Entry → Declaration → Type 0
+ProvedByBody gaps env (a_sort m) d = ⊤
+ProvedByBody gaps env (a_term is_local row body) d = ⊤
+ProvedByBody gaps env (an_assertion is_local without_proof row body) (sort_decl m) = ⊤
+ProvedByBody gaps env (an_assertion is_local without_proof row body) (term_decl t) = ⊤
+ProvedByBody gaps env (an_assertion is_local without_proof row body) (assertion_decl a) = a.is_axiom ≡ false → IsProvedBy (cites_as gaps body.bytes) env a
 
-abbrev pub ProvedByBodies : List Declaration → List Entry → List Statement → Type 0
-ProvedByBodies env [] ss = ⊤
-ProvedByBodies env (e ∷ es) [] = ⊤
-ProvedByBodies env (e ∷ es) (s ∷ ss) = ProvedByBody env e s.decl × ProvedByBodies (env ++ s.decl ∷ []) es ss
+abbrev pub ProvedByBodies : Bool → List Declaration → List Entry → List Statement → Type 0
+ProvedByBodies gaps env [] ss = ⊤
+ProvedByBodies gaps env (e ∷ es) [] = ⊤
+ProvedByBodies gaps env (e ∷ es) (s ∷ ss) = ProvedByBody gaps env e s.decl × ProvedByBodies gaps (env ++ s.decl ∷ []) es ss
 
 -- ---- the promise
 
--- good entries spell a list of statements that is legal, each theorem by what its body cites
+-- good entries spell a list of statements that is legal, a draft where gaps are let through, each theorem by what its body cites
 abbrev pub GoodEntriesAreLegal : Type 0
-GoodEntriesAreLegal = (es : List Entry) → AreGood no_tables es
-    → (ss : List Statement) × SpellEntries [] es ss × Legal ss × ProvedByBodies [] es ss
+GoodEntriesAreLegal = (gaps : Bool) (es : List Entry) → AreGood gaps no_tables es
+    → (ss : List Statement) × SpellEntries [] es ss × LegalBy (allowed_with gaps) ss × ProvedByBodies gaps [] es ss
 
 -- and they spell no other
 abbrev pub OneListOfStatements : Type 0
@@ -98,19 +98,19 @@ OneListOfStatements = (es : List Entry) (ss ts : List Statement) → SpellEntrie
 
 -- ---- steps
 
-abbrev pub term_steps : Tables → TermRow → Body → Option (List ℕ) → ℕ
-term_steps tables row body None = 0
-term_steps tables row body (Some stream) = body_steps strict tables (definition_of row stream) body.at body.bytes
+abbrev pub term_steps : Bool → Tables → TermRow → Body → Option (List ℕ) → ℕ
+term_steps gaps tables row body None = 0
+term_steps gaps tables row body (Some stream) = body_steps (plain gaps) tables (definition_of row stream) body.at body.bytes
 
 -- the commands executed for an entry after the rows before it; a sort or a plain term has none
-abbrev pub entry_steps : Tables → Entry → ℕ
-entry_steps tables (a_sort m) = 0
-entry_steps tables (a_term is_local row body) = term_steps tables row body row.stream
-entry_steps tables (an_assertion is_local without_proof row body) = body_steps strict tables (assertion_of without_proof row) body.at body.bytes
+abbrev pub entry_steps : Bool → Tables → Entry → ℕ
+entry_steps gaps tables (a_sort m) = 0
+entry_steps gaps tables (a_term is_local row body) = term_steps gaps tables row body row.stream
+entry_steps gaps tables (an_assertion is_local without_proof row body) = body_steps (plain gaps) tables (assertion_of without_proof row) body.at body.bytes
 
-abbrev pub steps_of : Tables → List Entry → ℕ
-steps_of tables [] = 0
-steps_of tables (e ∷ es) = entry_steps tables e + steps_of (with_entry tables e) es
+abbrev pub steps_of : Bool → Tables → List Entry → ℕ
+steps_of gaps tables [] = 0
+steps_of gaps tables (e ∷ es) = entry_steps gaps tables e + steps_of gaps (with_entry tables e) es
 
 abbrev pub body_length : Entry → ℕ
 body_length (a_sort m) = 0
@@ -134,4 +134,4 @@ AllStreamsWithin n (e ∷ es) = StreamWithin n e × AllStreamsWithin n es
 
 -- where streams and all bodies lie within n bytes, at most n*n + n commands are executed, whatever fails
 abbrev pub StepsOfLists : Type 0
-StepsOfLists = (es : List Entry) (n : ℕ) → AllStreamsWithin n es → bodies_length es ≤ n → steps_of no_tables es ≤ n * n + n
+StepsOfLists = (gaps : Bool) (es : List Entry) (n : ℕ) → AllStreamsWithin n es → bodies_length es ≤ n → steps_of gaps no_tables es ≤ n * n + n

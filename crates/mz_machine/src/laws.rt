@@ -1,30 +1,31 @@
 // Laws on the definitions: the contract of each function is one, and its body is empty.
 ghost use Rattle.mz_machine.specs.Lists.{StepsOfLists};
-ghost use Rattle.mz_machine.specs.Laws.{BodiesAreChecked, BoundNeverEnds, CountsAreWhole, NothingAtFirst, OneOutcome, SortsGrow, StepsBounded, TermsGrow, ThmsGrow};
-ghost use Rattle.mz_unify.specs.Profile.{strict};
+ghost use Rattle.mz_machine.specs.Laws.{BodiesAreChecked, BoundNeverEnds, CountsAreWhole, NothingAtFirst, OneOutcome, SortsGrow, StepsBounded, StrictRunsWithGaps, TermsGrow, ThmsGrow};
+ghost use Rattle.mz_unify.specs.Profile.{plain};
+ghost use Rattle.std.specs.Prelude.{Bool};
 
 /// A body runs to its END, or stops at one place by one rule.
 pub fn one_outcome()
-    ensures { OneOutcome strict }
+    ensures { (gaps : Bool) → OneOutcome (plain gaps) }
 {}
 
 /// A body as ordered checks: all hold where it runs, and else the first that fails is its rule at its
 /// place.
 pub fn bodies_are_checked()
-    ensures { BodiesAreChecked strict }
+    ensures { (gaps : Bool) → BodiesAreChecked (plain gaps) }
 {}
 
 /// The bound that makes a run a function never ends it, nor the count of its steps: each command takes
 /// a byte.
 pub fn bound_never_ends()
-    ensures runs { BoundNeverEnds strict }
-    ensures steps { CountsAreWhole strict }
+    ensures runs { (gaps : Bool) → BoundNeverEnds (plain gaps) }
+    ensures steps { (gaps : Bool) → CountsAreWhole (plain gaps) }
 {}
 
 /// A body executes at most its own commands, and for each at most one unify command a byte of a
 /// stream; so a file of n bytes at most n * n + n.
 pub fn steps_bounded()
-    ensures bodies { StepsBounded strict }
+    ensures bodies { (gaps : Bool) → StepsBounded (plain gaps) }
     ensures lists { StepsOfLists }
 {}
 
@@ -34,4 +35,9 @@ pub fn tables_grow()
     ensures sorts { SortsGrow }
     ensures terms { TermsGrow }
     ensures assertions { ThmsGrow }
+{}
+
+/// A body that runs by the published table runs where gaps are let through.
+pub fn strict_runs_with_gaps()
+    ensures { StrictRunsWithGaps }
 {}

@@ -1,4 +1,5 @@
 // Soundness: what a body that runs makes of its row, and a list of such rows.
+ghost use Rattle.mz_machine.specs.Gapped.{UngappedAreProved};
 ghost use Rattle.mz_machine.specs.Lists.{GoodEntriesAreLegal, OneListOfStatements};
 ghost use Rattle.mz_machine.specs.Sound.{AxiomsAreLegal, DefinitionsAreLegal, RowsKeepTheFact, TheoremsAreProved};
 
@@ -27,4 +28,10 @@ pub fn theorems_are_proved()
 pub fn good_entries_are_legal()
     ensures legal { GoodEntriesAreLegal }
     ensures one { OneListOfStatements }
+{}
+
+/// A theorem that isn't gapped, of a list of rows whose bodies run, has a derivation without gaps that
+/// cites no gapped theorem.
+pub fn ungapped_are_proved()
+    ensures { UngappedAreProved }
 {}

@@ -244,7 +244,7 @@ last-expr sigs ctx _ e is h = absurd cc
 run-few : (tables : Tables) (env : List Declaration) → Declares tables env → (h : Heading) (at : ℕ) (bytes : List ℕ) → h.kind ≡ is_definition → bound_count h.params ≤ 55 → Runs strict tables h at bytes
     → (ds : List Binder) (body : Tree) → SpellsForm (signatures env) h.params (Some h.stream) (defined ds body) → length ds ≤ 55
 run-few tables env declares h at bytes kind few (last, run-is) ds body text =
-    let (fact, done) = body-fact tables env declares h at bytes last run-is in
+    let (fact, done) = body-fact false tables env declares h at bytes last run-is in
     let last-few : Few last = body-few tables h kind (length bytes) at bytes (body_start strict h) last run-is few in
     end-ran tables h last done λ e m u e-is ending-is ran.
     from_need (sort_of (signatures_in tables) last.ctx e == h.result.sort) k.DefinitionSort _ m (subst (λ (z : Kind). ending strict tables h last z e ≡ Ok m) kind ending-is) λ sort-test e1.
@@ -258,13 +258,13 @@ run-few tables env declares h at bytes kind few (last, run-is) ds body text =
     subst (λ (bs : List Binder). length bs ≤ 55) same (omega (arith, enough, last-few))
 
 -- what is asked of a definition's statement, whether it is local or not
-body-asked : (file : List ℕ) (env : List Declaration) (at code body next : ℕ) (t : Term) → IsKindOf code (term_decl t) → AllHold (kind_checks file (taken_by env) at body next (statement_code code))
-    → (l : Bool) × AllHold (term_checks file (taken_by env) at body next l)
-body-asked file env at code body next t (inl is) all = (false, subst (λ (c : ℕ). AllHold (kind_checks file (taken_by env) at body next (statement_code c))) is all)
-body-asked file env at code body next t (inr is) all = (true, subst (λ (c : ℕ). AllHold (kind_checks file (taken_by env) at body next (statement_code c))) is all)
+body-asked : (file : List ℕ) (env : List Declaration) (at code body next : ℕ) (t : Term) → IsKindOf code (term_decl t) → AllHold (kind_checks false file (taken_by env) at body next (statement_code code))
+    → (l : Bool) × AllHold (term_checks false file (taken_by env) at body next l)
+body-asked file env at code body next t (inl is) all = (false, subst (λ (c : ℕ). AllHold (kind_checks false file (taken_by env) at body next (statement_code c))) is all)
+body-asked file env at code body next t (inr is) all = (true, subst (λ (c : ℕ). AllHold (kind_checks false file (taken_by env) at body next (statement_code c))) is all)
 
 pub few-dummies : (file : List ℕ) (ss : List Statement) (env : List Declaration) (at : ℕ) (s : Statement) (next : ℕ) (t : Term) (dummies : List Binder) (body : Tree)
-    → GoodTo file [] (list_at file) ss env at → IsGoodStatement file env at s next → s.decl ≡ term_decl t → t.form ≡ defined dummies body → length dummies ≤ 55
+    → GoodTo false file [] (list_at file) ss env at → IsGoodStatement false file env at s next → s.decl ≡ term_decl t → t.form ≡ defined dummies body → length dummies ≤ 55
 few-dummies file ss env at s next t dummies body before good d-is form-is = go (term_of_file file r).stream refl
   where
     r : ℕ
@@ -273,25 +273,25 @@ few-dummies file ss env at s next t dummies body before good d-is form-is = go (
     kind : IsKindOf good.spelled.code (term_decl t)
     kind = subst (IsKindOf good.spelled.code) d-is good.spelled.kind.0
 
-    here : AllHold (kind_checks file (taken_by env) at good.spelled.body next (statement_code good.spelled.code))
-    here = subst (λ (x : Result StmtAt StmtFault). AllHold (checks_of file (taken_by env) at x)) good.spelled.stands good.passes
+    here : AllHold (kind_checks false file (taken_by env) at good.spelled.body next (statement_code good.spelled.code))
+    here = subst (λ (x : Result StmtAt StmtFault). AllHold (checks_of false file (taken_by env) at x)) good.spelled.stands good.passes
 
-    asked : AllHold (term_body_checks file (taken_by env) at good.spelled.body next (term_of_file file r).stream)
+    asked : AllHold (term_body_checks false file (taken_by env) at good.spelled.body next (term_of_file file r).stream)
     asked =
         let (l, all) = body-asked file env at good.spelled.code good.spelled.body next t kind here in
-        all_hold-rest (word_checks (sorts env) (term_row file r)) (term_body_checks file (taken_by env) at good.spelled.body next (term_of_file file r).stream) all.1.1
+        all_hold-rest (word_checks (sorts env) (term_row file r)) (term_body_checks false file (taken_by env) at good.spelled.body next (term_of_file file r).stream) all.1.1
 
     row : SpellsRow file env (term_decl t)
     row = subst (SpellsRow file env) d-is good.spelled.row
 
     has : HasRow file env (term_decl t)
-    has = subst (HasRow file env) d-is (good-rows file env at s next good)
+    has = subst (HasRow file env) d-is (good-rows false file env at s next good)
 
     spelled : SpellsForm (signatures env) (term_of_file file r).signature.params (term_of_file file r).stream (defined dummies body)
     spelled = subst (SpellsForm (signatures env) (term_of_file file r).signature.params (term_of_file file r).stream) form-is row.1.1
 
     declares : Declares (rows_taken file (taken_by env)) env
-    declares = (well-chain file [] (list_at file) ss env at before tt (record { sorts_are = refl; terms_are = tt; thms_are = tt })).1
+    declares = (well-chain false file [] (list_at file) ss env at before tt (record { sorts_are = refl; terms_are = tt; thms_are = tt })).1
 
     enough : bound_count (binders_of (term_row file r).words.params) ≤ 55
     enough =
@@ -302,6 +302,6 @@ few-dummies file ss env at s next t dummies body before good d-is form-is = go (
     go None is = absurd (subst (λ (o : Option (List ℕ)). SpellsForm (signatures env) (term_of_file file r).signature.params o (defined dummies body)) is spelled)
     go (Some stream) is =
         let runs = (bodies-checked strict (rows_taken file (taken_by env)) (definition_of (term_of_file file r) stream) good.spelled.body (body_bytes file good.spelled.body next)).0.0
-        (subst (λ (o : Option (List ℕ)). AllHold (term_body_checks file (taken_by env) at good.spelled.body next o)) is asked) in
+        (subst (λ (o : Option (List ℕ)). AllHold (term_body_checks false file (taken_by env) at good.spelled.body next o)) is asked) in
         run-few (rows_taken file (taken_by env)) env declares (definition_of (term_of_file file r) stream) good.spelled.body (body_bytes file good.spelled.body next) refl enough runs dummies body
         (subst (λ (o : Option (List ℕ)). SpellsForm (signatures env) (term_of_file file r).signature.params o (defined dummies body)) is spelled)

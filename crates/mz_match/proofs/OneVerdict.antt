@@ -37,7 +37,7 @@ pub record GoesOn (file : List ℕ) (ss ts : List Statement) (env : List Declara
   pub next : ℕ
   pub more : List Statement
   pub longer : ts ≡ ss ++ statement ∷ more
-  pub good : IsGoodStatement file env to statement next
+  pub good : IsGoodStatement false file env to statement next
 
 abbrev pub Compared : List ℕ → List Statement → List Statement → List Declaration → List Declaration → ℕ → ℕ → Type 0
 Compared file ss ts env env' to to' = AreSame ss ts env env' to to' ⊎ (GoesOn file ss ts env to ⊎ GoesOn file ts ss env' to')
@@ -51,7 +51,7 @@ more-same file s t ss ts env env' to to' e (inr (inr on)) =
     inr (inr (record { statement = on.statement; next = on.next; more = on.more; longer = ap (λ xs. s ∷ xs) on.longer ∙ ap (λ x. x ∷ (ts ++ on.statement ∷ on.more)) e; good = on.good }))
 
 compare : (file : List ℕ) (start : List Declaration) (from : ℕ) (ss ts : List Statement) (env env' : List Declaration) (to to' : ℕ)
-    → GoodTo file start from ss env to → GoodTo file start from ts env' to' → Compared file ss ts env env' to to'
+    → GoodTo false file start from ss env to → GoodTo false file start from ts env' to' → Compared file ss ts env env' to to'
 compare file start from [] [] env env' to to' a b = inl (record { statements = refl; declared = a.0 ∙ sym b.0; place = a.1 ∙ sym b.1 })
 compare file start from [] (t ∷ ts) env env' to to' a b =
     inr (inl (record {
@@ -59,7 +59,7 @@ compare file start from [] (t ∷ ts) env env' to to' a b =
       next = b.0;
       more = ts;
       longer = refl;
-      good = subst (λ e. IsGoodStatement file e to t b.0) (sym a.0) (subst (λ at. IsGoodStatement file start at t b.0) (sym a.1) b.1);
+      good = subst (λ e. IsGoodStatement false file e to t b.0) (sym a.0) (subst (λ at. IsGoodStatement false file start at t b.0) (sym a.1) b.1);
     }))
 compare file start from (s ∷ ss) [] env env' to to' a b =
     inr (inr (record {
@@ -67,20 +67,20 @@ compare file start from (s ∷ ss) [] env env' to to' a b =
       next = a.0;
       more = ss;
       longer = refl;
-      good = subst (λ e. IsGoodStatement file e to' s a.0) (sym b.0) (subst (λ at. IsGoodStatement file start at s a.0) (sym b.1) a.1);
+      good = subst (λ e. IsGoodStatement false file e to' s a.0) (sym b.0) (subst (λ at. IsGoodStatement false file start at s a.0) (sym b.1) a.1);
     }))
 compare file start from (s ∷ ss) (t ∷ ts) env env' to to' a b =
-    let first = one-good file start from s t a.0 b.0 a.1 b.1 in
+    let first = one-good false file start from s t a.0 b.0 a.1 b.1 in
     more-same file s t ss ts env env' to to' first.0
     (compare file (start ++ s.decl ∷ []) a.0 ss ts env env' to to' a.2
-    (subst (λ next. GoodTo file (start ++ s.decl ∷ []) next ts env' to') (sym first.1) (subst (λ x. GoodTo file (start ++ x.decl ∷ []) b.0 ts env' to') (sym first.0) b.2)))
+    (subst (λ next. GoodTo false file (start ++ s.decl ∷ []) next ts env' to') (sym first.1) (subst (λ x. GoodTo false file (start ++ x.decl ∷ []) b.0 ts env' to') (sym first.0) b.2)))
 
 -- ---- why the list stops there
 
 abbrev pub Stop : List ℕ → List Declaration → List Statement → List Declaration → ℕ → List Declaration → ℕ → ℕ → Verdict → Type 0
-Stop bin ds before env at left n k (verdicts.Accepted counts) = EndsAt bin env at × (left ≡ []) × (counts ≡ counts_of ds)
+Stop bin ds before env at left n k (verdicts.Accepted counts) = EndsAt false bin env at × (left ≡ []) × (counts ≡ counts_of ds)
 Stop bin ds before env at left n k (verdicts.Spec refusal) = ⊥
-Stop bin ds before env at left n k (verdicts.Binary refusal) = (refusal.statement ≡ n) × FailsFirst (list_checks bin env at) (refusal.at, refusal.rule)
+Stop bin ds before env at left n k (verdicts.Binary refusal) = (refusal.statement ≡ n) × FailsFirst (list_checks false bin env at) (refusal.at, refusal.rule)
 Stop bin ds before env at left n k (verdicts.Match declaration statement rule) = (declaration ≡ k) × (statement ≡ n) × Differs bin before env at left rule
 Stop bin ds before env at left n k verdicts.Mem = ⊥
 
@@ -91,11 +91,11 @@ pub record Stops (bin : List ℕ) (ds : List Declaration) (v : Verdict) : Type 0
   pub at : ℕ
   pub left : List Declaration
   pub layout : Layout bin
-  pub statements : GoodTo bin [] (list_at bin) before env at
+  pub statements : GoodTo false bin [] (list_at bin) before env at
   pub leaves : Leaves ds before left
   pub stop : Stop bin ds before env at left (length before + 1) (length (publics before) + 1) v
 
-no-end : (bin : List ℕ) (env : List Declaration) (at : ℕ) (s : Statement) (next : ℕ) → IsGoodStatement bin env at s next → EndsAt bin env at → ⊥
+no-end : (bin : List ℕ) (env : List Declaration) (at : ℕ) (s : Statement) (next : ℕ) → IsGoodStatement false bin env at s next → EndsAt false bin env at → ⊥
 no-end bin env at s next good ends =
     let both : Ok (Head good.spelled.code good.spelled.body next) ≡ Ok End = sym good.spelled.stands ∙ ends.ends in cc
 
@@ -111,13 +111,13 @@ partner-agrees before left s t rule same is_public agrees fails =
 
 -- nothing stops where a good statement that agrees comes next
 stop-goes : (bin : List ℕ) (ds : List Declaration) (before : List Statement) (env : List Declaration) (at : ℕ) (left : List Declaration) (n k : ℕ) (v : Verdict) (s : Statement) (next : ℕ)
-    → Stop bin ds before env at left n k v → IsGoodStatement bin env at s next → AgreesNext before left s → ⊥
+    → Stop bin ds before env at left n k v → IsGoodStatement false bin env at s next → AgreesNext before left s → ⊥
 stop-goes bin ds before env at left n k (verdicts.Accepted counts) s next stop good agrees = no-end bin env at s next good stop.0
 stop-goes bin ds before env at left n k (verdicts.Spec refusal) s next stop good agrees = stop
-stop-goes bin ds before env at left n k (verdicts.Binary refusal) s next stop good agrees = all_hold-excludes (list_checks bin env at) (refusal.at, refusal.rule) good.passes stop.1
+stop-goes bin ds before env at left n k (verdicts.Binary refusal) s next stop good agrees = all_hold-excludes (list_checks false bin env at) (refusal.at, refusal.rule) good.passes stop.1
 stop-goes bin ds before env at left n k (verdicts.Match declaration statement rule) s next (_, _, inl (ends, _)) good agrees = no-end bin env at s next good ends
 stop-goes bin ds before env at left n k (verdicts.Match declaration statement rule) s next (_, _, inr (t, after, there, is_public, fails)) good agrees =
-    partner-agrees before left s t rule (one-good bin env at s t next after good there).0 is_public agrees fails
+    partner-agrees before left s t rule (one-good false bin env at s t next after good there).0 is_public agrees fails
 stop-goes bin ds before env at left n k verdicts.Mem s next stop good agrees = stop
 
 -- ---- one reason at one place
@@ -134,29 +134,29 @@ rule-one bin before env at left r q (inl (_, f)) (inl (_, g)) = fails_first-uniq
 rule-one bin before env at left r q (inl (ends, _)) (inr (t, next, good, _, _)) = absurd (no-end bin env at t next good ends)
 rule-one bin before env at left r q (inr (s, next, good, _, _)) (inl (ends, _)) = absurd (no-end bin env at s next good ends)
 rule-one bin before env at left r q (inr (s, next, good, _, f)) (inr (t, after, there, _, g)) =
-    let same = one-good bin env at s t next after good there in
+    let same = one-good false bin env at s t next after good there in
     fails_first-unique (partner_checks left (partner_of before s)) r q f (subst (λ x. FailsFirst (partner_checks left (partner_of before x)) q) (sym same.0) g)
 
 -- nothing differs at a good end without declarations left, nor where a rule of the binary fails
-differs-ends : (bin : List ℕ) (before : List Statement) (env : List Declaration) (at : ℕ) (left : List Declaration) (r : M) → Differs bin before env at left r → EndsAt bin env at → left ≡ [] → ⊥
+differs-ends : (bin : List ℕ) (before : List Statement) (env : List Declaration) (at : ℕ) (left : List Declaration) (r : M) → Differs bin before env at left r → EndsAt false bin env at → left ≡ [] → ⊥
 differs-ends bin before env at left r (inl (_, f)) ends none = all_hold-excludes (end_checks left) r (none, tt) f
 differs-ends bin before env at left r (inr (s, next, good, _, _)) ends none = no-end bin env at s next good ends
 
-differs-fails : (bin : List ℕ) (before : List Statement) (env : List Declaration) (at : ℕ) (left : List Declaration) (r : M) (f : ℕ × K) → Differs bin before env at left r → FailsFirst (list_checks bin env at) f → ⊥
-differs-fails bin before env at left r f (inl (ends, _)) fails = all_hold-excludes (list_checks bin env at) f ends.passes fails
-differs-fails bin before env at left r f (inr (s, next, good, _, _)) fails = all_hold-excludes (list_checks bin env at) f good.passes fails
+differs-fails : (bin : List ℕ) (before : List Statement) (env : List Declaration) (at : ℕ) (left : List Declaration) (r : M) (f : ℕ × K) → Differs bin before env at left r → FailsFirst (list_checks false bin env at) f → ⊥
+differs-fails bin before env at left r f (inl (ends, _)) fails = all_hold-excludes (list_checks false bin env at) f ends.passes fails
+differs-fails bin before env at left r f (inr (s, next, good, _, _)) fails = all_hold-excludes (list_checks false bin env at) f good.passes fails
 
 stop-one : (bin : List ℕ) (ds : List Declaration) (before : List Statement) (env : List Declaration) (at : ℕ) (left : List Declaration) (n k : ℕ) (v w : Verdict) → Stop bin ds before env at left n k v → Stop bin ds before env at left n k w → v ≡ w
 stop-one bin ds before env at left n k (verdicts.Accepted c) (verdicts.Accepted e) a b = ap verdicts.Accepted (a.2 ∙ sym b.2)
 stop-one bin ds before env at left n k (verdicts.Accepted c) (verdicts.Spec r) a b = absurd b
-stop-one bin ds before env at left n k (verdicts.Accepted c) (verdicts.Binary r) a b = absurd (all_hold-excludes (list_checks bin env at) (r.at, r.rule) a.0.passes b.1)
+stop-one bin ds before env at left n k (verdicts.Accepted c) (verdicts.Binary r) a b = absurd (all_hold-excludes (list_checks false bin env at) (r.at, r.rule) a.0.passes b.1)
 stop-one bin ds before env at left n k (verdicts.Accepted c) (verdicts.Match d s r) a b = absurd (differs-ends bin before env at left r b.2 a.0 a.1)
 stop-one bin ds before env at left n k (verdicts.Accepted c) verdicts.Mem a b = absurd b
 stop-one bin ds before env at left n k (verdicts.Spec r) w a b = absurd a
-stop-one bin ds before env at left n k (verdicts.Binary r) (verdicts.Accepted c) a b = absurd (all_hold-excludes (list_checks bin env at) (r.at, r.rule) b.0.passes a.1)
+stop-one bin ds before env at left n k (verdicts.Binary r) (verdicts.Accepted c) a b = absurd (all_hold-excludes (list_checks false bin env at) (r.at, r.rule) b.0.passes a.1)
 stop-one bin ds before env at left n k (verdicts.Binary r) (verdicts.Spec q) a b = absurd b
 stop-one bin ds before env at left n k (verdicts.Binary r) (verdicts.Binary q) a b =
-    ap verdicts.Binary (same-refusal r q (a.0 ∙ sym b.0) (fails_first-unique (list_checks bin env at) (r.at, r.rule) (q.at, q.rule) a.1 b.1))
+    ap verdicts.Binary (same-refusal r q (a.0 ∙ sym b.0) (fails_first-unique (list_checks false bin env at) (r.at, r.rule) (q.at, q.rule) a.1 b.1))
 stop-one bin ds before env at left n k (verdicts.Binary r) (verdicts.Match d s q) a b = absurd (differs-fails bin before env at left q (r.at, r.rule) b.2 a.1)
 stop-one bin ds before env at left n k (verdicts.Binary r) verdicts.Mem a b = absurd b
 stop-one bin ds before env at left n k (verdicts.Match d s r) (verdicts.Accepted c) a b = absurd (differs-ends bin before env at left r a.2 b.0 b.1)

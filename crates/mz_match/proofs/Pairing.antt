@@ -6,7 +6,7 @@ use Rattle.mz_cmd.specs.declared.rule.Refusal.{Refusal}
 use Rattle.mz_cmd.specs.declared.statement.StmtAt.TheVariants.{End}
 use Rattle.mz_logic.specs.Declaration.{Declaration, sort_decl, term_decl, assertion_decl, terms}
 use Rattle.mz_logic.proofs.Closing.{legal_list_is_closed}
-use Rattle.mz_logic.specs.LegalLists.{Statement, declarations, any_derivation}
+use Rattle.mz_logic.specs.LegalLists.{Statement, declarations}
 use Rattle.mz_layout.specs.Layout.{Layout}
 use Rattle.mz_layout.specs.Tables.{list_at}
 use Rattle.mz_layout.proofs.Parts.{parts-of_layout}
@@ -70,8 +70,8 @@ pub told-next : (p : Progress) (ds : List Declaration) (m : Matching) (ss : List
 told-next p ds m ss env after told matched passes =
     let here : p.at ≡ told.at = sym passes.tells.place in
     record {
-      before = subst (λ at. GoodTo p.file [] (list_at p.file) ss env at) here matched.passed.statements;
-      good = subst (λ at. IsGoodStatement p.file env at passes.statement after.at) here passes.good;
+      before = subst (λ at. GoodTo false p.file [] (list_at p.file) ss env at) here matched.passed.statements;
+      good = subst (λ at. IsGoodStatement false p.file env at passes.statement after.at) here passes.good;
       tells = subst (λ at. Tells told (length ss + 1) at env passes.statement) here passes.tells;
       rows_are = matched.rows_are;
     }
@@ -89,7 +89,7 @@ module _ (p : Progress) (ds : List Declaration) (m : Matching) (ss : List Statem
 
   -- the rows that were taken before
   taken : length (terms (declarations ss)) ≡ length (terms env)
-  taken = ap (λ ds. length (terms ds)) (sym (chain-declares (IsGoodStatement p.file) [] (list_at p.file) ss env p.at matched.passed.statements))
+  taken = ap (λ ds. length (terms ds)) (sym (chain-declares (IsGoodStatement false p.file) [] (list_at p.file) ss env p.at matched.passed.statements))
 
   rows-more : term_rows 0 (ss ++ s ∷ []) ≡ m.publics ++ term_rows (length (terms env)) (s ∷ [])
   rows-more =
@@ -171,13 +171,13 @@ differs-here text es p m ss env after told rule makes matched passes is_public f
 
 -- a rule of the binary fails
 pub fails-here : (text : List ℕ) (es : List Entry) (p : Progress) (m : Matching) (ss : List Statement) (env : List Declaration) (r : Refusal)
-    → SpecMakes text es → IsMatched p (env_of es) m ss env → FailsAfter p.file ss env p.at r → IsVerdict text p.file (verdicts.Binary r)
+    → SpecMakes text es → IsMatched p (env_of es) m ss env → FailsAfter false p.file ss env p.at r → IsVerdict text p.file (verdicts.Binary r)
 fails-here text es p m ss env r makes matched fails =
     (env_of es, (es, makes, refl), inr (ss, env, p.at, drop m.done (env_of es), fails, matched.leaves))
 
 -- a declaration is left
 pub missing-here : (text : List ℕ) (es : List Entry) (p : Progress) (m : Matching) (ss : List Statement) (env : List Declaration)
-    → SpecMakes text es → IsMatched p (env_of es) m ss env → Good p.file ss → m.done < length es → IsVerdict text p.file (verdicts.Match (m.done + 1) (m.passed + 1) rules.Missing)
+    → SpecMakes text es → IsMatched p (env_of es) m ss env → Good false p.file ss → m.done < length es → IsVerdict text p.file (verdicts.Match (m.done + 1) (m.passed + 1) rules.Missing)
 missing-here text es p m ss env makes matched good short = (
   env_of es,
   (es, makes, refl),
@@ -202,19 +202,19 @@ missing-here text es p m ss env makes matched good short = (
 
 -- none is left
 pub accepted-here : (text : List ℕ) (es : List Entry) (p : Progress) (m : Matching) (ss : List Statement) (env : List Declaration)
-    → SpecMakes text es → IsMatched p (env_of es) m ss env → Good p.file ss → m.done ≡ length es → IsVerdict text p.file (verdicts.Accepted (counts_of (env_of es)))
+    → SpecMakes text es → IsMatched p (env_of es) m ss env → Good false p.file ss → m.done ≡ length es → IsVerdict text p.file (verdicts.Accepted (counts_of (env_of es)))
 accepted-here text es p m ss env makes matched good all =
     let none : drop m.done (env_of es) ≡ [] = drop-past (env_of es) m.done (omega (arith, length-env es, all)) in
     let done : env_of es ≡ matched.leaves.done = matched.leaves.all ∙ ap (λ xs. matched.leaves.done ++ xs) none ∙ append-nil matched.leaves.done in
     (record { declared = env_of es; statements = ss; is_spec = (es, makes, refl); is_good = good; agrees = subst (λ ds. Agrees ds (publics ss)) (sym done) matched.leaves.agrees }, refl)
 
 -- the number of a good list's statements
-pub few-statements : (file : List ℕ) (ss : List Statement) → length file < 2 ^ 32 → Good file ss → length ss + 1 < 2 ^ 32
+pub few-statements : (file : List ℕ) (ss : List Statement) → length file < 2 ^ 32 → Good false file ss → length ss + 1 < 2 ^ 32
 few-statements file ss small good =
     let parts = parts-of_layout file good.layout in
-    let at_end : AllHold (checks_of file (taken_by good.env) good.to (Ok End)) = subst (λ r. AllHold (checks_of file (taken_by good.env) good.to r)) good.ends.ends good.ends.passes in
+    let at_end : AllHold (checks_of false file (taken_by good.env) good.to (Ok End)) = subst (λ r. AllHold (checks_of false file (taken_by good.env) good.to r)) good.ends.ends good.ends.passes in
     let taken : AllTaken file (taken_by good.env) = at_end.0 in
-    let declares : length good.env ≡ length (declarations ss) = ap length (chain-declares (IsGoodStatement file) [] (list_at file) ss good.env good.to good.statements) in
+    let declares : length good.env ≡ length (declarations ss) = ap length (chain-declares (IsGoodStatement false file) [] (list_at file) ss good.env good.to good.statements) in
     omega (arith, small, parts.few_sorts, parts.few_terms, parts.few_thms, taken.sorts_taken, taken.terms_taken, taken.thms_taken, declares, kinds-total good.env, length-declarations ss)
 
 -- what is accepted is sound
@@ -223,10 +223,10 @@ sound spec bin (verdicts.Accepted counts) (a, is) = record {
   declared = a.declared;
   statements = a.statements;
   is_spec = a.is_spec;
-  spelled = good-spelled bin a.statements a.is_good;
-  theorems = theorems-proved a.declared a.statements (good-legal bin a.statements a.is_good) a.agrees;
-  legal = good-legal bin a.statements a.is_good;
-  closed = legal_list_is_closed any_derivation a.statements (good-legal bin a.statements a.is_good);
+  spelled = good-spelled false bin a.statements a.is_good;
+  theorems = theorems-proved a.declared a.statements (good-legal false bin a.statements a.is_good) a.agrees;
+  legal = good-legal false bin a.statements a.is_good;
+  closed = legal_list_is_closed a.statements (good-legal false bin a.statements a.is_good);
   agrees = a.agrees;
 }
 sound spec bin (verdicts.Spec refusal) is = tt
@@ -236,7 +236,7 @@ sound spec bin verdicts.Mem is = tt
 
 -- ---- steps
 
-pub stop-ticks : (bin : List ℕ) (old new : ℕ) (v : Verdict) → IsDifference v → new ≤ old + file_steps bin → Ticks bin old new v
+pub stop-ticks : (bin : List ℕ) (old new : ℕ) (v : Verdict) → IsDifference v → new ≤ old + file_steps false bin → Ticks bin old new v
 stop-ticks bin old new (verdicts.Accepted counts) is few = absurd is
 stop-ticks bin old new (verdicts.Spec refusal) is few = absurd is
 stop-ticks bin old new (verdicts.Binary refusal) is few = absurd is

@@ -4,7 +4,7 @@ use Rattle.std.specs.Prelude.{if◌then◌else◌, slice_get}
 use Rattle.mz_checks.specs.Checks.{AllHold}
 use Rattle.mz_logic.specs.Declaration.{Declaration, Assertion, Form, plain_form, abstract_form, defined, sort_decl, term_decl, assertion_decl}
 use Rattle.mz_logic.specs.Derivations.{Derivation}
-use Rattle.mz_logic.specs.LegalLists.{Statement, any_derivation, MayBeLocal, LegalAfter, Legal}
+use Rattle.mz_logic.specs.LegalLists.{Statement, gap_free, MayBeLocal, LegalAfter, Legal}
 use Rattle.mz_logic.proofs.Closing.{legal_at, legal_list_is_closed}
 use Rattle.mz_match.specs.declared.kind.Kind.TheVariants as kinds
 use Rattle.mz_match.specs.Match.{Partner, partner_of, publics_after, publics, kind_of, kind_of_form, match_checks, Agrees}
@@ -106,7 +106,7 @@ never-local s b true is may says is_axiom = let theorem : b.is_axiom ≡ false =
 
 axioms-declared : (ds : List Declaration) (ss : List Statement) → Legal ss → Agrees ds (publics ss) → AxiomsAreDeclared ds ss
 axioms-declared ds ss legal agrees front back s b is says is_axiom =
-    let stands : s.is_local ≡ false = never-local s b s.is_local refl (legal_at any_derivation [] front back s (subst Legal is legal)).1 says is_axiom in
+    let stands : s.is_local ≡ false = never-local s b s.is_local refl (legal_at gap_free [] front back s (subst Legal is legal)).1 says is_axiom in
     let parts : publics ss ≡ publics front ++ partner_of front s ∷ publics_after (front ++ s ∷ []) back =
     ap publics is ∙ publics-append [] front (s ∷ back) ∙ ap (λ ps. publics front ++ ps) (publics-public front s back stands) in
     (stands, agrees-at ds (publics front) (publics_after (front ++ s ∷ []) back) (partner_of front s) (subst (Agrees ds) parts agrees))
@@ -144,8 +144,8 @@ theorems-proved ds ss legal agrees i a at theorem =
       is_public = holds.0;
       is_theorem = is_theorem;
       same = holds.1;
-      legal = legal-front any_derivation [] (before ++ last ∷ []) after (subst Legal (sym (append_assoc before (last ∷ []) after)) whole);
+      legal = legal-front gap_free [] (before ++ last ∷ []) after (subst Legal (sym (append_assoc before (last ∷ []) after)) whole);
       agrees = more;
-      axioms = axioms-declared (take i ds) before (legal-front any_derivation [] before (last ∷ after) whole) fewer;
-      closed = legal_list_is_closed any_derivation ss legal before after last proved front says is_theorem;
+      axioms = axioms-declared (take i ds) before (legal-front gap_free [] before (last ∷ after) whole) fewer;
+      closed = legal_list_is_closed ss legal before after last proved front says is_theorem;
     }

@@ -135,11 +135,11 @@ module _ (bin : List ℕ) (layout : Layout bin) (ds : List Declaration) where
       by false = inr refl
 
   walk : (before : List Statement) (env : List Declaration) (at : ℕ) (ss : List Statement) (env' : List Declaration) (to : ℕ) (left : List Declaration)
-      → GoodTo bin [] (list_at bin) before env at → Leaves ds before left → GoodTo bin env at ss env' to → Walked bin ds (before ++ ss)
+      → GoodTo false bin [] (list_at bin) before env at → Leaves ds before left → GoodTo false bin env at ss env' to → Walked bin ds (before ++ ss)
   walk before env at [] env' to left passed leaves chain = subst (Walked bin ds) (sym (append-nil before)) (inl (left, leaves))
   walk before env at (s ∷ ss) env' to left passed leaves chain =
       let go : (rest : List Declaration) → Leaves ds (before ++ s ∷ []) rest → Walked bin ds ((before ++ s ∷ []) ++ ss) = λ rest more.
-      walk (before ++ s ∷ []) (env ++ s.decl ∷ []) chain.0 ss env' to rest (chain-more (IsGoodStatement bin) [] (list_at bin) before env at s chain.0 passed chain.1) more chain.2 in
+      walk (before ++ s ∷ []) (env ++ s.decl ∷ []) chain.0 ss env' to rest (chain-more (IsGoodStatement false bin) [] (list_at bin) before env at s chain.0 passed chain.1) more chain.2 in
       subst (Walked bin ds) (append_assoc before (s ∷ []) ss) (elim (mark s) [
         | inl is_local ↦ go left (leaves-local ds left before s is_local leaves)
         | inr is_public ↦ elim (all_hold-or_fails (partner_checks left (partner_of before s)) (partner-decided left (partner_of before s))) [
@@ -166,7 +166,7 @@ module _ (bin : List ℕ) (layout : Layout bin) (ds : List Declaration) where
         ]
       ])
 
-  pub walked : (ss : List Statement) (env : List Declaration) (to : ℕ) → GoodTo bin [] (list_at bin) ss env to → Walked bin ds ss
+  pub walked : (ss : List Statement) (env : List Declaration) (to : ℕ) → GoodTo false bin [] (list_at bin) ss env to → Walked bin ds ss
   walked ss env to chain = walk [] [] (list_at bin) ss env to ds (refl, refl) (leaves-nothing ds) chain
 
 -- ---- either
@@ -179,7 +179,7 @@ module _ (spec bin : List ℕ) (ds : List Declaration) (is_spec : SpecOf spec ds
   differs d s rule fails = inr (verdicts.Match d s rule, (ds, is_spec, fails))
 
   -- at a good end
-  at-end : (ss : List Statement) (left : List Declaration) → Good bin ss → Leaves ds ss left → Either spec bin
+  at-end : (ss : List Statement) (left : List Declaration) → Good false bin ss → Leaves ds ss left → Either spec bin
   at-end ss [] good leaves = inl (
     counts_of ds,
     (
@@ -206,21 +206,21 @@ module _ (spec bin : List ℕ) (ds : List Declaration) (is_spec : SpecOf spec ds
     fails = inl (good.ends, inl (λ none. absurd cc, refl));
   })
 
-  over-good : (ss : List Statement) → Good bin ss → Walked bin ds ss → Either spec bin
+  over-good : (ss : List Statement) → Good false bin ss → Walked bin ds ss → Either spec bin
   over-good ss good (inl (left, leaves)) = at-end ss left good leaves
   over-good ss good (inr (d, s, rule, fails)) = differs d s rule fails
 
-  over-fault : (ss : List Statement) (env : List Declaration) (at : ℕ) (r : Refusal) → FailsAfter bin ss env at r → Walked bin ds ss → Either spec bin
+  over-fault : (ss : List Statement) (env : List Declaration) (at : ℕ) (r : Refusal) → FailsAfter false bin ss env at r → Walked bin ds ss → Either spec bin
   over-fault ss env at r fault (inl (left, leaves)) = inr (verdicts.Binary r, (ds, is_spec, inr (ss, env, at, left, fault, leaves)))
   over-fault ss env at r fault (inr (d, s, rule, fails)) = differs d s rule fails
 
-  over-binary : ((ss : List Statement) × Good bin ss) ⊎ ((r : Refusal) × BinaryFault bin r) → Either spec bin
+  over-binary : ((ss : List Statement) × Good false bin ss) ⊎ ((r : Refusal) × BinaryFault false bin r) → Either spec bin
   over-binary (inl (ss, good)) = over-good ss good (walked bin good.layout ds ss good.env good.to good.statements)
   over-binary (inr (r, inl layout)) = inr (verdicts.Binary r, (ds, is_spec, inl layout))
   over-binary (inr (r, inr (ss, env, at, fault))) = over-fault ss env at r fault (walked bin fault.layout ds ss env at fault.statements)
 
 over-spec : (spec bin : List ℕ) → ((entries : List Entry) × SpecMakes spec entries) ⊎ ((r : SpecRefusal) × SpecFault spec r) → Either spec bin
-over-spec spec bin (inl (entries, makes)) = over-binary spec bin (env_of entries) (entries, makes, refl) (good-or-fault bin)
+over-spec spec bin (inl (entries, makes)) = over-binary spec bin (env_of entries) (entries, makes, refl) (good-or-fault false bin)
 over-spec spec bin (inr (r, fault)) = inr (verdicts.Spec r, fault)
 
 pub verdict-or-refusal : (spec bin : List ℕ) → Either spec bin

@@ -1,5 +1,5 @@
 -- What the row of a good statement says.
-use Rattle.std.proofs.Common.{◌≡◌, ◌≤◌, ◌<◌, ◌+◌, ◌∙◌, ◌⊎◌, ℕ, zero, suc, Bool, List, [], ◌∷◌, ◌++◌, length, drop, reverse, Option, Some, None, slice_get, refl, sym, ap, subst, inl, inr, arith, append_assoc}
+use Rattle.std.proofs.Common.{◌≡◌, ◌≤◌, ◌<◌, ◌+◌, ◌∙◌, ◌⊎◌, ℕ, zero, suc, Bool, List, [], ◌∷◌, ◌++◌, length, drop, reverse, Option, Some, None, slice_get, refl, sym, ap, subst, inl, inr, arith, append_assoc, false}
 use Rattle.std.specs.Prelude.{if◌then◌else◌}
 use Rattle.mz_logic.specs.Tree.{Tree, Trees, var, none, listed}
 use Rattle.mz_logic.specs.Signature.{Signature}
@@ -65,10 +65,10 @@ more-arities file env (term_decl d) (there, says) so_far t s at =
           ))
     ]
 
-chain-arities : (file : List ℕ) (env : List Declaration) (from : ℕ) (ss : List Statement) (env' : List Declaration) (to : ℕ) → GoodTo file env from ss env' to → Arities file env → Arities file env'
+chain-arities : (file : List ℕ) (env : List Declaration) (from : ℕ) (ss : List Statement) (env' : List Declaration) (to : ℕ) → GoodTo false file env from ss env' to → Arities file env → Arities file env'
 chain-arities file env from [] env' to (same, _) so_far = subst (Arities file) (sym same) so_far
 chain-arities file env from (s ∷ ss) env' to (next, good, rest) so_far =
-    chain-arities file (env ++ s.decl ∷ []) next ss env' to rest (more-arities file env s.decl (good-rows file env from s next good) so_far)
+    chain-arities file (env ++ s.decl ∷ []) next ss env' to rest (more-arities file env s.decl (good-rows false file env from s next good) so_far)
 
 -- ---- a whole stream
 
@@ -197,5 +197,5 @@ row-told file env told (assertion_decl a) arities kind row (there, says) (_, spe
 pub told-row : (file rows : List ℕ) (told : Told) (ss : List Statement) (env : List Declaration) (s : Statement) (next : ℕ) → IsTold file rows told ss env s next → IsRowOf file told s.decl
 told-row file rows told ss env s next is =
     let arities = chain-arities file [] (list_at file) ss env told.at is.before (λ t x at. absurd cc) in
-    row-told file env told s.decl arities is.tells.kind is.tells.row (good-rows file env told.at s next is.good) is.good.spelled.row
+    row-told file env told s.decl arities is.tells.kind is.tells.row (good-rows false file env told.at s next is.good) is.good.spelled.row
     (λ t dummies body d-is form-is. few-dummies file ss env told.at s next t dummies body is.before is.good d-is form-is)

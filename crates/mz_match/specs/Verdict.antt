@@ -43,7 +43,7 @@ pub record Accepts (spec bin : List ℕ) : Type 0 where
   pub declared : List Declaration
   pub statements : List Statement
   pub is_spec : SpecOf spec declared
-  pub is_good : Good bin statements
+  pub is_good : Good false bin statements
   pub agrees : Agrees declared (publics statements)
 
 -- so many of each kind are declared
@@ -76,14 +76,14 @@ IsSoundIfAccepted spec bin verdicts.Mem = ⊤
 abbrev pub BinaryFails : List ℕ → List Declaration → Refusal → Type 0
 BinaryFails bin ds refusal =
     ((refusal.statement ≡ 0) × FailsFirst (layout_checks bin) (refusal.at, refusal.rule))
-    ⊎ ((ss : List Statement) × (env : List Declaration) × (at : ℕ) × (left : List Declaration) × FailsAfter bin ss env at refusal × Leaves ds ss left)
+    ⊎ ((ss : List Statement) × (env : List Declaration) × (at : ℕ) × (left : List Declaration) × FailsAfter false bin ss env at refusal × Leaves ds ss left)
 
 -- after good statements that agree, the list ends before the declarations do, or a good public statement stands there
 -- that differs from the next declaration
 abbrev pub Differs : List ℕ → List Statement → List Declaration → ℕ → List Declaration → M → Type 0
 Differs bin before env at left rule =
-    (EndsAt bin env at × FailsFirst (end_checks left) rule)
-    ⊎ ((s : Statement) × (next : ℕ) × IsGoodStatement bin env at s next × (s.is_local ≡ false) × FailsFirst (partner_checks left (partner_of before s)) rule)
+    (EndsAt false bin env at × FailsFirst (end_checks left) rule)
+    ⊎ ((s : Statement) × (next : ℕ) × IsGoodStatement false bin env at s next × (s.is_local ≡ false) × FailsFirst (partner_checks left (partner_of before s)) rule)
 
 -- the first difference: at which declaration, and at which statement
 pub record MatchFails (bin : List ℕ) (ds : List Declaration) (declaration statement : ℕ) (rule : M) : Type 0 where
@@ -92,7 +92,7 @@ pub record MatchFails (bin : List ℕ) (ds : List Declaration) (declaration stat
   pub env : List Declaration
   pub at : ℕ
   pub left : List Declaration
-  pub statements : GoodTo bin [] (list_at bin) before env at
+  pub statements : GoodTo false bin [] (list_at bin) before env at
   pub leaves : Leaves ds before left
   pub declaration_is : declaration ≡ length (publics before) + 1
   pub statement_is : statement ≡ length before + 1
@@ -130,10 +130,10 @@ line_of verdicts.Mem = []
 -- the commands executed: none before the binary, then all of it up to its first fault, and no more than these at a
 -- difference; where memory is wanting only the bound on the whole file holds
 abbrev pub Ticks : List ℕ → (old new : ℕ) → Verdict → Type 0
-Ticks bin old new (verdicts.Accepted counts) = new ≡ old + file_steps bin
+Ticks bin old new (verdicts.Accepted counts) = new ≡ old + file_steps false bin
 Ticks bin old new (verdicts.Spec refusal) = new ≡ old
-Ticks bin old new (verdicts.Binary refusal) = new ≡ old + file_steps bin
-Ticks bin old new (verdicts.Match declaration statement rule) = new ≤ old + file_steps bin
+Ticks bin old new (verdicts.Binary refusal) = new ≡ old + file_steps false bin
+Ticks bin old new (verdicts.Match declaration statement rule) = new ≤ old + file_steps false bin
 Ticks bin old new verdicts.Mem = ⊤
 
 -- a difference, or want of memory

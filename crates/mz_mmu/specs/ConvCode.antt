@@ -4,7 +4,7 @@ use Rattle.std.specs.Coded.{Coded, code_by, coded×, coded_ℕ, coded_list}
 use Rattle.std.proofs.Common.{ap, ◌∙◌}
 use Rattle.mz_logic.specs.Tree.{Trees, app, none, more, operand}
 use Rattle.mz_logic.specs.TreeCode.{trees_code}
-use Rattle.mz_logic.specs.Conversions.{Conversion, Conversions, refl_conv, sym_conv, cong_conv, unfold_conv, no_convs, more_convs}
+use Rattle.mz_logic.specs.Conversions.{Conversion, Conversions, refl_conv, sym_conv, cong_conv, unfold_conv, gap_conv, no_convs, more_convs}
 
 abbrev pub Mark : Type 0
 Mark = (ℕ × ℕ) × (Trees × List ℕ)
@@ -15,6 +15,7 @@ abbrev mutual
   put_conv (sym_conv c) k = ((1, 0), (none, [])) ∷ put_conv c k
   put_conv (cong_conv t cs) k = ((2, t), (none, [])) ∷ put_convs cs k
   put_conv (unfold_conv t es ys c) k = ((3, t), (es, ys)) ∷ put_conv c k
+  put_conv (gap_conv l r) k = ((6, 0), (more l (more r none), [])) ∷ k
 
   pub put_convs : Conversions → List Mark → List Mark
   put_convs no_convs k = ((4, 0), (none, [])) ∷ k
@@ -41,7 +42,8 @@ take_mark (suc zero) t es ys st = on_top (λ cs. one_conv (sym_conv (head_conv c
 take_mark (suc (suc zero)) t es ys st = on_top (λ cs. one_conv (cong_conv t cs)) st
 take_mark (suc (suc (suc zero))) t es ys st = on_top (λ cs. one_conv (unfold_conv t es ys (head_conv cs))) st
 take_mark (suc (suc (suc (suc zero)))) t es ys st = no_convs ∷ st
-take_mark (suc (suc (suc (suc (suc _))))) t es ys st = join_top st
+take_mark (suc (suc (suc (suc (suc zero))))) t es ys st = join_top st
+take_mark (suc (suc (suc (suc (suc (suc _)))))) t es ys st = one_conv (gap_conv (operand es 0) (operand es 1)) ∷ st
 
 abbrev pub read_marks : List Mark → List Conversions
 read_marks [] = []
@@ -53,6 +55,7 @@ mutual
   read_put_conv (sym_conv c) k = ap (on_top (λ cs. one_conv (sym_conv (head_conv cs)))) (read_put_conv c k)
   read_put_conv (cong_conv t cs) k = ap (on_top (λ cs. one_conv (cong_conv t cs))) (read_put_convs cs k)
   read_put_conv (unfold_conv t es ys c) k = ap (on_top (λ cs. one_conv (unfold_conv t es ys (head_conv cs)))) (read_put_conv c k)
+  read_put_conv (gap_conv l r) k = refl
 
   pub read_put_convs : (cs : Conversions) (k : List Mark) → read_marks (put_convs cs k) ≡ cs ∷ read_marks k
   read_put_convs no_convs k = refl
@@ -76,6 +79,7 @@ abbrev mutual
   conv_steps (sym_conv c) = 1 + conv_steps c
   conv_steps (cong_conv t cs) = 1 + convs_steps cs
   conv_steps (unfold_conv t es ys c) = 1 + conv_steps c
+  conv_steps (gap_conv l r) = 1
 
   pub convs_steps : Conversions → ℕ
   convs_steps no_convs = 0

@@ -10,7 +10,7 @@ use Rattle.mz_logic.specs.Signature.{Signature}
 use Rattle.mz_logic.specs.Declaration.{Form, plain_form, abstract_form, defined, Term, Declaration, sort_decl, term_decl, assertion_decl, dummies_of, terms, signatures}
 use Rattle.mz_logic.specs.Sorts.{HasSort, Fits, IsSorted}
 use Rattle.mz_logic.specs.Legality.{signature_at}
-use Rattle.mz_logic.specs.Conversions.{Conversion, Conversions, refl_conv, sym_conv, cong_conv, unfold_conv, no_convs, more_convs, AreFresh, Between, AllBetween}
+use Rattle.mz_logic.specs.Conversions.{Conversion, Conversions, refl_conv, sym_conv, cong_conv, unfold_conv, gap_conv, no_convs, more_convs, AreFresh, Between, AllBetween}
 use Rattle.mz_logic.specs.declared.binder.Binder.{Binder}
 use Rattle.mz_logic.proofs.Rules.{sort_is, signature_is, many_of_fits}
 use Rattle.mz_logic.proofs.Sound.{signature_of_term}
@@ -25,6 +25,7 @@ sorted_sides env ctx (refl_conv e) l r h = (h.0, h.1)
 sorted_sides env ctx (sym_conv c) l r h = (h.0, h.1)
 sorted_sides env ctx (cong_conv t cs) l r h = (h.0, h.1)
 sorted_sides env ctx (unfold_conv t es ys c) l r h = (h.0, h.1)
+sorted_sides env ctx (gap_conv a b) l r h = (h.0, h.1)
 
 pub length-signatures : (env : List Declaration) → length (signatures env) ≡ length (terms env)
 length-signatures [] = refl
@@ -88,6 +89,7 @@ module _ (env : List Declaration) (ctx : List Binder) where
             subst (λ l. Between env ctx c l (right c)) last.1.0 h,
           ),
         )
+    between_by_checks (gap_conv l r) n there all = absurd there
 
     pub all_by_checks : (cs : Conversions) (ns : Nodes) → ConvsThere (length sigs) (length ctx) cs → AllHold (convs_rules env ctx cs ns) → AllBetween env ctx cs (lefts cs) (rights cs)
     all_by_checks no_convs ns there all = tt
@@ -116,6 +118,7 @@ module _ (env : List Declaration) (ctx : List Binder) where
     sides_are (cong_conv t cs) l r (_, _, (ls, rs, is, is', h)) =
         let k = all_sides_are cs ls rs h in (is ∙ ap (app t) k.0, is' ∙ ap (app t) k.1)
     sides_are (unfold_conv t es ys c) l r (_, _, is, (d, ds, body, _, _, _, h)) = (is, (sides_are c _ r h).1)
+    sides_are (gap_conv a b) l r (_, _, is, is', _) = (is, is')
 
     pub all_sides_are : (cs : Conversions) (ls rs : Trees) → AllBetween env ctx cs ls rs → (ls ≡ lefts cs) × (rs ≡ rights cs)
     all_sides_are no_convs none none h = (refl, refl)
@@ -179,6 +182,7 @@ module _ (env : List Declaration) (ctx : List Binder) where
         (all_hold-both (conv_rules env ctx c (part (parts n) 4)) _ (checks_by_between c (part (parts n) 4) _ r h)
         (subst (λ x. AllHold (unfold_rules sigs ctx x es ys (left c) n)) (sym (get_or_from_slice_get (terms env) t d _ at))
         (unfold_by_fresh d ds body es ys (left c) n form fits fresh (sym (sides_are c _ r h).0))))
+    checks_by_between (gap_conv a b) n l r h = tt
 
     pub all_checks_by_between : (cs : Conversions) (ns : Nodes) (ls rs : Trees) → AllBetween env ctx cs ls rs → AllHold (convs_rules env ctx cs ns)
     all_checks_by_between no_convs ns ls rs h = tt

@@ -1,6 +1,7 @@
 pub mod ExprRules
 pub mod ConvRules
 pub mod ProofRules
+pub mod GapFree
 pub mod StatementRules
 pub mod NamesRead
 pub mod StatementsRead

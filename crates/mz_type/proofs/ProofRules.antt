@@ -8,7 +8,7 @@ use Rattle.mz_checks.proofs.InOrder.{all_hold-first, all_hold-rest, all_hold-bot
 use Rattle.mz_logic.specs.Tree.{Tree, Trees, none, more, listed, operand, instance, instances}
 use Rattle.mz_logic.specs.Declaration.{Declaration, assertions, signatures}
 use Rattle.mz_logic.specs.Conversions.{Between}
-use Rattle.mz_logic.specs.Derivations.{Derivation, Derivations, hypothesis, cite, convert, no_derivs, more_derivs, Derives, AllDerive}
+use Rattle.mz_logic.specs.Derivations.{Derivation, Derivations, hypothesis, cite, convert, gap, no_derivs, more_derivs, Derives, AllDerive}
 use Rattle.mz_logic.specs.declared.binder.Binder.{Binder}
 use Rattle.mz_logic.proofs.Instance.{one_at}
 use Rattle.mz_logic.proofs.Rules.{many_of_fits}
@@ -137,6 +137,7 @@ module _ (env : List Declaration) (ctx : List Binder) (hyps : Trees) where
   one_derived (hypothesis i) e f h k = one_at h k
   one_derived (cite T es ds) e f (a, at, is, _, _, _) (b, at', is', _, _, _) = is ∙ ap (λ x. instance es x.conclusion) (one_at at at') ∙ sym is'
   one_derived (convert g c d) e f (is, _) (is', _) = is ∙ sym is'
+  one_derived (gap g) e f (is, _) (is', _) = is ∙ sym is'
 
   mutual
     pub checks_by_derives : (p : Proof) (ds : Derivations) (lets : Trees) (n : Node) (e : Tree) → LetsHold ds lets → IsThere lets p

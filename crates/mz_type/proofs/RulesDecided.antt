@@ -13,7 +13,7 @@ use Rattle.mz_logic.specs.Signature.{Signature}
 use Rattle.mz_logic.specs.Declaration.{Form, plain_form, abstract_form, defined, Term, Assertion, Declaration, sort_decl, term_decl, assertion_decl, dummies_of, body_of, sorts, signatures}
 use Rattle.mz_logic.specs.Variables.{IsBoundAt}
 use Rattle.mz_logic.specs.Legality.{signature_at, sort_of, AreParams, IsDummy}
-use Rattle.mz_logic.specs.Conversions.{Conversion, Conversions, refl_conv, sym_conv, cong_conv, unfold_conv, no_convs, more_convs}
+use Rattle.mz_logic.specs.Conversions.{Conversion, Conversions, refl_conv, sym_conv, cong_conv, unfold_conv, gap_conv, no_convs, more_convs}
 use Rattle.mz_logic.specs.declared.binder.Binder.{Binder}
 use Rattle.mz_logic.proofs.Fresh.{split_at}
 use Rattle.mz_logic.proofs.Lists.{each_from_all}
@@ -90,6 +90,7 @@ module _ (env : List Declaration) (ctx : List Binder) where
     conv (unfold_conv t es ys c) n =
         are_decided-both (exprs_rules (signatures env) ctx es (parts (part (parts n) 2))) _ (exprs (signatures env) ctx es (parts (part (parts n) 2)))
         (λ _. are_decided-both (conv_rules env ctx c (part (parts n) 4)) _ (conv c (part (parts n) 4)) (λ _. unfold_decided (signatures env) ctx (term_at env t) es ys (left c) n))
+    conv (gap_conv l r) n = tt
 
     convs : (cs : Conversions) (ns : Nodes) → AreDecided (convs_rules env ctx cs ns)
     convs no_convs ns = tt

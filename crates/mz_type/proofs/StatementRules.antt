@@ -4,9 +4,9 @@ use Rattle.mz_checks.specs.Checks.{AllHold}
 use Rattle.mz_checks.proofs.InOrder.{all_hold-first, all_hold-rest, all_hold-both}
 use Rattle.mz_sexpr.specs.Node.{Node, Nodes, parts}
 use Rattle.mz_sexpr.specs.Number.{first, rest}
-use Rattle.mz_logic.specs.Tree.{Tree, Trees, none, more}
+use Rattle.mz_logic.specs.Tree.{Tree, Trees, none, more, listed}
 use Rattle.mz_logic.specs.Signature.{Signature}
-use Rattle.mz_logic.specs.Declaration.{Form, plain_form, abstract_form, defined, Assertion, Declaration, sort_decl, term_decl, assertion_decl, dummies_of, body_of, sorts, signatures}
+use Rattle.mz_logic.specs.Declaration.{Form, plain_form, abstract_form, defined, Assertion, Declaration, sort_decl, term_decl, assertion_decl, dummies_of, body_of, sorts, signatures, assertions}
 use Rattle.mz_logic.specs.Modifiers.{MayBeClaimSort, MayBeDummySort}
 use Rattle.mz_logic.specs.Sorts.{HasSort, HasProvable, AreProvable}
 use Rattle.mz_logic.specs.Variables.{InFV}
@@ -25,6 +25,7 @@ use Rattle.mz_type.specs.Rules.{expr_rules, param_rules, dummy_rules, claim_rule
 use Rattle.mz_type.specs.Meaning.{derivation, IsProofOf, IsProvedAsStated, IsLegalAsStated}
 use Rattle.mz_type.specs.Names.{ExprsThere, DummiesThere, StatedProofThere, DeclThere, StatementThere}
 use Rattle.mz_type.proofs.ExprRules.{sort_by_checks, checks_by_sort}
+use Rattle.mz_type.proofs.GapFree.{proof_free}
 use Rattle.mz_type.proofs.ProofRules.{derives_by_checks, checks_by_derives}
 
 -- ---- binders
@@ -152,7 +153,7 @@ module _ (env : List Declaration) (a : Assertion) where
       let own = all_hold-rest B _ on in
       let k = derives_by_checks env (a.params ++ ds) a.hyps p no_derivs none (part ps 6) tt there (all_hold-first B _ on) in (
         are_dummies env ds (parts (part ps 5)) dummies (all_hold-first A _ all),
-        (p, refl, (subst (Derives env (a.params ++ ds) a.hyps (derivation no_derivs p)) own.0 k.0, k.1)),
+        (p, refl, (subst (Derives env (a.params ++ ds) a.hyps (derivation no_derivs p)) own.0 k.0, k.1, proof_free (length (signatures env)) (length (a.params ++ ds)) (length (assertions env)) (length (listed a.hyps)) 0 p no_derivs tt there)),
       )
 
   proof_to : (ds : List Binder) (p : Option Proof) (ps : Nodes) → StatedProofThere env a ds p → IsProvedAsStated env (assertion_decl a) ds p → AllHold (theorem_rules env a ds p ps)

@@ -7,7 +7,7 @@ use Rattle.mz_sexpr.specs.Node.{Nodes}
 use Rattle.mz_sexpr.specs.Number.{first, rest}
 use Rattle.mz_logic.specs.Declaration.{Declaration, sort_decl, term_decl, assertion_decl}
 use Rattle.mz_logic.specs.Derivations.{no_derivs}
-use Rattle.mz_logic.specs.LegalLists.{LegalAfter, IsProvedIfTheorem, any_derivation}
+use Rattle.mz_logic.specs.LegalLists.{LegalAfter, IsProvedIfTheorem, gap_free}
 use Rattle.mz_logic.specs.declared.binder.Binder.{Binder}
 use Rattle.mz_mmu.specs.Order.{in_statement}
 use Rattle.mz_mmu.specs.Proof.{Proof, Statement}
@@ -57,12 +57,12 @@ each_typed_or_refused ns ss read = record {
 
 -- ---- legal by the stated proofs is legal
 
-proved_if_theorem : (env : List Declaration) (d : Declaration) (ds : List Binder) (p : Option Proof) → IsProvedAsStated env d ds p → IsProvedIfTheorem any_derivation env d
+proved_if_theorem : (env : List Declaration) (d : Declaration) (ds : List Binder) (p : Option Proof) → IsProvedAsStated env d ds p → IsProvedIfTheorem gap_free env d
 proved_if_theorem env (sort_decl m) ds p h = tt
 proved_if_theorem env (term_decl d) ds p h = tt
-proved_if_theorem env (assertion_decl a) ds p h = λ thm. let k = h thm in (ds, k.0, (derivation no_derivs k.1.0, tt, k.1.2.0))
+proved_if_theorem env (assertion_decl a) ds p h = λ thm. let k = h thm in (ds, k.0, (derivation no_derivs k.1.0, k.1.2.2, k.1.2.0))
 
-legal_list : (env : List Declaration) (ss : List Statement) → LegalAsStatedAfter env ss → LegalAfter any_derivation env (marked ss)
+legal_list : (env : List Declaration) (ss : List Statement) → LegalAsStatedAfter env ss → LegalAfter gap_free env (marked ss)
 legal_list env [] h = tt
 legal_list env (s ∷ ss) ((legal, mark, proof), h) = ((legal, mark, proved_if_theorem env s.decl s.dummies s.proof proof), legal_list (env ++ s.decl ∷ []) ss h)
 

@@ -4,7 +4,7 @@ use Rattle.std.specs.Prelude.{⊤}
 use Rattle.std.proofs.Common.{ℕ, zero, suc, ◌≡◌, ◌≤◌, ◌<◌, ◌+◌, ◌*◌, ◌^◌, List, [], ◌∷◌, ◌++◌, length, Some, None, Option, refl, ap, ◌∙◌, subst, arith, add-mul, suc-mul, mul-add, mul-one, mul_comm, mul-le-mul, le_refl, add_assoc}
 use Rattle.mz_logic.specs.Tree.{Tree, Trees, var, app, none, more, operand, instance, instances, followed_by, variables, size, trees_size}
 use Rattle.mz_logic.specs.Declaration.{Form, plain_form, abstract_form, defined, Declaration, sort_decl, term_decl, assertion_decl, body_of}
-use Rattle.mz_logic.specs.Conversions.{Conversion, Conversions, refl_conv, sym_conv, cong_conv, unfold_conv, no_convs, more_convs}
+use Rattle.mz_logic.specs.Conversions.{Conversion, Conversions, refl_conv, sym_conv, cong_conv, unfold_conv, gap_conv, no_convs, more_convs}
 use Rattle.mz_mmu.specs.Proof.{Proof, Proofs, by_hyp, by_name, by_citation, by_conv, by_let, no_proofs, more_proofs, Statement}
 use Rattle.mz_type.specs.Sides.{assertion_at, term_at, body_tree}
 use Rattle.mz_type.specs.Weight.{conv_weight, convs_weight, proof_weight, proofs_weight, declaration_weight, statement_weight, weight_after, stated_weight}
@@ -62,6 +62,7 @@ module _ (env : List Declaration) (most : ℕ) (within : Within env most) where
     conv_within (refl_conv e) = omega (arith, size_pos e, at_least (size e) most)
     conv_within (sym_conv c) = parts_of 1 (conv_size c) (most + 1) 1 _ (at_least 1 most) (conv_within c)
     conv_within (cong_conv t cs) = parts_of 1 (convs_size cs) (most + 1) 1 _ (at_least 1 most) (convs_within cs)
+    conv_within (gap_conv l r) = at_least (1 + size l + size r) most
     conv_within (unfold_conv t es ys c) = parts_of (1 + trees_size es + length ys) (conv_size c) (most + 1) _ _ own (conv_within c)
       where
         body : Tree

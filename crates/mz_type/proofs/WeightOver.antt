@@ -5,7 +5,7 @@ use Rattle.std.proofs.lemmas.List.{drop_more, drop_all}
 use Rattle.mz_sexpr.specs.Node.{Node, Nodes, atom, list, no_nodes, node}
 use Rattle.mz_logic.specs.Tree.{app, none, size, instance, followed_by, variables}
 use Rattle.mz_logic.specs.Declaration.{plain_form, Term, Assertion, Declaration, assertion_decl, terms, signatures, assertions}
-use Rattle.mz_logic.specs.Conversions.{Conversion, Conversions, refl_conv, sym_conv, cong_conv, unfold_conv, no_convs, more_convs}
+use Rattle.mz_logic.specs.Conversions.{Conversion, Conversions, refl_conv, sym_conv, cong_conv, unfold_conv, gap_conv, no_convs, more_convs}
 use Rattle.mz_logic.proofs.Extend.{terms-append, assertions-append}
 use Rattle.mz_mmu.specs.Proof.{Proof, Proofs, by_hyp, by_name, by_citation, by_conv, by_let, no_proofs, more_proofs, Statement}
 use Rattle.mz_mmu.specs.Name.{Names}
@@ -47,6 +47,7 @@ module _ (env more : List Declaration) where
       conv_same (cong_conv t cs) h = ap (λ n. 1 + n) (convs_same cs h.1)
       conv_same (unfold_conv t es ys c) h =
           omega (arith, ap (λ e. size (instance (followed_by es (variables ys)) e)) (body_same t h.0), conv_same c h.2)
+      conv_same (gap_conv l r) h = refl
 
       convs_same : (cs : Conversions) → ConvsThere (length (signatures env)) n cs → convs_weight env cs ≡ convs_weight (env ++ more) cs
       convs_same no_convs h = refl

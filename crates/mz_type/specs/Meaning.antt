@@ -3,7 +3,7 @@ use Rattle.std.specs.Prelude.{ℕ, zero, suc, ◌≡◌, ⊤, true, false, List,
 use Rattle.mz_logic.specs.Tree.{Tree, Trees}
 use Rattle.mz_logic.specs.Declaration.{Assertion, Declaration, sort_decl, term_decl, assertion_decl, sorts}
 use Rattle.mz_logic.specs.Legality.{IsLegalDecl}
-use Rattle.mz_logic.specs.Derivations.{Derivation, Derivations, hypothesis, cite, convert, no_derivs, more_derivs, Derives}
+use Rattle.mz_logic.specs.Derivations.{Derivation, Derivations, hypothesis, cite, convert, no_derivs, more_derivs, Derives, IsGapFree}
 use Rattle.mz_logic.specs.LegalLists.{Statement as Marked, MayBeLocal, AreDummies}
 use Rattle.mz_logic.specs.declared.binder.Binder.{Binder}
 use Rattle.mz_mmu.specs.Proof.{Proof, Proofs, by_hyp, by_name, by_citation, by_conv, by_let, no_proofs, more_proofs, Statement}
@@ -46,9 +46,9 @@ abbrev mutual
   AllLetsDerive env ctx hyps lets no_proofs = ⊤
   AllLetsDerive env ctx hyps lets (more_proofs p ps) = LetsDerive env ctx hyps lets p × AllLetsDerive env ctx hyps lets ps
 
--- the proof is one of the assertion
+-- the proof is one of the assertion, without gaps
 abbrev pub IsProofOf : List Declaration → List Binder → Assertion → Proof → Type 0
-IsProofOf env ctx a p = Derives env ctx a.hyps (derivation no_derivs p) a.conclusion × LetsDerive env ctx a.hyps no_derivs p
+IsProofOf env ctx a p = Derives env ctx a.hyps (derivation no_derivs p) a.conclusion × LetsDerive env ctx a.hyps no_derivs p × IsGapFree (derivation no_derivs p)
 
 -- a theorem is proved by the stated proof, in the context of its parameters and the stated dummies
 abbrev pub IsProvedAsStated : List Declaration → Declaration → List Binder → Option Proof → Type 0

@@ -6,7 +6,7 @@ use Rattle.mz_logic.specs.Legality.{IsDummy}
 use Rattle.mz_logic.specs.LegalLists.{MayBeLocal}
 use Rattle.mz_logic.specs.Laws.{SortsThere}
 use Rattle.mz_logic.specs.declared.binder.Binder.{Binder}
-use Rattle.mz_logic.specs.Conversions.{Conversion, Conversions, refl_conv, sym_conv, cong_conv, unfold_conv, no_convs, more_convs}
+use Rattle.mz_logic.specs.Conversions.{Conversion, Conversions, refl_conv, sym_conv, cong_conv, unfold_conv, gap_conv, no_convs, more_convs}
 use Rattle.mz_mmu.specs.Proof.{Proof, Proofs, by_hyp, by_name, by_citation, by_conv, by_let, no_proofs, more_proofs, Statement}
 
 -- of `ts` terms and `n` variables
@@ -25,6 +25,7 @@ abbrev mutual
   ConvThere ts n (sym_conv c) = ConvThere ts n c
   ConvThere ts n (cong_conv t cs) = (t < ts) × ConvsThere ts n cs
   ConvThere ts n (unfold_conv t es ys c) = (t < ts) × ExprsThere ts n es × ConvThere ts n c
+  ConvThere ts n (gap_conv l r) = ⊥
 
   pub ConvsThere : ℕ → ℕ → Conversions → Type 0
   ConvsThere ts n no_convs = ⊤

@@ -13,7 +13,7 @@ use Rattle.mz_logic.specs.Modifiers.{MayBeResultSort, MayBeDummySort}
 use Rattle.mz_logic.specs.Sorts.{IsBoundVar}
 use Rattle.mz_logic.specs.Variables.{InSomeV, InFV, IsBoundAt, Apart}
 use Rattle.mz_logic.specs.Legality.{signature_at, sort_of, IsParam, IsClaim}
-use Rattle.mz_logic.specs.Conversions.{Conversion, Conversions, refl_conv, sym_conv, cong_conv, unfold_conv, no_convs, more_convs, IsBoundOf}
+use Rattle.mz_logic.specs.Conversions.{Conversion, Conversions, refl_conv, sym_conv, cong_conv, unfold_conv, gap_conv, no_convs, more_convs, IsBoundOf}
 use Rattle.mz_logic.specs.declared.binder.Binder.{Binder}
 use Rattle.mz_mmu.specs.declared.fault.Fault.{Fault}
 use Rattle.mz_mmu.specs.Order.{fault, in_statement}
@@ -101,6 +101,7 @@ abbrev mutual
       exprs_rules (signatures env) ctx es (parts (part (parts n) 2))
       >> conv_rules env ctx c (part (parts n) 4)
       >> unfold_rules (signatures env) ctx (term_at env t) es ys (left c) n
+  conv_rules env ctx (gap_conv l r) n = nothing
 
   pub convs_rules : List Declaration → List Binder → Conversions → Nodes → Checks Fault
   convs_rules env ctx no_convs ns = nothing

@@ -3,7 +3,7 @@
 use Rattle.std.specs.Prelude.{ℕ, Bool, true, false, List, [], get_or}
 use Rattle.mz_logic.specs.Tree.{Tree, Trees, app, none, more, operand, instance, followed_by}
 use Rattle.mz_logic.specs.Declaration.{Form, plain_form, abstract_form, defined, Term, Assertion, Declaration, terms, assertions}
-use Rattle.mz_logic.specs.Conversions.{Conversion, Conversions, refl_conv, sym_conv, cong_conv, unfold_conv, no_convs, more_convs}
+use Rattle.mz_logic.specs.Conversions.{Conversion, Conversions, refl_conv, sym_conv, cong_conv, unfold_conv, gap_conv, no_convs, more_convs}
 use Rattle.mz_mmu.specs.Proof.{Proof, Proofs, by_hyp, by_name, by_citation, by_conv, by_let, no_proofs, more_proofs}
 
 abbrev mutual
@@ -12,12 +12,14 @@ abbrev mutual
   left (sym_conv c) = right c
   left (cong_conv t cs) = app t (lefts cs)
   left (unfold_conv t es ys c) = app t es
+  left (gap_conv l r) = l
 
   pub right : Conversion → Tree
   right (refl_conv e) = e
   right (sym_conv c) = left c
   right (cong_conv t cs) = app t (rights cs)
   right (unfold_conv t es ys c) = right c
+  right (gap_conv l r) = r
 
   pub lefts : Conversions → Trees
   lefts no_convs = none

@@ -1,7 +1,7 @@
 -- How much is written in a text: its variables, terms, binders and steps.
 use Rattle.std.specs.Prelude.{ℕ, ◌+◌, List, [], ◌∷◌, length, Option, Some, None}
 use Rattle.mz_logic.specs.Tree.{size, trees_size}
-use Rattle.mz_logic.specs.Conversions.{Conversion, Conversions, refl_conv, sym_conv, cong_conv, unfold_conv, no_convs, more_convs}
+use Rattle.mz_logic.specs.Conversions.{Conversion, Conversions, refl_conv, sym_conv, cong_conv, unfold_conv, gap_conv, no_convs, more_convs}
 use Rattle.mz_mmu.specs.Proof.{Proof, Proofs, by_hyp, by_name, by_citation, by_conv, by_let, no_proofs, more_proofs, Statement}
 use Rattle.mz_type.specs.Weight.{declaration_weight}
 
@@ -11,6 +11,7 @@ abbrev mutual
   conv_size (sym_conv c) = 1 + conv_size c
   conv_size (cong_conv t cs) = 1 + convs_size cs
   conv_size (unfold_conv t es ys c) = 1 + trees_size es + length ys + conv_size c
+  conv_size (gap_conv l r) = 1 + size l + size r
 
   pub convs_size : Conversions → ℕ
   convs_size no_convs = 0

@@ -3,7 +3,7 @@ use Rattle.std.specs.Prelude.{ℕ, ◌+◌, ◌*◌, ◌≤◌, List, [], ◌∷
 use Rattle.mz_checks.specs.Checks.{Checks, nothing, demand, ◌>>◌, AllHold, FailsFirst}
 use Rattle.mz_logic.specs.Tree.{instance, followed_by, variables, size, trees_size}
 use Rattle.mz_logic.specs.Declaration.{Declaration, sort_decl, term_decl, assertion_decl, dummies_of, body_of, sorts}
-use Rattle.mz_logic.specs.Conversions.{Conversion, Conversions, refl_conv, sym_conv, cong_conv, unfold_conv, no_convs, more_convs}
+use Rattle.mz_logic.specs.Conversions.{Conversion, Conversions, refl_conv, sym_conv, cong_conv, unfold_conv, gap_conv, no_convs, more_convs}
 use Rattle.mz_logic.specs.declared.binder.Binder.{Binder}
 use Rattle.mz_mmu.specs.Proof.{Proof, Proofs, by_hyp, by_name, by_citation, by_conv, by_let, no_proofs, more_proofs, Statement}
 use Rattle.mz_type.specs.Sides.{assertion_at, term_at, body_tree}
@@ -19,6 +19,7 @@ abbrev mutual
   conv_weight env (cong_conv t cs) = 1 + convs_weight env cs
   conv_weight env (unfold_conv t es ys c) =
       1 + trees_size es + size (instance (followed_by es (variables ys)) (body_tree (term_at env t).form)) + conv_weight env c
+  conv_weight env (gap_conv l r) = 1 + size l + size r
 
   pub convs_weight : List Declaration → Conversions → ℕ
   convs_weight env no_convs = 0

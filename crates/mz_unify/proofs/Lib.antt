@@ -24,3 +24,4 @@ pub mod Underway
 pub mod ItemsLeft
 pub mod RunsExact
 pub mod TwoOperands
+pub mod PlainRuns

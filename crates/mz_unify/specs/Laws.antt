@@ -1,5 +1,5 @@
 -- What is promised of spellings and of the unify machine as definitions.
-use Rattle.std.specs.Prelude.{◌≡◌, ℕ, ◌+◌, ◌≤◌, ◌<◌, ◌↔◌, List, [], ◌++◌, length, map, reverse, Ok}
+use Rattle.std.specs.Prelude.{◌≡◌, ℕ, Bool, ◌+◌, ◌≤◌, ◌<◌, ◌↔◌, List, [], ◌++◌, length, map, reverse, Ok}
 use Rattle.mz_logic.specs.Tree.{Tree, Trees, none, followed_by, variables, instance, instances}
 use Rattle.mz_logic.specs.Signature.{Signature}
 use Rattle.mz_logic.specs.Declaration.{Term, Assertion}
@@ -8,9 +8,9 @@ use Rattle.mz_logic.specs.Conversions.{AreFresh}
 use Rattle.mz_logic.specs.declared.binder.Binder.{Binder}
 use Rattle.mz_unify.specs.Streams.{StreamKind, of_assertion, of_definition}
 use Rattle.mz_unify.specs.Spells.{trees_of, variables_from, Marks, SpellsText, Text, TermRow, ThmRow, SpellsThm, SpellsTerm}
-use Rattle.mz_unify.specs.Profile.{Profile, strict, Item, proof}
+use Rattle.mz_unify.specs.Profile.{Profile, plain, strict, Item, proof}
 use Rattle.mz_unify.specs.Sorted.{Sorted, AllSorted, ItemsSorted}
-use Rattle.mz_unify.specs.UnifyMachine.{UnifyMode, in_citation, at_end, in_definition, Matching, UnifyState, unify_from, unify, unify_steps_from}
+use Rattle.mz_unify.specs.UnifyMachine.{UnifyMode, in_citation, at_end, in_definition, Matching, UnifyState, unify_from, unify, unify_steps_from, unify_steps}
 
 -- ---- spellings
 
@@ -44,6 +44,11 @@ BoundNeverEnds P = (sigs : List Signature) (ctx : List Binder) (mode : UnifyMode
 abbrev pub CountsAreWhole : Profile → Type 0
 CountsAreWhole P = (sigs : List Signature) (ctx : List Binder) (mode : UnifyMode) (n : ℕ) (bytes : List ℕ) (st : UnifyState P.T)
     → length bytes ≤ n → unify_steps_from P sigs ctx mode n bytes st ≡ unify_steps_from P sigs ctx mode (length bytes) bytes st
+
+-- a stream runs the same, and executes as many commands, whether gaps are let through or not
+abbrev pub GapsDontMatter : Type 0
+GapsDontMatter = (gaps : Bool) (sigs : List Signature) (ctx : List Binder) (m : Matching Tree)
+    → (unify (plain gaps) sigs ctx m ≡ unify strict sigs ctx m) × (unify_steps (plain gaps) sigs ctx m ≡ unify_steps strict sigs ctx m)
 
 -- what is left of a stream executes at most one command a byte
 abbrev pub OneStepAByte : Profile → Type 0

@@ -1,5 +1,5 @@
 -- The ways in which a machine may keep and compare expressions, and what stands on its stack.
-use Rattle.std.specs.Prelude.{ℕ, Bool, false, List, Option, Some, None}
+use Rattle.std.specs.Prelude.{ℕ, Bool, true, false, List, Option, Some, None}
 use Rattle.mz_logic.specs.Tree.{Tree, var, app, listed}
 use Rattle.mz_unify.specs.Spells.{trees_of}
 use Rattle.mz_unify.specs.Tests.{same_tree}
@@ -24,18 +24,26 @@ abbrev pub tree_parts : Tree → Option (ℕ × List Tree)
 tree_parts (var x) = None
 tree_parts (app t es) = Some (t, listed es)
 
--- the published table: expressions are trees, the same where they are equal as trees
-abbrev pub strict : Profile
-strict = record {
+-- expressions are trees, the same where they are equal as trees
+abbrev pub plain : Bool → Profile
+plain gaps = record {
   T = Tree;
   tree = λ e. e;
   variable = var;
   make = λ at t es. app t (trees_of es);
   parts = tree_parts;
   same = same_tree;
-  gaps = false;
+  gaps = gaps;
   portable = false;
 }
+
+-- the published table
+abbrev pub strict : Profile
+strict = plain false
+
+-- with gaps
+abbrev pub draft : Profile
+draft = plain true
 
 -- what stands on the stack; all but obligations may stand in the heap
 pub data Item (T : Type 0) : Type 0 where

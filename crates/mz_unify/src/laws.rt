@@ -1,6 +1,7 @@
 // Laws on the definitions: the contract of each function is one, and its body is empty.
-ghost use Rattle.mz_unify.specs.Laws.{AssertionsAreSpelled, BoundNeverEnds, CitationsAreExact, CitedStreamsSpell, CountsAreWhole, DefinitionsAreSpelled, LongerSpellTerms, LongerSpellThms, OneAssertion, OneStepAByte, OneTerm, OnlyWhatWasMet, UnfoldedStreamsSpell, UnfoldingsAreExact};
-ghost use Rattle.mz_unify.specs.Profile.{strict};
+ghost use Rattle.std.specs.Prelude.{Bool};
+ghost use Rattle.mz_unify.specs.Laws.{AssertionsAreSpelled, BoundNeverEnds, CitationsAreExact, CitedStreamsSpell, CountsAreWhole, DefinitionsAreSpelled, GapsDontMatter, LongerSpellTerms, LongerSpellThms, OneAssertion, OneStepAByte, OneTerm, OnlyWhatWasMet, UnfoldedStreamsSpell, UnfoldingsAreExact};
+ghost use Rattle.mz_unify.specs.Profile.{plain};
 
 /// A row spells at most one thing.
 pub fn one_spelling()
@@ -22,13 +23,18 @@ pub fn only_what_was_met()
 /// The bound that makes a run a function never ends it, nor the count of its steps: each command takes
 /// a byte.
 pub fn bound_never_ends()
-    ensures runs { BoundNeverEnds strict }
-    ensures steps { CountsAreWhole strict }
+    ensures runs { (gaps : Bool) → BoundNeverEnds (plain gaps) }
+    ensures steps { (gaps : Bool) → CountsAreWhole (plain gaps) }
 {}
 
 /// A stream executes at most one command a byte.
 pub fn one_step_a_byte()
-    ensures { OneStepAByte strict }
+    ensures { (gaps : Bool) → OneStepAByte (plain gaps) }
+{}
+
+/// A stream runs the same whether gaps are let through or not.
+pub fn gaps_dont_matter()
+    ensures { GapsDontMatter }
 {}
 
 /// A stream runs exactly on the instances of what it spells, and its heap then holds the instances of

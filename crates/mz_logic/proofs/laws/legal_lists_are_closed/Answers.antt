@@ -1,9 +1,8 @@
-use Rattle.mz_logic.specs.LegalLists.{any_derivation}
 use Rattle.mz_logic.proofs.Closing.{legal_list_by_axioms, legal_list_is_closed}
 use Rattle.mz_logic.proofs.laws.legal_lists_are_closed.Goals as goal
 
 pub returns-clause-by_axioms : goal.returns-clause-by_axioms
-returns-clause-by_axioms c = legal_list_by_axioms any_derivation
+returns-clause-by_axioms c = legal_list_by_axioms
 
 pub returns-clause-by_prefixes : goal.returns-clause-by_prefixes
-returns-clause-by_prefixes c = legal_list_is_closed any_derivation
+returns-clause-by_prefixes c = legal_list_is_closed

@@ -1,6 +1,6 @@
-use Rattle.mz_unify.specs.Profile.{strict}
+use Rattle.mz_unify.specs.Profile.{plain}
 use Rattle.mz_machine.proofs.Outcomes.{one-outcome}
 use Rattle.mz_machine.proofs.laws.one_outcome.Goals as goal
 
 pub returns : goal.returns
-returns c = one-outcome strict
+returns c = λ gaps. one-outcome (plain gaps)

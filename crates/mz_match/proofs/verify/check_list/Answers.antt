@@ -1,4 +1,4 @@
-use Rattle.std.proofs.Common.{◌≡◌, ◌≤◌, ◌<◌, ◌^◌, ℕ, List, [], ◌+◌, ◌*◌, length, sym, ap, subst, inl, inr, arith}
+use Rattle.std.proofs.Common.{◌≡◌, ◌≤◌, ◌<◌, ◌^◌, ℕ, List, [], ◌+◌, ◌*◌, length, sym, ap, subst, inl, inr, arith, false}
 use Rattle.std.proofs.lemmas.Bool.{cases_lt}
 use Rattle.mz_layout.specs.Layout.{Layout}
 use Rattle.mz_spec.specs.State.{env_of}
@@ -38,7 +38,7 @@ pass-requires g c =
 pub end-requires-clause-passed : goal.end-requires-clause-passed
 end-requires-clause-passed g c =
     let so_far = c.statements.invariant.so_far in
-    let good : Good c.statements.checker.file so_far.0 = (c.in-End.ensures.next so_far.0 so_far.1 so_far.2.passed).0 in
+    let good : Good false c.statements.checker.file so_far.0 = (c.in-End.ensures.next so_far.0 so_far.1 so_far.2.passed).0 in
     let small : length c.statements.checker.file < 2 ^ 32 = subst (λ f. length f < 2 ^ 32) (sym c.statements.invariant.same_file) c.requires.small in
     let few = few-statements c.statements.checker.file so_far.0 small good in
     omega (arith, few, so_far.2.passed_is)
@@ -48,7 +48,7 @@ returns-in-End-clause-verdict g c = λ text makes.
     let so_far = c.statements.invariant.so_far in
     let p = c.statements.checker in
     let m = c.statements.matching in
-    let good : Good p.file so_far.0 = (c.in-End.ensures.next so_far.0 so_far.1 so_far.2.passed).0 in
+    let good : Good false p.file so_far.0 = (c.in-End.ensures.next so_far.0 so_far.1 so_far.2.passed).0 in
     let here : (IsVerdict text p.file c.end.result) = elim (cases_lt m.done (length c.args.spec.now)) [
       | inl short ↦ subst (IsVerdict text p.file) (sym (c.end.ensures.missing short)) (missing-here text c.args.spec.now p m so_far.0 so_far.1 makes so_far.2 good short)
       | inr long ↦ (
