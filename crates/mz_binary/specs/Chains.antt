@@ -1,4 +1,4 @@
--- Statements that follow one another in the list.
+-- Statements that follow one another in the list (the .mmb format, its list of statements).
 use Rattle.std.specs.Prelude.{◌≡◌, ℕ, List, [], ◌∷◌, ◌++◌, Ok, Bool}
 use Rattle.mz_checks.specs.Checks.{AllHold}
 use Rattle.mz_cmd.specs.declared.statement.StmtAt.TheVariants.{End}

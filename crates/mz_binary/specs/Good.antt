@@ -1,4 +1,5 @@
--- Good binaries, and the first fault of another.
+-- Good binaries, and the first fault of another (the .mmb format, its list of statements; the order of faults is this
+-- project's own).
 use Rattle.std.specs.Prelude.{◌≡◌, ◌⊎◌, ℕ, ◌+◌, List, [], length, Bool}
 use Rattle.mz_checks.specs.Checks.{FailsFirst}
 use Rattle.mz_cmd.specs.declared.rule.Refusal.{Refusal}

@@ -11,8 +11,6 @@ mod laws;
 mod line;
 mod place;
 mod statement;
-#[cfg(test)]
-mod tests;
 mod whole;
 mod whole_laws;
 mod words;

@@ -1,4 +1,5 @@
--- What is asked of something, in order.
+-- What is asked of something, in order (this project's own notion: the public documents say what must hold, and not in
+-- which order it is asked).
 use Rattle.std.specs.Prelude.{◌≡◌, ◌⊎◌, ⊤, List, [], ◌∷◌, Option, Some, None}
 use Rattle.std.proofs.Common.{Result, Ok, Err}
 

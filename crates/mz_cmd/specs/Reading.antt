@@ -1,4 +1,5 @@
--- The command that stands at the front of some bytes, or at a place in them.
+-- The command that stands at the front of some bytes, or at a place in them (the .mmb format, its commands and their
+-- operands).
 use Rattle.std.specs.Prelude.{ℕ, ◌+◌, ◌/◌, ◌%◌, ◌<◌, ◌≤◌, ⊤, IsTrue, List, [], ◌∷◌, length, take, drop, Result, Ok, Err, nat_lt, if◌then◌else◌}
 use Rattle.byteorder.specs.Endian.{little_number}
 use Rattle.mz_checks.specs.Checks.{Checks, demand, ◌>>◌}

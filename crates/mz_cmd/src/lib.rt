@@ -10,8 +10,6 @@ mod command;
 mod rule;
 mod statement;
 mod steps;
-#[cfg(test)]
-mod tests;
 
 pub use code::{
     END, ProofCode, StatementCode, UnifyCode, UnknownCode, codes_are_read_back, is_known_code,

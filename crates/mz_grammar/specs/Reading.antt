@@ -1,4 +1,4 @@
--- What reading a statement answers.
+-- What reading a statement answers (mm0.md, section on the grammar; where a fault is told is this project's own).
 use Rattle.std.specs.Prelude.{◌≡◌, ⊤, ℕ, List, [], ◌∷◌, length, Option}
 use Rattle.std.proofs.Common.{Result, Ok, Err, Some, None}
 use Rattle.mz_lex.specs.Lexemes.{Lexeme, LexemesTo, LexesFrom, EndsBy}

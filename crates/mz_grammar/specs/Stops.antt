@@ -1,4 +1,5 @@
--- Where lexemes are no statement.
+-- Where lexemes are no statement (mm0.md, section on the grammar; the place and the rule that are told are this
+-- project's own).
 use Rattle.std.specs.Prelude.{◌≡◌, ◌++◌, ◌||◌, ℕ, List, [], ◌∷◌, Option, Some, None, if◌then◌else◌, codes}
 use Rattle.mz_lex.specs.Lexemes.{Lexeme}
 use Rattle.mz_lex.specs.declared.token.LexFault.{LexFault}

@@ -12,8 +12,6 @@ mod progress;
 mod reader;
 mod refusal;
 mod statement;
-#[cfg(test)]
-mod tests;
 
 pub use kind::{AssertKind, Fixity};
 pub use laws::{answers_are_one, statements_are_one, statements_take_bytes, stops_are_one};

@@ -1,4 +1,4 @@
--- What a call on a folder or a sink leaves, and what may make it fail.
+-- What a call on a folder or a sink leaves, and what may make it fail (this project's own).
 use Rattle.std.specs.Prelude.{◌≡◌, ◌≢◌, ◌≤◌, ◌<◌, ◌+◌, ◌-◌, ◌^◌, ◌&&◌, ◌++◌, ℕ, min, List, [], ◌∷◌, length, take, Bool, Option, Result, Ok, Err, OnErr, IsTrue, bytes_eq, nat_le, if◌then◌else◌}
 use Rattle.std.specs.List.{list_any}
 

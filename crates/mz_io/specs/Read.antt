@@ -1,4 +1,4 @@
--- What `read_bounded` answers, case by case.
+-- What `read_bounded` answers, case by case (this project's own).
 use Rattle.std.specs.Prelude.{◌<◌, ℕ, List, length, Option, Some, None}
 use Rattle.mz_io.specs.declared.read.Read.{Read}
 use Rattle.mz_io.specs.declared.read.Read.TheVariants.{Bytes, TooLong, Fault, Mem}

@@ -2,22 +2,22 @@
 ghost use Rattle.std.specs.Prelude.{◌≡◌};
 
 use crate::{Failed, Folder};
-use std::fs;
-use std::io::Read;
+use std::fs::{self, File, OpenFile};
+use std::io::{self, ErrorKind, Read, Write};
 use std::rt::Files;
 
 /// The files of the system, by their paths.
 ///
 /// Each `Err` of the system is a failure, whatever its cause, and is counted.
 #[derive(Drop)]
-pub struct DiskFolder<R: Files> {
+pub struct DiskFolder<R: Files + Alloc> {
     rt: R,
     started: Option<R::File>,
     faults: u64,
     put_faults: u64,
 }
 
-impl<R: Files> DiskFolder<R> {
+impl<R: Files + Alloc> DiskFolder<R> {
     /// The files of the system, of which none is started.
     pub fn new(rt: R) -> DiskFolder<R>
         ensures faults { result.faults ≡ 0 }
@@ -32,7 +32,62 @@ impl<R: Files> DiskFolder<R> {
     }
 }
 
-impl<R: Files> Folder for DiskFolder<R> {
+/// How many names are tried for the file that is written beside another.
+const MOST_NAMES: u32 = 1_000;
+
+/// A new file beside the one of this name, with its own name. One that is there already is left as
+/// it is.
+fn create_beside<R: Files + Alloc>(rt: &R, name: &str) -> io::Result<(String<R::A>, R::File)> {
+    for i in 0..MOST_NAMES {
+        let beside = format!(in rt.alloc(); "{name}.part{i}")?;
+        match File::create_new(rt, beside.as_str()) {
+            Ok(file) => return Ok((beside, file)),
+            Err(error) if error.kind() == ErrorKind::AlreadyExists => {}
+            Err(error) => return Err(error),
+        }
+    }
+    Err(io::Error::from(ErrorKind::AlreadyExists))
+}
+
+/// Writes all bytes into a new file, and has the system keep them.
+fn fill<F: Write + OpenFile + Drop>(mut file: F, bytes: &[u8]) -> io::Result<()> {
+    file.write_all(bytes)?;
+    file.sync_all()
+}
+
+/// Puts a new file, once it is whole, in the place of the one of this name. After an error nothing of
+/// it is left.
+fn replace<R: Files + Alloc>(rt: &R, name: &str, bytes: &[u8]) -> io::Result<()> {
+    let (beside, file) = create_beside(rt, name)?;
+    let mut done = fill(file, bytes);
+    if done.is_ok() {
+        done = fs::rename(rt, beside.as_str(), name);
+    }
+    if done.is_err() {
+        let _ = fs::remove_file(rt, beside.as_str());
+    }
+    done
+}
+
+/// Whether something other than a file stands under the name, as a terminal or a link, which is
+/// written to and not replaced.
+fn is_other<R: Files>(rt: &R, name: &str) -> bool {
+    match fs::symlink_metadata(rt, name) {
+        Ok(found) => !found.is_file(),
+        Err(_) => false,
+    }
+}
+
+/// Writes a whole file, in place of one that is there.
+fn put_whole<R: Files + Alloc>(rt: &R, name: &str, bytes: &[u8]) -> io::Result<()> {
+    if is_other(rt, name) {
+        fs::write(rt, name, bytes)
+    } else {
+        replace(rt, name, bytes)
+    }
+}
+
+impl<R: Files + Alloc> Folder for DiskFolder<R> {
     ghost use Rattle.std.specs.Prelude.{[], None};
 
     ghost told = { ⊥ };
@@ -81,7 +136,7 @@ impl<R: Files> Folder for DiskFolder<R> {
 
     fn put(&mut self, name: &str, bytes: &[u8]) -> Result<(), Failed> {
         self.started = None;
-        match fs::write(&self.rt, name, bytes) {
+        match put_whole(&self.rt, name, bytes) {
             Ok(()) => Ok(()),
             Err(_) => {
                 self.put_faults = self.put_faults.saturating_add(1);

@@ -16,8 +16,6 @@ mod room;
 mod rooms;
 mod sink;
 mod stream_sink;
-#[cfg(test)]
-mod tests;
 mod write;
 
 pub use disk_folder::DiskFolder;

@@ -1,4 +1,4 @@
--- Numbers at places of a file.
+-- Numbers at places of a file (the .mmb format: integers stand lowest byte first).
 use Rattle.std.specs.Prelude.{ℕ, List, drop, slice_index}
 use Rattle.byteorder.specs.Endian.{little_number}
 

@@ -163,6 +163,3 @@ fn math_at(text: &[u8], from: usize, at: usize) -> Result<Token, LexFault>
     }
     Ok(token(TokenKind::Math, at, end + 1))
 }
-
-#[cfg(test)]
-mod tests;

@@ -10,6 +10,7 @@ pub mod Fresh
 pub mod Closing
 pub mod Lists
 pub mod Push
+pub mod Lookup
 pub mod Trees
 pub mod Scoped
 pub mod Follow
@@ -19,4 +20,5 @@ pub mod Longer
 pub mod WorkedExamples
 pub mod WordsAsParams
 pub mod WordBits
+pub mod WordsWritten
 pub mod NearMisses

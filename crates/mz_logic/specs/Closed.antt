@@ -1,4 +1,5 @@
--- Closed derivations: their only citations are of axioms, and they have no gap, so that they rest on nothing else.
+-- Closed derivations: their only citations are of axioms, and they have no gap, so that they rest on nothing else
+-- (mm0.md, section on theorems: what is proved follows from the axioms).
 use Rattle.std.specs.Prelude.{ℕ, ◌≡◌, true, false, List, ◌∷◌, ◌++◌, slice_get, Some}
 use Rattle.mz_logic.specs.Declaration.{Assertion, Declaration, assertion_decl, assertions}
 use Rattle.mz_logic.specs.Derivations.{Derivation, CitesOnly, without_gaps}

@@ -1,6 +1,7 @@
 pub mod Tree
 pub mod Signature
 pub mod Declaration
+pub mod Places
 pub mod Modifiers
 pub mod Sorts
 pub mod Variables
@@ -16,5 +17,6 @@ pub mod TreeCode
 pub mod Codes
 pub mod Falls
 pub mod Laws
+pub mod WordsWritten
 pub mod Examples
 pub mod NearMisses

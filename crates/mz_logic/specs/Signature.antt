@@ -1,4 +1,5 @@
--- What an application of a term needs to know of the term.
+-- What an application of a term needs to know of the term (mm0.md, section on terms; Carneiro, the rules of
+-- well-formed expressions).
 use Rattle.std.specs.Prelude.{List}
 use Rattle.mz_logic.specs.declared.binder.Binder.{Binder}
 use Rattle.mz_logic.specs.declared.binder.ResultType.{ResultType}

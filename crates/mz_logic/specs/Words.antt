@@ -1,4 +1,5 @@
--- The words of the binary format that say a parameter or a result, and the tables that are made of them.
+-- The words of the binary format that say a parameter or a result, and the tables that are made of them (the .mmb
+-- format, its records of terms and theorems).
 use Rattle.std.specs.Prelude.{ℕ, suc, ◌≡◌, ◌<◌, ◌≤◌, ◌/◌, ◌%◌, ◌^◌, ◌++◌, ⊤, Bool, false, ◌==◌, List, [], ◌∷◌, map, get_or, if◌then◌else◌, MatchBool}
 use Rattle.mz_logic.specs.Signature.{Signature}
 use Rattle.mz_logic.specs.declared.binder.Binder.{Binder}

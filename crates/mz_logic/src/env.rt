@@ -1,6 +1,6 @@
 ghost use Rattle.std.specs.Prelude.{◌≡◌, ◌<◌, ◌∷◌, [], ◌++◌, ◌↔◌, IsTrue, OnOk, OnErr, option_map, length, slice_get};
 ghost use Rattle.mz_logic.specs.Declaration.{sorts, sort_decl, terms, signatures, assertions};
-ghost use Rattle.mz_logic.specs.DeclView.{declaration, signature, term_view, assertion_view};
+ghost use Rattle.mz_logic.specs.DeclView.{declaration, signature, term_view, assertion_view, term_of, assertion_of};
 ghost use Rattle.mz_logic.specs.Legality.{IsLegalDecl};
 
 use crate::binder::SortMods;
@@ -13,6 +13,9 @@ use std::marker::Model;
 pub struct Env {
     decls: Vec<Decl>,
     sort_mods: Vec<SortMods>,
+    // where the terms, and the axioms and theorems, stand among the declarations
+    term_places: Vec<u32>,
+    thm_places: Vec<u32>,
 }
 
 impl Model for Env {
@@ -27,10 +30,12 @@ impl Model for Env {
 
     ghost use Rattle.mz_logic.specs.DeclView.{declaration};
     ghost use Rattle.mz_logic.specs.Legality.{IsLegalEnv};
+    ghost use Rattle.mz_logic.specs.Places.{places_of_terms, places_of_assertions};
 
     ghost view = { λ a. map declaration a.decls.items };
 
-    ghost invariant = { λ a. IsLegalEnv (map declaration a.decls.items) × (a.sort_mods.items ≡ sorts (map declaration a.decls.items)) };
+    ghost invariant = { λ a. IsLegalEnv (map declaration a.decls.items) × (a.sort_mods.items ≡ sorts (map declaration a.decls.items))
+        × (a.term_places.items ≡ places_of_terms 0 (map declaration a.decls.items)) × (a.thm_places.items ≡ places_of_assertions 0 (map declaration a.decls.items)) };
 }
 
 impl Env {
@@ -41,6 +46,8 @@ impl Env {
         Env {
             decls: Vec::new(alloc),
             sort_mods: Vec::new(alloc),
+            term_places: Vec::new(alloc),
+            thm_places: Vec::new(alloc),
         }
     }
 
@@ -57,7 +64,8 @@ impl Env {
     {
         match decl {
             Decl::Sort(mods) => self.push_sort(mods),
-            other => self.push_other(other),
+            Decl::Term(term) => self.push_term(term),
+            Decl::Thm(thm) => self.push_thm(thm),
         }
     }
 
@@ -76,14 +84,36 @@ impl Env {
         }
     }
 
-    fn push_other(&mut self, decl: Decl) -> Result<(), AllocError>
-        requires legal { IsLegalDecl self.old (declaration decl) }
-        requires no_sort { sorts (declaration decl ∷ []) ≡ [] }
-        ensures ok { OnOk result (self.new ≡ self.old ++ declaration decl ∷ []) }
+    fn push_term(&mut self, term: TermDecl) -> Result<(), AllocError>
+        requires legal { IsLegalDecl self.old (term_of term) }
+        requires room { length self.old < 4294967295 }
+        ensures ok { OnOk result (self.new ≡ self.old ++ term_of term ∷ []) }
         ensures err { OnErr result (self.new ≡ self.old) }
     {
-        self.decls.push(decl)?;
-        Ok(())
+        self.term_places.push(self.decls.len() as u32)?;
+        match self.decls.push(Decl::Term(term)) {
+            Ok(()) => Ok(()),
+            Err(failed) => {
+                self.term_places.pop();
+                Err(failed.into())
+            }
+        }
+    }
+
+    fn push_thm(&mut self, thm: ThmDecl) -> Result<(), AllocError>
+        requires legal { IsLegalDecl self.old (assertion_of thm) }
+        requires room { length self.old < 4294967295 }
+        ensures ok { OnOk result (self.new ≡ self.old ++ assertion_of thm ∷ []) }
+        ensures err { OnErr result (self.new ≡ self.old) }
+    {
+        self.thm_places.push(self.decls.len() as u32)?;
+        match self.decls.push(Decl::Thm(thm)) {
+            Ok(()) => Ok(()),
+            Err(failed) => {
+                self.thm_places.pop();
+                Err(failed.into())
+            }
+        }
     }
 
     /// The sorts in order.
@@ -126,31 +156,21 @@ impl Env {
         ensures term { option_map (λ d. term_view d.now) result ≡ slice_get (terms self.now) number }
         ensures signature { option_map (λ d. signature d.now) result ≡ slice_get (signatures self.now) number }
     {
-        let mut left = number;
-        for decl in &self.decls {
-            if let Decl::Term(term) = decl {
-                if left == 0 {
-                    return Some(term);
-                }
-                left -= 1;
-            }
+        let place = *self.term_places.get(number as usize)?;
+        match &self.decls[place as usize] {
+            Decl::Term(term) => Some(term),
+            _ => None,
         }
-        None
     }
 
     /// The axiom or theorem with this number, if it is there.
     pub fn thm(&self, number: u32) -> Option<&ThmDecl>
         ensures { option_map (λ d. assertion_view d.now) result ≡ slice_get (assertions self.now) number }
     {
-        let mut left = number;
-        for decl in &self.decls {
-            if let Decl::Thm(thm) = decl {
-                if left == 0 {
-                    return Some(thm);
-                }
-                left -= 1;
-            }
+        let place = *self.thm_places.get(number as usize)?;
+        match &self.decls[place as usize] {
+            Decl::Thm(thm) => Some(thm),
+            _ => None,
         }
-        None
     }
 }

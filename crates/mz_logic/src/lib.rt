@@ -14,8 +14,6 @@ mod examples;
 mod expr;
 mod laws;
 mod sorts;
-#[cfg(test)]
-mod tests;
 mod vars;
 mod word;
 
@@ -34,7 +32,7 @@ pub use laws::{
     conversions_keep_sorts, derived_is_provable, instances_have_what_is_put_in,
     instances_keep_sorts, instances_stay_apart, legal_declarations_are_sorted,
     legal_lists_are_closed, legal_lists_are_legal_envs, longer_ones_keep, sorts_are_unique,
-    words_say_binders,
+    words_are_read_back, words_say_binders,
 };
 pub use sorts::is_bound_var;
 pub use vars::{has_place, in_all_vars, in_free_tree, in_free_vars, in_tree, is_bound_at};

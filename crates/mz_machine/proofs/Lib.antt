@@ -36,3 +36,4 @@ pub mod Machines
 pub mod Beginning
 pub mod Ungapped
 pub mod StrictRuns
+pub mod WordsPass

@@ -1,4 +1,5 @@
--- The rows of a file, as they spell terms and assertions, and the rows before a statement.
+-- The rows of a file, as they spell terms and assertions, and the rows before a statement (the .mmb format, its tables
+-- of terms and theorems).
 use Rattle.std.specs.Prelude.{ℕ, ◌-◌, if◌then◌else◌, List, [], take, drop, map, length, Option, Some, None}
 use Rattle.std.specs.List.{range_with_len}
 use Rattle.mz_logic.specs.Declaration.{Declaration, sorts, terms, assertions}

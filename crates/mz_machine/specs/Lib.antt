@@ -20,3 +20,4 @@ pub mod OperandRows
 pub mod Endings
 pub mod Stepping
 pub mod UnderwayCode
+pub mod WordsPass

@@ -1,4 +1,5 @@
--- Lists of rows with their bodies, and the statements that they spell: the whole file, but for its bytes.
+-- Lists of rows with their bodies, and the statements that they spell: the whole file, but for its bytes (the .mmb
+-- format, its list of statements).
 use Rattle.std.specs.Prelude.{◌≡◌, ℕ, ⊤, Bool, true, false, ◌+◌, ◌*◌, ◌≤◌, List, [], ◌∷◌, ◌++◌, length, Option, Some, None}
 use Rattle.mz_logic.specs.Signature.{Signature}
 use Rattle.mz_logic.specs.Declaration.{Term, Assertion, Declaration, sort_decl, term_decl, assertion_decl, signatures}

@@ -1,4 +1,5 @@
--- What the rows of the machine take from the stack, and what they ask of operands.
+-- What the rows of the machine take from the stack, and what they ask of operands (the .mmb format, the proof machine;
+-- the order of premises is this project's own).
 use Rattle.std.specs.Prelude.{ℕ, zero, suc, ◌+◌, Bool, true, false, not, ◌==◌, ◌||◌, ◌&&◌, nat_le, if◌then◌else◌, List, [], ◌∷◌, length, Option, Some, None, Result, Ok, Err}
 use Rattle.mz_cmd.specs.declared.rule.K.{K}
 use Rattle.mz_cmd.specs.declared.rule.K.TheVariants as k

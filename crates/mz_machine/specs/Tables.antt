@@ -1,4 +1,4 @@
--- What the machine reads of the tables, and what it keeps.
+-- What the machine reads of the tables, and what it keeps (the .mmb format, its tables and the proof machine).
 use Rattle.std.specs.Prelude.{◌≡◌, ℕ, ⊤, List, [], ◌∷◌, map}
 use Rattle.mz_logic.specs.Signature.{Signature}
 use Rattle.mz_logic.specs.Declaration.{Declaration, sorts, terms, signatures, assertions}

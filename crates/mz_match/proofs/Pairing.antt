@@ -30,7 +30,7 @@ use Rattle.mz_match.specs.declared.verdict.Verdict.{Verdict}
 use Rattle.mz_match.specs.declared.verdict.Verdict.TheVariants as verdicts
 use Rattle.mz_match.specs.Match.{partner_of, publics_after, publics, term_row_of, term_rows, Agrees, Leaves, partner_checks}
 use Rattle.mz_match.specs.Told.{IsTold, IsMatched}
-use Rattle.mz_match.specs.Verdict.{IsDifference, Ticks, counts_of, IsSoundIfAccepted, IsVerdict}
+use Rattle.mz_match.specs.Verdict.{Accepts, IsDifference, IsSound, Ticks, counts_of, IsSoundIfAccepted, IsVerdict}
 use Rattle.mz_match.proofs.ProvingTheorems.{theorems-proved}
 use Rattle.mz_match.proofs.Lists.{append-nil, publics-append, publics-local, publics-public, term_rows-append, drop-further, drop-past, kinds-total, length-declarations, length-env, leaves-nothing, leaves-local, leaves-public, partner-there}
 
@@ -218,8 +218,8 @@ few-statements file ss small good =
     omega (arith, small, parts.few_sorts, parts.few_terms, parts.few_thms, taken.sorts_taken, taken.terms_taken, taken.thms_taken, declares, kinds-total good.env, length-declarations ss)
 
 -- what is accepted is sound
-pub sound : (spec bin : List ℕ) (v : Verdict) → IsVerdict spec bin v → IsSoundIfAccepted spec bin v
-sound spec bin (verdicts.Accepted counts) (a, is) = record {
+pub accepted-sound : (spec bin : List ℕ) → Accepts spec bin → IsSound spec bin
+accepted-sound spec bin a = record {
   declared = a.declared;
   statements = a.statements;
   is_spec = a.is_spec;
@@ -229,6 +229,9 @@ sound spec bin (verdicts.Accepted counts) (a, is) = record {
   closed = legal_list_is_closed a.statements (good-legal false bin a.statements a.is_good);
   agrees = a.agrees;
 }
+
+pub sound : (spec bin : List ℕ) (v : Verdict) → IsVerdict spec bin v → IsSoundIfAccepted spec bin v
+sound spec bin (verdicts.Accepted counts) (a, is) = accepted-sound spec bin a
 sound spec bin (verdicts.Spec refusal) is = tt
 sound spec bin (verdicts.Binary refusal) is = tt
 sound spec bin (verdicts.Match declaration statement rule) is = tt

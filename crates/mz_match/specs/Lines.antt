@@ -1,4 +1,4 @@
--- The printed lines of a verdict.
+-- The printed lines of a verdict (this project's own).
 use Rattle.std.specs.Prelude.{ℕ, List, ◌++◌, codes, decimal}
 use Rattle.mz_lex.specs.RuleText.{rule_text as spec_rule_text}
 use Rattle.mz_spec.specs.declared.refusal.SpecRefusal.{SpecRefusal}

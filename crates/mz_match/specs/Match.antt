@@ -1,4 +1,6 @@
--- The match: the declarations of a specification beside the public statements of a binary, in order.
+-- The match: the declarations of a specification beside the public statements of a binary, in order (mm0.md: a proof
+-- file declares what its specification does, in its order, and may have more of its own; the order of rules is this
+-- project's own).
 use Rattle.std.specs.Prelude.{◌≡◌, ◌+◌, ◌++◌, ⊤, ℕ, List, [], ◌∷◌, length, Bool, true, false, ◌==◌, if◌then◌else◌}
 use Rattle.mz_checks.specs.Checks.{Checks, nothing, demand, ◌>>◌, AllHold}
 use Rattle.mz_logic.specs.Declaration.{Declaration, sort_decl, term_decl, assertion_decl, Assertion, Form, plain_form, abstract_form, defined, terms}

@@ -1,4 +1,4 @@
--- What is said of a specification and a binary together.
+-- What is said of a specification and a binary together (this project's own, of mm0.md's and the .mmb format's parts).
 use Rattle.std.specs.Prelude.{◌≡◌, ◌≤◌, ◌⊎◌, ◌+◌, ⊤, ℕ, List, [], ◌∷◌, length, false, if◌then◌else◌}
 use Rattle.mz_checks.specs.Checks.{FailsFirst}
 use Rattle.mz_cmd.specs.declared.rule.Refusal.{Refusal}

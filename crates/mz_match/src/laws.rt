@@ -2,7 +2,7 @@
 ghost use Rattle.std.specs.Prelude.{◌≡◌, ◌⊎◌, ℕ, List};
 ghost use Rattle.mz_match.specs.declared.verdict.Counts.{Counts};
 ghost use Rattle.mz_match.specs.declared.verdict.Verdict.{Verdict};
-ghost use Rattle.mz_match.specs.Verdict.{AcceptsWith, FirstRefusal};
+ghost use Rattle.mz_match.specs.Verdict.{Accepts, AcceptsWith, FirstRefusal, IsSound};
 
 /// Each specification and binary are accepted, with one number of declarations of each kind, or have
 /// exactly one first refusal, and never both.
@@ -11,4 +11,10 @@ pub fn each_pair_has_one_verdict()
     ensures not_both { (spec bin : List ℕ) (counts : Counts) (verdict : Verdict) → AcceptsWith spec bin counts → FirstRefusal spec bin verdict → ⊥ }
     ensures one_count { (spec bin : List ℕ) (counts other : Counts) → AcceptsWith spec bin counts → AcceptsWith spec bin other → counts ≡ other }
     ensures one_refusal { (spec bin : List ℕ) (verdict other : Verdict) → FirstRefusal spec bin verdict → FirstRefusal spec bin other → verdict ≡ other }
+{}
+
+/// What the definitions accept is sound, whatever program decides it: each theorem of the
+/// specification is proved by the binary's statements, which are a legal list.
+pub fn accepted_pairs_are_sound()
+    ensures { (spec bin : List ℕ) → Accepts spec bin → IsSound spec bin }
 {}

@@ -16,12 +16,10 @@ mod publics;
 mod rule;
 mod signature;
 mod stream;
-#[cfg(test)]
-mod tests;
 mod verdict;
 mod verify;
 
-pub use laws::each_pair_has_one_verdict;
+pub use laws::{accepted_pairs_are_sound, each_pair_has_one_verdict};
 pub use line::verdict_line;
 pub use pair::match_statement;
 pub use publics::Publics;

@@ -1,5 +1,6 @@
--- What the statements on notations, coercions and delimiters add, and the first rule that they break.
--- Strings are given without their `$`.
+-- What the statements on notations, coercions and delimiters add, and the first rule that they break (mm0.md, sections
+-- on notations, coercions and delimiters; the order of rules is this project's own). Strings are given without their
+-- `$`.
 use Rattle.std.specs.Prelude.{◌≡◌, ◌≢◌, ◌<◌, ◌≤◌, ◌==◌, ⊤, ℕ, List, [], ◌∷◌, ◌++◌, Bool, true, false, Option, Some, None, length, slice_get, slice_range, codes}
 use Rattle.std.specs.List.{count_by}
 use Rattle.std.proofs.Common.{Result, Ok, Err}

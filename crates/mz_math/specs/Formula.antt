@@ -1,4 +1,5 @@
--- What a math string stands for, and the first rule that it breaks.
+-- What a math string stands for, and the first rule that it breaks (mm0.md, sections on math strings, notations and
+-- coercions; the order of rules and the limits are this project's own).
 use Rattle.std.specs.Prelude.{◌≤◌, ◌++◌, ⊤, ℕ, List, [], ◌∷◌, length}
 use Rattle.mz_checks.specs.Checks.{Checks, demand, ◌>>◌, each_in_order, AllHold, FailsFirst}
 use Rattle.mz_lex.specs.declared.rule.S.{S}

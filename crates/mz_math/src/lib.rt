@@ -17,8 +17,6 @@ mod parser;
 mod pieces;
 mod scope;
 mod table;
-#[cfg(test)]
-mod tests;
 mod words;
 
 pub use bytes::Bytes;

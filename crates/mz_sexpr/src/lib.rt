@@ -8,8 +8,6 @@ mod laws;
 mod rule;
 mod scan;
 mod sexprs;
-#[cfg(test)]
-mod tests;
 
 pub use laws::{one_reading, reading_or_refusal};
 pub use rule::{TextRefusal, U};

@@ -1,4 +1,4 @@
--- The listing of a binary.
+-- The listing of a binary (this project's own form of the .mmb format's parts).
 use Rattle.std.specs.Prelude.{◌≡◌, ◌⊎◌, ℕ, ◌++◌, List, [], ◌∷◌, codes, Ok, Err}
 use Rattle.mz_checks.specs.Checks.{AllHold, FailsFirst}
 use Rattle.mz_cmd.specs.declared.rule.Refusal.{Refusal}

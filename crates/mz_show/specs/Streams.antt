@@ -1,4 +1,5 @@
--- The commands of a unify stream or a body, and their lines.
+-- The commands of a unify stream or a body, and their lines (the .mmb format, its commands; the lines are this
+-- project's own).
 use Rattle.std.specs.Prelude.{◌≡◌, ℕ, ◌+◌, ◌++◌, Bool, IsTrue, List, [], ◌∷◌, codes, Option, Some, None, is_some, Ok}
 use Rattle.mz_cmd.specs.declared.command.Cmd.{Cmd}
 use Rattle.mz_cmd.specs.declared.code.ProofCode.{ProofCode}

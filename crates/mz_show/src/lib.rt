@@ -11,8 +11,6 @@ mod row;
 mod statement;
 mod stop;
 mod stream;
-#[cfg(test)]
-mod tests;
 mod words;
 mod writing;
 

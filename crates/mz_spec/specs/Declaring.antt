@@ -1,4 +1,5 @@
--- What a good statement declares, and the state after it.
+-- What a good statement declares, and the state after it (mm0.md, sections on sorts, terms, definitions, axioms and
+-- theorems).
 use Rattle.std.specs.Prelude.{◌≡◌, ◌+◌, ◌*◌, ℕ, List, Bool, true, false, Option, Some, None, if◌then◌else◌}
 use Rattle.mz_lex.specs.Lexemes.{Lexeme}
 use Rattle.mz_logic.specs.Tree.{Tree, Trees}

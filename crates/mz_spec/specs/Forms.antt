@@ -1,4 +1,5 @@
--- What a statement makes of the table of notations, coercions and delimiters, and the rules that it breaks.
+-- What a statement makes of the table of notations, coercions and delimiters, and the rules that it breaks (mm0.md,
+-- sections on notations, coercions and delimiters).
 use Rattle.std.specs.Prelude.{◌≡◌, ◌++◌, ⊤, ℕ, List, [], ◌∷◌, true, false, Option, Some, None, option_map, slice_range}
 use Rattle.std.specs.Str.Parse.{digits_value}
 use Rattle.mz_lex.specs.Lexemes.{Lexeme}

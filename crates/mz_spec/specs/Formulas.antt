@@ -1,4 +1,5 @@
--- What the formulas of a statement stand for, and the rules that they break.
+-- What the formulas of a statement stand for, and the rules that they break (mm0.md, sections on definitions, axioms
+-- and theorems).
 use Rattle.std.specs.Prelude.{◌≡◌, ◌+◌, ⊤, ℕ, zero, suc, List, [], ◌∷◌, Contains}
 use Rattle.mz_lex.specs.Kinds.{inside_of}
 use Rattle.mz_lex.specs.Lexemes.{Lexeme}

@@ -1,4 +1,5 @@
--- Names and their numbers.
+-- Names and their numbers (mm0.md: sorts, terms and assertions are named; the three name spaces are this project's
+-- own).
 use Rattle.std.specs.Prelude.{◌≡◌, ℕ, suc, List, [], ◌∷◌, Option, Some, None, option_map, if◌then◌else◌, bytes_eq}
 
 -- the number of a name among names, if it is one of them

@@ -1,4 +1,5 @@
--- Specifications: what a text declares, and the first rule that it breaks.
+-- Specifications: what a text declares, and the first rule that it breaks (mm0.md; which fault is the first is this
+-- project's own).
 use Rattle.std.specs.Prelude.{◌≡◌, ◌⊎◌, ◌+◌, ◌++◌, ℕ, List, [], ◌∷◌, length, Option}
 use Rattle.mz_lex.specs.Lexemes.{Lexeme, LexesFrom, Lexes}
 use Rattle.mz_lex.specs.declared.token.LexFault.{LexFault}

@@ -1,4 +1,5 @@
--- What the statements before declare, and what a statement's types and variables are over it.
+-- What the statements before declare, and what a statement's types and variables are over it (mm0.md, sections on
+-- sorts, terms, definitions, axioms and theorems).
 use Rattle.std.specs.Prelude.{◌+◌, ◌++◌, ℕ, List, [], ◌∷◌, map, length, refl, Option, Some, None, unwrap_or, if◌then◌else◌}
 use Rattle.std.specs.Coded.{Coded, code_by, coded×, coded_ℕ}
 use Rattle.mz_lex.specs.Lexemes.{Lexeme}

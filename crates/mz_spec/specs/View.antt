@@ -1,4 +1,4 @@
--- What the rules see of a statement, whatever its kind.
+-- What the rules see of a statement, whatever its kind (mm0.md, section on the grammar).
 use Rattle.std.specs.Prelude.{◌++◌, ◌||◌, ℕ, List, [], ◌∷◌, map, length, Bool, false, Option, Some, None, if◌then◌else◌, bytes_eq, codes}
 use Rattle.std.specs.List.{list_any}
 use Rattle.mz_lex.specs.Lexemes.{Lexeme}

@@ -20,8 +20,6 @@ mod rules;
 mod scope;
 mod spec;
 mod state;
-#[cfg(test)]
-mod tests;
 mod variables;
 
 pub use laws::{readings_are_one, specifications_are_legal};

@@ -11,5 +11,5 @@ pub mod Params
 mod AllVariables
 mod BoundOperands
 mod FreeVariables
-mod Taking
+pub mod Taking
 pub mod Meeting

@@ -8,8 +8,6 @@ mod laws;
 mod node;
 mod store;
 mod table;
-#[cfg(test)]
-mod tests;
 
 pub use item::{DepsMode, Id, Item};
 pub use laws::{old_ids_keep_their_trees, words_meet};

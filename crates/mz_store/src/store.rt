@@ -1,5 +1,5 @@
 //! The store.
-ghost use Rattle.std.specs.Prelude.{ℕ, ◌≡◌, ◌↔◌, ◌<◌, ◌≤◌, ◌∷◌, [], ◌++◌, List, map, OnOk, OnErr, IfOk, IfSome, IfNone, IsTrue, length};
+ghost use Rattle.std.specs.Prelude.{ℕ, ◌≡◌, ◌↔◌, ◌<◌, ◌≤◌, ◌+◌, ◌∷◌, [], ◌++◌, List, map, OnOk, OnErr, IfOk, IfSome, IfNone, IsTrue, length};
 ghost use Rattle.mz_logic.specs.Sorts.{HasSort, IsBoundVar};
 ghost use Rattle.mz_logic.specs.Signature.{Signature};
 ghost use Rattle.mz_logic.specs.Tree.{var, app};
@@ -132,7 +132,9 @@ impl Store {
     /// Where there is no memory. The store is unchanged then.
     pub fn dummy(&mut self, sort: u32) -> Result<Id, AllocError>
         requires { length (bound_vars self.old.context) < 55 }
+        ensures id { IfOk result (λ id. id.0 ≡ length self.old.entries) }
         ensures holds { IfOk result (λ id. Holds self.new id.0 (var (length self.old.context))) }
+        ensures many { OnOk result (length self.new.entries ≡ length self.old.entries + 1) }
         ensures context { OnOk result (self.new.context ≡ self.old.context ++ dummy_binder sort ∷ []) }
         ensures mode { OnOk result (self.new.mode ≡ self.old.mode) }
         ensures kept { OnOk result (KeepsIds self.old self.new) }
@@ -206,7 +208,7 @@ impl Store {
     }
 
     /// How many expressions there are: their ids are the numbers below.
-    pub(crate) fn len(&self) -> usize
+    pub fn len(&self) -> usize
         ensures { result ≡ length self.now.entries }
     {
         self.nodes.len()
@@ -217,6 +219,13 @@ impl Store {
         ensures { result ≡ self.now.mode }
     {
         self.mode
+    }
+
+    /// Different ids have different trees: it does nothing, and its contract is the law.
+    pub fn once(&self)
+        ensures { (i j : ℕ) → IsIn self.now i → IsIn self.now j → tree_of self.now i ≡ tree_of self.now j → i ≡ j }
+    {
+        let _ = &self.table;
     }
 
     /// Whether two expressions are the same.

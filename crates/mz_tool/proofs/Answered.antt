@@ -1,101 +1,116 @@
--- A verdict on the files that were read is the answer to the request.
-use Rattle.std.proofs.Common.{◌≡◌, ◌∙◌, ◌⊎◌, ℕ, List, Option, Some, sym, subst, inl, inr, refl, ap}
-use Rattle.mz_io.specs.Outside.{SameFiles}
+-- What is answered over the contents of files is the answer over the folder.
+use Rattle.std.proofs.Common.{◌≡◌, ◌∙◌, ◌⊎◌, ◌≤◌, ℕ, List, [], ◌∷◌, Option, Some, None, sym, subst, inl, inr, refl, ap, true, false, arith}
 use Rattle.mz_match.specs.declared.verdict.Counts.{Counts}
 use Rattle.mz_match.specs.declared.verdict.Verdict.{Verdict}
 use Rattle.mz_match.specs.declared.verdict.Verdict.TheVariants as verdicts
-use Rattle.mz_match.specs.Verdict.{AcceptsWith, FirstRefusal, IsSoundIfAccepted, IsVerdict, line_of}
-use Rattle.mz_tool.specs.Request.{Files, verify}
-use Rattle.mz_tool.specs.Reported.{IsAccepted, IsRefused}
-use Rattle.mz_tool.specs.Run.{IsYes, IsNo, IsAnswer, IsProved}
+use Rattle.mz_match.specs.Verdict.{AcceptsWith, FirstRefusal, IsVerdict, IsSound, line_of}
+use Rattle.std.specs.Prelude.{◌&&◌, nat_le, bytes_eq}
+use Rattle.std.specs.List.{list_any}
+use Rattle.std.proofs.lemmas.Bool.{or_cases, or_left, or_right, and_parts, and_from, le-leb, leb-true}
+use Rattle.mz_io.specs.Outside.{SameFiles, Rooms, HasRoom, serves}
+use Rattle.mz_tool.specs.Request.{Request, verify, Files, Hold, names_read, IsPut}
+use Rattle.mz_tool.specs.declared.outcome.Outcome.{Outcome}
+use Rattle.mz_tool.specs.Outcomes.{IfYes, IfNo, OnYes, OnNo}
+use Rattle.mz_tool.specs.Run.{IsYesOf, IsNoOf, IsProvedOf, IsYes, IsNo, IsVerified, IsRefuted}
 
 -- a name stands for one file
 pub some-same : (o : Option (List ℕ)) (x y : List ℕ) → o ≡ Some x → o ≡ Some y → x ≡ y
 some-same o x y e f = let g : Some x ≡ Some y = sym e ∙ f in cc
 
--- the two files were read, the second after the first, and judged
-pub record WasJudged (file : Files) (spec_name bin_name spec bin : List ℕ) (verdict : Verdict) : Type 0 where
-  pub spec_is : file spec_name ≡ Some spec
-  pub bin_is : file bin_name ≡ Some bin
-  pub is_verdict : IsVerdict spec bin verdict
-  pub sound : IsSoundIfAccepted spec bin verdict
-  pub accepted : (counts : Counts) → AcceptsWith spec bin counts → (verdict ≡ verdicts.Accepted counts) ⊎ (verdict ≡ verdicts.Mem)
-  pub refused : (other : Verdict) → FirstRefusal spec bin other → (verdict ≡ other) ⊎ (verdict ≡ verdicts.Mem)
+-- so files hold one list of contents
+pub hold-same : (file : Files) (names xs ys : List (List ℕ)) → Hold file names xs → Hold file names ys → xs ≡ ys
+hold-same file [] [] [] h k = refl
+hold-same file [] [] (y ∷ ys) h k = absurd k
+hold-same file [] (x ∷ xs) ys h k = absurd h
+hold-same file (name ∷ names) [] ys h k = absurd h
+hold-same file (name ∷ names) (x ∷ xs) [] h k = absurd k
+hold-same file (name ∷ names) (x ∷ xs) (y ∷ ys) (e, h) (f, k) =
+    let first = some-same (file name) x y e f in let rest = hold-same file names xs ys h k in cc
 
-module _ (file : Files) (spec_name bin_name spec bin : List ℕ) where
-  pub accepted-is_yes : (v : Verdict) → WasJudged file spec_name bin_name spec bin v → IsAccepted v → IsYes file (verify spec_name bin_name) (line_of v)
-  accepted-is_yes (verdicts.Accepted counts) judged is = (spec, bin, judged.spec_is, judged.bin_is, (counts, judged.is_verdict, refl))
-  accepted-is_yes (verdicts.Spec refusal) judged is = absurd is
-  accepted-is_yes (verdicts.Binary refusal) judged is = absurd is
-  accepted-is_yes (verdicts.Match declaration statement rule) judged is = absurd is
-  accepted-is_yes verdicts.Mem judged is = absurd is
+module _ (file : Files) (request : Request) (contents : List (List ℕ)) (held : Hold file (names_read request) contents) where
+  -- a yes over the folder is one over the contents
+  pub yes-of : (put : Option (List ℕ)) (text : List ℕ) → IsYes file request put text → IsYesOf request contents put text
+  yes-of put text (read, hold, is) =
+      let P : List (List ℕ) → Type 0 = λ xs. IsYesOf request xs put text in
+      subst P (hold-same file (names_read request) read contents hold held) is
 
-  -- what is accepted is sound
-  pub accepted-is_proved : (v : Verdict) → WasJudged file spec_name bin_name spec bin v → IsAccepted v → IsProved file (verify spec_name bin_name)
-  accepted-is_proved (verdicts.Accepted counts) judged is = (spec, bin, judged.spec_is, judged.bin_is, judged.sound)
-  accepted-is_proved (verdicts.Spec refusal) judged is = absurd is
-  accepted-is_proved (verdicts.Binary refusal) judged is = absurd is
-  accepted-is_proved (verdicts.Match declaration statement rule) judged is = absurd is
-  accepted-is_proved verdicts.Mem judged is = absurd is
+  pub no-of : (text : List ℕ) → IsNo file request text → IsNoOf request contents text
+  no-of text (read, hold, is) =
+      let P : List (List ℕ) → Type 0 = λ xs. IsNoOf request xs text in
+      subst P (hold-same file (names_read request) read contents hold held) is
 
-  pub refused-is_no : (v : Verdict) → WasJudged file spec_name bin_name spec bin v → IsRefused v → IsNo file (verify spec_name bin_name) (line_of v)
-  refused-is_no (verdicts.Accepted counts) judged is = absurd is
-  refused-is_no (verdicts.Spec refusal) judged is = (spec, bin, judged.spec_is, judged.bin_is, (verdicts.Spec refusal, judged.is_verdict, refl))
-  refused-is_no (verdicts.Binary refusal) judged is = (spec, bin, judged.spec_is, judged.bin_is, (verdicts.Binary refusal, judged.is_verdict, refl))
-  refused-is_no (verdicts.Match declaration statement rule) judged is =
-      (spec, bin, judged.spec_is, judged.bin_is, (verdicts.Match declaration statement rule, judged.is_verdict, refl))
-  refused-is_no verdicts.Mem judged is = absurd is
+-- ---- the outcome of `verify`
 
-  pub judged-is_answer : (v : Verdict) → WasJudged file spec_name bin_name spec bin v → (v ≡ verdicts.Mem → ⊥) → IsAnswer file (verify spec_name bin_name) (line_of v)
-  judged-is_answer (verdicts.Accepted counts) judged some = inl (accepted-is_yes (verdicts.Accepted counts) judged tt)
-  judged-is_answer (verdicts.Spec refusal) judged some = inr (refused-is_no (verdicts.Spec refusal) judged tt)
-  judged-is_answer (verdicts.Binary refusal) judged some = inr (refused-is_no (verdicts.Binary refusal) judged tt)
-  judged-is_answer (verdicts.Match declaration statement rule) judged some = inr (refused-is_no (verdicts.Match declaration statement rule) judged tt)
-  judged-is_answer verdicts.Mem judged some = absurd (some refl)
+module _ (spec bin : List ℕ) where
+  pub is-refuted : (v : Verdict) (text : List ℕ) → IsVerdict spec bin v → ((counts : Counts) → v ≡ verdicts.Accepted counts → ⊥) → (v ≡ verdicts.Mem → ⊥) → text ≡ line_of v
+      → IsRefuted spec bin text
+  is-refuted (verdicts.Accepted counts) text is other some line = absurd (other counts refl)
+  is-refuted (verdicts.Spec refusal) text is other some line = (verdicts.Spec refusal, is, line)
+  is-refuted (verdicts.Binary refusal) text is other some line = (verdicts.Binary refusal, is, line)
+  is-refuted (verdicts.Match declaration statement rule) text is other some line = (verdicts.Match declaration statement rule, is, line)
+  is-refuted verdicts.Mem text is other some line = absurd (some refl)
 
-  not-refused : (v : Verdict) (counts : Counts) → (v ≡ verdicts.Accepted counts) ⊎ (v ≡ verdicts.Mem) → IsRefused v → ⊥
-  not-refused v counts (inl e) is = subst IsRefused e is
-  not-refused v counts (inr e) is = subst IsRefused e is
+  pub not-verified : (v : Verdict) → ((counts : Counts) → v ≡ verdicts.Accepted counts → ⊥) → (v ≡ verdicts.Mem → ⊥)
+      → ((counts : Counts) → AcceptsWith spec bin counts → (v ≡ verdicts.Accepted counts) ⊎ (v ≡ verdicts.Mem))
+      → (text : List ℕ) → IsVerified spec bin text → ⊥
+  not-verified v other some accepted text (counts, accepts, line) = either (accepted counts accepts) where
+    either : (v ≡ verdicts.Accepted counts) ⊎ (v ≡ verdicts.Mem) → ⊥
+    either (inl e) = other counts e
+    either (inr e) = some e
 
-  -- a file that is accepted is not refused
-  pub yes-not_refused : (v : Verdict) (text : List ℕ) → WasJudged file spec_name bin_name spec bin v → IsYes file (verify spec_name bin_name) text → IsRefused v → ⊥
-  yes-not_refused v text judged (s, b, s_is, b_is, (counts, accepts, text_is)) is =
-      let P : List ℕ → Type 0 = λ x. AcceptsWith x b counts in
-      let Q : List ℕ → Type 0 = λ x. AcceptsWith spec x counts in
-      not-refused v counts (judged.accepted counts (subst Q (some-same (file bin_name) b bin b_is judged.bin_is) (subst P (some-same (file spec_name) s spec s_is judged.spec_is) accepts))) is
+-- two files as they are read and as slices
+pub two-read : (xs : List (List ℕ)) (x y u v : List ℕ) → xs ≡ x ∷ y ∷ [] → u ≡ x → v ≡ y → xs ≡ u ∷ v ∷ []
+two-read xs x y u v e f g = cc
 
-  no-accepted : (w : Verdict) → FirstRefusal spec bin w → IsAccepted w → ⊥
-  no-accepted (verdicts.Accepted counts) first is = first
-  no-accepted (verdicts.Spec refusal) first is = is
-  no-accepted (verdicts.Binary refusal) first is = is
-  no-accepted (verdicts.Match declaration statement rule) first is = is
-  no-accepted verdicts.Mem first is = is
+-- a file is put after others were read
+pub put-after : (name put : Option (List ℕ)) (old mid new : Files) → SameFiles old mid → IsPut name put mid new → IsPut name put old new
+put-after None put old mid new same is = λ n. is n ∙ same n
+put-after (Some name) None old mid new same is = λ n. is n ∙ same n
+put-after (Some name) (Some bytes) old mid new same (there, others) = (there, λ n other. others n other ∙ same n)
 
-  not-accepted : (v w : Verdict) → FirstRefusal spec bin w → (v ≡ w) ⊎ (v ≡ verdicts.Mem) → IsAccepted v → ⊥
-  not-accepted v w first (inl e) is = no-accepted w first (subst IsAccepted e is)
-  not-accepted v w first (inr e) is = subst IsAccepted e is
+-- a room for a longer file serves a shorter one
+serves-shorter : (name : List ℕ) (n m : ℕ) → m ≤ n → (room : List ℕ × ℕ) → serves name n room ≡ true → serves name m room ≡ true
+serves-shorter name n m le (other, size) is =
+    let both = and_parts (bytes_eq other name) (nat_le n size) is in
+    let long : n ≤ size = leb-true n size both.1 in
+    let short : m ≤ size = omega arith in
+    and_from (bytes_eq other name) (nat_le m size) both.0 (le-leb m size short)
 
-  -- a file that is refused is not accepted
-  pub no-not_accepted : (v : Verdict) (text : List ℕ) → WasJudged file spec_name bin_name spec bin v → IsNo file (verify spec_name bin_name) text → IsAccepted v → ⊥
-  no-not_accepted v text judged (s, b, s_is, b_is, (w, first, text_is)) is =
-      let P : List ℕ → Type 0 = λ x. FirstRefusal x b w in
-      let Q : List ℕ → Type 0 = λ x. FirstRefusal spec x w in
-      let there = subst Q (some-same (file bin_name) b bin b_is judged.bin_is) (subst P (some-same (file spec_name) s spec s_is judged.spec_is) first) in
-      not-accepted v w there (judged.refused w there) is
+pub shorter-serves : (name : List ℕ) (n m : ℕ) → m ≤ n → (rooms : Rooms) → HasRoom rooms name n → HasRoom rooms name m
+shorter-serves name n m le [] has = has
+shorter-serves name n m le (room ∷ rooms) has = elim (or_cases (serves name n room) (list_any (serves name n) rooms) has) [
+  | inl this ↦ or_left (serves name m room) (list_any (serves name m) rooms) (serves-shorter name n m le room this)
+  | inr other ↦ or_right (serves name m room) (list_any (serves name m) rooms) (shorter-serves name n m le rooms other)
+]
 
--- what the two reads and the judgement gave, the bytes being seen as slices
-abbrev pub was-judged : (file later : Files) (spec_name bin_name spec bin read_spec read_bin : List ℕ) (v : Verdict) →
-    file spec_name ≡ Some spec → SameFiles file later → later bin_name ≡ Some bin → read_spec ≡ spec → read_bin ≡ bin →
-    IsVerdict read_spec read_bin v → IsSoundIfAccepted read_spec read_bin v →
-    ((counts : Counts) → AcceptsWith read_spec read_bin counts → (v ≡ verdicts.Accepted counts) ⊎ (v ≡ verdicts.Mem)) →
-    ((other : Verdict) → FirstRefusal read_spec read_bin other → (v ≡ other) ⊎ (v ≡ verdicts.Mem)) →
-    WasJudged file spec_name bin_name read_spec read_bin v
-was-judged file later spec_name bin_name spec bin read_spec read_bin v first same second spec_same bin_same is sound accepted refused =
-    record {
-      spec_is = first ∙ ap Some (sym spec_same);
-      bin_is = sym (same bin_name) ∙ second ∙ ap Some (sym bin_same);
-      is_verdict = is;
-      sound = sound;
-      accepted = accepted;
-      refused = refused;
-    }
+-- the answer over two files is that of the request
+module _ (r : Request) (xs : List (List ℕ)) (a b spec bin : List ℕ) (asked : r ≡ verify a b) (read : xs ≡ spec ∷ bin ∷ []) where
+  pub verify-yes : (o : Outcome) → IfYes o (λ put text. (put ≡ None) × IsVerified spec bin text) → IfYes o (λ put text. IsYesOf r xs put text)
+  verify-yes o is =
+      let P : Request → Type 0 = λ q. IfYes o (λ put text. IsYesOf q xs put text) in
+      let Q : List (List ℕ) → Type 0 = λ ys. IfYes o (λ put text. IsYesOf (verify a b) ys put text) in
+      subst P (sym asked) (subst Q (sym read) is)
+
+  pub verify-no : (o : Outcome) → IfNo o (λ text. IsRefuted spec bin text) → IfNo o (λ text. IsNoOf r xs text)
+  verify-no o is =
+      let P : Request → Type 0 = λ q. IfNo o (λ text. IsNoOf q xs text) in
+      let Q : List (List ℕ) → Type 0 = λ ys. IfNo o (λ text. IsNoOf (verify a b) ys text) in
+      subst P (sym asked) (subst Q (sym read) is)
+
+  pub verify-proved : (o : Outcome) → OnYes o (IsSound spec bin) → OnYes o (IsProvedOf r xs)
+  verify-proved o is =
+      let P : Request → Type 0 = λ q. OnYes o (IsProvedOf q xs) in
+      let Q : List (List ℕ) → Type 0 = λ ys. OnYes o (IsProvedOf (verify a b) ys) in
+      subst P (sym asked) (subst Q (sym read) is)
+
+  pub verify-only_yes : (o : Outcome) → ((text : List ℕ) → IsVerified spec bin text → OnNo o ⊥) → (put : Option (List ℕ)) (text : List ℕ) → IsYesOf r xs put text → OnNo o ⊥
+  verify-only_yes o none put text is =
+      let P : Request → Type 0 = λ q. IsYesOf q xs put text in
+      let Q : List (List ℕ) → Type 0 = λ ys. IsYesOf (verify a b) ys put text in
+      none text (subst Q read (subst P asked is)).1
+
+  pub verify-only_no : (o : Outcome) → ((text : List ℕ) → IsRefuted spec bin text → OnYes o ⊥) → (text : List ℕ) → IsNoOf r xs text → OnYes o ⊥
+  verify-only_no o none text is =
+      let P : Request → Type 0 = λ q. IsNoOf q xs text in
+      let Q : List (List ℕ) → Type 0 = λ ys. IsNoOf (verify a b) ys text in
+      none text (subst Q read (subst P asked is))

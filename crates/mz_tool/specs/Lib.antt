@@ -1,4 +1,6 @@
 pub mod Request
+pub mod Inputs
+pub mod Outcomes
 pub mod Run
 pub mod Asked
 pub mod Reported

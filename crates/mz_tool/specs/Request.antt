@@ -1,6 +1,7 @@
--- What the words given to the program ask for.
-use Rattle.std.specs.Prelude.{◌≡◌, ◌≤◌, ℕ, ⊤, List, [], ◌∷◌, length, Option, Some, codes, Any}
+-- What the words given to the program ask for (this project's own).
+use Rattle.std.specs.Prelude.{◌≡◌, ◌≤◌, ℕ, ⊤, List, [], ◌∷◌, length, Option, Some, None, codes, Any}
 use Rattle.mz_io.specs.Read.{IsLonger}
+use Rattle.mz_io.specs.Outside.{SameFiles, SameOthers}
 
 -- a command of the program, with the names of its files
 pub data Request : Type 0 where
@@ -19,6 +20,11 @@ Asks words request = words ≡ words_of request
 abbrev pub names_read : Request → List (List ℕ)
 names_read (verify spec bin) = spec ∷ bin ∷ []
 names_read (show bin) = bin ∷ []
+
+-- the name under which it puts a file, where it puts one
+abbrev pub name_put : Request → Option (List ℕ)
+name_put (verify spec bin) = None
+name_put (show bin) = None
 
 -- what stands under each name
 abbrev pub Files : Type 0
@@ -41,6 +47,13 @@ abbrev pub AreThere : Files → List (List ℕ) → Type 0
 AreThere file [] = ⊤
 AreThere file (name ∷ names) = ((bytes : List ℕ) × (file name ≡ Some bytes)) × AreThere file names
 
+-- the files of these names hold these bytes, in order
+abbrev pub Hold : Files → List (List ℕ) → List (List ℕ) → Type 0
+Hold file [] [] = ⊤
+Hold file [] (bytes ∷ rest) = ⊥
+Hold file (name ∷ names) [] = ⊥
+Hold file (name ∷ names) (bytes ∷ rest) = (file name ≡ Some bytes) × Hold file names rest
+
 -- one of the files is there, and longer than the limit
 abbrev pub HasLonger : ℕ → Files → List (List ℕ) → Type 0
 HasLonger limit file names = Any (λ name. IsLonger limit (file name)) names
@@ -53,3 +66,14 @@ HasLong file names = HasLonger longest file names
 abbrev pub BeginsLonger : ℕ → Files → List (List ℕ) → Type 0
 BeginsLonger limit file [] = ⊥
 BeginsLonger limit file (name ∷ names) = IsLonger limit (file name)
+
+-- the file that is put holds these bytes, and each other name stands for what it stood for; where none is put, all do
+abbrev pub IsPut : Option (List ℕ) → Option (List ℕ) → Files → Files → Type 0
+IsPut None put old new = SameFiles old new
+IsPut (Some name) None old new = SameFiles old new
+IsPut (Some name) (Some bytes) old new = (new name ≡ Some bytes) × SameOthers name old new
+
+-- each name but that of the file that is put stands for what it stood for
+abbrev pub SameButPut : Option (List ℕ) → Files → Files → Type 0
+SameButPut None old new = SameFiles old new
+SameButPut (Some name) old new = SameOthers name old new

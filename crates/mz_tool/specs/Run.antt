@@ -1,5 +1,5 @@
--- How the program answers.
-use Rattle.std.specs.Prelude.{◌≡◌, ◌⊎◌, ◌++◌, ℕ, List, Some}
+-- How the program answers (this project's own).
+use Rattle.std.specs.Prelude.{◌≡◌, ◌⊎◌, ◌++◌, ℕ, List, [], ◌∷◌, Option, Some, None}
 use Rattle.mz_cmd.specs.declared.rule.Refusal.{Refusal}
 use Rattle.mz_match.specs.declared.verdict.Counts.{Counts}
 use Rattle.mz_match.specs.declared.verdict.Verdict.{Verdict}
@@ -7,7 +7,7 @@ use Rattle.mz_match.specs.declared.verdict.Verdict.TheVariants as verdicts
 use Rattle.mz_match.specs.Verdict.{AcceptsWith, FirstRefusal, IsSound, line_of}
 use Rattle.mz_binary.specs.RefusalLine.{refusal_line}
 use Rattle.mz_show.specs.Listing.{IsListing, IsListedUpTo, IsListed}
-use Rattle.mz_tool.specs.Request.{Request, verify, show, Files}
+use Rattle.mz_tool.specs.Request.{Request, verify, show, Files, Hold, names_read}
 use Rattle.mz_tool.specs.declared.status.Status.{Status}
 use Rattle.mz_tool.specs.declared.status.Status.TheVariants as statuses
 
@@ -25,29 +25,42 @@ IsRefuted spec bin text = (verdict : Verdict) × FirstRefusal spec bin verdict �
 abbrev pub IsPartlyListed : List ℕ → List ℕ → Type 0
 IsPartlyListed bin text = (listed : List ℕ) × (refusal : Refusal) × IsListedUpTo bin listed refusal × (text ≡ listed ++ refusal_line refusal)
 
--- ---- the answers to a request, over the folder's files
+-- ---- the answers to a request, over the bytes of its files in their order
 
--- the answer is yes, and this is its text
-abbrev pub IsYes : Files → Request → List ℕ → Type 0
-IsYes file (verify spec_name bin_name) text =
-    (spec : List ℕ) × (bin : List ℕ) × (file spec_name ≡ Some spec) × (file bin_name ≡ Some bin) × IsVerified spec bin text
-IsYes file (show bin_name) text = (bin : List ℕ) × (file bin_name ≡ Some bin) × IsListing bin text
+-- the answer is yes; these bytes are put, where a file is put, and this is the text
+abbrev pub IsYesOf : Request → List (List ℕ) → Option (List ℕ) → List ℕ → Type 0
+IsYesOf (verify spec_name bin_name) (spec ∷ bin ∷ []) put text = (put ≡ None) × IsVerified spec bin text
+IsYesOf (show bin_name) (bin ∷ []) put text = (put ≡ None) × IsListing bin text
+IsYesOf request contents put text = ⊥
 
 -- the answer is a refusal, and this is its text
+abbrev pub IsNoOf : Request → List (List ℕ) → List ℕ → Type 0
+IsNoOf (verify spec_name bin_name) (spec ∷ bin ∷ []) text = IsRefuted spec bin text
+IsNoOf (show bin_name) (bin ∷ []) text = IsPartlyListed bin text
+IsNoOf request contents text = ⊥
+
+-- What is accepted is sound: each theorem of the specification ends a front of the binary's statements, which is a legal
+-- list and agrees with the specification up to the theorem; it has a closed derivation over the statements before it, and
+-- this cites only axioms that the specification declares before it. All of the binary's statements are legal and agree too.
+abbrev pub IsProvedOf : Request → List (List ℕ) → Type 0
+IsProvedOf (verify spec_name bin_name) (spec ∷ bin ∷ []) = IsSound spec bin
+IsProvedOf (verify spec_name bin_name) contents = ⊥
+IsProvedOf (show bin_name) contents = Unit {0}
+
+-- ---- the same over the folder's files
+
+abbrev pub IsYes : Files → Request → Option (List ℕ) → List ℕ → Type 0
+IsYes file request put text = (contents : List (List ℕ)) × Hold file (names_read request) contents × IsYesOf request contents put text
+
 abbrev pub IsNo : Files → Request → List ℕ → Type 0
-IsNo file (verify spec_name bin_name) text =
-    (spec : List ℕ) × (bin : List ℕ) × (file spec_name ≡ Some spec) × (file bin_name ≡ Some bin) × IsRefuted spec bin text
-IsNo file (show bin_name) text = (bin : List ℕ) × (file bin_name ≡ Some bin) × IsPartlyListed bin text
+IsNo file request text = (contents : List (List ℕ)) × Hold file (names_read request) contents × IsNoOf request contents text
 
--- what is accepted is sound: the binary's statements are a legal list, and its public ones agree with what the
--- specification declares
 abbrev pub IsProved : Files → Request → Type 0
-IsProved file (verify spec_name bin_name) =
-    (spec : List ℕ) × (bin : List ℕ) × (file spec_name ≡ Some spec) × (file bin_name ≡ Some bin) × IsSound spec bin
-IsProved file (show bin_name) = Unit {0}
+IsProved file request = (contents : List (List ℕ)) × Hold file (names_read request) contents × IsProvedOf request contents
 
-abbrev pub IsAnswer : Files → Request → List ℕ → Type 0
-IsAnswer file request text = IsYes file request text ⊎ IsNo file request text
+-- a refusal puts nothing
+abbrev pub IsAnswer : Files → Request → Option (List ℕ) → List ℕ → Type 0
+IsAnswer file request put text = IsYes file request put text ⊎ ((put ≡ None) × IsNo file request text)
 
 -- the statuses with which nothing is written
 abbrev pub IsQuiet : Status → Type 0
@@ -69,3 +82,14 @@ IsListedFor file (show bin_name) text = (bin : List ℕ) × (file bin_name ≡ S
 abbrev pub IsShow : Request → Type 0
 IsShow (verify spec bin) = ⊥
 IsShow (show bin) = Unit {0}
+
+-- the statuses at which a file may have been put, or spoilt
+abbrev pub MayPut : Status → Type 0
+MayPut statuses.Done = Unit {0}
+MayPut statuses.Refused = ⊥
+MayPut statuses.OutFault = Unit {0}
+MayPut statuses.Usage = ⊥
+MayPut statuses.ReadFault = ⊥
+MayPut statuses.WriteFault = Unit {0}
+MayPut statuses.TooLong = ⊥
+MayPut statuses.Memory = ⊥

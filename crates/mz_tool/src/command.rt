@@ -1,6 +1,10 @@
 // The words given to the program.
 ghost use Rattle.std.specs.Prelude.{◌≡◌, map, string_bytes, IfSome, IfNone};
-ghost use Rattle.mz_tool.specs.Request.{Request, Asks};
+ghost use Rattle.mz_tool.specs.Request.{Request, Asks, names_read, name_put};
+ghost use Rattle.mz_tool.specs.Inputs.{names_of, name_of};
+
+use crate::inputs::Inputs;
+use crate::output::Output;
 
 /// A command of the program, with the names of its files.
 #[derive(Clone, Copy)]
@@ -28,6 +32,25 @@ impl<'a> Command<'a> {
                 bin: bin.as_str(),
             }),
             _ => None,
+        }
+    }
+
+    /// The files that it reads, in order.
+    pub fn inputs(self) -> Inputs<'a>
+        ensures { names_of result ≡ names_read (request self.entry) }
+    {
+        match self {
+            Command::Verify { spec, bin } => Inputs::Two(spec, bin),
+            Command::Show { bin } => Inputs::One(bin),
+        }
+    }
+
+    /// The file that it puts, where it puts one.
+    pub fn output(self) -> Output<'a>
+        ensures { name_of result ≡ name_put (request self.entry) }
+    {
+        match self {
+            Command::Verify { .. } | Command::Show { .. } => Output::Nothing,
         }
     }
 }

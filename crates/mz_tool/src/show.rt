@@ -1,9 +1,9 @@
 // The command `show`.
-ghost use Rattle.std.specs.Prelude.{◌≡◌, ◌≤◌, ◌<◌, ◌++◌, ◌⊎◌, ◌^◌, ℕ, List, length, IfOk};
-ghost use Rattle.mz_io.specs.Outside.{Rose, SameFiles, AppendsPrefix};
+ghost use Rattle.std.specs.Prelude.{◌≡◌, ◌≤◌, ◌<◌, ◌++◌, ◌⊎◌, ◌^◌, ℕ, List, Option, Some, None, length, IfOk};
+ghost use Rattle.mz_io.specs.Outside.{Rose, HasRoom, SameFiles, AppendsPrefix};
 ghost use Rattle.mz_binary.specs.RefusalLine.{refusal_line as refusal_text};
-ghost use Rattle.mz_tool.specs.Request.{show as show_file, AreThere, BeginsLonger, HasLonger, names_read};
-ghost use Rattle.mz_tool.specs.Run.{IsYes, IsNo, IsAnswer, IsListedFor, IsProved, IsQuiet};
+ghost use Rattle.mz_tool.specs.Request.{show as show_file, AreThere, BeginsLonger, HasLonger, names_read, name_put, IsPut, SameButPut, longest};
+ghost use Rattle.mz_tool.specs.Run.{IsYes, IsNo, IsAnswer, IsListedFor, IsProved, IsQuiet, MayPut};
 ghost use Rattle.mz_tool.specs.Reported.{IsReported};
 
 use crate::status::Status;
@@ -22,26 +22,30 @@ pub fn show<F: Folder, O: Sink>(
     out: &mut O,
 ) -> Status
     requires limit { limit < 2 ^ 32 }
-    ensures done { F.told → result ≡ Status.Done → (text : List ℕ) × IsYes (F.file folder.old) (show_file bin_name.now) text × (O.told → O.written out.new ≡ O.written out.old ++ text) }
+    ensures done { F.told → result ≡ Status.Done → (put : Option (List ℕ)) × (text : List ℕ) × IsYes (F.file folder.old) (show_file bin_name.now) put text
+        × IsPut (name_put (show_file bin_name.now)) put (F.file folder.old) (F.file folder.new) × (O.told → O.written out.new ≡ O.written out.old ++ text) }
     ensures refused { F.told → result ≡ Status.Refused → (text : List ℕ) × IsNo (F.file folder.old) (show_file bin_name.now) text × (O.told → O.written out.new ≡ O.written out.old ++ text) }
     ensures sound { F.told → result ≡ Status.Done → IsProved (F.file folder.old) (show_file bin_name.now) }
-    ensures yes { F.told → (text : List ℕ) → IsYes (F.file folder.old) (show_file bin_name.now) text → result ≡ Status.Refused → ⊥ }
+    ensures yes { F.told → (put : Option (List ℕ)) (text : List ℕ) → IsYes (F.file folder.old) (show_file bin_name.now) put text → result ≡ Status.Refused → ⊥ }
     ensures no { F.told → (text : List ℕ) → IsNo (F.file folder.old) (show_file bin_name.now) text → result ≡ Status.Done → ⊥ }
     ensures usage { result ≡ Status.Usage → ⊥ }
     ensures read_fault { result ≡ Status.ReadFault → Rose (F.faults folder.old) (F.faults folder.new) }
-    ensures write_fault { result ≡ Status.WriteFault → ⊥ }
+    ensures write_fault { result ≡ Status.WriteFault → Rose (F.put_faults folder.old) (F.put_faults folder.new) }
     ensures out_fault { result ≡ Status.OutFault → Rose (O.faults out.old) (O.faults out.new) }
     ensures too_long { F.told → result ≡ Status.TooLong → HasLonger limit (F.file folder.old) (names_read (show_file bin_name.now)) }
-    ensures front { F.told → O.told → result ≡ Status.OutFault
-        → (text : List ℕ) × IsAnswer (F.file folder.old) (show_file bin_name.now) text × AppendsPrefix (O.written out.old) (O.written out.new) text }
+    ensures front { F.told → O.told → result ≡ Status.OutFault → (put : Option (List ℕ)) × (text : List ℕ) × IsAnswer (F.file folder.old) (show_file bin_name.now) put text
+        × IsPut (name_put (show_file bin_name.now)) put (F.file folder.old) (F.file folder.new) × AppendsPrefix (O.written out.old) (O.written out.new) text }
     ensures quiet { O.told → IsQuiet result → O.written out.new ≡ O.written out.old }
     ensures memory { F.told → O.told → result ≡ Status.Memory → O.written out.new ≡ O.written out.old
         ⊎ ((text : List ℕ) × IsListedFor (F.file folder.old) (show_file bin_name.now) text × AppendsPrefix (O.written out.old) (O.written out.new) text) }
-    ensures files { F.told → SameFiles (F.file folder.old) (F.file folder.new) }
-    ensures put_faults { F.put_faults folder.new ≡ F.put_faults folder.old }
+    ensures files { F.told → (MayPut result → ⊥) → SameFiles (F.file folder.old) (F.file folder.new) }
+    ensures others { F.told → SameButPut (name_put (show_file bin_name.now)) (F.file folder.old) (F.file folder.new) }
+    ensures put_faults { name_put (show_file bin_name.now) ≡ None → F.put_faults folder.new ≡ F.put_faults folder.old }
     ensures only_missing { F.is_clear folder.old → AreThere (F.file folder.old) (names_read (show_file bin_name.now)) → F.faults folder.new ≡ F.faults folder.old }
     ensures unread { F.told → F.is_clear folder.old → BeginsLonger limit (F.file folder.old) (names_read (show_file bin_name.now)) → F.faults folder.new ≡ F.faults folder.old }
-    ensures only_full { F.told → O.is_clear out.old → ((text : List ℕ) → IsAnswer (F.file folder.old) (show_file bin_name.now) text → length text ≤ O.room out.old)
+    ensures only_room { F.is_clear folder.old → ((name : List ℕ) → name_put (show_file bin_name.now) ≡ Some name → HasRoom (F.rooms folder.old) name longest)
+        → F.put_faults folder.new ≡ F.put_faults folder.old }
+    ensures only_full { F.told → O.is_clear out.old → ((put : Option (List ℕ)) (text : List ℕ) → IsAnswer (F.file folder.old) (show_file bin_name.now) put text → length text ≤ O.room out.old)
         → O.faults out.new ≡ O.faults out.old }
 {
     let bin = match read_bounded(alloc, folder, bin_name, limit) {

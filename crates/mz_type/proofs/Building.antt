@@ -1,13 +1,10 @@
 -- One part more of what is built.
-use Rattle.std.proofs.Common.{ℕ, ◌≡◌, ◌<◌, ◌≤◌, ◌+◌, Bool, true, false, List, length, get_or, drop, refl, sym, ap, ◌∙◌, arith}
-use Rattle.std.proofs.lemmas.List.{drop_more}
-use Rattle.mz_logic.specs.Tree.{Tree, Trees, var, none, more, followed_by, variables}
-use Rattle.mz_logic.specs.Conversions.{Conversion, Conversions, no_convs, more_convs}
+use Rattle.std.proofs.Common.{ℕ, ◌≡◌, ◌<◌, ◌≤◌, ◌+◌, List, length, get_or, drop, sym, ap, ◌∙◌, arith}
+use Rattle.mz_logic.specs.Tree.{Tree, Trees, none, more, followed_by}
 use Rattle.mz_logic.proofs.Follow.{followed_by_none, followed_by_push}
 use Rattle.mz_mmu.specs.ConvCode.{conv_steps, convs_steps}
 use Rattle.mz_mmu.specs.ConvView.{conversion, conversions}
 use Rattle.mz_mmu.specs.declared.conv.Conv.{Conv}
-use Rattle.mz_type.specs.Sides.{side, sides}
 use Rattle.mz_type.proofs.Steps.{convs_cut}
 
 -- what is built and what is left are the whole
@@ -25,16 +22,3 @@ built_whole built left whole ends h = sym (followed_by_none built) ∙ ap (follo
 module _ (xs : List Conv) (i : ℕ) (c : Conv) (below : i < length xs) (is : c ≡ get_or xs i c) where
   pub convs_size_step : (m : ℕ) → convs_steps (conversions (drop i xs)) ≤ m → (conv_steps (conversion c) ≤ m) × (convs_steps (conversions (drop (i + 1) xs)) ≤ m)
   convs_size_step m h = (omega (arith, ap convs_steps (convs_cut xs i c below is)), omega (arith, ap convs_steps (convs_cut xs i c below is)))
-
-pub sides_of_one : (right : Bool) (c : Conversion) (cs : Conversions) → sides right (more_convs c cs) ≡ more (side right c) (sides right cs)
-sides_of_one true c cs = refl
-sides_of_one false c cs = refl
-
-pub no_sides : (right : Bool) → sides right no_convs ≡ none
-no_sides true = refl
-no_sides false = refl
-
--- ---- variables
-
-pub variables_cut : (ys : List ℕ) (i : ℕ) → i < length ys → variables (drop i ys) ≡ more (var (get_or ys i 0)) (variables (drop (i + 1) ys))
-variables_cut ys i below = ap variables (drop_more ys i 0 below)

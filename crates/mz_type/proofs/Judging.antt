@@ -1,5 +1,5 @@
 -- Answers of checks one after another.
-use Rattle.std.proofs.Common.{◌≡◌, Result, Ok, Err, inr, sym, subst}
+use Rattle.std.proofs.Common.{◌≡◌, Result, Ok, Err, Vec, inr, sym, subst}
 use Rattle.std.specs.Result.{IsErrAnd}
 use Rattle.mz_checks.specs.Checks.{Checks, ask, ◌>>◌, AllHold, FailsFirst, Judges}
 use Rattle.mz_checks.proofs.InOrder.{fails-before, fails-after, all_hold-both, Decides, decides-after}
@@ -8,8 +8,8 @@ use Rattle.mz_mmu.specs.declared.fault.Fault.{Fault}
 use Rattle.mz_mmu.specs.declared.fault.Stop.{Stop}
 use Rattle.mz_mmu.specs.declared.fault.Stop.TheVariants.{Refused, Mem}
 use Rattle.mz_logic.specs.Tree.{Tree, Trees}
-use Rattle.mz_logic.specs.declared.expr.Expr.{Expr}
 use Rattle.mz_type.specs.Answers.{Judged, IsProved, AreProved, told}
+use Rattle.mz_type.specs.declared.claim.Claim.{Claim}
 
 module _ {R : Type 0} where
   -- a refusal that is handed on
@@ -90,17 +90,17 @@ pub judged_asked : {A : Type 0} (q : Fault) (P : Type 0) (cs : Checks Fault) (r 
 judged_asked q P cs (Ok x) p j = (p, j)
 judged_asked q P cs (Err s) p j = stopped_asked q P cs s p j
 
--- ---- where an expression is answered
+-- ---- where a claim is answered
 
 module _ (cs : Checks Fault) where
-  pub stop_proved : (x : Tree) (r : Result Expr Stop) (s : Stop) → IsErrAnd r (λ y. y ≡ s) → Stops s cs → IsProved r cs x
+  pub stop_proved : (x : Tree) (r : Result Claim Stop) (s : Stop) → IsErrAnd r (λ y. y ≡ s) → Stops s cs → IsProved r cs x
   stop_proved x (Ok e) s h k = absurd h
   stop_proved x (Err y) s h k = subst (λ z. Stops z cs) (sym h) k
 
-  pub stop_all_proved : (xs : Trees) (r : Result Trees Stop) (s : Stop) → IsErrAnd r (λ y. y ≡ s) → Stops s cs → AreProved r cs xs
+  pub stop_all_proved : {Z : Type 0} (xs : Trees) (r : Result (Vec Claim Z) Stop) (s : Stop) → IsErrAnd r (λ y. y ≡ s) → Stops s cs → AreProved r cs xs
   stop_all_proved xs (Ok es) s h k = absurd h
   stop_all_proved xs (Err y) s h k = subst (λ z. Stops z cs) (sym h) k
 
-pub proved_after : (bs cs : Checks Fault) (x : Tree) (r : Result Expr Stop) → AllHold bs → IsProved r cs x → IsProved r (bs >> cs) x
+pub proved_after : (bs cs : Checks Fault) (x : Tree) (r : Result Claim Stop) → AllHold bs → IsProved r cs x → IsProved r (bs >> cs) x
 proved_after bs cs x (Ok e) all (k, is) = (all_hold-both bs cs all k, is)
 proved_after bs cs x (Err s) all k = stopped_after bs cs s all k

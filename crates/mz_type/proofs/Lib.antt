@@ -11,6 +11,8 @@ pub mod Texts
 pub mod Judging
 pub mod Steps
 pub mod Building
+pub mod Claims
+pub mod Shaping
 pub mod ConvSteps
 pub mod ProofSteps
 pub mod StatementSteps
@@ -19,6 +21,5 @@ mod TypedSteps
 mod Weighing
 mod WeightBound
 mod Written
-mod WeightOver
-mod WeightSteps
 mod TextFaults
+mod Readying

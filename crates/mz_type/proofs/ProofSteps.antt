@@ -26,10 +26,13 @@ use Rattle.mz_mmu.specs.ProofCode.{proof_steps, proofs_steps}
 use Rattle.mz_mmu.specs.ProofView.{proof_view, proofs_view}
 use Rattle.mz_logic.specs.Conversions.{Conversion}
 use Rattle.mz_type.specs.Answers.{IsProved}
+use Rattle.mz_type.specs.Claims.{claim_tree, claim_trees}
+use Rattle.mz_type.specs.declared.claim.Claim.{Claim}
 use Rattle.mz_type.specs.Names.{ExprsThere, ProofsThere}
 use Rattle.mz_type.specs.Parts.{part, after}
 use Rattle.mz_type.specs.Rules.{operand_rules, expr_rules, exprs_rules, conv_rules, subproof_rules, citation_rules, proof_rules, proofs_rules}
 use Rattle.mz_type.specs.Sides.{left, right, assertion_at, proved, all_proved}
+use Rattle.mz_type.proofs.Claims.{claims_cut}
 use Rattle.mz_type.proofs.ExprRules.{fits_by_checks}
 use Rattle.mz_type.proofs.Judging.{stopped_before, stopped_after, stopped_asked, proved_after}
 use Rattle.mz_type.proofs.Steps.{trees_cut}
@@ -40,12 +43,12 @@ is_there [] i below h = absurd (omega (arith, below))
 
 -- ---- subproofs
 
-pub subproofs_cut : (es : Trees) (xs hs : List Expr) (i : ℕ) (e h : Expr) → i < length xs → e ≡ get_or xs i e → i < length hs → h ≡ get_or hs i h → (ns : Nodes)
-    → subproof_rules (trees (drop i xs)) ns (instances es (trees (drop i hs)))
-    ≡ (demand (fault (place (first ns)) U.Hypothesis) (tree e ≡ instance es (tree h)) >> subproof_rules (trees (drop (i + 1) xs)) (rest ns) (instances es (trees (drop (i + 1) hs))))
-subproofs_cut es xs hs i e h below is below' is' ns =
-    ap (λ cs. subproof_rules cs ns (instances es (trees (drop i hs)))) (trees_cut xs i e below is)
-    ∙ ap (λ gs. subproof_rules (more (tree e) (trees (drop (i + 1) xs))) ns (instances es gs)) (trees_cut hs i h below' is')
+pub subproofs_cut : (es : Trees) (xs : List Claim) (hs : List Expr) (i : ℕ) (c : Claim) (h : Expr) → i < length xs → c ≡ get_or xs i c → i < length hs → h ≡ get_or hs i h → (ns : Nodes)
+    → subproof_rules (claim_trees (drop i xs)) ns (instances es (trees (drop i hs)))
+    ≡ (demand (fault (place (first ns)) U.Hypothesis) (claim_tree c ≡ instance es (tree h)) >> subproof_rules (claim_trees (drop (i + 1) xs)) (rest ns) (instances es (trees (drop (i + 1) hs))))
+subproofs_cut es xs hs i c h below is below' is' ns =
+    ap (λ cs. subproof_rules cs ns (instances es (trees (drop i hs)))) (claims_cut xs i c below is)
+    ∙ ap (λ gs. subproof_rules (more (claim_tree c) (claim_trees (drop (i + 1) xs))) ns (instances es gs)) (trees_cut hs i h below' is')
 
 -- ---- a citation's own rules
 
@@ -94,7 +97,7 @@ module _ (env : List Declaration) (ctx : List Binder) (hyps lets : Trees) where
     pub citation_subproofs_stop : (s : Stop) → AllHold of_operands → Stops s of_subproofs → Stops s of_citation
     citation_subproofs_stop s h k = stopped_after of_operands _ s h (stopped_before of_subproofs _ s k)
 
-    pub citation_proved : (r : Result Expr Stop) (a : Assertion) (claims : Trees) → AllHold of_operands → AllHold of_subproofs → a ≡ assertion_at env T → claims ≡ all_proved env hyps lets ps
+    pub citation_proved : (r : Result Claim Stop) (a : Assertion) (claims : Trees) → AllHold of_operands → AllHold of_subproofs → a ≡ assertion_at env T → claims ≡ all_proved env hyps lets ps
         → IsProved r (citation_rules (signatures env) ctx a es claims n) (instance es a.conclusion) → IsProved r of_citation (proved env hyps lets (by_citation T es ps))
     citation_proved r a claims h k same all p =
         proved_after of_operands _ _ r h (proved_after of_subproofs _ _ r k

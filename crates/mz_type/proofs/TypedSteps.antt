@@ -20,6 +20,7 @@ use Rattle.mz_type.specs.Names.{StatementThere, StatementsThere}
 use Rattle.mz_type.specs.Rules.{statement_rules, rules_from}
 use Rattle.mz_type.specs.TypedText.{statement_at, declared}
 use Rattle.mz_type.specs.Typing.{TextStops, IsStopped}
+use Rattle.mz_type.specs.Weight.{statement_weight, weight_after}
 use Rattle.mz_type.specs.declared.typed.TextStop.{TextStop}
 use Rattle.mz_type.specs.declared.typed.TextStop.TheVariants as text_stop
 use Rattle.mz_type.proofs.Judging.{left_fails, left_step}
@@ -65,6 +66,9 @@ module _ (ss : List Statement) (i : ℕ) (below : i < length ss) where
       ≡ (retold (in_statement k) (statement_rules env (statement_at ss i) (first ns)) >> rules_from (suc k) (env ++ (statement_at ss i).decl ∷ []) (drop (i + 1) ss) (rest ns))
   rules_cut k env ns = ap (λ xs. rules_from k env xs ns) cut
 
+  pub weight_cut : (env : List Declaration) → weight_after env (drop i ss) ≡ statement_weight env (statement_at ss i) + weight_after (env ++ (statement_at ss i).decl ∷ []) (drop (i + 1) ss)
+  weight_cut env = ap (weight_after env) cut
+
   pub makes_more : (env later : List Declaration) → later ≡ env ++ (statement_at ss i).decl ∷ [] → env ++ declared (drop i ss) ≡ declared ss
       → later ++ declared (drop (i + 1) ss) ≡ declared ss
   makes_more env later is h =
@@ -91,6 +95,9 @@ module _ (ss : List Statement) (i : ℕ) (below : i < length ss) where
   rules_stop k number env ns whole stop.Mem r e is h d = subst (λ t. TextStops t whole) (sym is) tt
 
 -- ---- the end
+
+pub none_weighs : (ss : List Statement) (i : ℕ) (env : List Declaration) → length ss ≤ i → weight_after env (drop i ss) ≡ 0
+none_weighs ss i env end = ap (weight_after env) (drop_all i ss end)
 
 pub all_rules : (k : ℕ) (ss : List Statement) (i : ℕ) (env : List Declaration) (ns : Nodes) (whole : Checks TextRefusal) → length ss ≤ i → Decides (rules_from k env (drop i ss) ns) whole → AllHold whole
 all_rules k ss i env ns whole end d = d.holds (subst (λ xs. AllHold (rules_from k env xs ns)) (sym (drop_all i ss end)) tt)

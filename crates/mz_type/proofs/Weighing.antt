@@ -1,8 +1,7 @@
 -- One part more of what is weighed.
-use Rattle.std.proofs.Common.{ℕ, zero, suc, ◌≡◌, ◌<◌, ◌≤◌, ◌+◌, List, [], ◌∷◌, length, get_or, drop, slice_get, Some, None, refl, sym, ap, ◌∙◌, arith}
+use Rattle.std.proofs.Common.{ℕ, zero, suc, ◌≡◌, ◌<◌, ◌≤◌, ◌+◌, List, [], ◌∷◌, length, get_or, drop, refl, sym, ap, ◌∙◌, arith}
 use Rattle.std.proofs.lemmas.List.{drop_more}
-use Rattle.std.proofs.lemmas.Option.{get_or_from_slice_get}
-use Rattle.mz_logic.specs.Declaration.{Form, plain_form, abstract_form, defined, Term, Assertion, Declaration, body_of, terms, assertions}
+use Rattle.mz_logic.specs.Declaration.{Form, plain_form, abstract_form, defined, Declaration, body_of}
 use Rattle.mz_logic.specs.Tree.{Tree, Trees, var, app, none, more, operand, followed_by, variables, size, trees_size, instance, instances}
 use Rattle.mz_logic.specs.View.{tree, trees}
 use Rattle.mz_logic.specs.declared.expr.Expr.{Expr}
@@ -12,16 +11,13 @@ use Rattle.mz_mmu.specs.ProofCode.{proof_steps, proofs_steps}
 use Rattle.mz_mmu.specs.ProofView.{proof_view, proofs_view}
 use Rattle.mz_mmu.specs.declared.conv.Conv.{Conv}
 use Rattle.mz_mmu.specs.declared.proof.Proof.{Proof}
-use Rattle.mz_type.specs.Sides.{assertion_at, term_at, body_tree}
+use Rattle.mz_type.specs.Sides.{body_tree}
 use Rattle.mz_type.specs.Weight.{conv_weight, convs_weight, proof_weight, proofs_weight}
-use Rattle.mz_type.proofs.Steps.{none_read, trees_cut, convs_cut}
+use Rattle.mz_type.proofs.Steps.{trees_cut, convs_cut}
 
 module _ (xs : List Expr) (i : ℕ) (e : Expr) (below : i < length xs) (is : e ≡ get_or xs i e) where
   pub size_cut : trees_size (trees (drop i xs)) ≡ size (tree e) + trees_size (trees (drop (i + 1) xs))
   size_cut = ap trees_size (trees_cut xs i e below is)
-
-  pub instance_cut : (f : Trees) → trees_size (instances f (trees (drop i xs))) ≡ size (instance f (tree e)) + trees_size (instances f (trees (drop (i + 1) xs)))
-  instance_cut f = ap (λ es. trees_size (instances f es)) (trees_cut xs i e below is)
 
 pub convs_weight_cut : (env : List Declaration) (xs : List Conv) (i : ℕ) (c : Conv) → i < length xs → c ≡ get_or xs i c
     → convs_weight env (conversions (drop i xs)) ≡ conv_weight env (conversion c) + convs_weight env (conversions (drop (i + 1) xs))
@@ -57,33 +53,7 @@ mutual
   all_same_size es ys none = refl
   all_same_size es ys (more f fs) = ap (λ n. n + trees_size (instances (followed_by es (variables ys)) fs)) (same_size es ys f) ∙ ap (λ n. size (instance es f) + n) (all_same_size es ys fs)
 
-pub empty_size : (f : Trees) (e : Tree) → e ≡ app 0 none → 1 ≡ size (instance f e)
-empty_size f e is = ap (λ x. size (instance f x)) (sym is)
-
-pub no_term : (env : List Declaration) (t : ℕ) → None ≡ slice_get (terms env) t → body_tree (term_at env t).form ≡ app 0 none
-no_term env t h = ap (λ (d : Term). body_tree d.form) (none_read (terms env) t _ h)
-
-form_is : (env : List Declaration) (t : ℕ) (d : Term) → Some d ≡ slice_get (terms env) t → (term_at env t).form ≡ d.form
-form_is env t d h = ap (λ (d : Term). d.form) (get_or_from_slice_get (terms env) t d _ (sym h))
-
-body_none : (f : Form) → body_of f ≡ none → body_tree f ≡ app 0 none
+pub body_none : (f : Form) → body_of f ≡ none → body_tree f ≡ app 0 none
 body_none plain_form h = refl
 body_none abstract_form h = refl
 body_none (defined ds e) h = absurd (let k : more e none ≡ none = h in cc)
-
-body_some : (f : Form) (b : Tree) → body_of f ≡ more b none → body_tree f ≡ b
-body_some plain_form b h = absurd (let k : none ≡ more b none = h in cc)
-body_some abstract_form b h = absurd (let k : none ≡ more b none = h in cc)
-body_some (defined ds e) b h = ap (λ es. operand es 0) h
-
-pub no_body : (env : List Declaration) (t : ℕ) (d : Term) → Some d ≡ slice_get (terms env) t → body_of d.form ≡ none → body_tree (term_at env t).form ≡ app 0 none
-no_body env t d h is = ap body_tree (form_is env t d h) ∙ body_none d.form is
-
-pub its_body : (env : List Declaration) (t : ℕ) (d : Term) (b : Tree) → Some d ≡ slice_get (terms env) t → body_of d.form ≡ more b none → body_tree (term_at env t).form ≡ b
-its_body env t d b h is = ap body_tree (form_is env t d h) ∙ body_some d.form b is
-
-pub no_assertion : (env : List Declaration) (T : ℕ) → None ≡ slice_get (assertions env) T → (assertion_at env T).conclusion ≡ app 0 none
-no_assertion env T h = ap (λ (a : Assertion). a.conclusion) (none_read (assertions env) T _ h)
-
-pub its_conclusion : (env : List Declaration) (T : ℕ) (a : Assertion) → Some a ≡ slice_get (assertions env) T → (assertion_at env T).conclusion ≡ a.conclusion
-its_conclusion env T a h = ap (λ (a : Assertion). a.conclusion) (get_or_from_slice_get (assertions env) T a _ (sym h))

@@ -1,10 +1,8 @@
 -- What checks that take memory answer.
-use Rattle.std.specs.Prelude.{◌≡◌, Option, Some, None, Result, Ok, Err}
+use Rattle.std.specs.Prelude.{◌≡◌, Option, Some, None, Result, Ok, Err, Vec}
 use Rattle.std.specs.Borrow.{Bor}
 use Rattle.mz_checks.specs.Checks.{Checks, AllHold}
 use Rattle.mz_logic.specs.Tree.{Tree, Trees}
-use Rattle.mz_logic.specs.View.{tree}
-use Rattle.mz_logic.specs.declared.expr.Expr.{Expr}
 use Rattle.mz_mmu.specs.Proof.{Proof}
 use Rattle.mz_mmu.specs.ProofView.{proof_view}
 use Rattle.mz_mmu.specs.declared.proof.Proof.{Proof as Coded}
@@ -12,6 +10,8 @@ use Rattle.mz_mmu.specs.Stops.{Stops}
 use Rattle.mz_mmu.specs.declared.fault.Fault.{Fault}
 use Rattle.mz_mmu.specs.declared.fault.Stop.{Stop}
 use Rattle.mz_mmu.specs.declared.fault.Stop.TheVariants.{Refused}
+use Rattle.mz_type.specs.Claims.{claim_tree, claim_trees}
+use Rattle.mz_type.specs.declared.claim.Claim.{Claim}
 
 -- all hold, or the first that doesn't is told, or there was no memory
 abbrev pub Judged : {A : Type 0} → Result A Stop → Checks Fault → Type 0
@@ -23,13 +23,13 @@ abbrev pub told : Result (Unit {0}) Fault → Result (Unit {0}) Stop
 told (Ok x) = Ok x
 told (Err f) = Err (Refused f)
 
--- the same, where an expression is answered
-abbrev pub IsProved : Result Expr Stop → Checks Fault → Tree → Type 0
-IsProved (Ok e) cs x = AllHold cs × (tree e ≡ x)
+-- the same, where a claim is answered
+abbrev pub IsProved : Result Claim Stop → Checks Fault → Tree → Type 0
+IsProved (Ok claim) cs x = AllHold cs × (claim_tree claim ≡ x)
 IsProved (Err stop) cs x = Stops stop cs
 
-abbrev pub AreProved : Result Trees Stop → Checks Fault → Trees → Type 0
-AreProved (Ok es) cs xs = AllHold cs × (es ≡ xs)
+abbrev pub AreProved : {Z : Type 0} → Result (Vec Claim Z) Stop → Checks Fault → Trees → Type 0
+AreProved (Ok claims) cs xs = AllHold cs × (claim_trees claims.items ≡ xs)
 AreProved (Err stop) cs xs = Stops stop cs
 
 -- the proof that a statement states, if it states one

@@ -5,8 +5,11 @@ pub mod Meaning
 pub mod Names
 pub mod TextOf
 pub mod Laws
+pub mod Claims
 pub mod Answers
 pub mod Weight
 pub mod TypedText
 pub mod Typing
 pub mod Sizes
+pub mod Ready
+pub mod Shapes

@@ -1,4 +1,4 @@
-ghost use Rattle.std.specs.Prelude.{◌≡◌, ◌↔◌, ⊤, Bool, true, false, IsTrue, IfOk, ◌+◌, ◌<◌, drop, get_or, length, ℕ, Contains};
+ghost use Rattle.std.specs.Prelude.{◌≡◌, ◌↔◌, ⊤, Bool, true, false, IsTrue, ◌+◌, ◌<◌, drop, get_or, length, ℕ, Contains};
 ghost use Rattle.mz_checks.specs.Checks.{Judges, AllHold};
 ghost use Rattle.mz_sexpr.specs.Number.{first};
 ghost use Rattle.mz_sexpr.specs.Node.{parts};
@@ -19,13 +19,13 @@ ghost use Rattle.mz_type.specs.Rules;
 ghost use Rattle.mz_type.specs.Rules.{conv_rules, convs_rules, side_rules, own_side_rules, variable_rules, unfold_rules, exprs_rules, AreNew};
 ghost use Rattle.mz_type.specs.Sides.{side, left};
 
-use crate::build::{instance_of, side_of, with_variables};
+use crate::claim::{Claim, is_side};
 use crate::cursor::Cursor;
 use crate::exprs::{check_expr, check_exprs, check_operands, params_of, sort_of, sort_of_term};
-use mz_logic::{Binder, Context, Env, Expr, Exprs, TermDecl, in_tree, is_bound_var, same_expr};
+use mz_logic::{Binder, Context, Env, Expr, Exprs, TermDecl, in_tree, is_bound_var};
 use mz_mmu::{Conv, Convs, Fault, Stop, Vars};
 use mz_sexpr::U;
-use std::alloc::{AllocError, Global};
+use std::alloc::Global;
 
 /// A refusal as a cause to stop.
 pub(crate) fn refuse(checked: Result<(), Fault>) -> Result<(), Stop>
@@ -184,19 +184,10 @@ fn are_new(env: &Env, ctx: &Context, es: &Exprs, vars: &Vars) -> bool
 }
 
 /// Whether a conversion goes from the body with the operands and variables put in.
-fn goes_from_body(
-    alloc: Global,
-    body: &Expr,
-    es: &Exprs,
-    vars: &Vars,
-    conv: &Conv,
-) -> Result<bool, AllocError>
-    ensures { IfOk result (λ b. IsTrue b ↔ (left (conversion conv.now) ≡ instance (followed_by es.now (variables vars.now)) (tree body.now))) }
+fn goes_from_body(body: &Expr, es: &Exprs, vars: &Vars, conv: &Conv) -> bool
+    ensures { IsTrue result ↔ (left (conversion conv.now) ≡ instance (followed_by es.now (variables vars.now)) (tree body.now)) }
 {
-    let operands = with_variables(alloc, es, vars)?;
-    let unfolded = instance_of(alloc, &operands, body)?;
-    let side = side_of(alloc, conv, false)?;
-    Ok(same_expr(&side, &unfolded))
+    is_side(conv, false, Claim::unfolded(body, es, vars.as_slice()))
 }
 
 /// The node of a reflexivity's expression, which may stand alone.
@@ -312,8 +303,7 @@ impl<'t, 'c> Checker<'t, 'c> {
         if !are_new(self.env, self.ctx, es, vars) {
             return Err(Stop::Refused(nodes.fault(U::Disjoint)));
         }
-        let fits = goes_from_body(self.alloc, body, es, vars, conv)?;
-        if fits {
+        if goes_from_body(body, es, vars, conv) {
             Ok(())
         } else {
             Err(Stop::Refused(nodes.fault(U::Conversion)))

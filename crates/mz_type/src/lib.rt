@@ -3,19 +3,22 @@
 #![tactic(auto)]
 
 mod binders;
-mod build;
+mod claim;
 mod convs;
 mod copies;
 mod cursor;
 mod exprs;
 mod laws;
 mod proofs;
+mod shapes;
+mod sizes;
 mod statements;
-#[cfg(test)]
-mod tests;
 mod typed;
 mod weigh;
 
-pub use laws::{limits_are_decided, rules_are_the_meaning, typed_or_faulty, typed_or_refused};
+pub use laws::{
+    limits_are_decided, rules_are_the_meaning, statements_can_be_words, typed_or_faulty,
+    typed_or_refused,
+};
 pub use typed::{Typed, TypedRead, check_text};
 pub use weigh::weight;

@@ -1,4 +1,4 @@
-ghost use Rattle.std.specs.Prelude.{◌≡◌, ◌<◌, ◌∷◌, [], ◌++◌, IfOk, IfErr, OnOk, ℕ, List, length};
+ghost use Rattle.std.specs.Prelude.{◌≡◌, ◌<◌, ◌^◌, ◌∷◌, [], ◌++◌, IfOk, IfErr, OnOk, ℕ, List, length};
 ghost use Rattle.mz_sexpr.specs.Node.{parts};
 ghost use Rattle.mz_sexpr.specs.Number.{first};
 ghost use Rattle.mz_logic.specs.Declaration.{Declaration};
@@ -8,12 +8,15 @@ ghost use Rattle.mz_type.specs.Meaning.{LegalAsStated};
 ghost use Rattle.mz_type.specs.Names.{StatementThere};
 ghost use Rattle.mz_type.specs.Parts;
 ghost use Rattle.mz_type.specs.Rules.{statement_rules, text_rules};
-ghost use Rattle.mz_type.specs.TypedText.{statement_at, IsTypedText};
+ghost use Rattle.mz_type.specs.TypedText.{statement_at, declared, IsTypedText};
+ghost use Rattle.mz_type.specs.Weight.{declaration_weight, weight_of};
 ghost use Rattle.mz_type.specs.Typing.{IsTyping, IsTypingOf, TextStops, IsStopped, IsRefusal};
 
 use crate::copies::copy_of_decl;
 use crate::cursor::Cursor;
+use crate::shapes::Shaped;
 use crate::statements::check_decl;
+use crate::weigh::statement_weight;
 use mz_logic::Env;
 use mz_mmu::{Fault, Stop, Text};
 use mz_sexpr::TextRefusal;
@@ -24,8 +27,9 @@ use std::marker::Model;
 #[derive(Drop)]
 pub struct Typed<'t, 'a> {
     pub(crate) text: &'t Text<'a>,
-    // what its statements declare
+    // what its statements declare, and what they weigh
     pub(crate) env: Env,
+    pub(crate) weight: u128,
 }
 
 impl<'t, 'a> Model for Typed<'t, 'a> {
@@ -35,11 +39,13 @@ impl<'t, 'a> Model for Typed<'t, 'a> {
 
     ghost coded = { forms_code };
 
+    ghost use Rattle.std.specs.Prelude.{◌≡◌, ◌<◌, ◌^◌, ◌^◌};
     ghost use Rattle.mz_type.specs.TypedText.{IsTypedText};
+    ghost use Rattle.mz_type.specs.Weight.{weight_of};
 
     ghost view = { λ a. a.text.now };
 
-    ghost invariant = { λ a. IsTypedText a.text.now a.env };
+    ghost invariant = { λ a. IsTypedText a.text.now a.env × (a.weight ≡ weight_of a.text.now.statements) × (a.weight < 2 ^ 64) };
 }
 
 /// What checking the type rules of a text answers.
@@ -113,7 +119,7 @@ fn check_statement(
 /// The same, and what the statement declares is added to what stands before the next.
 fn declare_statement(
     alloc: Global,
-    env: &mut Env,
+    env: &mut Shaped,
     text: &Text,
     i: u32,
     nodes: &Cursor,
@@ -122,31 +128,36 @@ fn declare_statement(
     requires there { StatementThere env.old (statement_at text.now.statements i) }
     requires marked { is_local_word (first (parts (first nodes.now))) ≡ (statement_at text.now.statements i).is_local }
     requires room { length env.old < 4294967295 }
+    requires small { declaration_weight (statement_at text.now.statements i).decl < 2 ^ 64 }
     ensures judged { Judged result (statement_rules env.old (statement_at text.now.statements i) (first nodes.now)) }
     ensures more { OnOk result (env.new ≡ env.old ++ (statement_at text.now.statements i).decl ∷ []) }
 {
-    check_statement(alloc, env, text, i, nodes)?;
+    check_statement(alloc, env.env(), text, i, nodes)?;
     let decl = copy_of_decl(alloc, text.decl(i))?;
-    env.push_decl(decl)?;
+    env.push(alloc, decl)?;
     Ok(())
 }
 
-/// What the statements of a text declare, where all of its type rules hold.
-fn check_statements(alloc: Global, text: &Text) -> Result<Env, TextStop>
-    ensures typed { IfOk result (λ env. IsTypedText text.now env) }
+/// What the statements of a text declare, and what they weigh, where all of its type rules hold.
+fn check_statements(alloc: Global, text: &Text) -> Result<(Env, u128), TextStop>
+    ensures typed { IfOk result (λ made. IsTypedText text.now made.0) }
+    ensures weight { IfOk result (λ made. made.1 ≡ weight_of text.now.statements) }
+    ensures small { IfOk result (λ made. made.1 < 2 ^ 64) }
     ensures stops { IfErr result (λ stop. TextStops stop (text_rules text.now.nodes text.now.statements)) }
 {
-    let mut env = Env::new(alloc);
+    // the number of nodes is one of 32 bits: no sum of weights overflows
+    let _nodes = text.sexprs().count();
+    let mut env = Shaped::new(alloc);
+    let mut weight: u128 = 0;
     let mut left = Cursor::top(text.sexprs());
     for i in 0..text.len() {
+        weight += statement_weight(&env, text, i);
         if let Err(stop) = declare_statement(alloc, &mut env, text, i, &left) {
             return Err(in_statement(i + 1, stop));
         }
         left = left.rest();
     }
-    // their number is one of 32 bits
-    let _nodes = text.sexprs().count();
-    Ok(env)
+    Ok((env.into_env(), weight))
 }
 
 /// The answer where a text isn't typed.
@@ -165,11 +176,15 @@ pub fn check_text<'t, 'a>(alloc: Global, text: &'t Text<'a>) -> TypedRead<'t, 'a
     ensures answer { IsTyping text.now result }
     ensures bytes { (bytes : List ℕ) → Reads bytes text.now.nodes text.now.statements → IsTypingOf bytes text.now result }
 {
-    let env = match check_statements(alloc, text) {
-        Ok(env) => env,
+    let made = match check_statements(alloc, text) {
+        Ok(made) => made,
         Err(stop) => return refused(stop),
     };
-    TypedRead::Typed(Typed { text, env })
+    TypedRead::Typed(Typed {
+        text,
+        env: made.0,
+        weight: made.1,
+    })
 }
 
 impl<'t, 'a> Typed<'t, 'a> {
@@ -179,5 +194,12 @@ impl<'t, 'a> Typed<'t, 'a> {
         ensures legal { LegalAsStated self.now.statements }
     {
         self.text
+    }
+
+    /// The environment that its statements make: their declarations in order.
+    pub fn env(&self) -> &Env
+        ensures { result.now ≡ declared self.now.statements }
+    {
+        &self.env
     }
 }

@@ -1,5 +1,5 @@
--- What a unify stream spells: expressions in preorder, with references back to what was marked.
--- Nothing here speaks of a machine.
+-- What a unify stream spells: expressions in preorder, with references back to what was marked (the .mmb format, its
+-- unify streams). Nothing here speaks of a machine.
 use Rattle.std.specs.Prelude.{◌≡◌, ℕ, suc, ◌+◌, ⊤, ◌⊎◌, true, List, [], ◌∷◌, ◌++◌, length, reverse, Option, Some, None, slice_get}
 use Rattle.mz_logic.specs.Tree.{Tree, Trees, var, app, none, more, listed}
 use Rattle.mz_logic.specs.Signature.{Signature}

@@ -1,4 +1,5 @@
--- Steps that may fail by a rule of the format: the first premise that fails names it.
+-- Steps that may fail by a rule of the format: the first premise that fails names it (the .mmb format, its two
+-- machines; the codes of rules are this project's own).
 use Rattle.std.specs.Prelude.{ℕ, Bool, true, false, Option, Some, None, Result, Ok, Err}
 use Rattle.mz_cmd.specs.declared.rule.K.{K}
 

@@ -1,4 +1,5 @@
--- Tests that the machines compute, each of a notion of the logic.
+-- Tests that the machines compute, each of a notion of the logic (Carneiro, the section on variables and dependencies;
+-- mm0.md, section on sorts).
 use Rattle.std.specs.Prelude.{ℕ, ◌^◌, Bool, true, false, not, ◌==◌, ◌||◌, ◌&&◌, if◌then◌else◌, List, [], ◌∷◌, Option, Some, None, slice_get, bit_and}
 use Rattle.mz_logic.specs.Tree.{Tree, Trees, var, app, none, more}
 use Rattle.mz_logic.specs.declared.binder.Binder.{Binder}

@@ -10,8 +10,6 @@ mod command;
 mod laws;
 mod rows;
 mod running;
-#[cfg(test)]
-mod tests;
 mod unified;
 
 pub use laws::{

@@ -1,21 +1,18 @@
-use Rattle.std.proofs.Common.{inl, inr, ◌≡◌, ◌∙◌, ◌≤◌, ◌++◌, ◌+◌, ap, sym, subst, refl, length, append_assoc, arith, ℕ, List}
+use Rattle.std.proofs.Common.{inl, inr, ◌≡◌, ◌∙◌, ◌≤◌, ◌++◌, ◌+◌, ap, sym, subst, refl, length, append_assoc, arith, ℕ, List, [], ◌∷◌, None}
 use Rattle.std.proofs.lemmas.List.{length-append, append-nil}
 use Rattle.mz_binary.specs.RefusalLine.{refusal_line as refusal_text}
-use Rattle.mz_show.specs.Listing.{IsListing, IsListedUpTo}
-use Rattle.mz_tool.proofs.Listed.{listing-is_yes, listed-is_no, listed-is_listed, prefix-of_answer, room-of_listed, prefix-further, rose-later, whole-prefix}
-use Rattle.mz_tool.proofs.Answered.{some-same}
+use Rattle.mz_tool.proofs.Listed.{listing-is_yes, listed-is_no, listed-is_listed, prefix-of_answer, room-of_listed, prefix-further, rose-later, whole-prefix, listing-of_yes, listed-of_no}
 use Rattle.mz_tool.proofs.show.show.Goals as goal
 
 pub returns-in-Done-clause-done : goal.returns-in-Done-clause-done
 returns-in-Done-clause-done g c = λ told is.
     let listed = c.in-Done.ensures.listing refl in
-    (listed.0, listing-is_yes (g.F.Folder.file c.args.folder.now) c.args.bin_name.now c.in-Bytes.bytes.items c.deref.result.now (c.in-Bytes.ensures.bytes told) c.deref.ensures.value listed.0 listed.1, listed.2)
+    (None, listed.0, listing-is_yes (g.F.Folder.file c.args.folder.now) c.args.bin_name.now c.in-Bytes.bytes.items c.deref.result.now (c.in-Bytes.ensures.bytes told) c.deref.ensures.value listed.0 listed.1, c.in-Bytes.ensures.files told, listed.2)
 
 pub returns-in-Done-clause-no : goal.returns-in-Done-clause-no
 returns-in-Done-clause-no g c = λ told text no is.
-    let P : List ℕ → Type 0 = λ bytes. IsListedUpTo bytes no.2.0 no.2.1 in
-    let same = some-same (g.F.Folder.file c.args.folder.now c.args.bin_name.now) no.0 c.in-Bytes.bytes.items no.1 (c.in-Bytes.ensures.bytes told) in
-    c.in-Done.ensures.stopped no.2.0 no.2.1 (subst P (same ∙ sym c.deref.ensures.value) no.2.2) refl
+    let stopped = listed-of_no (g.F.Folder.file c.args.folder.now) c.args.bin_name.now c.in-Bytes.bytes.items c.deref.result.now (c.in-Bytes.ensures.bytes told) c.deref.ensures.value text no in
+    c.in-Done.ensures.stopped stopped.0 stopped.1 stopped.2 refl
 
 pub returns-in-Done-clause-only_full : goal.returns-in-Done-clause-only_full
 returns-in-Done-clause-only_full g c = λ told clear fits.
@@ -30,10 +27,8 @@ returns-in-Refused-clause-refused g c = λ told is.
     )
 
 pub returns-in-Refused-clause-yes : goal.returns-in-Refused-clause-yes
-returns-in-Refused-clause-yes g c = λ told text yes is.
-    let P : List ℕ → Type 0 = λ bytes. IsListing bytes text in
-    let same = some-same (g.F.Folder.file c.args.folder.now c.args.bin_name.now) yes.0 c.in-Bytes.bytes.items yes.1 (c.in-Bytes.ensures.bytes told) in
-    c.in-Refused.ensures.listed text c.in-Refused.refusal (subst P (same ∙ sym c.deref.ensures.value) yes.2) refl
+returns-in-Refused-clause-yes g c = λ told put text yes is.
+    c.in-Refused.ensures.listed text c.in-Refused.refusal (listing-of_yes (g.F.Folder.file c.args.folder.now) c.args.bin_name.now c.in-Bytes.bytes.items c.deref.result.now (c.in-Bytes.ensures.bytes told) c.deref.ensures.value put text yes) refl
 
 pub returns-in-Refused-clause-out_fault : goal.returns-in-Refused-clause-out_fault
 returns-in-Refused-clause-out_fault g c = λ is. rose-later _ _ _ c.in-Refused.ensures.later (c.report_refusal.ensures.out_fault is)
@@ -41,8 +36,10 @@ returns-in-Refused-clause-out_fault g c = λ is. rose-later _ _ _ c.in-Refused.e
 pub returns-in-Refused-clause-front : goal.returns-in-Refused-clause-front
 returns-in-Refused-clause-front g c = λ told told_out is.
     let listed = c.in-Refused.ensures.refused c.in-Refused.refusal refl in (
+      None,
       listed.0 ++ refusal_text c.in-Refused.refusal,
-      inr (listed-is_no (g.F.Folder.file c.args.folder.now) c.args.bin_name.now c.in-Bytes.bytes.items c.deref.result.now (c.in-Bytes.ensures.bytes told) c.deref.ensures.value listed.0 c.in-Refused.refusal listed.1),
+      inr (refl, listed-is_no (g.F.Folder.file c.args.folder.now) c.args.bin_name.now c.in-Bytes.bytes.items c.deref.result.now (c.in-Bytes.ensures.bytes told) c.deref.ensures.value listed.0 c.in-Refused.refusal listed.1),
+      c.in-Bytes.ensures.files told,
       prefix-further _ _ _ listed.0 (refusal_text c.in-Refused.refusal) (listed.2 told_out) (c.report_refusal.ensures.front told_out is),
     )
 
@@ -55,7 +52,7 @@ returns-in-Refused-clause-memory g c = λ told told_out is.
 pub returns-in-Refused-clause-only_full : goal.returns-in-Refused-clause-only_full
 returns-in-Refused-clause-only_full g c = λ told clear fits.
     let listed = c.in-Refused.ensures.refused c.in-Refused.refusal refl in
-    let whole : length (listed.0 ++ refusal_text c.in-Refused.refusal) ≤ g.O.Sink.room c.args.out.now = fits _ (inr (listed-is_no (g.F.Folder.file c.args.folder.now) c.args.bin_name.now c.in-Bytes.bytes.items c.deref.result.now (c.in-Bytes.ensures.bytes told) c.deref.ensures.value listed.0 c.in-Refused.refusal listed.1)) in
+    let whole : length (listed.0 ++ refusal_text c.in-Refused.refusal) ≤ g.O.Sink.room c.args.out.now = fits None _ (inr (refl, listed-is_no (g.F.Folder.file c.args.folder.now) c.args.bin_name.now c.in-Bytes.bytes.items c.deref.result.now (c.in-Bytes.ensures.bytes told) c.deref.ensures.value listed.0 c.in-Refused.refusal listed.1)) in
     let lengths : length (listed.0 ++ refusal_text c.in-Refused.refusal) ≡ length listed.0 + length (refusal_text c.in-Refused.refusal) = length-append _ _ in
     let rest : g.O.Sink.room c.listing.new.out + length listed.0 ≡ g.O.Sink.room c.args.out.now = listed.3 clear in
     let left : length (refusal_text c.in-Refused.refusal) ≤ g.O.Sink.room c.listing.new.out = omega arith in
@@ -65,7 +62,8 @@ returns-in-Refused-clause-only_full g c = λ told clear fits.
 pub returns-in-Fault-listing-clause-front : goal.returns-in-Fault-listing-clause-front
 returns-in-Fault-listing-clause-front g c = λ told told_out is.
     let listed = c.in-Fault-listing.ensures.prefix (inl refl) in
-    prefix-of_answer (g.F.Folder.file c.args.folder.now) c.args.bin_name.now c.in-Bytes.bytes.items c.deref.result.now (c.in-Bytes.ensures.bytes told) c.deref.ensures.value _ _ listed.0 listed.1 (listed.2 told_out)
+    let front = prefix-of_answer (g.F.Folder.file c.args.folder.now) c.args.bin_name.now c.in-Bytes.bytes.items c.deref.result.now (c.in-Bytes.ensures.bytes told) c.deref.ensures.value _ _ listed.0 listed.1 (listed.2 told_out) in
+    (None, front.0, front.1, c.in-Bytes.ensures.files told, front.2)
 
 pub returns-in-Fault-listing-clause-only_full : goal.returns-in-Fault-listing-clause-only_full
 returns-in-Fault-listing-clause-only_full g c = λ told clear fits.
@@ -79,3 +77,6 @@ returns-clause-memory g c = λ told told_out is.
 pub returns-clause-only_full : goal.returns-clause-only_full
 returns-clause-only_full g c = λ told clear fits.
     c.in-Mem-listing.ensures.only_full clear (room-of_listed (g.F.Folder.file c.args.folder.now) c.args.bin_name.now c.in-Bytes.bytes.items c.deref.result.now (c.in-Bytes.ensures.bytes told) c.deref.ensures.value (g.O.Sink.room c.args.out.now) fits)
+
+pub returns-in-Done-clause-sound : goal.returns-in-Done-clause-sound
+returns-in-Done-clause-sound g c = λ told is. (c.in-Bytes.bytes.items ∷ [], (c.in-Bytes.ensures.bytes told, tt), tt)

@@ -1,4 +1,4 @@
 use Rattle.mz_tool.proofs.verify.verify.Given as goal
 
 abbrev pub ghosts-judge : goal.ghosts-judge
-ghosts-judge g a = record { name = a.blank.name; parts = a.blank.parts }
+ghosts-judge a = record { name = a.blank.name; parts = a.blank.parts }

@@ -6,11 +6,11 @@ use Rattle.mz_sexpr.specs.Number.{first}
 use Rattle.mz_sexpr.specs.declared.rule.U.{U}
 use Rattle.mz_logic.specs.Tree.{none}
 use Rattle.mz_logic.specs.DeclView.{assertion_view}
-use Rattle.mz_logic.specs.View.{trees}
 use Rattle.mz_mmu.specs.Order.{fault}
 use Rattle.mz_mmu.specs.ProofView.{proof_view}
 use Rattle.mz_mmu.specs.Stops.{Stops}
 use Rattle.std.specs.Prelude.{Some}
+use Rattle.mz_type.specs.Claims.{claim_trees}
 use Rattle.mz_type.specs.Parts.{part}
 use Rattle.mz_type.specs.Rules.{dummy_rules, proof_rules, theorem_rules}
 use Rattle.mz_type.specs.Sides.{proved}
@@ -43,10 +43,10 @@ returns-in_err-claim c =
     let B = proof_rules env ctx a.hyps none p (part ps 6) in
     let s = c.in_err-claim.field-0.0 in
     stop_handed_on (theorem_rules env a ds (Some p) ps) c.from_residual-in_err-claim.result s c.from_residual-in_err-claim.ensures.1
-    (stopped_after A _ s (told_holds A c.check_dummies.result c.refuse.result c.in_ok-refuse.field-0 c.refuse.ensures c.in_ok-refuse.was (subst (λ ns. Judges c.check_dummies.result (dummy_rules env ds ns)) (c.parts.ensures ∙ ap (λ ms. parts (first ms)) c.after.ensures) c.check_dummies.ensures)) (stopped_before B _ s (subst (λ cs. Stops s cs) (ap (λ k. proof_rules env k a.hyps (trees c.new-lets.result.items) p (first c.after-2.result)) (c.new-ctx.ensures ∙ ap (λ qs. qs ++ ds) c.as_slice.ensures) ∙ ap (λ ls. proof_rules env ctx a.hyps (trees ls) p (first c.after-2.result)) c.new-lets.ensures.items ∙ ap (λ m. proof_rules env ctx a.hyps none p (first m)) c.after-2.ensures) c.in_err-claim.ensures.proved)))
+    (stopped_after A _ s (told_holds A c.check_dummies.result c.refuse.result c.in_ok-refuse.field-0 c.refuse.ensures c.in_ok-refuse.was (subst (λ ns. Judges c.check_dummies.result (dummy_rules env ds ns)) (c.parts.ensures ∙ ap (λ ms. parts (first ms)) c.after.ensures) c.check_dummies.ensures)) (stopped_before B _ s (subst (λ cs. Stops s cs) (ap (λ k. proof_rules env k a.hyps (claim_trees c.new-lets.result.items) p (first c.after-2.result)) (c.new-ctx.ensures ∙ ap (λ qs. qs ++ ds) c.as_slice.ensures) ∙ ap (λ ls. proof_rules env ctx a.hyps (claim_trees ls) p (first c.after-2.result)) c.new-lets.ensures.items ∙ ap (λ m. proof_rules env ctx a.hyps none p (first m)) c.after-2.ensures) c.in_err-claim.ensures.proved)))
 
-pub returns-then-same_expr : goal.returns-then-same_expr
-returns-then-same_expr c =
+pub returns-then-same_claim : goal.returns-then-same_claim
+returns-then-same_claim c =
     let env = c.args.env.now in
     let ps = c.args.parts.now in
     let a = assertion_view c.args.thm.now in
@@ -55,7 +55,7 @@ returns-then-same_expr c =
     let ctx = a.params ++ ds in
     let A = dummy_rules env ds (parts (part ps 5)) in
     let B = proof_rules env ctx a.hyps none p (part ps 6) in
-    all_hold-both A _ (told_holds A c.check_dummies.result c.refuse.result c.in_ok-refuse.field-0 c.refuse.ensures c.in_ok-refuse.was (subst (λ ns. Judges c.check_dummies.result (dummy_rules env ds ns)) (c.parts.ensures ∙ ap (λ ms. parts (first ms)) c.after.ensures) c.check_dummies.ensures)) (all_hold-both B _ (subst (λ cs. AllHold cs) (ap (λ k. proof_rules env k a.hyps (trees c.new-lets.result.items) p (first c.after-2.result)) (c.new-ctx.ensures ∙ ap (λ qs. qs ++ ds) c.as_slice.ensures) ∙ ap (λ ls. proof_rules env ctx a.hyps (trees ls) p (first c.after-2.result)) c.new-lets.ensures.items ∙ ap (λ m. proof_rules env ctx a.hyps none p (first m)) c.after-2.ensures) c.in_ok-claim.ensures.proved.0) (sym (c.in_ok-claim.ensures.proved.1 ∙ ap (λ ls. proved env a.hyps (trees ls) p) c.new-lets.ensures.items) ∙ c.if-same_expr.ensures.0 refl, tt))
+    all_hold-both A _ (told_holds A c.check_dummies.result c.refuse.result c.in_ok-refuse.field-0 c.refuse.ensures c.in_ok-refuse.was (subst (λ ns. Judges c.check_dummies.result (dummy_rules env ds ns)) (c.parts.ensures ∙ ap (λ ms. parts (first ms)) c.after.ensures) c.check_dummies.ensures)) (all_hold-both B _ (subst (λ cs. AllHold cs) (ap (λ k. proof_rules env k a.hyps (claim_trees c.new-lets.result.items) p (first c.after-2.result)) (c.new-ctx.ensures ∙ ap (λ qs. qs ++ ds) c.as_slice.ensures) ∙ ap (λ ls. proof_rules env ctx a.hyps (claim_trees ls) p (first c.after-2.result)) c.new-lets.ensures.items ∙ ap (λ m. proof_rules env ctx a.hyps none p (first m)) c.after-2.ensures) c.in_ok-claim.ensures.proved.0) (sym (c.in_ok-claim.ensures.proved.1 ∙ ap (λ ls. proved env a.hyps (claim_trees ls) p) c.new-lets.ensures.items) ∙ c.if-same_claim.ensures.0 refl ∙ c.of.ensures, tt))
 
 pub returns : goal.returns
 returns c =
@@ -67,5 +67,5 @@ returns c =
     let ctx = a.params ++ ds in
     let A = dummy_rules env ds (parts (part ps 5)) in
     let B = proof_rules env ctx a.hyps none p (part ps 6) in
-    fails-after A _ c.fault.result (told_holds A c.check_dummies.result c.refuse.result c.in_ok-refuse.field-0 c.refuse.ensures c.in_ok-refuse.was (subst (λ ns. Judges c.check_dummies.result (dummy_rules env ds ns)) (c.parts.ensures ∙ ap (λ ms. parts (first ms)) c.after.ensures) c.check_dummies.ensures)) (fails-after B _ c.fault.result (subst (λ cs. AllHold cs) (ap (λ k. proof_rules env k a.hyps (trees c.new-lets.result.items) p (first c.after-2.result)) (c.new-ctx.ensures ∙ ap (λ qs. qs ++ ds) c.as_slice.ensures) ∙ ap (λ ls. proof_rules env ctx a.hyps (trees ls) p (first c.after-2.result)) c.new-lets.ensures.items ∙ ap (λ m. proof_rules env ctx a.hyps none p (first m)) c.after-2.ensures) c.in_ok-claim.ensures.proved.0)
-    (inl (λ is. true≢false (sym (c.if-same_expr.ensures.1 ((c.in_ok-claim.ensures.proved.1 ∙ ap (λ ls. proved env a.hyps (trees ls) p) c.new-lets.ensures.items) ∙ is))), c.fault.ensures ∙ ap (λ m. fault (place (first m)) U.Conclusion) c.after-else-same_expr.ensures)))
+    fails-after A _ c.fault.result (told_holds A c.check_dummies.result c.refuse.result c.in_ok-refuse.field-0 c.refuse.ensures c.in_ok-refuse.was (subst (λ ns. Judges c.check_dummies.result (dummy_rules env ds ns)) (c.parts.ensures ∙ ap (λ ms. parts (first ms)) c.after.ensures) c.check_dummies.ensures)) (fails-after B _ c.fault.result (subst (λ cs. AllHold cs) (ap (λ k. proof_rules env k a.hyps (claim_trees c.new-lets.result.items) p (first c.after-2.result)) (c.new-ctx.ensures ∙ ap (λ qs. qs ++ ds) c.as_slice.ensures) ∙ ap (λ ls. proof_rules env ctx a.hyps (claim_trees ls) p (first c.after-2.result)) c.new-lets.ensures.items ∙ ap (λ m. proof_rules env ctx a.hyps none p (first m)) c.after-2.ensures) c.in_ok-claim.ensures.proved.0)
+    (inl (λ is. true≢false (sym (c.if-same_claim.ensures.1 ((c.in_ok-claim.ensures.proved.1 ∙ ap (λ ls. proved env a.hyps (claim_trees ls) p) c.new-lets.ensures.items) ∙ is ∙ sym c.of.ensures))), c.fault.ensures ∙ ap (λ m. fault (place (first m)) U.Conclusion) c.after-else-same_claim.ensures)))

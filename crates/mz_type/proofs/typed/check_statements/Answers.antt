@@ -6,16 +6,18 @@ use Rattle.mz_mmu.specs.Statements.{no_names}
 use Rattle.mz_type.specs.Names.{StatementsThere}
 use Rattle.mz_type.specs.Rules.{rules_from, text_rules}
 use Rattle.mz_type.specs.TypedText.{declared, statement_at}
+use Rattle.mz_type.specs.Weight.{weight_after}
 use Rattle.mz_type.proofs.StatementsRead.{statements_there}
 use Rattle.mz_type.proofs.Texts.{rules_are_the_meaning}
-use Rattle.mz_type.proofs.TypedSteps.{AreMarked, marks_are, there_cut, marked_cut, makes_more, rules_step, rules_stop, all_rules, makes_all, length_more}
+use Rattle.mz_type.proofs.TypedSteps.{AreMarked, marks_are, there_cut, marked_cut, weight_cut, makes_more, rules_step, rules_stop, all_rules, makes_all, length_more}
+use Rattle.mz_type.proofs.Written.{few_weigh}
 use Rattle.mz_type.proofs.typed.check_statements.Goals as goal
 
 pub loop-i-init : goal.loop-i-init
 loop-i-init c =
     let ss = c.args.text.now.statements in
     let ns = c.args.text.now.nodes in
-    let top = c.top-left.ensures ∙ c.sexprs.ensures in
+    let top = c.top-left.ensures ∙ c.sexprs-2.ensures in
     record {
       many = ap length c.new-env.ensures;
       there = subst (λ e. StatementsThere e ss) (sym c.new-env.ensures) (statements_there ns ss c.len-i-end.ensures.read);
@@ -23,7 +25,32 @@ loop-i-init c =
       makes = ap (λ e. e ++ declared ss) c.new-env.ensures;
       asked = subst (λ e. Decides (rules_from 1 e ss c.top-left.result) (text_rules ns ss)) (sym c.new-env.ensures)
           (subst (λ m. Decides (rules_from 1 [] ss m) (text_rules ns ss)) (sym top) (decides-whole (text_rules ns ss)));
+      weighs = let all = ap (λ e. weight_after e ss) c.new-env.ensures in omega (arith, all);
     }
+
+pub statement_weight-weight-requires-clause-small : goal.statement_weight-weight-requires-clause-small
+statement_weight-weight-requires-clause-small c =
+    let ss = c.args.text.now.statements in
+    let i = c.loop-i.i in
+    let cut = weight_cut ss i (omega (arith, c.len-i-end.ensures.many, c.loop-i-test.true)) c.loop-i.env in
+    let small = few_weigh c.args.text.now.nodes ss c.len-i-end.ensures.read (omega (arith, c.count-nodes.ensures, ap node_count c.sexprs.ensures, c.count-nodes.type_inv)) in
+    omega (arith, cut, small, c.loop-i.invariant.weighs)
+
+pub overflow_add-weight : goal.overflow_add-weight
+overflow_add-weight c =
+    let ss = c.args.text.now.statements in
+    let i = c.loop-i.i in
+    let cut = weight_cut ss i (omega (arith, c.len-i-end.ensures.many, c.loop-i-test.true)) c.loop-i.env in
+    let small = few_weigh c.args.text.now.nodes ss c.len-i-end.ensures.read (omega (arith, c.count-nodes.ensures, ap node_count c.sexprs.ensures, c.count-nodes.type_inv)) in
+    omega (arith, cut, small, c.loop-i.invariant.weighs, c.statement_weight-weight.ensures)
+
+pub declare_statement-requires-clause-small : goal.declare_statement-requires-clause-small
+declare_statement-requires-clause-small c =
+    let ss = c.args.text.now.statements in
+    let i = c.loop-i.i in
+    let cut = weight_cut ss i (omega (arith, c.len-i-end.ensures.many, c.loop-i-test.true)) c.loop-i.env in
+    let small = few_weigh c.args.text.now.nodes ss c.len-i-end.ensures.read (omega (arith, c.count-nodes.ensures, ap node_count c.sexprs.ensures, c.count-nodes.type_inv)) in
+    omega (arith, cut, small, c.loop-i.invariant.weighs)
 
 pub declare_statement-requires-clause-there : goal.declare_statement-requires-clause-there
 declare_statement-requires-clause-there c =
@@ -60,6 +87,7 @@ loop-i-preserved c =
       makes = makes_more ss i below env later more c.loop-i.invariant.makes;
       asked = subst (λ k. Decides (rules_from (suc k) later (drop (i + 1) ss) c.rest-left.result) whole) (sym (add-one i))
           (rules_step ss i below (suc i) env later left c.rest-left.result whole more c.rest-left.ensures c.in_default.ensures.judged c.loop-i.invariant.asked);
+      weighs = omega (arith, weight_cut ss i below env, ap (λ e. weight_after e (drop (i + 1) ss)) more, c.statement_weight-weight.ensures, c.loop-i.invariant.weighs);
     }
 
 pub returns-clause-typed : goal.returns-clause-typed
@@ -71,6 +99,12 @@ returns-clause-typed c =
     record {
       read = c.len-i-end.ensures.read;
       legal = (rules_are_the_meaning ns ss c.len-i-end.ensures.read).0 (all_rules (suc i) ss i c.loop-i.env c.loop-i.left (text_rules ns ss) end c.loop-i.invariant.asked);
-      makes = makes_all ss i c.loop-i.env end c.loop-i.invariant.makes;
-      few = omega (arith, c.count-nodes.ensures, ap node_count c.sexprs-2.ensures, c.count-nodes.type_inv);
+      makes = c.into_env.ensures ∙ makes_all ss i c.loop-i.env end c.loop-i.invariant.makes;
+      few = omega (arith, c.count-nodes.ensures, ap node_count c.sexprs.ensures, c.count-nodes.type_inv);
     }
+
+pub returns-clause-small : goal.returns-clause-small
+returns-clause-small c =
+    let ss = c.args.text.now.statements in
+    let small = few_weigh c.args.text.now.nodes ss c.len-i-end.ensures.read (omega (arith, c.count-nodes.ensures, ap node_count c.sexprs.ensures, c.count-nodes.type_inv)) in
+    omega (arith, small, c.loop-i.invariant.weighs)

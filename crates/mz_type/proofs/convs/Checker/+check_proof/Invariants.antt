@@ -2,9 +2,9 @@ use Rattle.std.proofs.Common.{◌≡◌, ◌≤◌, ◌+◌, ◌*◌, drop, leng
 use Rattle.mz_checks.proofs.InOrder.{Decides}
 use Rattle.mz_logic.specs.Declaration.{signatures, assertions}
 use Rattle.mz_logic.specs.Tree.{listed}
-use Rattle.mz_logic.specs.View.{trees}
 use Rattle.mz_mmu.specs.ProofCode.{proof_steps, proofs_steps}
 use Rattle.mz_mmu.specs.ProofView.{proof_view, proofs_view}
+use Rattle.mz_type.specs.Claims.{claim_trees}
 use Rattle.mz_type.specs.Names.{ProofsThere}
 use Rattle.mz_type.specs.Rules.{proofs_rules}
 use Rattle.mz_type.specs.Sides.{all_proved}
@@ -28,10 +28,10 @@ decreases-check_let l = 3 * (proof_steps (proof_view l.stated.now) + proof_steps
 
 abbrev pub invariant-check_proofs-loop-proof : goal.invariant-check_proofs-loop-proof
 invariant-check_proofs-loop-proof l = record {
-  decides : Decides (proofs_rules l.self.env.now l.self.ctx.now l.hyps (trees l.fn.lets.items) (proofs_view (drop l.proof-index l.proof-items)) l.left)
-      (proofs_rules l.self.env.now l.self.ctx.now l.hyps (trees l.fn.lets.items) l.proofs l.nodes);
-  builds : Builds l.claims (all_proved l.self.env.now l.hyps (trees l.fn.lets.items) (proofs_view (drop l.proof-index l.proof-items)))
-      (all_proved l.self.env.now l.hyps (trees l.fn.lets.items) l.proofs);
+  decides : Decides (proofs_rules l.self.env.now l.self.ctx.now l.hyps (claim_trees l.fn.lets.items) (proofs_view (drop l.proof-index l.proof-items)) l.left)
+      (proofs_rules l.self.env.now l.self.ctx.now l.hyps (claim_trees l.fn.lets.items) l.proofs l.nodes);
+  builds : Builds (claim_trees l.claims.items) (all_proved l.self.env.now l.hyps (claim_trees l.fn.lets.items) (proofs_view (drop l.proof-index l.proof-items)))
+      (all_proved l.self.env.now l.hyps (claim_trees l.fn.lets.items) l.proofs);
   there : ProofsThere (length (signatures l.self.env.now)) (length l.self.ctx.now) (length (assertions l.self.env.now)) (length (listed l.hyps)) (length l.lets.items)
       (proofs_view (drop l.proof-index l.proof-items));
   same : l.lets.items ≡ l.fn.lets.items;

@@ -82,8 +82,8 @@ returns-then-not-are_new c =
     (subst (λ ns. Judges c.check_variables.result (variable_rules ctx c.args.vars.now ns c.dummies-dummies.result.now)) c.parts_of-2.ensures c.check_variables.ensures)))
     c.fault-then-not-are_new.ensures (λ new. true≢false (sym (c.if-not-are_new.ensures.1 new)))
 
-pub returns-then-fits : goal.returns-then-fits
-returns-then-fits c =
+pub returns-then-goes_from_body : goal.returns-then-goes_from_body
+returns-then-goes_from_body c =
     let sigs = signatures c.args.self.now.env.now in
     let ctx = c.args.self.now.ctx.now in
     let d = term_view c.args.term.now in
@@ -98,10 +98,10 @@ returns-then-fits c =
     (told_holds (variable_rules ctx c.args.vars.now (parts (part (parts n) 3)) (dummies_of d.form)) c.check_variables.result c.refuse-2.result c.in_ok-refuse-2.field-0 c.refuse-2.ensures c.in_ok-refuse-2.was
     (subst (λ ps. Judges c.check_variables.result (variable_rules ctx c.args.vars.now (parts (part (parts n) 3)) ps)) c.dummies-dummies.ensures
     (subst (λ ns. Judges c.check_variables.result (variable_rules ctx c.args.vars.now ns c.dummies-dummies.result.now)) c.parts_of-2.ensures c.check_variables.ensures)))
-    (c.if-not-are_new.ensures.0 refl) (c.in_ok-fits.ensures.0 c.if-fits.true ∙ ap (instance (followed_by es (variables c.args.vars.now))) (sym (step.body_by d.form _ c.in-Some.ensures)))
+    (c.if-not-are_new.ensures.0 refl) (c.if-goes_from_body.ensures.0 refl ∙ ap (instance (followed_by es (variables c.args.vars.now))) (sym (step.body_by d.form _ c.in-Some.ensures)))
 
-pub returns-else-fits : goal.returns-else-fits
-returns-else-fits c =
+pub returns-else-goes_from_body : goal.returns-else-goes_from_body
+returns-else-goes_from_body c =
     let sigs = signatures c.args.self.now.env.now in
     let ctx = c.args.self.now.ctx.now in
     let d = term_view c.args.term.now in
@@ -110,12 +110,12 @@ returns-else-fits c =
     step.body_differs sigs ctx d es c.args.vars.now (left (conversion c.args.conv.now)) n
     (step.defined_by d.form _ c.in-Some.ensures)
     (sym c.len.ensures ∙ c.if-len-params.false ∙ ap length c.as_slice-params.ensures, ap length (sym c.as_slice.ensures) ∙ c.if-as_slice-dummies.false ∙ ap length c.dummies-dummies.ensures)
-    c.fault-else-fits.result
+    c.fault-else-goes_from_body.result
     (told_holds (operand_rules sigs ctx es (parts (part (parts n) 2)) d.signature.params) c.check_operands.result c.refuse.result c.in_ok-refuse.field-0 c.refuse.ensures c.in_ok-refuse.was
     (subst (λ ps. Judges c.check_operands.result (operand_rules sigs ctx es (parts (part (parts n) 2)) ps)) c.as_slice-params.ensures
     (subst (λ ns. Judges c.check_operands.result (operand_rules sigs ctx es ns c.as_slice-params.result.now)) c.parts_of.ensures c.check_operands.ensures)))
     (told_holds (variable_rules ctx c.args.vars.now (parts (part (parts n) 3)) (dummies_of d.form)) c.check_variables.result c.refuse-2.result c.in_ok-refuse-2.field-0 c.refuse-2.ensures c.in_ok-refuse-2.was
     (subst (λ ps. Judges c.check_variables.result (variable_rules ctx c.args.vars.now (parts (part (parts n) 3)) ps)) c.dummies-dummies.ensures
     (subst (λ ns. Judges c.check_variables.result (variable_rules ctx c.args.vars.now ns c.dummies-dummies.result.now)) c.parts_of-2.ensures c.check_variables.ensures)))
-    (c.if-not-are_new.ensures.0 refl) c.fault-else-fits.ensures
-    (λ is. true≢false (sym (c.in_ok-fits.ensures.1 (is ∙ ap (instance (followed_by es (variables c.args.vars.now))) (step.body_by d.form _ c.in-Some.ensures))) ∙ c.if-fits.false))
+    (c.if-not-are_new.ensures.0 refl) c.fault-else-goes_from_body.ensures
+    (λ is. true≢false (sym (c.if-goes_from_body.ensures.1 (is ∙ ap (instance (followed_by es (variables c.args.vars.now))) (step.body_by d.form _ c.in-Some.ensures)))))

@@ -1,0 +1,48 @@
+-- What is promised of a written file beside a specification.
+use Rattle.std.specs.Prelude.{◌++◌, ℕ, List, length}
+use Rattle.std.specs.List.{range_with_len}
+use Rattle.mz_logic.specs.Tree.{Tree}
+use Rattle.mz_logic.specs.Signature.{Signature}
+use Rattle.mz_logic.specs.Declaration.{defined, Declaration}
+use Rattle.mz_logic.specs.Legality.{InRange, IsLegalEnv}
+use Rattle.mz_logic.specs.LegalLists.{Statement, Legal, declarations}
+use Rattle.mz_logic.specs.declared.binder.Binder.{Binder}
+use Rattle.mz_layout.specs.Normal.{Parts, file_of}
+use Rattle.mz_layout.specs.Standing.{Fit}
+use Rattle.mz_spec.specs.Spec.{SpecOf}
+use Rattle.mz_match.specs.Match.{publics, Agrees}
+use Rattle.mz_match.specs.Trees.{SameBody}
+use Rattle.mz_match.specs.Verdict.{Accepts}
+use Rattle.mz_steps.specs.Sameness.{IsSameForm}
+use Rattle.mz_steps.specs.SameLists.{IsSameList}
+use Rattle.mz_streams.specs.SpelledLists.{list_spelled, BodiesInside}
+use Rattle.mz_writing.specs.Writing.{IsWrittenAs}
+
+-- ---- lists that are the same
+
+-- bodies that are one but for the numbers of their dummies are the same as a match compares them, each term being its
+-- own partner
+abbrev pub SameFormsHaveSameBodies : Type 0
+SameFormsHaveSameBodies = (sigs : List Signature) (params dummies dummies' : List Binder) (e e' : Tree) → IsSameForm params (defined dummies e) (defined dummies' e')
+    → InRange sigs (length (params ++ dummies)) e → InRange sigs (length (params ++ dummies')) e'
+    → SameBody (range_with_len 0 (length sigs)) (length params) dummies dummies' e e'
+
+-- what agrees with the public statements of a list agrees with those of one that is the same
+abbrev pub SameListsAgree : Type 0
+SameListsAgree = (ds : List Declaration) (ts ss : List Statement) → IsSameList ts ss → BodiesInside ss → Agrees ds (publics ts) → Agrees ds (publics ss)
+
+-- whose bodies are inside where it is legal
+abbrev pub LegalBodiesAreInside : Type 0
+LegalBodiesAreInside = (ss : List Statement) → IsLegalEnv (declarations ss) → BodiesInside ss
+
+-- so what agrees with a legal list agrees with what its compiled file spells
+abbrev pub SpelledListsAgree : Type 0
+SpelledListsAgree = (ds : List Declaration) (ss : List Statement) → IsLegalEnv (declarations ss) → Agrees ds (publics ss) → Agrees ds (publics (list_spelled ss))
+
+-- ---- files
+
+-- a legal text that is written within the format's bounds is accepted against each specification with which its public
+-- statements agree
+abbrev pub WrittenFilesAreAccepted : Type 0
+WrittenFilesAreAccepted = (p : Parts) (text made : List Statement) → Fit p → Legal text → IsWrittenAs p text made
+    → (spec : List ℕ) (ds : List Declaration) → SpecOf spec ds → Agrees ds (publics text) → Accepts spec (file_of p)

@@ -1,0 +1,4 @@
+mod Limiting
+mod Stated
+mod Lengths
+mod Following

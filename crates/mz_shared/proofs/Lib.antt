@@ -1,0 +1,5 @@
+pub mod NoMore
+pub mod Making
+pub mod Owned
+mod Entering
+mod Bits

@@ -1,0 +1,4 @@
+mod Telling
+mod Marking
+mod Going
+mod Starting

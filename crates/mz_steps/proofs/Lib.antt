@@ -1,0 +1,17 @@
+pub mod Naming
+pub mod Passing
+pub mod RowsRun
+pub mod Rightness
+pub mod FewBound
+pub mod SameTables
+pub mod Unfolds
+pub mod Running
+pub mod Ending
+pub mod Bytes
+pub mod Starting
+pub mod WholeBodies
+pub mod Joining
+pub mod SameLists
+pub mod Allowed
+pub mod Reaching
+pub mod Theorems

@@ -1,0 +1,9 @@
+pub mod Works
+pub mod Steps
+pub mod Sameness
+pub mod SameLists
+pub mod Endings
+pub mod Laws
+pub mod Growing
+pub mod Reaching
+pub mod Bodies

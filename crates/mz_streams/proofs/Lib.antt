@@ -1,0 +1,12 @@
+pub mod Forgetting
+pub mod Marking
+pub mod Growing
+pub mod Writes
+pub mod Own
+pub mod StreamBytes
+pub mod Texts
+pub mod SameForms
+pub mod Short
+pub mod OneBuilding
+pub mod SpelledLists
+pub mod RowsSpell

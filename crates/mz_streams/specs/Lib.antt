@@ -1,0 +1,6 @@
+pub mod Writing
+pub mod SpellsBefore
+pub mod Sharing
+pub mod SpelledLists
+pub mod WrittenRows
+pub mod Laws

@@ -1,0 +1,114 @@
+// The files that a command reads.
+ghost use Rattle.std.specs.Prelude.{◌≡◌, ◌∷◌, [], length};
+ghost use Rattle.mz_io.specs.Outside.{Rose, SameFiles};
+ghost use Rattle.mz_tool.specs.Request.{Hold, AreThere, BeginsLonger, HasLonger};
+ghost use Rattle.mz_tool.specs.Inputs.{names_of, AreWithin, IfRead, OnLonger, OnReadFault};
+
+use mz_io::{Folder, Read, read_bounded};
+use std::alloc::Global;
+
+/// The names of the files that a command reads, in order.
+#[derive(Clone, Copy)]
+pub enum Inputs<'a> {
+    One(&'a str),
+    Two(&'a str, &'a str),
+}
+
+/// What these files hold.
+#[derive(Drop)]
+pub enum Contents {
+    One(Vec<u8>),
+    Two(Vec<u8>, Vec<u8>),
+}
+
+/// What came of the files.
+#[derive(Drop)]
+pub enum ReadAll {
+    /// All of them, whole.
+    Contents(Contents),
+    /// One has more bytes than the limit.
+    TooLong,
+    /// A call on the folder failed, and was counted there.
+    Fault,
+    /// No memory was left.
+    Mem,
+}
+
+/// Reads one file whole.
+fn read_one<F: Folder>(alloc: Global, limit: u64, name: &str, folder: &mut F) -> ReadAll
+    ensures contents { F.told → IfRead result (λ contents. Hold (F.file folder.old) (name.now ∷ []) contents) }
+    ensures count { IfRead result (λ contents. length contents ≡ 1) }
+    ensures within { IfRead result (λ contents. AreWithin limit contents) }
+    ensures too_long { F.told → OnLonger result (HasLonger limit (F.file folder.old) (name.now ∷ [])) }
+    ensures fault { OnReadFault result (Rose (F.faults folder.old) (F.faults folder.new)) }
+    ensures files { F.told → SameFiles (F.file folder.old) (F.file folder.new) }
+    ensures put_faults { F.put_faults folder.new ≡ F.put_faults folder.old }
+    ensures stays_clear { F.is_clear folder.old → F.is_clear folder.new }
+    ensures rooms { F.is_clear folder.old → F.rooms folder.new ≡ F.rooms folder.old }
+    ensures only_missing { F.is_clear folder.old → AreThere (F.file folder.old) (name.now ∷ []) → F.faults folder.new ≡ F.faults folder.old }
+    ensures unread { F.told → F.is_clear folder.old → BeginsLonger limit (F.file folder.old) (name.now ∷ []) → F.faults folder.new ≡ F.faults folder.old }
+{
+    match read_bounded(alloc, folder, name, limit) {
+        Read::Bytes(bytes) => ReadAll::Contents(Contents::One(bytes)),
+        Read::TooLong => ReadAll::TooLong,
+        Read::Fault => ReadAll::Fault,
+        Read::Mem => ReadAll::Mem,
+    }
+}
+
+/// Reads two files whole. After a first one that isn't read the second isn't looked for.
+fn read_two<F: Folder>(
+    alloc: Global,
+    limit: u64,
+    first: &str,
+    second: &str,
+    folder: &mut F,
+) -> ReadAll
+    ensures contents { F.told → IfRead result (λ contents. Hold (F.file folder.old) (first.now ∷ second.now ∷ []) contents) }
+    ensures count { IfRead result (λ contents. length contents ≡ 2) }
+    ensures within { IfRead result (λ contents. AreWithin limit contents) }
+    ensures too_long { F.told → OnLonger result (HasLonger limit (F.file folder.old) (first.now ∷ second.now ∷ [])) }
+    ensures fault { OnReadFault result (Rose (F.faults folder.old) (F.faults folder.new)) }
+    ensures files { F.told → SameFiles (F.file folder.old) (F.file folder.new) }
+    ensures put_faults { F.put_faults folder.new ≡ F.put_faults folder.old }
+    ensures stays_clear { F.is_clear folder.old → F.is_clear folder.new }
+    ensures rooms { F.is_clear folder.old → F.rooms folder.new ≡ F.rooms folder.old }
+    ensures only_missing { F.is_clear folder.old → AreThere (F.file folder.old) (first.now ∷ second.now ∷ []) → F.faults folder.new ≡ F.faults folder.old }
+    ensures unread { F.told → F.is_clear folder.old → BeginsLonger limit (F.file folder.old) (first.now ∷ second.now ∷ []) → F.faults folder.new ≡ F.faults folder.old }
+{
+    let bytes = match read_bounded(alloc, folder, first, limit) {
+        Read::Bytes(bytes) => bytes,
+        Read::TooLong => return ReadAll::TooLong,
+        Read::Fault => return ReadAll::Fault,
+        Read::Mem => return ReadAll::Mem,
+    };
+    match read_bounded(alloc, folder, second, limit) {
+        Read::Bytes(more) => ReadAll::Contents(Contents::Two(bytes, more)),
+        Read::TooLong => ReadAll::TooLong,
+        Read::Fault => ReadAll::Fault,
+        Read::Mem => ReadAll::Mem,
+    }
+}
+
+impl<'a> Inputs<'a> {
+    /// Reads them, whole, each of at most `limit` bytes. After one that isn't read no further one is
+    /// looked for.
+    pub fn read<F: Folder>(self, alloc: Global, limit: u64, folder: &mut F) -> ReadAll
+        ensures contents { F.told → IfRead result (λ contents. Hold (F.file folder.old) (names_of self.entry) contents) }
+        ensures count { IfRead result (λ contents. length contents ≡ length (names_of self.entry)) }
+        ensures within { IfRead result (λ contents. AreWithin limit contents) }
+        ensures too_long { F.told → OnLonger result (HasLonger limit (F.file folder.old) (names_of self.entry)) }
+        ensures fault { OnReadFault result (Rose (F.faults folder.old) (F.faults folder.new)) }
+        ensures files { F.told → SameFiles (F.file folder.old) (F.file folder.new) }
+        ensures put_faults { F.put_faults folder.new ≡ F.put_faults folder.old }
+        ensures stays_clear { F.is_clear folder.old → F.is_clear folder.new }
+        ensures rooms { F.is_clear folder.old → F.rooms folder.new ≡ F.rooms folder.old }
+        ensures only_missing { F.is_clear folder.old → AreThere (F.file folder.old) (names_of self.entry) → F.faults folder.new ≡ F.faults folder.old }
+        ensures unread { F.told → F.is_clear folder.old → BeginsLonger limit (F.file folder.old) (names_of self.entry) → F.faults folder.new ≡ F.faults folder.old }
+    {
+        match self {
+            Inputs::One(name) => read_one(alloc, limit, name, folder),
+            Inputs::Two(first, second) => read_two(alloc, limit, first, second, folder),
+        }
+    }
+}

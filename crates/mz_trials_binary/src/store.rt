@@ -1,0 +1,411 @@
+ghost use Rattle.std.specs.Prelude.{ℕ, ◌≡◌, ◌<◌, ◌∷◌, [], IsTrue, length, true, false};
+ghost use Rattle.mz_logic.specs.Words.{BitsRight, signatures_of, word_bound, word_sort};
+ghost use Rattle.mz_logic.specs.Sorts.{IsBoundVar};
+ghost use Rattle.mz_store.specs.Sharing.{IsIn, AreIn, sort_of, tree_of, trees_of, IsOver, CanTake};
+
+use mz_logic::{SortMods, Terms, Word};
+use mz_store::{DepsMode, Id, Store};
+use std::alloc::{AllocError, Global};
+use std::marker::Model;
+use std::process::Abort;
+use std::test::Fail;
+
+const IM: u32 = 0;
+
+const ALL: u32 = 1;
+
+const LAM: u32 = 2;
+
+/// The sorts wff and nat, and the terms `im (a b: wff): wff`, `all {x: nat} (p: wff x): wff` and
+/// `lam {x: nat} (p: wff x): nat x`.
+#[derive(Drop)]
+struct Sample;
+
+impl Terms for Sample {
+    ghost all_sorts = { λ _. record { 0 = 4 } ∷ record { 0 = 0 } ∷ [] };
+
+    ghost all_terms = { λ _.
+        record { params = record { 0 = 0 } ∷ record { 0 = 0 } ∷ []; result = record { 0 = 0 }; has_body = false }
+        ∷ record { params = record { 0 = 0x8100_0000_0000_0001 } ∷ record { 0 = 1 } ∷ []; result = record { 0 = 0 }; has_body = false }
+        ∷ record { params = record { 0 = 0x8100_0000_0000_0001 } ∷ record { 0 = 1 } ∷ []; result = record { 0 = 0x0100_0000_0000_0001 }; has_body = false }
+        ∷ [] };
+
+    fn sorts(&self) -> u32 {
+        2
+    }
+
+    fn mods(&self, s: u32) -> SortMods {
+        SortMods(if s == 0 { SortMods::PROVABLE } else { 0 })
+    }
+
+    fn terms(&self) -> u32 {
+        3
+    }
+
+    fn arity(&self, _: u32) -> u32 {
+        2
+    }
+
+    fn param(&self, t: u32, i: u32) -> Word {
+        Word(match (t, i) {
+            (0, _) => 0,
+            (_, 0) => 0x8100_0000_0000_0001,
+            _ => 1,
+        })
+    }
+
+    fn result(&self, t: u32) -> Word {
+        Word(if t == LAM { 0x0100_0000_0000_0001 } else { 0 })
+    }
+
+    fn has_body(&self, _: u32) -> bool {
+        false
+    }
+}
+
+/// A store over a table of terms, whose calls test what the store's calls ask.
+#[derive(Drop)]
+struct Bench<T: Terms> {
+    terms: T,
+    store: Store,
+}
+
+impl<T: Terms> Model for Bench<T> {
+    ghost use Rattle.mz_logic.specs.Words.{signatures_of};
+    ghost use Rattle.mz_store.specs.Sharing.{Sharing, IsOver};
+    ghost use Rattle.mz_store.specs.Codes.{sharing_code};
+
+    ghost Value = { Sharing };
+
+    ghost coded = { sharing_code };
+
+    ghost view = { λ b. b.store };
+
+    ghost invariant = { λ b. IsOver (signatures_of (T.all_terms b.terms)) b.store };
+}
+
+#[derive(Debug, Drop)]
+enum Fault {
+    Memory,
+    Unfit,
+}
+
+impl<T: Terms> Bench<T> {
+    fn new(alloc: Global, terms: T) -> Bench<T> {
+        Bench {
+            terms,
+            store: Store::new(alloc),
+        }
+    }
+
+    fn begin(&mut self, params: &[Word], mode: DepsMode) -> Result<(), AllocError>
+        requires { BitsRight params.now }
+    {
+        self.store.begin(params, mode)
+    }
+
+    fn dummy(&mut self, sort: u32) -> Result<Id, Fault> {
+        if self.store.bound_count() >= 55 {
+            return Err(Fault::Unfit);
+        }
+        self.store.dummy(sort).map_err(|_| Fault::Memory)
+    }
+
+    fn app(&mut self, t: u32, args: &[Id]) -> Result<Id, Fault> {
+        if !can_take(&self.store, &self.terms, t, args) {
+            return Err(Fault::Unfit);
+        }
+        self.store
+            .app(&self.terms, t, args)
+            .map_err(|_| Fault::Memory)
+    }
+
+    /// What the store says of an expression that it has.
+    fn told(&self, id: Id) -> Option<Told> {
+        if id.0 as usize >= self.store.len() {
+            return None;
+        }
+        Some(Told {
+            sort: self.store.sort_of(id),
+            bound: self.store.is_bound(id),
+            deps: self.store.deps(id),
+            head: self.store.head(id),
+        })
+    }
+
+    fn same(&self, a: Id, b: Id) -> Option<bool> {
+        let many = self.store.len();
+        if a.0 as usize >= many || b.0 as usize >= many {
+            return None;
+        }
+        Some(self.store.same(a, b))
+    }
+
+    fn has_operands(&self, id: Id, operands: &[Id]) -> bool {
+        (id.0 as usize) < self.store.len() && self.store.args(id) == operands
+    }
+}
+
+/// An expression's sort, whether it is a bound variable, its word and its head.
+#[derive(Clone, Copy, PartialEq, Eq, Debug)]
+struct Told {
+    sort: u32,
+    bound: bool,
+    deps: u64,
+    head: Option<u32>,
+}
+
+/// Whether the term may be put over these operands.
+fn can_take<T: Terms>(store: &Store, terms: &T, t: u32, args: &[Id]) -> bool
+    requires { IsOver (signatures_of (T.all_terms terms.now)) store.now }
+    ensures { IsTrue result → AreIn store.now args.now × CanTake (T.all_terms terms.now) store.now.context t (trees_of store.now args.now) }
+{
+    if t >= terms.terms() || terms.arity(t) as usize != args.len() {
+        return false;
+    }
+    for i in 0..args.len() {
+        if !is_fit(store, terms.param(t, i as u32), args[i]) {
+            return false;
+        }
+    }
+    true
+}
+
+/// Whether the store has the operand, and it fits the parameter.
+fn is_fit(store: &Store, param: Word, arg: Id) -> bool
+    ensures { IsTrue result → IsIn store.now arg.0 × (sort_of store.now arg.0 ≡ word_sort param) × (word_bound param ≡ true → IsBoundVar store.now.context (tree_of store.now arg.0)) }
+{
+    if arg.0 as usize >= store.len() || store.sort_of(arg) != param.sort() {
+        return false;
+    }
+    !param.bound() || store.is_bound(arg)
+}
+
+/// `{x y: nat} (p: wff x) (q: wff x y) (r: wff)`.
+const PARAMS: [Word; 5] = [
+    Word(0x8100_0000_0000_0001),
+    Word(0x8100_0000_0000_0002),
+    Word(1),
+    Word(3),
+    Word(0),
+];
+
+/// What is built over them: a term with two operands, its sort, all its variables and the free ones.
+const BUILT: &[(u32, u64, u64, u32, u64, u64, &str)] = &[
+    (IM, 2, 3, 0, 3, 3, "5: im p q"),
+    (ALL, 0, 2, 0, 1, 0, "6: all x p, whose x is not free"),
+    (ALL, 1, 2, 0, 3, 1, "7: all y p"),
+    (ALL, 0, 3, 0, 3, 2, "8: all x q"),
+    (LAM, 0, 2, 1, 1, 1, "9: lam x p, whose result depends on x"),
+    (LAM, 1, 2, 1, 3, 3, "10: lam y p"),
+    (LAM, 1, 4, 1, 2, 2, "11: lam y r"),
+    (ALL, 1, 4, 0, 2, 0, "12: all y r"),
+    (IM, 5, 7, 0, 3, 3, "13: im (im p q) (all y p)"),
+    (ALL, 0, 13, 0, 3, 2, "14: all x (13)"),
+    (ALL, 1, 14, 0, 3, 0, "15: all y (14)"),
+];
+
+/// The parameters' sorts, boundness and words.
+const ENTERED: &[(u32, bool, u64)] = &[
+    (1, true, 1),
+    (1, true, 2),
+    (0, false, 1),
+    (0, false, 3),
+    (0, false, 0),
+];
+
+/// Tests that the store has the parameters, and the first of what is built over them.
+fn check_built(rt: &impl Abort, bench: &Bench<Sample>, mode: DepsMode, many: usize) {
+    assert_eq!(rt; bench.store.len().saturating_sub(5), many, "how many");
+    assert_eq!(rt; bench.store.bound_count(), 2, "bound variables");
+    for (i, (sort, bound, deps)) in ENTERED.iter().enumerate() {
+        let told = Told {
+            sort: *sort,
+            bound: *bound,
+            deps: *deps,
+            head: None,
+        };
+        assert_eq!(rt; bench.told(Id(i as u64)), Some(told), "variable {i}");
+        assert!(rt;
+            bench.has_operands(Id(i as u64), &[]),
+            "operands of variable {i}"
+        );
+    }
+    for (i, (term, a, b, sort, all, free, what)) in BUILT.iter().enumerate() {
+        if i >= many {
+            break;
+        }
+        let deps = match mode {
+            DepsMode::All => *all,
+            DepsMode::Free => *free,
+        };
+        let told = Told {
+            sort: *sort,
+            bound: false,
+            deps,
+            head: Some(*term),
+        };
+        let id = Id(5 + i as u64);
+        assert_eq!(rt; bench.told(id), Some(told), "{what}");
+        assert!(rt;
+            bench.has_operands(id, &[Id(*a), Id(*b)]),
+            "operands of {what}"
+        );
+    }
+}
+
+/// Builds all of it, and tests after each growth that was refused that the store is as before.
+fn build_all(rt: &impl Abort, alloc: Global, mode: DepsMode) -> Result<(), Fail> {
+    let mut bench = Bench::new(alloc, Sample);
+    if bench.begin(&PARAMS, mode).is_err() {
+        assert_eq!(rt; bench.store.len(), 0, "empty after a refused begin");
+        assert_eq!(rt;
+            bench.store.bound_count(),
+            0,
+            "no variables after a refused begin"
+        );
+        bench.begin(&PARAMS, mode)?;
+    }
+    for (i, (term, a, b, _, _, _, what)) in BUILT.iter().enumerate() {
+        let operands = [Id(*a), Id(*b)];
+        let first = match bench.app(*term, &operands) {
+            Ok(id) => id,
+            Err(Fault::Memory) => {
+                check_built(rt, &bench, mode, i);
+                bench.app(*term, &operands)?
+            }
+            Err(fault) => return Err(fault.into()),
+        };
+        assert_eq!(rt; first, Id(5 + i as u64), "the id of {what}");
+        check_built(rt, &bench, mode, i + 1);
+    }
+    for (i, (term, a, b, _, _, _, what)) in BUILT.iter().enumerate() {
+        let operands = [Id(*a), Id(*b)];
+        let again = match bench.app(*term, &operands) {
+            Ok(id) => id,
+            Err(Fault::Memory) => bench.app(*term, &operands)?,
+            Err(fault) => return Err(fault.into()),
+        };
+        assert_eq!(rt; again, Id(5 + i as u64), "again {what}");
+    }
+    check_built(rt, &bench, mode, BUILT.len());
+    Ok(())
+}
+
+#[test]
+fn all_variables(rt: HostRuntime) -> Result<(), Fail> {
+    build_all(&rt, rt.alloc(), DepsMode::All)
+}
+
+#[test]
+fn free_variables(rt: HostRuntime) -> Result<(), Fail> {
+    build_all(&rt, rt.alloc(), DepsMode::Free)
+}
+
+/// A tree of 2^71 - 1 nodes takes 70 ids beside that of its leaves, and built a second time it is
+/// the same.
+#[test]
+fn more_nodes_than_numbers(rt: HostRuntime) -> Result<(), Fail> {
+    let mut bench = Bench::new(rt.alloc(), Sample);
+    bench.begin(&[Word(0), Word(0)], DepsMode::All)?;
+    let mut tops = [Id(0), Id(0), Id(1)];
+    for _ in 0..70 {
+        for top in &mut tops {
+            *top = bench.app(IM, &[*top, *top])?;
+        }
+    }
+    let [first, second, other] = tops;
+    assert_eq!(rt; bench.store.len(), 142, "two leaves, and 70 ids over each");
+    assert_eq!(rt; bench.same(first, second), Some(true), "built twice");
+    assert_eq!(rt; bench.same(first, other), Some(false), "over another leaf");
+    Ok(())
+}
+
+/// Trees that differ in one place, in the order of operands, or in the head.
+#[test]
+fn different_trees(rt: HostRuntime) -> Result<(), Fail> {
+    let mut bench = Bench::new(rt.alloc(), Sample);
+    bench.begin(&PARAMS, DepsMode::All)?;
+    let forward = bench.app(IM, &[Id(2), Id(3)])?;
+    let back = bench.app(IM, &[Id(3), Id(2)])?;
+    let bound = bench.app(ALL, &[Id(0), Id(2)])?;
+    let lambda = bench.app(LAM, &[Id(0), Id(2)])?;
+    assert_eq!(rt;
+        bench.same(forward, back),
+        Some(false),
+        "operands in another order"
+    );
+    assert_eq!(rt; bench.same(bound, lambda), Some(false), "another head");
+    assert_eq!(rt; bench.same(back, back), Some(true), "itself");
+    assert!(rt;
+        matches!(bench.app(ALL, &[Id(2), Id(2)]), Err(Fault::Unfit)),
+        "p isn't bound"
+    );
+    Ok(())
+}
+
+#[test]
+fn dummies(rt: HostRuntime) -> Result<(), Fail> {
+    let mut bench = Bench::new(rt.alloc(), Sample);
+    bench.begin(&PARAMS, DepsMode::Free)?;
+    let before = bench.app(IM, &[Id(2), Id(3)])?;
+    for i in 0..53 {
+        let told = Told {
+            sort: 1,
+            bound: true,
+            deps: 1 << (2 + i),
+            head: None,
+        };
+        let dummy = bench.dummy(1)?;
+        assert_eq!(rt; dummy, Id(6 + i), "the id of dummy {i}");
+        assert_eq!(rt; bench.told(dummy), Some(told), "dummy {i}");
+    }
+    assert_eq!(rt; bench.store.bound_count(), 55, "all bits");
+    assert!(rt;
+        matches!(bench.dummy(1), Err(Fault::Unfit)),
+        "no bit is left"
+    );
+    assert_eq!(rt;
+        bench.app(IM, &[Id(2), Id(3)])?,
+        before,
+        "built before the dummies"
+    );
+    let last = bench.app(ALL, &[Id(58), before])?;
+    let told = Told {
+        sort: 0,
+        bound: false,
+        deps: 3,
+        head: Some(ALL),
+    };
+    assert_eq!(rt;
+        bench.told(last),
+        Some(told),
+        "the last dummy doesn't stand in it"
+    );
+    Ok(())
+}
+
+/// After `begin` what was built is gone, and its ids are those of other trees.
+#[test]
+fn begun_again(rt: HostRuntime) -> Result<(), Fail> {
+    let mut bench = Bench::new(rt.alloc(), Sample);
+    bench.begin(&PARAMS, DepsMode::All)?;
+    bench.app(IM, &[Id(2), Id(3)])?;
+    bench.begin(&[Word(0), Word(0), Word(0), Word(0)], DepsMode::Free)?;
+    assert_eq!(rt; bench.store.len(), 4, "the parameters alone");
+    assert_eq!(rt; bench.store.bound_count(), 0, "none of them bound");
+    let id = bench.app(IM, &[Id(2), Id(3)])?;
+    assert_eq!(rt; id, Id(4), "built again");
+    let told = Told {
+        sort: 0,
+        bound: false,
+        deps: 0,
+        head: Some(IM),
+    };
+    assert_eq!(rt;
+        bench.told(id),
+        Some(told),
+        "over variables that depend on nothing"
+    );
+    Ok(())
+}

@@ -1,0 +1,10 @@
+//! Tests of the outside, of listings, and of whole runs of the program over files in memory. It has no
+//! code of its own.
+#![tactic(auto)]
+
+#[cfg(test)]
+mod io;
+#[cfg(test)]
+mod program;
+#[cfg(test)]
+mod show;

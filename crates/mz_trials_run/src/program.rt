@@ -1,0 +1,90 @@
+// Runs of the program over a folder and a sink in memory.
+mod change;
+mod codes;
+mod cut;
+mod faults;
+pub mod files;
+mod hostile;
+pub mod listings;
+mod lists;
+mod matching;
+mod worked;
+
+use change::{Change, changed};
+use mz_io::{MemFolder, MemSink};
+use mz_tool::{Status, run};
+use std::alloc::{AllocError, Global};
+use std::process::Abort;
+use std::test::Fail;
+
+/// Changes of a file, the line that is told of it then, and what this shows.
+pub type Case = (&'static [Change], &'static str, &'static str);
+
+/// The words of a command line, separated by single spaces; no words where it is empty.
+pub fn words_of(alloc: Global, line: &str) -> Result<Vec<String>, AllocError> {
+    let mut words = Vec::new(alloc);
+    for word in line.split_whitespace() {
+        words.push(word.to_string(alloc)?)?;
+    }
+    Ok(words)
+}
+
+/// Runs a command over the files `spec` and `bin`, and compares what it writes and how it ends.
+pub fn expect(
+    rt: &(impl Abort + AllocGlobal),
+    line: &str,
+    spec: &[u8],
+    bin: &[u8],
+    status: Status,
+    text: &[u8],
+    what: &str,
+) -> Result<(), Fail> {
+    let alloc = rt.alloc();
+    let mut folder = MemFolder::new(alloc);
+    folder.add("spec", spec)?;
+    folder.add("bin", bin)?;
+    let mut out = MemSink::new(alloc, 4096)?;
+    let ended = run(alloc, &words_of(alloc, line)?, &mut folder, &mut out);
+    assert!(rt; out.bytes() == text, "the text for {what}");
+    assert!(rt; ended == status, "the status for {what}");
+    Ok(())
+}
+
+/// Verifies a binary against a specification, and compares the line and the status.
+pub fn expect_verdict(
+    rt: &(impl Abort + AllocGlobal),
+    spec: &[u8],
+    bin: &[u8],
+    line: &str,
+    what: &str,
+) -> Result<(), Fail> {
+    let text = format!(in rt.alloc(); "{line}\n")?;
+    let status = if line.as_bytes().starts_with(b"accepted: ") {
+        Status::Done
+    } else {
+        Status::Refused
+    };
+    expect(
+        rt,
+        "verify spec bin",
+        spec,
+        bin,
+        status,
+        text.as_bytes(),
+        what,
+    )
+}
+
+/// Verifies changes of one file against one specification.
+pub fn expect_cases(
+    rt: &(impl Abort + AllocGlobal),
+    spec: &str,
+    base: &[u8],
+    cases: &[Case],
+) -> Result<(), Fail> {
+    for (changes, line, what) in cases {
+        let bin = changed(rt.alloc(), base, changes)?;
+        expect_verdict(rt, spec.as_bytes(), &bin, line, what)?;
+    }
+    Ok(())
+}

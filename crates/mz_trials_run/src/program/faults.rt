@@ -1,0 +1,235 @@
+// Words that ask for nothing, files and outputs that fail, and want of memory.
+use crate::program::files::{DUMMY, ONE, ONE_SPEC};
+use crate::program::{expect, words_of};
+use mz_io::{Folder, MemFolder, MemSink};
+use mz_tool::{Command, Status, answer, run};
+use std::alloc::{AllocError, Global};
+use std::test::Fail;
+
+const ACCEPTED_ONE: &str = "accepted: 1 sorts, 0 terms, 0 axioms, 0 definitions, 0 theorems\n";
+
+/// Words that are no command.
+const OTHER_WORDS: &[&str] = &[
+    "",
+    "verify",
+    "verify spec",
+    "verify spec bin bin",
+    "Verify spec bin",
+    "show",
+    "show bin bin",
+    "spec bin",
+];
+
+#[test]
+fn other_words_are_refused(rt: HostRuntime) -> Result<(), Fail> {
+    for line in OTHER_WORDS {
+        let spec = ONE_SPEC.as_bytes();
+        expect(&rt, line, spec, ONE, Status::Usage, b"", line)?;
+    }
+    Ok(())
+}
+
+/// How a run over a folder with the smallest binary alone ends, and whether the call on the folder of
+/// this number comes after it.
+fn ended_alone(
+    alloc: Global,
+    line: &str,
+    failing: u64,
+) -> Result<(Status, MemSink, bool), AllocError> {
+    let mut folder = MemFolder::new(alloc);
+    folder.add("bin", ONE)?;
+    folder.fail_call(failing)?;
+    let mut out = MemSink::new(alloc, 100)?;
+    let status = run(alloc, &words_of(alloc, line)?, &mut folder, &mut out);
+    Ok((status, out, folder.start("bin").is_err()))
+}
+
+/// Words, how the run ends where the smallest binary alone is there, and how many calls it makes.
+const MISSING: &[(&str, Status, u64)] = &[
+    ("verify other bin", Status::ReadFault, 1),
+    // The binary is read in two pulls.
+    ("verify bin other", Status::ReadFault, 4),
+    ("show other", Status::ReadFault, 1),
+    ("verify bin", Status::Usage, 0),
+];
+
+/// A file that is missing is the last one that is started; words of no command start none.
+#[test]
+fn missing_files(rt: HostRuntime) -> Result<(), Fail> {
+    for (line, wanted, calls) in MISSING {
+        let (status, out, comes_next) = ended_alone(rt.alloc(), line, *calls + 1)?;
+        assert!(rt; status == *wanted, "{line}");
+        assert!(rt; out.bytes().is_empty(), "{line}");
+        assert!(rt; comes_next, "{calls} calls for {line}");
+    }
+    Ok(())
+}
+
+/// How a run over the smallest files ends where these calls on the folder and on the sink fail, none
+/// being number 0. The sink takes ten bytes at a time.
+fn ended_failing(alloc: Global, call: u64, write: u64) -> Result<(Status, MemSink), AllocError> {
+    let mut folder = MemFolder::new(alloc);
+    folder.add("spec", ONE_SPEC.as_bytes())?;
+    folder.add("bin", ONE)?;
+    folder.fail_call(call)?;
+    let mut out = MemSink::new(alloc, 100)?;
+    out.take_at_most(10);
+    out.fail_call(write)?;
+    let words = words_of(alloc, "verify spec bin")?;
+    let status = run(alloc, &words, &mut folder, &mut out);
+    Ok((status, out))
+}
+
+/// Each file takes a start and two pulls.
+#[test]
+fn each_failing_call_is_a_read_fault(rt: HostRuntime) -> Result<(), Fail> {
+    for call in 1..8 {
+        let (status, out) = ended_failing(rt.alloc(), call, 0)?;
+        let (wanted, line) = if call <= 6 {
+            (Status::ReadFault, "")
+        } else {
+            (Status::Done, ACCEPTED_ONE)
+        };
+        assert!(rt; status == wanted, "where call {call} fails");
+        assert!(rt; out.bytes() == line.as_bytes(), "where call {call} fails");
+    }
+    Ok(())
+}
+
+/// The line has 64 bytes, and so takes seven writes.
+#[test]
+fn each_failing_write_leaves_the_front(rt: HostRuntime) -> Result<(), Fail> {
+    for write in 1..9 {
+        let (status, out) = ended_failing(rt.alloc(), 0, write)?;
+        let wanted = if write <= 7 {
+            Status::OutFault
+        } else {
+            Status::Done
+        };
+        assert!(rt; status == wanted, "where write {write} fails");
+        let front = ACCEPTED_ONE
+            .as_bytes()
+            .iter()
+            .take(10 * (write as usize - 1));
+        assert!(rt; out.bytes().iter().eq(front), "where write {write} fails");
+    }
+    Ok(())
+}
+
+#[test]
+fn a_full_sink_holds_a_prefix(rt: HostRuntime) -> Result<(), Fail> {
+    let alloc = rt.alloc();
+    let mut folder = MemFolder::new(alloc);
+    folder.add("bin", DUMMY)?;
+    let mut out = MemSink::new(alloc, 11)?;
+    out.take_at_most(1);
+    let status = run(alloc, &words_of(alloc, "show bin")?, &mut folder, &mut out);
+    assert!(rt; status == Status::OutFault, "less room than the listing");
+    assert!(rt;
+        out.bytes() == b"sort 0 4\nso".as_slice(),
+        "the room is used"
+    );
+    Ok(())
+}
+
+/// How a command ends where files may have so many bytes.
+fn ended_within(
+    alloc: Global,
+    limit: u32,
+    command: Command<'_>,
+) -> Result<(Status, MemSink), AllocError> {
+    let mut folder = MemFolder::new(alloc);
+    folder.add("spec", ONE_SPEC.as_bytes())?;
+    folder.add("bin", ONE)?;
+    let mut out = MemSink::new(alloc, 100)?;
+    let status = answer(alloc, u64::from(limit), command, &mut folder, &mut out);
+    Ok((status, out))
+}
+
+const VERIFY: Command<'static> = Command::Verify {
+    spec: "spec",
+    bin: "bin",
+};
+
+const SHOW: Command<'static> = Command::Show { bin: "bin" };
+
+/// How many bytes a file may have, and how the command ends. The specification has 18 bytes, the binary 51.
+const LIMITS: &[(u32, Command<'static>, Status, &str)] = &[
+    (17, VERIFY, Status::TooLong, ""),
+    (18, VERIFY, Status::TooLong, ""),
+    (50, VERIFY, Status::TooLong, ""),
+    (51, VERIFY, Status::Done, ACCEPTED_ONE),
+    (50, SHOW, Status::TooLong, ""),
+    (51, SHOW, Status::Done, "sort 0 4\nend\n"),
+];
+
+#[test]
+fn a_file_past_the_limit_is_too_long(rt: HostRuntime) -> Result<(), Fail> {
+    for (limit, command, wanted, text) in LIMITS {
+        let (status, out) = ended_within(rt.alloc(), *limit, *command)?;
+        assert!(rt; status == *wanted, "within {limit} bytes");
+        assert!(rt; out.bytes() == text.as_bytes(), "within {limit} bytes");
+    }
+    Ok(())
+}
+
+/// Takes memory in ever smaller pieces until no more is given. None where it can't be used up, as
+/// under a checking allocator.
+fn take_all(alloc: Global) -> Result<Option<Vec<Vec<u8>>>, AllocError> {
+    let mut held = Vec::with_capacity(alloc, 1 << 18)?;
+    for power in (3..47u32).rev() {
+        let mut refused = false;
+        for _ in 0..1 << 14 {
+            let Ok(piece) = Vec::with_capacity(alloc, 1 << power) else {
+                refused = true;
+                break;
+            };
+            held.push(piece)?;
+        }
+        if !refused {
+            return Ok(None);
+        }
+    }
+    Ok(Some(held))
+}
+
+#[test]
+fn want_of_memory_is_told(rt: HostRuntime) -> Result<(), Fail> {
+    let alloc = rt.alloc();
+    for line in ["verify spec bin", "show bin"] {
+        let words = words_of(alloc, line)?;
+        let mut folder = MemFolder::new(alloc);
+        folder.add("spec", ONE_SPEC.as_bytes())?;
+        folder.add("bin", ONE)?;
+        let mut out = MemSink::new(alloc, 100)?;
+        let Some(held) = take_all(alloc)? else {
+            return Ok(());
+        };
+        let status = run(alloc, &words, &mut folder, &mut out);
+        drop(held);
+        assert!(rt; status == Status::Memory, "{line} without memory");
+        assert!(rt; out.bytes().is_empty(), "{line} without memory");
+        let status = run(alloc, &words, &mut folder, &mut out);
+        assert!(rt; status == Status::Done, "{line} with memory again");
+    }
+    Ok(())
+}
+
+const STATUSES: &[(Status, u8, Option<&str>)] = &[
+    (Status::Done, 0, None),
+    (Status::Refused, 1, None),
+    (Status::Usage, 2, Some("Usage")),
+    (Status::ReadFault, 3, Some("ReadFault")),
+    (Status::Memory, 4, Some("Memory")),
+    (Status::WriteFault, 5, Some("WriteFault")),
+    (Status::OutFault, 6, Some("OutFault")),
+    (Status::TooLong, 7, Some("TooLong")),
+];
+
+#[test]
+fn each_status_has_its_number_and_name(rt: HostRuntime) {
+    for (status, number, name) in STATUSES {
+        assert!(rt; status.number() == *number, "the number {number}");
+        assert!(rt; status.name() == *name, "the name of {number}");
+    }
+}

@@ -1,0 +1,34 @@
+// Sinks that take little; the tables of listings stand with the program's tests.
+use crate::program::files::DUMMY;
+use crate::program::listings::DUMMY_LISTING;
+use mz_io::MemSink;
+use mz_show::{Shown, listing};
+use std::alloc::{AllocError, Global};
+use std::test::Fail;
+
+/// How the listing of a file with a dummy ends, and what is written, in a sink of this room that takes so
+/// much at a time, and whose call of this number fails.
+fn listed(alloc: Global, room: u64, most: u64, fails: u64) -> Result<(Shown, MemSink), AllocError> {
+    let mut out = MemSink::new(alloc, room)?;
+    out.take_at_most(most);
+    out.fail_call(fails)?;
+    let shown = listing(alloc, DUMMY, &mut out);
+    Ok((shown, out))
+}
+
+/// Sinks, and how much of the listing they hold in the end.
+const SINKS: &[(u64, u64, u64, Shown, &str)] = &[
+    (1000, 1, 0, Shown::Done, DUMMY_LISTING),
+    (12, 100, 0, Shown::Fault, "sort 0 4\nsor"),
+    (1000, 100, 3, Shown::Fault, "sort 0 4\nsort 1 0\n"),
+];
+
+#[test]
+fn small_sinks(rt: HostRuntime) -> Result<(), Fail> {
+    for (room, most, fails, wanted, text) in SINKS {
+        let (shown, out) = listed(rt.alloc(), *room, *most, *fails)?;
+        assert_eq!(rt; shown, *wanted, "room for {room}");
+        assert_eq!(rt; out.bytes(), text.as_bytes(), "room for {room}");
+    }
+    Ok(())
+}

@@ -1,0 +1,134 @@
+use crate::math::world::{A, B, N, NAT, Step, WFF, World, code};
+use mz_logic::{Expr, Exprs, SortMods};
+use mz_math::{Parsed, Wanted};
+use std::alloc::{AllocError, Global};
+use std::process::Abort;
+use std::test::Fail;
+
+/// `~` and `-` before formulas and numbers, a number standing for a formula, and two infix forms.
+const DEEP: &[Step<'static>] = &[
+    Step::Sort(SortMods::PROVABLE),
+    Step::Sort(0),
+    Step::Term("im", &[A, B], WFF),
+    Step::Term("an", &[A, B], WFF),
+    Step::Term("not", &[A], WFF),
+    Step::Term("neg", &[N], NAT),
+    Step::Term("nw", &[N], WFF),
+    Step::Infix(0, "->", Some(25), true),
+    Step::Infix(1, "&", Some(34), false),
+    Step::Prefix(2, "~", Some(41)),
+    Step::Prefix(3, "-", Some(41)),
+    Step::Coercion(4, NAT, WFF),
+    Step::Var(A),
+    Step::Var(N),
+];
+
+/// How high trees are, as far as the limit.
+#[cycle(height)]
+fn height(expr: &Expr, limit: u32) -> u32 {
+    if limit == 0 {
+        return 0;
+    }
+    match expr {
+        Expr::Var(_) => 1,
+        Expr::App(_, es) => highest(es, limit - 1).saturating_add(1),
+    }
+}
+
+#[cycle(height)]
+fn highest(exprs: &Exprs, limit: u32) -> u32 {
+    if limit == 0 {
+        return 0;
+    }
+    let mut most = 0;
+    for e in exprs.as_slice() {
+        most = most.max(height(e, limit - 1));
+    }
+    most
+}
+
+/// So many pieces, a middle, and as many other pieces; the height of the tree, or the rule.
+type Nest<'a> = (u32, &'a str, &'a str, &'a str, &'a str);
+
+fn nested(alloc: Global, nest: &Nest<'_>) -> Result<Vec<u8>, AllocError> {
+    let (many, front, middle, back, _) = *nest;
+    let mut text: Vec<u8> = Vec::new(alloc);
+    for _ in 0..many {
+        text.extend_from_slice(front.as_bytes())?;
+    }
+    text.extend_from_slice(middle.as_bytes())?;
+    for _ in 0..many {
+        text.extend_from_slice(back.as_bytes())?;
+    }
+    Ok(text)
+}
+
+fn height_of(
+    alloc: Global,
+    world: &World,
+    nest: &Nest<'_>,
+    wanted: Wanted,
+) -> Result<Vec<u8>, AllocError> {
+    let text = nested(alloc, nest)?;
+    if text.len() > 100_000 {
+        return Err(AllocError);
+    }
+    let line = match world.read(&text, wanted) {
+        Parsed::Tree(expr) => format!(in alloc; "{}", height(&expr, 20_000))?,
+        Parsed::Refused { at, rule } => format!(in alloc; "{}:{}", code(rule), at)?,
+        Parsed::Mem => return Err(AllocError),
+    };
+    Ok(line.into_bytes())
+}
+
+fn compare_heights(
+    rt: &impl Abort,
+    alloc: Global,
+    world: &World,
+    nests: &[Nest<'_>],
+    wanted: Wanted,
+) {
+    for nest in nests {
+        let (many, front, _, _, told) = *nest;
+        match height_of(alloc, world, nest, wanted) {
+            Err(_) => panic!(rt; "no memory: {many} of {front}"),
+            Ok(found) => assert_eq!(rt; found.as_slice(), told.as_bytes(), "{many} of {front}"),
+        }
+    }
+}
+
+/// Formulas. What a coercion adds to a provable sort isn't counted.
+const FORMULAS: &[Nest<'static>] = &[
+    (4095, "~ ", "a", "", "4096"),
+    (4096, "~ ", "a", "", "S17:0"),
+    (4097, "? ", "a", "", "S9:0"),
+    (4094, "~ ", "n", "", "4096"),
+    (4095, "~ ", "n", "", "S17:0"),
+    (4095, "- ", "n", "", "4097"),
+    (2047, "( ", "a", " )", "1"),
+    (2047, "( ", "~ a", " )", "2"),
+    (2048, "( ", "a", " )", "S17:0"),
+    (4096, "( ", "", "", "S10:0"),
+    (4097, "( ", "", "", "S17:0"),
+    (2047, "a -> ", "a", "", "2048"),
+    (2047, "a & ", "a", "", "2048"),
+    (4096, "a ", "", "", "S10:0"),
+];
+
+/// Bodies of a definition, with the coercion to its sort.
+const BODIES: &[Nest<'static>] = &[
+    (4094, "- ", "n", "", "4096"),
+    (4095, "- ", "n", "", "S17:0"),
+];
+
+#[test]
+fn limits(rt: HostRuntime) -> Result<(), Fail> {
+    let alloc = rt.alloc();
+    let mut world = World::new(alloc);
+    for step in DEEP {
+        world.take(*step)?;
+    }
+    compare_heights(&rt, alloc, &world, FORMULAS, Wanted::Provable);
+    compare_heights(&rt, alloc, &world, BODIES, Wanted::Sort(WFF));
+    Ok(())
+}

@@ -1,0 +1,31 @@
+//! How many variables and terms stand in expressions.
+ghost use Rattle.std.specs.Prelude.{◌≡◌, ◌<◌, ◌^◌, ◌+◌};
+ghost use Rattle.mz_logic.specs.Tree.{size, trees_size};
+ghost use Rattle.mz_logic.specs.View.{tree};
+
+use mz_logic::{Expr, Exprs};
+
+/// How many variables and terms stand in the expression.
+#[cycle(size_of)]
+pub(crate) fn size_of(expr: &Expr) -> u128
+    requires { size (tree expr.now) < 2 ^ 128 }
+    ensures { result ≡ size (tree expr.now) }
+{
+    match expr {
+        Expr::Var(_) => 1,
+        Expr::App(_, es) => 1 + sizes_of(es),
+    }
+}
+
+/// How many stand in the expressions.
+#[cycle(size_of)]
+pub(crate) fn sizes_of(es: &Exprs) -> u128
+    requires { trees_size es.now < 2 ^ 128 }
+    ensures { result ≡ trees_size es.now }
+{
+    let mut total: u128 = 0;
+    for e in es.as_slice() {
+        total += size_of(e);
+    }
+    total
+}

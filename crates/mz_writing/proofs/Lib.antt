@@ -1,0 +1,9 @@
+pub mod WordsHold
+pub mod BodiesRun
+pub mod RowsHold
+pub mod ListsHold
+pub mod FilesHold
+pub mod SameLists
+pub mod Growing
+pub mod Example
+pub mod WordsSay

@@ -1,0 +1,176 @@
+-- The row of a statement that is written spells what was made, and the statement's checks hold.
+use Rattle.std.proofs.Common.{◌≡◌, ◌<◌, ◌∙◌, ℕ, Bool, true, false, List, [], ◌++◌, length, drop, slice_get, Option, None, Some, refl, sym, ap, subst, inl, arith}
+use Rattle.std.specs.Prelude.{◌+◌, ◌*◌}
+use Rattle.std.proofs.lemmas.Option.{slice_get_within}
+use Rattle.mz_checks.specs.Checks.{Checks, AllHold}
+use Rattle.mz_checks.proofs.InOrder.{all_hold-both}
+use Rattle.mz_cmd.specs.declared.rule.K.{K}
+use Rattle.mz_logic.specs.Tree.{Tree, none}
+use Rattle.mz_logic.specs.Signature.{Signature}
+use Rattle.mz_logic.specs.Declaration.{plain_form, defined, Assertion, Declaration, sort_decl, term_decl, assertion_decl, sorts, terms, signatures, assertions}
+use Rattle.mz_logic.specs.Legality.{IsLegalDecl}
+use Rattle.mz_logic.specs.Words.{binders_of, signature_of}
+use Rattle.mz_logic.specs.declared.binder.Binder.{Binder}
+use Rattle.mz_logic.specs.declared.binder.SortMods.{SortMods}
+use Rattle.mz_logic.specs.declared.word.Word.{Word}
+use Rattle.mz_layout.specs.Normal.{Parts, row_of_term, row_of_thm, file_of}
+use Rattle.mz_layout.specs.NormalLaws.{written_term, written_thm, term_place, thm_place}
+use Rattle.mz_layout.specs.Standing.{Fit, Stands}
+use Rattle.mz_layout.specs.Tables.{TermRow as TermRecord, ThmRow as ThmRecord, sort_count, term_count, thm_count, term_row, thm_row}
+use Rattle.mz_layout.proofs.PartsStand.{SaysCounts, counts-said}
+use Rattle.mz_layout.proofs.TableLists.{slice_get-sorts}
+use Rattle.mz_layout.proofs.TablesRead.{mods-read, term-read, thm-read, term-stream, thm-stream}
+use Rattle.mz_unify.specs.Profile.{strict}
+use Rattle.mz_unify.specs.Spells.{Text, TermRow, ThmRow, SpellsTerm, SpellsThm}
+use Rattle.mz_unify.specs.Streams.{of_assertion, of_definition}
+use Rattle.mz_machine.specs.Bodies.{Runs, body_checks}
+use Rattle.mz_machine.specs.FileRows.{taken_by, stream_of, term_of_file, thm_of_file, rows_taken, body_bytes}
+use Rattle.mz_machine.specs.Lists.{assertion_of, definition_of}
+use Rattle.mz_machine.specs.RowWords.{IsResultWord, param_checks, word_checks}
+use Rattle.mz_machine.specs.Tables.{Tables, Heading, is_definition, Declares}
+use Rattle.mz_machine.proofs.Declared.{pairs-long}
+use Rattle.mz_machine.proofs.Outcomes.{bodies-checked}
+use Rattle.mz_binary.specs.Checking.{MayStand, term_body_checks, sort_checks, term_checks, thm_checks}
+use Rattle.mz_binary.specs.Spelling.{SpellsRow}
+use Rattle.mz_steps.specs.Sameness.{IsSameTerm, IsSameForm, IsSameEnv}
+use Rattle.mz_steps.proofs.SameTables.{same-signatures}
+use Rattle.mz_steps.specs.Bodies.{IsBody}
+use Rattle.mz_streams.specs.SpellsBefore.{SpellsBefore}
+use Rattle.mz_writing.specs.Writing.{SayParams, SaySignature, IsWrittenAssertion}
+use Rattle.mz_writing.proofs.BodiesRun.{assertion-runs, definition-runs}
+use Rattle.mz_writing.proofs.WordsHold.{params-hold, words-hold}
+
+may-stand : (l b : Bool) → b ≡ true → MayStand l b
+may-stand true b is = is
+may-stand false b is = tt
+
+holds-of : (tables : Tables) (h : Heading) (at : ℕ) (bytes : List ℕ) → Runs strict tables h at bytes → AllHold (body_checks strict tables h at bytes)
+holds-of tables h at bytes runs = (bodies-checked strict tables h at bytes).0.1 runs
+
+-- a term's row as it is read of its record, and an assertion's
+abbrev term_by : List ℕ → TermRecord → TermRow
+term_by file row = record { signature = signature_of row.words; stream = stream_of file row }
+
+abbrev thm_by : List ℕ → ThmRecord → ThmRow
+thm_by file row = record { params = binders_of row.params; stream = drop row.stream_at file }
+
+-- the row spells this after the declarations of env, and these checks hold
+pub record IsGoodRow (file : List ℕ) (env : List Declaration) (d : Declaration) (checks : Checks (ℕ × K)) : Type 0 where
+  pub row : SpellsRow file env d
+  pub holds : AllHold checks
+
+module _ (p : Parts) (fit : Fit p) (env env' : List Declaration) (same : IsSameEnv env env') (declares : Declares (rows_taken (file_of p) (taken_by env')) env')
+    (at body next : ℕ) (bytes : List ℕ) (bytes-are : body_bytes (file_of p) body next ≡ bytes) where
+  abbrev file : List ℕ
+  file = file_of p
+
+  abbrev tables : Tables
+  tables = rows_taken file (taken_by env')
+
+  counts : SaysCounts (file_of p) p
+  counts = counts-said p fit.short
+
+  sigs : signatures env ≡ signatures env'
+  sigs = same-signatures env env' same
+
+  pub sort-good : (m : SortMods) → slice_get p.sorts (length (sorts env)) ≡ Some m.0 → bytes ≡ [] → IsGoodRow file env' (sort_decl m) (sort_checks file (length (sorts env')) at body next)
+  sort-good m e empty =
+      let n : ℕ = length (sorts env') in
+      let here : slice_get p.sorts n ≡ Some m.0 = subst (λ (ss : List SortMods). slice_get p.sorts (length ss) ≡ Some m.0) same.sorts_are e in
+      let below : n < sort_count file = (let within : n < length p.sorts = slice_get_within p.sorts n m.0 here in omega (arith, counts.sorts)) in
+      record {
+        row = slice_get-sorts file n below ∙ ap (λ (z : SortMods). Some z) (mods-read p fit n m.0 here);
+        holds = (below, (inl (bytes-are ∙ empty), tt));
+      }
+
+  -- ---- terms
+
+  module _ (is_local : Bool) (signature : Signature) (ws : List Word) (result : Word) (say : SaySignature (sorts env) ws result signature) where
+    say' : SaySignature (sorts env') ws result signature
+    say' = subst (λ (ss : List SortMods). SaySignature ss ws result signature) same.sorts_are say
+
+    result-word : (unify : Option (List ℕ)) (place : ℕ) → IsResultWord (sorts env') (written_term ws result unify place)
+    result-word unify place = record { is_regular = say'.is_regular; named = refl; may_be = say'.may_be; bits = say'.bits }
+
+    words : (row : TermRecord) (unify : Option (List ℕ)) (place : ℕ) → row ≡ written_term ws result unify place → AllHold (word_checks (sorts env') row)
+    words row unify place is = subst (λ (r : TermRecord). AllHold (word_checks (sorts env') r)) (sym is) (words-hold (sorts env') (written_term ws result unify place) say'.right (result-word unify place))
+
+    get-row : (unify : Option (List ℕ)) → slice_get p.terms (length (terms env)) ≡ Some (row_of_term ws result unify) → slice_get p.terms (length (terms env')) ≡ Some (row_of_term ws result unify)
+    get-row unify e = subst (λ (n : ℕ). slice_get p.terms n ≡ Some (row_of_term ws result unify)) (pairs-long IsSameTerm (terms env) (terms env') same.terms_are) e
+
+    is-below : (unify : Option (List ℕ)) → slice_get p.terms (length (terms env')) ≡ Some (row_of_term ws result unify) → length (terms env') < term_count file
+    is-below unify e = let within : length (terms env') < length p.terms = slice_get_within p.terms (length (terms env')) (row_of_term ws result unify) e in omega (arith, counts.terms)
+
+    pub plain-good : slice_get p.terms (length (terms env)) ≡ Some (row_of_term ws result None) → is_local ≡ false → bytes ≡ []
+        → IsGoodRow file env' (term_decl (record { signature = signature; form = plain_form })) (term_checks false file (taken_by env') at body next is_local)
+    plain-good e mark empty =
+        let n : ℕ = length (terms env') in
+        let here = get-row None e in
+        let below = is-below None here in
+        let row-is : term_row file n ≡ written_term ws result None (term_place p n) = term-read p fit n ws result None here in
+        let row : term_of_file file n ≡ record { signature = signature; stream = None } = ap (term_by file) row-is ∙ ap (λ (z : Signature). record { signature = z; stream = None }) say.said in
+        let ends : AllHold (term_body_checks false file (taken_by env') at body next (term_of_file file n).stream) =
+        subst (λ (r : TermRow). AllHold (term_body_checks false file (taken_by env') at body next r.stream)) (sym row) (inl (bytes-are ∙ empty), tt) in
+        record {
+          row = (below, subst (λ (r : TermRow). SpellsTerm (signatures env') r (record { signature = signature; form = plain_form })) (sym row) (refl, tt));
+          holds = subst (λ (l : Bool). AllHold (term_checks false file (taken_by env') at body next l)) (sym mark)
+              (below, (tt, all_hold-both (word_checks (sorts env') (term_row file n)) (term_body_checks false file (taken_by env') at body next (term_of_file file n).stream) (words (term_row file n) None (term_place p n) row-is) ends));
+        }
+
+    pub definition-good : (stream : List ℕ) (dummies dummies' : List Binder) (e e' : Tree) → slice_get p.terms (length (terms env)) ≡ Some (row_of_term ws result (Some stream))
+        → IsLegalDecl env (term_decl (record { signature = signature; form = defined dummies e })) → IsSameForm signature.params (defined dummies e) (defined dummies' e')
+        → SpellsBefore of_definition (signatures env) signature.params stream none e' dummies' → IsBody env is_definition signature.params dummies e [] bytes
+        → IsGoodRow file env' (term_decl (record { signature = signature; form = defined dummies' e' })) (term_checks false file (taken_by env') at body next is_local)
+    definition-good stream dummies dummies' e e' get legal same-form spells b =
+        let n : ℕ = length (terms env') in
+        let here = get-row (Some stream) get in
+        let below = is-below (Some stream) here in
+        let row-is : term_row file n ≡ written_term ws result (Some stream) (term_place p n) = term-read p fit n ws result (Some stream) here in
+        let stands : Stands file (term_place p n + 8 * (length ws + 1)) stream = term-stream p fit n ws result stream here in
+        let bytes' : List ℕ = stream ++ stands.rest in
+        let row : term_of_file file n ≡ record { signature = signature; stream = Some bytes' } =
+        ap (term_by file) row-is ∙ ap (λ (z : Signature). record { signature = z; stream = Some (drop (term_place p n + 8 * (length ws + 1)) file) }) say.said ∙ ap (λ (z : List ℕ). record { signature = signature; stream = Some z }) stands.from_there in
+        let runs : Runs strict tables (definition_of (record { signature = signature; stream = Some bytes' }) bytes') body (body_bytes file body next) =
+        subst (Runs strict tables (definition_of (record { signature = signature; stream = Some bytes' }) bytes') body) (sym bytes-are)
+        (definition-runs tables env env' declares same body bytes signature bytes' dummies dummies' e e' legal same-form (spells stands.rest) b) in
+        let ends : AllHold (term_body_checks false file (taken_by env') at body next (term_of_file file n).stream) =
+        subst (λ (o : Option (List ℕ)). AllHold (term_body_checks false file (taken_by env') at body next o)) (sym (ap (λ (r : TermRow). r.stream) row))
+        (subst (λ (r : TermRow). AllHold (body_checks strict tables (definition_of r bytes') body (body_bytes file body next))) (sym row)
+        (holds-of tables (definition_of (record { signature = signature; stream = Some bytes' }) bytes') body (body_bytes file body next) runs)) in
+        let text : Text of_definition (signatures env') signature.params bytes' none e' dummies' = subst (λ (z : List Signature). Text of_definition z signature.params bytes' none e' dummies') sigs (spells stands.rest) in
+        record {
+          row = (below, subst (λ (r : TermRow). SpellsTerm (signatures env') r (record { signature = signature; form = defined dummies' e' })) (sym row) (refl, text));
+          holds = (
+            below,
+            (
+              may-stand is_local (term_row file n).words.has_body (ap (λ (r : TermRecord). r.words.has_body) row-is),
+              all_hold-both (word_checks (sorts env') (term_row file n)) (term_body_checks false file (taken_by env') at body next (term_of_file file n).stream) (words (term_row file n) (Some stream) (term_place p n) row-is) ends,
+            ),
+          );
+        }
+
+  -- ---- axioms and theorems
+
+  pub assertion-good : (a : Assertion) → IsLegalDecl env (assertion_decl a) → IsWrittenAssertion p env a bytes → IsGoodRow file env' (assertion_decl a) (thm_checks false file (taken_by env') at body next a.is_axiom)
+  assertion-good a legal w =
+      let n : ℕ = length (assertions env') in
+      let here : slice_get p.thms n ≡ Some (row_of_thm w.words w.stream) = subst (λ (z : List Assertion). slice_get p.thms (length z) ≡ Some (row_of_thm w.words w.stream)) same.assertions_are w.row in
+      let below : n < thm_count file = (let within : n < length p.thms = slice_get_within p.thms n (row_of_thm w.words w.stream) here in omega (arith, counts.thms)) in
+      let row-is : thm_row file n ≡ written_thm w.words (thm_place p n) = thm-read p fit n w.words w.stream here in
+      let stands : Stands file (thm_place p n + 8 * length w.words) w.stream = thm-stream p fit n w.words w.stream here in
+      let bytes' : List ℕ = w.stream ++ stands.rest in
+      let row : thm_of_file file n ≡ record { params = a.params; stream = bytes' } =
+      ap (thm_by file) row-is ∙ ap (λ (z : List Binder). record { params = z; stream = drop (thm_place p n + 8 * length w.words) file }) w.say.said ∙ ap (λ (z : List ℕ). record { params = a.params; stream = z }) stands.from_there in
+      let h : Heading = assertion_of a.is_axiom (record { params = a.params; stream = bytes' }) in
+      let runs : Runs strict tables h body (body_bytes file body next) =
+      subst (Runs strict tables h body) (sym bytes-are) (assertion-runs tables env env' declares same body bytes a bytes' w.dummies legal w.are_dummies (w.spells stands.rest) w.body) in
+      let words : AllHold (param_checks (sorts env') (thm_row file n).words_at (thm_row file n).params) =
+      subst (λ (r : ThmRecord). AllHold (param_checks (sorts env') r.words_at r.params)) (sym row-is)
+      (params-hold (sorts env') (thm_place p n) w.words (subst (λ (ss : List SortMods). SayParams ss w.words a.params) same.sorts_are w.say).right) in
+      let ends : AllHold (body_checks strict tables (assertion_of a.is_axiom (thm_of_file file n)) body (body_bytes file body next)) =
+      subst (λ (r : ThmRow). AllHold (body_checks strict tables (assertion_of a.is_axiom r) body (body_bytes file body next))) (sym row) (holds-of tables h body (body_bytes file body next) runs) in
+      let text : Text of_assertion (signatures env') a.params bytes' a.hyps a.conclusion [] = subst (λ (z : List Signature). Text of_assertion z a.params bytes' a.hyps a.conclusion []) sigs (w.spells stands.rest) in
+      record {
+        row = (below, subst (λ (r : ThmRow). SpellsThm (signatures env') r a) (sym row) (refl, text));
+        holds = (below, all_hold-both (param_checks (sorts env') (thm_row file n).words_at (thm_row file n).params) (body_checks strict tables (assertion_of a.is_axiom (thm_of_file file n)) body (body_bytes file body next)) words ends);
+      }

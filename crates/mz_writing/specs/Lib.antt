@@ -1,0 +1,5 @@
+pub mod Writing
+pub mod WordsSay
+pub mod Laws
+pub mod Growing
+pub mod Example
