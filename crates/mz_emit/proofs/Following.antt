@@ -1,17 +1,18 @@
 -- Each statement of a well-typed text within the limits may follow those before it.
-use Rattle.std.proofs.Common.{ℕ, zero, suc, ◌≡◌, ◌≤◌, ◌<◌, ◌+◌, ◌*◌, List, [], ◌∷◌, ◌++◌, length, take, All, refl, sym, subst, ap, arith, append_assoc}
+use Rattle.std.proofs.Common.{ℕ, zero, suc, ◌≡◌, ◌≤◌, ◌<◌, ◌+◌, List, [], ◌∷◌, ◌++◌, length, take, All, refl, subst, ap, arith, append_assoc}
 use Rattle.std.proofs.lemmas.List.Elements.{All-get_or}
 use Rattle.mz_checks.specs.Checks.{AllHold}
 use Rattle.mz_checks.proofs.InOrder.{all_hold-first, all_hold-rest}
 use Rattle.mz_logic.specs.Declaration.{Declaration, sorts}
-use Rattle.mz_logic.specs.Legality.{LegalEnvAfter, IsLegalEnv}
+use Rattle.mz_logic.specs.Legality.{LegalEnvAfter}
 use Rattle.mz_logic.specs.WordsWritten.{CanBeWords}
 use Rattle.mz_mmu.specs.Laws.{IsWhole}
 use Rattle.mz_mmu.specs.Proof.{Statement}
 use Rattle.mz_type.specs.Meaning.{IsLegalAsStated, LegalAsStatedAfter, LegalAsStated}
+use Rattle.mz_type.specs.Names.{StatementThere, StatementsThere}
 use Rattle.mz_type.specs.Ready.{CanBeWordsAfter}
 use Rattle.mz_type.specs.TypedText.{statement_at, declared}
-use Rattle.mz_type.specs.Weight.{Limit, parameter_limit, bound_limit, sort_count, params_of, parameter_count, bound_count, statement_weight, weight_after, weight_of, byte_bound, each_within, IsWithinLimits}
+use Rattle.mz_type.specs.Weight.{Limit, parameter_limit, bound_limit, params_of, parameter_count, bound_count, statement_weight, weight_after, weight_of, byte_bound, each_within, IsWithinLimits}
 use Rattle.mz_emit.specs.Emitting.{IsStated, MayFollow}
 
 none_behind : (env : List Declaration) → env ≡ env ++ []
@@ -33,6 +34,14 @@ words_at env (s ∷ ss) zero h below = subst (λ e. CanBeWords (sorts e) (params
 words_at env (s ∷ ss) (suc i) h below =
     subst (λ e. CanBeWords (sorts e) (params_of (statement_at ss i).decl)) (append_assoc env (s.decl ∷ []) (declared (take i ss)))
     (words_at (env ++ s.decl ∷ []) ss i h.1 (omega arith))
+
+there_at : (env : List Declaration) (ss : List Statement) (i : ℕ) → StatementsThere env ss → i < length ss
+    → StatementThere (env ++ declared (take i ss)) (statement_at ss i)
+there_at env [] i h below = absurd (omega arith)
+there_at env (s ∷ ss) zero h below = subst (λ e. StatementThere e s) (none_behind env) h.0
+there_at env (s ∷ ss) (suc i) h below =
+    subst (λ e. StatementThere e (statement_at ss i)) (append_assoc env (s.decl ∷ []) (declared (take i ss)))
+    (there_at (env ++ s.decl ∷ []) ss i h.1 (omega arith))
 
 legal_front : (env : List Declaration) (ss : List Statement) (i : ℕ) → LegalAsStatedAfter env ss → LegalEnvAfter env (declared (take i ss))
 legal_front env [] zero h = tt
@@ -57,18 +66,22 @@ weight_at env (s ∷ ss) (suc i) below =
       ap (λ e. statement_weight e (statement_at ss i)) (append_assoc env (s.decl ∷ []) (declared (take i ss))),
     )
 
-module _ (ss : List Statement) (legal : LegalAsStated ss) (whole : All IsWhole ss) (stated : All (λ s. IsStated s.decl) ss)
+pub short_enough : (ss : List Statement) → IsWithinLimits ss → byte_bound ss ≤ 4294967295
+short_enough ss within =
+    (all_hold-rest (each_within bound_limit bound_count 55 ss) _ (all_hold-rest (each_within parameter_limit parameter_count 65535 ss) _ within.1)).0
+
+module _ (ss : List Statement) (legal : LegalAsStated ss) (there : StatementsThere [] ss) (whole : All IsWhole ss) (stated : All (λ s. IsStated s.decl) ss)
     (words : CanBeWordsAfter [] ss) (within : IsWithinLimits ss) where
   pub light : weight_of ss ≤ 134217725
   light =
-      let short = all_hold-rest (each_within bound_limit bound_count 55 ss) _ (all_hold-rest (each_within parameter_limit parameter_count 65535 ss) _ within.1) in
-      let bytes : byte_bound ss ≤ 4294967295 = short.0 in
+      let bytes : byte_bound ss ≤ 4294967295 = short_enough ss within in
       omega (arith, bytes)
 
   pub follows : (i : ℕ) → i < length ss → MayFollow (take i ss) (statement_at ss i)
   follows i below = record {
     legal = legal_at [] ss i legal below;
     legal_env = legal_front [] ss i legal;
+    there = there_at [] ss i there below;
     whole = All-get_or IsWhole ss i _ below whole;
     stated = All-get_or (λ s. IsStated s.decl) ss i _ below stated;
     words = words_at [] ss i words below;

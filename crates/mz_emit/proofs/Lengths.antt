@@ -1,5 +1,5 @@
 -- How much the parts of a text cost, statement by statement.
-use Rattle.std.proofs.Common.{ℕ, ◌≡◌, ◌≤◌, ◌+◌, ◌*◌, List, [], ◌∷◌, ◌++◌, length, refl, sym, ap, subst, ◌∙◌, arith, append_assoc, length-append}
+use Rattle.std.proofs.Common.{ℕ, ◌≡◌, ◌≤◌, ◌+◌, ◌*◌, List, [], ◌∷◌, ◌++◌, length, refl, ap, arith, append_assoc, length-append}
 use Rattle.mz_logic.specs.Declaration.{Declaration}
 use Rattle.mz_layout.specs.Normal.{Row, Written, Parts, file_length}
 use Rattle.mz_layout.specs.NormalLaws.{rows_cost, statements_cost, LengthIsBounded}

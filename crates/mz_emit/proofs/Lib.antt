@@ -1,4 +1,12 @@
 mod Limiting
 mod Stated
-mod Lengths
 mod Following
+mod Saying
+mod Lengths
+mod OneMore
+mod Speaking
+mod Weights
+mod Rows
+mod Finished
+mod Looping
+mod Deciding

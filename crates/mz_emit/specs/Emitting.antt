@@ -1,23 +1,38 @@
 -- Statements as they are written into a binary.
-use Rattle.std.specs.Prelude.{◌≡◌, ◌≤◌, ◌<◌, ◌+◌, ◌*◌, ⊤, ℕ, List, [], ◌∷◌, ◌++◌, length}
+use Rattle.std.specs.Prelude.{Bool, true, false, ◌≡◌, ◌≤◌, ◌<◌, ◌+◌, ◌*◌, ◌^◌, ⊤, ℕ, List, [], ◌∷◌, ◌++◌, length, map, take, All, Option, Some, None}
 use Rattle.mz_logic.specs.Tree.{Tree, none, listed, size, trees_size}
+use Rattle.mz_logic.specs.Signature.{Signature}
 use Rattle.mz_logic.specs.Declaration.{Form, plain_form, abstract_form, defined, Assertion, Declaration, sort_decl, term_decl, assertion_decl, sorts, signatures}
-use Rattle.mz_logic.specs.Legality.{IsLegalEnv}
-use Rattle.mz_logic.specs.WordsWritten.{CanBeWords}
+use Rattle.mz_logic.specs.Legality.{Each, IsDummy, AreParams, IsLegalEnv}
+use Rattle.mz_logic.specs.Modifiers.{MayBeDummySort}
+use Rattle.mz_logic.specs.Sorts.{HasProvable, AreProvable}
+use Rattle.mz_logic.specs.Words.{signatures_of}
+use Rattle.mz_logic.specs.WordsWritten.{CanBeWords, words_of, result_word}
 use Rattle.mz_logic.specs.declared.binder.Binder.{Binder}
-use Rattle.mz_layout.specs.Normal.{Row, Written, Parts}
+use Rattle.mz_logic.specs.declared.binder.SortMods.{SortMods}
+use Rattle.mz_layout.specs.Normal.{Row, Written, Parts, row_of_term, row_of_thm}
 use Rattle.mz_layout.specs.NormalLaws.{rows_cost, statements_cost}
+use Rattle.mz_unify.specs.Sorted.{Sorted}
 use Rattle.mz_unify.specs.Streams.{of_assertion, of_definition}
 use Rattle.mz_machine.specs.Lists.{kind_of}
-use Rattle.mz_machine.specs.Tables.{is_definition}
+use Rattle.mz_machine.specs.Premises.{bound_count as bound_in}
+use Rattle.mz_machine.specs.Tables.{is_axiom, is_theorem, is_definition}
 use Rattle.mz_mmu.specs.Laws.{IsWhole}
-use Rattle.mz_mmu.specs.Proof.{Statement}
-use Rattle.mz_type.specs.Meaning.{IsLegalAsStated}
-use Rattle.mz_type.specs.TypedText.{declared}
+use Rattle.mz_mmu.specs.Proof.{Proof, Statement}
+use Rattle.mz_type.specs.Meaning.{IsLegalAsStated, marked}
+use Rattle.mz_type.specs.Names.{StatementThere}
+use Rattle.mz_type.specs.TypedText.{statement_at, declared}
 use Rattle.mz_type.specs.Weight.{params_of, parameter_count, bound_count, statement_weight, weight_of}
 use Rattle.mz_steps.specs.Bodies.{IsBody}
+use Rattle.mz_streams.specs.Laws.{IsSmall}
 use Rattle.mz_streams.specs.SpellsBefore.{SpellsBefore}
+use Rattle.mz_streams.specs.SpelledLists.{list_spelled}
 use Rattle.mz_streams.specs.Writing.{body_spelled, dummies_spelled}
+use Rattle.mz_writing.specs.Writing.{SaySignature, IsWrittenAs}
+use Rattle.mz_shared.specs.Rows.{words_of_row}
+use Rattle.mz_bodies.specs.Claims.{IsSound, proved}
+use Rattle.mz_bodies.specs.Weights.{proof_weight}
+use Rattle.mz_emit.specs.declared.emitter.Emitter.{Emitter}
 
 -- ---- what is asked of a statement
 
@@ -33,16 +48,47 @@ IsStated (sort_decl m) = m.0 < 16
 IsStated (term_decl d) = IsConcrete d.form
 IsStated (assertion_decl _) = ⊤
 
--- the statement may follow these, and the limits aren't passed by it
+-- the statement may follow these, and no limit is passed by it
 pub record MayFollow (before : List Statement) (s : Statement) : Type 0 where
   pub legal : IsLegalAsStated (declared before) s
   pub legal_env : IsLegalEnv (declared before)
+  pub there : StatementThere (declared before) s
   pub whole : IsWhole s
   pub stated : IsStated s.decl
   pub words : CanBeWords (sorts (declared before)) (params_of s.decl)
   pub few_params : parameter_count s ≤ 65535
   pub few_bound : bound_count s ≤ 55
   pub light : weight_of before + statement_weight (declared before) s ≤ 134217725
+
+-- words say the signature, over these sorts
+pub record HasWords (ss : List SortMods) (sg : Signature) : Type 0 where
+  pub can : CanBeWords ss sg.params
+  pub say : SaySignature ss (words_of sg.params) (result_word sg.params sg.result) sg
+  pub few : length sg.params ≤ 65535
+  pub deps : All (λ j. j < length sg.params) sg.result.deps
+  pub sort : sg.result.sort < 128
+
+-- right parameters, and dummies behind them, at most 55 bound
+pub record AreReady (env : List Declaration) (params dummies : List Binder) : Type 0 where
+  pub params_are : AreParams (sorts env) params
+  pub dummies_are : All IsDummy dummies
+  pub dummy_sorts : Each dummies (λ _ b. MayBeDummySort (sorts env) b.sort)
+  pub few : bound_in (params ++ dummies) ≤ 55
+  pub few_params : length params ≤ 65535
+  pub small : IsSmall (signatures env) (params ++ dummies)
+
+-- an expression over them, for a definition
+pub record CanBeDefined (env : List Declaration) (params dummies : List Binder) (e : Tree) : Type 0 where
+  pub ready : AreReady env params dummies
+  pub sorted : Sorted (signatures env) (params ++ dummies) e
+  pub short : length params + size e ≤ 2 ^ 32
+
+-- hypotheses and a conclusion over the parameters alone
+pub record CanBeAsserted (env : List Declaration) (a : Assertion) (dummies : List Binder) : Type 0 where
+  pub ready : AreReady env a.params dummies
+  pub hyps : AreProvable env a.params a.hyps
+  pub conclusion : HasProvable env a.params a.conclusion
+  pub short : length a.params + (size a.conclusion + (trees_size a.hyps + length (listed a.hyps))) ≤ 2 ^ 32
 
 -- ---- what is added to the parts
 
@@ -55,20 +101,84 @@ with_term p r w = record p { terms = p.terms ++ r ∷ []; statements = p.stateme
 abbrev pub with_thm : Parts → Row → Written → Parts
 with_thm p r w = record p { thms = p.thms ++ r ∷ []; statements = p.statements ++ w ∷ [] }
 
--- the stream spells the definition and the body makes it, in proportion to it
+-- the row of a term that has this stream, if it has one, and of an axiom or theorem
+abbrev pub term_row : Signature → Option (List ℕ) → Row
+term_row sg stream = row_of_term (words_of sg.params) (result_word sg.params sg.result) stream
+
+abbrev pub thm_row : Assertion → List ℕ → Row
+thm_row a stream = row_of_thm (words_of a.params) stream
+
+-- the code of a definition's statement, which may be local
+abbrev pub definition_code : Bool → ℕ
+definition_code true = 0x0D
+definition_code false = 0x05
+
+-- of an axiom's or a theorem's
+abbrev pub assertion_code : Bool → Bool → ℕ
+assertion_code true is_local = 0x02
+assertion_code false true = 0x0E
+assertion_code false false = 0x06
+
+-- the stream spells the definition, and the body makes it, in proportion to it
 pub record SaysDefinition (env : List Declaration) (params dummies : List Binder) (e : Tree) (stream body : List ℕ) : Type 0 where
   pub spells : SpellsBefore of_definition (signatures env) params stream none (body_spelled params dummies e) (dummies_spelled params dummies e)
   pub makes : IsBody env is_definition params dummies e [] body
-  pub short : length stream + length body ≤ 4 + 32 * size e
+  pub short : length stream + length body ≤ 11 * size e + 2
 
--- the same of an axiom or theorem, whose proof has this weight
+-- the same of an axiom, or of a theorem whose proof has this weight
 pub record SaysAssertion (env : List Declaration) (a : Assertion) (dummies : List Binder) (weight : ℕ) (stream body : List ℕ) : Type 0 where
   pub spells : SpellsBefore of_assertion (signatures env) a.params stream a.hyps a.conclusion []
   pub makes : IsBody env (kind_of a.is_axiom) a.params dummies a.conclusion (listed a.hyps) body
-  pub short : length stream + length body ≤ 4 + 32 * (trees_size a.hyps + size a.conclusion + weight)
+  pub short : length stream + length body ≤ 16 * (trees_size a.hyps + size a.conclusion + weight) + 2
 
--- ---- cost
+-- the stated proof, if there is one, is sound and proves the assertion, which else is an axiom
+abbrev pub IsProvedBy : List Declaration → List Binder → Assertion → Option Proof → Type 0
+IsProvedBy env ctx a None = a.is_axiom ≡ true
+IsProvedBy env ctx a (Some p) = (a.is_axiom ≡ false) × IsSound env ctx (listed a.hyps) [] p × (proved env (listed a.hyps) [] p ≡ a.conclusion)
+
+-- where there is a proof, it is sound
+abbrev pub IsSoundIfStated : List Declaration → List Binder → List Tree → Option Proof → Type 0
+IsSoundIfStated env ctx hyps None = ⊤
+IsSoundIfStated env ctx hyps (Some p) = IsSound env ctx hyps [] p
+
+-- the weight of the proof, if there is one
+abbrev pub body_weight : List Declaration → Option Proof → ℕ
+body_weight env None = 0
+body_weight env (Some p) = proof_weight env p
+
+-- the body makes what the proof proves, or else an axiom's conclusion
+abbrev pub MakesBody : List Declaration → Option Proof → List Binder → List Binder → Tree → List Tree → List ℕ → Type 0
+MakesBody env None params dummies e hyps bytes = IsBody env is_axiom params dummies e hyps bytes
+MakesBody env (Some p) params dummies e hyps bytes = IsBody env is_theorem params dummies (proved env hyps [] p) hyps bytes
+
+-- ---- all that is written
 
 -- what rows and statements cost
 abbrev pub cost_of : Parts → ℕ
 cost_of p = length p.sorts + rows_cost p.terms + rows_cost p.thms + statements_cost p.statements
+
+-- the parts say these statements, in proportion to their weight
+pub record HasWritten (ss : List Statement) (p : Parts) : Type 0 where
+  pub says : IsWrittenAs p (marked ss) (list_spelled (marked ss))
+  pub short : cost_of p ≤ 32 * weight_of ss
+
+-- the signatures of the terms so far
+abbrev pub table_of : Emitter → List Signature
+table_of e = signatures_of (map words_of_row e.table.terms.items)
+
+-- they are written, and the table has their sorts and terms
+pub record HasRows (ss : List Statement) (e : Emitter) : Type 0 where
+  pub written : HasWritten ss e.writer
+  pub sorts_are : e.table.sorts.items ≡ sorts (declared ss)
+  pub terms_are : table_of e ≡ signatures (declared ss)
+
+-- and what they declare stands before the next
+pub record HasEmitted (ss : List Statement) (e : Emitter) : Type 0 where
+  pub rows : HasRows ss e
+  pub env : e.env ≡ declared ss
+
+-- the i-th statement is the next to be written
+pub record IsNext (ss : List Statement) (i : ℕ) (e : Emitter) : Type 0 where
+  pub within : i < length ss
+  pub before : HasEmitted (take i ss) e
+  pub follows : MayFollow (take i ss) (statement_at ss i)

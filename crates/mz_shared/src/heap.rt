@@ -9,8 +9,9 @@ use std::alloc::{AllocError, Global};
 /// The heap of a body or of a unify stream: how long it is, and where expressions stand in it.
 #[derive(Drop)]
 pub struct Heap {
-    // by the number of the id; expressions behind its end have no place
+    /// The place of each expression, by the number of its id; those behind its end have no place.
     pub places: Vec<Option<u32>>,
+    /// How much stands in it.
     pub len: u32,
 }
 
@@ -38,6 +39,10 @@ fn reach(places: &mut Vec<Option<u32>>, i: usize) -> Result<(), Mem>
 
 impl Heap {
     /// The heap of the parameters, whose ids are the numbers below.
+    ///
+    /// # Errors
+    ///
+    /// Where there is no memory.
     pub fn new(alloc: Global, params: u32) -> Result<Heap, Mem>
         ensures len { IfOk result (λ h. h.len ≡ params) }
         ensures places { IfOk result (λ h. (i p : ℕ) → place_of h.places.items i ≡ Some p → (i ≡ p) × (p < params)) }

@@ -22,9 +22,11 @@ use std::alloc::Global;
 /// The expressions of one statement, over its parameters and dummies.
 #[derive(Drop)]
 pub struct Shared {
+    /// What takes the memory.
     pub alloc: Global,
+    /// The expressions.
     pub store: Store,
-    // the variables of the context, in order
+    /// The variables of the context, in order.
     pub variables: Vec<Id>,
 }
 
@@ -111,6 +113,10 @@ fn instance_ids<T: Terms>(
 impl Shared {
     /// No expressions but the variables: the parameters that the words say, and the dummies behind them,
     /// at most 55 of them bound.
+    ///
+    /// # Errors
+    ///
+    /// Where there is no memory.
     pub fn new(alloc: Global, params: &[Word], dummies: &[Binder]) -> Result<Shared, Mem>
         requires params { BitsRight params.now }
         requires dummies { All IsDummy dummies.now }
@@ -130,6 +136,10 @@ impl Shared {
     }
 
     /// The id of the expression.
+    ///
+    /// # Errors
+    ///
+    /// Where there is no memory.
     pub fn id(&mut self, table: &Table, expr: &Expr) -> Result<Id, Mem>
         requires shared { IsShared (signatures_of (map words_of_row table.now.terms.items)) self.old.store self.old.variables.items }
         requires sorted { (s : ℕ) × HasSort (signatures_of (map words_of_row table.now.terms.items)) self.old.store.context (tree expr.now) s }
@@ -143,6 +153,10 @@ impl Shared {
     }
 
     /// The ids of the expressions.
+    ///
+    /// # Errors
+    ///
+    /// Where there is no memory.
     pub fn ids(&mut self, table: &Table, es: &Exprs) -> Result<Vec<Id>, Mem>
         requires shared { IsShared (signatures_of (map words_of_row table.now.terms.items)) self.old.store self.old.variables.items }
         requires sorted { AreSorted (signatures_of (map words_of_row table.now.terms.items)) self.old.store.context es.now }
@@ -157,6 +171,10 @@ impl Shared {
     }
 
     /// The id of the expression with the operands in place of its variables.
+    ///
+    /// # Errors
+    ///
+    /// Where there is no memory.
     pub fn instance(&mut self, table: &Table, operands: &[Id], expr: &Expr) -> Result<Id, Mem>
         requires shared { IsShared (signatures_of (map words_of_row table.now.terms.items)) self.old.store self.old.variables.items }
         requires ids { AreIn self.old.store operands.now }
@@ -172,6 +190,10 @@ impl Shared {
     }
 
     /// The id of the term over the operands.
+    ///
+    /// # Errors
+    ///
+    /// Where there is no memory.
     pub fn app(&mut self, table: &Table, term: u32, operands: &[Id]) -> Result<Id, Mem>
         requires shared { IsShared (signatures_of (map words_of_row table.now.terms.items)) self.old.store self.old.variables.items }
         requires ids { AreIn self.old.store operands.now }
@@ -186,6 +208,10 @@ impl Shared {
     }
 
     /// Appends the ids of the variables at these places.
+    ///
+    /// # Errors
+    ///
+    /// Where there is no memory.
     pub fn push_variables(&self, ids: &mut Vec<Id>, vars: &Vars) -> Result<(), Mem>
         requires sigs { (sigs : List Signature) × IsShared sigs self.now.store self.now.variables.items }
         requires ids { AreIn self.now.store ids.old.items }

@@ -5,10 +5,14 @@ use mz_cmd::Mem;
 use mz_logic::{SortMods, Terms, Word};
 use std::alloc::{AllocError, Global};
 
+/// A term's words.
 #[derive(Drop)]
 pub struct Row {
+    /// Those of its parameters.
     pub params: Vec<Word>,
+    /// That of its result.
     pub result_word: Word,
+    /// Whether it is a definition.
     pub has_body: bool,
     ghost few: { length params.items < 2 ^ 32 },
 }
@@ -16,7 +20,9 @@ pub struct Row {
 /// The sorts and terms of the statements so far.
 #[derive(Drop)]
 pub struct Table {
+    /// The sorts' modifiers.
     pub sorts: Vec<SortMods>,
+    /// The terms' words.
     pub terms: Vec<Row>,
     ghost few_sorts: { length sorts.items < 2 ^ 32 },
     ghost few_terms: { length terms.items < 2 ^ 32 },
@@ -25,6 +31,7 @@ pub struct Table {
 impl Table {
     ghost use Rattle.mz_shared.specs.Rows.{words_of_row};
 
+    /// No sorts and no terms.
     pub fn new(alloc: Global) -> Table
         ensures sorts { result.sorts.items ≡ [] }
         ensures terms { result.terms.items ≡ [] }
@@ -35,6 +42,11 @@ impl Table {
         }
     }
 
+    /// Appends a sort.
+    ///
+    /// # Errors
+    ///
+    /// Where there is no memory, or there are 2^32 - 1 sorts.
     pub fn add_sort(&mut self, mods: SortMods) -> Result<(), Mem>
         ensures sorts { OnOk result (self.new.sorts.items ≡ self.old.sorts.items ++ mods ∷ []) }
         ensures terms { OnOk result (self.new.terms.items ≡ self.old.terms.items) }
@@ -46,6 +58,11 @@ impl Table {
         Ok(())
     }
 
+    /// Appends a term: the words of its parameters and of its result.
+    ///
+    /// # Errors
+    ///
+    /// Where there is no memory, or there are 2^32 - 1 terms, or more parameters.
     pub fn add_term(
         &mut self,
         params: Vec<Word>,

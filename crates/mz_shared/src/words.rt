@@ -13,7 +13,9 @@ use std::alloc::Global;
 /// The words of parameters, and at each place the bit of its bound parameter, 0 for a regular one.
 #[derive(Drop)]
 pub struct Words {
+    /// The words, in order.
     pub params: Vec<Word>,
+    // the bit at each place
     bits: Vec<u64>,
 }
 
@@ -39,7 +41,11 @@ fn word(sort: u32, bound: bool, deps: u64) -> Word
 }
 
 impl Words {
-    /// The words of these parameters, at most 55 of them bound.
+    /// The words of these parameters, at most 55 of them bound (the .mmb format, on parameters).
+    ///
+    /// # Errors
+    ///
+    /// Where there is no memory.
     pub fn of(alloc: Global, binders: &[Binder]) -> Result<Words, Mem>
         requires { (ss : List SortMods) × CanBeWords ss binders.now }
         ensures words { IfOk result (λ w. AreWordsOf binders.now w) }

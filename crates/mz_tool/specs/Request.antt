@@ -7,10 +7,12 @@ use Rattle.mz_io.specs.Outside.{SameFiles, SameOthers}
 pub data Request : Type 0 where
   verify : (spec bin : List ℕ) → Request
   show : (bin : List ℕ) → Request
+  compile : (text out : List ℕ) → Request
 
 abbrev pub words_of : Request → List (List ℕ)
 words_of (verify spec bin) = codes "verify" ∷ spec ∷ bin ∷ []
 words_of (show bin) = codes "show" ∷ bin ∷ []
+words_of (compile text out) = codes "compile" ∷ text ∷ out ∷ []
 
 -- the words ask for it
 abbrev pub Asks : List (List ℕ) → Request → Type 0
@@ -20,11 +22,13 @@ Asks words request = words ≡ words_of request
 abbrev pub names_read : Request → List (List ℕ)
 names_read (verify spec bin) = spec ∷ bin ∷ []
 names_read (show bin) = bin ∷ []
+names_read (compile text out) = text ∷ []
 
 -- the name under which it puts a file, where it puts one
 abbrev pub name_put : Request → Option (List ℕ)
 name_put (verify spec bin) = None
 name_put (show bin) = None
+name_put (compile text out) = Some out
 
 -- what stands under each name
 abbrev pub Files : Type 0

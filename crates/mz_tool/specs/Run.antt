@@ -1,5 +1,5 @@
 -- How the program answers (this project's own).
-use Rattle.std.specs.Prelude.{◌≡◌, ◌⊎◌, ◌++◌, ℕ, List, [], ◌∷◌, Option, Some, None}
+use Rattle.std.specs.Prelude.{◌≡◌, ◌⊎◌, ◌++◌, ℕ, List, [], ◌∷◌, length, Option, Some, None}
 use Rattle.mz_cmd.specs.declared.rule.Refusal.{Refusal}
 use Rattle.mz_match.specs.declared.verdict.Counts.{Counts}
 use Rattle.mz_match.specs.declared.verdict.Verdict.{Verdict}
@@ -7,7 +7,13 @@ use Rattle.mz_match.specs.declared.verdict.Verdict.TheVariants as verdicts
 use Rattle.mz_match.specs.Verdict.{AcceptsWith, FirstRefusal, IsSound, line_of}
 use Rattle.mz_binary.specs.RefusalLine.{refusal_line}
 use Rattle.mz_show.specs.Listing.{IsListing, IsListedUpTo, IsListed}
-use Rattle.mz_tool.specs.Request.{Request, verify, show, Files, Hold, names_read}
+use Rattle.mz_sexpr.specs.declared.rule.TextRefusal.{TextRefusal}
+use Rattle.mz_type.specs.TextOf.{TextFault}
+use Rattle.mz_emit.specs.declared.rule.L.{L}
+use Rattle.mz_emit.specs.Lines.{bytes_line, refusal_line as text_refusal_line, limit_line}
+use Rattle.mz_emit.specs.Limits.{limit, over}
+use Rattle.mz_emit.specs.Compiling.{CompilesTo, PassesLimit}
+use Rattle.mz_tool.specs.Request.{Request, verify, show, compile, Files, Hold, names_read}
 use Rattle.mz_tool.specs.declared.status.Status.{Status}
 use Rattle.mz_tool.specs.declared.status.Status.TheVariants as statuses
 
@@ -25,18 +31,31 @@ IsRefuted spec bin text = (verdict : Verdict) × FirstRefusal spec bin verdict �
 abbrev pub IsPartlyListed : List ℕ → List ℕ → Type 0
 IsPartlyListed bin text = (listed : List ℕ) × (refusal : Refusal) × IsListedUpTo bin listed refusal × (text ≡ listed ++ refusal_line refusal)
 
+-- the text is compiled to the bytes, which are put: they are accepted against each specification with which its public
+-- statements agree
+abbrev pub IsCompiledTo : List ℕ → Option (List ℕ) → List ℕ → Type 0
+IsCompiledTo text put line = (bin : List ℕ) × (put ≡ Some bin) × CompilesTo text bin × (line ≡ bytes_line (length bin))
+
+-- it has a first fault, or is well typed and passes a limit first
+abbrev pub IsNotCompiled : List ℕ → List ℕ → Type 0
+IsNotCompiled text line =
+    ((refusal : TextRefusal) × TextFault text refusal × (line ≡ text_refusal_line refusal))
+    ⊎ ((rule : L) × (count : ℕ) × PassesLimit text (over (limit rule) count) × (line ≡ limit_line rule count))
+
 -- ---- the answers to a request, over the bytes of its files in their order
 
 -- the answer is yes; these bytes are put, where a file is put, and this is the text
 abbrev pub IsYesOf : Request → List (List ℕ) → Option (List ℕ) → List ℕ → Type 0
 IsYesOf (verify spec_name bin_name) (spec ∷ bin ∷ []) put text = (put ≡ None) × IsVerified spec bin text
 IsYesOf (show bin_name) (bin ∷ []) put text = (put ≡ None) × IsListing bin text
+IsYesOf (compile text_name out_name) (stated ∷ []) put text = IsCompiledTo stated put text
 IsYesOf request contents put text = ⊥
 
 -- the answer is a refusal, and this is its text
 abbrev pub IsNoOf : Request → List (List ℕ) → List ℕ → Type 0
 IsNoOf (verify spec_name bin_name) (spec ∷ bin ∷ []) text = IsRefuted spec bin text
 IsNoOf (show bin_name) (bin ∷ []) text = IsPartlyListed bin text
+IsNoOf (compile text_name out_name) (stated ∷ []) text = IsNotCompiled stated text
 IsNoOf request contents text = ⊥
 
 -- What is accepted is sound: each theorem of the specification ends a front of the binary's statements, which is a legal
@@ -46,6 +65,7 @@ abbrev pub IsProvedOf : Request → List (List ℕ) → Type 0
 IsProvedOf (verify spec_name bin_name) (spec ∷ bin ∷ []) = IsSound spec bin
 IsProvedOf (verify spec_name bin_name) contents = ⊥
 IsProvedOf (show bin_name) contents = Unit {0}
+IsProvedOf (compile text_name out_name) contents = Unit {0}
 
 -- ---- the same over the folder's files
 
@@ -77,11 +97,13 @@ IsQuiet statuses.Memory = ⊥
 -- there before want of memory
 abbrev pub IsListedFor : Files → Request → List ℕ → Type 0
 IsListedFor file (verify spec_name bin_name) text = ⊥
+IsListedFor file (compile text_name out_name) text = ⊥
 IsListedFor file (show bin_name) text = (bin : List ℕ) × (file bin_name ≡ Some bin) × IsListed bin text
 
 abbrev pub IsShow : Request → Type 0
 IsShow (verify spec bin) = ⊥
 IsShow (show bin) = Unit {0}
+IsShow (compile text out) = ⊥
 
 -- the statuses at which a file may have been put, or spoilt
 abbrev pub MayPut : Status → Type 0

@@ -13,6 +13,8 @@ pub enum Command<'a> {
     Verify { spec: &'a str, bin: &'a str },
     /// `show BIN`
     Show { bin: &'a str },
+    /// `compile TEXT OUT`
+    Compile { text: &'a str, out: &'a str },
 }
 
 impl<'a> Command<'a> {
@@ -28,6 +30,10 @@ impl<'a> Command<'a> {
                 spec: spec.as_str(),
                 bin: bin.as_str(),
             }),
+            [command, text, out] if command.as_str() == "compile" => Some(Command::Compile {
+                text: text.as_str(),
+                out: out.as_str(),
+            }),
             [command, bin] if command.as_str() == "show" => Some(Command::Show {
                 bin: bin.as_str(),
             }),
@@ -42,6 +48,7 @@ impl<'a> Command<'a> {
         match self {
             Command::Verify { spec, bin } => Inputs::Two(spec, bin),
             Command::Show { bin } => Inputs::One(bin),
+            Command::Compile { text, .. } => Inputs::One(text),
         }
     }
 
@@ -51,6 +58,7 @@ impl<'a> Command<'a> {
     {
         match self {
             Command::Verify { .. } | Command::Show { .. } => Output::Nothing,
+            Command::Compile { out, .. } => Output::File(out),
         }
     }
 }

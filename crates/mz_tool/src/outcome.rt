@@ -7,6 +7,7 @@ ghost use Rattle.mz_tool.specs.Inputs.{contents_of, AreWithin};
 ghost use Rattle.mz_tool.specs.Outcomes.{IfYes, IfNo, OnYes, OnNo};
 
 use crate::command::Command;
+use crate::compile::compile;
 use crate::inputs::Contents;
 use crate::output::Put;
 use crate::verify::verify;
@@ -37,6 +38,7 @@ pub fn outcome_of(alloc: Global, command: Command, contents: &Contents) -> Outco
 {
     match (command, contents) {
         (Command::Verify { .. }, Contents::Two(spec, bin)) => verify(alloc, spec, bin),
+        (Command::Compile { .. }, Contents::One(text)) => compile(alloc, text),
         _ => unreachable!(),
     }
 }

@@ -123,6 +123,8 @@ pub fn answer<F: Folder, O: Sink>(
 {
     match command {
         Command::Show { bin } => show(alloc, limit, bin, folder, out),
-        Command::Verify { .. } => answer_whole(alloc, limit, command, folder, out),
+        Command::Verify { .. } | Command::Compile { .. } => answer_whole(
+            alloc, limit, command, folder, out,
+        ),
     }
 }

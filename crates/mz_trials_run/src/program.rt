@@ -1,6 +1,7 @@
 // Runs of the program over a folder and a sink in memory.
 mod change;
 mod codes;
+mod compiling;
 mod cut;
 mod faults;
 pub mod files;
@@ -8,6 +9,7 @@ mod hostile;
 pub mod listings;
 mod lists;
 mod matching;
+mod texts;
 mod worked;
 
 use change::{Change, changed};

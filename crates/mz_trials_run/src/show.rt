@@ -10,7 +10,9 @@ use std::test::Fail;
 /// much at a time, and whose call of this number fails.
 fn listed(alloc: Global, room: u64, most: u64, fails: u64) -> Result<(Shown, MemSink), AllocError> {
     let mut out = MemSink::new(alloc, room)?;
-    out.take_at_most(most);
+    if most > 0 {
+        out.take_at_most(most);
+    }
     out.fail_call(fails)?;
     let shown = listing(alloc, DUMMY, &mut out);
     Ok((shown, out))

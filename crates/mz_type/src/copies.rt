@@ -100,7 +100,7 @@ fn copy_of_thm(alloc: Global, thm: &ThmDecl) -> Result<ThmDecl, AllocError>
 }
 
 /// A copy of a declaration.
-pub(crate) fn copy_of_decl(alloc: Global, decl: &Decl) -> Result<Decl, AllocError>
+pub fn copy_of_decl(alloc: Global, decl: &Decl) -> Result<Decl, AllocError>
     ensures { IfOk result (λ copy. declaration copy ≡ declaration decl.now) }
 {
     match decl {

@@ -16,6 +16,7 @@ mod statements;
 mod typed;
 mod weigh;
 
+pub use copies::copy_of_decl;
 pub use laws::{
     limits_are_decided, rules_are_the_meaning, statements_can_be_words, typed_or_faulty,
     typed_or_refused,

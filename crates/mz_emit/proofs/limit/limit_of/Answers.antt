@@ -2,7 +2,7 @@ use Rattle.std.proofs.Common.{◌≡◌, ◌≤◌, List, subst, ap, arith}
 use Rattle.mz_checks.specs.Checks.{AllHold, FailsFirst}
 use Rattle.mz_mmu.specs.Proof.{Statement}
 use Rattle.mz_mmu.specs.TextView.{Forms}
-use Rattle.mz_type.specs.Weight.{parameter_limit, bound_limit, byte_limit, sort_count, parameter_count, bound_count, byte_bound, each_within}
+use Rattle.mz_type.specs.Weight.{parameter_limit, bound_limit, sort_count, parameter_count, bound_count, byte_bound, each_within}
 use Rattle.mz_emit.specs.Limits.{over}
 use Rattle.mz_emit.proofs.Limiting.{many_params, many_bound, many_bytes, none_passes}
 use Rattle.mz_emit.proofs.limit.limit_of.Goals as goal

@@ -1,0 +1,101 @@
+-- One item more in the heap.
+use Rattle.std.specs.Prelude.{ℕ, ◌≡◌, ◌<◌, ◌+◌, ◌^◌, ◌⊎◌, false, List, [], ◌∷◌, ◌++◌, length, slice_get, Contains, Option, Some, None}
+use Rattle.std.proofs.Common.{zero, suc, refl, sym, ap, ◌∙◌, subst, arith, inl, inr}
+use Rattle.std.proofs.lemmas.List.{length-append}
+use Rattle.mz_cmd.specs.declared.code.ProofCode.TheVariants as code
+use Rattle.mz_logic.specs.Tree.{Tree, Trees, var, app, listed}
+use Rattle.mz_logic.specs.Declaration.{Declaration, signatures}
+use Rattle.mz_logic.specs.declared.binder.Binder.{Binder}
+use Rattle.mz_logic.proofs.Extend.{extends_append}
+use Rattle.mz_store.specs.Sharing.{Sharing, IsIn, tree_of, head_of, operands_of, sort_of}
+use Rattle.mz_store.specs.declared.item.Id.{Id}
+use Rattle.mz_unify.specs.Profile.{Item, expr, proof}
+use Rattle.mz_unify.specs.Spells.{trees_of as listed_back}
+use Rattle.mz_unify.specs.Sorted.{Sorted}
+use Rattle.mz_unify.proofs.Trees.{trees_of-listed}
+use Rattle.mz_steps.specs.Works.{Work}
+use Rattle.mz_steps.specs.Steps.{stacked, kept, above, Step, command_bytes}
+use Rattle.mz_shared.specs.Places.{place_of}
+use Rattle.mz_bodies.specs.Owes.{Task, make, Owes}
+use Rattle.mz_bodies.specs.Sight.{parts}
+use Rattle.mz_bodies.specs.Going.{Job, CellsRight, PlacesRight, IsGoing}
+use Rattle.mz_bodies.specs.declared.cells.Cell.{Cell}
+use Rattle.mz_bodies.proofs.Lists.{slice_last, same_or_not}
+use Rattle.mz_bodies.proofs.Shortening.{command_short}
+use Rattle.mz_bodies.proofs.Standing.{may_last, may_rest}
+use Rattle.mz_bodies.proofs.Moves.{joined, more_written}
+
+pub some_is : (a b : ℕ) → ◌≡◌ {A = Option ℕ} (Some a) (Some b) → a ≡ b
+some_is a b e = ap get_some e
+  where
+    get_some : Option ℕ → ℕ
+    get_some None = 0
+    get_some (Some x) = x
+
+pub cells_kept : (env : List Declaration) (ctx : List Binder) (hyps : List Tree) (cells : List Cell) (heap : List (Item Tree)) (y : Item Tree)
+    → CellsRight env ctx hyps cells heap → CellsRight env ctx hyps cells (heap ++ y ∷ [])
+cells_kept env ctx hyps cells heap y h = record {
+  linked = h.linked;
+  sound = h.sound;
+  placed = λ c p lt at. extends_append heap (y ∷ []) p _ (h.placed c p lt at);
+}
+
+module _ (env : List Declaration) (n : ℕ) (hyps : List Tree) (s : Sharing) (vars : List Id) (places places' : List (Option ℕ)) (hps : List ℕ) (met : List ℕ) (heap : List (Item Tree))
+    (i len : ℕ) (at : place_of places' i ≡ Some len) (others : (j : ℕ) → (j ≡ i → ⊥) → place_of places' j ≡ place_of places j) (long : length heap ≡ len) where
+  pub places_put : IsIn s i → PlacesRight env n hyps s vars places hps met heap → PlacesRight env n hyps s vars places' hps met (heap ++ expr (tree_of s i) ∷ [])
+  places_put inside h = record {
+    expressions = λ j p j-at. elim (same_or_not j i) [
+      | inl is ↦ (
+        subst (IsIn s) (sym is) inside,
+        (let p-is : len ≡ p = some_is len p (sym (ap (place_of places') is ∙ at) ∙ j-at) in
+            slice_last (Item Tree) heap (expr (tree_of s i)) p (sym p-is ∙ sym long) ∙ ap (λ (k : ℕ). Some (expr (tree_of s k))) (sym is)),
+      )
+      | inr other ↦ (let k = h.expressions j p (sym (others j other) ∙ j-at) in (k.0, extends_append heap (expr (tree_of s i) ∷ []) p _ k.1))
+    ];
+    variables = λ x k k-at has. elim (same_or_not k.0 i) [
+      | inl is ↦ (len, ap (place_of places') is ∙ at)
+      | inr other ↦ (let q = h.variables x k k-at has in (q.0, others k.0 other ∙ q.1))
+    ];
+    params_met = h.params_met;
+    dummies = h.dummies;
+    hypotheses = λ k p k-at. (let q = h.hypotheses k p k-at in (q.0, q.1, extends_append heap (expr (tree_of s i) ∷ []) p _ q.2));
+  }
+
+whole : (t : ℕ) (e : Tree) → Some t ≡ head_of e → app t (listed_back (listed (operands_of e))) ≡ e
+whole t (app u es) is = ap (λ (z : ℕ). app z (listed_back (listed es))) (some_is t u is) ∙ ap (app u) (trees_of-listed es)
+whole t (var x) is = absurd (no_head is)
+  where
+    no_head : ◌≡◌ {A = Option ℕ} (Some t) None → ⊥
+    no_head e = grind (arith, e)
+
+module _ (env : List Declaration) (o : Job) (s : Sharing) (vars : List Id) (places : List (Option ℕ)) (len : ℕ) (hps : List ℕ) (cells : List Cell) where
+  pub made : (i t : ℕ) (places' : List (Option ℕ)) (len' : ℕ) (us : List Task) (bs bs' : List ℕ) → Some t ≡ head_of (tree_of s i)
+      → place_of places' i ≡ Some len → ((j : ℕ) → (j ≡ i → ⊥) → place_of places' j ≡ place_of places j) → len' ≡ len + 1 → bs' ≡ bs ++ command_bytes (code.TermSave, t) → t < 2 ^ 32
+      → IsGoing env o s vars places len hps cells (make i ∷ us) bs → IsGoing env o s vars places' len' hps cells us bs'
+  made i t places' len' us bs bs' head at others len-is is small g =
+      let e : Tree = tree_of s i in
+      let es : List Tree = listed (operands_of e) in
+      let e-is : app t (listed_back es) ≡ e = whole t e head in
+      let inside : IsIn s i = g.owes.1.0 in
+      let rest : List (Item Tree) = g.owes.1.3 in
+      let next : Work = kept (stacked g.work (expr e ∷ rest)) (expr e) in
+      let sorted : Sorted (signatures env) s.context (app t (listed_back es)) = subst (Sorted (signatures env) s.context) (sym e-is) (sort_of s i, (g.shared.over i inside).0) in
+      let step : Step false env s.context g.work code.TermSave t next = (es, rest, (sorted, g.owes.1.4), ap (λ (z : Tree). kept (stacked g.work (expr z ∷ rest)) (expr z)) (sym e-is)) in
+      record {
+        commands = g.commands ++ (code.TermSave, t) ∷ [];
+        work = next;
+        steps = joined env o s vars places len hps cells (make i ∷ us) bs g code.TermSave t next step;
+        may_stand = may_last o.kind g.commands code.TermSave t g.may_stand (refl, small);
+        written = is ∙ more_written env o s vars places len hps cells (make i ∷ us) bs g code.TermSave t;
+        assumed = g.assumed;
+        counted = g.counted;
+        long = (let l = length-append g.work.heap (expr e ∷ []) in let m = g.long in omega (arith, l, m, len-is));
+        grew = g.grew;
+        shared = g.shared;
+        there = places_put env (length o.params) o.hyps s vars places places' hps g.work.met g.work.heap i len at others g.long inside g.there;
+        lets = cells_kept env s.context o.hyps cells g.work.heap (expr e) g.lets;
+        may_do = may_rest o (make i) us g.may_do;
+        clear = g.clear.1;
+        short = (let h = g.short in let a = ap length is ∙ length-append bs (command_bytes (code.TermSave, t)) in let b = command_short code.TermSave t in omega (arith, h, a, b));
+        owes = subst (λ (z : List (Item Tree)). Owes env s.context o.hyps s (parts cells) z us o.goal) g.owes.1.5 g.owes.2;
+      }

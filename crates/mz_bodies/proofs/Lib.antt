@@ -1,0 +1,17 @@
+mod Ways
+pub mod Grown
+mod Scoping
+pub mod Lists
+mod Standing
+mod Moves
+mod Keeping
+mod Growing
+mod Saving
+mod Naming
+mod Opening
+mod Binding
+mod Dummies
+mod Beginning
+mod Ends
+pub mod Paying
+mod Shortening

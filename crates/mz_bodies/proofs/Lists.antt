@@ -1,0 +1,57 @@
+-- Lists: one place set, and the last one.
+use Rattle.std.specs.Prelude.{ℕ, ◌≡◌, ◌<◌, ◌≤◌, ◌+◌, ◌⊎◌, List, [], ◌∷◌, ◌++◌, length, get_or, slice_get, map, Option, Some, None}
+use Rattle.std.proofs.Common.{zero, suc, refl, sym, ap, ◌∙◌, arith, slice_set, slice_index_or, inl, inr}
+
+pub set_map : (A B : Type 0) (g : A → B) (xs : List A) (i : ℕ) (x y : A) → i < length xs → x ≡ slice_index_or xs i x → g y ≡ g x → map g (slice_set xs i y) ≡ map g xs
+set_map A B g [] i x y lt is same = absurd (omega (arith, lt))
+set_map A B g (z ∷ xs) zero x y lt is same = ap (λ (b : B). b ∷ map g xs) (same ∙ ap g is)
+set_map A B g (z ∷ xs) (suc i) x y lt is same = ap (λ (bs : List B). g z ∷ bs) (set_map A B g xs i x y (omega (arith, lt)) is same)
+
+pub set_long : (A : Type 0) (xs : List A) (i : ℕ) (y : A) → length (slice_set xs i y) ≡ length xs
+set_long A [] i y = refl
+set_long A (z ∷ xs) zero y = refl
+set_long A (z ∷ xs) (suc i) y = ap suc (set_long A xs i y)
+
+pub set_at : (A B : Type 0) (g : A → B) (xs : List A) (i : ℕ) (y : A) (b : B) → i < length xs → get_or (map g (slice_set xs i y)) i b ≡ g y
+set_at A B g [] i y b lt = absurd (omega (arith, lt))
+set_at A B g (z ∷ xs) zero y b lt = refl
+set_at A B g (z ∷ xs) (suc i) y b lt = set_at A B g xs i y b (omega (arith, lt))
+
+pub set_others : (A B : Type 0) (g : A → B) (xs : List A) (i j : ℕ) (y : A) (b : B) → (j ≡ i → ⊥) → get_or (map g (slice_set xs i y)) j b ≡ get_or (map g xs) j b
+set_others A B g [] i j y b other = refl
+set_others A B g (z ∷ xs) zero zero y b other = absurd (other refl)
+set_others A B g (z ∷ xs) zero (suc j) y b other = refl
+set_others A B g (z ∷ xs) (suc i) zero y b other = refl
+set_others A B g (z ∷ xs) (suc i) (suc j) y b other = set_others A B g xs i j y b (λ is. other (ap suc is))
+
+pub get_slice : (A : Type 0) (xs : List A) (i : ℕ) (z : A) → i < length xs → slice_get xs i ≡ Some (get_or xs i z)
+get_slice A [] i z lt = absurd (omega (arith, lt))
+get_slice A (x ∷ xs) zero z lt = refl
+get_slice A (x ∷ xs) (suc i) z lt = get_slice A xs i z (omega (arith, lt))
+
+pub slice_last : (A : Type 0) (xs : List A) (y : A) (n : ℕ) → n ≡ length xs → slice_get (xs ++ y ∷ []) n ≡ Some y
+slice_last A [] y zero is = refl
+slice_last A [] y (suc n) is = absurd (omega (arith, is))
+slice_last A (x ∷ xs) y zero is = absurd (omega (arith, is))
+slice_last A (x ∷ xs) y (suc n) is = slice_last A xs y n (omega (arith, is))
+
+pub none_last : (xs : List (Option ℕ)) (c p : ℕ) → get_or (xs ++ None ∷ []) c None ≡ Some p → get_or xs c None ≡ Some p
+none_last [] zero p is = is
+none_last [] (suc c) p is = is
+none_last (x ∷ xs) zero p is = is
+none_last (x ∷ xs) (suc c) p is = none_last xs c p is
+
+pub index_slice : (A : Type 0) (xs : List A) (i : ℕ) (x d : A) → i < length xs → x ≡ slice_index_or xs i d → slice_get xs i ≡ Some x
+index_slice A [] i x d lt is = absurd (omega (arith, lt))
+index_slice A (y ∷ xs) zero x d lt is = ap (λ (z : A). Some z) (sym is)
+index_slice A (y ∷ xs) (suc i) x d lt is = index_slice A xs i x d (omega (arith, lt)) is
+
+pub get_end : (A : Type 0) (xs : List A) (y z : A) → get_or (xs ++ y ∷ []) (length xs) z ≡ y
+get_end A [] y z = refl
+get_end A (x ∷ xs) y z = get_end A xs y z
+
+pub same_or_not : (a b : ℕ) → (a ≡ b) ⊎ (a ≡ b → ⊥)
+same_or_not zero zero = inl refl
+same_or_not zero (suc b) = inr (λ is. absurd (omega (arith, is)))
+same_or_not (suc a) zero = inr (λ is. absurd (omega (arith, is)))
+same_or_not (suc a) (suc b) = elim (same_or_not a b) [ inl is ↦ inl (ap suc is) | inr other ↦ inr (λ is. other (omega (arith, is))) ]

@@ -1,0 +1,86 @@
+-- A let's part that is saved, and a dummy that is made.
+use Rattle.std.specs.Prelude.{ℕ, ◌≡◌, ◌<◌, ◌≤◌, ◌+◌, ◌⊎◌, false, List, [], ◌∷◌, ◌++◌, length, slice_get, Contains, Option, Some, None}
+use Rattle.std.proofs.Common.{zero, suc, refl, sym, ap, ◌∙◌, subst, arith, inl, inr}
+use Rattle.std.proofs.lemmas.List.{length-append}
+use Rattle.std.proofs.lemmas.List.Elements.{Contains-append_left, Contains-append_cases}
+use Rattle.mz_cmd.specs.declared.code.ProofCode.TheVariants as code
+use Rattle.mz_logic.specs.Tree.{Tree, var}
+use Rattle.mz_logic.specs.Declaration.{Declaration}
+use Rattle.mz_logic.specs.declared.binder.Binder.{Binder}
+use Rattle.mz_logic.proofs.Extend.{extends_append}
+use Rattle.mz_store.specs.Sharing.{Sharing}
+use Rattle.mz_store.specs.declared.item.Id.{Id}
+use Rattle.mz_unify.specs.Profile.{Item, expr, proof}
+use Rattle.mz_steps.specs.Works.{Work}
+use Rattle.mz_steps.specs.Steps.{kept, Step, command_bytes}
+use Rattle.mz_shared.specs.Places.{place_of}
+use Rattle.mz_bodies.specs.Scopes.{in_sight}
+use Rattle.mz_bodies.specs.Claims.{IsSound}
+use Rattle.mz_bodies.specs.Owes.{Task, save, claims, claim_of, Owes}
+use Rattle.mz_bodies.specs.Sight.{Part, Link, links, parts, part_at, place_at, AreRight}
+use Rattle.mz_bodies.specs.Going.{Job, CellsRight, PlacesRight, IsGoing}
+use Rattle.mz_bodies.specs.declared.cells.Cell.{Cell}
+use Rattle.mz_bodies.proofs.Lists.{slice_last, same_or_not}
+use Rattle.mz_bodies.proofs.Keeping.{some_is, cells_kept}
+use Rattle.mz_bodies.specs.Lengths.{begun, waits, IsClear}
+use Rattle.mz_bodies.proofs.Shortening.{command_one, waits_saved}
+use Rattle.mz_bodies.proofs.Standing.{may_last, may_rest}
+use Rattle.mz_bodies.proofs.Moves.{joined, more_written}
+
+pub places_kept : (env : List Declaration) (n : ℕ) (hyps : List Tree) (s : Sharing) (vars : List Id) (places : List (Option ℕ)) (hps : List ℕ) (met : List ℕ) (heap : List (Item Tree)) (y : Item Tree)
+    → PlacesRight env n hyps s vars places hps met heap → PlacesRight env n hyps s vars places hps met (heap ++ y ∷ [])
+places_kept env n hyps s vars places hps met heap y h = record {
+  expressions = λ j p at. (let k = h.expressions j p at in (k.0, extends_append heap (y ∷ []) p _ k.1));
+  variables = h.variables;
+  params_met = h.params_met;
+  dummies = h.dummies;
+  hypotheses = λ k p k-at. (let q = h.hypotheses k p k-at in (q.0, q.1, extends_append heap (y ∷ []) p _ q.2));
+}
+
+module _ (env : List Declaration) (ctx : List Binder) (hyps : List Tree) (cells cells' : List Cell) (heap : List (Item Tree)) (c len : ℕ)
+    (parts-are : parts cells' ≡ parts cells) (links-are : links cells' ≡ links cells) (many : length cells' ≡ length cells)
+    (at : place_at cells' c ≡ Some len) (others : (d : ℕ) → (d ≡ c → ⊥) → place_at cells' d ≡ place_at cells d) (long : length heap ≡ len) where
+  pub cells_saved : CellsRight env ctx hyps cells heap → CellsRight env ctx hyps cells' (heap ++ proof (claim_of env hyps (parts cells) c) ∷ [])
+  cells_saved h = record {
+    linked = subst AreRight (sym links-are) h.linked;
+    sound = λ d lt. subst (λ (ps : List Part). IsSound env ctx hyps (in_sight (claims env hyps ps) (part_at ps d).outer) (part_at ps d).proof) (sym parts-are) (h.sound d (omega (arith, lt, many)));
+    placed = λ d p lt d-at. subst (λ (ps : List Part). slice_get (heap ++ proof (claim_of env hyps (parts cells) c) ∷ []) p ≡ Some (proof (claim_of env hyps ps d))) (sym parts-are)
+        (elim (same_or_not d c) [
+          | inl is ↦ (let p-is : len ≡ p = some_is len p (sym (ap (place_at cells') is ∙ at) ∙ d-at) in
+              slice_last (Item Tree) heap (proof (claim_of env hyps (parts cells) c)) p (sym p-is ∙ sym long) ∙ ap (λ (k : ℕ). Some (proof (claim_of env hyps (parts cells) k))) (sym is))
+          | inr other ↦ extends_append heap (proof (claim_of env hyps (parts cells) c) ∷ []) p _ (h.placed d p (omega (arith, lt, many)) (sym (others d other) ∙ d-at))
+        ]);
+  }
+
+module _ (env : List Declaration) (o : Job) (s : Sharing) (vars : List Id) (places : List (Option ℕ)) (len : ℕ) (hps : List ℕ) (cells : List Cell) where
+  pub saved : (c : ℕ) (cells' : List Cell) (places' : List (Option ℕ)) (len' : ℕ) (us : List Task) (bs bs' : List ℕ)
+      → parts cells' ≡ parts cells → links cells' ≡ links cells → length cells' ≡ length cells
+      → place_at cells' c ≡ Some len → ((d : ℕ) → (d ≡ c → ⊥) → place_at cells' d ≡ place_at cells d) → places' ≡ places → len' ≡ len + 1
+      → bs' ≡ bs ++ command_bytes (code.Save, 0)
+      → IsGoing env o s vars places len hps cells (save c ∷ us) bs → IsGoing env o s vars places' len' hps cells' us bs'
+  saved c cells' places' len' us bs bs' parts-are links-are many at others places-are len-is is g =
+      let e : Tree = claim_of env o.hyps (parts cells) c in
+      let next : Work = kept g.work (proof e) in
+      let step : Step false env s.context g.work code.Save 0 next = (proof e, g.owes.1.1, g.owes.1.2, refl, refl) in
+      record {
+        commands = g.commands ++ (code.Save, 0) ∷ [];
+        work = next;
+        steps = joined env o s vars places len hps cells (save c ∷ us) bs g code.Save 0 next step;
+        may_stand = may_last o.kind g.commands code.Save 0 g.may_stand (refl, omega arith);
+        written = is ∙ more_written env o s vars places len hps cells (save c ∷ us) bs g code.Save 0;
+        assumed = g.assumed;
+        counted = g.counted;
+        long = (let l = length-append g.work.heap (proof e ∷ []) in let m = g.long in omega (arith, l, m, len-is));
+        grew = g.grew;
+        shared = g.shared;
+        there = subst (λ (z : List (Option ℕ)). PlacesRight env (length o.params) o.hyps s vars z hps g.work.met next.heap) (sym places-are)
+            (places_kept env (length o.params) o.hyps s vars places hps g.work.met g.work.heap (proof e) g.there);
+        lets = cells_saved env s.context o.hyps cells cells' g.work.heap c len parts-are links-are many at others g.long g.lets;
+        may_do = may_rest o (save c) us g.may_do;
+        clear = subst (λ (ps : List Part). IsClear ps us) (sym parts-are) g.clear.1;
+        short = (let h = g.short in let a = ap length is ∙ length-append bs (command_bytes (code.Save, 0)) in let b = command_one code.Save in
+            let w = waits_saved env (begun us) (place_at cells) (place_at cells') c len (parts cells) at others in
+            let d = ap (waits env (begun us) (place_at cells') 0) parts-are in omega (arith, h, a, b, w, d));
+        owes = subst (λ (ps : List Part). Owes env s.context o.hyps s ps g.work.stack us o.goal) (sym parts-are)
+            (subst (λ (z : List (Item Tree)). Owes env s.context o.hyps s (parts cells) z us o.goal) g.owes.1.3 g.owes.2);
+      }

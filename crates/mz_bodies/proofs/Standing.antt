@@ -1,0 +1,63 @@
+-- Which commands may stand in a body, and which tasks may be done.
+use Rattle.std.specs.Prelude.{ℕ, ◌≡◌, ◌<◌, ◌^◌, ◌⊎◌, true, List, [], ◌∷◌, ◌++◌, length}
+use Rattle.std.proofs.Common.{refl, sym, subst, inl, inr}
+use Rattle.mz_cmd.specs.declared.code.ProofCode.{ProofCode}
+use Rattle.mz_cmd.specs.declared.code.ProofCode.TheVariants as code
+use Rattle.mz_store.specs.declared.item.Id.{Id}
+use Rattle.mz_unify.specs.Profile.{strict}
+use Rattle.mz_machine.specs.Tables.{Kind, is_theorem}
+use Rattle.mz_machine.specs.Bodies.{stands_in}
+use Rattle.mz_steps.specs.Endings.{MayStand}
+use Rattle.mz_bodies.specs.Owes.{Task, push, make, MakesExpression, IsOfExpressions}
+use Rattle.mz_bodies.specs.Pushing.{pushes}
+use Rattle.mz_bodies.specs.Going.{Job, MayProve, MayDo}
+
+-- the command may stand in a body of this kind, and its operand takes four bytes at most
+abbrev pub MayBe : Kind → ProofCode → ℕ → Type 0
+MayBe kind c v = (stands_in strict kind c ≡ true) × (v < 2 ^ 32)
+
+pub may_last : (kind : Kind) (cs : List (ProofCode × ℕ)) (c : ProofCode) (v : ℕ) → MayStand strict kind cs → MayBe kind c v → MayStand strict kind (cs ++ (c, v) ∷ [])
+may_last kind [] c v may is = (is.0, is.1, tt)
+may_last kind (d ∷ cs) c v may is = (may.0, may.1, may_last kind cs c v may.2 is)
+
+-- every command may stand in a theorem's body
+in_theorem : (c : ProofCode) → stands_in strict is_theorem c ≡ true
+in_theorem code.Term = refl
+in_theorem code.TermSave = refl
+in_theorem code.Ref = refl
+in_theorem code.Dummy = refl
+in_theorem code.Thm = refl
+in_theorem code.ThmSave = refl
+in_theorem code.Hyp = refl
+in_theorem code.Conv = refl
+in_theorem code.Refl = refl
+in_theorem code.Symm = refl
+in_theorem code.Cong = refl
+in_theorem code.Unfold = refl
+in_theorem code.ConvCut = refl
+in_theorem code.ConvRef = refl
+in_theorem code.ConvSave = refl
+in_theorem code.Save = refl
+in_theorem code.Sorry = refl
+
+-- ---- tasks
+
+pub proving : (o : Job) (t : Task) (us : List Task) → (MakesExpression t → ⊥) → MayDo o (t ∷ us) → MayProve o
+proving o t us not (inl may) = may
+proving o t us not (inr made) = absurd (not made.0)
+
+pub may_rest : (o : Job) (t : Task) (us : List Task) → MayDo o (t ∷ us) → MayDo o us
+may_rest o t us (inl may) = inl may
+may_rest o t us (inr made) = inr made.1
+
+pushes_make : (is : List Id) (us : List Task) → IsOfExpressions us → IsOfExpressions (pushes is ++ us)
+pushes_make [] us made = made
+pushes_make (i ∷ is) us made = (tt, pushes_make is us made)
+
+pub may_push : (o : Job) (is : List Id) (i j : ℕ) (us : List Task) → MayDo o (push i ∷ us) → MayDo o (pushes is ++ make j ∷ us)
+may_push o is i j us (inl may) = inl may
+may_push o is i j us (inr made) = inr (pushes_make is (make j ∷ us) (tt, made.1))
+
+-- a command of a proof
+pub may_be : (o : Job) (c : ProofCode) (v : ℕ) → MayProve o → v < 2 ^ 32 → MayBe o.kind c v
+may_be o c v may lt = (subst (λ (k : Kind). stands_in strict k c ≡ true) (sym may.0) (in_theorem c), lt)

@@ -1,0 +1,10 @@
+use Rattle.std.proofs.Common.{ℕ, ◌≡◌, ◌≤◌, ◌<◌, ◌++◌, ◌∷◌, [], OnOk, OnErr, length, ◌+◌, ◌-◌, ◌*◌}
+use Rattle.mz_bodies.specs.Sight.{link_at, links, InSight, AreRight}
+use Rattle.mz_bodies.proofs.cells.visible.Given as goal
+
+abbrev pub invariant-loop-at : goal.invariant-loop-at
+invariant-loop-at l = (l.at < length (links l.cells)) × (l.number ≤ (link_at (links l.cells) l.at).depth)
+    × ((d : ℕ) → InSight (links l.cells) l.at l.number d → InSight (links l.cells) l.innermost l.number d)
+
+abbrev pub decreases-loop-at : goal.decreases-loop-at
+decreases-loop-at l = l.at

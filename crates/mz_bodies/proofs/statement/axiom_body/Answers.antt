@@ -1,0 +1,75 @@
+use Rattle.std.proofs.Common.{ℕ, ◌≤◌, ◌+◌, ◌*◌, arith, ap, length, take, refl, sym, ◌∙◌, subst}
+use Rattle.mz_logic.specs.Tree.{listed, size, trees_size}
+use Rattle.mz_unify.specs.Profile.{expr}
+use Rattle.mz_machine.specs.Tables.{is_axiom}
+use Rattle.mz_store.specs.Sharing.{tree_of, trees_of}
+use Rattle.mz_bodies.specs.Going.{IsAfter}
+use Rattle.mz_bodies.specs.Owes.{to_do}
+use Rattle.mz_bodies.specs.Stages.{job, leaving, assuming}
+use Rattle.mz_bodies.proofs.Ends.{ended, ended_short, first_begins, body_as, assumes_all, all_assumed}
+use Rattle.mz_bodies.proofs.statement.axiom_body.Goals as goal
+
+pub put_hyps-requires-clause-before : goal.put_hyps-requires-clause-before
+put_hyps-requires-clause-before c = subst IsAfter (sym c.in_ok-written.ensures.before) c.requires.before
+
+pub put_hyps-requires-clause-can : goal.put_hyps-requires-clause-can
+put_hyps-requires-clause-can c =
+    let s = c.args.shared.store in
+    let ps = take c.args.params s.context in
+    let hyps = listed (trees_of s c.args.hyps.now) in (
+      job is_axiom ps s hyps,
+      assumes_all is_axiom ps s c.args.hyps.now c.args.before c.in_ok-written.written c.in_ok-written.ensures.before
+          (c.in_ok-written.ensures.begins (job is_axiom ps s hyps) (first_begins is_axiom s hyps c.args.params c.requires.behind.many)) refl c.requires.hyps c.requires.provable,
+    )
+
+pub put_expr-requires-clause-before : goal.put_expr-requires-clause-before
+put_expr-requires-clause-before c = subst IsAfter (sym (c.in_ok-put_hyps.ensures.same ∙ c.in_ok-written.ensures.before)) c.requires.before
+
+pub put_expr-requires-clause-can : goal.put_expr-requires-clause-can
+put_expr-requires-clause-can c =
+    let s = c.args.shared.store in
+    let ps = take c.args.params s.context in
+    let hyps = listed (trees_of s c.args.hyps.now) in (
+      assuming (job is_axiom ps s hyps) (length c.args.hyps.now) (6 * trees_size (trees_of s c.args.hyps.now)),
+      (
+        c.in_ok-put_hyps.ensures.does (job is_axiom ps s hyps)
+            (assumes_all is_axiom ps s c.args.hyps.now c.args.before c.in_ok-written.written c.in_ok-written.ensures.before
+            (c.in_ok-written.ensures.begins (job is_axiom ps s hyps) (first_begins is_axiom s hyps c.args.params c.requires.behind.many)) refl c.requires.hyps c.requires.provable),
+        c.requires.inside,
+      ),
+    )
+
+pub returns-clause-body : goal.returns-clause-body
+returns-clause-body c = λ ps ds is long.
+    let s = c.args.shared.store in
+    let hyps = listed (trees_of s c.args.hyps.now) in
+    let o = job is_axiom ps s hyps in
+    let b = c.put_expr.new.self in
+    body_as c.args.before b.before is_axiom ps ds (tree_of s c.args.conclusion.0) hyps _ (c.in_ok-put_expr.ensures.same ∙ c.in_ok-put_hyps.ensures.same ∙ c.in_ok-written.ensures.before)
+    (ended b.before.env.now (assuming o (length c.args.hyps.now) (6 * trees_size (trees_of s c.args.hyps.now))) b.shared.store b.shared.variables.items b.heap.places.items b.heap.len b.hyps.items b.cells.cells.items (5 * size (tree_of s c.args.conclusion.0)) (tree_of s c.args.conclusion.0) ds (to_do b.tasks.items) b.out.items _
+    (ap to_do c.in_ok-put_expr.ensures.done) is c.requires.few (all_assumed s c.args.hyps.now) c.in_ok-bytes.ensures
+    (c.in_ok-put_expr.ensures.does (assuming o (length c.args.hyps.now) (6 * trees_size (trees_of s c.args.hyps.now))) (
+      c.in_ok-put_hyps.ensures.does o
+          (assumes_all is_axiom ps s c.args.hyps.now c.args.before c.in_ok-written.written c.in_ok-written.ensures.before
+          (c.in_ok-written.ensures.begins o (long, refl, refl, refl)) refl c.requires.hyps c.requires.provable),
+      c.requires.inside,
+    )))
+
+pub returns-clause-short : goal.returns-clause-short
+returns-clause-short c =
+    let s = c.args.shared.store in
+    let e = tree_of s c.args.conclusion.0 in
+    let hyps = listed (trees_of s c.args.hyps.now) in
+    let ps = take c.args.params s.context in
+    let o = job is_axiom ps s hyps in
+    let n = 6 * trees_size (trees_of s c.args.hyps.now) in
+    let b = c.put_expr.new.self in
+    let short = ended_short b.before.env.now (leaving (assuming o (length c.args.hyps.now) n) (expr e) (5 * size e)) b.shared.store b.shared.variables.items b.heap.places.items b.heap.len b.hyps.items b.cells.cells.items
+    (to_do b.tasks.items) b.out.items c.in_ok-bytes.bytes.items c.in_ok-bytes.ensures
+    (c.in_ok-put_expr.ensures.does (assuming o (length c.args.hyps.now) n) (
+      c.in_ok-put_hyps.ensures.does o
+          (assumes_all is_axiom ps s c.args.hyps.now c.args.before c.in_ok-written.written c.in_ok-written.ensures.before
+          (c.in_ok-written.ensures.begins o (first_begins is_axiom s hyps c.args.params c.requires.behind.many)) refl c.requires.hyps c.requires.provable),
+      c.requires.inside,
+    )) in
+    omega (arith, short)

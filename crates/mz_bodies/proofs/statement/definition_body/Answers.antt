@@ -1,0 +1,36 @@
+use Rattle.std.proofs.Common.{ℕ, ◌≤◌, ◌+◌, ◌*◌, length, arith, ap, take, refl, sym, ◌∙◌, subst, []}
+use Rattle.mz_logic.specs.Tree.{size}
+use Rattle.mz_machine.specs.Tables.{is_definition}
+use Rattle.mz_unify.specs.Profile.{expr}
+use Rattle.mz_store.specs.Sharing.{tree_of}
+use Rattle.mz_bodies.specs.Going.{IsAfter}
+use Rattle.mz_bodies.specs.Owes.{to_do}
+use Rattle.mz_bodies.specs.Stages.{job, leaving}
+use Rattle.mz_bodies.proofs.Ends.{ended, ended_short, first_begins, body_as}
+use Rattle.mz_bodies.proofs.statement.definition_body.Goals as goal
+
+pub put_expr-requires-clause-before : goal.put_expr-requires-clause-before
+put_expr-requires-clause-before c = subst IsAfter (sym c.in_ok-written.ensures.before) c.requires.before
+
+pub put_expr-requires-clause-can : goal.put_expr-requires-clause-can
+put_expr-requires-clause-can c =
+    let o = job is_definition (take c.args.params c.args.shared.store.context) c.args.shared.store [] in
+    (o, (c.in_ok-written.ensures.begins o (first_begins is_definition c.args.shared.store [] c.args.params c.requires.behind.many), c.requires.inside))
+
+pub returns-clause-body : goal.returns-clause-body
+returns-clause-body c = λ ps ds is long.
+    let o = job is_definition ps c.args.shared.store [] in
+    let b = c.put_expr.new.self in
+    body_as c.args.before b.before is_definition ps ds (tree_of c.args.shared.store c.args.body.0) [] _ (c.in_ok-put_expr.ensures.same ∙ c.in_ok-written.ensures.before)
+    (ended b.before.env.now o b.shared.store b.shared.variables.items b.heap.places.items b.heap.len b.hyps.items b.cells.cells.items (5 * size (tree_of c.args.shared.store c.args.body.0)) (tree_of c.args.shared.store c.args.body.0) ds (to_do b.tasks.items) b.out.items _
+    (ap to_do c.in_ok-put_expr.ensures.done) is c.requires.few refl c.in_ok-bytes.ensures
+    (c.in_ok-put_expr.ensures.does o (c.in_ok-written.ensures.begins o (long, refl, refl, refl), c.requires.inside)))
+
+pub returns-clause-short : goal.returns-clause-short
+returns-clause-short c =
+    let e = tree_of c.args.shared.store c.args.body.0 in
+    let o = job is_definition (take c.args.params c.args.shared.store.context) c.args.shared.store [] in
+    let b = c.put_expr.new.self in
+    let short = ended_short b.before.env.now (leaving o (expr e) (5 * size e)) b.shared.store b.shared.variables.items b.heap.places.items b.heap.len b.hyps.items b.cells.cells.items (to_do b.tasks.items) b.out.items c.in_ok-bytes.bytes.items
+    c.in_ok-bytes.ensures (c.in_ok-put_expr.ensures.does o (c.in_ok-written.ensures.begins o (first_begins is_definition c.args.shared.store [] c.args.params c.requires.behind.many), c.requires.inside)) in
+    omega (arith, short)

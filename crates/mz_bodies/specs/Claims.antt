@@ -1,0 +1,48 @@
+-- What a stated proof proves, and that it does.
+use Rattle.std.specs.Prelude.{ℕ, ◌≡◌, ◌<◌, ⊤, true, List, [], ◌∷◌, ◌++◌, length, get_or, slice_get, Some}
+use Rattle.mz_logic.specs.Tree.{Tree, Trees, app, none, listed, instance, instances}
+use Rattle.mz_logic.specs.Declaration.{Assertion, Declaration, signatures, assertions}
+use Rattle.mz_logic.specs.Sorts.{Fits}
+use Rattle.mz_logic.specs.Variables.{Apart}
+use Rattle.mz_logic.specs.Conversions.{Between}
+use Rattle.mz_logic.specs.declared.binder.Binder.{Binder}
+use Rattle.mz_unify.specs.Sorted.{Sorted}
+use Rattle.mz_mmu.specs.Proof.{Proof, Proofs, by_hyp, by_name, by_citation, by_conv, by_let, no_proofs, more_proofs}
+use Rattle.mz_shared.specs.Instances.{InReach}
+
+-- the i-th; past the end, where nothing looks, a term without operands
+abbrev pub claim_at : List Tree → ℕ → Tree
+claim_at es i = get_or es i (app 0 none)
+
+abbrev pub conclusion_of : List Declaration → ℕ → Tree
+conclusion_of env T = (get_or (assertions env) T (record { is_axiom = true; params = []; hyps = none; conclusion = app 0 none })).conclusion
+
+-- `lets` is what the lets in sight prove, the outermost first
+abbrev pub proved : List Declaration → List Tree → List Tree → Proof → Tree
+proved env hyps lets (by_hyp i) = claim_at hyps i
+proved env hyps lets (by_name i) = claim_at lets i
+proved env hyps lets (by_citation T es ps) = instance es (conclusion_of env T)
+proved env hyps lets (by_conv e c p) = e
+proved env hyps lets (by_let p q) = proved env hyps (lets ++ proved env hyps lets p ∷ []) q
+
+abbrev pub all_proved : List Declaration → List Tree → List Tree → Proofs → List Tree
+all_proved env hyps lets no_proofs = []
+all_proved env hyps lets (more_proofs p ps) = proved env hyps lets p ∷ all_proved env hyps lets ps
+
+-- the assertion T may be cited with these operands, of the proofs of these
+abbrev pub IsCitable : List Declaration → List Binder → ℕ → Trees → List Tree → Type 0
+IsCitable env ctx T es hs = (a : Assertion) × (slice_get (assertions env) T ≡ Some a) × Fits (signatures env) ctx es a.params × Apart ctx es a.params
+    × (hs ≡ listed (instances es a.hyps)) × InReach (length (listed es)) a.conclusion × Sorted (signatures env) ctx (instance es a.conclusion)
+
+-- the proof proves what it says, and so do its lets, used or not
+abbrev mutual
+  pub IsSound : List Declaration → List Binder → List Tree → List Tree → Proof → Type 0
+  IsSound env ctx hyps lets (by_hyp i) = i < length hyps
+  IsSound env ctx hyps lets (by_name i) = i < length lets
+  IsSound env ctx hyps lets (by_citation T es ps) = IsCitable env ctx T es (all_proved env hyps lets ps) × AreSound env ctx hyps lets ps
+  IsSound env ctx hyps lets (by_conv e c p) = Between env ctx c e (proved env hyps lets p) × IsSound env ctx hyps lets p
+  IsSound env ctx hyps lets (by_let p q) = IsSound env ctx hyps lets p × IsSound env ctx hyps (lets ++ proved env hyps lets p ∷ []) q
+
+  pub AreSound : List Declaration → List Binder → List Tree → List Tree → Proofs → Type 0
+  AreSound env ctx hyps lets no_proofs = ⊤
+  AreSound env ctx hyps lets (more_proofs p ps) = IsSound env ctx hyps lets p × AreSound env ctx hyps lets ps

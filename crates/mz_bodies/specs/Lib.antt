@@ -1,0 +1,10 @@
+pub mod Sight
+pub mod Scopes
+pub mod Claims
+pub mod Costs
+pub mod Owes
+pub mod Pushing
+pub mod Going
+pub mod Stages
+pub mod Weights
+pub mod Lengths

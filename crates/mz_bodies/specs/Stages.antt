@@ -1,0 +1,68 @@
+-- The stages of a body: its beginning, a hypothesis, an expression, a proof, and its end.
+use Rattle.std.specs.Prelude.{ℕ, ◌≡◌, ◌<◌, ◌≤◌, ◌+◌, ⊤, true, List, [], ◌∷◌, ◌++◌, length, slice_get, Some, Option, None}
+use Rattle.mz_cmd.specs.declared.code.ProofCode.TheVariants as code
+use Rattle.mz_logic.specs.Tree.{Tree, Trees, var, listed}
+use Rattle.mz_logic.specs.Declaration.{Declaration, sorts, signatures}
+use Rattle.mz_logic.specs.Modifiers.{MayBeDummySort}
+use Rattle.mz_logic.specs.Sorts.{HasProvable}
+use Rattle.mz_logic.specs.declared.binder.Binder.{Binder}
+use Rattle.mz_store.specs.Sharing.{Sharing, IsIn, AreIn, Holds, tree_of, trees_of}
+use Rattle.mz_store.specs.declared.item.Id.{Id}
+use Rattle.mz_unify.specs.Profile.{Item, expr, proof, strict}
+use Rattle.mz_unify.specs.Spells.{dummy_of}
+use Rattle.mz_machine.specs.Bodies.{stands_in}
+use Rattle.mz_machine.specs.Tables.{Kind}
+use Rattle.mz_mmu.specs.Proof.{Proof}
+use Rattle.mz_bodies.specs.Claims.{proved, IsSound}
+use Rattle.mz_shared.specs.Variables.{IsShared}
+use Rattle.mz_bodies.specs.Going.{Job, MayProve, Does}
+use Rattle.mz_bodies.specs.declared.body.Body.{Body}
+
+-- in a store of these variables there are n parameters, and the variables behind them are dummies, of sorts
+-- that may have some
+pub record HasDummiesBehind (env : List Declaration) (n : ℕ) (s : Sharing) (vars : List Id) : Type 0 where
+  pub shared : IsShared (signatures env) s vars
+  pub many : n ≤ length s.context
+  pub dummies : (x : ℕ) (b : Binder) → slice_get s.context x ≡ Some b → n ≤ x → (b ≡ dummy_of b.sort) × MayBeDummySort (sorts env) b.sort
+
+-- nothing is assumed, and nothing is to be left
+abbrev pub job : Kind → List Binder → Sharing → List Tree → Job
+job kind params s hyps = record { kind = kind; params = params; store = s; hyps = hyps; count = 0; budget = 0; goal = [] }
+
+-- a job over these expressions and so many parameters, of which nothing is made yet
+abbrev pub Begins : Job → Sharing → ℕ → Type 0
+Begins o s n = (length o.params ≡ n) × (o.store ≡ s) × (o.count ≡ 0) × (o.goal ≡ [])
+
+-- what was owed is made, and the stack is empty
+abbrev pub Rests : Job → Body → Type 0
+Rests o b = Does o b [] × (b.tasks.items ≡ []) × (o.goal ≡ [])
+
+-- this is left on the stack, for so many bytes more
+abbrev pub leaving : Job → Item Tree → ℕ → Job
+leaving o x bytes = record o { goal = x ∷ []; budget = o.budget + bytes }
+
+-- so many hypotheses are assumed, for so many bytes more
+abbrev pub assuming : Job → ℕ → ℕ → Job
+assuming o n bytes = record o { count = n; budget = o.budget + bytes }
+
+-- the i-th expression is to be left
+abbrev pub Writes : Job → Body → ℕ → Type 0
+Writes o b i = Rests o b × IsIn o.store i
+
+-- the i-th expression is to be the next hypothesis
+abbrev pub Assumes : Job → Body → ℕ → Type 0
+Assumes o b i = Writes o b i × (stands_in strict o.kind code.Hyp ≡ true)
+    × (slice_get o.hyps o.count ≡ Some (tree_of o.store i)) × HasProvable b.before.env.now o.store.context (tree_of o.store i)
+
+-- these are to be all the hypotheses
+pub record AssumesAll (o : Job) (b : Body) (is : List Id) : Type 0 where
+  pub rests : Rests o b
+  pub stand : stands_in strict o.kind code.Hyp ≡ true
+  pub none_yet : o.count ≡ 0
+  pub inside : AreIn o.store is
+  pub trees : o.hyps ≡ listed (trees_of o.store is)
+  pub provable : (k : ℕ) (e : Tree) → slice_get o.hyps k ≡ Some e → HasProvable b.before.env.now o.store.context e
+
+-- the proof is to be left
+abbrev pub Proves : Job → Body → Proof → Type 0
+Proves o b p = Rests o b × MayProve o × IsSound b.before.env.now o.store.context o.hyps [] p

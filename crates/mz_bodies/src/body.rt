@@ -1,0 +1,513 @@
+//! Bodies of statements.
+ghost use Rattle.std.specs.Prelude.{ℕ, ◌≡◌, ◌<◌, ◌^◌, ◌+◌, ◌*◌, ◌∷◌, [], ◌++◌, OnOk, IfOk, None, length};
+ghost use Rattle.mz_logic.specs.Conversions.{unfold_conv};
+ghost use Rattle.mz_logic.specs.View.{tree};
+ghost use Rattle.mz_mmu.specs.ConvView.{conversion, conversions};
+ghost use Rattle.mz_mmu.specs.Proof.{by_name, by_conv, by_let};
+ghost use Rattle.mz_mmu.specs.ProofView.{proof_view, proofs_view};
+ghost use Rattle.mz_logic.specs.Tree.{size, trees_size};
+ghost use Rattle.mz_store.specs.Sharing.{head_of, tree_of, trees_of};
+ghost use Rattle.mz_bodies.specs.Weights.{proof_weight};
+ghost use Rattle.mz_steps.specs.Steps.{command_bytes};
+ghost use Rattle.mz_bodies.specs.Owes.{prove, prove_all, cite, push, make, pay, pay_all, give, save, task_view, to_do};
+ghost use Rattle.mz_shared.specs.Places.{place_of};
+ghost use Rattle.mz_bodies.specs.Pushing.{pushes};
+ghost use Rattle.mz_bodies.specs.Going.{Job, IsAfter, Does, steps_left};
+ghost use Rattle.mz_bodies.specs.Stages.{HasDummiesBehind, Begins, Rests, leaving, assuming, Writes, Assumes, AssumesAll, Proves};
+ghost use Rattle.mz_bodies.specs.Claims.{proved};
+ghost use Rattle.mz_unify.specs.Profile.{expr, proof};
+
+use crate::cells::{Cells, Chain};
+use crate::task::Task;
+use mz_cmd::{END, Mem, ProofCode, put_cmd};
+use mz_logic::{Env, Expr, Exprs};
+use mz_mmu::{Conv, Proof, Vars};
+use mz_shared::{Heap, Shared, Table};
+use mz_store::Id;
+use std::alloc::Global;
+
+/// What stands before a statement.
+#[derive(Clone, Copy)]
+pub struct Before<'t> {
+    /// Its declarations.
+    pub env: &'t Env,
+    /// Its terms.
+    pub table: &'t Table,
+}
+
+/// A body that is being written.
+#[derive(Drop)]
+pub struct Body<'t> {
+    pub before: Before<'t>,
+    pub shared: Shared,
+    pub heap: Heap,
+    // where the hypotheses stand in the heap
+    pub hyps: Vec<u32>,
+    pub cells: Cells<'t>,
+    // what is to be emitted, the next last
+    pub tasks: Vec<Task<'t>>,
+    pub out: Vec<u8>,
+}
+
+/// Appends a task, which is the next.
+fn add<'t>(tasks: &mut Vec<Task<'t>>, task: Task<'t>) -> Result<(), Mem>
+    ensures { OnOk result (to_do tasks.new.items ≡ task_view task.entry ∷ to_do tasks.old.items) }
+{
+    tasks.push(task)?;
+    Ok(())
+}
+
+/// Appends tasks that push the expressions, the first of them next.
+fn push_turned(tasks: &mut Vec<Task>, ids: &[Id]) -> Result<(), Mem>
+    ensures { OnOk result (to_do tasks.new.items ≡ pushes ids.now ++ to_do tasks.old.items) }
+{
+    for id in ids.iter().rev() {
+        tasks.push(Task::Push(*id))?;
+    }
+    Ok(())
+}
+
+/// Appends a command, in its shortest spelling.
+fn put(out: &mut Vec<u8>, code: ProofCode, value: u32) -> Result<(), Mem>
+    ensures bytes { OnOk result (out.new.items ≡ out.old.items ++ command_bytes (code, value)) }
+    ensures small { OnOk result (value < 2 ^ 32) }
+{
+    put_cmd(out, code as u8, value)
+}
+
+impl<'t> Body<'t> {
+    /// A body over so many parameters, of which nothing is written yet.
+    pub fn new(
+        alloc: Global,
+        before: Before<'t>,
+        shared: Shared,
+        params: u32,
+    ) -> Result<Body<'t>, Mem>
+        requires behind { HasDummiesBehind before.env.now params shared.store shared.variables.items }
+        ensures begins { IfOk result (λ b. (o : Job) → Begins o shared.store params → Rests o b) }
+        ensures before { IfOk result (λ b. b.before ≡ before.entry) }
+    {
+        shared.store.once();
+        let heap = Heap::new(alloc, params)?;
+        Ok(Body {
+            before,
+            shared,
+            heap,
+            hyps: Vec::new(alloc),
+            cells: Cells::new(alloc),
+            tasks: Vec::new(alloc),
+            out: Vec::new(alloc),
+        })
+    }
+
+    /// Leaves an expression.
+    pub fn put_expr(&mut self, id: Id) -> Result<(), Mem>
+        requires before { IsAfter self.old.before }
+        requires can { (o : Job) × Writes o self.old id.0 }
+        ensures does { OnOk result ((o : Job) → Writes o self.old id.0 → Does (leaving o (expr (tree_of o.store id.0)) (5 * size (tree_of o.store id.0))) self.new []) }
+        ensures done { OnOk result (self.new.tasks.items ≡ []) }
+        ensures same { OnOk result (self.new.before ≡ self.old.before) }
+    {
+        add(&mut self.tasks, Task::Push(id))?;
+        self.run()?;
+        Ok(())
+    }
+
+    /// Assumes an expression as the next hypothesis.
+    fn put_hyp(&mut self, id: Id) -> Result<(), Mem>
+        requires before { IsAfter self.old.before }
+        requires can { (o : Job) × Assumes o self.old id.0 }
+        ensures does { OnOk result ((o : Job) → Assumes o self.old id.0 → Rests (assuming o (o.count + 1) (6 * size (tree_of o.store id.0))) self.new) }
+        ensures same { OnOk result (self.new.before ≡ self.old.before) }
+    {
+        self.put_expr(id)?;
+        put(&mut self.out, ProofCode::Hyp, 0)?;
+        let place = self.heap.push()?;
+        self.hyps.push(place)?;
+        Ok(())
+    }
+
+    /// Assumes the hypotheses, in order.
+    pub fn put_hyps(&mut self, ids: &[Id]) -> Result<(), Mem>
+        requires before { IsAfter self.old.before }
+        requires can { (o : Job) × AssumesAll o self.old ids.now }
+        ensures does { OnOk result ((o : Job) → AssumesAll o self.old ids.now → Rests (assuming o (length ids.now) (6 * trees_size (trees_of o.store ids.now))) self.new) }
+        ensures same { OnOk result (self.new.before ≡ self.old.before) }
+    {
+        for id in ids {
+            self.put_hyp(*id)?;
+        }
+        Ok(())
+    }
+
+    /// Leaves a proof.
+    pub fn put_proof(&mut self, stated: &'t Proof) -> Result<(), Mem>
+        requires before { IsAfter self.old.before }
+        requires can { (o : Job) × Proves o self.old (proof_view stated.now) }
+        ensures does { OnOk result ((o : Job) → Proves o self.old (proof_view stated.now) → Does (leaving o (proof (proved self.old.before.env.now o.hyps [] (proof_view stated.now))) (6 * proof_weight self.old.before.env.now (proof_view stated.now))) self.new []) }
+        ensures done { OnOk result (self.new.tasks.items ≡ []) }
+        ensures same { OnOk result (self.new.before ≡ self.old.before) }
+    {
+        add(&mut self.tasks, Task::Prove(stated, None))?;
+        self.run()?;
+        Ok(())
+    }
+
+    /// The bytes of the body, with its end.
+    pub fn end(self) -> Result<Vec<u8>, Mem>
+        ensures { IfOk result (λ b. b.items ≡ self.entry.out.items ++ 0 ∷ []) }
+    {
+        let mut out = self.out;
+        out.push(END)?;
+        Ok(out)
+    }
+
+    /// Emits what is to do.
+    fn run(&mut self) -> Result<(), Mem>
+        requires before { IsAfter self.old.before }
+        requires can { (o : Job) × Does o self.old [] }
+        ensures does { OnOk result ((o : Job) → Does o self.old [] → Does o self.new []) }
+        ensures done { OnOk result (self.new.tasks.items ≡ []) }
+        ensures same { OnOk result (self.new.before ≡ self.old.before) }
+    {
+        while let Some(task) = self.tasks.pop() {
+            self.step(task)?;
+        }
+        Ok(())
+    }
+
+    fn step(&mut self, task: Task<'t>) -> Result<(), Mem>
+        requires before { IsAfter self.old.before }
+        requires can { (o : Job) × Does o self.old (task_view task ∷ []) }
+        ensures does { OnOk result ((o : Job) → Does o self.old (task_view task.entry ∷ []) → Does o self.new []) }
+        ensures less { OnOk result (steps_left self.new [] < steps_left self.old (task_view task.entry ∷ [])) }
+        ensures same { OnOk result (self.new.before ≡ self.old.before) }
+    {
+        match task {
+            Task::Prove(proof, chain) => {
+                self.prove(proof, chain)?;
+                Ok(())
+            }
+            Task::ProveAll(proofs, chain) => {
+                self.prove_all(proofs, chain)?;
+                Ok(())
+            }
+            Task::Cite(number, es) => {
+                self.cite(number, es)?;
+                Ok(())
+            }
+            Task::Push(id) => {
+                self.push(id)?;
+                Ok(())
+            }
+            Task::Make(id) => {
+                self.make(id)?;
+                Ok(())
+            }
+            Task::Pay(conv) => {
+                self.pay(conv)?;
+                Ok(())
+            }
+            Task::PayAll(convs) => {
+                self.pay_all(convs)?;
+                Ok(())
+            }
+            Task::Do(code, value) => {
+                self.give(code, value)?;
+                Ok(())
+            }
+            Task::Save(cell) => {
+                self.save(cell)?;
+                Ok(())
+            }
+        }
+    }
+
+    /// Writes a command that changes the stack alone.
+    fn give(&mut self, code: ProofCode, value: u32) -> Result<(), Mem>
+        requires before { IsAfter self.old.before }
+        requires can { (o : Job) × Does o self.old (give code value ∷ []) }
+        ensures does { OnOk result ((o : Job) → Does o self.old (give code value ∷ []) → Does o self.new []) }
+        ensures less { OnOk result (steps_left self.new [] < steps_left self.old (give code value ∷ [])) }
+        ensures same { OnOk result (self.new.before ≡ self.old.before) }
+    {
+        put(&mut self.out, code, value)?;
+        Ok(())
+    }
+
+    /// Pushes an expression: from the heap, where it is there.
+    fn push(&mut self, id: Id) -> Result<(), Mem>
+        requires before { IsAfter self.old.before }
+        requires can { (o : Job) × Does o self.old (push id.0 ∷ []) }
+        ensures does { OnOk result ((o : Job) → Does o self.old (push id.0 ∷ []) → Does o self.new []) }
+        ensures less { OnOk result (steps_left self.new [] < steps_left self.old (push id.0 ∷ [])) }
+        ensures same { OnOk result (self.new.before ≡ self.old.before) }
+    {
+        if let Some(place) = self.heap.place(id) {
+            put(&mut self.out, ProofCode::Ref, place)?;
+            return Ok(());
+        }
+        match self.shared.store.head(id) {
+            None => self.make_dummy(id),
+            Some(_) => {
+                add(&mut self.tasks, Task::Make(id))?;
+                push_turned(&mut self.tasks, self.shared.store.args(id))?;
+                Ok(())
+            }
+        }
+    }
+
+    /// Makes a dummy, where it is first needed.
+    fn make_dummy(&mut self, id: Id) -> Result<(), Mem>
+        requires variable { head_of (tree_of self.old.shared.store id.0) ≡ None }
+        requires fresh { place_of self.old.heap.places.items id.0 ≡ None }
+        requires before { IsAfter self.old.before }
+        requires can { (o : Job) × Does o self.old (push id.0 ∷ []) }
+        ensures does { OnOk result ((o : Job) → Does o self.old (push id.0 ∷ []) → Does o self.new []) }
+        ensures less { OnOk result (steps_left self.new [] < steps_left self.old (push id.0 ∷ [])) }
+        ensures same { OnOk result (self.new.before ≡ self.old.before) }
+    {
+        self.shared.store.once();
+        let sort = self.shared.store.sort_of(id);
+        put(&mut self.out, ProofCode::Dummy, sort)?;
+        self.heap.push_expr(id)?;
+        Ok(())
+    }
+
+    /// Makes an expression of its operands, and keeps it.
+    fn make(&mut self, id: Id) -> Result<(), Mem>
+        requires before { IsAfter self.old.before }
+        requires can { (o : Job) × Does o self.old (make id.0 ∷ []) }
+        ensures does { OnOk result ((o : Job) → Does o self.old (make id.0 ∷ []) → Does o self.new []) }
+        ensures less { OnOk result (steps_left self.new [] < steps_left self.old (make id.0 ∷ [])) }
+        ensures same { OnOk result (self.new.before ≡ self.old.before) }
+    {
+        match self.shared.store.head(id) {
+            None => unreachable!(),
+            Some(term) => {
+                put(&mut self.out, ProofCode::TermSave, term)?;
+                self.heap.push_expr(id)?;
+                Ok(())
+            }
+        }
+    }
+
+    /// Emits a proof up to its parts.
+    fn prove(&mut self, proof: &'t Proof, chain: Chain) -> Result<(), Mem>
+        requires before { IsAfter self.old.before }
+        requires can { (o : Job) × Does o self.old (prove (proof_view proof.now) chain ∷ []) }
+        ensures does { OnOk result ((o : Job) → Does o self.old (prove (proof_view proof.now) chain ∷ []) → Does o self.new []) }
+        ensures less { OnOk result (steps_left self.new [] < steps_left self.old (prove (proof_view proof.now) chain ∷ [])) }
+        ensures same { OnOk result (self.new.before ≡ self.old.before) }
+    {
+        match proof {
+            Proof::Hyp(i) => {
+                let place = self.hyps[*i as usize];
+                put(&mut self.out, ProofCode::Ref, place)?;
+                Ok(())
+            }
+            Proof::Name(number) => {
+                self.name(*number, chain)?;
+                Ok(())
+            }
+            Proof::Cite(number, es, proofs) => {
+                add(&mut self.tasks, Task::Cite(*number, es))?;
+                add(&mut self.tasks, Task::ProveAll(proofs.as_slice(), chain))?;
+                Ok(())
+            }
+            Proof::Conv(e, conv, part) => {
+                self.convert(e, conv, part.get(), chain)?;
+                Ok(())
+            }
+            Proof::Let(first, second) => {
+                self.bind(first.get(), second.get(), chain)?;
+                Ok(())
+            }
+        }
+    }
+
+    /// Opens a let, and proves what stands over it.
+    fn bind(&mut self, first: &'t Proof, second: &'t Proof, chain: Chain) -> Result<(), Mem>
+        requires before { IsAfter self.old.before }
+        requires can { (o : Job) × Does o self.old (prove (by_let (proof_view first.now) (proof_view second.now)) chain ∷ []) }
+        ensures does { OnOk result ((o : Job) → Does o self.old (prove (by_let (proof_view first.now) (proof_view second.now)) chain ∷ []) → Does o self.new []) }
+        ensures less { OnOk result (steps_left self.new [] < steps_left self.old (prove (by_let (proof_view first.now) (proof_view second.now)) chain ∷ [])) }
+        ensures same { OnOk result (self.new.before ≡ self.old.before) }
+    {
+        let cell = self.cells.open(first, chain)?;
+        add(&mut self.tasks, Task::Prove(second, Some(cell)))?;
+        Ok(())
+    }
+
+    fn prove_all(&mut self, proofs: &'t [Proof], chain: Chain) -> Result<(), Mem>
+        requires before { IsAfter self.old.before }
+        requires can { (o : Job) × Does o self.old (prove_all (proofs_view proofs.now) chain ∷ []) }
+        ensures does { OnOk result ((o : Job) → Does o self.old (prove_all (proofs_view proofs.now) chain ∷ []) → Does o self.new []) }
+        ensures less { OnOk result (steps_left self.new [] < steps_left self.old (prove_all (proofs_view proofs.now) chain ∷ [])) }
+        ensures same { OnOk result (self.new.before ≡ self.old.before) }
+    {
+        match proofs {
+            [] => Ok(()),
+            [first, rest @ ..] => {
+                add(&mut self.tasks, Task::ProveAll(rest, chain))?;
+                add(&mut self.tasks, Task::Prove(first, chain))?;
+                Ok(())
+            }
+        }
+    }
+
+    /// Pushes what the let with this number proves: its part is emitted at its first use.
+    fn name(&mut self, number: u32, chain: Chain) -> Result<(), Mem>
+        requires before { IsAfter self.old.before }
+        requires can { (o : Job) × Does o self.old (prove (by_name number) chain ∷ []) }
+        ensures does { OnOk result ((o : Job) → Does o self.old (prove (by_name number) chain ∷ []) → Does o self.new []) }
+        ensures less { OnOk result (steps_left self.new [] < steps_left self.old (prove (by_name number) chain ∷ [])) }
+        ensures same { OnOk result (self.new.before ≡ self.old.before) }
+    {
+        let Some(innermost) = chain else {
+            unreachable!();
+        };
+        let cell = self.cells.visible(innermost, number);
+        match self.cells.place(cell) {
+            Some(place) => {
+                put(&mut self.out, ProofCode::Ref, place)?;
+                Ok(())
+            }
+            None => {
+                let (part, outer) = self.cells.part(cell);
+                add(&mut self.tasks, Task::Save(cell))?;
+                add(&mut self.tasks, Task::Prove(part, outer))?;
+                Ok(())
+            }
+        }
+    }
+
+    /// Saves the proof on top as the cell's part.
+    fn save(&mut self, cell: u32) -> Result<(), Mem>
+        requires before { IsAfter self.old.before }
+        requires can { (o : Job) × Does o self.old (save cell ∷ []) }
+        ensures does { OnOk result ((o : Job) → Does o self.old (save cell ∷ []) → Does o self.new []) }
+        ensures less { OnOk result (steps_left self.new [] < steps_left self.old (save cell ∷ [])) }
+        ensures same { OnOk result (self.new.before ≡ self.old.before) }
+    {
+        put(&mut self.out, ProofCode::Save, 0)?;
+        let place = self.heap.push()?;
+        self.cells.set_place(cell, place);
+        Ok(())
+    }
+
+    /// Pushes the operands and the conclusion's instance, and cites.
+    fn cite(&mut self, number: u32, es: &'t Exprs) -> Result<(), Mem>
+        requires before { IsAfter self.old.before }
+        requires can { (o : Job) × Does o self.old (cite number es.now ∷ []) }
+        ensures does { OnOk result ((o : Job) → Does o self.old (cite number es.now ∷ []) → Does o self.new []) }
+        ensures less { OnOk result (steps_left self.new [] < steps_left self.old (cite number es.now ∷ [])) }
+        ensures same { OnOk result (self.new.before ≡ self.old.before) }
+    {
+        let Some(thm) = self.before.env.thm(number) else {
+            unreachable!();
+        };
+        let operands = self.shared.ids(self.before.table, es)?;
+        let conclusion = self
+            .shared
+            .instance(self.before.table, &operands, &thm.conclusion)?;
+        add(&mut self.tasks, Task::Do(ProofCode::Thm, number))?;
+        add(&mut self.tasks, Task::Push(conclusion))?;
+        push_turned(&mut self.tasks, &operands)?;
+        Ok(())
+    }
+
+    /// Pushes the expression, and what is proved, converts it, and pays for that.
+    fn convert(
+        &mut self,
+        e: &'t Expr,
+        conv: &'t Conv,
+        part: &'t Proof,
+        chain: Chain,
+    ) -> Result<(), Mem>
+        requires before { IsAfter self.old.before }
+        requires can { (o : Job) × Does o self.old (prove (by_conv (tree e.now) (conversion conv.now) (proof_view part.now)) chain ∷ []) }
+        ensures does { OnOk result ((o : Job) → Does o self.old (prove (by_conv (tree e.now) (conversion conv.now) (proof_view part.now)) chain ∷ []) → Does o self.new []) }
+        ensures less { OnOk result (steps_left self.new [] < steps_left self.old (prove (by_conv (tree e.now) (conversion conv.now) (proof_view part.now)) chain ∷ [])) }
+        ensures same { OnOk result (self.new.before ≡ self.old.before) }
+    {
+        let id = self.shared.id(self.before.table, e)?;
+        add(&mut self.tasks, Task::Pay(conv))?;
+        add(&mut self.tasks, Task::Do(ProofCode::Conv, 0))?;
+        add(&mut self.tasks, Task::Prove(part, chain))?;
+        add(&mut self.tasks, Task::Push(id))?;
+        Ok(())
+    }
+
+    /// Pays an obligation up to those of the parts.
+    fn pay(&mut self, conv: &'t Conv) -> Result<(), Mem>
+        requires before { IsAfter self.old.before }
+        requires can { (o : Job) × Does o self.old (pay (conversion conv.now) ∷ []) }
+        ensures does { OnOk result ((o : Job) → Does o self.old (pay (conversion conv.now) ∷ []) → Does o self.new []) }
+        ensures less { OnOk result (steps_left self.new [] < steps_left self.old (pay (conversion conv.now) ∷ [])) }
+        ensures same { OnOk result (self.new.before ≡ self.old.before) }
+    {
+        match conv {
+            Conv::Refl(_) => {
+                put(&mut self.out, ProofCode::Refl, 0)?;
+                Ok(())
+            }
+            Conv::Sym(part) => {
+                add(&mut self.tasks, Task::Pay(part.get()))?;
+                put(&mut self.out, ProofCode::Symm, 0)?;
+                Ok(())
+            }
+            Conv::Cong(_, parts) => {
+                add(&mut self.tasks, Task::PayAll(parts.as_slice()))?;
+                put(&mut self.out, ProofCode::Cong, 0)?;
+                Ok(())
+            }
+            Conv::Unfold(term, es, vars, part) => {
+                self.unfold(*term, es, vars, part.get())?;
+                Ok(())
+            }
+        }
+    }
+
+    fn pay_all(&mut self, convs: &'t [Conv]) -> Result<(), Mem>
+        requires before { IsAfter self.old.before }
+        requires can { (o : Job) × Does o self.old (pay_all (conversions convs.now) ∷ []) }
+        ensures does { OnOk result ((o : Job) → Does o self.old (pay_all (conversions convs.now) ∷ []) → Does o self.new []) }
+        ensures less { OnOk result (steps_left self.new [] < steps_left self.old (pay_all (conversions convs.now) ∷ [])) }
+        ensures same { OnOk result (self.new.before ≡ self.old.before) }
+    {
+        match convs {
+            [] => Ok(()),
+            [first, rest @ ..] => {
+                add(&mut self.tasks, Task::PayAll(rest))?;
+                add(&mut self.tasks, Task::Pay(first))?;
+                Ok(())
+            }
+        }
+    }
+
+    /// Pushes the left side and the body's instance, unfolds, and pays for the part.
+    fn unfold(&mut self, number: u32, es: &'t Exprs, vars: &Vars, part: &'t Conv) -> Result<(), Mem>
+        requires before { IsAfter self.old.before }
+        requires can { (o : Job) × Does o self.old (pay (unfold_conv number es.now vars.now (conversion part.now)) ∷ []) }
+        ensures does { OnOk result ((o : Job) → Does o self.old (pay (unfold_conv number es.now vars.now (conversion part.now)) ∷ []) → Does o self.new []) }
+        ensures less { OnOk result (steps_left self.new [] < steps_left self.old (pay (unfold_conv number es.now vars.now (conversion part.now)) ∷ [])) }
+        ensures same { OnOk result (self.new.before ≡ self.old.before) }
+    {
+        let Some(term) = self.before.env.term(number) else {
+            unreachable!();
+        };
+        let Some(body) = term.form.body() else {
+            unreachable!();
+        };
+        let mut operands = self.shared.ids(self.before.table, es)?;
+        let left = self.shared.app(self.before.table, number, &operands)?;
+        self.shared.push_variables(&mut operands, vars)?;
+        let unfolded = self.shared.instance(self.before.table, &operands, body)?;
+        add(&mut self.tasks, Task::Pay(part))?;
+        add(&mut self.tasks, Task::Do(ProofCode::Unfold, 0))?;
+        add(&mut self.tasks, Task::Push(unfolded))?;
+        add(&mut self.tasks, Task::Push(left))?;
+        Ok(())
+    }
+}

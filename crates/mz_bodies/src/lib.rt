@@ -1,0 +1,11 @@
+//! Bodies of statements: the commands that make a definition's expression, an axiom's hypotheses and
+//! conclusion, or a theorem's proof, each expression built once.
+#![tactic(auto)]
+
+mod body;
+mod cells;
+mod statement;
+mod task;
+
+pub use body::Before;
+pub use statement::{axiom_body, definition_body, theorem_body};

@@ -1,0 +1,12 @@
+//! Laws on the definitions: the contract of each function is one, and its body is empty.
+ghost use Rattle.mz_claims.specs.Laws.{StatedProofsAreSound, WeightsAreTheTexts};
+
+/// A stated proof of an assertion is sound, and proves its conclusion.
+pub fn stated_proofs_are_sound()
+    ensures { StatedProofsAreSound }
+{}
+
+/// The weight that bounds a body is the one that a text's limits count.
+pub fn weights_are_the_texts()
+    ensures { WeightsAreTheTexts }
+{}

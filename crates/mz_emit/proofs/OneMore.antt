@@ -1,0 +1,135 @@
+-- One statement more is written, by the next row of its kind.
+use Rattle.std.proofs.Common.{ℕ, suc, if◌then◌else◌, length-append, ◌≡◌, ◌≤◌, ◌+◌, ◌*◌, false, ◌⊎◌, inl, List, [], ◌∷◌, ◌++◌, length, refl, sym, ap, subst, ◌∙◌, arith}
+use Rattle.std.specs.Prelude.{Some, None}
+use Rattle.mz_logic.specs.Tree.{Tree}
+use Rattle.mz_logic.specs.Signature.{Signature}
+use Rattle.mz_logic.specs.Declaration.{plain_form, defined, Assertion, sort_decl, term_decl, assertion_decl, sorts}
+use Rattle.mz_logic.specs.Legality.{Each}
+use Rattle.mz_logic.specs.LegalLists.{Statement as Marked, declarations}
+use Rattle.mz_logic.specs.WordsWritten.{words_of, words_from, result_word}
+use Rattle.mz_logic.specs.declared.binder.Binder.{Binder}
+use Rattle.mz_logic.specs.declared.binder.SortMods.{SortMods}
+use Rattle.mz_layout.specs.Normal.{Row, Written, Parts, row_of_term, row_of_thm}
+use Rattle.mz_binary.specs.Spelling.{HasKind, is_local_code}
+use Rattle.mz_mmu.specs.Proof.{Statement}
+use Rattle.mz_type.specs.Meaning.{marked}
+use Rattle.mz_type.specs.TypedText.{declared}
+use Rattle.mz_type.specs.Weight.{declaration_weight, stated_weight, statement_weight}
+use Rattle.mz_steps.specs.Sameness.{IsSameForm}
+use Rattle.mz_streams.specs.SpelledLists.{form_spelled, decl_spelled, statement_spelled, list_spelled}
+use Rattle.mz_writing.specs.Growing.{HasOneMore}
+use Rattle.mz_writing.specs.Writing.{SayParams, SaySignature, IsWrittenDeclaration, IsWrittenStatement, IsWrittenAssertion, HaveNoMore, IsWrittenAs}
+use Rattle.mz_writing.proofs.Growing.{writing-grows, rows-counted, appended-next}
+use Rattle.mz_emit.specs.Emitting.{with_sort, with_term, with_thm, SaysDefinition, SaysAssertion, cost_of, HasWritten}
+use Rattle.mz_emit.proofs.Lengths.{sort_more, term_more, thm_more, short_more}
+
+-- a statement with its mark alone
+abbrev pub mark : Statement → Marked
+mark s = record { is_local = s.is_local; decl = s.decl }
+
+marked_more : (ss : List Statement) (s : Statement) → marked (ss ++ s ∷ []) ≡ marked ss ++ mark s ∷ []
+marked_more [] s = refl
+marked_more (t ∷ ss) s = ap (λ ts. mark t ∷ ts) (marked_more ss s)
+
+spelled_more : (ts : List Marked) (t : Marked) → list_spelled (ts ++ t ∷ []) ≡ list_spelled ts ++ statement_spelled t ∷ []
+spelled_more [] t = refl
+spelled_more (u ∷ ts) t = ap (λ us. statement_spelled u ∷ us) (spelled_more ts t)
+
+pub marked_declared : (ss : List Statement) → declarations (marked ss) ≡ declared ss
+marked_declared [] = refl
+marked_declared (s ∷ ss) = ap (λ ds. s.decl ∷ ds) (marked_declared ss)
+
+words_many : (i : ℕ) (places : List ℕ) (bs : List Binder) → length (words_from i places bs) ≡ length bs
+words_many i places [] = refl
+words_many i places (b ∷ bs) = ap suc (words_many (suc i) (if b.bound then places ++ i ∷ [] else places) bs)
+
+module _ (ss : List Statement) (p : Parts) (h : HasWritten ss p) where
+  pub counted : HaveNoMore p (declared ss)
+  counted = subst (HaveNoMore p) (marked_declared ss) (rows-counted p (marked ss) (list_spelled (marked ss)) h.says)
+
+  grown : (p' : Parts) (s : Statement) (w : Written) → HasOneMore p p' s.decl w
+      → IsWrittenStatement p' (declared ss) (mark s) (statement_spelled (mark s)) w
+      → cost_of p' ≤ cost_of p + 32 * statement_weight (declared ss) s → HasWritten (ss ++ s ∷ []) p'
+  grown p' s w more said cost = record {
+    says =
+        let there = subst (λ env. IsWrittenStatement p' env (mark s) (statement_spelled (mark s)) w) (sym (marked_declared ss)) said in
+        let all = writing-grows p p' (marked ss) (list_spelled (marked ss)) (mark s) (statement_spelled (mark s)) w h.says more there in
+        let spelled : list_spelled (marked ss) ++ statement_spelled (mark s) ∷ [] ≡ list_spelled (marked (ss ++ s ∷ []))
+        = sym (spelled_more (marked ss) (mark s)) ∙ ap list_spelled (sym (marked_more ss s)) in
+        subst (λ ts. IsWrittenAs p' ts (list_spelled (marked (ss ++ s ∷ [])))) (sym (marked_more ss s))
+        (subst (IsWrittenAs p' (marked ss ++ mark s ∷ [])) spelled all);
+    short = short_more p p' ss s h.short cost;
+  }
+
+  module _ (s : Statement) where
+    stated : (p' : Parts) (w : Written) → HasKind w.code (statement_spelled (mark s))
+        → IsWrittenDeclaration p' (declared ss) s.is_local s.decl (decl_spelled s.decl) w.body
+        → IsWrittenStatement p' (declared ss) (mark s) (statement_spelled (mark s)) w
+    stated p' w kind said = record { mark = refl; code = kind; declaration = said }
+
+    pub sort_next : (m : SortMods) → s.decl ≡ sort_decl m → s.is_local ≡ false → HasWritten (ss ++ s ∷ []) (with_sort p m.0)
+    sort_next m e unmarked =
+        let w : Written = record { code = 0x04; body = [] } in
+        grown (with_sort p m.0) s w
+        (subst (λ d. HasOneMore p (with_sort p m.0) d w) (sym e) (m.0, refl))
+        (stated (with_sort p m.0) w
+        (subst (λ d. HasKind 0x04 (record { is_local = s.is_local; decl = decl_spelled d })) (sym e) (refl, unmarked))
+        (subst (λ d. IsWrittenDeclaration (with_sort p m.0) (declared ss) s.is_local d (decl_spelled d) []) (sym e)
+        (refl, (appended-next p (declared ss) counted).0 m.0, refl)))
+        (omega (arith, sort_more p w m.0))
+
+    pub plain_next : (sg : Signature) → s.decl ≡ term_decl (record { signature = sg; form = plain_form }) → s.is_local ≡ false
+        → SaySignature (sorts (declared ss)) (words_of sg.params) (result_word sg.params sg.result) sg
+        → HasWritten (ss ++ s ∷ []) (with_term p (row_of_term (words_of sg.params) (result_word sg.params sg.result) None) (record { code = 0x05; body = [] }))
+    plain_next sg e unmarked say =
+        let w : Written = record { code = 0x05; body = [] } in
+        let r : Row = row_of_term (words_of sg.params) (result_word sg.params sg.result) None in
+        grown (with_term p r w) s w
+        (subst (λ d. HasOneMore p (with_term p r w) d w) (sym e) (r, refl))
+        (stated (with_term p r w) w
+        (subst (λ d. HasKind 0x05 (record { is_local = s.is_local; decl = decl_spelled d })) (sym e) (inl refl, unmarked))
+        (subst (λ d. IsWrittenDeclaration (with_term p r w) (declared ss) s.is_local d (decl_spelled d) []) (sym e)
+        ((refl, tt), (words_of sg.params, result_word sg.params sg.result, say, ((appended-next p (declared ss) counted).1 r, unmarked, refl)))))
+        (omega (arith, term_more p w r, ap declaration_weight e, length-append (words_of sg.params) (result_word sg.params sg.result ∷ []), words_many 0 [] sg.params))
+
+    pub definition_next : (sg : Signature) (dummies : List Binder) (body : Tree) (code : ℕ) (stream bytes : List ℕ)
+        → s.decl ≡ term_decl (record { signature = sg; form = defined dummies body }) → ((code ≡ 0x05) ⊎ (code ≡ 0x0D)) × (s.is_local ≡ is_local_code code)
+        → SaySignature (sorts (declared ss)) (words_of sg.params) (result_word sg.params sg.result) sg
+        → IsSameForm sg.params (defined dummies body) (form_spelled sg.params (defined dummies body))
+        → SaysDefinition (declared ss) sg.params dummies body stream bytes
+        → HasWritten (ss ++ s ∷ []) (with_term p (row_of_term (words_of sg.params) (result_word sg.params sg.result) (Some stream)) (record { code = code; body = bytes }))
+    definition_next sg dummies body code stream bytes e kind say same says =
+        let w : Written = record { code = code; body = bytes } in
+        let r : Row = row_of_term (words_of sg.params) (result_word sg.params sg.result) (Some stream) in
+        grown (with_term p r w) s w
+        (subst (λ d. HasOneMore p (with_term p r w) d w) (sym e) (r, refl))
+        (stated (with_term p r w) w
+        (subst (λ d. HasKind code (record { is_local = s.is_local; decl = decl_spelled d })) (sym e) kind)
+        (subst (λ d. IsWrittenDeclaration (with_term p r w) (declared ss) s.is_local d (decl_spelled d) bytes) (sym e)
+        ((refl, same), (words_of sg.params, result_word sg.params sg.result, say, (stream, (appended-next p (declared ss) counted).1 r, says.spells, says.makes)))))
+        (omega (arith, term_more p w r, ap declaration_weight e, length-append (words_of sg.params) (result_word sg.params sg.result ∷ []), words_many 0 [] sg.params, says.short))
+
+    pub assertion_next : (a : Assertion) (dummies : List Binder) (weight code : ℕ) (stream bytes : List ℕ)
+        → s.decl ≡ assertion_decl a → HasKind code (record { is_local = s.is_local; decl = assertion_decl a })
+        → SayParams (sorts (declared ss)) (words_of a.params) a.params → Each dummies (λ _ b. b.deps ≡ [])
+        → SaysAssertion (declared ss) a dummies weight stream bytes → weight ≤ stated_weight (declared ss) s.proof
+        → HasWritten (ss ++ s ∷ []) (with_thm p (row_of_thm (words_of a.params) stream) (record { code = code; body = bytes }))
+    assertion_next a dummies weight code stream bytes e kind say free says light =
+        let w : Written = record { code = code; body = bytes } in
+        let r : Row = row_of_thm (words_of a.params) stream in
+        let said : IsWrittenAssertion (with_thm p r w) (declared ss) a bytes = record {
+          words = words_of a.params;
+          stream = stream;
+          row = (appended-next p (declared ss) counted).2 r;
+          say = say;
+          spells = says.spells;
+          dummies = dummies;
+          are_dummies = free;
+          body = says.makes;
+        } in
+        grown (with_thm p r w) s w
+        (subst (λ d. HasOneMore p (with_thm p r w) d w) (sym e) (r, refl))
+        (stated (with_thm p r w) w
+        (subst (λ d. HasKind code (record { is_local = s.is_local; decl = decl_spelled d })) (sym e) kind)
+        (subst (λ d. IsWrittenDeclaration (with_thm p r w) (declared ss) s.is_local d (decl_spelled d) bytes) (sym e) (refl, said)))
+        (omega (arith, thm_more p w r, ap declaration_weight e, words_many 0 [] a.params, says.short, light))

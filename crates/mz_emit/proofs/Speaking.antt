@@ -1,0 +1,197 @@
+-- What the streams and bodies of a statement say.
+use Rattle.std.proofs.Common.{ℕ, get_or, zero, suc, ◌≡◌, ◌≤◌, ◌<◌, ◌+◌, ◌*◌, length-append, Bool, true, false, if◌then◌else◌, List, [], ◌∷◌, ◌++◌, length, All, refl, sym, subst, ap, ◌∙◌, arith}
+use Rattle.std.specs.Prelude.{Option, Some, None, slice_get}
+use Rattle.std.proofs.lemmas.List.Elements.{All-head, All-tail}
+use Rattle.mz_logic.specs.Tree.{Tree, Trees, app, none, more, listed, size, trees_size}
+use Rattle.mz_logic.specs.Signature.{Signature}
+use Rattle.mz_logic.specs.Declaration.{Assertion, Declaration, sorts, signatures}
+use Rattle.mz_logic.specs.Legality.{IsDummy}
+use Rattle.mz_logic.specs.Sorts.{HasSort, HasProvable, AreProvable}
+use Rattle.mz_logic.specs.Words.{binders_of}
+use Rattle.mz_logic.specs.declared.binder.Binder.{Binder}
+use Rattle.mz_logic.specs.declared.word.Word.{Word}
+use Rattle.mz_logic.proofs.Lists.{each_from_all}
+use Rattle.mz_logic.proofs.Longer.{keep_sorts}
+use Rattle.mz_store.specs.Bits.{bound_from, bound_vars}
+use Rattle.mz_store.specs.Sharing.{Sharing, Shared as Entry, Holds, tree_of}
+use Rattle.mz_store.specs.declared.item.Id.{Id}
+use Rattle.mz_unify.specs.Sorted.{Sorted, AllSorted}
+use Rattle.mz_unify.specs.Spells.{dummy_of, Text}
+use Rattle.mz_unify.specs.Streams.{of_definition, of_assertion}
+use Rattle.mz_machine.specs.Lists.{kind_of}
+use Rattle.mz_machine.specs.Premises.{bound_count as bound_in}
+use Rattle.mz_machine.specs.Tables.{is_theorem, is_definition}
+use Rattle.mz_machine.proofs.BeforeLaws.{binders_many}
+use Rattle.mz_mmu.specs.Proof.{Proof}
+use Rattle.mz_steps.specs.Bodies.{IsBody}
+use Rattle.mz_streams.specs.Laws.{IsSmall}
+use Rattle.mz_streams.specs.Writing.{assertion_written, definition_written, body_spelled, dummies_spelled, stream_of}
+use Rattle.mz_streams.proofs.Short.{assertions-short, definitions-short, assertions-bounded, definitions-bounded}
+use Rattle.mz_streams.proofs.Texts.{assertions-written, definitions-written}
+use Rattle.mz_shared.specs.Instances.{Grows, InReach, AllInReach, AreSorted}
+use Rattle.mz_shared.specs.Variables.{IsShared}
+use Rattle.mz_shared.proofs.Owned.{reach_of_sort}
+use Rattle.mz_spell.specs.Params.{HasParams}
+use Rattle.mz_bodies.specs.Claims.{IsSound}
+use Rattle.mz_bodies.specs.Stages.{HasDummiesBehind}
+use Rattle.mz_emit.proofs.Saying.{few_nodes}
+use Rattle.mz_emit.specs.Emitting.{AreReady, CanBeDefined, CanBeAsserted, SaysDefinition, SaysAssertion, IsProvedBy, IsSoundIfStated, body_weight, MakesBody}
+
+-- ---- counts of bound variables
+
+one_counted : (b : Bool) (i : ℕ) (xs : List ℕ) (m k : ℕ) → m ≡ length xs + k → (if b then suc m else m) ≡ length (if b then i ∷ xs else xs) + k
+one_counted true i xs m k e = omega arith
+one_counted false i xs m k e = e
+
+one_dummy : (b : Bool) (m n : ℕ) → b ≡ true → m ≡ n → (if b then suc m else m) ≡ suc n
+one_dummy true m n is e = ap suc e
+one_dummy false m n is e = absurd (cc)
+
+dummies_counted : (ds : List Binder) → All IsDummy ds → bound_in ds ≡ length ds
+dummies_counted [] are = refl
+dummies_counted (d ∷ ds) are = one_dummy d.bound (bound_in ds) (length ds) (All-head IsDummy d ds are).0 (dummies_counted ds (All-tail IsDummy d ds are))
+
+all_counted : (i : ℕ) (ps ds : List Binder) → All IsDummy ds → bound_in (ps ++ ds) ≡ length (bound_from i ps) + length ds
+all_counted i [] ds are = let e : bound_in ds ≡ length ds = dummies_counted ds are in omega (arith, e)
+all_counted i (p ∷ ps) ds are = one_counted p.bound i (bound_from (suc i) ps) (bound_in (ps ++ ds)) (length ds) (all_counted (suc i) ps ds are)
+
+-- ---- what is behind the parameters
+
+behind : (ps ds : List Binder) (x : ℕ) (b : Binder) → slice_get (ps ++ ds) x ≡ Some b → length ps ≤ x → (i : ℕ) × (slice_get ds i ≡ Some b)
+behind [] ds x b e le = (x, e)
+behind (p ∷ ps) ds zero b e le = absurd (omega arith)
+behind (p ∷ ps) ds (suc x) b e le = behind ps ds x b e (omega arith)
+
+dummy_is : (b : Binder) → IsDummy b → b ≡ dummy_of b.sort
+dummy_is b is = ap (λ x. record { sort = b.sort; bound = x; deps = b.deps }) is.0 ∙ ap (λ xs. record { sort = b.sort; bound = true; deps = xs }) is.1
+
+module _ (env : List Declaration) (ps ds : List Binder) (ready : AreReady env ps ds) where
+  pub few_bound : length (bound_vars ps) + length ds ≤ 55
+  few_bound = omega (arith, all_counted 0 ps ds ready.dummies_are, ready.few)
+
+  pub has_params : (ctx : List Binder) (n : ℕ) → ctx ≡ ps ++ ds → length ps ≡ n → HasParams n ctx
+  has_params ctx n is many = (sorts env, ps, ds, is, many, ready.params_are, ready.dummies_are)
+
+  pub dummies_behind : (s : Sharing) (vars : List Id) (n : ℕ) → s.context ≡ ps ++ ds → length ps ≡ n → IsShared (signatures env) s vars → HasDummiesBehind env n s vars
+  dummies_behind s vars n is many shared = record {
+    shared = shared;
+    many = let e : length s.context ≡ length ps + length ds = ap length is ∙ length-append ps ds in omega arith;
+    dummies = λ x b at past.
+        let found = behind ps ds x b (sym (ap (λ ctx. slice_get ctx x) is) ∙ at) (omega arith) in
+        (dummy_is b (each_from_all IsDummy ds ready.dummies_are found.0 b found.1), ready.dummy_sorts found.0 b found.1);
+  }
+
+  pub bound_below : (ctx : List Binder) → ctx ≡ ps ++ ds → bound_in ctx ≤ 55
+  bound_below ctx is = subst (λ c. bound_in c ≤ 55) (sym is) ready.few
+
+pub few_words : (ws : List Word) → length (binders_of ws) ≤ 65535 → length ws ≤ 65535
+few_words ws few = omega (arith, few, binders_many ws)
+
+-- ---- what a store keeps
+
+got_left : {A : Type 0} (xs ys : List A) (i : ℕ) (d : A) → i < length xs → get_or (xs ++ ys) i d ≡ get_or xs i d
+got_left [] ys i d below = absurd (omega (arith, below))
+got_left (x ∷ xs) ys zero d below = refl
+got_left (x ∷ xs) ys (suc i) d below = got_left xs ys i d (omega (arith, below))
+
+pub held_after : (s s' : Sharing) (i : ℕ) (e : Tree) → Grows s s' → Holds s i e → tree_of s' i ≡ e
+held_after s s' i e (_, _, (last, is)) (inside, holds) =
+    let none_there : Entry = record { tree = app 0 none; sort = 0; deps = 0 } in
+    ap (λ (xs : List Entry). (get_or xs i none_there).tree) is ∙ ap (λ (x : Entry). x.tree) (got_left s.entries last i none_there inside) ∙ holds
+
+-- ---- definitions
+
+pub definition_says : (env : List Declaration) (ps ds : List Binder) (e t : Tree) (stream bytes : List ℕ) → CanBeDefined env ps ds e → t ≡ e
+    → stream ≡ stream_of (definition_written ps ds t).commands → IsBody env is_definition ps ds t [] bytes → length bytes ≤ 6 * size t + 1 → SaysDefinition env ps ds e stream bytes
+definition_says env ps ds e t stream bytes can is spelled makes short = record {
+  spells = λ further.
+      let written = definitions-written (signatures env) ps ds e can.sorted (definitions-short (signatures env) ps ds e can.ready.small can.sorted can.short) further in
+      let same : stream_of (definition_written ps ds e).commands ≡ stream = ap (λ x. stream_of (definition_written ps ds x).commands) (sym is) ∙ sym spelled in
+      subst (λ bs. Text of_definition (signatures env) ps (bs ++ further) none (body_spelled ps ds e) (dummies_spelled ps ds e)) same written;
+  makes = subst (λ x. IsBody env is_definition ps ds x [] bytes) is makes;
+  short =
+      let stream_short = definitions-bounded (signatures env) ps ds e can.ready.small can.sorted in
+      let same : length stream ≡ length (stream_of (definition_written ps ds e).commands) = ap length spelled ∙ ap (λ x. length (stream_of (definition_written ps ds x).commands)) is in
+      omega (arith, stream_short, same, short, ap size is);
+}
+
+-- ---- axioms and theorems
+
+front : (ps ds : List Binder) (x : ℕ) (b : Binder) → slice_get ps x ≡ Some b → slice_get (ps ++ ds) x ≡ Some b
+front [] ds x b e = absurd (let n : None ≡ Some b = e in cc)
+front (p ∷ ps) ds zero b e = e
+front (p ∷ ps) ds (suc x) b e = front ps ds x b e
+
+small_front : (sigs : List Signature) (ps ds : List Binder) → IsSmall sigs (ps ++ ds) → IsSmall sigs ps
+small_front sigs ps ds small = record { terms = small.terms; sorts = λ x b e. small.sorts x b (front ps ds x b e) }
+
+none_behind : (env : List Declaration) → env ++ [] ≡ env
+none_behind [] = refl
+none_behind (d ∷ env) = ap (λ ds. d ∷ ds) (none_behind env)
+
+module _ (env : List Declaration) (ps : List Binder) where
+  longer : (ds : List Binder) (e : Tree) (s : ℕ) → HasSort (signatures env) ps e s → HasSort (signatures env) (ps ++ ds) e s
+  longer ds e s has = subst (λ es. HasSort (signatures es) (ps ++ ds) e s) (none_behind env) (keep_sorts env [] ps ds e s has)
+
+  all_sorted : (es : Trees) → ((i : ℕ) (e : Tree) → slice_get (listed es) i ≡ Some e → HasProvable env ps e) → AllSorted (signatures env) ps (listed es)
+  all_sorted none h = tt
+  all_sorted (more e es) h = let p = h 0 e refl in ((p.0, p.1), all_sorted es (λ i. h (suc i)))
+
+  pub are_sorted : (ds : List Binder) (es : Trees) → ((i : ℕ) (e : Tree) → slice_get (listed es) i ≡ Some e → HasProvable env ps e) → AreSorted (signatures env) (ps ++ ds) es
+  are_sorted ds none h = tt
+  are_sorted ds (more e es) h = let p = h 0 e refl in ((p.0, longer ds e p.0 p.1), are_sorted ds es (λ i. h (suc i)))
+
+  reach_all : (es : Trees) → ((i : ℕ) (e : Tree) → slice_get (listed es) i ≡ Some e → HasProvable env ps e) → AllInReach (length ps) es
+  reach_all none h = tt
+  reach_all (more e es) h = let p = h 0 e refl in (reach_of_sort (signatures env) ps e p.0 p.1, reach_all es (λ i. h (suc i)))
+
+module _ (env : List Declaration) (a : Assertion) (ds : List Binder) (can : CanBeAsserted env a ds) where
+  pub conclusion_sorted : Sorted (signatures env) (a.params ++ ds) a.conclusion
+  conclusion_sorted = (can.conclusion.0, longer env a.params ds a.conclusion can.conclusion.0 can.conclusion.1)
+
+  pub hyps_sorted : AreSorted (signatures env) (a.params ++ ds) a.hyps
+  hyps_sorted = are_sorted env a.params ds a.hyps can.hyps
+
+  pub conclusion_reach : (t : Tree) (n : ℕ) → t ≡ a.conclusion → length a.params ≡ n → InReach n t
+  conclusion_reach t n is many = subst (λ k. InReach k t) many (subst (InReach (length a.params)) (sym is) (reach_of_sort (signatures env) a.params a.conclusion can.conclusion.0 can.conclusion.1))
+
+  pub hyps_reach : (hs : Trees) (n : ℕ) → hs ≡ a.hyps → length a.params ≡ n → AllInReach n hs
+  hyps_reach hs n is many = subst (λ k. AllInReach k hs) many (subst (AllInReach (length a.params)) (sym is) (reach_all env a.params a.hyps can.hyps))
+
+  pub hyps_provable : (ctx : List Binder) (hs : Trees) → ctx ≡ a.params ++ ds → hs ≡ a.hyps → AreProvable env ctx hs
+  hyps_provable ctx hs at is = subst (λ c. AreProvable env c hs) (sym at) (subst (AreProvable env (a.params ++ ds)) (sym is)
+      (λ i e here. let p = can.hyps i e here in (p.0, longer env a.params ds e p.0 p.1, p.2)))
+
+  pub sound_there : (q : Option Proof) (ctx : List Binder) (hs : Trees) → ctx ≡ a.params ++ ds → hs ≡ a.hyps → IsProvedBy env (a.params ++ ds) a q
+      → IsSoundIfStated env ctx (listed hs) q
+  sound_there None ctx hs at is by = tt
+  sound_there (Some p) ctx hs at is by =
+      subst (λ c. IsSound env c (listed hs) [] p) (sym at) (subst (λ xs. IsSound env (a.params ++ ds) (listed xs) [] p) (sym is) by.1)
+
+  made : (q : Option Proof) (bytes : List ℕ) → IsProvedBy env (a.params ++ ds) a q → MakesBody env q a.params ds a.conclusion (listed a.hyps) bytes
+      → IsBody env (kind_of a.is_axiom) a.params ds a.conclusion (listed a.hyps) bytes
+  made None bytes by makes = subst (λ b. IsBody env (kind_of b) a.params ds a.conclusion (listed a.hyps) bytes) (sym by) makes
+  made (Some p) bytes by makes =
+      subst (λ b. IsBody env (kind_of b) a.params ds a.conclusion (listed a.hyps) bytes) (sym by.0)
+      (subst (λ e. IsBody env is_theorem a.params ds e (listed a.hyps) bytes) by.2 makes)
+
+  pub assertion_says : (q : Option Proof) (t : Tree) (hs : Trees) (stream bytes : List ℕ) → IsProvedBy env (a.params ++ ds) a q → t ≡ a.conclusion → hs ≡ a.hyps
+      → stream ≡ stream_of (assertion_written a.params hs t).commands → MakesBody env q a.params ds t (listed hs) bytes
+      → length bytes ≤ 6 * (trees_size hs + size t + body_weight env q) + 1 → SaysAssertion env a ds (body_weight env q) stream bytes
+  assertion_says q t hs stream bytes by t_is hs_is spelled makes short = record {
+    spells = λ further.
+        let sorted = all_sorted env a.params a.hyps can.hyps in
+        let small = small_front (signatures env) a.params ds can.ready.small in
+        let one : Sorted (signatures env) a.params a.conclusion = (can.conclusion.0, can.conclusion.1) in
+        let written = assertions-written (signatures env) a.params a.hyps a.conclusion sorted one (assertions-short (signatures env) a.params a.hyps a.conclusion small sorted one can.short) further in
+        let same : stream_of (assertion_written a.params a.hyps a.conclusion).commands ≡ stream
+        = ap (λ x. stream_of (assertion_written a.params x a.conclusion).commands) (sym hs_is) ∙ ap (λ x. stream_of (assertion_written a.params hs x).commands) (sym t_is) ∙ sym spelled in
+        subst (λ bs. Text of_assertion (signatures env) a.params (bs ++ further) a.hyps a.conclusion []) same written;
+    makes = made q bytes by (subst (λ x. MakesBody env q a.params ds x (listed a.hyps) bytes) t_is (subst (λ xs. MakesBody env q a.params ds t (listed xs) bytes) hs_is makes));
+    short =
+        let one : Sorted (signatures env) a.params a.conclusion = (can.conclusion.0, can.conclusion.1) in
+        let stream_short = assertions-bounded (signatures env) a.params a.hyps a.conclusion (small_front (signatures env) a.params ds can.ready.small) (all_sorted env a.params a.hyps can.hyps) one in
+        let same : length stream ≡ length (stream_of (assertion_written a.params a.hyps a.conclusion).commands)
+        = ap length spelled ∙ ap (λ x. length (stream_of (assertion_written a.params hs x).commands)) t_is ∙ ap (λ x. length (stream_of (assertion_written a.params x a.conclusion).commands)) hs_is in
+        omega (arith, stream_short, same, short, few_nodes a.hyps, ap size t_is, ap trees_size hs_is);
+  }

@@ -1,0 +1,357 @@
+// The statements of a text, one after another, as rows, streams and bodies of a binary.
+ghost use Rattle.std.specs.Prelude.{ℕ, List, ◌≡◌, ◌<◌, ◌≤◌, ◌+◌, ◌*◌, ◌++◌, ◌∷◌, [], ◌⊎◌, OnOk, IfOk, None, Some, Option, length, map, take, IsTrue};
+ghost use Rattle.mz_cmd.specs.Codes.{begins_statement};
+ghost use Rattle.mz_logic.specs.DeclView.{declaration, term_of, assertion_of, assertion_view, signature, form, is_axiom as is_axiom_form};
+ghost use Rattle.mz_logic.specs.Declaration.{Assertion, sort_decl, term_decl, assertion_decl, plain_form, defined, dummies_of, sorts, signatures};
+ghost use Rattle.mz_logic.specs.Legality.{IsLegalEnv};
+ghost use Rattle.mz_logic.specs.Modifiers.{MayBeResultSort};
+ghost use Rattle.mz_logic.specs.Sorts.{AreProvable};
+ghost use Rattle.mz_logic.specs.Tree.{listed, size, trees_size};
+ghost use Rattle.mz_logic.specs.View.{tree};
+ghost use Rattle.mz_logic.specs.Words.{BitsRight, binders_of, signatures_of};
+ghost use Rattle.mz_logic.specs.WordsWritten.{CanBeWords, words_of, result_word};
+ghost use Rattle.mz_logic.specs.declared.binder.Binder.{Binder as BinderOf};
+ghost use Rattle.mz_logic.specs.declared.binder.SortMods.{SortMods as Modifiers};
+ghost use Rattle.mz_layout.specs.Normal.{row_of_term, row_of_thm};
+ghost use Rattle.mz_mmu.specs.ProofView.{proof_view};
+ghost use Rattle.mz_type.specs.Answers.{stated};
+ghost use Rattle.mz_mmu.specs.Proof.{Statement};
+ghost use Rattle.mz_type.specs.Meaning.{LegalAsStated};
+ghost use Rattle.mz_type.specs.TypedText.{statement_at};
+ghost use Rattle.mz_type.specs.Weight.{IsWithinLimits};
+ghost use Rattle.mz_emit.specs.Compiling.{IsBinaryOf};
+ghost use Rattle.mz_store.specs.Sharing.{AreIn, IsIn, tree_of, trees_of};
+ghost use Rattle.mz_machine.specs.Premises.{bound_count as bound_in};
+ghost use Rattle.mz_shared.specs.Rows.{words_of_row};
+ghost use Rattle.mz_bodies.specs.Stages.{HasDummiesBehind};
+ghost use Rattle.mz_emit.specs.Emitting;
+ghost use Rattle.mz_emit.specs.Emitting.{IsNext, HasRows, MayFollow, CanBeDefined, CanBeAsserted, HasWords, table_of, term_row, thm_row, SaysDefinition, SaysAssertion, IsProvedBy, IsSoundIfStated, MakesBody, body_weight, HasEmitted, with_sort, with_term, with_thm};
+
+use mz_bodies::{Before, axiom_body, definition_body, theorem_body};
+use mz_claims::stated_proofs_are_sound;
+use mz_cmd::{Mem, StatementCode};
+use mz_layout::LayoutWriter;
+use mz_logic::{Binder, Decl, Env, Expr, SortMods, TermDecl, ThmDecl, ThmForm};
+use mz_mmu::{Proof, Text};
+use mz_shared::{Shared, Table, Words};
+use mz_spell::{assertion_stream, definition_stream};
+use mz_store::Id;
+use mz_type::copy_of_decl;
+use std::alloc::Global;
+
+/// The statements so far: their declarations, the words of these, and what is written of them.
+#[derive(Drop)]
+pub(crate) struct Emitter {
+    pub(crate) alloc: Global,
+    pub(crate) env: Env,
+    pub(crate) table: Table,
+    pub(crate) writer: LayoutWriter,
+}
+
+/// The stream and the body of a statement.
+#[derive(Drop)]
+struct Emitted {
+    stream: Vec<u8>,
+    body: Vec<u8>,
+}
+
+/// The code of a definition's statement.
+fn definition_code(is_local: bool) -> u8
+    ensures code { result ≡ Emitting.definition_code is_local }
+    ensures known { IsTrue (begins_statement result) }
+{
+    if is_local {
+        StatementCode::LocalDefinition as u8
+    } else {
+        StatementCode::Term as u8
+    }
+}
+
+/// The code of an axiom's or a theorem's statement.
+fn assertion_code(form: ThmForm, is_local: bool) -> u8
+    ensures code { result ≡ Emitting.assertion_code (is_axiom_form form) is_local }
+    ensures known { IsTrue (begins_statement result) }
+{
+    match form {
+        ThmForm::Axiom => StatementCode::Axiom as u8,
+        ThmForm::Theorem => {
+            if is_local {
+                StatementCode::LocalTheorem as u8
+            } else {
+                StatementCode::Theorem as u8
+            }
+        }
+    }
+}
+
+impl Emitter {
+    /// No statements.
+    pub(crate) fn new(alloc: Global) -> Emitter
+        ensures { HasEmitted [] result }
+    {
+        Emitter {
+            alloc,
+            env: Env::new(alloc),
+            table: Table::new(alloc),
+            writer: LayoutWriter::new(alloc),
+        }
+    }
+
+    /// Writes a sort.
+    fn sort(&mut self, mods: SortMods) -> Result<(), Mem>
+        requires { mods.0 < 16 }
+        ensures writer { OnOk result (self.new.writer ≡ with_sort self.old.writer mods.0) }
+        ensures sorts { OnOk result (self.new.table.sorts.items ≡ self.old.table.sorts.items ++ mods ∷ []) }
+        ensures terms { OnOk result (self.new.table.terms.items ≡ self.old.table.terms.items) }
+        ensures env { OnOk result (self.new.env ≡ self.old.env) }
+    {
+        self.table.add_sort(mods)?;
+        self.writer.add_sort(mods.0)?;
+        self.writer.add_stmt(StatementCode::Sort as u8, &[])?;
+        Ok(())
+    }
+
+    /// Writes a plain term.
+    fn plain(&mut self, term: &TermDecl) -> Result<(), Mem>
+        requires { (ss : List Modifiers) × HasWords ss (signature term.now) }
+        ensures writer { OnOk result (self.new.writer ≡ with_term self.old.writer (term_row (signature term.now) None) (record { code = 0x05; body = [] })) }
+        ensures sorts { OnOk result (self.new.table.sorts.items ≡ self.old.table.sorts.items) }
+        ensures terms { OnOk result (table_of self.new ≡ table_of self.old ++ signature term.now ∷ []) }
+        ensures env { OnOk result (self.new.env ≡ self.old.env) }
+    {
+        let words = Words::of(self.alloc, term.params.as_slice())?;
+        let ret = words.result_word(&term.result);
+        self.writer.add_term(&words.params, ret, None)?;
+        self.writer.add_stmt(StatementCode::Term as u8, &[])?;
+        self.table.add_term(words.params, ret, false)?;
+        Ok(())
+    }
+
+    /// Writes a definition.
+    fn definition(&mut self, term: &TermDecl, body: &Expr, code: u8) -> Result<(), Mem>
+        requires words { (ss : List Modifiers) × HasWords ss (signature term.now) }
+        requires legal { IsLegalEnv self.old.env }
+        requires table { table_of self.old ≡ signatures self.old.env }
+        requires can { CanBeDefined self.old.env (signature term.now).params (dummies_of (form term.now.form)) (tree body.now) }
+        requires code { IsTrue (begins_statement code) }
+        ensures written { OnOk result ((stream : List ℕ) × (bytes : List ℕ)
+            × SaysDefinition self.old.env (signature term.now).params (dummies_of (form term.now.form)) (tree body.now) stream bytes
+            × (self.new.writer ≡ with_term self.old.writer (term_row (signature term.now) (Some stream)) (record { code = code; body = bytes }))) }
+        ensures sorts { OnOk result (self.new.table.sorts.items ≡ self.old.table.sorts.items) }
+        ensures terms { OnOk result (table_of self.new ≡ table_of self.old ++ signature term.now ∷ []) }
+        ensures env { OnOk result (self.new.env ≡ self.old.env) }
+    {
+        let words = Words::of(self.alloc, term.params.as_slice())?;
+        let ret = words.result_word(&term.result);
+        let emitted = self.defined(&words, term.form.dummies(), body)?;
+        self.writer
+            .add_term(&words.params, ret, Some(&emitted.stream))?;
+        self.writer.add_stmt(code, &emitted.body)?;
+        self.table.add_term(words.params, ret, true)?;
+        Ok(())
+    }
+
+    /// Writes an axiom, or a theorem with these dummies and this proof.
+    fn assertion(
+        &mut self,
+        thm: &ThmDecl,
+        dummies: &[Binder],
+        proof: Option<&Proof>,
+        code: u8,
+    ) -> Result<(), Mem>
+        requires words { (ss : List Modifiers) × CanBeWords ss (assertion_view thm.now).params }
+        requires legal { IsLegalEnv self.old.env }
+        requires table { table_of self.old ≡ signatures self.old.env }
+        requires can { CanBeAsserted self.old.env (assertion_view thm.now) dummies.now }
+        requires proved { IsProvedBy self.old.env ((assertion_view thm.now).params ++ dummies.now) (assertion_view thm.now) (stated proof) }
+        requires code { IsTrue (begins_statement code) }
+        ensures written { OnOk result ((stream : List ℕ) × (bytes : List ℕ) × SaysAssertion self.old.env (assertion_view thm.now) dummies.now (body_weight self.old.env (stated proof.entry)) stream bytes
+            × (self.new.writer ≡ with_thm self.old.writer (thm_row (assertion_view thm.now) stream) (record { code = code; body = bytes }))) }
+        ensures table { OnOk result (self.new.table ≡ self.old.table) }
+        ensures env { OnOk result (self.new.env ≡ self.old.env) }
+    {
+        let words = Words::of(self.alloc, thm.params.as_slice())?;
+        let emitted = self.asserted(&words, thm, dummies, proof)?;
+        self.writer.add_thm(&words.params, &emitted.stream)?;
+        self.writer.add_stmt(code, &emitted.body)?;
+        Ok(())
+    }
+
+    /// Writes the i-th statement, a sort.
+    fn write_sort(&mut self, text: &Text, i: u32, mods: SortMods) -> Result<(), Mem>
+        requires next { IsNext text.now.statements i self.old }
+        requires decl { (statement_at text.now.statements i).decl ≡ sort_decl mods }
+        ensures rows { OnOk result (HasRows (take i text.now.statements ++ statement_at text.now.statements i ∷ []) self.new) }
+        ensures env { OnOk result (self.new.env ≡ self.old.env) }
+    {
+        self.sort(mods)?;
+        Ok(())
+    }
+
+    /// Writes the i-th statement, a plain term.
+    fn write_plain(&mut self, text: &Text, i: u32, term: &TermDecl) -> Result<(), Mem>
+        requires next { IsNext text.now.statements i self.old }
+        requires decl { (statement_at text.now.statements i).decl ≡ term_of term.now }
+        requires plain { form term.now.form ≡ plain_form }
+        ensures rows { OnOk result (HasRows (take i text.now.statements ++ statement_at text.now.statements i ∷ []) self.new) }
+        ensures env { OnOk result (self.new.env ≡ self.old.env) }
+    {
+        self.plain(term)?;
+        Ok(())
+    }
+
+    /// Writes the i-th statement, a definition.
+    fn write_definition(
+        &mut self,
+        text: &Text,
+        i: u32,
+        term: &TermDecl,
+        body: &Expr,
+    ) -> Result<(), Mem>
+        requires next { IsNext text.now.statements i self.old }
+        requires decl { (statement_at text.now.statements i).decl ≡ term_of term.now }
+        requires body { form term.now.form ≡ defined (dummies_of (form term.now.form)) (tree body.now) }
+        ensures rows { OnOk result (HasRows (take i text.now.statements ++ statement_at text.now.statements i ∷ []) self.new) }
+        ensures env { OnOk result (self.new.env ≡ self.old.env) }
+    {
+        let code = definition_code(text.is_local(i));
+        self.definition(term, body, code)?;
+        Ok(())
+    }
+
+    /// Writes the i-th statement, a term.
+    fn write_term(&mut self, text: &Text, i: u32, term: &TermDecl) -> Result<(), Mem>
+        requires next { IsNext text.now.statements i self.old }
+        requires decl { (statement_at text.now.statements i).decl ≡ term_of term.now }
+        ensures rows { OnOk result (HasRows (take i text.now.statements ++ statement_at text.now.statements i ∷ []) self.new) }
+        ensures env { OnOk result (self.new.env ≡ self.old.env) }
+    {
+        match term.form.body() {
+            None => self.write_plain(text, i, term),
+            Some(body) => self.write_definition(text, i, term, body),
+        }
+    }
+
+    /// Writes the i-th statement, an axiom or a theorem.
+    fn write_thm(&mut self, text: &Text, i: u32, thm: &ThmDecl) -> Result<(), Mem>
+        requires next { IsNext text.now.statements i self.old }
+        requires decl { (statement_at text.now.statements i).decl ≡ assertion_of thm.now }
+        ensures rows { OnOk result (HasRows (take i text.now.statements ++ statement_at text.now.statements i ∷ []) self.new) }
+        ensures env { OnOk result (self.new.env ≡ self.old.env) }
+    {
+        stated_proofs_are_sound();
+        let code = assertion_code(thm.form, text.is_local(i));
+        self.assertion(thm, text.dummies(i).as_slice(), text.proof(i), code)?;
+        Ok(())
+    }
+
+    /// Writes the i-th statement.
+    fn write(&mut self, text: &Text, i: u32) -> Result<(), Mem>
+        requires { IsNext text.now.statements i self.old }
+        ensures rows { OnOk result (HasRows (take i text.now.statements ++ statement_at text.now.statements i ∷ []) self.new) }
+        ensures env { OnOk result (self.new.env ≡ self.old.env) }
+    {
+        match text.decl(i) {
+            Decl::Sort(mods) => self.write_sort(text, i, *mods),
+            Decl::Term(term) => self.write_term(text, i, term),
+            Decl::Thm(thm) => self.write_thm(text, i, thm),
+        }
+    }
+
+    /// Writes the i-th statement, and adds what it declares to what stands before the next.
+    pub(crate) fn statement(&mut self, text: &Text, i: u32) -> Result<(), Mem>
+        requires { IsNext text.now.statements i self.old }
+        ensures { OnOk result (HasEmitted (take (i + 1) text.now.statements) self.new) }
+    {
+        self.write(text, i)?;
+        let decl = copy_of_decl(self.alloc, text.decl(i))?;
+        self.env.push_decl(decl)?;
+        Ok(())
+    }
+
+    /// The binary.
+    pub(crate) fn finish(self) -> Result<Vec<u8>, Mem>
+        requires { (ss : List Statement) × HasEmitted ss self × LegalAsStated ss × IsWithinLimits ss }
+        ensures { IfOk result (λ bytes. (ss : List Statement) → HasEmitted ss self → LegalAsStated ss → IsWithinLimits ss → IsBinaryOf ss bytes.items) }
+    {
+        let bytes = self.writer.finish()?;
+        Ok(bytes)
+    }
+
+    /// The stream and the body of a definition.
+    fn defined(&self, words: &Words, dummies: &[Binder], body: &Expr) -> Result<Emitted, Mem>
+        requires legal { IsLegalEnv self.now.env }
+        requires table { signatures_of (map words_of_row self.now.table.terms.items) ≡ signatures self.now.env }
+        requires right { BitsRight words.now.params.items }
+        requires can { CanBeDefined self.now.env (binders_of words.now.params.items) dummies.now (tree body.now) }
+        ensures { IfOk result (λ e. SaysDefinition self.now.env (binders_of words.now.params.items) dummies.now (tree body.now) e.stream.items e.body.items) }
+    {
+        let params = words.params.as_slice().len() as u32;
+        let mut shared = Shared::new(self.alloc, &words.params, dummies)?;
+        let id = shared.id(&self.table, body)?;
+        let stream = definition_stream(self.alloc, &shared, params, id)?;
+        let before = Before {
+            env: &self.env,
+            table: &self.table,
+        };
+        let body = definition_body(self.alloc, before, shared, params, id)?;
+        Ok(Emitted { stream, body })
+    }
+
+    /// The body of an axiom, or of a theorem with this proof.
+    fn assertion_body(
+        &self,
+        shared: Shared,
+        params: u32,
+        hyps: &[Id],
+        conclusion: Id,
+        proof: Option<&Proof>,
+    ) -> Result<Vec<u8>, Mem>
+        requires legal { IsLegalEnv self.now.env }
+        requires table { signatures_of (map words_of_row self.now.table.terms.items) ≡ signatures self.now.env }
+        requires behind { HasDummiesBehind self.now.env params shared.store shared.variables.items }
+        requires few { bound_in shared.store.context ≤ 55 }
+        requires inside { IsIn shared.store conclusion.0 }
+        requires hyps { AreIn shared.store hyps.now }
+        requires provable { AreProvable self.now.env shared.store.context (trees_of shared.store hyps.now) }
+        requires sound { IsSoundIfStated self.now.env shared.store.context (listed (trees_of shared.store hyps.now)) (stated proof) }
+        ensures body { IfOk result (λ b. (ps ds : List BinderOf) → shared.store.context ≡ ps ++ ds → length ps ≡ params
+            → MakesBody self.now.env (stated proof.entry) ps ds (tree_of shared.store conclusion.0) (listed (trees_of shared.store hyps.now)) b.items) }
+        ensures short { IfOk result (λ b. length b.items
+            ≤ 6 * (trees_size (trees_of shared.store hyps.now) + size (tree_of shared.store conclusion.0) + body_weight self.now.env (stated proof.entry)) + 1) }
+    {
+        let before = Before {
+            env: &self.env,
+            table: &self.table,
+        };
+        match proof {
+            None => axiom_body(self.alloc, before, shared, params, hyps, conclusion),
+            Some(proof) => theorem_body(self.alloc, before, shared, params, hyps, proof),
+        }
+    }
+
+    /// The stream and the body of an axiom, or of a theorem with these dummies and this proof.
+    fn asserted(
+        &self,
+        words: &Words,
+        thm: &ThmDecl,
+        dummies: &[Binder],
+        proof: Option<&Proof>,
+    ) -> Result<Emitted, Mem>
+        requires legal { IsLegalEnv self.now.env }
+        requires table { signatures_of (map words_of_row self.now.table.terms.items) ≡ signatures self.now.env }
+        requires right { BitsRight words.now.params.items }
+        requires params { binders_of words.now.params.items ≡ (assertion_view thm.now).params }
+        requires can { CanBeAsserted self.now.env (assertion_view thm.now) dummies.now }
+        requires proved { IsProvedBy self.now.env ((assertion_view thm.now).params ++ dummies.now) (assertion_view thm.now) (stated proof) }
+        ensures { IfOk result (λ e. SaysAssertion self.now.env (assertion_view thm.now) dummies.now (body_weight self.now.env (stated proof.entry)) e.stream.items e.body.items) }
+    {
+        let params = words.params.as_slice().len() as u32;
+        let mut shared = Shared::new(self.alloc, &words.params, dummies)?;
+        let conclusion = shared.id(&self.table, &thm.conclusion)?;
+        let hyps = shared.ids(&self.table, &thm.hyps)?;
+        let stream = assertion_stream(self.alloc, &shared, params, conclusion, &hyps)?;
+        let body = self.assertion_body(shared, params, &hyps, conclusion, proof)?;
+        Ok(Emitted { stream, body })
+    }
+}

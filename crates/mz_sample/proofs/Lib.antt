@@ -1,0 +1,3 @@
+mod WorkedExamples
+mod Lines
+mod Lengths
