@@ -1,11 +1,8 @@
 -- A written file is accepted where the text's public statements agree with the specification.
-use Rattle.mz_logic.specs.LegalLists.{gap_free}
-use Rattle.mz_logic.proofs.Closing.{legal_list_is_legal_env}
-use Rattle.mz_writing.proofs.FilesHold.{files-good, made-legal}
+use Rattle.mz_writing.proofs.FilesHold.{files-good}
 use Rattle.mz_writing.proofs.SameLists.{written-same}
 use Rattle.mz_accepting.specs.Laws.{WrittenFilesAreAccepted}
 use Rattle.mz_accepting.proofs.Agreeing.{same-lists-agree}
-use Rattle.mz_accepting.proofs.Insides.{bodies-inside}
 
 pub files-accepted : WrittenFilesAreAccepted
 files-accepted p text made fit legal written spec ds is-spec agrees = record {
@@ -13,5 +10,5 @@ files-accepted p text made fit legal written spec ds is-spec agrees = record {
   statements = made;
   is_spec = is-spec;
   is_good = files-good p text made fit legal written;
-  agrees = same-lists-agree ds text made (written-same p text made written) (bodies-inside made (legal_list_is_legal_env gap_free made (made-legal p text made fit legal written))) agrees;
+  agrees = same-lists-agree ds text made (written-same p text made written) agrees;
 }

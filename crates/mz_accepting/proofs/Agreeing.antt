@@ -8,7 +8,7 @@ use Rattle.mz_logic.specs.declared.binder.Binder.{Binder}
 use Rattle.mz_steps.specs.Sameness.{IsSameForm}
 use Rattle.mz_steps.specs.SameLists.{IsSameDeclaration, IsSameStatement, IsSameList}
 use Rattle.mz_match.specs.Match.{term_row_of, term_rows, partner_of, publics_after, kind_of_form, form_checks, match_checks, Agrees}
-use Rattle.mz_streams.specs.SpelledLists.{list_spelled, IsInside, IsBodyInside, BodiesInside}
+use Rattle.mz_streams.specs.SpelledLists.{list_spelled}
 use Rattle.mz_streams.proofs.SpelledLists.{spelled-same}
 use Rattle.mz_accepting.specs.Laws.{SameListsAgree, SpelledListsAgree}
 use Rattle.mz_accepting.proofs.SameBodies.{same-body-back}
@@ -66,27 +66,27 @@ form-kind params (defined ds b) plain_form h = absurd h
 form-kind params (defined ds b) abstract_form h = absurd h
 form-kind params (defined ds b) (defined ds' b') h = refl
 
-form-agrees : (rows : List ℕ) (params : List Binder) (g f f' : Form) → IsSameForm params f f' → IsInside (length params) f' → AllHold (form_checks rows (length params) g f) → AllHold (form_checks rows (length params) g f')
-form-agrees rows params plain_form f f' same inside h = tt
-form-agrees rows params abstract_form f f' same inside h = tt
-form-agrees rows params (defined ds e) plain_form f' same inside (h, _) = absurd h
-form-agrees rows params (defined ds e) abstract_form f' same inside (h, _) = absurd h
-form-agrees rows params (defined ds e) (defined es body) plain_form same inside h = absurd same
-form-agrees rows params (defined ds e) (defined es body) abstract_form same inside h = absurd same
-form-agrees rows params (defined ds e) (defined es body) (defined fs f) (ys, fresh, is) inside (h, _) = (same-body-back rows params ds es fs e body f ys fresh is inside h, tt)
+form-agrees : (rows : List ℕ) (params : List Binder) (g f f' : Form) → IsSameForm params f f' → AllHold (form_checks rows (length params) g f) → AllHold (form_checks rows (length params) g f')
+form-agrees rows params plain_form f f' same h = tt
+form-agrees rows params abstract_form f f' same h = tt
+form-agrees rows params (defined ds e) plain_form f' same (h, _) = absurd h
+form-agrees rows params (defined ds e) abstract_form f' same (h, _) = absurd h
+form-agrees rows params (defined ds e) (defined es body) plain_form same h = absurd same
+form-agrees rows params (defined ds e) (defined es body) abstract_form same h = absurd same
+form-agrees rows params (defined ds e) (defined es body) (defined fs f) (ys, fresh, is, inside) (h, _) = (same-body-back rows params ds es fs e body f ys fresh is inside h, tt)
 
-decl-agrees : (rows : List ℕ) (d e e' : Declaration) → IsSameDeclaration e e' → IsBodyInside e' → AllHold (match_checks d (record { rows = rows; decl = e })) → AllHold (match_checks d (record { rows = rows; decl = e' }))
-decl-agrees rows d (sort_decl m) (sort_decl m') same inside h = subst (λ z. AllHold (match_checks d (record { rows = rows; decl = sort_decl z }))) same h
-decl-agrees rows d (sort_decl m) (term_decl t') same inside h = absurd same
-decl-agrees rows d (sort_decl m) (assertion_decl b) same inside h = absurd same
-decl-agrees rows d (term_decl t) (sort_decl m') same inside h = absurd same
-decl-agrees rows d (term_decl t) (assertion_decl b) same inside h = absurd same
-decl-agrees rows d (assertion_decl a) (sort_decl m') same inside h = absurd same
-decl-agrees rows d (assertion_decl a) (term_decl t') same inside h = absurd same
-decl-agrees rows d (assertion_decl a) (assertion_decl b) same inside h = subst (λ z. AllHold (match_checks d (record { rows = rows; decl = assertion_decl z }))) same h
-decl-agrees rows (sort_decl m) (term_decl t) (term_decl t') (sig, form) inside (kind, h) = (kind ∙ form-kind t.signature.params t.form t'.form form, h)
-decl-agrees rows (assertion_decl a) (term_decl t) (term_decl t') (sig, form) inside (kind, h) = (kind ∙ form-kind t.signature.params t.form t'.form form, h)
-decl-agrees rows (term_decl d) (term_decl t) (term_decl t') (sig, form) inside (kind, (binders, (result, h))) =
+decl-agrees : (rows : List ℕ) (d e e' : Declaration) → IsSameDeclaration e e' → AllHold (match_checks d (record { rows = rows; decl = e })) → AllHold (match_checks d (record { rows = rows; decl = e' }))
+decl-agrees rows d (sort_decl m) (sort_decl m') same h = subst (λ z. AllHold (match_checks d (record { rows = rows; decl = sort_decl z }))) same h
+decl-agrees rows d (sort_decl m) (term_decl t') same h = absurd same
+decl-agrees rows d (sort_decl m) (assertion_decl b) same h = absurd same
+decl-agrees rows d (term_decl t) (sort_decl m') same h = absurd same
+decl-agrees rows d (term_decl t) (assertion_decl b) same h = absurd same
+decl-agrees rows d (assertion_decl a) (sort_decl m') same h = absurd same
+decl-agrees rows d (assertion_decl a) (term_decl t') same h = absurd same
+decl-agrees rows d (assertion_decl a) (assertion_decl b) same h = subst (λ z. AllHold (match_checks d (record { rows = rows; decl = assertion_decl z }))) same h
+decl-agrees rows (sort_decl m) (term_decl t) (term_decl t') (sig, form) (kind, h) = (kind ∙ form-kind t.signature.params t.form t'.form form, h)
+decl-agrees rows (assertion_decl a) (term_decl t) (term_decl t') (sig, form) (kind, h) = (kind ∙ form-kind t.signature.params t.form t'.form form, h)
+decl-agrees rows (term_decl d) (term_decl t) (term_decl t') (sig, form) (kind, (binders, (result, h))) =
     let params : d.signature.params ≡ t'.signature.params = binders ∙ ap (λ (z : Signature). z.params) sig in
     let form' : IsSameForm t'.signature.params t.form t'.form = subst (λ (z : Signature). IsSameForm z.params t.form t'.form) sig form in
     let there : AllHold (form_checks rows (length t'.signature.params) d.form t.form) = subst (λ (ps : List Binder). AllHold (form_checks rows (length ps) d.form t.form)) params h in (
@@ -95,23 +95,23 @@ decl-agrees rows (term_decl d) (term_decl t) (term_decl t') (sig, form) inside (
         params,
         (
           result ∙ ap (λ (z : Signature). z.result) sig,
-          subst (λ (ps : List Binder). AllHold (form_checks rows (length ps) d.form t'.form)) (sym params) (form-agrees rows t'.signature.params d.form t.form t'.form form' inside there),
+          subst (λ (ps : List Binder). AllHold (form_checks rows (length ps) d.form t'.form)) (sym params) (form-agrees rows t'.signature.params d.form t.form t'.form form' there),
         ),
       ),
     )
 
 -- ---- all of them
 
-publics-agree : (ds : List Declaration) (before before' ss ss' : List Statement) → IsSameList before before' → IsSameList ss ss' → BodiesInside ss'
+publics-agree : (ds : List Declaration) (before before' ss ss' : List Statement) → IsSameList before before' → IsSameList ss ss'
     → Agrees ds (publics_after before ss) → Agrees ds (publics_after before' ss')
-publics-agree ds before before' [] [] earlier same inside h = h
-publics-agree ds before before' [] (s' ∷ ss') earlier same inside h = absurd same
-publics-agree ds before before' (s ∷ ss) [] earlier same inside h = absurd same
-publics-agree ds before before' (s ∷ ss) (s' ∷ ss') earlier ((mark, decl), same) (one, inside) h =
-    go s.is_local s'.is_local mark ds h (λ ds later. publics-agree ds (before ++ s ∷ []) (before' ++ s' ∷ []) ss ss' (same-longer before before' s s' earlier (mark, decl)) same inside later)
+publics-agree ds before before' [] [] earlier same h = h
+publics-agree ds before before' [] (s' ∷ ss') earlier same h = absurd same
+publics-agree ds before before' (s ∷ ss) [] earlier same h = absurd same
+publics-agree ds before before' (s ∷ ss) (s' ∷ ss') earlier ((mark, decl), same) h =
+    go s.is_local s'.is_local mark ds h (λ ds later. publics-agree ds (before ++ s ∷ []) (before' ++ s' ∷ []) ss ss' (same-longer before before' s s' earlier (mark, decl)) same later)
   where
     partner : (d : Declaration) → AllHold (match_checks d (partner_of before s)) → AllHold (match_checks d (partner_of before' s'))
-    partner d hold = subst (λ (rows : List ℕ). AllHold (match_checks d (record { rows = rows; decl = s'.decl }))) (same-rows 0 before before' earlier) (decl-agrees (term_rows 0 before) d s.decl s'.decl decl one hold)
+    partner d hold = subst (λ (rows : List ℕ). AllHold (match_checks d (record { rows = rows; decl = s'.decl }))) (same-rows 0 before before' earlier) (decl-agrees (term_rows 0 before) d s.decl s'.decl decl hold)
 
     go : (b b' : Bool) → b ≡ b' → (es : List Declaration) → Agrees es (if b then publics_after (before ++ s ∷ []) ss else partner_of before s ∷ publics_after (before ++ s ∷ []) ss)
         → ((fs : List Declaration) → Agrees fs (publics_after (before ++ s ∷ []) ss) → Agrees fs (publics_after (before' ++ s' ∷ []) ss'))
@@ -123,7 +123,7 @@ publics-agree ds before before' (s ∷ ss) (s' ∷ ss') earlier ((mark, decl), s
     go false false is (d ∷ es) (first, rest) later = (partner d first, later es rest)
 
 pub same-lists-agree : SameListsAgree
-same-lists-agree ds ss ss' same inside h = publics-agree ds [] [] ss ss' tt same inside h
+same-lists-agree ds ss ss' same h = publics-agree ds [] [] ss ss' tt same h
 
 pub spelled-agree : SpelledListsAgree
-spelled-agree ds ss legal agrees = let (same, inside) = spelled-same ss legal in same-lists-agree ds ss (list_spelled ss) same inside agrees
+spelled-agree ds ss legal agrees = same-lists-agree ds ss (list_spelled ss) (spelled-same ss legal) agrees

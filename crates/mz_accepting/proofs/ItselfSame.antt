@@ -10,7 +10,6 @@ use Rattle.mz_logic.specs.declared.binder.Binder.{Binder}
 use Rattle.mz_layout.proofs.TableLists.{slice_get-rows}
 use Rattle.mz_match.specs.Trees.{SameOver, AllSameOver, Pairs, IsPaired}
 use Rattle.mz_accepting.specs.Laws.{SameFormsHaveSameBodies}
-use Rattle.mz_accepting.proofs.Insides.{range-inside}
 use Rattle.mz_accepting.proofs.SameBodies.{there, same-body-back}
 
 range-at : (from n k : ℕ) → k < n → slice_get (range_with_len from n) k ≡ Some (from + k)
@@ -75,6 +74,6 @@ module _ (params dummies : List Binder) where
       all-same-itself (more e es) (below, all) = (same-itself e below, all-same-itself es all)
 
 pub same-bodies : SameFormsHaveSameBodies
-same-bodies sigs params dummies dummies' e e' (ys, fresh, is) below below' =
-    same-body-back (range_with_len 0 (length sigs)) params dummies dummies dummies' e e e' ys fresh is (range-inside sigs params dummies' e' below')
+same-bodies sigs params dummies dummies' e e' (ys, fresh, is, inside) below =
+    same-body-back (range_with_len 0 (length sigs)) params dummies dummies dummies' e e e' ys fresh is inside
     (own_pairs params dummies, pairs-own params dummies, same-itself params dummies sigs e below)

@@ -15,7 +15,7 @@ use Rattle.mz_match.specs.Trees.{SameBody}
 use Rattle.mz_match.specs.Verdict.{Accepts}
 use Rattle.mz_steps.specs.Sameness.{IsSameForm}
 use Rattle.mz_steps.specs.SameLists.{IsSameList}
-use Rattle.mz_streams.specs.SpelledLists.{list_spelled, BodiesInside}
+use Rattle.mz_streams.specs.SpelledLists.{list_spelled}
 use Rattle.mz_writing.specs.Writing.{IsWrittenAs}
 
 -- ---- lists that are the same
@@ -24,16 +24,12 @@ use Rattle.mz_writing.specs.Writing.{IsWrittenAs}
 -- own partner
 abbrev pub SameFormsHaveSameBodies : Type 0
 SameFormsHaveSameBodies = (sigs : List Signature) (params dummies dummies' : List Binder) (e e' : Tree) → IsSameForm params (defined dummies e) (defined dummies' e')
-    → InRange sigs (length (params ++ dummies)) e → InRange sigs (length (params ++ dummies')) e'
+    → InRange sigs (length (params ++ dummies)) e
     → SameBody (range_with_len 0 (length sigs)) (length params) dummies dummies' e e'
 
 -- what agrees with the public statements of a list agrees with those of one that is the same
 abbrev pub SameListsAgree : Type 0
-SameListsAgree = (ds : List Declaration) (ts ss : List Statement) → IsSameList ts ss → BodiesInside ss → Agrees ds (publics ts) → Agrees ds (publics ss)
-
--- whose bodies are inside where it is legal
-abbrev pub LegalBodiesAreInside : Type 0
-LegalBodiesAreInside = (ss : List Statement) → IsLegalEnv (declarations ss) → BodiesInside ss
+SameListsAgree = (ds : List Declaration) (ts ss : List Statement) → IsSameList ts ss → Agrees ds (publics ts) → Agrees ds (publics ss)
 
 -- so what agrees with a legal list agrees with what its compiled file spells
 abbrev pub SpelledListsAgree : Type 0

@@ -1,12 +1,11 @@
 // Laws on the definitions: the contract of each function is one, and its body is empty.
-ghost use Rattle.mz_accepting.specs.Laws.{LegalBodiesAreInside, SameFormsHaveSameBodies, SameListsAgree, SpelledListsAgree, WrittenFilesAreAccepted};
+ghost use Rattle.mz_accepting.specs.Laws.{SameFormsHaveSameBodies, SameListsAgree, SpelledListsAgree, WrittenFilesAreAccepted};
 
 /// What agrees with the public statements of a list agrees with those of one that is the same but for the dummies of
 /// bodies, as the list that a compiled file spells.
 pub fn same_lists_agree()
     ensures bodies { SameFormsHaveSameBodies }
     ensures agree { SameListsAgree }
-    ensures inside { LegalBodiesAreInside }
     ensures spelled { SpelledListsAgree }
 {}
 

@@ -1,25 +1,24 @@
 -- A body at its beginning.
-use Rattle.std.specs.Prelude.{ℕ, ◌≡◌, ◌<◌, ◌≤◌, ◌+◌, false, List, [], ◌∷◌, ◌++◌, length, map, take, slice_get, Contains, Option, Some, None}
+use Rattle.std.specs.Prelude.{ℕ, ◌≡◌, ◌<◌, ◌+◌, List, [], ◌∷◌, length, map, take, slice_get, Contains, Option, Some}
 use Rattle.std.proofs.Common.{zero, suc, refl, sym, ap, ◌∙◌, subst, arith, inr}
-use Rattle.std.proofs.lemmas.Option.{slice_get_within}
 use Rattle.mz_logic.specs.Tree.{Tree, var}
-use Rattle.mz_logic.specs.Declaration.{Declaration, signatures}
+use Rattle.mz_logic.specs.Declaration.{Declaration}
 use Rattle.mz_logic.specs.declared.binder.Binder.{Binder}
 use Rattle.mz_store.specs.Sharing.{Sharing, IsIn, Holds, tree_of}
 use Rattle.mz_store.specs.declared.item.Id.{Id}
-use Rattle.mz_unify.specs.Profile.{Item, expr, proof}
+use Rattle.mz_unify.specs.Profile.{expr, proof}
 use Rattle.mz_unify.specs.Spells.{variables_from}
-use Rattle.mz_steps.specs.Works.{Work, from_to, work_start}
+use Rattle.mz_steps.specs.Works.{from_to, work_start}
 use Rattle.mz_shared.specs.Instances.{Grows}
 use Rattle.mz_shared.specs.Places.{place_of}
-use Rattle.mz_shared.specs.Variables.{IsShared}
 use Rattle.mz_bodies.specs.Owes.{to_do}
-use Rattle.mz_bodies.specs.Going.{Job, PlacesRight, CellsRight, IsGoing}
+use Rattle.mz_bodies.specs.Going.{Job, PlacesRight, IsGoing}
 use Rattle.mz_bodies.specs.declared.cells.Cell.{Cell}
 use Rattle.mz_bodies.specs.declared.task.Task.{Task as Coded}
 use Rattle.mz_bodies.specs.Stages.{HasDummiesBehind, Begins}
-use Rattle.mz_bodies.proofs.Grown.{grows_self}
-use Rattle.mz_bodies.proofs.Dummies.{variable_id, get_one}
+use Rattle.mz_bodies.proofs.Building.{nothing_built, none_of}
+use Rattle.mz_shared.proofs.Making.{grows_self}
+use Rattle.mz_shared.proofs.Owned.{variable_id}
 
 -- the parameters in the heap, and those that are met
 heap_at : (j : ℕ) (ps : List Binder) (x : ℕ) → x < length ps → slice_get (map expr (variables_from j ps)) x ≡ Some (expr (var (j + x)))
@@ -78,7 +77,7 @@ module _ (env : List Declaration) (o : Job) (s : Sharing) (vars : List Id) (plac
   begun = record {
     commands = [];
     work = work_start o.params;
-    steps = refl;
+    has_built = nothing_built env o.params s places;
     may_stand = tt;
     written = refl;
     assumed = ap (λ (k : ℕ). take k o.hyps) (sym begins.2);
@@ -91,6 +90,7 @@ module _ (env : List Declaration) (o : Job) (s : Sharing) (vars : List Id) (plac
     may_do = inr tt;
     owes = sym begins.3;
     clear = tt;
+    fresh = (tt, λ j one. absurd (none_of j one));
     short = omega arith;
   }
 

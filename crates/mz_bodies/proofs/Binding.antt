@@ -1,24 +1,25 @@
 -- A let that is opened.
-use Rattle.std.specs.Prelude.{ℕ, ◌≡◌, ◌<◌, ◌≤◌, ◌+◌, ◌⊎◌, true, List, [], ◌∷◌, ◌++◌, length, get_or, slice_get, map, Option, Some, None}
-use Rattle.std.proofs.Common.{zero, suc, refl, sym, ap, ◌∙◌, subst, arith, inl, inr}
+use Rattle.std.specs.Prelude.{ℕ, ◌≡◌, ◌<◌, ◌+◌, true, List, [], ◌∷◌, ◌++◌, length, slice_get, Option, Some}
+use Rattle.std.proofs.Common.{zero, suc, sym, ap, ◌∙◌, subst, arith, inl, inr}
 use Rattle.std.proofs.lemmas.List.{length-append}
 use Rattle.mz_logic.specs.Tree.{Tree}
 use Rattle.mz_logic.specs.Declaration.{Declaration}
 use Rattle.mz_store.specs.Sharing.{Sharing}
 use Rattle.mz_store.specs.declared.item.Id.{Id}
-use Rattle.mz_unify.specs.Profile.{Item, proof}
+use Rattle.mz_unify.specs.Profile.{proof}
 use Rattle.mz_mmu.specs.Proof.{Proof, by_let}
 use Rattle.mz_bodies.specs.Claims.{proved, IsSound}
 use Rattle.mz_bodies.specs.Costs.{cost}
-use Rattle.mz_bodies.specs.Scopes.{in_sight, scopes}
+use Rattle.mz_bodies.specs.Scopes.{in_sight}
 use Rattle.mz_bodies.specs.Owes.{Task, prove, claims, claim_of, let_costs, Owes, left}
 use Rattle.mz_bodies.specs.Sight.{Part, links, parts, part_at, place_at, AreRight, IsThere}
-use Rattle.mz_bodies.specs.Going.{Job, CellsRight, still, IsGoing}
+use Rattle.mz_bodies.specs.Going.{Job, still, IsGoing}
 use Rattle.mz_bodies.specs.declared.cells.Cell.{Cell}
 use Rattle.mz_bodies.proofs.Lists.{get_end, same_or_not}
 use Rattle.mz_bodies.proofs.Opening.{strict}
-use Rattle.mz_bodies.proofs.Scoping.{parts_long, outer_there, there_more, sight_new}
+use Rattle.mz_bodies.proofs.Scoping.{parts_long, outer_there, sight_new}
 use Rattle.mz_bodies.specs.Lengths.{begun, is_one_of, waits, IsOutside, IsClear}
+use Rattle.mz_bodies.specs.Making.{IsFresh}
 use Rattle.mz_bodies.proofs.Shortening.{outside_new, clear_opened, waits_opened, begun_there}
 use Rattle.mz_bodies.proofs.Standing.{proving}
 use Rattle.mz_bodies.proofs.Moves.{claims_more, part_more, outer_claims_more, claim_more, owes_opened, left_opened}
@@ -84,7 +85,7 @@ module _ (env : List Declaration) (o : Job) (s : Sharing) (vars : List Id) (plac
     bind_done = record {
       commands = g.commands;
       work = g.work;
-      steps = g.steps;
+      has_built = g.has_built;
       may_stand = g.may_stand;
       written = g.written;
       assumed = g.assumed;
@@ -102,6 +103,7 @@ module _ (env : List Declaration) (o : Job) (s : Sharing) (vars : List Id) (plac
       };
       clear = subst (λ (z : List Part). IsClear z ts') (sym parts-are) (subst (IsClear (parts cells ++ record { proof = p; outer = chain } ∷ [])) (sym ts-is)
           (new_clear, clear_opened (parts cells) outers (record { proof = p; outer = chain }) env s.context o.hyps s us g.owes.0 o.goal g.owes.2 g.clear.1));
+      fresh = subst (IsFresh s places) (sym ts-is) ((g.fresh.0.0, g.fresh.0.1), g.fresh.1);
       short = (let h = g.short in let l = parts_long cells in
           let a = waits_opened env (begun us) (place_at cells) (place_at cells') (parts cells) (record { proof = p; outer = chain }) (λ k lt. kept k (omega (arith, l, lt))) in
           let b = ap (waits env (begun us) (place_at cells') 0) parts-are in

@@ -1,53 +1,32 @@
 -- A dummy that is made where it is first needed.
-use Rattle.std.specs.Prelude.{ℕ, ◌≡◌, ◌<◌, ◌≤◌, ◌+◌, ◌^◌, ◌⊎◌, false, List, [], ◌∷◌, ◌++◌, length, slice_get, Contains, Option, Some, None}
+use Rattle.std.specs.Prelude.{ℕ, ◌≡◌, ◌<◌, ◌≤◌, ◌+◌, ◌^◌, false, List, [], ◌∷◌, ◌++◌, length, slice_get, Contains, Option, Some, None}
 use Rattle.std.proofs.Common.{zero, suc, refl, sym, ap, ◌∙◌, subst, arith, inl, inr}
 use Rattle.std.proofs.lemmas.List.{length-append}
 use Rattle.std.proofs.lemmas.List.Elements.{Contains-append_left, Contains-append_cases}
 use Rattle.mz_cmd.specs.declared.code.ProofCode.TheVariants as code
-use Rattle.mz_logic.specs.Tree.{Tree, Trees, var, app, none, more}
+use Rattle.mz_logic.specs.Tree.{Tree, var, app}
 use Rattle.mz_logic.specs.Declaration.{Declaration, sorts, signatures}
 use Rattle.mz_logic.specs.Modifiers.{MayBeDummySort}
 use Rattle.mz_logic.specs.Sorts.{HasSort}
 use Rattle.mz_logic.specs.declared.binder.Binder.{Binder}
-use Rattle.mz_store.specs.Sharing.{Sharing, IsIn, AreIn, tree_of, trees_of, head_of}
+use Rattle.mz_store.specs.Sharing.{Sharing, IsIn, tree_of, head_of}
 use Rattle.mz_store.specs.declared.item.Id.{Id}
 use Rattle.mz_unify.specs.Profile.{Item, expr}
-use Rattle.mz_unify.specs.Spells.{dummy_of, variables_from, trees_of as listed_back}
+use Rattle.mz_unify.specs.Spells.{dummy_of}
 use Rattle.mz_steps.specs.Works.{Work}
 use Rattle.mz_steps.specs.Steps.{Step, command_bytes}
 use Rattle.std.proofs.lemmas.Option.{slice_get_within}
 use Rattle.mz_shared.specs.Places.{place_of}
+use Rattle.mz_shared.proofs.Owned.{variable_id}
 use Rattle.mz_bodies.specs.Owes.{Task, push, Owes}
 use Rattle.mz_bodies.specs.Sight.{parts}
-use Rattle.mz_bodies.specs.Going.{Job, PlacesRight, IsGoing}
+use Rattle.mz_bodies.specs.Going.{Job, IsGoing}
 use Rattle.mz_bodies.specs.declared.cells.Cell.{Cell}
+use Rattle.mz_bodies.proofs.Building.{nothing_more, put_keeps, put_new}
 use Rattle.mz_bodies.proofs.Keeping.{places_put, cells_kept}
-use Rattle.mz_bodies.proofs.Lists.{same_or_not}
 use Rattle.mz_bodies.proofs.Shortening.{command_short}
 use Rattle.mz_bodies.proofs.Standing.{may_last, may_rest}
-use Rattle.mz_bodies.proofs.Moves.{joined, more_written, size_some}
-
--- the ids of the variables, in order
-abbrev first_of_trees : Trees → Tree
-first_of_trees none = var 0
-first_of_trees (more e es) = e
-
-abbrev rest_of_trees : Trees → Trees
-rest_of_trees none = none
-rest_of_trees (more e es) = es
-
-pub variable_id : (s : Sharing) (vars : List Id) (j : ℕ) (ctx : List Binder) (x : ℕ) → AreIn s vars → trees_of s vars ≡ listed_back (variables_from j ctx) → x < length ctx
-    → (k : Id) × (slice_get vars x ≡ Some k) × IsIn s k.0 × (tree_of s k.0 ≡ var (j + x))
-variable_id s [] j [] x inside is lt = absurd (omega (arith, lt))
-variable_id s [] j (b ∷ ctx) x inside is lt = absurd (no_more is)
-  where
-    no_more : {e : Tree} {es : Trees} → none ≡ more e es → ⊥
-    no_more h = grind (arith, h)
-variable_id s (k ∷ vars) j [] x inside is lt = absurd (omega (arith, lt))
-variable_id s (k ∷ vars) j (b ∷ ctx) zero (here, inside) is lt = (k, refl, here, ap first_of_trees is ∙ ap var (omega arith))
-variable_id s (k ∷ vars) j (b ∷ ctx) (suc x) (here, inside) is lt =
-    let r = variable_id s vars (suc j) ctx x inside (ap rest_of_trees is) (omega (arith, lt)) in
-    (r.0, r.1, r.2, r.3 ∙ ap var (omega arith))
+use Rattle.mz_bodies.proofs.Moves.{more_written, size_some}
 
 is_var : (e : Tree) → head_of e ≡ None → (x : ℕ) × (e ≡ var x)
 is_var (var x) h = (x, refl)
@@ -87,7 +66,7 @@ module _ (env : List Declaration) (o : Job) (s : Sharing) (vars : List Id) (plac
       record {
         commands = g.commands ++ (code.Dummy, sort) ∷ [];
         work = next;
-        steps = joined env o s vars places len hps cells (push i ∷ us) bs g code.Dummy sort next step;
+        has_built = nothing_more env o.params s places places' g.commands g.work next code.Dummy sort (put_keeps s places places' i len at others) tt step g.has_built refl;
         may_stand = may_last o.kind g.commands code.Dummy sort g.may_stand (refl, small);
         written = is ∙ more_written env o s vars places len hps cells (push i ∷ us) bs g code.Dummy sort;
         assumed = g.assumed;
@@ -109,6 +88,7 @@ module _ (env : List Declaration) (o : Job) (s : Sharing) (vars : List Id) (plac
         lets = cells_kept env s.context o.hyps cells g.work.heap (expr e) g.lets;
         may_do = may_rest o (push i) us g.may_do;
         clear = g.clear.1;
+        fresh = (g.fresh.0.1, put_new s places places' i len at others us g.fresh.0.0 g.fresh.1);
         short = (let h = g.short in let a = ap length is ∙ length-append bs (command_bytes (code.Dummy, sort)) in let b = command_short code.Dummy sort in let c = size_some (tree_of s i) in omega (arith, h, a, b, c));
         owes = subst (λ (z : List (Item Tree)). Owes env s.context o.hyps s (parts cells) z us o.goal) g.owes.1.1 g.owes.2;
       }

@@ -1,14 +1,13 @@
 -- The stages of a body: an expression, a hypothesis, a proof, and the end.
-use Rattle.std.specs.Prelude.{ℕ, ◌≡◌, ◌<◌, ◌≤◌, ◌+◌, ◌*◌, ◌⊎◌, true, false, List, [], ◌∷◌, ◌++◌, length, map, take, get_or, slice_get, Contains, Option, Some, None}
+use Rattle.std.specs.Prelude.{ℕ, ◌≡◌, ◌<◌, ◌≤◌, ◌+◌, ◌*◌, true, false, List, [], ◌∷◌, ◌++◌, length, take, get_or, slice_get, Option, Some, None}
 use Rattle.std.proofs.Common.{zero, suc, refl, sym, ap, ◌∙◌, subst, arith, inl, inr, append_assoc}
 use Rattle.std.proofs.lemmas.List.{length-append}
 use Rattle.mz_cmd.specs.declared.code.ProofCode.{ProofCode}
 use Rattle.mz_cmd.specs.declared.code.ProofCode.TheVariants as code
-use Rattle.mz_logic.specs.Tree.{Tree, Trees, more, listed, size, trees_size}
-use Rattle.mz_logic.specs.Declaration.{Declaration, signatures}
+use Rattle.mz_logic.specs.Tree.{Tree, listed, size, trees_size}
+use Rattle.mz_logic.specs.Declaration.{Declaration}
 use Rattle.mz_logic.specs.Sorts.{HasProvable, AreProvable}
 use Rattle.mz_logic.specs.declared.binder.Binder.{Binder}
-use Rattle.mz_logic.proofs.Extend.{extends_append}
 use Rattle.mz_store.specs.Sharing.{Sharing, IsIn, AreIn, tree_of, trees_of}
 use Rattle.mz_store.specs.declared.item.Id.{Id}
 use Rattle.mz_unify.specs.Profile.{Item, expr, proof, strict}
@@ -17,14 +16,15 @@ use Rattle.mz_machine.specs.Premises.{bound_count}
 use Rattle.mz_machine.specs.Tables.{Kind}
 use Rattle.mz_mmu.specs.Proof.{Proof}
 use Rattle.mz_steps.specs.Works.{Work, work_start}
-use Rattle.mz_steps.specs.Steps.{Step, Steps, command_bytes}
+use Rattle.mz_steps.specs.Steps.{Step, command_bytes}
+use Rattle.mz_steps.specs.SharedBodies.{Builds, IsSharedBody}
 use Rattle.mz_steps.specs.Endings.{spelled_body}
-use Rattle.mz_steps.specs.Bodies.{IsBody, last_item}
-use Rattle.mz_shared.specs.Places.{place_of}
+use Rattle.mz_steps.specs.Bodies.{last_item}
 use Rattle.mz_bodies.specs.Claims.{proved, IsSound}
 use Rattle.mz_bodies.specs.Owes.{Task, prove, push, IsOfExpressions, Owes}
 use Rattle.mz_bodies.specs.Sight.{parts}
-use Rattle.mz_bodies.specs.Going.{Job, MayProve, MayDo, PlacesRight, CellsRight, spelled, still, IsGoing}
+use Rattle.mz_bodies.specs.Going.{Job, MayProve, MayDo, PlacesRight, HasPlace, spelled, still, IsGoing}
+use Rattle.mz_bodies.specs.Making.{IsFresh}
 use Rattle.mz_bodies.specs.Lengths.{IsClear}
 use Rattle.mz_bodies.specs.Weights.{proof_weight}
 use Rattle.mz_bodies.proofs.Shortening.{command_one}
@@ -32,12 +32,13 @@ use Rattle.mz_bodies.specs.Stages.{job, Begins, Rests, leaving, assuming, Assume
 use Rattle.mz_bodies.specs.declared.body.Before.{Before}
 use Rattle.mz_bodies.specs.declared.body.Body.{Body}
 use Rattle.mz_bodies.specs.declared.cells.Cell.{Cell}
-use Rattle.mz_bodies.proofs.Grown.{in_grown, tree_grown}
-use Rattle.mz_bodies.proofs.Lists.{slice_last}
-use Rattle.mz_bodies.proofs.Keeping.{cells_kept, some_is}
+use Rattle.mz_shared.proofs.Making.{in_grown, tree_grown}
+use Rattle.mz_bodies.proofs.Building.{builds_steps, nothing_more, none_of}
+use Rattle.mz_bodies.proofs.Lists.{slice_last, last_or_before}
+use Rattle.mz_bodies.proofs.Keeping.{cells_kept}
 use Rattle.mz_bodies.proofs.Saving.{places_kept}
 use Rattle.mz_bodies.proofs.Standing.{may_last}
-use Rattle.mz_bodies.proofs.Moves.{joined, more_written, size_some}
+use Rattle.mz_bodies.proofs.Moves.{more_written, size_some}
 use Rattle.mz_bodies.proofs.Growing.{many_ids}
 
 -- ---- lists
@@ -56,21 +57,15 @@ take_whole A [] (suc k) is = absurd (omega (arith, is))
 take_whole A (x ∷ xs) zero is = absurd (omega (arith, is))
 take_whole A (x ∷ xs) (suc k) is = ap (λ (zs : List A). x ∷ zs) (take_whole A xs k (omega (arith, is)))
 
-last_or_before : (xs : List ℕ) (y k p : ℕ) → slice_get (xs ++ y ∷ []) k ≡ Some p → (slice_get xs k ≡ Some p) ⊎ ((k ≡ length xs) × (y ≡ p))
-last_or_before [] y zero p at = inr (refl, some_is y p at)
-last_or_before [] y (suc k) p at = absurd (grind (arith, at))
-last_or_before (x ∷ xs) y zero p at = inl at
-last_or_before (x ∷ xs) y (suc k) p at = elim (last_or_before xs y k p at) [ inl h ↦ inl h | inr (k-is, y-is) ↦ inr (ap suc k-is, y-is) ]
-
 module _ (env : List Declaration) (o : Job) (s : Sharing) (vars : List Id) (places : List (Option ℕ)) (len : ℕ) (hps : List ℕ) (cells : List Cell) where
   -- other tasks, which lead to another stack
   aimed : (x : Item Tree) (n : ℕ) (ts us : List Task) (bs : List ℕ) (g : IsGoing env o s vars places len hps cells ts bs)
-      → MayDo o us → Owes env s.context o.hyps s (parts cells) g.work.stack us (x ∷ []) → IsClear (parts cells) us → still env s cells us ≤ still env s cells ts + n
+      → MayDo o us → Owes env s.context o.hyps s (parts cells) g.work.stack us (x ∷ []) → IsClear (parts cells) us → IsFresh s places us → still env s cells us ≤ still env s cells ts + n
       → IsGoing env (leaving o x n) s vars places len hps cells us bs
-  aimed x n ts us bs g may owes clear within = record {
+  aimed x n ts us bs g may owes clear fresh within = record {
     commands = g.commands;
     work = g.work;
-    steps = g.steps;
+    has_built = g.has_built;
     may_stand = g.may_stand;
     written = g.written;
     assumed = g.assumed;
@@ -83,6 +78,7 @@ module _ (env : List Declaration) (o : Job) (s : Sharing) (vars : List Id) (plac
     may_do = may;
     owes = owes;
     clear = clear;
+    fresh = fresh;
     short = (let h = g.short in omega (arith, h, within));
   }
 
@@ -98,7 +94,7 @@ module _ (env : List Declaration) (o : Job) (s : Sharing) (vars : List Id) (plac
         (in_grown o.store s g.grew i inside, refl),
         ap (λ (e : Tree). expr e ∷ g.work.stack) (tree_grown o.store s g.grew i inside) ∙ ap (λ (xs : List (Item Tree)). expr (tree_of o.store i) ∷ xs) (empty ts bs g ts-is goal-is),
       )
-      ((λ c b no. no), tt) (let a = ap size (tree_grown o.store s g.grew i inside) in let b = ap (still env s cells) ts-is in omega (arith, a, b)))
+      ((λ c b no. no), tt) (((λ j one. absurd (none_of j one)), tt), λ j one. absurd (none_of j one)) (let a = ap size (tree_grown o.store s g.grew i inside) in let b = ap (still env s cells) ts-is in omega (arith, a, b)))
 
   pub proof_owed : (p : Proof) (ts ts' : List Task) (bs : List ℕ) → ts ≡ [] → ts' ≡ prove p None ∷ ts → o.goal ≡ [] → MayProve o → IsSound env o.store.context o.hyps [] p
       → IsGoing env o s vars places len hps cells ts bs → IsGoing env (leaving o (proof (proved env o.hyps [] p)) (6 * proof_weight env p)) s vars places len hps cells ts' bs
@@ -109,7 +105,7 @@ module _ (env : List Declaration) (o : Job) (s : Sharing) (vars : List Id) (plac
         (tt, subst (λ (ctx : List Binder). IsSound env ctx o.hyps [] p) (sym g.grew.0) sound, refl),
         ap (λ (xs : List (Item Tree)). proof (proved env o.hyps [] p) ∷ xs) (empty ts bs g ts-is goal-is),
       )
-      ((λ c b no. no), tt) (let b = ap (still env s cells) ts-is in omega (arith, b)))
+      ((λ c b no. no), tt) ((none_of, tt), λ j one. absurd (none_of j one)) (let b = ap (still env s cells) ts-is in omega (arith, b)))
 
   -- an expression that is left becomes a hypothesis
   pub hyp_assumed : (e : Tree) (places' : List (Option ℕ)) (len' : ℕ) (hps' : List ℕ) (ts : List Task) (bs bs' : List ℕ) → ts ≡ [] → stands_in strict o.kind code.Hyp ≡ true
@@ -124,7 +120,7 @@ module _ (env : List Declaration) (o : Job) (s : Sharing) (vars : List Id) (plac
       record {
         commands = g.commands ++ (code.Hyp, 0) ∷ [];
         work = next;
-        steps = joined env (leaving o (expr e) (5 * size e)) s vars places len hps cells ts bs g code.Hyp 0 next step;
+        has_built = nothing_more env o.params s places places' g.commands g.work next code.Hyp 0 (λ x h. subst (λ (z : List (Option ℕ)). HasPlace s z x) (sym places-are) h) refl step g.has_built refl;
         may_stand = may_last o.kind g.commands code.Hyp 0 g.may_stand (stand, omega arith);
         written = is ∙ more_written env (leaving o (expr e) (5 * size e)) s vars places len hps cells ts bs g code.Hyp 0;
         assumed = (let k-is : suc o.count ≡ o.count + 1 = omega arith in
@@ -139,7 +135,7 @@ module _ (env : List Declaration) (o : Job) (s : Sharing) (vars : List Id) (plac
               variables = kept.variables;
               params_met = kept.params_met;
               dummies = kept.dummies;
-              hypotheses = λ k p k-at. elim (last_or_before hps len k p (ap (λ (z : List ℕ). slice_get z k) (sym hps-are) ∙ k-at)) [
+              hypotheses = λ k p k-at. elim (last_or_before ℕ hps len k p (ap (λ (z : List ℕ). slice_get z k) (sym hps-are) ∙ k-at)) [
                 | inl before ↦ kept.hypotheses k p before
                 | inr (k-is, p-is) ↦ (e, ap (slice_get o.hyps) (k-is ∙ g.counted) ∙ at, slice_last (Item Tree) g.work.heap (proof e) p (sym p-is ∙ sym g.long))
               ];
@@ -148,6 +144,7 @@ module _ (env : List Declaration) (o : Job) (s : Sharing) (vars : List Id) (plac
         may_do = inr (subst IsOfExpressions (sym ts-is) tt);
         owes = subst (λ (us : List Task). Owes env s.context o.hyps s (parts cells) [] us o.goal) (sym ts-is) (sym goal-is);
         clear = g.clear;
+        fresh = subst (IsFresh s places') (sym ts-is) (tt, λ j one. absurd (none_of j one));
         short = (let h = g.short in let a = ap length is ∙ length-append bs (command_bytes (code.Hyp, 0)) in let b = command_one code.Hyp in let c = size_some e in omega (arith, h, a, b, c));
       }
 
@@ -157,7 +154,7 @@ module _ (env : List Declaration) (o : Job) (s : Sharing) (vars : List Id) (plac
   recounted n ts bs is g = record {
     commands = g.commands;
     work = g.work;
-    steps = g.steps;
+    has_built = g.has_built;
     may_stand = g.may_stand;
     written = g.written;
     assumed = g.assumed ∙ ap (λ (k : ℕ). take k o.hyps) (sym is);
@@ -170,6 +167,7 @@ module _ (env : List Declaration) (o : Job) (s : Sharing) (vars : List Id) (plac
     may_do = elim g.may_do [ inl may ↦ inl (may.0, is ∙ may.1) | inr made ↦ inr made ];
     owes = g.owes;
     clear = g.clear;
+    fresh = g.fresh;
     short = (let h = g.short in omega (arith, h));
   }
 
@@ -219,17 +217,27 @@ spelled_end (c ∷ cs) = ap (λ (z : List ℕ). command_bytes c ++ z) (spelled_e
 
 module _ (env : List Declaration) (o : Job) (s : Sharing) (vars : List Id) (places : List (Option ℕ)) (len : ℕ) (hps : List ℕ) (cells : List Cell) where
   pub ended : (n : ℕ) (e : Tree) (dummies : List Binder) (ts : List Task) (bs bs' : List ℕ) → ts ≡ [] → o.store.context ≡ o.params ++ dummies → bound_count o.store.context ≤ 55
-      → o.count ≡ length o.hyps → bs' ≡ bs ++ 0 ∷ [] → IsGoing env (leaving o (last_item o.kind e) n) s vars places len hps cells ts bs → IsBody env o.kind o.params dummies e o.hyps bs'
-  ended n e dummies ts bs bs' ts-is ctx-is few count-is is g = record {
-    few = subst (λ (ctx : List Binder). bound_count ctx ≤ 55) ctx-is few;
-    commands = g.commands;
-    work = g.work;
-    spelled = is ∙ ap (λ (z : List ℕ). z ++ 0 ∷ []) g.written ∙ sym (spelled_end g.commands);
-    may_stand = g.may_stand;
-    steps = subst (λ (ctx : List Binder). Steps false env ctx (work_start o.params) g.commands g.work) (g.grew.0 ∙ ctx-is) g.steps;
-    stack = subst (λ (us : List Task). Owes env s.context o.hyps s (parts cells) g.work.stack us (last_item o.kind e ∷ [])) ts-is g.owes;
-    assumed = g.assumed ∙ take_whole Tree o.hyps o.count count-is;
-  }
+      → o.count ≡ length o.hyps → bs' ≡ bs ++ 0 ∷ [] → IsGoing env (leaving o (last_item o.kind e) n) s vars places len hps cells ts bs → IsSharedBody env o.kind o.params dummies e o.hyps bs'
+  ended n e dummies ts bs bs' ts-is ctx-is few count-is is g =
+      let h = g.has_built in
+      let builds : Builds false env (o.params ++ dummies) (work_start o.params) g.commands g.work h.trees =
+      subst (λ (ctx : List Binder). Builds false env ctx (work_start o.params) g.commands g.work h.trees) (g.grew.0 ∙ ctx-is) h.builds in
+      record {
+        body = record {
+          few = subst (λ (ctx : List Binder). bound_count ctx ≤ 55) ctx-is few;
+          commands = g.commands;
+          work = g.work;
+          spelled = is ∙ ap (λ (z : List ℕ). z ++ 0 ∷ []) g.written ∙ sym (spelled_end g.commands);
+          may_stand = g.may_stand;
+          steps = builds_steps env (o.params ++ dummies) g.commands (work_start o.params) g.work h.trees builds;
+          stack = subst (λ (us : List Task). Owes env s.context o.hyps s (parts cells) g.work.stack us (last_item o.kind e ∷ [])) ts-is g.owes;
+          assumed = g.assumed ∙ take_whole Tree o.hyps o.count count-is;
+        };
+        built_are = h.trees;
+        builds = builds;
+        distinct = h.distinct;
+        plain = h.plain;
+      }
 
   -- and it isn't longer than it may be
   pub ended_short : (ts : List Task) (bs bs' : List ℕ) → bs' ≡ bs ++ 0 ∷ [] → IsGoing env o s vars places len hps cells ts bs → length bs' ≤ o.budget + 1
@@ -244,8 +252,8 @@ take_long A (x ∷ xs) (suc n) le = ap suc (take_long A xs n (omega (arith, le))
 pub first_begins : (kind : Kind) (s : Sharing) (hyps : List Tree) (n : ℕ) → n ≤ length s.context → Begins (job kind (take n s.context) s hyps) s n
 first_begins kind s hyps n le = (take_long Binder s.context n le, refl, refl, refl)
 
-pub body_as : (b b' : Before) (kind : Kind) (ps ds : List Binder) (e : Tree) (hyps : List Tree) (bs : List ℕ) → b' ≡ b → IsBody b'.env.now kind ps ds e hyps bs → IsBody b.env.now kind ps ds e hyps bs
-body_as b b' kind ps ds e hyps bs is h = subst (λ (z : Before). IsBody z.env.now kind ps ds e hyps bs) is h
+pub body_as : (b b' : Before) (kind : Kind) (ps ds : List Binder) (e : Tree) (hyps : List Tree) (bs : List ℕ) → b' ≡ b → IsSharedBody b'.env.now kind ps ds e hyps bs → IsSharedBody b.env.now kind ps ds e hyps bs
+body_as b b' kind ps ds e hyps bs is h = subst (λ (z : Before). IsSharedBody z.env.now kind ps ds e hyps bs) is h
 
 -- the hypotheses are to be assumed
 pub assumes_all : (kind : Kind) (ps : List Binder) (s : Sharing) (is : List Id) (before : Before) (b : Body) → b.before ≡ before → Rests (job kind ps s (listed (trees_of s is))) b

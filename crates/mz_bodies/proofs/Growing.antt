@@ -1,36 +1,35 @@
 -- A body whose store grew, and citations.
-use Rattle.std.specs.Prelude.{ℕ, ◌≡◌, ◌<◌, ◌+◌, ◌*◌, false, List, [], ◌∷◌, ◌++◌, length, map, reverse, slice_get, Contains, Option, Some, None}
-use Rattle.std.proofs.Common.{zero, suc, refl, sym, ap, ◌∙◌, subst, arith, inl}
+use Rattle.std.specs.Prelude.{ℕ, ◌≡◌, ◌<◌, ◌+◌, ◌*◌, false, List, [], ◌∷◌, ◌++◌, length, map, reverse, slice_get, Option, Some}
+use Rattle.std.proofs.Common.{suc, refl, sym, ap, ◌∙◌, subst, arith, inl}
 use Rattle.std.proofs.lemmas.Option.{get_or_from_slice_get}
 use Rattle.mz_cmd.specs.declared.code.ProofCode.TheVariants as code
-use Rattle.mz_logic.specs.Tree.{Tree, Trees, app, none, more, listed, instance, instances, size, trees_size}
+use Rattle.mz_logic.specs.Tree.{Tree, Trees, listed, instance, instances, size, trees_size}
 use Rattle.mz_logic.specs.Signature.{Signature}
-use Rattle.mz_logic.specs.Declaration.{Assertion, Declaration, signatures, assertions, sorts}
-use Rattle.mz_logic.specs.Sorts.{HasSort, Fits}
+use Rattle.mz_logic.specs.Declaration.{Assertion, Declaration, signatures, assertions}
+use Rattle.mz_logic.specs.Sorts.{Fits}
 use Rattle.mz_logic.specs.Variables.{Apart}
-use Rattle.mz_logic.specs.Modifiers.{MayBeDummySort}
-use Rattle.mz_logic.specs.Conversions.{Conversion, Between}
+use Rattle.mz_logic.specs.Conversions.{Conversion}
 use Rattle.mz_logic.specs.declared.binder.Binder.{Binder}
-use Rattle.mz_store.specs.Sharing.{Sharing, IsIn, AreIn, Holds, tree_of, trees_of}
+use Rattle.mz_store.specs.Sharing.{Sharing, AreIn, Holds, tree_of, trees_of}
 use Rattle.mz_store.specs.declared.item.Id.{Id}
 use Rattle.mz_unify.specs.Profile.{Item, expr, proof, obligation}
-use Rattle.mz_unify.specs.Spells.{trees_of as listed_back, dummy_of}
+use Rattle.mz_unify.specs.Spells.{trees_of as listed_back}
 use Rattle.mz_unify.proofs.Trees.{trees_of-listed}
 use Rattle.mz_mmu.specs.Proof.{Proof, by_conv}
-use Rattle.mz_steps.specs.Works.{Work, work_start}
-use Rattle.mz_steps.specs.Steps.{stacked, above, Step, Steps, IsCited}
-use Rattle.mz_shared.specs.Instances.{Grows, InReach, AreSorted}
-use Rattle.mz_shared.specs.Places.{place_of}
+use Rattle.mz_steps.specs.Works.{Work}
+use Rattle.mz_steps.specs.Steps.{stacked, above, Step, IsCited}
+use Rattle.mz_shared.specs.Instances.{Grows, InReach}
 use Rattle.mz_shared.specs.Variables.{IsShared}
-use Rattle.mz_bodies.specs.Sight.{parts, IsThere}
+use Rattle.mz_bodies.specs.Sight.{parts}
 use Rattle.mz_bodies.specs.Scopes.{in_sight}
-use Rattle.mz_bodies.specs.Claims.{proved, conclusion_of, IsCitable, IsSound}
+use Rattle.mz_bodies.specs.Claims.{proved, conclusion_of, IsCitable}
 use Rattle.mz_bodies.specs.Costs.{cost, pay_cost}
 use Rattle.mz_bodies.specs.Owes.{Task, prove, cite, push, pay, give, claims, let_costs, Owes, left}
 use Rattle.mz_bodies.specs.Pushing.{pushes}
-use Rattle.mz_bodies.specs.Going.{Job, CellsRight, PlacesRight, IsGoing}
+use Rattle.mz_bodies.specs.Going.{Job, CellsRight, IsGoing}
 use Rattle.mz_bodies.specs.declared.cells.Cell.{Cell}
-use Rattle.mz_bodies.proofs.Grown.{in_grown, tree_grown, grows_on}
+use Rattle.mz_bodies.proofs.Building.{built_grown, rising_grown, pushes_fresh}
+use Rattle.mz_shared.proofs.Making.{in_grown, tree_grown, grows_on}
 use Rattle.mz_bodies.specs.Lengths.{waits}
 use Rattle.mz_bodies.specs.Sight.{place_at}
 use Rattle.mz_bodies.proofs.Shortening.{command_short, command_one, bytes_grown, pushes_bytes, pushes_begun, pushes_clear}
@@ -46,7 +45,7 @@ module _ (env : List Declaration) (o : Job) (s s' : Sharing) (gr : Grows s s') (
   grown ts bs shared g = record {
     commands = g.commands;
     work = g.work;
-    steps = subst (λ (ctx : List Binder). Steps false env ctx (work_start o.params) g.commands g.work) (sym gr.0) g.steps;
+    has_built = built_grown env o.params s s' gr places g.commands g.work g.has_built;
     may_stand = g.may_stand;
     written = g.written;
     assumed = g.assumed;
@@ -64,6 +63,7 @@ module _ (env : List Declaration) (o : Job) (s s' : Sharing) (gr : Grows s s') (
     lets = subst (λ (ctx : List Binder). CellsRight env ctx o.hyps cells g.work.heap) (sym gr.0) g.lets;
     may_do = g.may_do;
     clear = g.clear;
+    fresh = (rising_grown env s.context o.hyps s s' gr (parts cells) ts g.work.stack o.goal g.owes g.fresh.0, g.fresh.1);
     short = (let a = bytes_grown env s.context o.hyps s s' gr (parts cells) ts g.work.stack o.goal g.owes in let h = g.short in omega (arith, a, h));
     owes = subst (λ (ctx : List Binder). Owes env ctx o.hyps s' (parts cells) g.work.stack ts o.goal) (sym gr.0)
         (owes_grown env s.context o.hyps s s' gr (parts cells) ts g.work.stack o.goal g.owes);
@@ -110,10 +110,11 @@ module _ (env : List Declaration) (o : Job) (s s' : Sharing) (gr : Grows s s') (
         (i-in, refl),
         (
           proof e ∷ g.owes.1.1,
-          λ w w-is. thm_step env s'.context T es g.owes.1.0 g.owes.1.1 xs e g.owes.1.2 i-is g.owes.1.3 w (w-is ∙ ap (λ (z : Trees). expr e ∷ above (listed z) xs) trees),
+          ((tt, λ w. refl), λ w w-is. thm_step env s'.context T es g.owes.1.0 g.owes.1.1 xs e g.owes.1.2 i-is g.owes.1.3 w (w-is ∙ ap (λ (z : Trees). expr e ∷ above (listed z) xs) trees)),
           subst (λ (z : List (Item Tree)). Owes env s'.context o.hyps s' (parts cells) z us o.goal) (g.owes.1.4 ∙ ap (λ (z : Tree). proof z ∷ g.owes.1.1) (sym i-is)) g.owes.2,
         ),
       )) (pushes_clear (parts cells) is (push i ∷ give code.Thm T ∷ us) ((λ c b no. no), ((λ c b no. no), g.clear.1)))
+      (pushes_fresh s' places is (push i ∷ give code.Thm T ∷ us) (λ j one. absurd (g.fresh.0.0 j one)) (((λ j one. absurd (g.fresh.0.0 j one)), (g.fresh.0.0, g.fresh.0.1)), g.fresh.1))
       (let a = pushes_bytes env s' is (push i ∷ give code.Thm T ∷ us) in let b = ap trees_size trees in let c = ap size i-is in let d = command_short code.Thm T in
       let f = ap (λ (cs : List ℕ). waits env cs (place_at cells) 0 (parts cells)) (pushes_begun is (push i ∷ give code.Thm T ∷ us)) in omega (arith, a, b, c, d, f)))
 
@@ -145,11 +146,12 @@ module _ (env : List Declaration) (o : Job) (s s' : Sharing) (gr : Grows s s') (
           (g.owes.1.0, g.owes.1.1.1, refl),
           (
             obligation e f ∷ proof e ∷ xs,
-            λ w w-is. (e, f, xs, w-is, refl),
+            ((refl, λ w. refl), λ w w-is. (e, f, xs, w-is, refl)),
             (proof e ∷ xs, (e, f, g.owes.1.1.0, refl), subst (λ (z : List (Item Tree)). Owes env s'.context o.hyps s' (parts cells) z us o.goal) g.owes.1.2 g.owes.2),
           ),
         ),
       ) ((λ c b no. no), (g.clear.0, ((λ c b no. no), ((λ c b no. no), g.clear.1))))
+      (((λ j one. absurd (g.fresh.0.0 j one)), (g.fresh.0.0, (g.fresh.0.0, (g.fresh.0.0, g.fresh.0.1)))), g.fresh.1)
       (let a = ap size i-is in let b = command_one code.Conv in omega (arith, a, b)))
 
   pub convert_cost : (e : Tree) (c : Conversion) (p : Proof) (chain : Option ℕ) (i : ℕ) (us ts' : List Task) (bs : List ℕ) → tree_of s' i ≡ e

@@ -1,29 +1,30 @@
 -- One item more in the heap.
-use Rattle.std.specs.Prelude.{ℕ, ◌≡◌, ◌<◌, ◌+◌, ◌^◌, ◌⊎◌, false, List, [], ◌∷◌, ◌++◌, length, slice_get, Contains, Option, Some, None}
-use Rattle.std.proofs.Common.{zero, suc, refl, sym, ap, ◌∙◌, subst, arith, inl, inr}
+use Rattle.std.specs.Prelude.{ℕ, ◌≡◌, ◌<◌, ◌+◌, ◌^◌, false, List, [], ◌∷◌, ◌++◌, length, Option, Some, None}
+use Rattle.std.proofs.Common.{refl, sym, ap, ◌∙◌, subst, arith, inl, inr}
 use Rattle.std.proofs.lemmas.List.{length-append}
 use Rattle.mz_cmd.specs.declared.code.ProofCode.TheVariants as code
-use Rattle.mz_logic.specs.Tree.{Tree, Trees, var, app, listed}
+use Rattle.mz_logic.specs.Tree.{Tree, var, app, listed}
 use Rattle.mz_logic.specs.Declaration.{Declaration, signatures}
 use Rattle.mz_logic.specs.declared.binder.Binder.{Binder}
 use Rattle.mz_logic.proofs.Extend.{extends_append}
 use Rattle.mz_store.specs.Sharing.{Sharing, IsIn, tree_of, head_of, operands_of, sort_of}
 use Rattle.mz_store.specs.declared.item.Id.{Id}
-use Rattle.mz_unify.specs.Profile.{Item, expr, proof}
+use Rattle.mz_unify.specs.Profile.{Item, expr}
 use Rattle.mz_unify.specs.Spells.{trees_of as listed_back}
 use Rattle.mz_unify.specs.Sorted.{Sorted}
 use Rattle.mz_unify.proofs.Trees.{trees_of-listed}
 use Rattle.mz_steps.specs.Works.{Work}
-use Rattle.mz_steps.specs.Steps.{stacked, kept, above, Step, command_bytes}
+use Rattle.mz_steps.specs.Steps.{stacked, kept, Step, command_bytes}
 use Rattle.mz_shared.specs.Places.{place_of}
 use Rattle.mz_bodies.specs.Owes.{Task, make, Owes}
 use Rattle.mz_bodies.specs.Sight.{parts}
 use Rattle.mz_bodies.specs.Going.{Job, CellsRight, PlacesRight, IsGoing}
 use Rattle.mz_bodies.specs.declared.cells.Cell.{Cell}
+use Rattle.mz_bodies.proofs.Building.{one_more_built, put_keeps, put_new, no_place, next_new, rest_fresh}
 use Rattle.mz_bodies.proofs.Lists.{slice_last, same_or_not}
 use Rattle.mz_bodies.proofs.Shortening.{command_short}
 use Rattle.mz_bodies.proofs.Standing.{may_last, may_rest}
-use Rattle.mz_bodies.proofs.Moves.{joined, more_written}
+use Rattle.mz_bodies.proofs.Moves.{more_written}
 
 pub some_is : (a b : ℕ) → ◌≡◌ {A = Option ℕ} (Some a) (Some b) → a ≡ b
 some_is a b e = ap get_some e
@@ -69,10 +70,10 @@ whole t (var x) is = absurd (no_head is)
     no_head e = grind (arith, e)
 
 module _ (env : List Declaration) (o : Job) (s : Sharing) (vars : List Id) (places : List (Option ℕ)) (len : ℕ) (hps : List ℕ) (cells : List Cell) where
-  pub made : (i t : ℕ) (places' : List (Option ℕ)) (len' : ℕ) (us : List Task) (bs bs' : List ℕ) → Some t ≡ head_of (tree_of s i)
+  pub made : (i t : ℕ) (places' : List (Option ℕ)) (len' : ℕ) (us : List Task) (bs bs' : List ℕ) → ((j k : ℕ) → IsIn s j → IsIn s k → tree_of s j ≡ tree_of s k → j ≡ k) → Some t ≡ head_of (tree_of s i)
       → place_of places' i ≡ Some len → ((j : ℕ) → (j ≡ i → ⊥) → place_of places' j ≡ place_of places j) → len' ≡ len + 1 → bs' ≡ bs ++ command_bytes (code.TermSave, t) → t < 2 ^ 32
       → IsGoing env o s vars places len hps cells (make i ∷ us) bs → IsGoing env o s vars places' len' hps cells us bs'
-  made i t places' len' us bs bs' head at others len-is is small g =
+  made i t places' len' us bs bs' once head at others len-is is small g =
       let e : Tree = tree_of s i in
       let es : List Tree = listed (operands_of e) in
       let e-is : app t (listed_back es) ≡ e = whole t e head in
@@ -84,7 +85,8 @@ module _ (env : List Declaration) (o : Job) (s : Sharing) (vars : List Id) (plac
       record {
         commands = g.commands ++ (code.TermSave, t) ∷ [];
         work = next;
-        steps = joined env o s vars places len hps cells (make i ∷ us) bs g code.TermSave t next step;
+        has_built = one_more_built env o.params s places places' g.commands g.work next code.TermSave t (put_keeps s places places' i len at others) tt step g.has_built e refl
+            (no_place s places i once inside (next_new places i us g.fresh.1)) (i, len, (inside, refl), at);
         may_stand = may_last o.kind g.commands code.TermSave t g.may_stand (refl, small);
         written = is ∙ more_written env o s vars places len hps cells (make i ∷ us) bs g code.TermSave t;
         assumed = g.assumed;
@@ -96,6 +98,7 @@ module _ (env : List Declaration) (o : Job) (s : Sharing) (vars : List Id) (plac
         lets = cells_kept env s.context o.hyps cells g.work.heap (expr e) g.lets;
         may_do = may_rest o (make i) us g.may_do;
         clear = g.clear.1;
+        fresh = (let rest = rest_fresh s places (make i) us g.fresh in (rest.0, put_new s places places' i len at others us g.fresh.0.0 rest.1));
         short = (let h = g.short in let a = ap length is ∙ length-append bs (command_bytes (code.TermSave, t)) in let b = command_short code.TermSave t in omega (arith, h, a, b));
         owes = subst (λ (z : List (Item Tree)). Owes env s.context o.hyps s (parts cells) z us o.goal) g.owes.1.5 g.owes.2;
       }

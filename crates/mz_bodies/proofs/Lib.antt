@@ -1,8 +1,8 @@
 mod Ways
-pub mod Grown
 mod Scoping
 pub mod Lists
 mod Standing
+mod Building
 mod Moves
 mod Keeping
 mod Growing

@@ -1,5 +1,5 @@
 -- Lists: one place set, and the last one.
-use Rattle.std.specs.Prelude.{ℕ, ◌≡◌, ◌<◌, ◌≤◌, ◌+◌, ◌⊎◌, List, [], ◌∷◌, ◌++◌, length, get_or, slice_get, map, Option, Some, None}
+use Rattle.std.specs.Prelude.{ℕ, ◌≡◌, ◌<◌, ◌⊎◌, List, [], ◌∷◌, ◌++◌, length, get_or, slice_get, map, Option, Some, None}
 use Rattle.std.proofs.Common.{zero, suc, refl, sym, ap, ◌∙◌, arith, slice_set, slice_index_or, inl, inr}
 
 pub set_map : (A B : Type 0) (g : A → B) (xs : List A) (i : ℕ) (x y : A) → i < length xs → x ≡ slice_index_or xs i x → g y ≡ g x → map g (slice_set xs i y) ≡ map g xs
@@ -34,6 +34,15 @@ slice_last A [] y zero is = refl
 slice_last A [] y (suc n) is = absurd (omega (arith, is))
 slice_last A (x ∷ xs) y zero is = absurd (omega (arith, is))
 slice_last A (x ∷ xs) y (suc n) is = slice_last A xs y n (omega (arith, is))
+
+pub last_or_before : (A : Type 0) (xs : List A) (y : A) (k : ℕ) (p : A) → slice_get (xs ++ y ∷ []) k ≡ Some p → (slice_get xs k ≡ Some p) ⊎ ((k ≡ length xs) × (y ≡ p))
+last_or_before A [] y zero p at = inr (refl, from at)
+  where
+    from : ◌≡◌ {A = Option A} (Some y) (Some p) → y ≡ p
+    from e = cc
+last_or_before A [] y (suc k) p at = absurd (grind (arith, at))
+last_or_before A (x ∷ xs) y zero p at = inl at
+last_or_before A (x ∷ xs) y (suc k) p at = elim (last_or_before A xs y k p at) [ inl h ↦ inl h | inr (k-is, y-is) ↦ inr (ap suc k-is, y-is) ]
 
 pub none_last : (xs : List (Option ℕ)) (c p : ℕ) → get_or (xs ++ None ∷ []) c None ≡ Some p → get_or xs c None ≡ Some p
 none_last [] zero p is = is

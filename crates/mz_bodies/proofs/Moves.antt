@@ -1,37 +1,35 @@
 -- What a body owes, from one task to the next.
-use Rattle.std.specs.Prelude.{ℕ, ◌≡◌, ◌<◌, ◌≤◌, ◌+◌, ◌*◌, ◌^◌, false, Bool, List, [], ◌∷◌, ◌++◌, length, map, reverse, get_or, slice_get, Contains, Option, Some, None}
-use Rattle.std.proofs.Common.{zero, suc, refl, sym, ap, ◌∙◌, subst, arith, append_assoc, append-nil, inl}
+use Rattle.std.specs.Prelude.{ℕ, ◌≡◌, ◌<◌, ◌≤◌, ◌+◌, ◌*◌, ◌^◌, false, List, [], ◌∷◌, ◌++◌, length, map, reverse, slice_get, Option, Some, None}
+use Rattle.std.proofs.Common.{refl, sym, ap, ◌∙◌, subst, arith, append_assoc, append-nil, inl}
 use Rattle.std.proofs.lemmas.List.{get_or_append_left, length-append, reverse-append, map-append}
 use Rattle.mz_cmd.specs.declared.code.ProofCode.{ProofCode}
 use Rattle.mz_cmd.specs.declared.code.ProofCode.TheVariants as code
-use Rattle.mz_logic.specs.Tree.{Tree, Trees, var, app, none, more, listed, size, trees_size}
-use Rattle.mz_logic.specs.Declaration.{Declaration, signatures}
+use Rattle.mz_logic.specs.Tree.{Tree, Trees, var, app, none, listed, size, trees_size}
+use Rattle.mz_logic.specs.Declaration.{Declaration}
 use Rattle.mz_logic.specs.declared.binder.Binder.{Binder}
-use Rattle.mz_store.specs.Sharing.{Sharing, IsIn, AreIn, tree_of, trees_of, head_of, operands_of}
+use Rattle.mz_store.specs.Sharing.{Sharing, AreIn, tree_of, trees_of, head_of, operands_of}
 use Rattle.mz_store.specs.declared.item.Id.{Id}
-use Rattle.mz_unify.specs.Profile.{Item, expr, proof, obligation}
-use Rattle.mz_mmu.specs.Proof.{Proof, Proofs, by_hyp, by_name, by_citation, by_conv, by_let}
-use Rattle.mz_steps.specs.Works.{Work, work_start}
-use Rattle.mz_steps.specs.Steps.{stacked, kept, above, Step, Steps, command_bytes}
-use Rattle.mz_steps.proofs.Joining.{steps-join}
+use Rattle.mz_unify.specs.Profile.{Item, expr, proof}
+use Rattle.mz_mmu.specs.Proof.{Proofs, by_hyp, by_citation}
+use Rattle.mz_steps.specs.Steps.{stacked, above, Step, command_bytes}
 use Rattle.mz_shared.specs.Instances.{Grows}
 use Rattle.mz_shared.specs.Places.{place_of}
-use Rattle.mz_shared.specs.Variables.{IsShared}
 use Rattle.mz_bodies.specs.Sight.{Part, part_at, parts, place_at, IsThere}
-use Rattle.mz_bodies.specs.Scopes.{in_sight, scopes}
+use Rattle.mz_bodies.specs.Scopes.{in_sight}
 use Rattle.mz_bodies.specs.Claims.{claim_at, proved, all_proved, IsSound, AreSound}
 use Rattle.mz_bodies.specs.Costs.{cost, costs}
 use Rattle.mz_bodies.specs.declared.task.Task.{Task as Coded}
-use Rattle.mz_bodies.specs.Owes.{task_view, to_do, Task, prove, prove_all, cite, push, make, pay, pay_all, give, save, claims, claim_of, let_costs, Turns, Owes, task_cost, left}
-use Rattle.mz_bodies.specs.Lengths.{task_bytes, tasks_bytes, begun, waits, IsClear}
+use Rattle.mz_bodies.specs.Owes.{task_view, to_do, Task, prove, prove_all, cite, push, make, pay, pay_all, give, save, claims, claim_of, IsGiven, Turns, Owes, task_cost, left}
+use Rattle.mz_bodies.specs.Lengths.{task_bytes, begun, waits, IsClear}
+use Rattle.mz_bodies.specs.Making.{IsFresh}
 use Rattle.mz_bodies.specs.Pushing.{pushes}
-use Rattle.mz_bodies.specs.Going.{Job, MayDo, CellsRight, PlacesRight, spelled, still, IsGoing}
+use Rattle.mz_bodies.specs.Going.{Job, MayDo, spelled, still, IsGoing}
 use Rattle.mz_bodies.specs.declared.cells.Cell.{Cell}
-use Rattle.mz_bodies.proofs.Grown.{in_grown, tree_grown}
-use Rattle.std.proofs.lemmas.Option.{slice_get_within, get_or_from_slice_get}
+use Rattle.mz_bodies.proofs.Building.{nothing_more, rest_fresh, parts_fresh}
+use Rattle.mz_shared.proofs.Making.{in_grown, tree_grown}
+use Rattle.std.proofs.lemmas.Option.{get_or_from_slice_get}
 use Rattle.mz_bodies.proofs.Shortening.{command_short, pushes_bytes, pushes_begun, pushes_clear}
 use Rattle.mz_bodies.proofs.Standing.{MayBe, may_last, proving, may_rest, may_push, may_be}
-use Rattle.mz_bodies.proofs.Lists.{get_slice}
 use Rattle.mz_bodies.proofs.Scoping.{sight_more, there_more}
 
 -- one more operand under the others
@@ -180,12 +178,12 @@ module _ (env : List Declaration) (ctx : List Binder) (hyps : List Tree) (s : Sh
 module _ (env : List Declaration) (o : Job) (s : Sharing) (vars : List Id) (places : List (Option ℕ)) (len : ℕ) (hps : List ℕ) (cells : List Cell) where
   -- other tasks that come to the same
   pub replaced : (ts us : List Task) (bytes : List ℕ) (g : IsGoing env o s vars places len hps cells ts bytes)
-      → MayDo o us → Owes env s.context o.hyps s (parts cells) g.work.stack us o.goal → IsClear (parts cells) us → still env s cells us ≤ still env s cells ts
+      → MayDo o us → Owes env s.context o.hyps s (parts cells) g.work.stack us o.goal → IsClear (parts cells) us → IsFresh s places us → still env s cells us ≤ still env s cells ts
       → IsGoing env o s vars places len hps cells us bytes
-  replaced ts us bytes g may owes clear less = record {
+  replaced ts us bytes g may owes clear fresh less = record {
     commands = g.commands;
     work = g.work;
-    steps = g.steps;
+    has_built = g.has_built;
     may_stand = g.may_stand;
     written = g.written;
     assumed = g.assumed;
@@ -198,12 +196,9 @@ module _ (env : List Declaration) (o : Job) (s : Sharing) (vars : List Id) (plac
     may_do = may;
     owes = owes;
     clear = clear;
+    fresh = fresh;
     short = (let h = g.short in omega (arith, h, less));
   }
-
-  pub joined : (ts : List Task) (bytes : List ℕ) (g : IsGoing env o s vars places len hps cells ts bytes) (c : ProofCode) (v : ℕ) (w' : Work)
-      → Step false env s.context g.work c v w' → Steps false env s.context (work_start o.params) (g.commands ++ (c, v) ∷ []) w'
-  joined ts bytes g c v w' step = steps-join false env s.context g.commands ((c, v) ∷ []) (work_start o.params) g.work w' g.steps (w', step, refl)
 
   pub more_written : (ts : List Task) (bytes : List ℕ) (g : IsGoing env o s vars places len hps cells ts bytes) (c : ProofCode) (v : ℕ)
       → bytes ++ command_bytes (c, v) ≡ spelled (g.commands ++ (c, v) ∷ [])
@@ -211,12 +206,12 @@ module _ (env : List Declaration) (o : Job) (s : Sharing) (vars : List Id) (plac
 
   -- a command that changes the stack alone
   pub given : (ts us : List Task) (bytes : List ℕ) (g : IsGoing env o s vars places len hps cells ts bytes) (c : ProofCode) (v : ℕ) (ys : List (Item Tree))
-      → Step false env s.context g.work c v (stacked g.work ys) → MayBe o.kind c v → MayDo o us → Owes env s.context o.hyps s (parts cells) ys us o.goal
-      → IsClear (parts cells) us → length (command_bytes (c, v)) + still env s cells us ≤ still env s cells ts → IsGoing env o s vars places len hps cells us (bytes ++ command_bytes (c, v))
-  given ts us bytes g c v ys step may may_do owes clear less = record {
+      → IsGiven c v → Step false env s.context g.work c v (stacked g.work ys) → MayBe o.kind c v → MayDo o us → Owes env s.context o.hyps s (parts cells) ys us o.goal
+      → IsClear (parts cells) us → IsFresh s places us → length (command_bytes (c, v)) + still env s cells us ≤ still env s cells ts → IsGoing env o s vars places len hps cells us (bytes ++ command_bytes (c, v))
+  given ts us bytes g c v ys is step may may_do owes clear fresh less = record {
     commands = g.commands ++ (c, v) ∷ [];
     work = stacked g.work ys;
-    steps = joined ts bytes g c v (stacked g.work ys) step;
+    has_built = nothing_more env o.params s places places g.commands g.work (stacked g.work ys) c v (λ e h. h) is.0 step g.has_built (is.1 (stacked g.work ys));
     may_stand = may_last o.kind g.commands c v g.may_stand may;
     written = more_written ts bytes g c v;
     assumed = g.assumed;
@@ -229,6 +224,7 @@ module _ (env : List Declaration) (o : Job) (s : Sharing) (vars : List Id) (plac
     may_do = may_do;
     owes = owes;
     clear = clear;
+    fresh = fresh;
     short = (let h = g.short in let l = length-append bytes (command_bytes (c, v)) in omega (arith, h, l, less));
   }
 
@@ -236,16 +232,16 @@ module _ (env : List Declaration) (o : Job) (s : Sharing) (vars : List Id) (plac
   pub referred : (us : List Task) (bytes : List ℕ) (t : Task) (g : IsGoing env o s vars places len hps cells (t ∷ us) bytes) (p : ℕ) (e : Tree)
       → slice_get g.work.heap p ≡ Some (proof e) → (g.owes.0 ≡ proof e ∷ g.work.stack) → p < 2 ^ 32 → begun (t ∷ us) ≡ begun us → 5 ≤ task_bytes env s t
       → IsGoing env o s vars places len hps cells us (bytes ++ command_bytes (code.Ref, p))
-  referred us bytes t g p e at is small same five = given (t ∷ us) us bytes g code.Ref p (proof e ∷ g.work.stack) (proof e, at, refl) (refl, small) (may_rest o t us g.may_do)
+  referred us bytes t g p e at is small same five = given (t ∷ us) us bytes g code.Ref p (proof e ∷ g.work.stack) (tt, λ w. refl) (proof e, at, refl) (refl, small) (may_rest o t us g.may_do)
       (subst (λ (z : List (Item Tree)). Owes env s.context o.hyps s (parts cells) z us o.goal) is g.owes.2)
-      g.clear.1 (let a = command_short code.Ref p in let b = ap (λ (cs : List ℕ). waits env cs (place_at cells) 0 (parts cells)) same in omega (arith, a, b, five))
+      g.clear.1 (rest_fresh s places t us g.fresh) (let a = command_short code.Ref p in let b = ap (λ (cs : List ℕ). waits env cs (place_at cells) 0 (parts cells)) same in omega (arith, a, b, five))
 
   pub referred_expr : (us : List Task) (bytes : List ℕ) (t : Task) (g : IsGoing env o s vars places len hps cells (t ∷ us) bytes) (p : ℕ) (e : Tree)
       → slice_get g.work.heap p ≡ Some (expr e) → (g.owes.0 ≡ expr e ∷ g.work.stack) → p < 2 ^ 32 → begun (t ∷ us) ≡ begun us → 5 ≤ task_bytes env s t
       → IsGoing env o s vars places len hps cells us (bytes ++ command_bytes (code.Ref, p))
-  referred_expr us bytes t g p e at is small same five = given (t ∷ us) us bytes g code.Ref p (expr e ∷ g.work.stack) (expr e, at, refl) (refl, small) (may_rest o t us g.may_do)
+  referred_expr us bytes t g p e at is small same five = given (t ∷ us) us bytes g code.Ref p (expr e ∷ g.work.stack) (tt, λ w. refl) (expr e, at, refl) (refl, small) (may_rest o t us g.may_do)
       (subst (λ (z : List (Item Tree)). Owes env s.context o.hyps s (parts cells) z us o.goal) is g.owes.2)
-      g.clear.1 (let a = command_short code.Ref p in let b = ap (λ (cs : List ℕ). waits env cs (place_at cells) 0 (parts cells)) same in omega (arith, a, b, five))
+      g.clear.1 (rest_fresh s places t us g.fresh) (let a = command_short code.Ref p in let b = ap (λ (cs : List ℕ). waits env cs (place_at cells) 0 (parts cells)) same in omega (arith, a, b, five))
 
 module _ (env : List Declaration) (o : Job) (s : Sharing) (vars : List Id) (places : List (Option ℕ)) (len : ℕ) (hps : List ℕ) (cells : List Cell) where
   -- the same lists
@@ -256,8 +252,8 @@ module _ (env : List Declaration) (o : Job) (s : Sharing) (vars : List Id) (plac
   pub give_done : (c : ProofCode) (v : ℕ) (us : List Task) (bs bs' : List ℕ) → bs' ≡ bs ++ command_bytes (c, v) → v < 2 ^ 32 → IsGoing env o s vars places len hps cells (give c v ∷ us) bs
       → IsGoing env o s vars places len hps cells us bs'
   give_done c v us bs bs' is small g = at_last us us (bs ++ command_bytes (c, v)) bs' refl is
-      (given env o s vars places len hps cells (give c v ∷ us) us bs g c v g.owes.0 (g.owes.1 g.work refl)
-      (may_be o c v (proving o (give c v) us (λ h. h) g.may_do) small) (may_rest o (give c v) us g.may_do) g.owes.2 g.clear.1 (omega arith))
+      (given env o s vars places len hps cells (give c v ∷ us) us bs g c v g.owes.0 g.owes.1.0 (g.owes.1.1 g.work refl)
+      (may_be o c v (proving o (give c v) us (λ h. h) g.may_do) small) (may_rest o (give c v) us g.may_do) g.owes.2 g.clear.1 (rest_fresh s places (give c v) us g.fresh) (omega arith))
 
   -- an expression that has a place
   pub push_there : (i p : ℕ) (us : List Task) (bs bs' : List ℕ) → place_of places i ≡ Some p → bs' ≡ bs ++ command_bytes (code.Ref, p) → p < 2 ^ 32 → IsGoing env o s vars places len hps cells (push i ∷ us) bs
@@ -266,13 +262,14 @@ module _ (env : List Declaration) (o : Job) (s : Sharing) (vars : List Id) (plac
       (referred_expr env o s vars places len hps cells us bs (push i) g p (tree_of s i) (g.there.expressions i p at).1 g.owes.1.1 small refl (let a = size_some (tree_of s i) in omega (arith, a)))
 
   -- an expression that is to be made
-  pub push_parts : (i : ℕ) (t : ℕ) (is : List Id) (us ts' : List Task) (bs : List ℕ) → Some t ≡ head_of (tree_of s i) → AreIn s is → trees_of s is ≡ operands_of (tree_of s i)
+  pub push_parts : (i : ℕ) (t : ℕ) (is : List Id) (us ts' : List Task) (bs : List ℕ) → Some t ≡ head_of (tree_of s i) → place_of places i ≡ None → AreIn s is → trees_of s is ≡ operands_of (tree_of s i)
       → ts' ≡ pushes is ++ make i ∷ us → IsGoing env o s vars places len hps cells (push i ∷ us) bs → IsGoing env o s vars places len hps cells ts' bs
-  push_parts i t is us ts' bs head inside trees ts-is g = at_last (pushes is ++ make i ∷ us) ts' bs bs ts-is refl
+  push_parts i t is us ts' bs head none-yet inside trees ts-is g = at_last (pushes is ++ make i ∷ us) ts' bs bs ts-is refl
       (replaced env o s vars places len hps cells (push i ∷ us) (pushes is ++ make i ∷ us) bs g (may_push o is i i us g.may_do)
       (pushes_owe env s.context o.hyps s (parts cells) is g.work.stack (make i ∷ us) o.goal inside
       (g.owes.0, (g.owes.1.0, t, sym head, g.work.stack, ap (λ (z : Trees). above (listed z) g.work.stack) trees, g.owes.1.1), g.owes.2))
       (pushes_clear (parts cells) is (make i ∷ us) ((λ c b no. no), g.clear.1))
+      (parts_fresh s places i is us (let a = ap trees_size trees in let b = size_head t (tree_of s i) head in omega (arith, a, b)) none-yet g.fresh)
       (let a = pushes_bytes env s is (make i ∷ us) in let b = ap trees_size trees in let c = size_head t (tree_of s i) head in
       let d = ap (λ (cs : List ℕ). waits env cs (place_at cells) 0 (parts cells)) (pushes_begun is (make i ∷ us)) in omega (arith, a, b, c, d)))
 
@@ -294,7 +291,7 @@ module _ (env : List Declaration) (o : Job) (s : Sharing) (vars : List Id) (plac
         map proof (reverse (all_proved env o.hyps (in_sight (claims env o.hyps (parts cells)) chain) qs)) ++ g.work.stack,
         (g.owes.1.0, g.owes.1.1.1, refl),
         (g.owes.0, (all_proved env o.hyps (in_sight (claims env o.hyps (parts cells)) chain) qs, g.work.stack, g.owes.1.1.0, refl, g.owes.1.2), g.owes.2),
-      ) (g.clear.0, ((λ c b no. no), g.clear.1)) (omega arith))
+      ) (g.clear.0, ((λ c b no. no), g.clear.1)) ((g.fresh.0.0, (g.fresh.0.0, g.fresh.0.1)), g.fresh.1) (omega arith))
 
 pub parts_cost : (env : List Declaration) (s : Sharing) (ps : List Part) (i t : ℕ) (is : List Id) (us ts' : List Task) → Some t ≡ head_of (tree_of s i)
     → trees_of s is ≡ operands_of (tree_of s i) → ts' ≡ pushes is ++ make i ∷ us → left env s ps ts' < 2 * size (tree_of s i) + left env s ps us

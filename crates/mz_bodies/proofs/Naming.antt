@@ -1,17 +1,17 @@
 -- A name, and what it stands for.
-use Rattle.std.specs.Prelude.{ℕ, ◌≡◌, ◌<◌, ◌≤◌, ◌+◌, ◌^◌, List, [], ◌∷◌, ◌++◌, length, slice_get, Option, Some, None}
-use Rattle.std.proofs.Common.{zero, suc, refl, sym, ap, ◌∙◌, subst, arith, inl}
+use Rattle.std.specs.Prelude.{ℕ, ◌≡◌, ◌<◌, ◌≤◌, ◌+◌, ◌^◌, List, ◌∷◌, ◌++◌, length, Option, Some, None}
+use Rattle.std.proofs.Common.{refl, sym, ap, ◌∙◌, subst, arith, inl}
 use Rattle.mz_cmd.specs.declared.code.ProofCode.TheVariants as code
 use Rattle.mz_logic.specs.Tree.{Tree, app, none}
 use Rattle.mz_logic.specs.Declaration.{Declaration}
 use Rattle.mz_store.specs.Sharing.{Sharing}
 use Rattle.mz_store.specs.declared.item.Id.{Id}
 use Rattle.mz_unify.specs.Profile.{Item, proof}
-use Rattle.mz_mmu.specs.Proof.{Proof, by_name}
+use Rattle.mz_mmu.specs.Proof.{by_name}
 use Rattle.mz_steps.specs.Steps.{command_bytes}
-use Rattle.mz_bodies.specs.Claims.{proved, claim_at}
+use Rattle.mz_bodies.specs.Claims.{proved}
 use Rattle.mz_bodies.specs.Costs.{cost}
-use Rattle.mz_bodies.specs.Scopes.{in_sight, scopes}
+use Rattle.mz_bodies.specs.Scopes.{in_sight}
 use Rattle.mz_bodies.specs.Owes.{Task, prove, save, claims, claim_of, let_costs, Owes, left}
 use Rattle.mz_bodies.specs.Sight.{Part, links, link_at, parts, part_at, place_at, InSight, IsThere}
 use Rattle.mz_bodies.specs.Going.{Job, IsGoing}
@@ -66,7 +66,7 @@ module _ (env : List Declaration) (o : Job) (s : Sharing) (vars : List Id) (plac
             (omega (arith, l, d-in), g.work.stack, refl, refl),
             subst (λ (z : List (Item Tree)). Owes env s.context o.hyps s (parts cells) z us o.goal) (g.owes.1.2 ∙ ap (λ (z : Tree). proof z ∷ g.work.stack) stands_for) g.owes.2,
           ),
-        ) (begun_clear (parts cells) outers c d us (omega (arith, l, d-in)) way g.clear.0 q.outer refl, ((λ e b no. no), g.clear.1))
+        ) (begun_clear (parts cells) outers c d us (omega (arith, l, d-in)) way g.clear.0 q.outer refl, ((λ e b no. no), g.clear.1)) ((g.fresh.0.0, (g.fresh.0.0, g.fresh.0.1)), g.fresh.1)
         (let a = waits_begun env (begun us) (place_at cells) 0 d d (parts cells) (omega arith) (omega (arith, l, d-in)) none-yet (not_begun (parts cells) (prove (by_name k) (Some c)) us d g.clear way) in omega (arith, a)))
 
     pub name_cost : (part : Part) (ts' : List Task) → part_at (parts cells) d ≡ part → ts' ≡ prove part.proof part.outer ∷ save d ∷ us

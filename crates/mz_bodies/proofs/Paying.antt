@@ -1,5 +1,5 @@
 -- Obligations that are paid.
-use Rattle.std.specs.Prelude.{ℕ, ◌≡◌, ◌<◌, ◌≤◌, ◌+◌, ◌*◌, ◌^◌, false, List, [], ◌∷◌, ◌++◌, length, map, slice_get, Option, Some, None, slice_index_or}
+use Rattle.std.specs.Prelude.{ℕ, ◌≡◌, ◌<◌, ◌+◌, false, List, [], ◌∷◌, ◌++◌, length, slice_get, Option, Some, slice_index_or}
 use Rattle.std.proofs.Common.{zero, suc, refl, sym, ap, ◌∙◌, subst, arith, inl}
 use Rattle.std.proofs.lemmas.List.{length-append}
 use Rattle.std.proofs.lemmas.Option.{get_or_from_slice_get, slice_get_within}
@@ -9,7 +9,7 @@ use Rattle.mz_logic.specs.Signature.{Signature}
 use Rattle.mz_logic.specs.Declaration.{Form, plain_form, abstract_form, defined, body_of, Term, Declaration, terms, signatures}
 use Rattle.mz_logic.specs.Sorts.{HasSort, Fits, IsSorted}
 use Rattle.mz_logic.specs.Legality.{IsLegalEnv}
-use Rattle.mz_logic.specs.Conversions.{Conversion, Conversions, refl_conv, sym_conv, cong_conv, unfold_conv, gap_conv, IsDefined, AreFresh, Between, AllBetween}
+use Rattle.mz_logic.specs.Conversions.{Conversion, Conversions, refl_conv, sym_conv, cong_conv, unfold_conv, gap_conv, IsDefined, AreFresh, Between}
 use Rattle.mz_logic.specs.declared.binder.Binder.{Binder}
 use Rattle.mz_logic.proofs.LegalIsRight.{legal_env_is_right}
 use Rattle.mz_store.specs.Sharing.{Sharing, Holds, tree_of}
@@ -19,16 +19,16 @@ use Rattle.mz_unify.proofs.Trees.{trees_of-listed}
 use Rattle.mz_machine.specs.ProofMachine.{sides}
 use Rattle.mz_steps.specs.Works.{Work}
 use Rattle.mz_steps.specs.Steps.{stacked, Step, command_bytes}
-use Rattle.mz_shared.specs.Instances.{Grows, InReach, AreSorted}
+use Rattle.mz_shared.specs.Instances.{Grows, InReach}
 use Rattle.mz_shared.specs.Variables.{IsShared}
 use Rattle.mz_bodies.specs.Sight.{parts}
-use Rattle.mz_bodies.specs.Costs.{body_tree, body_at, pay_cost, pay_costs}
-use Rattle.mz_bodies.specs.Owes.{Task, push, pay, pay_all, give, Owes, left}
+use Rattle.mz_bodies.specs.Costs.{body_tree, body_at, pay_cost}
+use Rattle.mz_bodies.specs.Owes.{Task, push, pay, pay_all, give, left}
 use Rattle.mz_bodies.specs.Going.{Job, IsGoing}
 use Rattle.mz_bodies.specs.declared.cells.Cell.{Cell}
 use Rattle.mz_bodies.proofs.Shortening.{command_one}
 use Rattle.mz_bodies.proofs.Standing.{proving, may_be}
-use Rattle.mz_bodies.proofs.Grown.{reach_of_sort}
+use Rattle.mz_shared.proofs.Owned.{reach_of_sort}
 use Rattle.mz_bodies.proofs.Moves.{at_last, replaced, given}
 use Rattle.mz_bodies.proofs.Growing.{grown, rest_cost}
 
@@ -134,11 +134,12 @@ module _ (env : List Declaration) (o : Job) (s s' : Sharing) (gr : Grows s s') (
           (j-in, ap (λ (z : Tree). expr z ∷ expr (app t es) ∷ xs) (sym e-is)),
           (
             obligation e r ∷ rest,
-            λ w w-is. unfold_step env s'.context t es ys u.0 u.1 u.2 e r rest u.3 u.5 refl w (w-is ∙ ap (λ (z : List (Item Tree)). expr e ∷ expr (app t es) ∷ z) xs-is),
+            ((refl, λ w. refl), λ w w-is. unfold_step env s'.context t es ys u.0 u.1 u.2 e r rest u.3 u.5 refl w (w-is ∙ ap (λ (z : List (Item Tree)). expr e ∷ expr (app t es) ∷ z) xs-is)),
             (rest, (e, r, u.6, refl), g.owes.2),
           ),
         ),
       ) ((λ c b no. no), ((λ c b no. no), ((λ c b no. no), ((λ c b no. no), g.clear.1))))
+      (((λ k one. absurd (g.fresh.0.0 k one)), ((λ k one. absurd (g.fresh.0.0 k one)), (g.fresh.0.0, (g.fresh.0.0, g.fresh.0.1)))), g.fresh.1)
       (let a = ap size i-is in let b = ap size j-is in let d = command_one code.Unfold in omega (arith, a, b, d)))
 
   pub unfold_cost : tree_of s' i ≡ app t es → tree_of s' j ≡ instance (followed_by es (variables ys)) (body_at env t)
@@ -160,9 +161,9 @@ module _ (env : List Declaration) (o : Job) (s : Sharing) (vars : List Id) (plac
       let b = g.owes.1.2 in
       let may = proving o (pay (refl_conv e)) us (λ h. h) g.may_do in
       at_last env o s vars places len hps cells us us (bs ++ command_bytes (code.Refl, 0)) bs' refl is
-      (given env o s vars places len hps cells (pay (refl_conv e) ∷ us) us bs g code.Refl 0 rest
+      (given env o s vars places len hps cells (pay (refl_conv e) ∷ us) us bs g code.Refl 0 rest (refl, λ w. refl)
       (e, rest, g.owes.1.3 ∙ ap (λ (z : Tree). obligation z g.owes.1.1 ∷ rest) b.2 ∙ ap (λ (z : Tree). obligation e z ∷ rest) b.3, refl)
-      (may_be o code.Refl 0 may (omega arith)) (inl may) g.owes.2 g.clear.1 (let a = command_one code.Refl in omega (arith, a)))
+      (may_be o code.Refl 0 may (omega arith)) (inl may) g.owes.2 g.clear.1 (g.fresh.0.1, g.fresh.1) (let a = command_one code.Refl in omega (arith, a)))
 
   pub sym_paid : (c : Conversion) (ts' : List Task) → ts' ≡ pay c ∷ us → bs' ≡ bs ++ command_bytes (code.Symm, 0)
       → IsGoing env o s vars places len hps cells (pay (sym_conv c) ∷ us) bs → IsGoing env o s vars places len hps cells ts' bs'
@@ -172,8 +173,8 @@ module _ (env : List Declaration) (o : Job) (s : Sharing) (vars : List Id) (plac
       let r : Tree = g.owes.1.1 in
       let may = proving o (pay (sym_conv c)) us (λ h. h) g.may_do in
       at_last env o s vars places len hps cells (pay c ∷ us) ts' (bs ++ command_bytes (code.Symm, 0)) bs' ts-is is
-      (given env o s vars places len hps cells (pay (sym_conv c) ∷ us) (pay c ∷ us) bs g code.Symm 0 (obligation r l ∷ rest)
-      (l, r, rest, g.owes.1.3, refl) (may_be o code.Symm 0 may (omega arith)) (inl may) (rest, (r, l, g.owes.1.2.2, refl), g.owes.2) ((λ c b no. no), g.clear.1) (let a = command_one code.Symm in omega (arith, a)))
+      (given env o s vars places len hps cells (pay (sym_conv c) ∷ us) (pay c ∷ us) bs g code.Symm 0 (obligation r l ∷ rest) (refl, λ w. refl)
+      (l, r, rest, g.owes.1.3, refl) (may_be o code.Symm 0 may (omega arith)) (inl may) (rest, (r, l, g.owes.1.2.2, refl), g.owes.2) ((λ c b no. no), g.clear.1) ((g.fresh.0.0, g.fresh.0.1), g.fresh.1) (let a = command_one code.Symm in omega (arith, a)))
 
   pub cong_paid : (t : ℕ) (cs : Conversions) (ts' : List Task) → ts' ≡ pay_all cs ∷ us → bs' ≡ bs ++ command_bytes (code.Cong, 0)
       → IsGoing env o s vars places len hps cells (pay (cong_conv t cs) ∷ us) bs → IsGoing env o s vars places len hps cells ts' bs'
@@ -183,9 +184,9 @@ module _ (env : List Declaration) (o : Job) (s : Sharing) (vars : List Id) (plac
       let u = g.owes.1.2.2 in
       let may = proving o (pay (cong_conv t cs)) us (λ h. h) g.may_do in
       at_last env o s vars places len hps cells (pay_all cs ∷ us) ts' (bs ++ command_bytes (code.Cong, 0)) bs' ts-is is
-      (given env o s vars places len hps cells (pay (cong_conv t cs) ∷ us) (pay_all cs ∷ us) bs g code.Cong 0 (sides (listed u.0) (listed u.1) rest)
+      (given env o s vars places len hps cells (pay (cong_conv t cs) ∷ us) (pay_all cs ∷ us) bs g code.Cong 0 (sides (listed u.0) (listed u.1) rest) (refl, λ w. refl)
       (t, u.0, u.1, rest, g.owes.1.3 ∙ ap (λ (z : Tree). obligation z r ∷ rest) u.2 ∙ ap (λ (z : Tree). obligation (app t u.0) z ∷ rest) u.3, refl)
-      (may_be o code.Cong 0 may (omega arith)) (inl may) (rest, (u.0, u.1, u.4, refl), g.owes.2) ((λ c b no. no), g.clear.1) (let a = command_one code.Cong in omega (arith, a)))
+      (may_be o code.Cong 0 may (omega arith)) (inl may) (rest, (u.0, u.1, u.4, refl), g.owes.2) ((λ c b no. no), g.clear.1) ((g.fresh.0.0, g.fresh.0.1), g.fresh.1) (let a = command_one code.Cong in omega (arith, a)))
 
 -- ---- what is sorted, under other names
 

@@ -1,31 +1,31 @@
 -- A let's part that is saved, and a dummy that is made.
-use Rattle.std.specs.Prelude.{ℕ, ◌≡◌, ◌<◌, ◌≤◌, ◌+◌, ◌⊎◌, false, List, [], ◌∷◌, ◌++◌, length, slice_get, Contains, Option, Some, None}
-use Rattle.std.proofs.Common.{zero, suc, refl, sym, ap, ◌∙◌, subst, arith, inl, inr}
+use Rattle.std.specs.Prelude.{ℕ, ◌≡◌, ◌+◌, false, List, [], ◌∷◌, ◌++◌, length, slice_get, Option, Some}
+use Rattle.std.proofs.Common.{refl, sym, ap, ◌∙◌, subst, arith, inl, inr}
 use Rattle.std.proofs.lemmas.List.{length-append}
-use Rattle.std.proofs.lemmas.List.Elements.{Contains-append_left, Contains-append_cases}
 use Rattle.mz_cmd.specs.declared.code.ProofCode.TheVariants as code
-use Rattle.mz_logic.specs.Tree.{Tree, var}
+use Rattle.mz_logic.specs.Tree.{Tree}
 use Rattle.mz_logic.specs.Declaration.{Declaration}
 use Rattle.mz_logic.specs.declared.binder.Binder.{Binder}
 use Rattle.mz_logic.proofs.Extend.{extends_append}
 use Rattle.mz_store.specs.Sharing.{Sharing}
 use Rattle.mz_store.specs.declared.item.Id.{Id}
-use Rattle.mz_unify.specs.Profile.{Item, expr, proof}
+use Rattle.mz_unify.specs.Profile.{Item, proof}
 use Rattle.mz_steps.specs.Works.{Work}
 use Rattle.mz_steps.specs.Steps.{kept, Step, command_bytes}
-use Rattle.mz_shared.specs.Places.{place_of}
 use Rattle.mz_bodies.specs.Scopes.{in_sight}
 use Rattle.mz_bodies.specs.Claims.{IsSound}
 use Rattle.mz_bodies.specs.Owes.{Task, save, claims, claim_of, Owes}
-use Rattle.mz_bodies.specs.Sight.{Part, Link, links, parts, part_at, place_at, AreRight}
-use Rattle.mz_bodies.specs.Going.{Job, CellsRight, PlacesRight, IsGoing}
+use Rattle.mz_bodies.specs.Sight.{Part, links, parts, part_at, place_at, AreRight}
+use Rattle.mz_bodies.specs.Going.{Job, CellsRight, PlacesRight, HasPlace, IsGoing}
+use Rattle.mz_bodies.specs.Making.{IsFresh}
 use Rattle.mz_bodies.specs.declared.cells.Cell.{Cell}
+use Rattle.mz_bodies.proofs.Building.{nothing_more}
 use Rattle.mz_bodies.proofs.Lists.{slice_last, same_or_not}
-use Rattle.mz_bodies.proofs.Keeping.{some_is, cells_kept}
+use Rattle.mz_bodies.proofs.Keeping.{some_is}
 use Rattle.mz_bodies.specs.Lengths.{begun, waits, IsClear}
 use Rattle.mz_bodies.proofs.Shortening.{command_one, waits_saved}
 use Rattle.mz_bodies.proofs.Standing.{may_last, may_rest}
-use Rattle.mz_bodies.proofs.Moves.{joined, more_written}
+use Rattle.mz_bodies.proofs.Moves.{more_written}
 
 pub places_kept : (env : List Declaration) (n : ℕ) (hyps : List Tree) (s : Sharing) (vars : List Id) (places : List (Option ℕ)) (hps : List ℕ) (met : List ℕ) (heap : List (Item Tree)) (y : Item Tree)
     → PlacesRight env n hyps s vars places hps met heap → PlacesRight env n hyps s vars places hps met (heap ++ y ∷ [])
@@ -65,7 +65,7 @@ module _ (env : List Declaration) (o : Job) (s : Sharing) (vars : List Id) (plac
       record {
         commands = g.commands ++ (code.Save, 0) ∷ [];
         work = next;
-        steps = joined env o s vars places len hps cells (save c ∷ us) bs g code.Save 0 next step;
+        has_built = nothing_more env o.params s places places' g.commands g.work next code.Save 0 (λ x h. subst (λ (z : List (Option ℕ)). HasPlace s z x) (sym places-are) h) refl step g.has_built refl;
         may_stand = may_last o.kind g.commands code.Save 0 g.may_stand (refl, omega arith);
         written = is ∙ more_written env o s vars places len hps cells (save c ∷ us) bs g code.Save 0;
         assumed = g.assumed;
@@ -78,6 +78,7 @@ module _ (env : List Declaration) (o : Job) (s : Sharing) (vars : List Id) (plac
         lets = cells_saved env s.context o.hyps cells cells' g.work.heap c len parts-are links-are many at others g.long g.lets;
         may_do = may_rest o (save c) us g.may_do;
         clear = subst (λ (ps : List Part). IsClear ps us) (sym parts-are) g.clear.1;
+        fresh = subst (λ (z : List (Option ℕ)). IsFresh s z us) (sym places-are) (g.fresh.0.1, g.fresh.1);
         short = (let h = g.short in let a = ap length is ∙ length-append bs (command_bytes (code.Save, 0)) in let b = command_one code.Save in
             let w = waits_saved env (begun us) (place_at cells) (place_at cells') c len (parts cells) at others in
             let d = ap (waits env (begun us) (place_at cells') 0) parts-are in omega (arith, h, a, b, w, d));

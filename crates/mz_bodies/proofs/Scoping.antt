@@ -1,10 +1,10 @@
 -- Tables of what is in sight of each cell.
-use Rattle.std.specs.Prelude.{ℕ, ◌≡◌, ◌<◌, ◌≤◌, ◌+◌, List, [], ◌∷◌, ◌++◌, length, get_or, map, Option, Some, None}
+use Rattle.std.specs.Prelude.{ℕ, ◌≡◌, ◌<◌, ◌≤◌, ◌+◌, List, [], ◌∷◌, ◌++◌, length, get_or, Option, Some, None}
 use Rattle.std.proofs.Common.{zero, suc, refl, sym, ap, ◌∙◌, subst, arith}
 use Rattle.std.proofs.lemmas.List.{get_or_append_left, length-append}
 use Rattle.mz_mmu.specs.Proof.{Proof}
 use Rattle.mz_bodies.specs.declared.cells.Cell.{Cell}
-use Rattle.mz_bodies.specs.Sight.{Link, Part, link, links, link_at, part_of, parts, part_at, InSight, here, out, IsRightAt, AreRight, IsThere}
+use Rattle.mz_bodies.specs.Sight.{Link, Part, links, link_at, parts, part_at, InSight, here, out, IsRightAt, AreRight, IsThere}
 use Rattle.mz_bodies.specs.Scopes.{in_sight, row_of, scopes_after, scopes}
 
 get_last : (A : Type 0) (xs : List A) (y z : A) (k : ℕ) → k ≡ length xs → get_or (xs ++ y ∷ []) k z ≡ y

@@ -1,16 +1,16 @@
 -- How many bytes tasks take, from one to the next.
-use Rattle.std.specs.Prelude.{ℕ, ◌≡◌, ◌<◌, ◌≤◌, ◌+◌, ◌*◌, ◌⊎◌, Bool, true, false, ◌||◌, ◌==◌, List, [], ◌∷◌, ◌++◌, length, Option, Some, None}
-use Rattle.std.proofs.Common.{zero, suc, refl, sym, ap, ◌∙◌, subst, arith, inl, inr, cond, eqb}
+use Rattle.std.specs.Prelude.{ℕ, ◌≡◌, ◌<◌, ◌≤◌, ◌+◌, ◌*◌, ◌⊎◌, Bool, true, false, ◌||◌, List, [], ◌∷◌, ◌++◌, length, Option, Some, None}
+use Rattle.std.proofs.Common.{zero, suc, refl, sym, ap, ◌∙◌, subst, arith, inl, inr, cond}
 use Rattle.std.proofs.lemmas.List.{get_or_append_left}
 use Rattle.byteorder.specs.Numbers.{length-bytes_low_first}
 use Rattle.std.proofs.lemmas.Bool.{ne_eqb}
 use Rattle.std.proofs.Common.{eq-eqb}
 use Rattle.mz_cmd.specs.declared.code.ProofCode.{ProofCode}
-use Rattle.mz_cmd.specs.Spelling.{operand_len, shortest_size, spelling}
-use Rattle.mz_logic.specs.Tree.{Tree, Trees, size, trees_size}
+use Rattle.mz_cmd.specs.Spelling.{operand_len, shortest_size}
+use Rattle.mz_logic.specs.Tree.{Tree, size, trees_size}
 use Rattle.mz_logic.specs.Declaration.{Declaration}
 use Rattle.mz_logic.specs.declared.binder.Binder.{Binder}
-use Rattle.mz_store.specs.Sharing.{Sharing, tree_of, trees_of}
+use Rattle.mz_store.specs.Sharing.{Sharing, trees_of}
 use Rattle.mz_store.specs.declared.item.Id.{Id}
 use Rattle.mz_unify.specs.Profile.{Item}
 use Rattle.mz_steps.specs.Steps.{command_bytes}
@@ -20,7 +20,7 @@ use Rattle.mz_bodies.specs.Weights.{proof_weight}
 use Rattle.mz_bodies.specs.Owes.{Task, prove, prove_all, cite, push, make, pay, pay_all, give, save, Turns, Owes}
 use Rattle.mz_bodies.specs.Pushing.{pushes}
 use Rattle.mz_bodies.specs.Lengths.{task_bytes, tasks_bytes, begun, is_one_of, waits_at, waits, IsOutside, itself, farther, IsSeen, Sees, IsClear}
-use Rattle.mz_bodies.proofs.Grown.{tree_grown}
+use Rattle.mz_shared.proofs.Making.{tree_grown}
 use Rattle.mz_bodies.specs.declared.cells.Cell.{Cell}
 use Rattle.mz_bodies.proofs.Lists.{get_end, same_or_not}
 use Rattle.mz_bodies.proofs.Scoping.{outer_same, links_long}

@@ -1,6 +1,6 @@
 -- Ways outwards, put together.
 use Rattle.std.specs.Prelude.{ℕ, ◌≡◌, ◌≤◌, ◌<◌, List, length, Option, Some, None}
-use Rattle.std.proofs.Common.{arith, rules, subst, sym, refl}
+use Rattle.std.proofs.Common.{arith, subst, sym, refl}
 use Rattle.mz_bodies.specs.Sight.{Link, link_at, InSight, here, out, IsRightAt, AreRight}
 
 pub way_on : (ls : List Link) (c k j i d : ℕ) → InSight ls c k j → InSight ls j i d → InSight ls c i d

@@ -1,19 +1,20 @@
 -- A body that is being written: what is made so far, and what is owed.
-use Rattle.std.specs.Prelude.{ℕ, ◌≡◌, ◌<◌, ◌≤◌, ◌+◌, ◌⊎◌, ⊤, false, List, [], ◌∷◌, ◌++◌, length, map, take, slice_get, Contains, Option, Some}
+use Rattle.std.specs.Prelude.{ℕ, ◌≡◌, ◌<◌, ◌≤◌, ◌+◌, ◌⊎◌, false, List, [], ◌∷◌, ◌++◌, length, map, take, slice_get, Contains, Option, Some}
 use Rattle.mz_cmd.specs.declared.code.ProofCode.{ProofCode}
-use Rattle.mz_logic.specs.Tree.{Tree, var}
+use Rattle.mz_logic.specs.Tree.{Tree}
 use Rattle.mz_logic.specs.Declaration.{Declaration, sorts, signatures}
 use Rattle.mz_logic.specs.Legality.{IsLegalEnv}
 use Rattle.mz_logic.specs.Modifiers.{MayBeDummySort}
 use Rattle.mz_logic.specs.Words.{signatures_of}
 use Rattle.mz_logic.specs.declared.binder.Binder.{Binder}
-use Rattle.mz_store.specs.Sharing.{Sharing, IsIn, tree_of}
+use Rattle.mz_store.specs.Sharing.{Sharing, IsIn, Holds, tree_of}
 use Rattle.mz_store.specs.declared.item.Id.{Id}
 use Rattle.mz_unify.specs.Spells.{dummy_of}
 use Rattle.mz_unify.specs.Profile.{Item, expr, proof, strict}
 use Rattle.mz_machine.specs.Tables.{Kind, is_theorem}
 use Rattle.mz_steps.specs.Works.{Work, work_start}
-use Rattle.mz_steps.specs.Steps.{Steps, command_bytes}
+use Rattle.mz_steps.specs.SharedBodies.{Builds, AreDistinct, ArePlain}
+use Rattle.mz_steps.specs.Steps.{command_bytes}
 use Rattle.mz_steps.specs.Endings.{MayStand}
 use Rattle.mz_shared.specs.Instances.{Grows}
 use Rattle.mz_shared.specs.Places.{place_of}
@@ -22,8 +23,9 @@ use Rattle.mz_shared.specs.Variables.{IsShared}
 use Rattle.mz_bodies.specs.Sight.{links, parts, part_at, place_at, AreRight}
 use Rattle.mz_bodies.specs.Scopes.{in_sight}
 use Rattle.mz_bodies.specs.Claims.{IsSound}
-use Rattle.mz_bodies.specs.Owes.{Task, push, make, IsOfExpressions, claims, claim_of, Owes, to_do, left}
+use Rattle.mz_bodies.specs.Owes.{Task, IsOfExpressions, claims, claim_of, Owes, to_do, left}
 use Rattle.mz_bodies.specs.Lengths.{tasks_bytes, begun, waits, IsClear}
+use Rattle.mz_bodies.specs.Making.{IsFresh}
 use Rattle.mz_bodies.specs.declared.cells.Cell.{Cell}
 use Rattle.mz_bodies.specs.declared.body.Before.{Before}
 use Rattle.mz_bodies.specs.declared.body.Body.{Body}
@@ -54,6 +56,18 @@ pub record PlacesRight (env : List Declaration) (params : ℕ) (hyps : List Tree
   pub dummies : (x : ℕ) (b : Binder) → slice_get s.context x ≡ Some b → params ≤ x → (b ≡ dummy_of b.sort) × MayBeDummySort (sorts env) b.sort
   pub hypotheses : (k p : ℕ) → slice_get hyp_places k ≡ Some p → (e : Tree) × (slice_get hyps k ≡ Some e) × (slice_get heap p ≡ Some (proof e))
 
+-- the expression is kept, and has a place
+abbrev pub HasPlace : Sharing → List (Option ℕ) → Tree → Type 0
+HasPlace s places e = (i : ℕ) × (p : ℕ) × Holds s i e × (place_of places i ≡ Some p)
+
+-- the commands make the work from the start; what they build has a place, and nothing is built twice
+pub record HasBuilt (env : List Declaration) (params : List Binder) (s : Sharing) (places : List (Option ℕ)) (commands : List (ProofCode × ℕ)) (work : Work) : Type 0 where
+  pub trees : List Tree
+  pub builds : Builds false env s.context (work_start params) commands work trees
+  pub placed : (k : ℕ) (e : Tree) → slice_get trees k ≡ Some e → HasPlace s places e
+  pub distinct : AreDistinct trees
+  pub plain : ArePlain commands
+
 -- the commands, one after another
 abbrev pub spelled : List (ProofCode × ℕ) → List ℕ
 spelled [] = []
@@ -71,12 +85,12 @@ MayDo o tasks = MayProve o ⊎ IsOfExpressions tasks
 abbrev pub still : List Declaration → Sharing → List Cell → List Task → ℕ
 still env s cells tasks = tasks_bytes env s tasks + waits env (begun tasks) (place_at cells) 0 (parts cells)
 
--- steps from the start make a work that fits what is kept, and the tasks take its stack to the goal
+-- commands make a work that fits what is kept, building no application twice, and the tasks take its stack to the goal
 pub record IsGoing (env : List Declaration) (o : Job) (s : Sharing) (vars : List Id) (places : List (Option ℕ)) (len : ℕ) (hyp_places : List ℕ) (cells : List Cell)
     (tasks : List Task) (bytes : List ℕ) : Type 0 where
   pub commands : List (ProofCode × ℕ)
   pub work : Work
-  pub steps : Steps false env s.context (work_start o.params) commands work
+  pub has_built : HasBuilt env o.params s places commands work
   pub may_stand : MayStand strict o.kind commands
   pub written : bytes ≡ spelled commands
   pub assumed : work.hyps ≡ take o.count o.hyps
@@ -89,6 +103,7 @@ pub record IsGoing (env : List Declaration) (o : Job) (s : Sharing) (vars : List
   pub may_do : MayDo o tasks
   pub owes : Owes env s.context o.hyps s (parts cells) work.stack tasks o.goal
   pub clear : IsClear (parts cells) tasks
+  pub fresh : IsFresh s places tasks
   pub short : length bytes + still env s cells tasks ≤ o.budget
 
 -- the declarations before a statement, and their words

@@ -8,3 +8,4 @@ pub mod Going
 pub mod Stages
 pub mod Weights
 pub mod Lengths
+pub mod Making

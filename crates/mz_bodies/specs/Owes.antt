@@ -1,10 +1,9 @@
 -- What a list of tasks owes: each task takes one stack to the next.
-use Rattle.std.specs.Prelude.{ℕ, ◌≡◌, ◌<◌, ◌+◌, ◌*◌, ⊤, false, List, [], ◌∷◌, ◌++◌, length, map, reverse, get_or, slice_get, Option, Some, None}
+use Rattle.std.specs.Prelude.{ℕ, ◌≡◌, ◌<◌, ◌+◌, ◌*◌, ⊤, false, List, [], ◌∷◌, ◌++◌, length, map, reverse, Option, Some}
 use Rattle.mz_cmd.specs.declared.code.ProofCode.{ProofCode}
-use Rattle.mz_logic.specs.Tree.{Tree, Trees, app, listed, instance, size, trees_size}
+use Rattle.mz_logic.specs.Tree.{Tree, Trees, listed, instance, size, trees_size}
 use Rattle.mz_logic.specs.Declaration.{Declaration}
 use Rattle.mz_logic.specs.Conversions.{Conversion, Conversions, Between, AllBetween}
-use Rattle.mz_logic.specs.View.{tree}
 use Rattle.mz_logic.specs.declared.binder.Binder.{Binder}
 use Rattle.mz_store.specs.Sharing.{Sharing, IsIn, tree_of, head_of, operands_of}
 use Rattle.mz_unify.specs.Profile.{Item, expr, proof, obligation}
@@ -14,6 +13,7 @@ use Rattle.mz_mmu.specs.ProofView.{proof_view, proofs_view}
 use Rattle.mz_mmu.specs.ConvView.{conversion, conversions}
 use Rattle.mz_steps.specs.Works.{Work}
 use Rattle.mz_steps.specs.Steps.{stacked, above, Step}
+use Rattle.mz_steps.specs.SharedBodies.{built, IsPlain}
 use Rattle.mz_bodies.specs.Sight.{Part, part_at, IsThere}
 use Rattle.mz_bodies.specs.Scopes.{in_sight, scopes}
 use Rattle.mz_bodies.specs.Claims.{proved, all_proved, conclusion_of, IsCitable, IsSound, AreSound}
@@ -58,6 +58,10 @@ claim_of env hyps ps c = proved env hyps (in_sight (claims env hyps ps) (part_at
 abbrev pub let_costs : List Declaration → List Part → List (List ℕ)
 let_costs env ps = scopes (cost env) ps
 
+-- the command is written in its one way, and builds nothing
+abbrev pub IsGiven : ProofCode → ℕ → Type 0
+IsGiven code value = IsPlain (code, value) × ((w : Work) → built code w ≡ [])
+
 -- the task takes the stack xs to the stack ys, under the expressions that are kept and the lets that are open
 abbrev pub Turns : List Declaration → List Binder → List Tree → Sharing → List Part → Task → List (Item Tree) → List (Item Tree) → Type 0
 Turns env ctx hyps s ps (prove p chain) xs ys = IsThere (length ps) chain × IsSound env ctx hyps (in_sight (claims env hyps ps) chain) p
@@ -71,7 +75,7 @@ Turns env ctx hyps s ps (make i) xs ys = IsIn s i × (t : ℕ) × (head_of (tree
     × (rest : List (Item Tree)) × (xs ≡ above (listed (operands_of (tree_of s i))) rest) × (ys ≡ expr (tree_of s i) ∷ rest)
 Turns env ctx hyps s ps (pay c) xs ys = (l : Tree) × (r : Tree) × Between env ctx c l r × (xs ≡ obligation l r ∷ ys)
 Turns env ctx hyps s ps (pay_all cs) xs ys = (ls : Trees) × (rs : Trees) × AllBetween env ctx cs ls rs × (xs ≡ sides (listed ls) (listed rs) ys)
-Turns env ctx hyps s ps (give code value) xs ys = (w : Work) → w.stack ≡ xs → Step false env ctx w code value (stacked w ys)
+Turns env ctx hyps s ps (give code value) xs ys = IsGiven code value × ((w : Work) → w.stack ≡ xs → Step false env ctx w code value (stacked w ys))
 Turns env ctx hyps s ps (save c) xs ys = (c < length ps) × (rest : List (Item Tree)) × (xs ≡ proof (claim_of env hyps ps c) ∷ rest) × (ys ≡ xs)
 
 -- the tasks, one after another, take the stack to the goal

@@ -1,5 +1,5 @@
 -- Cells that are linked outwards, and which of them are in sight.
-use Rattle.std.specs.Prelude.{ℕ, ◌≡◌, ◌<◌, ◌≤◌, ◌+◌, ⊤, List, [], ◌∷◌, map, get_or, length, Option, Some, None}
+use Rattle.std.specs.Prelude.{ℕ, ◌≡◌, ◌<◌, ◌≤◌, ◌+◌, ⊤, List, map, get_or, length, Option, Some, None}
 use Rattle.mz_mmu.specs.Proof.{Proof, by_hyp}
 use Rattle.mz_mmu.specs.ProofView.{proof_view}
 use Rattle.mz_bodies.specs.declared.cells.Cell.{Cell}

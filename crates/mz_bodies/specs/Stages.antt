@@ -1,19 +1,19 @@
 -- The stages of a body: its beginning, a hypothesis, an expression, a proof, and its end.
-use Rattle.std.specs.Prelude.{ℕ, ◌≡◌, ◌<◌, ◌≤◌, ◌+◌, ⊤, true, List, [], ◌∷◌, ◌++◌, length, slice_get, Some, Option, None}
+use Rattle.std.specs.Prelude.{ℕ, ◌≡◌, ◌≤◌, ◌+◌, true, List, [], ◌∷◌, length, slice_get, Some}
 use Rattle.mz_cmd.specs.declared.code.ProofCode.TheVariants as code
-use Rattle.mz_logic.specs.Tree.{Tree, Trees, var, listed}
+use Rattle.mz_logic.specs.Tree.{Tree, listed}
 use Rattle.mz_logic.specs.Declaration.{Declaration, sorts, signatures}
 use Rattle.mz_logic.specs.Modifiers.{MayBeDummySort}
 use Rattle.mz_logic.specs.Sorts.{HasProvable}
 use Rattle.mz_logic.specs.declared.binder.Binder.{Binder}
-use Rattle.mz_store.specs.Sharing.{Sharing, IsIn, AreIn, Holds, tree_of, trees_of}
+use Rattle.mz_store.specs.Sharing.{Sharing, IsIn, AreIn, tree_of, trees_of}
 use Rattle.mz_store.specs.declared.item.Id.{Id}
-use Rattle.mz_unify.specs.Profile.{Item, expr, proof, strict}
+use Rattle.mz_unify.specs.Profile.{Item, strict}
 use Rattle.mz_unify.specs.Spells.{dummy_of}
 use Rattle.mz_machine.specs.Bodies.{stands_in}
 use Rattle.mz_machine.specs.Tables.{Kind}
 use Rattle.mz_mmu.specs.Proof.{Proof}
-use Rattle.mz_bodies.specs.Claims.{proved, IsSound}
+use Rattle.mz_bodies.specs.Claims.{IsSound}
 use Rattle.mz_shared.specs.Variables.{IsShared}
 use Rattle.mz_bodies.specs.Going.{Job, MayProve, Does}
 use Rattle.mz_bodies.specs.declared.body.Body.{Body}

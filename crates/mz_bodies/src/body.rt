@@ -282,6 +282,7 @@ impl<'t> Body<'t> {
         ensures less { OnOk result (steps_left self.new [] < steps_left self.old (make id.0 ∷ [])) }
         ensures same { OnOk result (self.new.before ≡ self.old.before) }
     {
+        self.shared.store.once();
         match self.shared.store.head(id) {
             None => unreachable!(),
             Some(term) => {

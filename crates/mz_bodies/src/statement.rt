@@ -6,7 +6,7 @@ ghost use Rattle.mz_logic.specs.declared.binder.Binder.{Binder as BinderOf};
 ghost use Rattle.mz_machine.specs.Premises.{bound_count};
 ghost use Rattle.mz_machine.specs.Tables.{is_axiom, is_definition, is_theorem};
 ghost use Rattle.mz_mmu.specs.ProofView.{proof_view};
-ghost use Rattle.mz_steps.specs.Bodies.{IsBody};
+ghost use Rattle.mz_steps.specs.SharedBodies.{IsSharedBody};
 ghost use Rattle.mz_store.specs.Sharing.{AreIn, IsIn, tree_of, trees_of};
 ghost use Rattle.mz_bodies.specs.Claims.{IsSound, proved};
 ghost use Rattle.mz_bodies.specs.Going.{IsAfter};
@@ -39,7 +39,7 @@ pub fn definition_body(
     requires few { bound_count shared.store.context ≤ 55 }
     requires inside { IsIn shared.store body.0 }
     ensures body { IfOk result (λ b. (ps ds : List BinderOf) → shared.store.context ≡ ps ++ ds → length ps ≡ params
-        → IsBody before.entry.env.now is_definition ps ds (tree_of shared.store body.0) [] b.items) }
+        → IsSharedBody before.entry.env.now is_definition ps ds (tree_of shared.store body.0) [] b.items) }
     ensures short { IfOk result (λ b. length b.items ≤ 6 * size (tree_of shared.store body.0) + 1) }
 {
     let mut written = Body::new(alloc, before, shared, params)?;
@@ -68,7 +68,7 @@ pub fn axiom_body(
     requires hyps { AreIn shared.store hyps.now }
     requires provable { AreProvable before.env.now shared.store.context (trees_of shared.store hyps.now) }
     ensures body { IfOk result (λ b. (ps ds : List BinderOf) → shared.store.context ≡ ps ++ ds → length ps ≡ params
-        → IsBody before.entry.env.now is_axiom ps ds (tree_of shared.store conclusion.0) (listed (trees_of shared.store hyps.now)) b.items) }
+        → IsSharedBody before.entry.env.now is_axiom ps ds (tree_of shared.store conclusion.0) (listed (trees_of shared.store hyps.now)) b.items) }
     ensures short { IfOk result (λ b. length b.items ≤ 6 * (trees_size (trees_of shared.store hyps.now) + size (tree_of shared.store conclusion.0)) + 1) }
 {
     let mut written = Body::new(alloc, before, shared, params)?;
@@ -98,7 +98,7 @@ pub fn theorem_body(
     requires provable { AreProvable before.env.now shared.store.context (trees_of shared.store hyps.now) }
     requires sound { IsSound before.env.now shared.store.context (listed (trees_of shared.store hyps.now)) [] (proof_view proof.now) }
     ensures body { IfOk result (λ b. (ps ds : List BinderOf) → shared.store.context ≡ ps ++ ds → length ps ≡ params
-        → IsBody before.entry.env.now is_theorem ps ds (proved before.entry.env.now (listed (trees_of shared.store hyps.now)) [] (proof_view proof.now))
+        → IsSharedBody before.entry.env.now is_theorem ps ds (proved before.entry.env.now (listed (trees_of shared.store hyps.now)) [] (proof_view proof.now))
         (listed (trees_of shared.store hyps.now)) b.items) }
     ensures short { IfOk result (λ b. length b.items ≤ 6 * (trees_size (trees_of shared.store hyps.now) + proof_weight before.entry.env.now (proof_view proof.now)) + 1) }
 {

@@ -1,11 +1,10 @@
 -- Stated proofs are sound, and prove what they derive.
-use Rattle.std.specs.Prelude.{ℕ, suc, zero, ◌≡◌, ◌<◌, ⊤, List, [], ◌∷◌, ◌++◌, length, slice_get, Option, Some}
+use Rattle.std.specs.Prelude.{ℕ, suc, zero, ◌≡◌, ◌<◌, ⊤, List, [], ◌∷◌, ◌++◌, length, slice_get, Some}
 use Rattle.std.proofs.Common.{refl, sym, ap, ◌∙◌, subst, arith}
 use Rattle.std.proofs.lemmas.Option.{get_or_from_slice_get, slice_get_within}
 use Rattle.std.proofs.lemmas.List.{length-append}
-use Rattle.mz_logic.specs.Tree.{Tree, Trees, app, none, more, listed, instance, instances}
+use Rattle.mz_logic.specs.Tree.{Tree, Trees, none, more, listed, instance, instances}
 use Rattle.mz_logic.specs.Declaration.{Assertion, Declaration, signatures, assertions}
-use Rattle.mz_logic.specs.Sorts.{HasSort, Fits}
 use Rattle.mz_logic.specs.Legality.{IsLegalEnv}
 use Rattle.mz_logic.specs.Conversions.{Between}
 use Rattle.mz_logic.specs.Derivations.{Derivation, Derivations, hypothesis, cite, convert, gap, no_derivs, more_derivs, Derives, AllDerive}
@@ -17,7 +16,7 @@ use Rattle.mz_type.specs.Meaning.{derivation_at, then_deriv, derivation, derivat
 use Rattle.mz_type.specs.Names.{ProofThere, ProofsThere}
 use Rattle.mz_shared.specs.Instances.{InReach}
 use Rattle.mz_bodies.specs.Claims.{claim_at, conclusion_of, proved, all_proved, IsCitable, IsSound, AreSound}
-use Rattle.mz_bodies.proofs.Grown.{reach_of_sort}
+use Rattle.mz_shared.proofs.Owned.{reach_of_sort}
 use Rattle.mz_bodies.proofs.Paying.{fits_long}
 use Rattle.mz_claims.specs.Laws.{StatedProofsAreSound}
 

@@ -1,7 +1,7 @@
 -- The weights of stated proofs are those of the text's limits.
 use Rattle.std.specs.Prelude.{ℕ, ◌≡◌, ◌+◌, List}
-use Rattle.std.proofs.Common.{refl, sym, ap, ◌∙◌, arith}
-use Rattle.mz_logic.specs.Tree.{Tree, app, none, instance, followed_by, variables, size}
+use Rattle.std.proofs.Common.{refl, ap, arith}
+use Rattle.mz_logic.specs.Tree.{Tree, instance, followed_by, variables, size}
 use Rattle.mz_logic.specs.Declaration.{Form, plain_form, abstract_form, defined, Declaration}
 use Rattle.mz_logic.specs.Conversions.{Conversion, Conversions, refl_conv, sym_conv, cong_conv, unfold_conv, gap_conv, no_convs, more_convs}
 use Rattle.mz_mmu.specs.Proof.{Proof, Proofs, by_hyp, by_name, by_citation, by_conv, by_let, no_proofs, more_proofs}

@@ -1,5 +1,5 @@
 -- Stated proofs, as a body is written for them.
-use Rattle.std.specs.Prelude.{ℕ, ◌≡◌, List, [], length}
+use Rattle.std.specs.Prelude.{◌≡◌, List, [], length}
 use Rattle.mz_logic.specs.Tree.{listed}
 use Rattle.mz_logic.specs.Declaration.{Assertion, Declaration, signatures, assertions}
 use Rattle.mz_logic.specs.Legality.{IsLegalEnv}

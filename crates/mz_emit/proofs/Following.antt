@@ -1,5 +1,5 @@
 -- Each statement of a well-typed text within the limits may follow those before it.
-use Rattle.std.proofs.Common.{ℕ, zero, suc, ◌≡◌, ◌≤◌, ◌<◌, ◌+◌, List, [], ◌∷◌, ◌++◌, length, take, All, refl, subst, ap, arith, append_assoc}
+use Rattle.std.proofs.Common.{ℕ, zero, suc, ◌≤◌, ◌<◌, ◌+◌, List, [], ◌∷◌, ◌++◌, length, take, All, sym, subst, ap, arith, append_assoc, append-nil}
 use Rattle.std.proofs.lemmas.List.Elements.{All-get_or}
 use Rattle.mz_checks.specs.Checks.{AllHold}
 use Rattle.mz_checks.proofs.InOrder.{all_hold-first, all_hold-rest}
@@ -15,14 +15,10 @@ use Rattle.mz_type.specs.TypedText.{statement_at, declared}
 use Rattle.mz_type.specs.Weight.{Limit, parameter_limit, bound_limit, params_of, parameter_count, bound_count, statement_weight, weight_after, weight_of, byte_bound, each_within, IsWithinLimits}
 use Rattle.mz_emit.specs.Emitting.{IsStated, MayFollow}
 
-none_behind : (env : List Declaration) → env ≡ env ++ []
-none_behind [] = refl
-none_behind (d ∷ env) = ap (λ ds. d ∷ ds) (none_behind env)
-
 legal_at : (env : List Declaration) (ss : List Statement) (i : ℕ) → LegalAsStatedAfter env ss → i < length ss
     → IsLegalAsStated (env ++ declared (take i ss)) (statement_at ss i)
 legal_at env [] i h below = absurd (omega arith)
-legal_at env (s ∷ ss) zero h below = subst (λ e. IsLegalAsStated e s) (none_behind env) h.0
+legal_at env (s ∷ ss) zero h below = subst (λ e. IsLegalAsStated e s) (sym (append-nil env)) h.0
 legal_at env (s ∷ ss) (suc i) h below =
     subst (λ e. IsLegalAsStated e (statement_at ss i)) (append_assoc env (s.decl ∷ []) (declared (take i ss)))
     (legal_at (env ++ s.decl ∷ []) ss i h.1 (omega arith))
@@ -30,7 +26,7 @@ legal_at env (s ∷ ss) (suc i) h below =
 words_at : (env : List Declaration) (ss : List Statement) (i : ℕ) → CanBeWordsAfter env ss → i < length ss
     → CanBeWords (sorts (env ++ declared (take i ss))) (params_of (statement_at ss i).decl)
 words_at env [] i h below = absurd (omega arith)
-words_at env (s ∷ ss) zero h below = subst (λ e. CanBeWords (sorts e) (params_of s.decl)) (none_behind env) h.0
+words_at env (s ∷ ss) zero h below = subst (λ e. CanBeWords (sorts e) (params_of s.decl)) (sym (append-nil env)) h.0
 words_at env (s ∷ ss) (suc i) h below =
     subst (λ e. CanBeWords (sorts e) (params_of (statement_at ss i).decl)) (append_assoc env (s.decl ∷ []) (declared (take i ss)))
     (words_at (env ++ s.decl ∷ []) ss i h.1 (omega arith))
@@ -38,7 +34,7 @@ words_at env (s ∷ ss) (suc i) h below =
 there_at : (env : List Declaration) (ss : List Statement) (i : ℕ) → StatementsThere env ss → i < length ss
     → StatementThere (env ++ declared (take i ss)) (statement_at ss i)
 there_at env [] i h below = absurd (omega arith)
-there_at env (s ∷ ss) zero h below = subst (λ e. StatementThere e s) (none_behind env) h.0
+there_at env (s ∷ ss) zero h below = subst (λ e. StatementThere e s) (sym (append-nil env)) h.0
 there_at env (s ∷ ss) (suc i) h below =
     subst (λ e. StatementThere e (statement_at ss i)) (append_assoc env (s.decl ∷ []) (declared (take i ss)))
     (there_at (env ++ s.decl ∷ []) ss i h.1 (omega arith))
@@ -58,7 +54,7 @@ few_at l amount most (s ∷ ss) (suc i) h below = few_at l amount most ss i h.1 
 weight_at : (env : List Declaration) (ss : List Statement) (i : ℕ) → i < length ss
     → weight_after env (take i ss) + statement_weight (env ++ declared (take i ss)) (statement_at ss i) ≤ weight_after env ss
 weight_at env [] i below = absurd (omega arith)
-weight_at env (s ∷ ss) zero below = omega (arith, ap (λ e. statement_weight e s) (none_behind env))
+weight_at env (s ∷ ss) zero below = omega (arith, ap (λ e. statement_weight e s) (sym (append-nil env)))
 weight_at env (s ∷ ss) (suc i) below =
     omega (
       arith,

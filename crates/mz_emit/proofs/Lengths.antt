@@ -1,5 +1,5 @@
 -- How much the parts of a text cost, statement by statement.
-use Rattle.std.proofs.Common.{ℕ, ◌≡◌, ◌≤◌, ◌+◌, ◌*◌, List, [], ◌∷◌, ◌++◌, length, refl, ap, arith, append_assoc, length-append}
+use Rattle.std.proofs.Common.{ℕ, ◌≡◌, ◌≤◌, ◌+◌, ◌*◌, List, [], ◌∷◌, ◌++◌, length, ap, arith, append_assoc, append-nil, length-append}
 use Rattle.mz_logic.specs.Declaration.{Declaration}
 use Rattle.mz_layout.specs.Normal.{Row, Written, Parts, file_length}
 use Rattle.mz_layout.specs.NormalLaws.{rows_cost, statements_cost, LengthIsBounded}
@@ -10,13 +10,9 @@ use Rattle.mz_type.specs.Weight.{statement_weight, weight_after, weight_of, byte
 
 -- ---- the weight of one more statement
 
-append_nil : (env : List Declaration) → env ++ [] ≡ env
-append_nil [] = refl
-append_nil (d ∷ env) = ap (λ ds. d ∷ ds) (append_nil env)
-
 pub weight_more : (env : List Declaration) (ss : List Statement) (s : Statement)
     → weight_after env (ss ++ s ∷ []) ≡ weight_after env ss + statement_weight (env ++ declared ss) s
-weight_more env [] s = omega (arith, ap (λ d. statement_weight d s) (append_nil env))
+weight_more env [] s = omega (arith, ap (λ d. statement_weight d s) (append-nil env))
 weight_more env (t ∷ ss) s =
     let e : (env ++ t.decl ∷ []) ++ declared ss ≡ env ++ (t.decl ∷ declared ss) = append_assoc env (t.decl ∷ []) (declared ss) in
     omega (arith, weight_more (env ++ t.decl ∷ []) ss s, ap (λ d. statement_weight d s) e)

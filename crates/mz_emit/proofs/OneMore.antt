@@ -106,7 +106,7 @@ module _ (ss : List Statement) (p : Parts) (h : HasWritten ss p) where
         (stated (with_term p r w) w
         (subst (λ d. HasKind code (record { is_local = s.is_local; decl = decl_spelled d })) (sym e) kind)
         (subst (λ d. IsWrittenDeclaration (with_term p r w) (declared ss) s.is_local d (decl_spelled d) bytes) (sym e)
-        ((refl, same), (words_of sg.params, result_word sg.params sg.result, say, (stream, (appended-next p (declared ss) counted).1 r, says.spells, says.makes)))))
+        ((refl, same), (words_of sg.params, result_word sg.params sg.result, say, (stream, (appended-next p (declared ss) counted).1 r, says.text, says.makes)))))
         (omega (arith, term_more p w r, ap declaration_weight e, length-append (words_of sg.params) (result_word sg.params sg.result ∷ []), words_many 0 [] sg.params, says.short))
 
     pub assertion_next : (a : Assertion) (dummies : List Binder) (weight code : ℕ) (stream bytes : List ℕ)
@@ -122,7 +122,7 @@ module _ (ss : List Statement) (p : Parts) (h : HasWritten ss p) where
           stream = stream;
           row = (appended-next p (declared ss) counted).2 r;
           say = say;
-          spells = says.spells;
+          text = says.text;
           dummies = dummies;
           are_dummies = free;
           body = says.makes;

@@ -1,5 +1,5 @@
 -- The rows of one statement more.
-use Rattle.std.proofs.Common.{ℕ, ◌≡◌, List, [], ◌∷◌, ◌++◌, ◌∙◌, ◌⊎◌, map, refl, sym, subst, ap, arith}
+use Rattle.std.proofs.Common.{ℕ, ◌≡◌, List, [], ◌∷◌, ◌++◌, ◌∙◌, ◌⊎◌, map, refl, sym, subst, ap, arith, append-nil}
 use Rattle.std.specs.Prelude.{Option, Some, None, option_map}
 use Rattle.std.specs.Borrow.{Bor}
 use Rattle.mz_logic.specs.Tree.{Tree, none, more}
@@ -71,16 +71,12 @@ module _ (b : List Statement) (s : Statement) (follows : MayFollow b s) where
           ∙ ap signatures (sym (declared_more b s));
     }
 
-    nothing_more : {A : Type 0} (xs : List A) → xs ≡ xs ++ []
-    nothing_more [] = refl
-    nothing_more (x ∷ xs) = ap (λ ys. x ∷ ys) (nothing_more xs)
-
     pub sort_rows : (m : SortMods) → s.decl ≡ sort_decl m → e'.writer ≡ with_sort e.writer m.0 → e'.table.sorts.items ≡ e.table.sorts.items ++ m ∷ []
         → e'.table.terms.items ≡ e.table.terms.items → HasRows (b ++ s ∷ []) e'
     sort_rows m is writer grew same =
         next (subst (HasWritten (b ++ s ∷ [])) (sym writer) (sort_next b e.writer rows.written s m is (sort_unmarked b s follows m is)))
         (grew ∙ ap (λ d. e.table.sorts.items ++ sorts (d ∷ [])) (sym is))
-        (ap (λ rs. signatures_of (map words_of_row rs)) same ∙ nothing_more (table_of e) ∙ ap (λ d. table_of e ++ signatures (d ∷ [])) (sym is))
+        (ap (λ rs. signatures_of (map words_of_row rs)) same ∙ sym (append-nil (table_of e)) ∙ ap (λ d. table_of e ++ signatures (d ∷ [])) (sym is))
 
     pub plain_rows : (sg : Signature) → s.decl ≡ term_decl (record { signature = sg; form = plain_form })
         → e'.writer ≡ with_term e.writer (term_row sg None) (record { code = 0x05; body = [] }) → e'.table.sorts.items ≡ e.table.sorts.items
@@ -88,7 +84,7 @@ module _ (b : List Statement) (s : Statement) (follows : MayFollow b s) where
     plain_rows sg is writer same grew =
         next (subst (HasWritten (b ++ s ∷ [])) (sym writer)
         (plain_next b e.writer rows.written s sg is (plain_unmarked b s follows sg is) (term_words b s follows sg plain_form is).say))
-        (same ∙ nothing_more e.table.sorts.items ∙ ap (λ d. e.table.sorts.items ++ sorts (d ∷ [])) (sym is))
+        (same ∙ sym (append-nil e.table.sorts.items) ∙ ap (λ d. e.table.sorts.items ++ sorts (d ∷ [])) (sym is))
         (grew ∙ ap (λ d. table_of e ++ signatures (d ∷ [])) (sym is))
 
     pub definition_rows : (sg : Signature) (dummies : List Binder) (body : Tree) (code : ℕ) (stream bytes : List ℕ)
@@ -101,7 +97,7 @@ module _ (b : List Statement) (s : Statement) (follows : MayFollow b s) where
         next (subst (HasWritten (b ++ s ∷ [])) (sym writer)
         (definition_next b e.writer rows.written s sg dummies body code stream bytes is kind (term_words b s follows sg (defined dummies body) is).say
         (same_form b s follows sg dummies body (definition_can b s follows sg dummies body is)) says))
-        (same ∙ nothing_more e.table.sorts.items ∙ ap (λ d. e.table.sorts.items ++ sorts (d ∷ [])) (sym is))
+        (same ∙ sym (append-nil e.table.sorts.items) ∙ ap (λ d. e.table.sorts.items ++ sorts (d ∷ [])) (sym is))
         (grew ∙ ap (λ d. table_of e ++ signatures (d ∷ [])) (sym is))
 
     pub assertion_rows : (a : Assertion) (code : ℕ) (stream bytes : List ℕ) → s.decl ≡ assertion_decl a → code ≡ assertion_code a.is_axiom s.is_local
@@ -115,5 +111,5 @@ module _ (b : List Statement) (s : Statement) (follows : MayFollow b s) where
         (words-say-params (sorts (declared b)) a.params (thm_words b s follows a is))
         (λ i d at. (each_from_all IsDummy s.dummies can.ready.dummies_are i d at).1) says
         (let e = stated_same (declared b) s.proof in omega (arith, e))))
-        (ap (λ (t : Table). t.sorts.items) same ∙ nothing_more e.table.sorts.items ∙ ap (λ d. e.table.sorts.items ++ sorts (d ∷ [])) (sym is))
-        (ap (λ (t : Table). signatures_of (map words_of_row t.terms.items)) same ∙ nothing_more (table_of e) ∙ ap (λ d. table_of e ++ signatures (d ∷ [])) (sym is))
+        (ap (λ (t : Table). t.sorts.items) same ∙ sym (append-nil e.table.sorts.items) ∙ ap (λ d. e.table.sorts.items ++ sorts (d ∷ [])) (sym is))
+        (ap (λ (t : Table). signatures_of (map words_of_row t.terms.items)) same ∙ sym (append-nil (table_of e)) ∙ ap (λ d. table_of e ++ signatures (d ∷ [])) (sym is))

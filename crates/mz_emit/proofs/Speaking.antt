@@ -1,8 +1,8 @@
 -- What the streams and bodies of a statement say.
-use Rattle.std.proofs.Common.{ℕ, get_or, zero, suc, ◌≡◌, ◌≤◌, ◌<◌, ◌+◌, ◌*◌, length-append, Bool, true, false, if◌then◌else◌, List, [], ◌∷◌, ◌++◌, length, All, refl, sym, subst, ap, ◌∙◌, arith}
+use Rattle.std.proofs.Common.{ℕ, zero, suc, ◌≡◌, ◌≤◌, ◌+◌, ◌*◌, length-append, append-nil, Bool, true, false, if◌then◌else◌, List, [], ◌∷◌, ◌++◌, length, All, refl, sym, subst, ap, ◌∙◌, arith}
 use Rattle.std.specs.Prelude.{Option, Some, None, slice_get}
 use Rattle.std.proofs.lemmas.List.Elements.{All-head, All-tail}
-use Rattle.mz_logic.specs.Tree.{Tree, Trees, app, none, more, listed, size, trees_size}
+use Rattle.mz_logic.specs.Tree.{Tree, Trees, none, more, listed, size, trees_size}
 use Rattle.mz_logic.specs.Signature.{Signature}
 use Rattle.mz_logic.specs.Declaration.{Assertion, Declaration, sorts, signatures}
 use Rattle.mz_logic.specs.Legality.{IsDummy}
@@ -10,26 +10,29 @@ use Rattle.mz_logic.specs.Sorts.{HasSort, HasProvable, AreProvable}
 use Rattle.mz_logic.specs.Words.{binders_of}
 use Rattle.mz_logic.specs.declared.binder.Binder.{Binder}
 use Rattle.mz_logic.specs.declared.word.Word.{Word}
+use Rattle.mz_logic.proofs.Extend.{extends_append}
 use Rattle.mz_logic.proofs.Lists.{each_from_all}
 use Rattle.mz_logic.proofs.Longer.{keep_sorts}
 use Rattle.mz_store.specs.Bits.{bound_from, bound_vars}
-use Rattle.mz_store.specs.Sharing.{Sharing, Shared as Entry, Holds, tree_of}
+use Rattle.mz_store.specs.Sharing.{Sharing, Holds, tree_of}
 use Rattle.mz_store.specs.declared.item.Id.{Id}
 use Rattle.mz_unify.specs.Sorted.{Sorted, AllSorted}
-use Rattle.mz_unify.specs.Spells.{dummy_of, Text}
+use Rattle.mz_unify.specs.Spells.{dummy_of}
 use Rattle.mz_unify.specs.Streams.{of_definition, of_assertion}
 use Rattle.mz_machine.specs.Lists.{kind_of}
 use Rattle.mz_machine.specs.Premises.{bound_count as bound_in}
 use Rattle.mz_machine.specs.Tables.{is_theorem, is_definition}
 use Rattle.mz_machine.proofs.BeforeLaws.{binders_many}
 use Rattle.mz_mmu.specs.Proof.{Proof}
-use Rattle.mz_steps.specs.Bodies.{IsBody}
+use Rattle.mz_steps.specs.SharedBodies.{IsSharedBody}
 use Rattle.mz_streams.specs.Laws.{IsSmall}
+use Rattle.mz_streams.specs.SharedTexts.{IsSharedText}
 use Rattle.mz_streams.specs.Writing.{assertion_written, definition_written, body_spelled, dummies_spelled, stream_of}
 use Rattle.mz_streams.proofs.Short.{assertions-short, definitions-short, assertions-bounded, definitions-bounded}
-use Rattle.mz_streams.proofs.Texts.{assertions-written, definitions-written}
+use Rattle.mz_streams.proofs.Texts.{assertions-written, definitions-written, assertions-shared, definitions-shared}
 use Rattle.mz_shared.specs.Instances.{Grows, InReach, AllInReach, AreSorted}
 use Rattle.mz_shared.specs.Variables.{IsShared}
+use Rattle.mz_shared.proofs.Making.{tree_grown}
 use Rattle.mz_shared.proofs.Owned.{reach_of_sort}
 use Rattle.mz_spell.specs.Params.{HasParams}
 use Rattle.mz_bodies.specs.Claims.{IsSound}
@@ -89,26 +92,25 @@ few_words ws few = omega (arith, few, binders_many ws)
 
 -- ---- what a store keeps
 
-got_left : {A : Type 0} (xs ys : List A) (i : ℕ) (d : A) → i < length xs → get_or (xs ++ ys) i d ≡ get_or xs i d
-got_left [] ys i d below = absurd (omega (arith, below))
-got_left (x ∷ xs) ys zero d below = refl
-got_left (x ∷ xs) ys (suc i) d below = got_left xs ys i d (omega (arith, below))
-
 pub held_after : (s s' : Sharing) (i : ℕ) (e : Tree) → Grows s s' → Holds s i e → tree_of s' i ≡ e
-held_after s s' i e (_, _, (last, is)) (inside, holds) =
-    let none_there : Entry = record { tree = app 0 none; sort = 0; deps = 0 } in
-    ap (λ (xs : List Entry). (get_or xs i none_there).tree) is ∙ ap (λ (x : Entry). x.tree) (got_left s.entries last i none_there inside) ∙ holds
+held_after s s' i e grows (inside, holds) = tree_grown s s' grows i inside ∙ holds
 
 -- ---- definitions
 
 pub definition_says : (env : List Declaration) (ps ds : List Binder) (e t : Tree) (stream bytes : List ℕ) → CanBeDefined env ps ds e → t ≡ e
-    → stream ≡ stream_of (definition_written ps ds t).commands → IsBody env is_definition ps ds t [] bytes → length bytes ≤ 6 * size t + 1 → SaysDefinition env ps ds e stream bytes
+    → stream ≡ stream_of (definition_written ps ds t).commands → IsSharedBody env is_definition ps ds t [] bytes → length bytes ≤ 6 * size t + 1 → SaysDefinition env ps ds e stream bytes
 definition_says env ps ds e t stream bytes can is spelled makes short = record {
-  spells = λ further.
-      let written = definitions-written (signatures env) ps ds e can.sorted (definitions-short (signatures env) ps ds e can.ready.small can.sorted can.short) further in
+  text =
+      let short_ones = definitions-short (signatures env) ps ds e can.ready.small can.sorted can.short in
       let same : stream_of (definition_written ps ds e).commands ≡ stream = ap (λ x. stream_of (definition_written ps ds x).commands) (sym is) ∙ sym spelled in
-      subst (λ bs. Text of_definition (signatures env) ps (bs ++ further) none (body_spelled ps ds e) (dummies_spelled ps ds e)) same written;
-  makes = subst (λ x. IsBody env is_definition ps ds x [] bytes) is makes;
+      subst (λ bs. IsSharedText of_definition (signatures env) ps bs none (body_spelled ps ds e) (dummies_spelled ps ds e)) same (record {
+        commands = (definition_written ps ds e).commands;
+        written = refl;
+        short = short_ones;
+        spells = definitions-written (signatures env) ps ds e can.sorted short_ones;
+        shares = definitions-shared (signatures env) ps ds e can.sorted short_ones;
+      });
+  makes = subst (λ x. IsSharedBody env is_definition ps ds x [] bytes) is makes;
   short =
       let stream_short = definitions-bounded (signatures env) ps ds e can.ready.small can.sorted in
       let same : length stream ≡ length (stream_of (definition_written ps ds e).commands) = ap length spelled ∙ ap (λ x. length (stream_of (definition_written ps ds x).commands)) is in
@@ -117,21 +119,12 @@ definition_says env ps ds e t stream bytes can is spelled makes short = record {
 
 -- ---- axioms and theorems
 
-front : (ps ds : List Binder) (x : ℕ) (b : Binder) → slice_get ps x ≡ Some b → slice_get (ps ++ ds) x ≡ Some b
-front [] ds x b e = absurd (let n : None ≡ Some b = e in cc)
-front (p ∷ ps) ds zero b e = e
-front (p ∷ ps) ds (suc x) b e = front ps ds x b e
-
 small_front : (sigs : List Signature) (ps ds : List Binder) → IsSmall sigs (ps ++ ds) → IsSmall sigs ps
-small_front sigs ps ds small = record { terms = small.terms; sorts = λ x b e. small.sorts x b (front ps ds x b e) }
-
-none_behind : (env : List Declaration) → env ++ [] ≡ env
-none_behind [] = refl
-none_behind (d ∷ env) = ap (λ ds. d ∷ ds) (none_behind env)
+small_front sigs ps ds small = record { terms = small.terms; sorts = λ x b e. small.sorts x b (extends_append ps ds x b e) }
 
 module _ (env : List Declaration) (ps : List Binder) where
   longer : (ds : List Binder) (e : Tree) (s : ℕ) → HasSort (signatures env) ps e s → HasSort (signatures env) (ps ++ ds) e s
-  longer ds e s has = subst (λ es. HasSort (signatures es) (ps ++ ds) e s) (none_behind env) (keep_sorts env [] ps ds e s has)
+  longer ds e s has = subst (λ es. HasSort (signatures es) (ps ++ ds) e s) (append-nil env) (keep_sorts env [] ps ds e s has)
 
   all_sorted : (es : Trees) → ((i : ℕ) (e : Tree) → slice_get (listed es) i ≡ Some e → HasProvable env ps e) → AllSorted (signatures env) ps (listed es)
   all_sorted none h = tt
@@ -169,24 +162,30 @@ module _ (env : List Declaration) (a : Assertion) (ds : List Binder) (can : CanB
       subst (λ c. IsSound env c (listed hs) [] p) (sym at) (subst (λ xs. IsSound env (a.params ++ ds) (listed xs) [] p) (sym is) by.1)
 
   made : (q : Option Proof) (bytes : List ℕ) → IsProvedBy env (a.params ++ ds) a q → MakesBody env q a.params ds a.conclusion (listed a.hyps) bytes
-      → IsBody env (kind_of a.is_axiom) a.params ds a.conclusion (listed a.hyps) bytes
-  made None bytes by makes = subst (λ b. IsBody env (kind_of b) a.params ds a.conclusion (listed a.hyps) bytes) (sym by) makes
+      → IsSharedBody env (kind_of a.is_axiom) a.params ds a.conclusion (listed a.hyps) bytes
+  made None bytes by makes = subst (λ b. IsSharedBody env (kind_of b) a.params ds a.conclusion (listed a.hyps) bytes) (sym by) makes
   made (Some p) bytes by makes =
-      subst (λ b. IsBody env (kind_of b) a.params ds a.conclusion (listed a.hyps) bytes) (sym by.0)
-      (subst (λ e. IsBody env is_theorem a.params ds e (listed a.hyps) bytes) by.2 makes)
+      subst (λ b. IsSharedBody env (kind_of b) a.params ds a.conclusion (listed a.hyps) bytes) (sym by.0)
+      (subst (λ e. IsSharedBody env is_theorem a.params ds e (listed a.hyps) bytes) by.2 makes)
 
   pub assertion_says : (q : Option Proof) (t : Tree) (hs : Trees) (stream bytes : List ℕ) → IsProvedBy env (a.params ++ ds) a q → t ≡ a.conclusion → hs ≡ a.hyps
       → stream ≡ stream_of (assertion_written a.params hs t).commands → MakesBody env q a.params ds t (listed hs) bytes
       → length bytes ≤ 6 * (trees_size hs + size t + body_weight env q) + 1 → SaysAssertion env a ds (body_weight env q) stream bytes
   assertion_says q t hs stream bytes by t_is hs_is spelled makes short = record {
-    spells = λ further.
+    text =
         let sorted = all_sorted env a.params a.hyps can.hyps in
         let small = small_front (signatures env) a.params ds can.ready.small in
         let one : Sorted (signatures env) a.params a.conclusion = (can.conclusion.0, can.conclusion.1) in
-        let written = assertions-written (signatures env) a.params a.hyps a.conclusion sorted one (assertions-short (signatures env) a.params a.hyps a.conclusion small sorted one can.short) further in
+        let short_ones = assertions-short (signatures env) a.params a.hyps a.conclusion small sorted one can.short in
         let same : stream_of (assertion_written a.params a.hyps a.conclusion).commands ≡ stream
         = ap (λ x. stream_of (assertion_written a.params x a.conclusion).commands) (sym hs_is) ∙ ap (λ x. stream_of (assertion_written a.params hs x).commands) (sym t_is) ∙ sym spelled in
-        subst (λ bs. Text of_assertion (signatures env) a.params (bs ++ further) a.hyps a.conclusion []) same written;
+        subst (λ bs. IsSharedText of_assertion (signatures env) a.params bs a.hyps a.conclusion []) same (record {
+          commands = (assertion_written a.params a.hyps a.conclusion).commands;
+          written = refl;
+          short = short_ones;
+          spells = assertions-written (signatures env) a.params a.hyps a.conclusion sorted one short_ones;
+          shares = assertions-shared (signatures env) a.params a.hyps a.conclusion sorted one short_ones;
+        });
     makes = made q bytes by (subst (λ x. MakesBody env q a.params ds x (listed a.hyps) bytes) t_is (subst (λ xs. MakesBody env q a.params ds t (listed xs) bytes) hs_is makes));
     short =
         let one : Sorted (signatures env) a.params a.conclusion = (can.conclusion.0, can.conclusion.1) in

@@ -1,4 +1,4 @@
--- What compiling a text answers.
+-- What compiling a text answers: this project's own answers; the bytes are the .mmb format's, version 1.
 use Rattle.std.specs.Prelude.{false, ◌≡◌, ◌≤◌, ◌⊎◌, ⊤, ℕ, List, length}
 use Rattle.mz_logic.specs.Declaration.{Declaration}
 use Rattle.mz_logic.specs.LegalLists.{Statement as Marked}
@@ -22,7 +22,9 @@ use Rattle.mz_emit.specs.declared.compiled.Compiled.TheVariants as answers
 
 -- ---- the binary
 
--- The bytes are a binary in the normal layout, whose rows, streams and bodies say the statements one by one.
+-- The bytes are a binary in the normal layout, whose rows, streams and bodies say the statements one by one
+-- (`IsWrittenAs`). No stream builds an application twice once all its dummies are met (`IsSharedText`), and no body
+-- at all (`IsSharedBody`).
 pub record IsWritten (ss : List Statement) (bytes : List ℕ) : Type 0 where
   pub parts : Parts
   pub made : List Marked

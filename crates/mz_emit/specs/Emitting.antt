@@ -23,9 +23,9 @@ use Rattle.mz_type.specs.Meaning.{IsLegalAsStated, marked}
 use Rattle.mz_type.specs.Names.{StatementThere}
 use Rattle.mz_type.specs.TypedText.{statement_at, declared}
 use Rattle.mz_type.specs.Weight.{params_of, parameter_count, bound_count, statement_weight, weight_of}
-use Rattle.mz_steps.specs.Bodies.{IsBody}
+use Rattle.mz_steps.specs.SharedBodies.{IsSharedBody}
 use Rattle.mz_streams.specs.Laws.{IsSmall}
-use Rattle.mz_streams.specs.SpellsBefore.{SpellsBefore}
+use Rattle.mz_streams.specs.SharedTexts.{IsSharedText}
 use Rattle.mz_streams.specs.SpelledLists.{list_spelled}
 use Rattle.mz_streams.specs.Writing.{body_spelled, dummies_spelled}
 use Rattle.mz_writing.specs.Writing.{SaySignature, IsWrittenAs}
@@ -119,16 +119,16 @@ assertion_code true is_local = 0x02
 assertion_code false true = 0x0E
 assertion_code false false = 0x06
 
--- the stream spells the definition, and the body makes it, in proportion to it
+-- the stream spells the definition, and the body makes it; both share what they build, and are in proportion to it
 pub record SaysDefinition (env : List Declaration) (params dummies : List Binder) (e : Tree) (stream body : List ℕ) : Type 0 where
-  pub spells : SpellsBefore of_definition (signatures env) params stream none (body_spelled params dummies e) (dummies_spelled params dummies e)
-  pub makes : IsBody env is_definition params dummies e [] body
+  pub text : IsSharedText of_definition (signatures env) params stream none (body_spelled params dummies e) (dummies_spelled params dummies e)
+  pub makes : IsSharedBody env is_definition params dummies e [] body
   pub short : length stream + length body ≤ 11 * size e + 2
 
 -- the same of an axiom, or of a theorem whose proof has this weight
 pub record SaysAssertion (env : List Declaration) (a : Assertion) (dummies : List Binder) (weight : ℕ) (stream body : List ℕ) : Type 0 where
-  pub spells : SpellsBefore of_assertion (signatures env) a.params stream a.hyps a.conclusion []
-  pub makes : IsBody env (kind_of a.is_axiom) a.params dummies a.conclusion (listed a.hyps) body
+  pub text : IsSharedText of_assertion (signatures env) a.params stream a.hyps a.conclusion []
+  pub makes : IsSharedBody env (kind_of a.is_axiom) a.params dummies a.conclusion (listed a.hyps) body
   pub short : length stream + length body ≤ 16 * (trees_size a.hyps + size a.conclusion + weight) + 2
 
 -- the stated proof, if there is one, is sound and proves the assertion, which else is an axiom
@@ -146,10 +146,10 @@ abbrev pub body_weight : List Declaration → Option Proof → ℕ
 body_weight env None = 0
 body_weight env (Some p) = proof_weight env p
 
--- the body makes what the proof proves, or else an axiom's conclusion
+-- the body makes what the proof proves, or else an axiom's conclusion, and builds no application twice
 abbrev pub MakesBody : List Declaration → Option Proof → List Binder → List Binder → Tree → List Tree → List ℕ → Type 0
-MakesBody env None params dummies e hyps bytes = IsBody env is_axiom params dummies e hyps bytes
-MakesBody env (Some p) params dummies e hyps bytes = IsBody env is_theorem params dummies (proved env hyps [] p) hyps bytes
+MakesBody env None params dummies e hyps bytes = IsSharedBody env is_axiom params dummies e hyps bytes
+MakesBody env (Some p) params dummies e hyps bytes = IsSharedBody env is_theorem params dummies (proved env hyps [] p) hyps bytes
 
 -- ---- all that is written
 

@@ -1,4 +1,4 @@
--- The limits by the codes that are printed.
+-- The limits by the codes that are printed (this project's own).
 use Rattle.std.specs.Prelude.{ℕ}
 use Rattle.mz_type.specs.Weight.{Limit, sort_limit, parameter_limit, bound_limit, byte_limit, Passed}
 use Rattle.mz_emit.specs.declared.rule.L.{L}

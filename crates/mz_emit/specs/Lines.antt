@@ -1,4 +1,4 @@
--- The printed lines of what compiling answers.
+-- The printed lines of what compiling answers (this project's own).
 use Rattle.std.specs.Prelude.{ℕ, List, [], ◌++◌, length, codes, decimal}
 use Rattle.mz_sexpr.specs.RuleText.{rule_text}
 use Rattle.mz_sexpr.specs.declared.rule.TextRefusal.{TextRefusal}

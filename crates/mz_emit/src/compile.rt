@@ -45,6 +45,8 @@ fn compile_typed(alloc: Global, typed: &Typed) -> Compiled
 
 /// Compiles a text of at most 4,294,967,295 bytes: the binary where the text is well typed and
 /// within the limits, else its first fault, or the first limit that it passes.
+///
+/// The binary's bodies build no application twice, and its streams none once all its dummies are met.
 pub fn compile_bytes(alloc: Global, text: &[u8]) -> Compiled
     requires { length text.now < 2 ^ 32 }
     ensures { IsCompilation text.now result }

@@ -180,24 +180,25 @@ impl<'a> Progress<'a> {
             Progress::Coercion(at) => Ok(at.next(found)),
             Progress::Delimiter(at) => Ok(at.next(found)),
             Progress::SortOpened(modifiers) => {
-                Ok(when(found.is_name(), Progress::SortNamed(modifiers, found)))
+                let named = Progress::SortNamed(modifiers, found);
+                Ok(found.is_name().then_some(named))
             }
-            Progress::SortNamed(modifiers, name) => Ok(when(
-                found.is_symbol(b";"),
-                Progress::Whole(Statement::Sort { modifiers, name }),
-            )),
-            Progress::BodyOpened(head, result) => Ok(when(
-                found.is_formula(),
-                Progress::Defined(head, result, found),
-            )),
-            Progress::Defined(head, result, body) => Ok(when(
-                found.is_symbol(b";"),
-                Progress::Whole(Statement::Definition(DefinitionText {
+            Progress::SortNamed(modifiers, name) => {
+                let sort = Statement::Sort { modifiers, name };
+                Ok(found.is_symbol(b";").then_some(Progress::Whole(sort)))
+            }
+            Progress::BodyOpened(head, result) => {
+                let defined = Progress::Defined(head, result, found);
+                Ok(found.is_formula().then_some(defined))
+            }
+            Progress::Defined(head, result, body) => {
+                let definition = Statement::Definition(DefinitionText {
                     head,
                     result,
                     body: Some(body),
-                })),
-            )),
+                });
+                Ok(found.is_symbol(b";").then_some(Progress::Whole(definition)))
+            }
             Progress::Whole(statement) => Ok(behind(statement)),
         }
     }
@@ -208,11 +209,4 @@ fn behind<'a>(_statement: Statement<'a>) -> Option<Progress<'a>>
     ensures { result ≡ None }
 {
     None
-}
-
-/// The progress, where the lexeme fits.
-fn when<'a>(fits: bool, progress: Progress<'a>) -> Option<Progress<'a>>
-    ensures { result ≡ (if fits then Some progress.entry else None) }
-{
-    if fits { Some(progress) } else { None }
 }

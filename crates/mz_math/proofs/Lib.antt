@@ -1,4 +1,7 @@
 pub mod Lists
+pub mod Placing
+pub mod Spotting
+pub mod Arranging
 pub mod Constants
 pub mod Clearing
 pub mod Paths

@@ -11,3 +11,6 @@ pub mod Reading
 pub mod Lookups
 pub mod Answers
 pub mod Laws
+pub mod Places
+pub mod Names
+pub mod Headed

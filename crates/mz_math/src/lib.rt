@@ -12,11 +12,15 @@ mod form;
 mod formula;
 mod laws;
 mod meaning;
+mod names;
 mod notation;
+mod notations;
 mod parser;
 mod pieces;
+mod places;
 mod scope;
 mod table;
+mod variables;
 mod words;
 
 pub use bytes::Bytes;

@@ -1,5 +1,5 @@
 // Notations.
-ghost use Rattle.std.specs.Prelude.{◌≡◌, ◌↔◌, ℕ, List, IsTrue, MatchOption, Contains};
+ghost use Rattle.std.specs.Prelude.{◌≡◌, ◌↔◌, ◌⊎◌, ℕ, List, IsTrue, MatchOption, Contains};
 ghost use Rattle.mz_math.specs.Clear.{HasConstant, JoinedBy, LedBy};
 ghost use Rattle.mz_math.specs.Notation.{begins_with_slot as with_slot, fixed, level_of};
 ghost use Rattle.mz_math.specs.declared.notation.Notation.{Notation};
@@ -18,13 +18,19 @@ pub enum Element {
 }
 
 impl Element {
-    /// Whether it is this constant, of whatever level.
-    fn is_constant(&self, token: &[u8]) -> bool
-        ensures { IsTrue result ↔ ((q : ℕ) × (self.now ≡ fixed token.now q)) }
+    /// Its level, where it is this constant.
+    pub fn level_of(&self, token: &[u8]) -> Option<u32>
+        ensures { MatchOption result ((q : ℕ) → self.now ≡ fixed token.now q → ⊥) (λ q. self.now ≡ fixed token.now q) }
     {
         match self {
-            Element::Fixed(constant, _) => constant.is(token),
-            Element::Slot(_) => false,
+            Element::Fixed(constant, level) => {
+                if constant.is(token) {
+                    Some(*level)
+                } else {
+                    None
+                }
+            }
+            Element::Slot(_) => None,
         }
     }
 }
@@ -90,6 +96,19 @@ impl Notation {
         }
     }
 
+    /// The constant with which it begins, or else the one behind its first parameter.
+    pub fn head_constant(&self) -> Option<&[u8]>
+        ensures { MatchOption result ((w : List ℕ) → LedBy self.now w ⊎ JoinedBy self.now w → ⊥) (λ w. LedBy self.now w.now ⊎ JoinedBy self.now w.now) }
+    {
+        match self.leading_constant() {
+            Some(constant) => Some(constant),
+            None => match self.joining_constant() {
+                Some(constant) => Some(constant),
+                None => None,
+            },
+        }
+    }
+
     /// The constant behind its first parameter, if it begins with one.
     pub fn joining_constant(&self) -> Option<&[u8]>
         ensures { MatchOption result ((w : List ℕ) → JoinedBy self.now w → ⊥) (λ w. JoinedBy self.now w.now) }
@@ -100,13 +119,6 @@ impl Notation {
             }
             _ => None,
         }
-    }
-
-    /// Whether the constant stands in it.
-    fn has_constant(&self, token: &[u8]) -> bool
-        ensures { IsTrue result ↔ ((q : ℕ) × Contains self.now.elements (fixed token.now q)) }
-    {
-        has_element(self.elements.as_slice(), token)
     }
 
     /// Whether it begins with this constant.
@@ -140,52 +152,4 @@ pub fn level_number(level: Option<u32>) -> u32
         None => MAX,
         Some(number) => number,
     }
-}
-
-/// The notation that begins with this constant.
-pub fn led_by<'a>(notations: &'a [Notation], token: &[u8]) -> Option<&'a Notation>
-    ensures { MatchOption result ((k : Notation) × Contains notations.now k × LedBy k token.now → ⊥) (λ k. Contains notations.now k.now × LedBy k.now token.now) }
-{
-    for k in notations {
-        if k.is_led_by(token) {
-            return Some(k);
-        }
-    }
-    None
-}
-
-/// The notation with this constant behind its first parameter.
-pub fn joined_by<'a>(notations: &'a [Notation], token: &[u8]) -> Option<&'a Notation>
-    ensures { MatchOption result ((k : Notation) → Contains notations.now k → JoinedBy k token.now → ⊥) (λ k. Contains notations.now k.now × JoinedBy k.now token.now) }
-{
-    for k in notations {
-        if k.is_joined_by(token) {
-            return Some(k);
-        }
-    }
-    None
-}
-
-/// Whether the constant stands among the elements.
-fn has_element(elements: &[Element], token: &[u8]) -> bool
-    ensures { IsTrue result ↔ ((q : ℕ) × Contains elements.now (fixed token.now q)) }
-{
-    for element in elements {
-        if element.is_constant(token) {
-            return true;
-        }
-    }
-    false
-}
-
-/// Whether the constant stands in one of the notations.
-pub fn has_constant(notations: &[Notation], token: &[u8]) -> bool
-    ensures { IsTrue result ↔ ((q : ℕ) × HasConstant notations.now token.now q) }
-{
-    for k in notations {
-        if k.has_constant(token) {
-            return true;
-        }
-    }
-    false
 }

@@ -2,7 +2,7 @@
 ghost use Rattle.std.specs.Prelude.{◌≡◌, ◌≢◌, ◌↔◌, ◌≤◌, ◌<◌, ◌+◌, ◌^◌, ◌∷◌, ⊤, [], ℕ, List, false, true, IsTrue, MatchOption, IfSome, Contains, length, drop, slice_get, Some, codes};
 ghost use Rattle.mz_logic.specs.Tree.{none, more, followed_by};
 ghost use Rattle.mz_logic.specs.View.{tree, trees};
-ghost use Rattle.mz_math.specs.Notation.{above, max_level, places};
+ghost use Rattle.mz_math.specs.Notation.{above, max_level, places, slots as in_places};
 ghost use Rattle.mz_math.specs.Clear.{LedBy, JoinedBy};
 ghost use Rattle.mz_math.specs.Grammar.{IsTermName, IsVariable, IsLeading, items, operands_at_max, level_before, last_level, infix_items, notated_tree, head_level, applied, operand_for, arranged as in_order, Exp};
 ghost use Rattle.mz_math.specs.Readable.{IsReadable};
@@ -164,6 +164,11 @@ fn notated(alloc: Global, notation: &Notation, operands: Exprs) -> Option<Expr>
     ensures { IfSome result (λ e. tree e ≡ notated_tree notation.now operands) }
 {
     let elements = notation.elements.as_slice();
+    if let Some(many) = many_in_order(elements) {
+        if many == operands.len() {
+            return Some(Expr::App(notation.term, operands));
+        }
+    }
     let many = slots(elements, 0);
     let all = arranged(
         alloc,
@@ -174,6 +179,25 @@ fn notated(alloc: Global, notation: &Notation, operands: Exprs) -> Option<Expr>
         Exprs::new(alloc),
     )?;
     Some(Expr::App(notation.term, all))
+}
+
+/// How many parameters stand there, if they stand in their own order.
+fn many_in_order(elements: &[Element]) -> Option<usize>
+    ensures { IfSome result (λ n. places elements.now ≡ places (in_places 0 n)) }
+{
+    let mut next = 0;
+    for element in elements {
+        match element {
+            Element::Fixed(_, _) => {}
+            Element::Slot(slot) => {
+                if *slot != next {
+                    return None;
+                }
+                next += 1;
+            }
+        }
+    }
+    Some(next)
 }
 
 /// How many parameters stand there, from a element on.

@@ -5,7 +5,7 @@ ghost use Rattle.mz_lex.specs.Kinds.{is_name, is_name_byte as name_byte, is_name
 ghost use Rattle.mz_math.specs.Formula.{with_variable};
 ghost use Rattle.mz_math.specs.Readable.{AreVariables};
 
-use crate::bytes::Bytes;
+use crate::variables::VariableNames;
 use mz_logic::{Binder, Binders};
 use std::alloc::{AllocError, Global};
 use std::marker::Model;
@@ -15,7 +15,7 @@ use std::marker::Model;
 #[derive(Drop)]
 pub struct Scope {
     alloc: Global,
-    names: Vec<Bytes>,
+    names: VariableNames,
     binders: Binders,
 }
 
@@ -26,9 +26,9 @@ impl Model for Scope {
 
     ghost Value = { Variables };
 
-    ghost invariant = { λ a. AreVariables a.names.items × (length a.names.items < 2 ^ 32) × (length a.binders ≡ length a.names.items) };
+    ghost invariant = { λ a. AreVariables a.names × (length a.names < 2 ^ 32) × (length a.binders ≡ length a.names) };
 
-    ghost view = { λ a. record { names = a.names.items; binders = a.binders } };
+    ghost view = { λ a. record { names = a.names; binders = a.binders } };
 }
 
 impl Scope {
@@ -38,7 +38,7 @@ impl Scope {
     {
         Scope {
             alloc,
-            names: Vec::new(alloc),
+            names: VariableNames::new(alloc),
             binders: Binders::new(alloc),
         }
     }
@@ -56,8 +56,7 @@ impl Scope {
         ensures ok { OnOk result (self.new ≡ with_variable self.old name.now binder) }
         ensures err { OnErr result (self.new ≡ self.old) }
     {
-        let bytes = Bytes::copy_of(self.alloc, name)?;
-        self.names.push(bytes)?;
+        self.names.push(self.alloc, name)?;
         match self.binders.push(binder) {
             Ok(()) => Ok(()),
             Err(failed) => {
@@ -74,7 +73,7 @@ impl Scope {
         if name.is_empty() {
             return None;
         }
-        match place_in(&self.names, name) {
+        match self.names.place_of(name) {
             None => None,
             Some(place) => Some(place as u32),
         }
@@ -106,7 +105,7 @@ impl Scope {
     pub fn is_empty(&self) -> bool
         ensures { IsTrue result ↔ (self.now.names ≡ []) }
     {
-        self.names.is_empty()
+        self.names.len() == 0
     }
 }
 
@@ -142,16 +141,4 @@ fn are_name_bytes(bytes: &[u8]) -> bool
         }
     }
     true
-}
-
-/// The place of a name.
-fn place_in(names: &[Bytes], name: &[u8]) -> Option<usize>
-    ensures { MatchOption result (Contains names.now name.now → ⊥) (λ x. (x < length names.now) × (slice_get names.now x ≡ Some name.now)) }
-{
-    for i in 0..names.len() {
-        if names[i].is(name) {
-            return Some(i);
-        }
-    }
-    None
 }

@@ -1,19 +1,23 @@
 // What has been declared for math strings, and the statements that add to it.
-ghost use Rattle.std.specs.Prelude.{◌≡◌, ◌↔◌, List, ℕ, IsTrue, MatchOption, Contains, OnOk, OnErr, IfErr, length, option_map};
+ghost use Rattle.std.specs.Prelude.{◌≡◌, ◌↔◌, ◌⊎◌, List, ℕ, IsTrue, MatchOption, Contains, OnOk, OnErr, IfErr, length, option_map};
 ghost use Rattle.mz_lex.specs.Kinds.{is_name};
 ghost use Rattle.mz_logic.specs.Declaration.{signatures};
 ghost use Rattle.mz_math.specs.Answers.{IsAdded, IsPlain, IsShaped};
-ghost use Rattle.mz_math.specs.Clear.{JoinedBy, LedBy};
+ghost use Rattle.mz_math.specs.Clear.{HasConstant, JoinedBy, LedBy};
+ghost use Rattle.mz_math.specs.declared.notation.Notation.{Notation};
 ghost use Rattle.mz_math.specs.Coercions.{OnePath};
 ghost use Rattle.mz_math.specs.Forms.{AddsDelimiters, AddsNotation, IsAnswer, IsGeneral, IsInfix, IsPrefix, coercion_checks, delimiter_checks, notation_checks};
 ghost use Rattle.mz_math.specs.Readable.{IsTable};
+ghost use Rattle.mz_math.specs.Names.{IsFoundAs};
 ghost use Rattle.mz_math.specs.Notation.{TermName, empty_table, with_coercion, with_infix, with_leading, with_name, with_notation};
 
 use crate::bytes::Bytes;
 use crate::clear::{is_clear_with_infix, is_clear_with_leading};
 use crate::coercion::{Coercion, stays_one_path};
 use crate::form::{Literal, Statement, Tail, general_of, infix_of, is_coercion, prefix_of};
+use crate::names::TermNames;
 use crate::notation::Notation;
+use crate::notations::NotationList;
 use crate::pieces::Delimiters;
 use crate::scope::Scope;
 use mz_logic::{Env, ResultType};
@@ -66,9 +70,9 @@ pub struct TermName {
 pub struct Notations {
     alloc: Global,
     delimiters: Delimiters,
-    leading: Vec<Notation>,
-    infixes: Vec<Notation>,
-    names: Vec<TermName>,
+    leading: NotationList,
+    infixes: NotationList,
+    names: TermNames,
     coercions: Vec<Coercion>,
 }
 
@@ -79,9 +83,9 @@ impl Model for Notations {
 
     ghost Value = { Table };
 
-    ghost view = { λ a. record { delimiters = a.delimiters; leading = a.leading.items; infixes = a.infixes.items; names = a.names.items; coercions = a.coercions.items } };
+    ghost view = { λ a. record { delimiters = a.delimiters; leading = a.leading; infixes = a.infixes; names = a.names; coercions = a.coercions.items } };
 
-    ghost invariant = { λ a. IsTable (record { delimiters = a.delimiters; leading = a.leading.items; infixes = a.infixes.items; names = a.names.items; coercions = a.coercions.items }) };
+    ghost invariant = { λ a. IsTable (record { delimiters = a.delimiters; leading = a.leading; infixes = a.infixes; names = a.names; coercions = a.coercions.items }) };
 }
 
 impl Notations {
@@ -92,9 +96,9 @@ impl Notations {
         Notations {
             alloc,
             delimiters: Delimiters::new(alloc),
-            leading: Vec::new(alloc),
-            infixes: Vec::new(alloc),
-            names: Vec::new(alloc),
+            leading: NotationList::new(alloc),
+            infixes: NotationList::new(alloc),
+            names: TermNames::new(alloc),
             coercions: Vec::new(alloc),
         }
     }
@@ -107,37 +111,55 @@ impl Notations {
         &self.delimiters
     }
 
-    /// The notations that begin with a constant.
-    pub fn leading(&self) -> &[Notation]
-        ensures { result.now ≡ self.now.leading }
+    /// The notation that begins with this constant.
+    pub fn led_by(&self, token: &[u8]) -> Option<&Notation>
+        ensures { MatchOption result ((k : Notation) × Contains self.now.leading k × LedBy k token.now → ⊥) (λ k. Contains self.now.leading k.now × LedBy k.now token.now) }
     {
-        &self.leading
+        self.leading.led_by(token)
     }
 
-    /// The notations that begin with a parameter.
-    pub fn infixes(&self) -> &[Notation]
-        ensures { result.now ≡ self.now.infixes }
+    /// The notation with this constant behind its first parameter.
+    pub fn joined_by(&self, token: &[u8]) -> Option<&Notation>
+        ensures { MatchOption result ((k : Notation) → Contains self.now.infixes k → JoinedBy k token.now → ⊥) (λ k. Contains self.now.infixes k.now × JoinedBy k.now token.now) }
     {
-        &self.infixes
+        self.infixes.joined_by(token)
+    }
+
+    /// Whether the constant stands in one of the notations.
+    pub fn has_constant(&self, token: &[u8]) -> bool
+        ensures { IsTrue result ↔ ((q : ℕ) × (HasConstant self.now.leading token.now q ⊎ HasConstant self.now.infixes token.now q)) }
+    {
+        match self.leading.level_of(token) {
+            Some(_) => true,
+            None => match self.infixes.level_of(token) {
+                Some(_) => true,
+                None => false,
+            },
+        }
     }
 
     /// The names of terms.
     pub fn names(&self) -> &[TermName]
         ensures { result.now ≡ self.now.names }
     {
-        &self.names
+        self.names.as_slice()
     }
 
     /// Whether a term has this name.
     pub fn names_term(&self, name: &[u8]) -> bool
         ensures { IsTrue result ↔ ((n : TermName) × Contains self.now.names n × (n.name ≡ name.now)) }
     {
-        for entry in &self.names {
-            if entry.name.is(name) {
-                return true;
-            }
+        self.names.get(name).is_some()
+    }
+
+    /// The term of this name, if there is one.
+    pub fn named(&self, name: &[u8]) -> Option<u32>
+        ensures { MatchOption result ((n : TermName) → Contains self.now.names n → n.name ≡ name.now → ⊥) (λ t. (n : TermName) × IsFoundAs self.now.names name.now n × (n.term ≡ t)) }
+    {
+        match self.names.get(name) {
+            Some(entry) => Some(entry.term),
+            None => None,
         }
-        false
     }
 
     /// The coercions.
@@ -289,10 +311,10 @@ impl Notations {
         requires plain { IsPlain notation }
         ensures { IsAdded result self.old (with_infix self.old notation) self.new }
     {
-        if !is_clear_with_infix(&self.leading, &self.infixes, &notation) {
+        if !is_clear_with_infix(self.leading.as_slice(), self.infixes.as_slice(), &notation) {
             return Err(NoteFault::Clash);
         }
-        let Ok(()) = self.infixes.push(notation) else {
+        let Ok(()) = self.infixes.push(self.alloc, notation) else {
             return Err(NoteFault::Mem);
         };
         Ok(())
@@ -303,10 +325,10 @@ impl Notations {
         requires plain { IsPlain notation }
         ensures { IsAdded result self.old (with_leading self.old notation) self.new }
     {
-        if !is_clear_with_leading(&self.leading, &self.infixes, &notation) {
+        if !is_clear_with_leading(self.leading.as_slice(), self.infixes.as_slice(), &notation) {
             return Err(NoteFault::Clash);
         }
-        let Ok(()) = self.leading.push(notation) else {
+        let Ok(()) = self.leading.push(self.alloc, notation) else {
             return Err(NoteFault::Mem);
         };
         Ok(())
@@ -355,10 +377,7 @@ impl Notations {
         ensures ok { OnOk result (self.new ≡ with_name self.old (record { name = name.now; term = term })) }
         ensures err { OnErr result (self.new ≡ self.old) }
     {
-        let Ok(name) = Bytes::copy_of(self.alloc, name) else {
-            return Err(NoteFault::Mem);
-        };
-        let Ok(()) = self.names.push(TermName { name, term }) else {
+        let Ok(()) = self.names.push(self.alloc, name, term) else {
             return Err(NoteFault::Mem);
         };
         Ok(())

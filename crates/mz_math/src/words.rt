@@ -5,7 +5,7 @@ ghost use Rattle.mz_math.specs.Clear.{JoinedBy, LedBy};
 ghost use Rattle.mz_math.specs.Grammar.{IsKnown, IsTermName, words_of};
 ghost use Rattle.mz_math.specs.Lookups.{NoInfix, NoLeading, NoTermName, NoVariable};
 
-use crate::notation::{Notation, has_constant, joined_by, led_by};
+use crate::notation::Notation;
 use crate::pieces::is_parenthesis;
 use crate::scope::Scope;
 use crate::table::Notations;
@@ -51,28 +51,27 @@ impl<'a> Vocabulary<'a> {
     pub fn leading(&self, token: &[u8]) -> Option<&'a Notation>
         ensures { MatchOption result (NoLeading self.now token.now) (λ k. Contains self.now.leading k.now × LedBy k.now token.now) }
     {
-        led_by(self.notations.leading(), token)
+        self.notations.led_by(token)
     }
 
     /// The term of this name, and the number of its parameters.
     pub fn term(&self, token: &[u8]) -> Option<(u32, usize)>
         ensures { MatchOption result (NoTermName self.now token.now) (λ t. IsTermName self.now token.now t.0 t.1) }
     {
-        for entry in self.notations.names() {
-            if entry.name.is(token) {
-                if let Some(term) = self.env.term(entry.term) {
-                    return Some((entry.term, term.params.len()));
-                }
-            }
+        match self.notations.named(token) {
+            None => None,
+            Some(number) => match self.env.term(number) {
+                None => None,
+                Some(term) => Some((number, term.params.len())),
+            },
         }
-        None
     }
 
     /// The infix notation of this constant.
     pub fn infix(&self, token: &[u8]) -> Option<&'a Notation>
         ensures { MatchOption result (NoInfix self.now token.now) (λ k. Contains self.now.infixes k.now × JoinedBy k.now token.now) }
     {
-        joined_by(self.notations.infixes(), token)
+        self.notations.joined_by(token)
     }
 
     /// Whether the token is a variable, a parenthesis, a constant or a term's name.
@@ -85,10 +84,7 @@ impl<'a> Vocabulary<'a> {
         if is_parenthesis(token) {
             return true;
         }
-        if has_constant(self.notations.leading(), token) {
-            return true;
-        }
-        if has_constant(self.notations.infixes(), token) {
+        if self.notations.has_constant(token) {
             return true;
         }
         self.notations.names_term(token)

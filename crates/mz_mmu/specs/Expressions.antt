@@ -1,5 +1,5 @@
--- Which expressions, variables and binders nodes are (the s-expression form of expressions and
--- binders of the proof text).
+-- Which expressions, variables and binders nodes are (this project's own profile of the s-expression form of
+-- mm0.md's expressions and binders).
 use Rattle.std.specs.Prelude.{ℕ, ◌≡◌, ◌⊎◌, ◌↔◌, true, false, List, [], ◌∷◌, ◌++◌, Contains, Some}
 use Rattle.std.specs.List.Sorted.{IsStrictlyIncreasing}
 use Rattle.mz_sexpr.specs.Node.{Node, Nodes, atom, list, no_nodes, node}

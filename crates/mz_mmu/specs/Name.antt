@@ -1,4 +1,4 @@
--- Names, and the numbers that they have.
+-- Names (mm0.md, identifiers), and the numbers that they have.
 use Rattle.std.specs.Prelude.{ℕ, suc, Bool, true, false, ◌==◌, ◌||◌, ◌&&◌, nat_le, not, ◌≡◌, ◌⊎◌, IsTrue, if◌then◌else◌, List, [], ◌∷◌, Option, Some, None, option_map, bytes_eq, codes}
 use Rattle.mz_sexpr.specs.Node.{Node, atom, list}
 

@@ -1,5 +1,5 @@
 -- What is asked of the forms and names of a text, in order: from left to right, a node's form before
--- its parts. At the first that doesn't hold the text is refused.
+-- its parts. At the first that doesn't hold the text is refused (this project's own order).
 use Rattle.std.specs.Prelude.{ℕ, suc, ◌≡◌, ◌⊎◌, Bool, true, false, List, [], ◌∷◌, ◌++◌, Some, unwrap_or}
 use Rattle.mz_checks.specs.Checks.{Checks, nothing, demand, ◌>>◌, retold, FailsFirst}
 use Rattle.mz_sexpr.specs.declared.rule.U.{U}

@@ -1,4 +1,5 @@
--- Proofs as a text states them, with names resolved, and statements. Conversions are the logic's.
+-- Proofs as a text states them, with names resolved, and statements (this project's own form of Carneiro's
+-- derivations). Conversions are the logic's.
 use Rattle.std.specs.Prelude.{ℕ, Bool, List, Option}
 use Rattle.mz_logic.specs.Tree.{Tree, Trees}
 use Rattle.mz_logic.specs.Declaration.{Declaration}

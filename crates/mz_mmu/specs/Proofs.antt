@@ -1,4 +1,4 @@
--- Which conversions and proofs nodes are.
+-- Which conversions and proofs nodes are (this project's own profile of their s-expression form).
 use Rattle.std.specs.Prelude.{ℕ, ◌≡◌, ◌⊎◌, List, [], ◌∷◌, ◌++◌, Some, codes, bytes_eq, if◌then◌else◌}
 pub use Rattle.mz_mmu.specs.declared.keyword.Keyword.{Keyword}
 pub use Rattle.mz_mmu.specs.declared.keyword.Keyword.TheVariants.{Conv as conv_word, Let as let_word, Refl as refl_word, Sym as sym_word, Unfold as unfold_word, Sorry as sorry_word, Other as no_word}

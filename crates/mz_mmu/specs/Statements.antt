@@ -1,5 +1,5 @@
--- Which statements nodes are, and which list of statements a text is (the proof text's s-expression
--- forms of sorts, terms, axioms, definitions and theorems).
+-- Which statements nodes are, and which list of statements a text is (this project's own profile of the
+-- s-expression forms of mm0.md's sorts, terms, axioms, definitions and theorems).
 use Rattle.std.specs.Prelude.{ℕ, ◌+◌, ◌≡◌, Bool, true, false, List, [], ◌∷◌, ◌++◌, Option, Some, None, bytes_eq, codes, if◌then◌else◌}
 pub use Rattle.mz_mmu.specs.declared.keyword.Kind.{Kind}
 pub use Rattle.mz_mmu.specs.declared.keyword.Kind.TheVariants.{Sort as sort_kind, Term as term_kind, Axiom as axiom_kind, Def as def_kind, Theorem as theorem_kind, Other as no_kind}

@@ -1,4 +1,5 @@
--- Which nodes the bytes of a text are: pieces, and parentheses that nest.
+-- Which nodes the bytes of a text are: pieces, and parentheses that nest (this project's own profile of
+-- s-expressions, with the white space and the comments of mm0.md).
 use Rattle.std.specs.Prelude.{ℕ, ◌+◌, ◌≤◌, ◌≡◌, ◌≢◌, ◌⊎◌, ⊤, Bool, true, false, ◌==◌, ◌||◌, ◌&&◌, if◌then◌else◌, List, [], ◌∷◌, ◌++◌, length, All}
 use Rattle.mz_sexpr.specs.Node.{Nodes, height, depth_limit}
 use Rattle.mz_sexpr.specs.Token.{Token, open_at, close, word_at, spelled}

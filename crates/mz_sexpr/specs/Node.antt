@@ -1,4 +1,4 @@
--- Nodes of a text.
+-- Nodes of a text, as s-expressions have them (this project's own form).
 use Rattle.std.specs.Prelude.{ℕ, suc, max, Bool, true, false, List, []}
 
 -- an atom with its bytes, or a list of nodes, with the place of its first byte

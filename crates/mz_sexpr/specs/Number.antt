@@ -1,4 +1,4 @@
--- Nodes by their numbers: counted from 0 in the order of their first bytes.
+-- Nodes by their numbers: counted from 0 in the order of their first bytes (this project's own).
 use Rattle.std.specs.Prelude.{ℕ, ◌≡◌, ◌<◌, List, [], ◌∷◌, ◌++◌, length, Option, Some, None, get_or}
 use Rattle.mz_sexpr.specs.Node.{Node, Nodes, atom, list, no_nodes, node}
 

@@ -1,4 +1,4 @@
--- What is asked of a text, from its first byte to its last.
+-- What is asked of a text, from its first byte to its last (this project's own rules and their order).
 use Rattle.std.specs.Prelude.{ℕ, suc, ◌+◌, ◌-◌, ◌<◌, ◌≡◌, ◌==◌, if◌then◌else◌, List, [], ◌∷◌, length}
 use Rattle.mz_checks.specs.Checks.{Checks, nothing, demand, ◌>>◌, FailsFirst}
 use Rattle.mz_sexpr.specs.declared.rule.U.{U}

@@ -1,4 +1,4 @@
--- Atoms and parentheses with their places, and those that spell nodes.
+-- Atoms and parentheses with their places, and those that spell nodes (this project's own form).
 use Rattle.std.specs.Prelude.{ℕ, List, [], ◌∷◌, ◌++◌}
 use Rattle.mz_sexpr.specs.Node.{Node, Nodes, atom, list, no_nodes, node}
 

@@ -1,6 +1,7 @@
 // Statements that declare something: sorts, terms, axioms and theorems, and definitions.
 ghost use Rattle.std.specs.Prelude.{◌≡◌, ◌+◌, ◌<◌, ◌^◌, ◌++◌, ◌∷◌, [], List, Some, IfErr, IfOk, IsTrue, OnOk, length, map, option_map};
 ghost use Rattle.mz_grammar.specs.Code.{assertion as assertion_lem, definition as definition_lem, head, lexeme, modifiers as modifiers_lem, source, term as term_lem, type_text};
+ghost use Rattle.mz_checks.specs.Checks.{AllHold};
 ghost use Rattle.mz_grammar.specs.Statement.{TypeText as TypeLem, sort_statement};
 ghost use Rattle.mz_lex.specs.Kinds.{is_name};
 ghost use Rattle.mz_logic.specs.DeclView.{assertion_of, form, is_axiom as is_axiom_lem, term_of};
@@ -9,17 +10,17 @@ ghost use Rattle.mz_logic.specs.View.{tree};
 ghost use Rattle.mz_math.specs.Readable.{AreVariables};
 ghost use Rattle.mz_math.specs.declared.pieces.Piece.{Piece};
 ghost use Rattle.mz_spec.specs.Answers.{JudgesOrMem, JudgesStatement};
-ghost use Rattle.mz_spec.specs.Code.{AreParts, EndsSmall, all_of, variable};
+ghost use Rattle.mz_spec.specs.Code.{AreParts, EndsSmall, all_of, stated as stated_lem, variable};
 ghost use Rattle.mz_spec.specs.Declaring.{After, Declares, IsForm, is_axiom, sort_bits};
 ghost use Rattle.mz_spec.specs.Entries.{state};
 ghost use Rattle.mz_spec.specs.Kept.{IsKept, IsSpelled};
 ghost use Rattle.mz_spec.specs.Formulas.{AreHyps, AreTokens, IsMeant, math_of, strings_checks};
 ghost use Rattle.mz_spec.specs.Names.{IsNew};
-ghost use Rattle.mz_spec.specs.Rules.{Every, body_rules, parts_rules, variable_rules};
-ghost use Rattle.mz_spec.specs.State.{result_of, variable_bytes, with_term};
-ghost use Rattle.mz_spec.specs.View.{Variable as VariableLem, body, body_formulas, claim, stated_of, view};
+ghost use Rattle.mz_spec.specs.Rules.{Every, body_rules, new_name, parts_rules, variable_rules};
+ghost use Rattle.mz_spec.specs.State.{result_of, scope_of, variable_bytes, with_term};
+ghost use Rattle.mz_spec.specs.View.{Variable as VariableLem, body, body_formulas, claim, stated_of as stated_of_lem, view};
 
-use crate::formulas::{push_group_stated, push_premise_stated};
+use crate::formulas::{Stated, push_group_stated, push_premise_stated};
 use crate::parts::{Parts, TypeAt};
 use crate::rules::{check_new, distinct_names};
 use crate::spec::Mark;
@@ -30,8 +31,8 @@ use mz_grammar::{
 };
 use mz_lex::S;
 use mz_logic::{Decl, Expr, Exprs, ResultType, SortMods, TermDecl, TermForm, ThmDecl, ThmForm};
-use mz_math::Wanted;
-use std::alloc::Global;
+use mz_math::{Scope, Wanted};
+use std::alloc::{AllocError, Global};
 
 /// The modifiers as the logic has them.
 fn mods(modifiers: Modifiers) -> SortMods
@@ -62,6 +63,16 @@ fn thm_form(kind: AssertKind) -> ThmForm
         AssertKind::Axiom => ThmForm::Axiom,
         AssertKind::Theorem => ThmForm::Theorem,
     }
+}
+
+/// The formulas that make the hypotheses of an axiom or a theorem, in order.
+fn stated_of<'a>(alloc: Global, assertion: &AssertText<'a>) -> Result<Vec<Stated<'a>>, AllocError>
+    ensures { IfOk result (λ stated. map stated_lem stated.items ≡ stated_of_lem (head assertion.now.head).groups (map source assertion.now.premises.items)) }
+{
+    let mut stated = Vec::new(alloc);
+    push_group_stated(&mut stated, &assertion.head.groups)?;
+    push_premise_stated(&mut stated, &assertion.premises)?;
+    Ok(stated)
 }
 
 impl<'a> State<'a> {
@@ -140,10 +151,29 @@ impl<'a> State<'a> {
     {
         check_new(&self.term_names, term.head.name)?;
         let parts = Parts::of_term(alloc, term)?;
-        self.check_parts(alloc, place, &parts)?;
+        self.term_with(alloc, place, term, &parts)
+    }
+
+    /// What a term of a new name, with these parts, declares.
+    fn term_with(
+        &self,
+        alloc: Global,
+        place: u32,
+        term: &TermText<'a>,
+        parts: &Parts<'_, 'a>,
+    ) -> Result<TermDecl, Halt>
+        requires kept { IsKept (state self.now) }
+        requires few { length self.now.marks.items + 1 < 2 ^ 32 }
+        requires spelled { IsSpelled (term_lem term.now) }
+        requires new { AllHold (new_name (state self.now).term_names (lexeme term.now.head.name)) }
+        requires parts { AreParts parts.now (view (term_lem term.now)).variables (view (term_lem term.now)).types (view (term_lem term.now)).result }
+        ensures judged { JudgesStatement result (state self.now) place (term_lem term.now) }
+        ensures declares { IfOk result (λ d. Declares (state self.now) (term_lem term.now) (term_of d)) }
+    {
+        self.check_parts(alloc, place, parts)?;
         Ok(TermDecl {
             params: self.binders_of(alloc, &parts.params, &parts.params)?,
-            result: self.result_of(alloc, &parts, &term.result)?,
+            result: self.result_of(alloc, parts, &term.result)?,
             form: TermForm::Plain,
         })
     }
@@ -238,10 +268,29 @@ impl<'a> State<'a> {
     {
         check_new(&self.term_names, definition.head.name)?;
         let parts = Parts::of_definition(alloc, definition)?;
-        self.check_parts(alloc, place, &parts)?;
+        self.definition_with(alloc, place, definition, &parts)
+    }
+
+    /// What a definition of a new name, with these parts, declares.
+    fn definition_with(
+        &self,
+        alloc: Global,
+        place: u32,
+        definition: &DefinitionText<'a>,
+        parts: &Parts<'_, 'a>,
+    ) -> Result<TermDecl, Halt>
+        requires kept { IsKept (state self.now) }
+        requires few { length self.now.marks.items + 1 < 2 ^ 32 }
+        requires spelled { IsSpelled (definition_lem definition.now) }
+        requires new { AllHold (new_name (state self.now).term_names (lexeme definition.now.head.name)) }
+        requires parts { AreParts parts.now (view (definition_lem definition.now)).variables (view (definition_lem definition.now)).types (view (definition_lem definition.now)).result }
+        ensures judged { JudgesStatement result (state self.now) place (definition_lem definition.now) }
+        ensures declares { IfOk result (λ d. Declares (state self.now) (definition_lem definition.now) (term_of d)) }
+    {
+        self.check_parts(alloc, place, parts)?;
         let params = self.binders_of(alloc, &parts.params, &parts.params)?;
-        let result_type = self.result_of(alloc, &parts, &definition.result)?;
-        let form = self.form_of(alloc, place, &parts, &result_type, definition.body)?;
+        let result_type = self.result_of(alloc, parts, &definition.result)?;
+        let form = self.form_of(alloc, place, parts, &result_type, definition.body)?;
         Ok(TermDecl {
             params,
             result: result_type,
@@ -284,15 +333,33 @@ impl<'a> State<'a> {
             → (tokens : List (List Piece)) → AreTokens (state self.now) (view (assertion_lem assertion.now)).formulas tokens
             → JudgesOrMem result (strings_checks (state self.now) (view (assertion_lem assertion.now)).variables (view (assertion_lem assertion.now)).formulas tokens) }
         ensures claims { IfOk result (λ claims. AreParts parts.now (view (assertion_lem assertion.now)).variables (view (assertion_lem assertion.now)).types []
-            → AreHyps (state self.now) (view (assertion_lem assertion.now)).variables (stated_of (head assertion.now.head).groups (map source assertion.now.premises.items)) claims.0
+            → AreHyps (state self.now) (view (assertion_lem assertion.now)).variables (stated_of_lem (head assertion.now.head).groups (map source assertion.now.premises.items)) claims.0
             × IsMeant (state self.now) (view (assertion_lem assertion.now)).variables (claim (lexeme assertion.now.conclusion)) (tree claims.1)) }
     {
         let scope = self.scope_of(alloc, parts)?;
-        let mut stated = Vec::new(alloc);
-        push_group_stated(&mut stated, &assertion.head.groups)?;
-        push_premise_stated(&mut stated, &assertion.premises)?;
-        let hyps = self.hyps_of(alloc, &scope, &stated)?;
-        let conclusion = self.formula(alloc, &scope, assertion.conclusion, Wanted::Provable)?;
+        let stated = stated_of(alloc, assertion)?;
+        self.claims_in(alloc, &scope, &stated, assertion)
+    }
+
+    /// The hypotheses of these formulas and the conclusion, whose variables are in scope.
+    fn claims_in(
+        &self,
+        alloc: Global,
+        scope: &Scope,
+        stated: &[Stated<'a>],
+        assertion: &AssertText<'a>,
+    ) -> Result<(Exprs, Expr), Halt>
+        requires stated { map stated_lem stated.now ≡ stated_of_lem (head assertion.now.head).groups (map source assertion.now.premises.items) }
+        requires small { Every (λ f. EndsSmall (math_of f)) (view (assertion_lem assertion.now)).formulas }
+        ensures judged { scope.now ≡ scope_of (state self.now) (view (assertion_lem assertion.now)).variables
+            → (tokens : List (List Piece)) → AreTokens (state self.now) (view (assertion_lem assertion.now)).formulas tokens
+            → JudgesOrMem result (strings_checks (state self.now) (view (assertion_lem assertion.now)).variables (view (assertion_lem assertion.now)).formulas tokens) }
+        ensures claims { IfOk result (λ claims. scope.now ≡ scope_of (state self.now) (view (assertion_lem assertion.now)).variables
+            → AreHyps (state self.now) (view (assertion_lem assertion.now)).variables (stated_of_lem (head assertion.now.head).groups (map source assertion.now.premises.items)) claims.0
+            × IsMeant (state self.now) (view (assertion_lem assertion.now)).variables (claim (lexeme assertion.now.conclusion)) (tree claims.1)) }
+    {
+        let hyps = self.hyps_of(alloc, scope, stated)?;
+        let conclusion = self.formula(alloc, scope, assertion.conclusion, Wanted::Provable)?;
         Ok((hyps, conclusion))
     }
 
@@ -311,8 +378,27 @@ impl<'a> State<'a> {
     {
         check_new(&self.assertion_names, assertion.head.name)?;
         let parts = Parts::of_assertion(alloc, assertion)?;
-        self.check_parts(alloc, place, &parts)?;
-        let (hyps, conclusion) = self.claims_of(alloc, &parts, assertion)?;
+        self.assertion_with(alloc, place, assertion, &parts)
+    }
+
+    /// What an axiom or a theorem of a new name, with these parts, declares.
+    fn assertion_with(
+        &self,
+        alloc: Global,
+        place: u32,
+        assertion: &AssertText<'a>,
+        parts: &Parts<'_, 'a>,
+    ) -> Result<ThmDecl, Halt>
+        requires kept { IsKept (state self.now) }
+        requires few { length self.now.marks.items + 1 < 2 ^ 32 }
+        requires spelled { IsSpelled (assertion_lem assertion.now) }
+        requires new { AllHold (new_name (state self.now).assertion_names (lexeme assertion.now.head.name)) }
+        requires parts { AreParts parts.now (view (assertion_lem assertion.now)).variables (view (assertion_lem assertion.now)).types (view (assertion_lem assertion.now)).result }
+        ensures judged { JudgesStatement result (state self.now) place (assertion_lem assertion.now) }
+        ensures declares { IfOk result (λ d. Declares (state self.now) (assertion_lem assertion.now) (assertion_of d)) }
+    {
+        self.check_parts(alloc, place, parts)?;
+        let (hyps, conclusion) = self.claims_of(alloc, parts, assertion)?;
         let params = self.binders_of(alloc, &parts.params, &parts.params)?;
         Ok(ThmDecl {
             form: thm_form(assertion.kind),

@@ -1,6 +1,6 @@
 // Statements for math strings: operators, coercions, delimiters and general notations.
 ghost use Rattle.std.specs.Prelude.{◌≡◌, ◌+◌, ◌<◌, ◌^◌, ◌++◌, ◌∷◌, [], List, OnOk, length, map, option_map};
-ghost use Rattle.mz_checks.specs.Checks.{AllHold};
+ghost use Rattle.mz_checks.specs.Checks.{AllHold, each_in_order};
 ghost use Rattle.mz_grammar.specs.Statement.{TypeText};
 ghost use Rattle.mz_grammar.specs.Code.{coercion as coercion_lem, delimiter as delimiter_lem, lexeme, level as level_lem, literal as literal_lem, notation as notation_lem, operator as operator_lem, tail as tail_lem, type_text};
 ghost use Rattle.mz_math.specs.Forms.{IsAnswer, notation_checks};
@@ -12,8 +12,8 @@ ghost use Rattle.mz_spec.specs.Formulas.{inner as inner_lem};
 ghost use Rattle.mz_spec.specs.Forms.{AreLiterals, MakesNotation, level_of as level_of_lem, tail_of as tail_of_lem};
 ghost use Rattle.mz_spec.specs.Kept.{IsKept, IsSpelled};
 ghost use Rattle.mz_spec.specs.Noting.{halt_of as halt_of_lem, named_rules, noting_rules};
-ghost use Rattle.mz_spec.specs.Rules.{are_others};
-ghost use Rattle.mz_spec.specs.View.{Variable as VariableLem, view};
+ghost use Rattle.mz_spec.specs.Rules.{are_others, is_level};
+ghost use Rattle.mz_spec.specs.View.{Variable as VariableLem, literal_levels, tail_levels, view};
 
 use crate::formulas::inner;
 use crate::levels::{level_of, tail_of};
@@ -199,8 +199,32 @@ impl<'a> State<'a> {
         let literals = Literals::of(alloc, &notation.literals, notation.last)?;
         let tail = tail_of(notation.tail)?;
         let parts = Parts::of_notation(alloc, notation)?;
-        self.check_notation(alloc, place, notation.head.name, &parts)?;
-        match self.note_general(alloc, notation, &parts, &literals, tail) {
+        self.notation_with(alloc, place, notation, &parts, &literals, tail)
+    }
+
+    /// Adds a general notation with these parts, literals and tail, whose levels are right.
+    fn notation_with(
+        &mut self,
+        alloc: Global,
+        place: u32,
+        notation: &NotationText<'a>,
+        parts: &Parts<'_, 'a>,
+        literals: &Literals,
+        tail: Option<Tail>,
+    ) -> Result<(), Halt>
+        requires kept { IsKept (state self.old) }
+        requires few { length self.old.marks.items + 1 < 2 ^ 32 }
+        requires spelled { IsSpelled (notation_lem notation.now) }
+        requires levels { AllHold (each_in_order is_level (literal_levels (map literal_lem notation.now.literals.items ++ literal_lem notation.now.last ∷ []))) }
+        requires tail_level { AllHold (each_in_order is_level (tail_levels (option_map tail_lem notation.now.tail))) }
+        requires parts { AreParts parts.now (view (notation_lem notation.now)).variables (view (notation_lem notation.now)).types (view (notation_lem notation.now)).result }
+        requires literals { AreLiterals literals.now.text.items (map literal_lem notation.now.literals.items ++ literal_lem notation.now.last ∷ []) literals.now.spans.items }
+        requires tail { tail ≡ tail_of_lem (option_map tail_lem notation.now.tail) }
+        ensures judged { JudgesStatement result (state self.old) place (notation_lem notation.now) }
+        ensures after { OnOk result (After (state self.old) place (notation_lem notation.now) (state self.new)) }
+    {
+        self.check_notation(alloc, place, notation.head.name, parts)?;
+        match self.note_general(alloc, notation, parts, literals, tail) {
             Ok(()) => Ok(()),
             Err(fault) => Err(halt_of(place, fault)),
         }

@@ -1,6 +1,10 @@
 // Reading a specification.
-ghost use Rattle.std.specs.Prelude.{◌≡◌, ◌<◌, ◌^◌, length};
+ghost use Rattle.std.specs.Prelude.{◌≡◌, ◌<◌, ◌^◌, length, IfErr, OnOk};
 ghost use Rattle.mz_spec.specs.Answers.{IsAnswer, halted as halted_lem};
+ghost use Rattle.mz_spec.specs.Entries.{state as state_lem};
+ghost use Rattle.mz_spec.specs.Kept.{IsKept};
+ghost use Rattle.mz_spec.specs.Spec.{SpecMakes};
+ghost use Rattle.mz_spec.specs.State.{entries_of, nothing};
 
 use crate::refusal::SpecRefusal;
 use crate::spec::Spec;
@@ -25,16 +29,35 @@ pub fn read_spec(alloc: Global, text: &[u8]) -> SpecRead
     ensures { IsAnswer text.now result }
 {
     let mut state = State::new(alloc);
+    match read_into(alloc, text, &mut state) {
+        Ok(()) => SpecRead::Spec(state.into_spec()),
+        Err((statement, halt)) => halted(statement, halt),
+    }
+}
+
+/// Adds all that a text declares to a state in which nothing is declared.
+///
+/// # Errors
+///
+/// At the first fault, or where there is no memory: the number of the statement, counted from 1, and why.
+fn read_into<'a>(alloc: Global, text: &'a [u8], state: &mut State<'a>) -> Result<(), (u32, Halt)>
+    requires small { length text.now < 2 ^ 32 }
+    requires empty { state_lem state.old ≡ nothing }
+    ensures made { OnOk result (SpecMakes text.now (entries_of state.new.env state.new.marks.items)) }
+    ensures kept { OnOk result (IsKept (state_lem state.new)) }
+    ensures few { OnOk result (length state.new.marks.items < 2 ^ 32) }
+    ensures stops { IfErr result (λ at. IsAnswer text.now (halted_lem at.0 at.1)) }
+{
     let mut at = 0;
     let mut statement = 1;
     'statements: loop {
         let read = match read_statement(alloc, text, at) {
-            Ok(None) => return SpecRead::Spec(Spec::new(state.env, state.marks)),
+            Ok(None) => return Ok(()),
             Ok(Some(read)) => read,
-            Err(halt) => return halted(statement, halt),
+            Err(halt) => return Err((statement, halt)),
         };
         if let Err(halt) = state.add(alloc, read.place, read.statement) {
-            return halted(statement, halt);
+            return Err((statement, halt));
         }
         at = read.end;
         statement += 1;

@@ -5,10 +5,10 @@ ghost use Rattle.mz_spec.specs.Answers.{JudgesStatement};
 ghost use Rattle.mz_spec.specs.Declaring.{After};
 ghost use Rattle.mz_spec.specs.Entries.{state};
 ghost use Rattle.mz_spec.specs.Kept.{IsKept, IsSpelled};
-ghost use Rattle.mz_spec.specs.State.{nothing};
+ghost use Rattle.mz_spec.specs.State.{entries_of, nothing};
 
 use crate::names::Names;
-use crate::spec::Mark;
+use crate::spec::{Mark, Spec};
 use mz_grammar::{Halt, Statement};
 use mz_logic::Env;
 use mz_math::Notations;
@@ -63,5 +63,14 @@ impl<'a> State<'a> {
             Statement::Delimiter(delimiter) => self.add_delimiter(place, delimiter),
             Statement::Notation(notation) => self.add_notation(alloc, place, &notation),
         }
+    }
+
+    /// The declarations, with their marks.
+    pub fn into_spec(self) -> Spec
+        requires kept { IsKept (state self) }
+        requires few { length self.marks.items < 2 ^ 32 }
+        ensures { result ≡ entries_of self.entry.env self.entry.marks.items }
+    {
+        Spec::new(self.env, self.marks)
     }
 }

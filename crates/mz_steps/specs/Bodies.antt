@@ -1,4 +1,4 @@
--- A statement's body: commands, in their bytes, that make what the statement says.
+-- A statement's body: commands, in their bytes, that make what the statement says (the .mmb format, on proof streams).
 use Rattle.std.specs.Prelude.{◌≡◌, ◌≤◌, ◌++◌, ℕ, false, List, [], ◌∷◌}
 use Rattle.mz_cmd.specs.declared.code.ProofCode.{ProofCode}
 use Rattle.mz_logic.specs.Tree.{Tree}

@@ -7,3 +7,4 @@ pub mod Laws
 pub mod Growing
 pub mod Reaching
 pub mod Bodies
+pub mod SharedBodies

@@ -1,4 +1,5 @@
--- Two lists of statements that are one but for the dummies of definitions' bodies.
+-- Two lists of statements that are one but for the dummies of definitions' bodies (mm0.md, on definitions: the names of
+-- dummies don't matter).
 use Rattle.std.specs.Prelude.{◌≡◌, List}
 use Rattle.mz_logic.specs.Declaration.{Declaration, sort_decl, term_decl, assertion_decl}
 use Rattle.mz_logic.specs.LegalLists.{Statement, declarations}

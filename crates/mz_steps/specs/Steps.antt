@@ -1,4 +1,5 @@
--- What each command of a body makes, in the logic's words. Nothing here speaks of a machine.
+-- What each command of a body makes (the .mmb format, its list of proof commands), in the logic's words. Nothing here
+-- speaks of a machine.
 use Rattle.std.specs.Prelude.{◌≡◌, ℕ, ◌+◌, ◌⊎◌, Bool, true, false, List, [], ◌∷◌, ◌++◌, length, map, reverse, slice_get, Contains, Some, Result, Ok}
 use Rattle.mz_cmd.specs.declared.rule.K.{K}
 use Rattle.mz_cmd.specs.declared.code.ProofCode.{ProofCode}

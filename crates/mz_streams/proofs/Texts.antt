@@ -14,7 +14,7 @@ use Rattle.mz_unify.proofs.Trees.{all-sorted-append}
 use Rattle.mz_steps.specs.Works.{renamed, all_renamed, name_in, from_to, place_of}
 use Rattle.mz_steps.proofs.Naming.{place-at}
 use Rattle.mz_streams.specs.Writing.{Writing, Written, writing_start, write, write_hyps, assertion_written, definition_written, body_spelled, dummies_spelled, spelled_dummies, stream_of, AreShort}
-use Rattle.mz_streams.specs.Sharing.{Built, Builds, BuildsHyps, BuildsText, IsWhole, BuildsNothingTwice}
+use Rattle.mz_streams.specs.Sharing.{Built, Builds, BuildsHyps, BuildsText, IsWhole, BuildsWholeOnce}
 use Rattle.mz_streams.specs.Laws.{AssertionsAreWritten, DefinitionsAreWritten, AssertionsAreShared, DefinitionsAreShared}
 use Rattle.mz_streams.proofs.Forgetting.{building-spells}
 use Rattle.mz_streams.proofs.Marking.{place-front, place-below, place-among}
@@ -118,8 +118,8 @@ module _ (sigs : List Signature) (params ctx : List Binder) (w w' : Writing) (bs
     all-unnamed (more e es) h =
         ap (λ (z : Tree). more z (all_renamed unname (all_renamed (name_in met) es))) (unnamed e λ y o. h y (inl o)) ∙ ap (more e) (all-unnamed es λ y o. h y (inr o))
 
-  pub nothing-twice : BuildsNothingTwice (length params) (all_spelled sigs ctx (from_to 0 params) in-the-end bs)
-  nothing-twice = record {
+  pub whole-once : BuildsWholeOnce (length params) (all_spelled sigs ctx (from_to 0 params) in-the-end bs)
+  whole-once = record {
     saves_whole = λ i c at saved.
         (let (b, b-at, is) = map-back spell bs i c at in
         let (_, (others, prefix)) = known i b b-at in
@@ -136,7 +136,7 @@ module _ (sigs : List Signature) (params ctx : List Binder) (w w' : Writing) (bs
 
 -- ---- the statements' streams
 
-sorted-turned : (sigs : List Signature) (ctx : List Binder) (es : List Tree) → AllSorted sigs ctx es → AllSorted sigs ctx (reverse es)
+pub sorted-turned : (sigs : List Signature) (ctx : List Binder) (es : List Tree) → AllSorted sigs ctx es → AllSorted sigs ctx (reverse es)
 sorted-turned sigs ctx [] h = h
 sorted-turned sigs ctx (e ∷ es) (h, hs) = subst (AllSorted sigs ctx) (sym (reverse-append (e ∷ []) es)) (all-sorted-append sigs ctx (reverse es) e (sorted-turned sigs ctx es hs) h)
 
@@ -154,7 +154,7 @@ starts sigs params ctx last = ap from (own-kept params last)
 
 abbrev WritesWell : StreamKind → List Signature → List Binder → List ℕ → Trees → Tree → List Binder → Type 0
 WritesWell kind sigs params stream hyps e dummies =
-    (end : Marks) × (bs : List Built) × BuildsText kind sigs params stream hyps e end bs × BuildsNothingTwice (length params) bs × (end.dummies ≡ dummies)
+    (end : Marks) × (bs : List Built) × BuildsText kind sigs params stream hyps e end bs × BuildsWholeOnce (length params) bs × (end.dummies ≡ dummies)
 
 -- over the parameters' number, their marks, and the expression
 as-stated : (sigs : List Signature) (k k' : ℕ) (m m' mid : Marks) (us rest : List UnifyCommand) (e e' : Tree) (cs : List Built) → k ≡ k' → m ≡ m' → e ≡ e'
@@ -196,7 +196,7 @@ assertion-well sigs params hyps e further hyps-sorted (s, has) short =
             (subst (λ (z : List Tree). BuildsHyps (length own) sigs (marks sigs params own last a.after) b.commands z (marks sigs params own last b.after) (all_spelled sigs params own last second.bs)) (hyps-self sigs params last hs hs-sorted) rest),
         map-append (spelled sigs params own last) first.bs second.bs,
       ),
-      nothing-twice sigs params params w0 b.after bs (good-join own w0 a.after b.after first.bs second.bs first.good second.good)
+      whole-once sigs params params w0 b.after bs (good-join own w0 a.after b.after first.bs second.bs first.good second.good)
           (known-join own a.after b.after first.bs second.bs second.good.grown first.known second.known),
       ap (spelled_dummies params) none-met,
     )
@@ -228,7 +228,7 @@ definition-well sigs params dummies body further (s, has) short =
         (refl, refl, refl),
         sym (append-nil (all_spelled sigs ctx own last first.bs)),
       ),
-      nothing-twice sigs params ctx w0 a.after first.bs first.good first.known,
+      whole-once sigs params ctx w0 a.after first.bs first.good first.known,
       refl,
     )
 
@@ -246,7 +246,7 @@ definitions-written sigs params dummies body sorted short further =
     (definition-well sigs params dummies body further sorted short)
 
 pub assertions-shared : AssertionsAreShared
-assertions-shared sigs params hyps e further hyps-sorted sorted short = let (end, bs, builds, twice, _) = assertion-well sigs params hyps e further hyps-sorted sorted short in (end, bs, builds, twice)
+assertions-shared sigs params hyps e hyps-sorted sorted short further = let (end, bs, builds, twice, _) = assertion-well sigs params hyps e further hyps-sorted sorted short in (end, bs, builds, twice)
 
 pub definitions-shared : DefinitionsAreShared
-definitions-shared sigs params dummies body further sorted short = let (end, bs, builds, twice, _) = definition-well sigs params dummies body further sorted short in (end, bs, builds, twice)
+definitions-shared sigs params dummies body sorted short further = let (end, bs, builds, twice, _) = definition-well sigs params dummies body further sorted short in (end, bs, builds, twice)

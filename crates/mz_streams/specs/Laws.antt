@@ -3,17 +3,17 @@ use Rattle.std.specs.Prelude.{ℕ, ◌≡◌, ◌+◌, ◌*◌, ◌≤◌, ◌<�
 use Rattle.mz_logic.specs.Tree.{Tree, Trees, var, app, none, more, listed, size, trees_size}
 use Rattle.mz_logic.specs.Signature.{Signature}
 use Rattle.mz_logic.specs.Declaration.{defined}
-use Rattle.mz_logic.specs.Variables.{Occurs}
 use Rattle.mz_logic.specs.Legality.{Each, IsDummy, AreParams}
 use Rattle.mz_logic.specs.declared.binder.Binder.{Binder}
 use Rattle.mz_logic.specs.declared.binder.SortMods.{SortMods}
 use Rattle.mz_unify.specs.Streams.{StreamKind, of_assertion, of_definition, u_term, u_term_save, u_ref, u_dummy}
 use Rattle.mz_unify.specs.Spells.{dummy_of, Marks, SpellsText}
 use Rattle.mz_unify.specs.Sorted.{Sorted, AllSorted}
-use Rattle.mz_steps.specs.Sameness.{IsSameForm}
+use Rattle.mz_steps.specs.Sameness.{IsInside, IsSameForm}
 use Rattle.mz_streams.specs.Writing.{assertion_written, definition_written, body_spelled, dummies_spelled, stream_of, AreShort}
 use Rattle.mz_streams.specs.SpellsBefore.{SpellsBefore}
-use Rattle.mz_streams.specs.Sharing.{Built, BuildsText, SharedStream}
+use Rattle.mz_streams.specs.SharedTexts.{SharesBefore}
+use Rattle.mz_streams.specs.Sharing.{Built, BuildsText}
 
 -- what builds spells
 abbrev pub BuildingSpells : Type 0
@@ -38,16 +38,16 @@ SpelledBodiesAreSame = (ss : List SortMods) (sigs : List Signature) (params dumm
     → AreParams ss params → Each dummies (λ _ b. IsDummy b) → Sorted sigs (params ++ dummies) body
     → IsSameForm params (defined dummies body) (defined (dummies_spelled params dummies body) (body_spelled params dummies body))
 
--- and both build nothing twice
+-- and both build no application twice once all its dummies are met, whatever follows them
 abbrev pub AssertionsAreShared : Type 0
-AssertionsAreShared = (sigs : List Signature) (params : List Binder) (hyps : Trees) (e : Tree) (further : List ℕ)
+AssertionsAreShared = (sigs : List Signature) (params : List Binder) (hyps : Trees) (e : Tree)
     → AllSorted sigs params (listed hyps) → Sorted sigs params e → AreShort (assertion_written params hyps e).commands
-    → SharedStream of_assertion sigs params (stream_of (assertion_written params hyps e).commands ++ further) hyps e
+    → SharesBefore of_assertion sigs params (stream_of (assertion_written params hyps e).commands) hyps e
 
 abbrev pub DefinitionsAreShared : Type 0
-DefinitionsAreShared = (sigs : List Signature) (params dummies : List Binder) (body : Tree) (further : List ℕ)
+DefinitionsAreShared = (sigs : List Signature) (params dummies : List Binder) (body : Tree)
     → Sorted sigs (params ++ dummies) body → AreShort (definition_written params dummies body).commands
-    → SharedStream of_definition sigs params (stream_of (definition_written params dummies body).commands ++ further) none (body_spelled params dummies body)
+    → SharesBefore of_definition sigs params (stream_of (definition_written params dummies body).commands) none (body_spelled params dummies body)
 
 -- ---- operands of four bytes
 
@@ -81,7 +81,7 @@ DefinitionsAreBounded = (sigs : List Signature) (params dummies : List Binder) (
 -- the spelled body has only variables of the parameters and of the dummies that were met
 abbrev pub SpelledBodiesAreInside : Type 0
 SpelledBodiesAreInside = (sigs : List Signature) (params dummies : List Binder) (body : Tree) → Sorted sigs (params ++ dummies) body
-    → (y : ℕ) → Occurs y (body_spelled params dummies body) → y < length params + length (dummies_spelled params dummies body)
+    → IsInside params (dummies_spelled params dummies body) (body_spelled params dummies body)
 
 -- whatever spells a text builds something
 abbrev pub SpellingBuilds : Type 0

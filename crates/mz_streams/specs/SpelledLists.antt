@@ -1,9 +1,8 @@
 -- The list that a compiled file spells: a text's list with each definition's dummies in the order in which they are met.
-use Rattle.std.specs.Prelude.{⊤, ℕ, ◌<◌, ◌+◌, List, [], ◌∷◌, length, map}
+use Rattle.std.specs.Prelude.{List, map}
 use Rattle.mz_logic.specs.Declaration.{Form, plain_form, abstract_form, defined, Declaration, sort_decl, term_decl, assertion_decl}
 use Rattle.mz_logic.specs.Legality.{IsLegalEnv}
 use Rattle.mz_logic.specs.LegalLists.{Statement, declarations}
-use Rattle.mz_logic.specs.Variables.{Occurs}
 use Rattle.mz_logic.specs.declared.binder.Binder.{Binder}
 use Rattle.mz_steps.specs.SameLists.{IsSameList}
 use Rattle.mz_streams.specs.Writing.{body_spelled, dummies_spelled}
@@ -24,21 +23,6 @@ statement_spelled s = record s { decl = decl_spelled s.decl }
 abbrev pub list_spelled : List Statement → List Statement
 list_spelled ss = map statement_spelled ss
 
--- a body has only variables of its n parameters and its dummies
-abbrev pub IsInside : ℕ → Form → Type 0
-IsInside n plain_form = ⊤
-IsInside n abstract_form = ⊤
-IsInside n (defined dummies body) = (y : ℕ) → Occurs y body → y < n + length dummies
-
-abbrev pub IsBodyInside : Declaration → Type 0
-IsBodyInside (sort_decl m) = ⊤
-IsBodyInside (term_decl d) = IsInside (length d.signature.params) d.form
-IsBodyInside (assertion_decl a) = ⊤
-
-abbrev pub BodiesInside : List Statement → Type 0
-BodiesInside [] = ⊤
-BodiesInside (s ∷ ss) = IsBodyInside s.decl × BodiesInside ss
-
 -- of a legal list it is the same list
 abbrev pub SpelledListsAreSame : Type 0
-SpelledListsAreSame = (ss : List Statement) → IsLegalEnv (declarations ss) → IsSameList ss (list_spelled ss) × BodiesInside (list_spelled ss)
+SpelledListsAreSame = (ss : List Statement) → IsLegalEnv (declarations ss) → IsSameList ss (list_spelled ss)

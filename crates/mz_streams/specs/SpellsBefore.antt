@@ -1,4 +1,4 @@
--- Bytes that spell a text, whatever follows them.
+-- Bytes that spell a text, whatever follows them (the .mmb format, on unify streams).
 use Rattle.std.specs.Prelude.{ℕ, List, ◌++◌}
 use Rattle.mz_logic.specs.Tree.{Tree, Trees}
 use Rattle.mz_logic.specs.Signature.{Signature}

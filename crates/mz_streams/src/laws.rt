@@ -12,7 +12,7 @@ pub fn streams_spell()
     ensures inside { SpelledBodiesAreInside }
 {}
 
-/// The streams that are written build nothing twice.
+/// The streams that are written build no application twice once all its dummies are met.
 pub fn streams_share()
     ensures assertions { AssertionsAreShared }
     ensures definitions { DefinitionsAreShared }

@@ -1,5 +1,5 @@
 //! The unify streams that a compiler writes, as a function, and that they spell what they are written for and build
-//! nothing twice.
+//! no application twice once all its dummies are met.
 #![tactic(auto)]
 
 mod laws;

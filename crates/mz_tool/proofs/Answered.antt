@@ -1,10 +1,10 @@
 -- What is answered over the contents of files is the answer over the folder.
-use Rattle.std.proofs.Common.{◌≡◌, ◌∙◌, ◌⊎◌, ◌≤◌, ℕ, List, [], ◌∷◌, length, Option, Some, None, sym, subst, inl, inr, refl, ap, true, false, arith}
+use Rattle.std.proofs.Common.{◌≡◌, ◌∙◌, ◌⊎◌, ◌≤◌, ℕ, List, [], ◌∷◌, length, Option, Some, None, sym, subst, inl, inr, refl, true, arith}
 use Rattle.mz_match.specs.declared.verdict.Counts.{Counts}
 use Rattle.mz_match.specs.declared.verdict.Verdict.{Verdict}
 use Rattle.mz_match.specs.declared.verdict.Verdict.TheVariants as verdicts
-use Rattle.mz_match.specs.Verdict.{AcceptsWith, FirstRefusal, IsVerdict, IsSound, line_of}
-use Rattle.std.specs.Prelude.{◌&&◌, nat_le, bytes_eq}
+use Rattle.mz_match.specs.Verdict.{AcceptsWith, IsVerdict, IsSound, line_of}
+use Rattle.std.specs.Prelude.{nat_le, bytes_eq}
 use Rattle.std.specs.List.{list_any}
 use Rattle.std.proofs.lemmas.Bool.{or_cases, or_left, or_right, and_parts, and_from, le-leb, leb-true}
 use Rattle.mz_io.specs.Outside.{SameFiles, Rooms, HasRoom, serves}
@@ -14,7 +14,7 @@ use Rattle.mz_emit.specs.declared.compiled.Compiled.{Compiled}
 use Rattle.mz_emit.specs.declared.compiled.Compiled.TheVariants as answers
 use Rattle.mz_emit.specs.Lines.{line_of as line_of_compiled}
 use Rattle.mz_emit.specs.Limits.{limit, over}
-use Rattle.mz_emit.specs.Compiling.{IsCompilation, CompilesTo, IsCompilable, PassesLimit, IsDecided}
+use Rattle.mz_emit.specs.Compiling.{IsCompilation, CompilesTo, IsCompilable, IsDecided}
 use Rattle.mz_tool.specs.declared.outcome.Outcome.TheVariants as outcomes
 use Rattle.mz_tool.specs.Request.{Request, verify, compile, Files, Hold, names_read, IsPut, longest}
 use Rattle.mz_tool.specs.declared.outcome.Outcome.{Outcome}
@@ -196,4 +196,47 @@ module _ (r : Request) (xs : List (List ℕ)) (a b text : List ℕ) (asked : r �
   compile-only_no o none line is =
       let P : Request → Type 0 = λ q. IsNoOf q xs line in
       let Q : List (List ℕ) → Type 0 = λ ys. IsNoOf (compile a b) ys line in
+      none line (subst Q read (subst P asked is))
+
+-- ---- an answer to one request over some contents is one to the same request over the same contents
+
+module _ (r q : Request) (xs ys : List (List ℕ)) (asked : r ≡ q) (read : xs ≡ ys) where
+  pub same-yes : (o : Outcome) → IfYes o (λ put line. IsYesOf q ys put line) → IfYes o (λ put line. IsYesOf r xs put line)
+  same-yes o is =
+      let P : Request → Type 0 = λ z. IfYes o (λ put line. IsYesOf z xs put line) in
+      let Q : List (List ℕ) → Type 0 = λ zs. IfYes o (λ put line. IsYesOf q zs put line) in
+      subst P (sym asked) (subst Q (sym read) is)
+
+  pub same-no : (o : Outcome) → IfNo o (λ line. IsNoOf q ys line) → IfNo o (λ line. IsNoOf r xs line)
+  same-no o is =
+      let P : Request → Type 0 = λ z. IfNo o (λ line. IsNoOf z xs line) in
+      let Q : List (List ℕ) → Type 0 = λ zs. IfNo o (λ line. IsNoOf q zs line) in
+      subst P (sym asked) (subst Q (sym read) is)
+
+  pub same-proved : (o : Outcome) → IsProvedOf q ys → OnYes o (IsProvedOf r xs)
+  same-proved o is =
+      let P : Request → Type 0 = λ z. IsProvedOf z xs in
+      let Q : List (List ℕ) → Type 0 = λ zs. IsProvedOf q zs in
+      on-yes o (subst P (sym asked) (subst Q (sym read) is)) where
+        on-yes : (o : Outcome) → IsProvedOf r xs → OnYes o (IsProvedOf r xs)
+        on-yes (outcomes.Yes put line) proved = proved
+        on-yes (outcomes.No line) proved = tt
+        on-yes outcomes.Mem proved = tt
+
+  pub same-sound : (o : Outcome) → OnYes o (IsProvedOf q ys) → OnYes o (IsProvedOf r xs)
+  same-sound o is =
+      let P : Request → Type 0 = λ z. OnYes o (IsProvedOf z xs) in
+      let Q : List (List ℕ) → Type 0 = λ zs. OnYes o (IsProvedOf q zs) in
+      subst P (sym asked) (subst Q (sym read) is)
+
+  pub same-only_yes : (o : Outcome) → ((put : Option (List ℕ)) (line : List ℕ) → IsYesOf q ys put line → OnNo o ⊥) → (put : Option (List ℕ)) (line : List ℕ) → IsYesOf r xs put line → OnNo o ⊥
+  same-only_yes o none put line is =
+      let P : Request → Type 0 = λ z. IsYesOf z xs put line in
+      let Q : List (List ℕ) → Type 0 = λ zs. IsYesOf q zs put line in
+      none put line (subst Q read (subst P asked is))
+
+  pub same-only_no : (o : Outcome) → ((line : List ℕ) → IsNoOf q ys line → OnYes o ⊥) → (line : List ℕ) → IsNoOf r xs line → OnYes o ⊥
+  same-only_no o none line is =
+      let P : Request → Type 0 = λ z. IsNoOf z xs line in
+      let Q : List (List ℕ) → Type 0 = λ zs. IsNoOf q zs line in
       none line (subst Q read (subst P asked is))

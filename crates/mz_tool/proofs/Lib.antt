@@ -1,4 +1,9 @@
 mod Requests
+mod Sizes
+mod StatedBodies
+mod StatedLists
 mod Answered
+mod Sampled
+mod Assemblies
+mod Rests
 mod Listed
-mod ShortLists

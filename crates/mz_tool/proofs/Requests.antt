@@ -1,6 +1,7 @@
 -- The words say which request they ask for.
 use Rattle.std.proofs.Common.{◌≡◌, ◌∙◌, ℕ, List, [], ◌∷◌, length, get_or, ap, sym, arith}
-use Rattle.mz_tool.specs.Request.{Request, verify, show, compile, words_of, Asks}
+use Rattle.std.proofs.lemmas.Fmt.{decimal_injective}
+use Rattle.mz_tool.specs.Request.{Request, verify, show, compile, assemble, axioms, sample, words_of, IsInRange, Asks}
 
 first : List (List ℕ) → List ℕ
 first [] = []
@@ -24,18 +25,69 @@ commands-differ : (spec bin text out : List ℕ) → words_of (verify spec bin) 
 unfolding first
 commands-differ spec bin text out e = let n : 118 ≡ 99 = ap (λ word. get_or word 0 0) (ap first e) in omega (arith, n)
 
-same-words : (r s : Request) → words_of r ≡ words_of s → r ≡ s
+listings-differ : (listing out spec bin : List ℕ) → words_of (assemble listing out) ≡ words_of (verify spec bin) → ⊥
+unfolding first
+listings-differ listing out spec bin e = let n : 97 ≡ 118 = ap (λ word. get_or word 0 0) (ap first e) in omega (arith, n)
+
+makers-differ : (listing out text out' : List ℕ) → words_of (assemble listing out) ≡ words_of (compile text out') → ⊥
+unfolding first
+makers-differ listing out text out' e = let n : 97 ≡ 99 = ap (λ word. get_or word 0 0) (ap first e) in omega (arith, n)
+
+rests-differ : (spec bin spec' bin' : List ℕ) → words_of (axioms spec bin) ≡ words_of (verify spec' bin') → ⊥
+unfolding first
+rests-differ spec bin spec' bin' e = let n : 97 ≡ 118 = ap (λ word. get_or word 0 0) (ap first e) in omega (arith, n)
+
+rests-compiled : (spec bin text out : List ℕ) → words_of (axioms spec bin) ≡ words_of (compile text out) → ⊥
+unfolding first
+rests-compiled spec bin text out e = let n : 97 ≡ 99 = ap (λ word. get_or word 0 0) (ap first e) in omega (arith, n)
+
+rests-assembled : (spec bin listing out : List ℕ) → words_of (axioms spec bin) ≡ words_of (assemble listing out) → ⊥
+unfolding first
+rests-assembled spec bin listing out e = let n : 120 ≡ 115 = ap (λ word. get_or word 1 0) (ap first e) in omega (arith, n)
+
+lists-differ : (bin : List ℕ) (n : ℕ) → words_of (show bin) ≡ words_of (sample n) → ⊥
+unfolding first
+lists-differ bin n e = let m : 104 ≡ 97 = ap (λ word. get_or word 1 0) (ap first e) in omega (arith, m)
+
+same-words : (r s : Request) → words_of r ≡ words_of s → IsInRange r → IsInRange s → r ≡ s
 unfolding second third
-same-words (verify spec bin) (verify spec' bin') e = ap (λ name. verify name bin) (ap second e) ∙ ap (λ name. verify spec' name) (ap third e)
-same-words (verify spec bin) (show bin') e = absurd (lengths-differ _ _ _ _ _ e)
-same-words (show bin) (verify spec' bin') e = absurd (lengths-differ _ _ _ _ _ (sym e))
-same-words (show bin) (show bin') e = ap show (ap second e)
-same-words (compile text out) (compile text' out') e = ap (λ name. compile name out) (ap second e) ∙ ap (λ name. compile text' name) (ap third e)
-same-words (compile text out) (show bin) e = absurd (lengths-differ _ _ _ _ _ e)
-same-words (show bin) (compile text out) e = absurd (lengths-differ _ _ _ _ _ (sym e))
-same-words (verify spec bin) (compile text out) e = absurd (commands-differ spec bin text out e)
-same-words (compile text out) (verify spec bin) e = absurd (commands-differ spec bin text out (sym e))
+same-words (verify spec bin) (verify spec' bin') e i j = ap (λ name. verify name bin) (ap second e) ∙ ap (λ name. verify spec' name) (ap third e)
+same-words (verify spec bin) (show bin') e i j = absurd (lengths-differ _ _ _ _ _ e)
+same-words (verify spec bin) (compile text out) e i j = absurd (commands-differ spec bin text out e)
+same-words (verify spec bin) (assemble listing out) e i j = absurd (listings-differ listing out spec bin (sym e))
+same-words (verify spec bin) (axioms spec' bin') e i j = absurd (rests-differ spec' bin' spec bin (sym e))
+same-words (verify spec bin) (sample n) e i j = absurd (lengths-differ _ _ _ _ _ e)
+same-words (show bin) (verify spec' bin') e i j = absurd (lengths-differ _ _ _ _ _ (sym e))
+same-words (show bin) (show bin') e i j = ap show (ap second e)
+same-words (show bin) (compile text out) e i j = absurd (lengths-differ _ _ _ _ _ (sym e))
+same-words (show bin) (assemble listing out) e i j = absurd (lengths-differ _ _ _ _ _ (sym e))
+same-words (show bin) (axioms spec bin') e i j = absurd (lengths-differ _ _ _ _ _ (sym e))
+same-words (show bin) (sample n) e i j = absurd (lists-differ bin n e)
+same-words (compile text out) (verify spec bin) e i j = absurd (commands-differ spec bin text out (sym e))
+same-words (compile text out) (show bin) e i j = absurd (lengths-differ _ _ _ _ _ e)
+same-words (compile text out) (compile text' out') e i j = ap (λ name. compile name out) (ap second e) ∙ ap (λ name. compile text' name) (ap third e)
+same-words (compile text out) (assemble listing out') e i j = absurd (makers-differ listing out' text out (sym e))
+same-words (compile text out) (axioms spec bin) e i j = absurd (rests-compiled spec bin text out (sym e))
+same-words (compile text out) (sample n) e i j = absurd (lengths-differ _ _ _ _ _ e)
+same-words (assemble listing out) (verify spec bin) e i j = absurd (listings-differ listing out spec bin e)
+same-words (assemble listing out) (show bin) e i j = absurd (lengths-differ _ _ _ _ _ e)
+same-words (assemble listing out) (compile text out') e i j = absurd (makers-differ listing out text out' e)
+same-words (assemble listing out) (assemble listing' out') e i j = ap (λ name. assemble name out) (ap second e) ∙ ap (λ name. assemble listing' name) (ap third e)
+same-words (assemble listing out) (axioms spec bin) e i j = absurd (rests-assembled spec bin listing out (sym e))
+same-words (assemble listing out) (sample n) e i j = absurd (lengths-differ _ _ _ _ _ e)
+same-words (axioms spec bin) (verify spec' bin') e i j = absurd (rests-differ spec bin spec' bin' e)
+same-words (axioms spec bin) (show bin') e i j = absurd (lengths-differ _ _ _ _ _ e)
+same-words (axioms spec bin) (compile text out) e i j = absurd (rests-compiled spec bin text out e)
+same-words (axioms spec bin) (assemble listing out) e i j = absurd (rests-assembled spec bin listing out e)
+same-words (axioms spec bin) (axioms spec' bin') e i j = ap (λ name. axioms name bin) (ap second e) ∙ ap (λ name. axioms spec' name) (ap third e)
+same-words (axioms spec bin) (sample n) e i j = absurd (lengths-differ _ _ _ _ _ e)
+same-words (sample n) (verify spec bin) e i j = absurd (lengths-differ _ _ _ _ _ (sym e))
+same-words (sample n) (show bin) e i j = absurd (lists-differ bin n (sym e))
+same-words (sample n) (compile text out) e i j = absurd (lengths-differ _ _ _ _ _ (sym e))
+same-words (sample n) (assemble listing out) e i j = absurd (lengths-differ _ _ _ _ _ (sym e))
+same-words (sample n) (axioms spec bin) e i j = absurd (lengths-differ _ _ _ _ _ (sym e))
+same-words (sample n) (sample m) e (some, few) (some', few') = ap sample (decimal_injective n m (omega (arith, few)) (omega (arith, few')) (ap second e))
 
 -- words ask for one request at the most
 pub one-request : (words : List (List ℕ)) (r s : Request) → Asks words r → Asks words s → r ≡ s
-one-request words r s first other = same-words r s (sym first ∙ other)
+one-request words r s first other = same-words r s (sym first.0 ∙ other.0) first.1 other.1

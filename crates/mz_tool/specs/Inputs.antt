@@ -13,11 +13,13 @@ use Rattle.mz_tool.specs.declared.inputs.ReadAll.TheVariants as reads
 
 -- the names, in order
 abbrev pub names_of : Inputs → List (List ℕ)
+names_of inputs.Nothing = []
 names_of (inputs.One name) = name.now ∷ []
 names_of (inputs.Two first second) = first.now ∷ second.now ∷ []
 
 -- the bytes of the files, in order
 abbrev pub contents_of : Contents → List (List ℕ)
+contents_of contents.Nothing = []
 contents_of (contents.One bytes) = bytes.items ∷ []
 contents_of (contents.Two first second) = first.items ∷ second.items ∷ []
 

@@ -1,4 +1,5 @@
 pub mod Request
+pub mod Sizes
 pub mod Inputs
 pub mod Outcomes
 pub mod Run

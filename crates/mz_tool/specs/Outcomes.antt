@@ -1,5 +1,5 @@
 -- What a command answers over the contents of its files, case by case (this project's own).
-use Rattle.std.specs.Prelude.{ℕ, List, Option}
+use Rattle.std.specs.Prelude.{◌≡◌, ◌++◌, ⊤, ℕ, List, Option}
 use Rattle.mz_tool.specs.Inputs.{bytes_of}
 use Rattle.mz_tool.specs.declared.outcome.Outcome.{Outcome}
 use Rattle.mz_tool.specs.declared.outcome.Outcome.TheVariants as outcomes
@@ -21,3 +21,13 @@ OnYes outcome P = IfYes outcome (λ _ _. P)
 
 abbrev pub OnNo : Outcome → Type 0 → Type 0
 OnNo outcome P = IfNo outcome (λ _. P)
+
+-- the same answer, with a line before its text; want of memory may come in its place
+abbrev pub IsAfter : List ℕ → Outcome → Outcome → Type 0
+IsAfter line old outcomes.Mem = ⊤
+IsAfter line (outcomes.Yes put text) (outcomes.Yes put' text') = (bytes_of put' ≡ bytes_of put) × (text'.items ≡ line ++ text.items)
+IsAfter line (outcomes.Yes put text) (outcomes.No text') = ⊥
+IsAfter line (outcomes.No text) (outcomes.Yes put' text') = ⊥
+IsAfter line (outcomes.No text) (outcomes.No text') = text'.items ≡ line ++ text.items
+IsAfter line outcomes.Mem (outcomes.Yes put' text') = ⊥
+IsAfter line outcomes.Mem (outcomes.No text') = ⊥

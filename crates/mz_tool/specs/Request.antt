@@ -1,34 +1,55 @@
 -- What the words given to the program ask for (this project's own).
-use Rattle.std.specs.Prelude.{◌≡◌, ◌≤◌, ℕ, ⊤, List, [], ◌∷◌, length, Option, Some, None, codes, Any}
+use Rattle.std.specs.Prelude.{◌≡◌, ◌≤◌, ℕ, ⊤, List, [], ◌∷◌, length, Option, Some, None, codes, decimal, Any}
 use Rattle.mz_io.specs.Read.{IsLonger}
 use Rattle.mz_io.specs.Outside.{SameFiles, SameOthers}
 
--- a command of the program, with the names of its files
+-- a command of the program, with the names of its files; or with how many definitions a sample has
 pub data Request : Type 0 where
   verify : (spec bin : List ℕ) → Request
   show : (bin : List ℕ) → Request
   compile : (text out : List ℕ) → Request
+  assemble : (listing out : List ℕ) → Request
+  axioms : (spec bin : List ℕ) → Request
+  sample : (n : ℕ) → Request
 
 abbrev pub words_of : Request → List (List ℕ)
 words_of (verify spec bin) = codes "verify" ∷ spec ∷ bin ∷ []
 words_of (show bin) = codes "show" ∷ bin ∷ []
 words_of (compile text out) = codes "compile" ∷ text ∷ out ∷ []
+words_of (assemble listing out) = codes "assemble" ∷ listing ∷ out ∷ []
+words_of (axioms spec bin) = codes "axioms" ∷ spec ∷ bin ∷ []
+words_of (sample n) = codes "sample" ∷ decimal n ∷ []
+
+-- a sample has 1 to 10,000 definitions
+abbrev pub IsInRange : Request → Type 0
+IsInRange (verify spec bin) = Unit {0}
+IsInRange (show bin) = Unit {0}
+IsInRange (compile text out) = Unit {0}
+IsInRange (assemble listing out) = Unit {0}
+IsInRange (axioms spec bin) = Unit {0}
+IsInRange (sample n) = (1 ≤ n) × (n ≤ 10000)
 
 -- the words ask for it
 abbrev pub Asks : List (List ℕ) → Request → Type 0
-Asks words request = words ≡ words_of request
+Asks words request = (words ≡ words_of request) × IsInRange request
 
 -- the names of the files that it reads, in order
 abbrev pub names_read : Request → List (List ℕ)
 names_read (verify spec bin) = spec ∷ bin ∷ []
 names_read (show bin) = bin ∷ []
 names_read (compile text out) = text ∷ []
+names_read (assemble listing out) = listing ∷ []
+names_read (axioms spec bin) = spec ∷ bin ∷ []
+names_read (sample n) = []
 
 -- the name under which it puts a file, where it puts one
 abbrev pub name_put : Request → Option (List ℕ)
 name_put (verify spec bin) = None
 name_put (show bin) = None
 name_put (compile text out) = Some out
+name_put (assemble listing out) = Some out
+name_put (axioms spec bin) = None
+name_put (sample n) = None
 
 -- what stands under each name
 abbrev pub Files : Type 0

@@ -13,7 +13,13 @@ use Rattle.mz_emit.specs.declared.rule.L.{L}
 use Rattle.mz_emit.specs.Lines.{bytes_line, refusal_line as text_refusal_line, limit_line}
 use Rattle.mz_emit.specs.Limits.{limit, over}
 use Rattle.mz_emit.specs.Compiling.{CompilesTo, PassesLimit}
-use Rattle.mz_tool.specs.Request.{Request, verify, show, compile, Files, Hold, names_read}
+use Rattle.mz_asm.specs.declared.rule.A.{A}
+use Rattle.mz_asm.specs.Spoken.{bytes_line as assembled_line, refusal_line as listing_refusal_line, limit_line as length_line}
+use Rattle.mz_asm.specs.Assembling.{IsBinaryOf, Breaks, IsTooLong}
+use Rattle.mz_axioms.specs.Lists.{TheoremSupport, AreSupports}
+use Rattle.mz_axioms.specs.Text.{IsTextOf}
+use Rattle.mz_sample.specs.Samples.{sample_specification, sample_text, sample_line}
+use Rattle.mz_tool.specs.Request.{Request, verify, show, compile, assemble, axioms, sample, Files, Hold, names_read}
 use Rattle.mz_tool.specs.declared.status.Status.{Status}
 use Rattle.mz_tool.specs.declared.status.Status.TheVariants as statuses
 
@@ -42,6 +48,44 @@ IsNotCompiled text line =
     ((refusal : TextRefusal) × TextFault text refusal × (line ≡ text_refusal_line refusal))
     ⊎ ((rule : L) × (count : ℕ) × PassesLimit text (over (limit rule) count) × (line ≡ limit_line rule count))
 
+-- the text is a listing, and the bytes, which are put, are the binary of the statements that it says
+abbrev pub IsAssembledTo : List ℕ → Option (List ℕ) → List ℕ → Type 0
+IsAssembledTo text put line = (bin : List ℕ) × (put ≡ Some bin) × IsBinaryOf text bin × (line ≡ assembled_line (length bin))
+
+-- one of its lines breaks a rule, or it is a listing and its binary would be too long
+abbrev pub IsNotAssembled : List ℕ → List ℕ → Type 0
+IsNotAssembled text line =
+    ((number : ℕ) × (rule : A) × Breaks text number rule × (line ≡ listing_refusal_line number rule))
+    ⊎ ((count : ℕ) × IsTooLong text count × (line ≡ length_line count))
+
+-- the binary is accepted against the specification, and these are the lines of its theorems, each with the axioms on which
+-- it rests
+abbrev pub AreAxiomsTold : List ℕ → List ℕ → List ℕ → Type 0
+AreAxiomsTold spec bin text = (supports : List TheoremSupport) × AreSupports spec bin supports × IsTextOf spec supports text
+
+-- a text is compiled, and the binary accepted against the specification
+abbrev pub IsUpheld : List ℕ → List ℕ → List ℕ → Type 0
+IsUpheld spec text line = (bin : List ℕ) × CompilesTo text bin × IsVerified spec bin line
+
+-- it isn't compiled, or the binary is refused
+abbrev pub IsFaulted : List ℕ → List ℕ → List ℕ → Type 0
+IsFaulted spec text line = IsNotCompiled text line ⊎ ((bin : List ℕ) × CompilesTo text bin × IsRefuted spec bin line)
+
+-- each theorem of the specification is proved by a binary of the text
+abbrev pub IsProvedByText : List ℕ → List ℕ → Type 0
+IsProvedByText spec text = (bin : List ℕ) × CompilesTo text bin × IsSound spec bin
+
+-- the line that tells how long a sample's specification and its text are
+abbrev pub sizes_line : ℕ → List ℕ
+sizes_line n = sample_line (length (sample_specification n)) (length (sample_text n))
+
+-- the sample's text is compiled and accepted, or not: the line of the one or the other follows that of the sizes
+abbrev pub IsSampleUpheld : ℕ → List ℕ → Type 0
+IsSampleUpheld n text = (line : List ℕ) × IsUpheld (sample_specification n) (sample_text n) line × (text ≡ sizes_line n ++ line)
+
+abbrev pub IsSampleFaulted : ℕ → List ℕ → Type 0
+IsSampleFaulted n text = (line : List ℕ) × IsFaulted (sample_specification n) (sample_text n) line × (text ≡ sizes_line n ++ line)
+
 -- ---- the answers to a request, over the bytes of its files in their order
 
 -- the answer is yes; these bytes are put, where a file is put, and this is the text
@@ -49,6 +93,9 @@ abbrev pub IsYesOf : Request → List (List ℕ) → Option (List ℕ) → List 
 IsYesOf (verify spec_name bin_name) (spec ∷ bin ∷ []) put text = (put ≡ None) × IsVerified spec bin text
 IsYesOf (show bin_name) (bin ∷ []) put text = (put ≡ None) × IsListing bin text
 IsYesOf (compile text_name out_name) (stated ∷ []) put text = IsCompiledTo stated put text
+IsYesOf (assemble listing_name out_name) (listing ∷ []) put text = IsAssembledTo listing put text
+IsYesOf (axioms spec_name bin_name) (spec ∷ bin ∷ []) put text = (put ≡ None) × AreAxiomsTold spec bin text
+IsYesOf (sample n) [] put text = (put ≡ None) × IsSampleUpheld n text
 IsYesOf request contents put text = ⊥
 
 -- the answer is a refusal, and this is its text
@@ -56,6 +103,9 @@ abbrev pub IsNoOf : Request → List (List ℕ) → List ℕ → Type 0
 IsNoOf (verify spec_name bin_name) (spec ∷ bin ∷ []) text = IsRefuted spec bin text
 IsNoOf (show bin_name) (bin ∷ []) text = IsPartlyListed bin text
 IsNoOf (compile text_name out_name) (stated ∷ []) text = IsNotCompiled stated text
+IsNoOf (assemble listing_name out_name) (listing ∷ []) text = IsNotAssembled listing text
+IsNoOf (axioms spec_name bin_name) (spec ∷ bin ∷ []) text = IsRefuted spec bin text
+IsNoOf (sample n) [] text = IsSampleFaulted n text
 IsNoOf request contents text = ⊥
 
 -- What is accepted is sound: each theorem of the specification ends a front of the binary's statements, which is a legal
@@ -66,6 +116,10 @@ IsProvedOf (verify spec_name bin_name) (spec ∷ bin ∷ []) = IsSound spec bin
 IsProvedOf (verify spec_name bin_name) contents = ⊥
 IsProvedOf (show bin_name) contents = Unit {0}
 IsProvedOf (compile text_name out_name) contents = Unit {0}
+IsProvedOf (assemble listing_name out_name) contents = Unit {0}
+IsProvedOf (axioms spec_name bin_name) (spec ∷ bin ∷ []) = IsSound spec bin
+IsProvedOf (axioms spec_name bin_name) contents = ⊥
+IsProvedOf (sample n) contents = IsProvedByText (sample_specification n) (sample_text n)
 
 -- ---- the same over the folder's files
 
@@ -98,12 +152,18 @@ IsQuiet statuses.Memory = ⊥
 abbrev pub IsListedFor : Files → Request → List ℕ → Type 0
 IsListedFor file (verify spec_name bin_name) text = ⊥
 IsListedFor file (compile text_name out_name) text = ⊥
+IsListedFor file (assemble listing_name out_name) text = ⊥
+IsListedFor file (axioms spec_name bin_name) text = ⊥
+IsListedFor file (sample n) text = ⊥
 IsListedFor file (show bin_name) text = (bin : List ℕ) × (file bin_name ≡ Some bin) × IsListed bin text
 
 abbrev pub IsShow : Request → Type 0
 IsShow (verify spec bin) = ⊥
 IsShow (show bin) = Unit {0}
 IsShow (compile text out) = ⊥
+IsShow (assemble listing out) = ⊥
+IsShow (axioms spec bin) = ⊥
+IsShow (sample n) = ⊥
 
 -- the statuses at which a file may have been put, or spoilt
 abbrev pub MayPut : Status → Type 0

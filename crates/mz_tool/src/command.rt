@@ -1,12 +1,13 @@
 // The words given to the program.
-ghost use Rattle.std.specs.Prelude.{◌≡◌, map, string_bytes, IfSome, IfNone};
+ghost use Rattle.std.specs.Prelude.{◌≡◌, [], ◌∷◌, map, string_bytes, IfSome, IfNone};
 ghost use Rattle.mz_tool.specs.Request.{Request, Asks, names_read, name_put};
 ghost use Rattle.mz_tool.specs.Inputs.{names_of, name_of};
 
 use crate::inputs::Inputs;
 use crate::output::Output;
+use crate::size::SampleSize;
 
-/// A command of the program, with the names of its files.
+/// A command of the program, with the names of its files, or the size of its sample.
 #[derive(Clone, Copy)]
 pub enum Command<'a> {
     /// `verify SPEC BIN`
@@ -15,6 +16,12 @@ pub enum Command<'a> {
     Show { bin: &'a str },
     /// `compile TEXT OUT`
     Compile { text: &'a str, out: &'a str },
+    /// `assemble LIST OUT`
+    Assemble { listing: &'a str, out: &'a str },
+    /// `axioms SPEC BIN`
+    Axioms { spec: &'a str, bin: &'a str },
+    /// `sample N`
+    Sample { size: SampleSize },
 }
 
 impl<'a> Command<'a> {
@@ -26,16 +33,50 @@ impl<'a> Command<'a> {
         ensures usage { IfNone result ((asked : Request) → Asks (map string_bytes words.now) asked → ⊥) }
     {
         match words {
-            [command, spec, bin] if command.as_str() == "verify" => Some(Command::Verify {
-                spec: spec.as_str(),
-                bin: bin.as_str(),
+            [command, word] => Command::of_one(command.as_str(), word.as_str()),
+            [command, first, second] => {
+                Command::of_two(command.as_str(), first.as_str(), second.as_str())
+            }
+            _ => None,
+        }
+    }
+
+    /// The command of this name, with one word more.
+    fn of_one(name: &str, word: &'a str) -> Option<Command<'a>>
+        ensures asked { IfSome result (λ command. Asks (name.now ∷ word.now ∷ []) (request command)) }
+        ensures usage { IfNone result ((asked : Request) → Asks (name.now ∷ word.now ∷ []) asked → ⊥) }
+    {
+        match name {
+            "show" => Some(Command::Show { bin: word }),
+            "sample" => {
+                let size = SampleSize::read(word)?;
+                Some(Command::Sample { size })
+            }
+            _ => None,
+        }
+    }
+
+    /// The command of this name, with two words more.
+    fn of_two(name: &str, first: &'a str, second: &'a str) -> Option<Command<'a>>
+        ensures asked { IfSome result (λ command. Asks (name.now ∷ first.now ∷ second.now ∷ []) (request command)) }
+        ensures usage { IfNone result ((asked : Request) → Asks (name.now ∷ first.now ∷ second.now ∷ []) asked → ⊥) }
+    {
+        match name {
+            "verify" => Some(Command::Verify {
+                spec: first,
+                bin: second,
             }),
-            [command, text, out] if command.as_str() == "compile" => Some(Command::Compile {
-                text: text.as_str(),
-                out: out.as_str(),
+            "compile" => Some(Command::Compile {
+                text: first,
+                out: second,
             }),
-            [command, bin] if command.as_str() == "show" => Some(Command::Show {
-                bin: bin.as_str(),
+            "assemble" => Some(Command::Assemble {
+                listing: first,
+                out: second,
+            }),
+            "axioms" => Some(Command::Axioms {
+                spec: first,
+                bin: second,
             }),
             _ => None,
         }
@@ -49,6 +90,9 @@ impl<'a> Command<'a> {
             Command::Verify { spec, bin } => Inputs::Two(spec, bin),
             Command::Show { bin } => Inputs::One(bin),
             Command::Compile { text, .. } => Inputs::One(text),
+            Command::Assemble { listing, .. } => Inputs::One(listing),
+            Command::Axioms { spec, bin } => Inputs::Two(spec, bin),
+            Command::Sample { .. } => Inputs::Nothing,
         }
     }
 
@@ -57,8 +101,11 @@ impl<'a> Command<'a> {
         ensures { name_of result ≡ name_put (request self.entry) }
     {
         match self {
-            Command::Verify { .. } | Command::Show { .. } => Output::Nothing,
-            Command::Compile { out, .. } => Output::File(out),
+            Command::Verify { .. }
+            | Command::Show { .. }
+            | Command::Axioms { .. }
+            | Command::Sample { .. } => Output::Nothing,
+            Command::Compile { out, .. } | Command::Assemble { out, .. } => Output::File(out),
         }
     }
 }

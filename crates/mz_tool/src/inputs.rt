@@ -10,6 +10,7 @@ use std::alloc::Global;
 /// The names of the files that a command reads, in order.
 #[derive(Clone, Copy)]
 pub enum Inputs<'a> {
+    Nothing,
     One(&'a str),
     Two(&'a str, &'a str),
 }
@@ -17,6 +18,7 @@ pub enum Inputs<'a> {
 /// What these files hold.
 #[derive(Drop)]
 pub enum Contents {
+    Nothing,
     One(Vec<u8>),
     Two(Vec<u8>, Vec<u8>),
 }
@@ -105,8 +107,10 @@ impl<'a> Inputs<'a> {
         ensures rooms { F.is_clear folder.old → F.rooms folder.new ≡ F.rooms folder.old }
         ensures only_missing { F.is_clear folder.old → AreThere (F.file folder.old) (names_of self.entry) → F.faults folder.new ≡ F.faults folder.old }
         ensures unread { F.told → F.is_clear folder.old → BeginsLonger limit (F.file folder.old) (names_of self.entry) → F.faults folder.new ≡ F.faults folder.old }
+        ensures apart { names_of self.entry ≡ [] → folder.new ≡ folder.old }
     {
         match self {
+            Inputs::Nothing => ReadAll::Contents(Contents::Nothing),
             Inputs::One(name) => read_one(alloc, limit, name, folder),
             Inputs::Two(first, second) => read_two(alloc, limit, first, second, folder),
         }

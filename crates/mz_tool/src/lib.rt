@@ -1,20 +1,27 @@
-//! The program over any folder and output: verifies binaries against specifications, lists them, and compiles proof texts.
+//! The program over any folder and output: verifies binaries against specifications, lists them,
+//! makes them of listings, tells what theorems rest on, compiles proof texts, and tries itself on
+//! samples.
 //!
 //! `specs/Request.antt` says what the words ask for, and `specs/Run.antt` what is answered. The
 //! program itself (`mz_main`) hands [`run`] the folder and the output of the system.
 #![tactic(auto)]
 
+mod assemble;
+mod axioms;
 mod command;
 mod compile;
 mod inputs;
 mod outcome;
 mod output;
 mod program;
+mod sample;
 mod show;
+mod size;
 mod status;
 mod verify;
 mod whole;
 
 pub use command::Command;
 pub use program::{answer, run};
+pub use size::SampleSize;
 pub use status::{LONGEST, Status};

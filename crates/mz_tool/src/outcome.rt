@@ -6,10 +6,13 @@ ghost use Rattle.mz_tool.specs.Request.{names_read, longest};
 ghost use Rattle.mz_tool.specs.Inputs.{contents_of, AreWithin};
 ghost use Rattle.mz_tool.specs.Outcomes.{IfYes, IfNo, OnYes, OnNo};
 
+use crate::assemble::assemble;
+use crate::axioms::axioms;
 use crate::command::Command;
 use crate::compile::compile;
 use crate::inputs::Contents;
 use crate::output::Put;
+use crate::sample::sample;
 use crate::verify::verify;
 use std::alloc::Global;
 
@@ -39,6 +42,9 @@ pub fn outcome_of(alloc: Global, command: Command, contents: &Contents) -> Outco
     match (command, contents) {
         (Command::Verify { .. }, Contents::Two(spec, bin)) => verify(alloc, spec, bin),
         (Command::Compile { .. }, Contents::One(text)) => compile(alloc, text),
+        (Command::Assemble { .. }, Contents::One(listing)) => assemble(alloc, listing),
+        (Command::Axioms { .. }, Contents::Two(spec, bin)) => axioms(alloc, spec.as_slice(), bin),
+        (Command::Sample { size }, Contents::Nothing) => sample(alloc, size),
         _ => unreachable!(),
     }
 }

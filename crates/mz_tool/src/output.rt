@@ -27,6 +27,7 @@ pub fn put_file<F: Folder>(name: Output, put: &Put, folder: &mut F) -> Result<()
     ensures cause { HasCause (F.put_faults folder.old) (F.put_faults folder.new) result }
     ensures faults { F.faults folder.new ≡ F.faults folder.old }
     ensures none { name_of name.entry ≡ None → F.put_faults folder.new ≡ F.put_faults folder.old }
+    ensures apart { name_of name.entry ≡ None → folder.new ≡ folder.old }
     ensures only_room { F.is_clear folder.old → ((room : List ℕ) → name_of name.entry ≡ Some room → HasRoom (F.rooms folder.old) room longest)
         → ((bytes : List ℕ) → bytes_of put.now ≡ Some bytes → length bytes ≤ longest) → F.put_faults folder.new ≡ F.put_faults folder.old }
 {

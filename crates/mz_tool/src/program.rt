@@ -1,5 +1,5 @@
 // The program, over any folder and sink.
-ghost use Rattle.std.specs.Prelude.{◌≡◌, ◌≤◌, ◌<◌, ◌^◌, ◌++◌, ◌⊎◌, ℕ, List, Option, Some, None, length, map, string_bytes};
+ghost use Rattle.std.specs.Prelude.{◌≡◌, ◌≤◌, ◌<◌, ◌^◌, ◌++◌, ◌⊎◌, ℕ, List, [], Option, Some, None, length, map, string_bytes};
 ghost use Rattle.mz_io.specs.Outside.{Rose, HasRoom, SameFiles, AppendsPrefix};
 ghost use Rattle.mz_tool.specs.Request.{Request, Asks, names_read, name_put, IsPut, SameButPut, AreReadable, AreThere, BeginsLonger, HasLong, HasLonger, longest};
 ghost use Rattle.mz_tool.specs.Run.{IsYes, IsNo, IsAnswer, IsListedFor, IsProved, IsQuiet, IsShow, MayPut};
@@ -63,10 +63,12 @@ pub fn run<F: Folder, O: Sink>(
         ⊎ ((asked : Request) × Asks (map string_bytes words.now) asked
         × ((text : List ℕ) × IsListedFor (F.file folder.old) asked text × AppendsPrefix (O.written out.old) (O.written out.new) text)) }
 
-    // Files stay where none may have been put, and then all but that one.
+    // Files stay where none may have been put, and then all but that one; and the folder isn't called at all where no file
+    // is read and none put.
     ensures files { F.told → (MayPut result → ⊥) → SameFiles (F.file folder.old) (F.file folder.new) }
     ensures others { F.told → (asked : Request) → Asks (map string_bytes words.now) asked → SameButPut (name_put asked) (F.file folder.old) (F.file folder.new) }
     ensures put_faults { ((asked : Request) → Asks (map string_bytes words.now) asked → name_put asked ≡ None) → F.put_faults folder.new ≡ F.put_faults folder.old }
+    ensures apart { ((asked : Request) → Asks (map string_bytes words.now) asked → (names_read asked ≡ []) × (name_put asked ≡ None)) → folder.new ≡ folder.old }
 
     // Where no coming call is listed to fail, only a missing file, a want of room and a full sink are faults; after a
     // file that is too long none is looked for.
@@ -114,6 +116,7 @@ pub fn answer<F: Folder, O: Sink>(
     ensures files { F.told → (MayPut result → ⊥) → SameFiles (F.file folder.old) (F.file folder.new) }
     ensures others { F.told → SameButPut (name_put (request command.entry)) (F.file folder.old) (F.file folder.new) }
     ensures put_faults { name_put (request command.entry) ≡ None → F.put_faults folder.new ≡ F.put_faults folder.old }
+    ensures apart { names_read (request command.entry) ≡ [] → name_put (request command.entry) ≡ None → folder.new ≡ folder.old }
     ensures only_missing { F.is_clear folder.old → AreThere (F.file folder.old) (names_read (request command.entry)) → F.faults folder.new ≡ F.faults folder.old }
     ensures unread { F.told → F.is_clear folder.old → BeginsLonger limit (F.file folder.old) (names_read (request command.entry)) → F.faults folder.new ≡ F.faults folder.old }
     ensures only_room { F.is_clear folder.old → ((name : List ℕ) → name_put (request command.entry) ≡ Some name → HasRoom (F.rooms folder.old) name longest)
@@ -123,8 +126,10 @@ pub fn answer<F: Folder, O: Sink>(
 {
     match command {
         Command::Show { bin } => show(alloc, limit, bin, folder, out),
-        Command::Verify { .. } | Command::Compile { .. } => answer_whole(
-            alloc, limit, command, folder, out,
-        ),
+        Command::Verify { .. }
+        | Command::Compile { .. }
+        | Command::Assemble { .. }
+        | Command::Axioms { .. }
+        | Command::Sample { .. } => answer_whole(alloc, limit, command, folder, out),
     }
 }

@@ -1,5 +1,5 @@
 // Commands that answer at once, over the whole contents of their files.
-ghost use Rattle.std.specs.Prelude.{◌≡◌, ◌≤◌, ◌<◌, ◌++◌, ◌^◌, ◌≢◌, ℕ, List, Option, Some, None, length};
+ghost use Rattle.std.specs.Prelude.{◌≡◌, ◌≤◌, ◌<◌, ◌++◌, ◌^◌, ◌≢◌, ℕ, List, [], Option, Some, None, length};
 ghost use Rattle.mz_io.specs.Outside.{Rose, HasRoom, SameFiles, AppendsPrefix};
 ghost use Rattle.mz_tool.specs.Request.{AreThere, BeginsLonger, HasLonger, names_read, name_put, IsPut, SameButPut, longest};
 ghost use Rattle.mz_tool.specs.Run.{IsYes, IsNo, IsAnswer, IsProved, IsQuiet, IsShow, MayPut};
@@ -42,6 +42,7 @@ pub fn answer_whole<F: Folder, O: Sink>(
     ensures files { F.told → (MayPut result → ⊥) → SameFiles (F.file folder.old) (F.file folder.new) }
     ensures others { F.told → SameButPut (name_put (request command.entry)) (F.file folder.old) (F.file folder.new) }
     ensures put_faults { name_put (request command.entry) ≡ None → F.put_faults folder.new ≡ F.put_faults folder.old }
+    ensures apart { names_read (request command.entry) ≡ [] → name_put (request command.entry) ≡ None → folder.new ≡ folder.old }
     ensures only_missing { F.is_clear folder.old → AreThere (F.file folder.old) (names_read (request command.entry)) → F.faults folder.new ≡ F.faults folder.old }
     ensures unread { F.told → F.is_clear folder.old → BeginsLonger limit (F.file folder.old) (names_read (request command.entry)) → F.faults folder.new ≡ F.faults folder.old }
     ensures only_room { F.is_clear folder.old → ((name : List ℕ) → name_put (request command.entry) ≡ Some name → HasRoom (F.rooms folder.old) name longest)

@@ -3,6 +3,8 @@
 #![tactic(auto)]
 
 #[cfg(test)]
+mod asm;
+#[cfg(test)]
 mod io;
 #[cfg(test)]
 mod program;

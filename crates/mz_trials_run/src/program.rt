@@ -1,7 +1,7 @@
 // Runs of the program over a folder and a sink in memory.
+mod assembling;
 mod change;
 mod codes;
-mod compiling;
 mod cut;
 mod faults;
 pub mod files;
@@ -9,7 +9,7 @@ mod hostile;
 pub mod listings;
 mod lists;
 mod matching;
-mod texts;
+mod resting;
 mod worked;
 
 use change::{Change, changed};

@@ -1,4 +1,5 @@
--- What a stated proof means: a derivation, in which each let's name stands for the let's first part.
+-- What a stated proof means: a derivation (Carneiro, the rules of derivation), in which each let's name stands for
+-- the let's first part.
 use Rattle.std.specs.Prelude.{ℕ, zero, suc, ◌≡◌, ⊤, true, false, List, [], ◌∷◌, ◌++◌, Option, Some, map}
 use Rattle.mz_logic.specs.Tree.{Tree, Trees}
 use Rattle.mz_logic.specs.Declaration.{Assertion, Declaration, sort_decl, term_decl, assertion_decl, sorts}

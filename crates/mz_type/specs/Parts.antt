@@ -1,4 +1,4 @@
--- Parts of a node, by their places in it. Nothing is asked where there is no such part.
+-- Parts of a node, by their places in it (this project's own form). Nothing is asked where there is no such part.
 use Rattle.std.specs.Prelude.{ℕ, zero, suc, Bool, true, false, if◌then◌else◌}
 use Rattle.mz_sexpr.specs.Node.{Node, Nodes, atom, list, parts}
 use Rattle.mz_sexpr.specs.Number.{first, rest}

@@ -1,5 +1,6 @@
--- The type rules: what is asked of each part of a statement, at its node, from left to right, parts
--- before their node. At the first that doesn't hold the statement is refused.
+-- The type rules (Carneiro, the rules of derivation and conversion; mm0.md, on sorts and dependencies): what is asked
+-- of each part of a statement, at its node, from left to right, parts before their node. At the first that doesn't
+-- hold the statement is refused.
 use Rattle.std.specs.Prelude.{ℕ, suc, ◌≡◌, ⊤, Bool, true, false, IsTrue, List, [], ◌∷◌, ◌++◌, length, Contains, All, Option, Some, None}
 use Rattle.mz_checks.specs.Checks.{Checks, nothing, demand, ◌>>◌, retold}
 use Rattle.mz_sexpr.specs.declared.rule.U.{U}

@@ -1,5 +1,5 @@
--- The sides of a conversion, and what a proof proves: total functions, which are the logic's relations
--- where the type rules hold.
+-- The sides of a conversion, and what a proof proves (Carneiro, the rules of derivation and conversion): total
+-- functions, which are the logic's relations where the type rules hold.
 use Rattle.std.specs.Prelude.{ℕ, Bool, true, false, List, [], get_or}
 use Rattle.mz_logic.specs.Tree.{Tree, Trees, app, none, more, operand, instance, followed_by}
 use Rattle.mz_logic.specs.Declaration.{Form, plain_form, abstract_form, defined, Term, Assertion, Declaration, terms, assertions}

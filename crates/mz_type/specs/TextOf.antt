@@ -1,4 +1,4 @@
--- Well-typed texts, and the first fault of the others.
+-- Well-typed texts, and the first fault of the others (this project's own answers).
 use Rattle.std.specs.Prelude.{ℕ, List, ◌⊎◌}
 use Rattle.mz_checks.specs.Checks.{FailsFirst}
 use Rattle.mz_sexpr.specs.declared.rule.TextRefusal.{TextRefusal}

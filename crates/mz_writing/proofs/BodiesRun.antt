@@ -57,7 +57,7 @@ module _ (tables : Tables) (env env' : List Declaration) (declares : Declares ta
   pub definition-runs : (signature : Signature) (stream : List ℕ) (dummies dummies' : List Binder) (e e' : Tree) → IsLegalDecl env (term_decl (record { signature = signature; form = defined dummies e }))
       → IsSameForm signature.params (defined dummies e) (defined dummies' e') → Text of_definition (signatures env) signature.params stream none e' dummies'
       → IsBody env is_definition signature.params dummies e [] bytes → Runs strict tables (definition_of (record { signature = signature; stream = Some stream }) stream) at bytes
-  definition-runs signature stream dummies dummies' e e' legal (ys, fresh, e-is) text b =
+  definition-runs signature stream dummies dummies' e e' legal (ys, fresh, e-is, _) text b =
       let (_, params, are-dummies, _, deps, ((has, free), _)) = (terms_are_sorted env (record { signature = signature; form = defined dummies e })).0 legal in
       let h : Heading = definition_of (record { signature = signature; stream = Some stream }) stream in
       let plain-ones : Each dummies (λ _ b. b.deps ≡ []) = λ i x here. (each_from_all (λ b. IsDummy b × MayBeDummySort (sorts env) b.sort) dummies are-dummies i x here).0.1 in

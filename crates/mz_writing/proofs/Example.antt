@@ -1,11 +1,11 @@
 -- The example is written.
-use Rattle.std.proofs.Common.{◌≡◌, ◌<◌, ◌∙◌, ℕ, zero, suc, Bool, true, false, ltb, List, [], ◌∷◌, ◌++◌, length, slice_get, Some, Ok, All, Contains, refl, sym, subst, ◌⊎◌, inl, inr, arith, not-suc-le-zero}
+use Rattle.std.proofs.Common.{◌≡◌, ◌<◌, ◌∙◌, ℕ, zero, suc, Bool, true, false, ltb, List, [], ◌∷◌, ◌++◌, length, slice_get, Some, Ok, All, Contains, refl, sym, subst, ap, ◌⊎◌, inl, inr, arith, not-suc-le-zero}
 use Rattle.std.specs.Prelude.{IsTrue, ⊤, ◌^◌}
 use Rattle.std.proofs.lemmas.Bool.{le-ltb}
 use Rattle.mz_cmd.specs.Codes.{begins_statement}
 use Rattle.mz_cmd.specs.Reading.{first_command}
 use Rattle.mz_cmd.specs.declared.code.ProofCode.TheVariants as code
-use Rattle.mz_logic.specs.Tree.{Trees, var, none, more}
+use Rattle.mz_logic.specs.Tree.{Tree, Trees, var, none, more}
 use Rattle.mz_logic.specs.Signature.{Signature}
 use Rattle.mz_logic.specs.Declaration.{plain_form, defined, Declaration, sort_decl, sorts, signatures}
 use Rattle.mz_logic.specs.Derivations.{cite, no_derivs, Derives}
@@ -19,7 +19,7 @@ use Rattle.mz_logic.specs.declared.word.Word.{Word}
 use Rattle.mz_logic.proofs.PlainLegality.{assertions_are_sorted, terms_are_sorted}
 use Rattle.mz_layout.specs.Normal.{Written}
 use Rattle.mz_layout.specs.Standing.{Fit, HasRoom}
-use Rattle.mz_unify.specs.Streams.{StreamKind, of_assertion, of_definition, u_term, u_dummy, StreamIs}
+use Rattle.mz_unify.specs.Streams.{StreamKind, of_assertion, of_definition, UnifyCommand, u_term, u_dummy, StreamIs}
 use Rattle.mz_unify.specs.Spells.{Marks, with_dummy, at_first, dummy_of}
 use Rattle.mz_unify.specs.Profile.{expr, proof}
 use Rattle.mz_machine.specs.Tables.{is_axiom, is_theorem, is_definition}
@@ -27,10 +27,13 @@ use Rattle.mz_steps.specs.Steps.{Step}
 use Rattle.mz_steps.specs.Works.{Work, work_start}
 use Rattle.mz_logic.specs.Sorts.{HasSort}
 use Rattle.mz_machine.specs.RowWords.{AreParamWords}
-use Rattle.mz_steps.specs.Sameness.{IsSameForm}
+use Rattle.mz_steps.specs.Sameness.{IsInside, IsSameForm}
 use Rattle.mz_writing.specs.Example.{constant, two_bound, constructor, truth, pair, a_term, holds, text, made, result_word, bound_words, parts, ExampleIsWritten}
-use Rattle.mz_steps.specs.Bodies.{IsBody}
-use Rattle.mz_streams.specs.SpellsBefore.{SpellsBefore}
+use Rattle.mz_steps.specs.SharedBodies.{AreDistinct, IsSharedBody}
+use Rattle.mz_streams.specs.SharedTexts.{IsSharedText}
+use Rattle.mz_streams.specs.Writing.{stream_of, AreShort}
+use Rattle.mz_streams.specs.Sharing.{Built, BuildsText, BuildsWholeOnce}
+use Rattle.mz_streams.proofs.Forgetting.{building-spells}
 use Rattle.mz_writing.specs.Writing.{IsWrittenAssertion, SayParams, SaySignature, IsWrittenAs}
 
 -- ---- legal
@@ -230,9 +233,34 @@ stream-is : (kind : StreamKind) (rest : List ℕ) → StreamIs kind (0x30 ∷ 0x
 stream-is of_assertion rest = (record { code = 0x30; value = 0; len = 1 }, begins rest, refl, (λ is. is), (record { code = 0; value = 0; len = 1 }, ends rest, refl))
 stream-is of_definition rest = (record { code = 0x30; value = 0; len = 1 }, begins rest, refl, (λ is. is), (record { code = 0; value = 0; len = 1 }, ends rest, refl))
 
-spells : (kind : StreamKind) (sigs : List Signature) → slice_get sigs 0 ≡ Some constant → SpellsBefore kind sigs [] (0x30 ∷ 0x00 ∷ []) none truth []
-spells kind sigs at rest =
-    (at_first [], (u_term 0 ∷ [], stream-is kind rest, at_first [], [], inr (inl ([], refl, (constant, at, refl), (refl, refl))), (refl, refl)), refl)
+-- what builds one application alone, and doesn't save it, builds none twice
+only : {A : Type 0} (x : A) (i : ℕ) (y : A) → slice_get (x ∷ []) i ≡ Some y → (i ≡ 0) × (x ≡ y)
+only x zero y at = (refl, cc)
+only x (suc i) y at = absurd cc
+
+one-built : (n : ℕ) (b : Built) → b.saved ≡ false → BuildsWholeOnce n (b ∷ [])
+one-built n b plain = record {
+  saves_whole = λ i c at saved. absurd (let both : true ≡ false = sym saved ∙ ap (λ (x : Built). x.saved) (sym (only b i c at).1) ∙ plain in cc);
+  once = λ i j c d at at' same whole whole'. (only b i c at).0 ∙ sym (only b j d at').0;
+}
+
+shared-text : (kind : StreamKind) (sigs : List Signature) (stream : List ℕ) (us : List UnifyCommand) (e : Tree) (last : Marks) (b : Built) → b.saved ≡ false
+    → stream ≡ stream_of us → AreShort us
+    → ((rest : List ℕ) → BuildsText kind sigs [] (stream ++ rest) none e last (b ∷ [])) → IsSharedText kind sigs [] stream none e last.dummies
+shared-text kind sigs stream us e last b plain is short builds = record {
+  commands = us;
+  written = is;
+  short = short;
+  spells = λ rest. (last, building-spells kind sigs [] (stream ++ rest) none e last (b ∷ []) (builds rest), refl);
+  shares = λ rest. (last, b ∷ [], builds rest, one-built 0 b plain);
+}
+
+abbrev truth-built : Built
+truth-built = record { term = truth; saved = false; met = 0 }
+
+truth-text : (kind : StreamKind) (sigs : List Signature) → slice_get sigs 0 ≡ Some constant → IsSharedText kind sigs [] (0x30 ∷ 0x00 ∷ []) none truth []
+truth-text kind sigs at = shared-text kind sigs (0x30 ∷ 0x00 ∷ []) (u_term 0 ∷ []) truth (at_first []) truth-built refl refl (omega arith, tt)
+    (λ rest. (u_term 0 ∷ [], stream-is kind rest, at_first [], [], truth-built ∷ [], [], inr (inl ([], [], refl, (constant, at, refl), (refl, refl, refl), refl)), (refl, refl, refl), refl))
 
 -- the second definition's stream
 reads-pair : (rest : List ℕ) → first_command (0x70 ∷ 0x01 ∷ 0x33 ∷ 0x33 ∷ 0x00 ∷ rest) ≡ Ok (record { code = 0x30; value = 1; len = 2 })
@@ -262,21 +290,37 @@ pair-stream rest = (
   ),
 )
 
-pair-spells : (sigs : List Signature) → slice_get sigs 1 ≡ Some constructor → SpellsBefore of_definition sigs [] (0x70 ∷ 0x01 ∷ 0x33 ∷ 0x33 ∷ 0x00 ∷ []) none (pair 0 1) two_bound
-pair-spells sigs at rest =
-    let one : Marks = with_dummy (at_first []) 0 0 in
-    let two : Marks = with_dummy one 1 0 in (
-      two,
-      (
-        u_term 1 ∷ u_dummy 0 ∷ u_dummy 0 ∷ [],
-        pair-stream rest,
-        two,
+abbrev pair-built : Built
+pair-built = record { term = pair 0 1; saved = false; met = 0 }
+
+-- the marks after the first dummy, and after both
+abbrev one-mark : Marks
+one-mark = with_dummy (at_first []) 0 0
+
+abbrev two-marks : Marks
+two-marks = with_dummy one-mark 1 0
+
+pair-text : (sigs : List Signature) → slice_get sigs 1 ≡ Some constructor → IsSharedText of_definition sigs [] (0x70 ∷ 0x01 ∷ 0x33 ∷ 0x33 ∷ 0x00 ∷ []) none (pair 0 1) two_bound
+pair-text sigs at = shared-text of_definition sigs (0x70 ∷ 0x01 ∷ 0x33 ∷ 0x33 ∷ 0x00 ∷ []) (u_term 1 ∷ u_dummy 0 ∷ u_dummy 0 ∷ []) (pair 0 1) two-marks pair-built refl refl
+    (omega arith, (omega arith, (omega arith, tt)))
+    (λ rest. (
+      u_term 1 ∷ u_dummy 0 ∷ u_dummy 0 ∷ [],
+      pair-stream rest,
+      two-marks,
+      [],
+      pair-built ∷ [],
+      [],
+      inr (inl (
+        u_dummy 0 ∷ u_dummy 0 ∷ [],
         [],
-        inr (inl (u_dummy 0 ∷ u_dummy 0 ∷ [], refl, (constructor, at, refl), (one, u_dummy 0 ∷ [], inr (0, refl, refl, refl), (two, [], inr (0, refl, refl, refl), (refl, refl))))),
-        (refl, refl),
-      ),
+        refl,
+        (constructor, at, refl),
+        (one-mark, u_dummy 0 ∷ [], [], [], (inr (0, refl, refl, refl), refl), (two-marks, [], [], [], (inr (0, refl, refl, refl), refl), (refl, refl, refl), refl), refl),
+        refl,
+      )),
+      (refl, refl, refl),
       refl,
-    )
+    ))
 
 -- ---- bodies
 
@@ -287,84 +331,122 @@ first-made = record { met = []; heap = []; stack = expr truth ∷ []; hyps = [] 
 makes : (env : List Declaration) → slice_get (signatures env) 0 ≡ Some constant → Step false env [] (work_start []) code.Term 0 first-made
 makes env at = ([], [], (((0, (constant, at, refl, tt))), refl), refl)
 
-definition-body : IsBody after-terms is_definition [] [] truth [] (0x10 ∷ 0x00 ∷ [])
+one-distinct : (e : Tree) → AreDistinct (e ∷ [])
+one-distinct e i j f at at' = (only e i f at).0 ∙ sym (only e j f at').0
+
+definition-body : IsSharedBody after-terms is_definition [] [] truth [] (0x10 ∷ 0x00 ∷ [])
 definition-body = record {
-  few = omega arith;
-  commands = (code.Term, 0) ∷ [];
-  work = first-made;
-  spelled = refl;
-  may_stand = (refl, omega arith, tt);
-  steps = (first-made, makes after-terms refl, refl);
-  stack = refl;
-  assumed = refl;
+  body = record {
+    few = omega arith;
+    commands = (code.Term, 0) ∷ [];
+    work = first-made;
+    spelled = refl;
+    may_stand = (refl, omega arith, tt);
+    steps = (first-made, makes after-terms refl, refl);
+    stack = refl;
+    assumed = refl;
+  };
+  built_are = truth ∷ [];
+  builds = (first-made, [], makes after-terms refl, (refl, refl), refl);
+  distinct = one-distinct truth;
+  plain = (tt, tt);
 }
 
-second-body : IsBody after-definition is_definition [] two_bound (pair 1 0) [] (0x13 ∷ 0x13 ∷ 0x50 ∷ 0x01 ∷ 0x00 ∷ [])
-second-body =
-    let one : Work = record { met = 1 ∷ []; heap = expr (var 1) ∷ []; stack = expr (var 1) ∷ []; hyps = [] } in
-    let two : Work = record { met = 1 ∷ 0 ∷ []; heap = expr (var 1) ∷ expr (var 0) ∷ []; stack = expr (var 0) ∷ expr (var 1) ∷ []; hyps = [] } in
-    let last : Work = record { met = 1 ∷ 0 ∷ []; heap = expr (var 1) ∷ expr (var 0) ∷ []; stack = expr (pair 1 0) ∷ []; hyps = [] } in
-    record {
-      few = omega arith;
-      commands = (code.Dummy, 0) ∷ (code.Dummy, 0) ∷ (code.Term, 1) ∷ [];
-      work = last;
-      spelled = refl;
-      may_stand = (refl, omega arith, (refl, omega arith, (refl, omega arith, tt)));
-      steps = (
-        one,
-        (1, refl, may-dummy, (λ (k, below, _). not-suc-le-zero below), refl),
-        (
-          two,
-          (0, refl, may-dummy, (λ has. not-met has), refl),
-          (last, (var 1 ∷ var 0 ∷ [], [], ((0, pair-sorted (constant ∷ constructor ∷ constant ∷ []) refl), refl), refl), refl),
-        ),
-      );
-      stack = refl;
-      assumed = refl;
-    }
+-- the second definition's body
+abbrev one-met : Work
+one-met = record { met = 1 ∷ []; heap = expr (var 1) ∷ []; stack = expr (var 1) ∷ []; hyps = [] }
+
+abbrev two-met : Work
+two-met = record { met = 1 ∷ 0 ∷ []; heap = expr (var 1) ∷ expr (var 0) ∷ []; stack = expr (var 0) ∷ expr (var 1) ∷ []; hyps = [] }
+
+abbrev pair-made : Work
+pair-made = record { met = 1 ∷ 0 ∷ []; heap = expr (var 1) ∷ expr (var 0) ∷ []; stack = expr (pair 1 0) ∷ []; hyps = [] }
+
+meets-first : Step false after-definition two_bound (work_start []) code.Dummy 0 one-met
+meets-first = (1, refl, may-dummy, (λ (k, below, _). not-suc-le-zero below), refl)
+
+meets-second : Step false after-definition two_bound one-met code.Dummy 0 two-met
+meets-second = (0, refl, may-dummy, (λ has. not-met has), refl)
   where
     not-met : Contains {X = ℕ} (1 ∷ []) 0 → ⊥
     not-met (zero, below, is) = let one-zero : ◌≡◌ {A = ℕ} 1 0 = is in omega arith
     not-met (suc k, below, is) = omega arith
 
-axiom-body : IsBody after-definitions is_axiom [] [] truth [] (0x10 ∷ 0x00 ∷ [])
-axiom-body = record {
-  few = omega arith;
-  commands = (code.Term, 0) ∷ [];
-  work = first-made;
-  spelled = refl;
-  may_stand = (refl, omega arith, tt);
-  steps = (first-made, makes after-definitions refl, refl);
-  stack = refl;
-  assumed = refl;
+makes-pair : Step false after-definition two_bound two-met code.Term 1 pair-made
+makes-pair = (var 1 ∷ var 0 ∷ [], [], ((0, pair-sorted (constant ∷ constructor ∷ constant ∷ []) refl), refl), refl)
+
+second-body : IsSharedBody after-definition is_definition [] two_bound (pair 1 0) [] (0x13 ∷ 0x13 ∷ 0x50 ∷ 0x01 ∷ 0x00 ∷ [])
+second-body = record {
+  body = record {
+    few = omega arith;
+    commands = (code.Dummy, 0) ∷ (code.Dummy, 0) ∷ (code.Term, 1) ∷ [];
+    work = pair-made;
+    spelled = refl;
+    may_stand = (refl, omega arith, (refl, omega arith, (refl, omega arith, tt)));
+    steps = (one-met, meets-first, (two-met, meets-second, (pair-made, makes-pair, refl)));
+    stack = refl;
+    assumed = refl;
+  };
+  built_are = pair 1 0 ∷ [];
+  builds = (one-met, pair 1 0 ∷ [], meets-first, (two-met, pair 1 0 ∷ [], meets-second, (pair-made, [], makes-pair, (refl, refl), refl), refl), refl);
+  distinct = one-distinct (pair 1 0);
+  plain = (tt, (tt, (tt, tt)));
 }
 
-theorem-body : IsBody after-axiom is_theorem [] [] truth [] (0x10 ∷ 0x14 ∷ 0x00 ∷ [])
+axiom-body : IsSharedBody after-definitions is_axiom [] [] truth [] (0x10 ∷ 0x00 ∷ [])
+axiom-body = record {
+  body = record {
+    few = omega arith;
+    commands = (code.Term, 0) ∷ [];
+    work = first-made;
+    spelled = refl;
+    may_stand = (refl, omega arith, tt);
+    steps = (first-made, makes after-definitions refl, refl);
+    stack = refl;
+    assumed = refl;
+  };
+  built_are = truth ∷ [];
+  builds = (first-made, [], makes after-definitions refl, (refl, refl), refl);
+  distinct = one-distinct truth;
+  plain = (tt, tt);
+}
+
+-- the theorem's body
+abbrev truth-proved : Work
+truth-proved = record { met = []; heap = []; stack = proof truth ∷ []; hyps = [] }
+
+cites-axiom : Step false after-axiom [] first-made code.Thm 0 truth-proved
+cites-axiom = (truth, [], (record { is_axiom = true; params = []; hyps = none; conclusion = truth }, [], [], refl, tt, (λ i j x p q at. absurd cc), ([], refl, refl, refl), refl), refl)
+
+theorem-body : IsSharedBody after-axiom is_theorem [] [] truth [] (0x10 ∷ 0x14 ∷ 0x00 ∷ [])
 theorem-body = record {
-  few = omega arith;
-  commands = (code.Term, 0) ∷ (code.Thm, 0) ∷ [];
-  work = record { met = []; heap = []; stack = proof truth ∷ []; hyps = [] };
-  spelled = refl;
-  may_stand = (refl, omega arith, (refl, omega arith, tt));
-  steps = (
-    first-made,
-    makes after-axiom refl,
-    (
-      record { met = []; heap = []; stack = proof truth ∷ []; hyps = [] },
-      (truth, [], (record { is_axiom = true; params = []; hyps = none; conclusion = truth }, [], [], refl, tt, (λ i j x p q at. absurd cc), ([], refl, refl, refl), refl), refl),
-      refl,
-    ),
-  );
-  stack = refl;
-  assumed = refl;
+  body = record {
+    few = omega arith;
+    commands = (code.Term, 0) ∷ (code.Thm, 0) ∷ [];
+    work = truth-proved;
+    spelled = refl;
+    may_stand = (refl, omega arith, (refl, omega arith, tt));
+    steps = (first-made, makes after-axiom refl, (truth-proved, cites-axiom, refl));
+    stack = refl;
+    assumed = refl;
+  };
+  built_are = truth ∷ [];
+  builds = (first-made, [], makes after-axiom refl, (truth-proved, [], cites-axiom, (refl, refl), refl), refl);
+  distinct = one-distinct truth;
+  plain = (tt, (tt, tt));
 }
 
 -- ---- all of it
 
 -- the text's two dummies, turned
 turned : IsSameForm [] (defined two_bound (pair 1 0)) (defined two_bound (pair 0 1))
-turned = (1 ∷ 0 ∷ [], ((dummy_of 0, refl, refl, refl), (λ h. h), (λ has. other has), ((dummy_of 0, refl, refl, refl), (λ h. h), (λ (k, below, _). not-suc-le-zero below), tt)), refl)
+turned = (1 ∷ 0 ∷ [], ((dummy_of 0, refl, refl, refl), (λ h. h), (λ has. other has), ((dummy_of 0, refl, refl, refl), (λ h. h), (λ (k, below, _). not-suc-le-zero below), tt)), refl, inside)
   where
+    inside : IsInside [] two_bound (pair 0 1)
+    inside y (inl is) = omega (arith, is)
+    inside y (inr (inl is)) = omega (arith, is)
+    inside y (inr (inr h)) = absurd h
+
     other : Contains {X = ℕ} (0 ∷ []) 1 → ⊥
     other (zero, below, is) = let zero-one : ◌≡◌ {A = ℕ} 0 1 = is in omega arith
     other (suc k, below, is) = omega arith
@@ -375,7 +457,7 @@ axiom-written = record {
   stream = 0x30 ∷ 0x00 ∷ [];
   row = refl;
   say = say-nothing one_sort;
-  spells = spells of_assertion (signatures after-definitions) refl;
+  text = truth-text of_assertion (signatures after-definitions) refl;
   dummies = [];
   are_dummies = no-params _;
   body = axiom-body;
@@ -387,7 +469,7 @@ theorem-written = record {
   stream = 0x30 ∷ 0x00 ∷ [];
   row = refl;
   say = say-nothing one_sort;
-  spells = spells of_assertion (signatures after-axiom) refl;
+  text = truth-text of_assertion (signatures after-axiom) refl;
   dummies = [];
   are_dummies = no-params _;
   body = theorem-body;
@@ -404,13 +486,13 @@ written = (
         record {
           mark = refl;
           code = (inr refl, refl);
-          declaration = ((refl, ([], tt, refl)), ([], result_word, say-constant, (0x30 ∷ 0x00 ∷ [], refl, spells of_definition (signatures after-terms) refl, definition-body)));
+          declaration = ((refl, ([], tt, refl, λ y occurs. absurd occurs)), ([], result_word, say-constant, (0x30 ∷ 0x00 ∷ [], refl, truth-text of_definition (signatures after-terms) refl, definition-body)));
         },
         (
           record {
             mark = refl;
             code = (inr refl, refl);
-            declaration = ((refl, turned), ([], result_word, say-constant, (0x70 ∷ 0x01 ∷ 0x33 ∷ 0x33 ∷ 0x00 ∷ [], refl, pair-spells (signatures after-definition) refl, second-body)));
+            declaration = ((refl, turned), ([], result_word, say-constant, (0x70 ∷ 0x01 ∷ 0x33 ∷ 0x33 ∷ 0x00 ∷ [], refl, pair-text (signatures after-definition) refl, second-body)));
           },
           (
             record { mark = refl; code = (refl, refl); declaration = (refl, axiom-written) },

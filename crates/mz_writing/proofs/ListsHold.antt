@@ -51,8 +51,8 @@ module _ (p : Parts) (fit : Fit p) (env env' : List Declaration) (same : IsSameE
     term-good is_local signature abstract_form form' ws result legal same-term say w = absurd w
     term-good is_local signature (defined ds e) plain_form ws result legal same-term say w = absurd w
     term-good is_local signature (defined ds e) abstract_form ws result legal same-term say w = absurd w
-    term-good is_local signature (defined ds e) (defined ds' e') ws result legal same-term say (stream, row, spells, b) =
-        definition-good p fit env env' same declares at body next bytes bytes-are is_local signature ws result say stream ds ds' e e' row legal same-term.1 spells b
+    term-good is_local signature (defined ds e) (defined ds' e') ws result legal same-term say (stream, row, text, shared) =
+        definition-good p fit env env' same declares at body next bytes bytes-are is_local signature ws result say stream ds ds' e e' row legal same-term.1 text.spells shared.body
 
     -- the checks are those of the code
     GoodBy : ℕ → Declaration → Type 0

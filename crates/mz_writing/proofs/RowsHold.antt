@@ -163,13 +163,13 @@ module _ (p : Parts) (fit : Fit p) (env env' : List Declaration) (same : IsSameE
       ap (thm_by file) row-is ∙ ap (λ (z : List Binder). record { params = z; stream = drop (thm_place p n + 8 * length w.words) file }) w.say.said ∙ ap (λ (z : List ℕ). record { params = a.params; stream = z }) stands.from_there in
       let h : Heading = assertion_of a.is_axiom (record { params = a.params; stream = bytes' }) in
       let runs : Runs strict tables h body (body_bytes file body next) =
-      subst (Runs strict tables h body) (sym bytes-are) (assertion-runs tables env env' declares same body bytes a bytes' w.dummies legal w.are_dummies (w.spells stands.rest) w.body) in
+      subst (Runs strict tables h body) (sym bytes-are) (assertion-runs tables env env' declares same body bytes a bytes' w.dummies legal w.are_dummies (w.text.spells stands.rest) w.body.body) in
       let words : AllHold (param_checks (sorts env') (thm_row file n).words_at (thm_row file n).params) =
       subst (λ (r : ThmRecord). AllHold (param_checks (sorts env') r.words_at r.params)) (sym row-is)
       (params-hold (sorts env') (thm_place p n) w.words (subst (λ (ss : List SortMods). SayParams ss w.words a.params) same.sorts_are w.say).right) in
       let ends : AllHold (body_checks strict tables (assertion_of a.is_axiom (thm_of_file file n)) body (body_bytes file body next)) =
       subst (λ (r : ThmRow). AllHold (body_checks strict tables (assertion_of a.is_axiom r) body (body_bytes file body next))) (sym row) (holds-of tables h body (body_bytes file body next) runs) in
-      let text : Text of_assertion (signatures env') a.params bytes' a.hyps a.conclusion [] = subst (λ (z : List Signature). Text of_assertion z a.params bytes' a.hyps a.conclusion []) sigs (w.spells stands.rest) in
+      let text : Text of_assertion (signatures env') a.params bytes' a.hyps a.conclusion [] = subst (λ (z : List Signature). Text of_assertion z a.params bytes' a.hyps a.conclusion []) sigs (w.text.spells stands.rest) in
       record {
         row = (below, subst (λ (r : ThmRow). SpellsThm (signatures env') r a) (sym row) (refl, text));
         holds = (below, all_hold-both (param_checks (sorts env') (thm_row file n).words_at (thm_row file n).params) (body_checks strict tables (assertion_of a.is_axiom (thm_of_file file n)) body (body_bytes file body next)) words ends);

@@ -1,4 +1,5 @@
--- When the parts of a binary say a text: statement by statement the row of a table, the command's code and the body.
+-- When the parts of a binary say a text: statement by statement the row of a table, the command's code and the body
+-- (the .mmb format's tables and list of statements).
 use Rattle.std.specs.Prelude.{◌≡◌, ◌<◌, ◌^◌, ◌++◌, ℕ, Bool, false, List, [], ◌∷◌, length, Some, None, slice_get}
 use Rattle.mz_logic.specs.Tree.{none, listed}
 use Rattle.mz_logic.specs.Signature.{Signature}
@@ -15,9 +16,9 @@ use Rattle.mz_unify.specs.Streams.{of_assertion, of_definition}
 use Rattle.mz_machine.specs.Lists.{kind_of}
 use Rattle.mz_machine.specs.RowWords.{bound_count, AreParamWords}
 use Rattle.mz_machine.specs.Tables.{is_definition}
-use Rattle.mz_steps.specs.Bodies.{IsBody}
 use Rattle.mz_steps.specs.Sameness.{IsSameTerm}
-use Rattle.mz_streams.specs.SpellsBefore.{SpellsBefore}
+use Rattle.mz_steps.specs.SharedBodies.{IsSharedBody}
+use Rattle.mz_streams.specs.SharedTexts.{IsSharedText}
 use Rattle.mz_binary.specs.Spelling.{HasKind}
 
 -- ---- rows
@@ -38,29 +39,30 @@ pub record SaySignature (ss : List SortMods) (ws : List Word) (result : Word) (s
 -- ---- statements
 
 -- A plain term's row has no stream, and its body is empty. A definition's stream spells the made body, and its body
--- makes the text's.
+-- makes the text's; both share what they build.
 abbrev pub IsWrittenForm : Parts → List Declaration → Bool → Signature → List Word → Word → Form → Form → List ℕ → Type 0
 IsWrittenForm p env is_local signature ws result plain_form plain_form bytes =
     (slice_get p.terms (length (terms env)) ≡ Some (row_of_term ws result None)) × (is_local ≡ false) × (bytes ≡ [])
 IsWrittenForm p env is_local signature ws result (defined dummies e) (defined dummies' e') bytes =
     (stream : List ℕ) × (slice_get p.terms (length (terms env)) ≡ Some (row_of_term ws result (Some stream)))
-    × SpellsBefore of_definition (signatures env) signature.params stream none e' dummies'
-    × IsBody env is_definition signature.params dummies e [] bytes
+    × IsSharedText of_definition (signatures env) signature.params stream none e' dummies'
+    × IsSharedBody env is_definition signature.params dummies e [] bytes
 IsWrittenForm p env is_local signature ws result form form' bytes = ⊥
 
 abbrev pub IsWrittenTerm : Parts → List Declaration → Bool → Term → Term → List ℕ → Type 0
 IsWrittenTerm p env is_local d d' bytes =
     IsSameTerm d d' × ((ws : List Word) × (result : Word) × SaySignature (sorts env) ws result d.signature × IsWrittenForm p env is_local d.signature ws result d.form d'.form bytes)
 
+-- An assertion's stream spells its conclusion and hypotheses, and its body makes them; both share what they build.
 pub record IsWrittenAssertion (p : Parts) (env : List Declaration) (a : Assertion) (bytes : List ℕ) : Type 0 where
   pub words : List Word
   pub stream : List ℕ
   pub row : slice_get p.thms (length (assertions env)) ≡ Some (row_of_thm words stream)
   pub say : SayParams (sorts env) words a.params
-  pub spells : SpellsBefore of_assertion (signatures env) a.params stream a.hyps a.conclusion []
+  pub text : IsSharedText of_assertion (signatures env) a.params stream a.hyps a.conclusion []
   pub dummies : List Binder
   pub are_dummies : Each dummies (λ _ b. b.deps ≡ [])
-  pub body : IsBody env (kind_of a.is_axiom) a.params dummies a.conclusion (listed a.hyps) bytes
+  pub body : IsSharedBody env (kind_of a.is_axiom) a.params dummies a.conclusion (listed a.hyps) bytes
 
 -- after the text's env, the next row and these bytes say the text's declaration; the made one is the same but for the
 -- dummies of a definition's body, which are numbered as the stream meets them

@@ -2,9 +2,9 @@
 ghost use Rattle.std.specs.Prelude.{◌++◌, ◌≡◌, ◌∷◌, IfOk, Some, [], map, option_map};
 ghost use Rattle.mz_grammar.specs.Code.{head as head_lem, lexeme, source as source_lem, type_text};
 ghost use Rattle.mz_grammar.specs.CodeProgress.{progress as progress_lem, slot as slot_lem};
-ghost use Rattle.mz_grammar.specs.Progress.{argument_slot, choose, claimed as claimed_lem, definition_slot, formula_rows, next as next_lem, premise_slot, type_rows, typed as typed_lem, wanted};
+ghost use Rattle.mz_grammar.specs.Progress.{argument_slot, choose, claimed as claimed_lem, definition_slot, formula_rows, next as next_lem, notation_slot, premise_slot, type_rows, typed as typed_lem, wanted};
 
-use super::{Next, Notation, OpenNotation, Progress, Slot, when};
+use super::{Next, Notation, OpenNotation, Progress, Slot};
 use crate::kind::AssertKind;
 use crate::lexeme::Lexeme;
 use crate::statement::{AssertText, DefinitionText, Head, Source, Statement, TermText, TypeText};
@@ -32,12 +32,12 @@ impl<'a> Slot<'a> {
         match self {
             Slot::Group(group) => {
                 let fits = found.is_formula() && group.kind.takes_formulas(group.is_bound);
-                when(fits, Progress::Hypothesis(group, found))
+                fits.then_some(Progress::Hypothesis(group, found))
             }
-            Slot::Premise(kind, head, premises) => when(
-                found.is_formula(),
-                Progress::Claimed(kind, head, premises, found),
-            ),
+            Slot::Premise(kind, head, premises) => {
+                let claimed = Progress::Claimed(kind, head, premises, found);
+                found.is_formula().then_some(claimed)
+            }
             Slot::Argument(_, _) | Slot::Definition(_) | Slot::Notation(_) => None,
         }
     }
@@ -58,33 +58,11 @@ impl<'a> Slot<'a> {
         ensures { IfOk result (λ r. option_map progress_lem r ≡ choose (type_rows (slot_lem self.entry) (type_text ty.entry)) found.entry.kind found.entry.bytes.now (lexeme found.entry)) }
     {
         match self {
-            Slot::Group(group) => {
-                if group.is_closed_by(found) {
-                    Ok(Some(group.closed(Source::Type(ty))?))
-                } else {
-                    Ok(None)
-                }
-            }
+            Slot::Group(group) => group.ends(Source::Type(ty), found),
             Slot::Argument(head, arguments) => argument_ends(head, arguments, ty, found),
-            Slot::Premise(kind, head, premises) => {
-                if found.is_symbol(b">") {
-                    premise(kind, head, premises, Source::Type(ty))
-                } else {
-                    Ok(None)
-                }
-            }
+            Slot::Premise(kind, head, premises) => premise_ends(kind, head, premises, ty, found),
             Slot::Definition(head) => Ok(result_ends(head, ty, found)),
-            Slot::Notation(head) => {
-                let notation = OpenNotation {
-                    head,
-                    result: ty,
-                    literals: Vec::new(alloc),
-                };
-                Ok(when(
-                    found.is_symbol(b"="),
-                    Progress::Notation(notation, Notation::Wanted),
-                ))
-            }
+            Slot::Notation(head) => Ok(notation_opens(alloc, head, ty, found)),
         }
     }
 }
@@ -102,15 +80,12 @@ fn argument_ends<'a>(
         arguments.push(ty)?;
         return Ok(Some(Progress::Wanted(Slot::Argument(head, arguments))));
     }
-    let term = TermText {
+    let term = Statement::Term(TermText {
         head,
         arguments,
         result: ty,
-    };
-    Ok(when(
-        found.is_symbol(b";"),
-        Progress::Whole(Statement::Term(term)),
-    ))
+    });
+    Ok(found.is_symbol(b";").then_some(Progress::Whole(term)))
 }
 
 /// Behind the type of a definition.
@@ -120,15 +95,47 @@ fn result_ends<'a>(head: Head<'a>, ty: TypeText<'a>, found: Lexeme<'a>) -> Optio
     if found.is_symbol(b"=") {
         return Some(Progress::BodyOpened(head, ty));
     }
-    let definition = DefinitionText {
+    let definition = Statement::Definition(DefinitionText {
         head,
         result: ty,
         body: None,
+    });
+    found.is_symbol(b";").then_some(Progress::Whole(definition))
+}
+
+/// Behind the type of a notation.
+fn notation_opens<'a>(
+    alloc: Global,
+    head: Head<'a>,
+    ty: TypeText<'a>,
+    found: Lexeme<'a>,
+) -> Option<Progress<'a>>
+    ensures { option_map progress_lem result ≡ choose (type_rows (notation_slot (head_lem head.entry)) (type_text ty.entry)) found.entry.kind found.entry.bytes.now (lexeme found.entry) }
+{
+    let notation = OpenNotation {
+        head,
+        result: ty,
+        literals: Vec::new(alloc),
     };
-    when(
-        found.is_symbol(b";"),
-        Progress::Whole(Statement::Definition(definition)),
-    )
+    let opened = Progress::Notation(notation, Notation::Wanted);
+    found.is_symbol(b"=").then_some(opened)
+}
+
+/// Behind a type of an axiom or a theorem.
+fn premise_ends<'a>(
+    kind: AssertKind,
+    head: Head<'a>,
+    premises: Vec<Source<'a>>,
+    ty: TypeText<'a>,
+    found: Lexeme<'a>,
+) -> Next<'a>
+    ensures { IfOk result (λ r. option_map progress_lem r ≡ choose (type_rows (premise_slot kind (head_lem head.entry) (map source_lem premises.entry.items)) (type_text ty.entry)) found.entry.kind found.entry.bytes.now (lexeme found.entry)) }
+{
+    if found.is_symbol(b">") {
+        premise(kind, head, premises, Source::Type(ty))
+    } else {
+        Ok(None)
+    }
 }
 
 /// Behind a `>` of an axiom or a theorem.
@@ -157,14 +164,11 @@ pub fn claimed<'a>(
     if found.is_symbol(b">") {
         return premise(kind, head, premises, Source::Formula(formula));
     }
-    let assertion = AssertText {
+    let assertion = Statement::Assert(AssertText {
         kind,
         head,
         premises,
         conclusion: formula,
-    };
-    Ok(when(
-        found.is_symbol(b";"),
-        Progress::Whole(Statement::Assert(assertion)),
-    ))
+    });
+    Ok(found.is_symbol(b";").then_some(Progress::Whole(assertion)))
 }

@@ -1,5 +1,5 @@
 // Groups of names.
-ghost use Rattle.std.specs.Prelude.{◌≡◌, IfOk, Some, option_map};
+ghost use Rattle.std.specs.Prelude.{◌≡◌, IfOk, None, Some, if◌then◌else◌, option_map};
 ghost use Rattle.mz_grammar.specs.Code.{head as head_lem, lexeme, source as source_lem};
 ghost use Rattle.mz_grammar.specs.CodeProgress.{open_group, progress as progress_lem, slot as slot_lem};
 ghost use Rattle.mz_grammar.specs.Progress.{closed as closed_lem, group_dotted, group_opened, headed, hypothesis as hypothesis_lem, next as next_lem, open_group as open_group_lem, slot_of as slot_of_lem, with_name};
@@ -40,10 +40,9 @@ impl<'a> Head<'a> {
             Some(Progress::GroupOpened(OpenGroup::new(alloc, kind, self, true)))
         } else if found.is_symbol(b"(") {
             Some(Progress::GroupOpened(OpenGroup::new(alloc, kind, self, false)))
-        } else if found.is_symbol(b":") {
-            Some(Progress::Wanted(slot_of(alloc, kind, self)))
         } else {
-            None
+            let slot = slot_of(alloc, kind, self);
+            found.is_symbol(b":").then_some(Progress::Wanted(slot))
         }
     }
 }
@@ -82,10 +81,8 @@ impl<'a> OpenGroup<'a> {
         if found.is_symbol(b".") && self.kind.takes_dummies() {
             return Ok(Some(Progress::GroupDotted(self)));
         }
-        if found.is_symbol(b":") {
-            return Ok(Some(Progress::Wanted(Slot::Group(self))));
-        }
-        Ok(None)
+        let wanted = Progress::Wanted(Slot::Group(self));
+        Ok(found.is_symbol(b":").then_some(wanted))
     }
 
     /// Behind a dot.
@@ -109,15 +106,22 @@ impl<'a> OpenGroup<'a> {
     pub fn hypothesis(self, formula: Lexeme<'a>, found: Lexeme<'a>) -> Next<'a>
         ensures { IfOk result (λ r. option_map progress_lem r ≡ next_lem (hypothesis_lem (open_group self.entry) (lexeme formula.entry)) (lexeme found.entry)) }
     {
+        self.ends(Source::Formula(formula), found)
+    }
+
+    /// Behind its type or formula.
+    pub fn ends(self, source: Source<'a>, found: Lexeme<'a>) -> Next<'a>
+        ensures { IfOk result (λ r. option_map progress_lem r ≡ (if fits (the_symbol (closing_of self.entry.is_bound)) found.entry.kind found.entry.bytes.now then Some (closed_lem (open_group self.entry) (source_lem source.entry)) else None)) }
+    {
         if self.is_closed_by(found) {
-            Ok(Some(self.closed(Source::Formula(formula))?))
+            Ok(Some(self.closed(source)?))
         } else {
             Ok(None)
         }
     }
 
     /// The lexeme is its closing bracket.
-    pub fn is_closed_by(&self, found: Lexeme<'_>) -> bool
+    fn is_closed_by(&self, found: Lexeme<'_>) -> bool
         ensures { result ≡ fits (the_symbol (closing_of self.now.is_bound)) found.entry.kind found.entry.bytes.now }
     {
         if self.is_bound {
@@ -128,7 +132,7 @@ impl<'a> OpenGroup<'a> {
     }
 
     /// The head with this group.
-    pub fn closed(self, source: Source<'a>) -> Result<Progress<'a>, AllocError>
+    fn closed(self, source: Source<'a>) -> Result<Progress<'a>, AllocError>
         ensures { IfOk result (λ p. progress_lem p ≡ closed_lem (open_group self.entry) (source_lem source.entry)) }
     {
         let OpenGroup {

@@ -4,7 +4,7 @@ ghost use Rattle.mz_grammar.specs.Code.{lexeme, level as level_lem, literal as l
 ghost use Rattle.mz_grammar.specs.CodeProgress.{constant as constant_lem, in_tail, notation as notation_lem, open_notation, progress as progress_lem};
 ghost use Rattle.mz_grammar.specs.Progress.{choose, literal_colon, literal_read, literal_rows, next as next_lem, notation_of, tail_level};
 
-use super::{Constant, Next, Notation, OpenNotation, Progress, Tail, when};
+use super::{Constant, Next, Notation, OpenNotation, Progress, Tail};
 use crate::lexeme::Lexeme;
 use crate::statement::{Level, LiteralText, NotationText, Statement, TailText};
 
@@ -28,25 +28,19 @@ impl<'a> OpenNotation<'a> {
         if found.is_name() {
             return Some(Progress::Notation(self, Notation::Read(LiteralText::Name(found))));
         }
-        when(
-            found.is_symbol(b"("),
-            Progress::Notation(self, Notation::Constant(Constant::Opened)),
-        )
+        let opened = Notation::Constant(Constant::Opened);
+        found
+            .is_symbol(b"(")
+            .then_some(Progress::Notation(self, opened))
     }
 
     /// Behind a literal.
     fn read(mut self, last: LiteralText<'a>, found: Lexeme<'a>) -> Next<'a>
         ensures { IfOk result (λ r. option_map progress_lem r ≡ next_lem (literal_read (open_notation self.entry) (literal_lem last.entry)) (lexeme found.entry)) }
     {
-        if found.is_name() {
+        if found.is_name() || found.is_symbol(b"(") {
             self.literals.push(last)?;
-            let name = LiteralText::Name(found);
-            return Ok(Some(Progress::Notation(self, Notation::Read(name))));
-        }
-        if found.is_symbol(b"(") {
-            self.literals.push(last)?;
-            let opened = Notation::Constant(Constant::Opened);
-            return Ok(Some(Progress::Notation(self, opened)));
+            return Ok(self.literal(found));
         }
         if found.is_symbol(b":") {
             let opened = Notation::Tail(last, Tail::Opened);
@@ -77,16 +71,22 @@ impl<'a> OpenNotation<'a> {
         match at {
             Constant::Opened => {
                 let string = Notation::Constant(Constant::String(found));
-                when(found.is_formula(), Progress::Notation(self, string))
+                found
+                    .is_formula()
+                    .then_some(Progress::Notation(self, string))
             }
             Constant::String(constant) => {
                 let colon = Notation::Constant(Constant::Colon(constant));
-                when(found.is_symbol(b":"), Progress::Notation(self, colon))
+                found
+                    .is_symbol(b":")
+                    .then_some(Progress::Notation(self, colon))
             }
             Constant::Colon(constant) => self.leveled(constant, found),
             Constant::Level(constant, level) => {
                 let literal = Notation::Read(LiteralText::Constant(constant, level));
-                when(found.is_symbol(b")"), Progress::Notation(self, literal))
+                found
+                    .is_symbol(b")")
+                    .then_some(Progress::Notation(self, literal))
             }
         }
     }
@@ -100,10 +100,9 @@ impl<'a> OpenNotation<'a> {
             return Some(Progress::Notation(self, Notation::Constant(level)));
         }
         let level = Constant::Level(constant, Level::Max);
-        when(
-            found.is_keyword(b"max"),
-            Progress::Notation(self, Notation::Constant(level)),
-        )
+        found
+            .is_keyword(b"max")
+            .then_some(Progress::Notation(self, Notation::Constant(level)))
     }
 
     /// Within the tail.
@@ -117,17 +116,14 @@ impl<'a> OpenNotation<'a> {
                     return Some(Progress::Notation(self, Notation::Tail(last, level)));
                 }
                 let level = Tail::Level(Level::Max);
-                when(
-                    found.is_keyword(b"max"),
-                    Progress::Notation(self, Notation::Tail(last, level)),
-                )
+                found
+                    .is_keyword(b"max")
+                    .then_some(Progress::Notation(self, Notation::Tail(last, level)))
             }
             Tail::Level(level) => self.sided(last, level, found),
             Tail::Whole(tail) => {
-                if found.is_symbol(b";") {
-                    return Some(self.whole(last, Some(tail)));
-                }
-                None
+                let whole = self.whole(last, Some(tail));
+                found.is_symbol(b";").then_some(whole)
             }
         }
     }
@@ -152,9 +148,9 @@ impl<'a> OpenNotation<'a> {
             level,
             is_right: true,
         };
-        when(
-            found.is_keyword(b"rassoc"),
-            Progress::Notation(self, Notation::Tail(last, Tail::Whole(right))),
-        )
+        let whole = Notation::Tail(last, Tail::Whole(right));
+        found
+            .is_keyword(b"rassoc")
+            .then_some(Progress::Notation(self, whole))
     }
 }

@@ -4,7 +4,7 @@ ghost use Rattle.mz_grammar.specs.Code.{lexeme, modifiers};
 ghost use Rattle.mz_grammar.specs.CodeProgress.{progress as progress_lem};
 ghost use Rattle.mz_grammar.specs.Progress.{beginnings, choose, head_opened, is_bare as is_bare_lem, next as next_lem, opening};
 
-use super::{Coercion, Delimiter, Operator, Progress, when};
+use super::{Coercion, Delimiter, Operator, Progress};
 use crate::kind::{AssertKind, Fixity, Kind};
 use crate::lexeme::Lexeme;
 use crate::statement::{Head, Modifiers};
@@ -98,6 +98,6 @@ impl Kind {
             name: found,
             groups: Vec::new(alloc),
         };
-        when(found.is_name(), Progress::Headed(self, head))
+        found.is_name().then_some(Progress::Headed(self, head))
     }
 }

@@ -4,7 +4,7 @@ ghost use Rattle.mz_grammar.specs.Code.{lexeme};
 ghost use Rattle.mz_grammar.specs.CodeProgress.{coercion as coercion_lem, delimiter as delimiter_lem, operator as operator_lem, progress as progress_lem};
 ghost use Rattle.mz_grammar.specs.Progress.{level_wanted, next as next_lem};
 
-use super::{Coercion, Delimiter, Operator, Progress, when};
+use super::{Coercion, Delimiter, Operator, Progress};
 use crate::kind::Fixity;
 use crate::lexeme::Lexeme;
 use crate::statement::{CoercionText, DelimiterText, Level, OperatorText, Statement};
@@ -15,22 +15,19 @@ impl<'a> Operator<'a> {
         ensures { option_map progress_lem result ≡ next_lem (operator_lem fixity self.entry) (lexeme found.entry) }
     {
         match self {
-            Operator::Opened => when(
-                found.is_name(),
-                Progress::Operator(fixity, Operator::Named(found)),
-            ),
-            Operator::Named(name) => when(
-                found.is_symbol(b":"),
-                Progress::Operator(fixity, Operator::Colon(name)),
-            ),
-            Operator::Colon(name) => when(
-                found.is_formula(),
-                Progress::Operator(fixity, Operator::Constant(name, found)),
-            ),
-            Operator::Constant(name, constant) => when(
-                found.is_keyword(b"prec"),
-                Progress::Operator(fixity, Operator::Prec(name, constant)),
-            ),
+            Operator::Opened => found
+                .is_name()
+                .then_some(Progress::Operator(fixity, Operator::Named(found))),
+            Operator::Named(name) => found
+                .is_symbol(b":")
+                .then_some(Progress::Operator(fixity, Operator::Colon(name))),
+            Operator::Colon(name) => found.is_formula().then_some(Progress::Operator(
+                fixity,
+                Operator::Constant(name, found),
+            )),
+            Operator::Constant(name, constant) => found
+                .is_keyword(b"prec")
+                .then_some(Progress::Operator(fixity, Operator::Prec(name, constant))),
             Operator::Prec(name, constant) => leveled(fixity, name, constant, found),
             Operator::Level(name, constant, level) => {
                 let operator = OperatorText {
@@ -39,10 +36,9 @@ impl<'a> Operator<'a> {
                     constant,
                     level,
                 };
-                when(
-                    found.is_symbol(b";"),
-                    Progress::Whole(Statement::Operator(operator)),
-                )
+                found
+                    .is_symbol(b";")
+                    .then_some(Progress::Whole(Statement::Operator(operator)))
             }
         }
     }
@@ -61,10 +57,10 @@ fn leveled<'a>(
         let level = Level::Number(found);
         return Some(Progress::Operator(fixity, Operator::Level(name, constant, level)));
     }
-    when(
-        found.is_keyword(b"max"),
-        Progress::Operator(fixity, Operator::Level(name, constant, Level::Max)),
-    )
+    found.is_keyword(b"max").then_some(Progress::Operator(
+        fixity,
+        Operator::Level(name, constant, Level::Max),
+    ))
 }
 
 impl<'a> Coercion<'a> {
@@ -73,27 +69,24 @@ impl<'a> Coercion<'a> {
         ensures { option_map progress_lem result ≡ next_lem (coercion_lem self.entry) (lexeme found.entry) }
     {
         match self {
-            Coercion::Opened => when(found.is_name(), Progress::Coercion(Coercion::Named(found))),
-            Coercion::Named(name) => when(
-                found.is_symbol(b":"),
-                Progress::Coercion(Coercion::Colon(name)),
-            ),
-            Coercion::Colon(name) => when(
-                found.is_name(),
-                Progress::Coercion(Coercion::From(name, found)),
-            ),
-            Coercion::From(name, from) => when(
-                found.is_symbol(b">"),
-                Progress::Coercion(Coercion::Greater(name, from)),
-            ),
-            Coercion::Greater(name, from) => when(
-                found.is_name(),
-                Progress::Coercion(Coercion::To(name, from, found)),
-            ),
-            Coercion::To(name, from, to) => when(
-                found.is_symbol(b";"),
-                Progress::Whole(Statement::Coercion(CoercionText { name, from, to })),
-            ),
+            Coercion::Opened => found
+                .is_name()
+                .then_some(Progress::Coercion(Coercion::Named(found))),
+            Coercion::Named(name) => found
+                .is_symbol(b":")
+                .then_some(Progress::Coercion(Coercion::Colon(name))),
+            Coercion::Colon(name) => found
+                .is_name()
+                .then_some(Progress::Coercion(Coercion::From(name, found))),
+            Coercion::From(name, from) => found
+                .is_symbol(b">")
+                .then_some(Progress::Coercion(Coercion::Greater(name, from))),
+            Coercion::Greater(name, from) => found
+                .is_name()
+                .then_some(Progress::Coercion(Coercion::To(name, from, found))),
+            Coercion::To(name, from, to) => found.is_symbol(b";").then_some(Progress::Whole(
+                Statement::Coercion(CoercionText { name, from, to }),
+            )),
         }
     }
 }
@@ -105,10 +98,9 @@ impl<'a> Delimiter<'a> {
     {
         let (left, right) = match self {
             Delimiter::Opened => {
-                return when(
-                    found.is_formula(),
-                    Progress::Delimiter(Delimiter::Left(found)),
-                );
+                return found
+                    .is_formula()
+                    .then_some(Progress::Delimiter(Delimiter::Left(found)));
             }
             Delimiter::Left(left) if found.is_formula() => {
                 return Some(Progress::Delimiter(Delimiter::Right(left, found)));
@@ -116,9 +108,9 @@ impl<'a> Delimiter<'a> {
             Delimiter::Left(left) => (left, None),
             Delimiter::Right(left, right) => (left, Some(right)),
         };
-        when(
-            found.is_symbol(b";"),
-            Progress::Whole(Statement::Delimiter(DelimiterText { left, right })),
-        )
+        found.is_symbol(b";").then_some(Progress::Whole(Statement::Delimiter(DelimiterText {
+            left,
+            right,
+        })))
     }
 }

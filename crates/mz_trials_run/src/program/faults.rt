@@ -2,7 +2,7 @@
 use crate::program::files::{DUMMY, ONE, ONE_SPEC};
 use crate::program::{expect, words_of};
 use mz_io::{Folder, MemFolder, MemSink};
-use mz_tool::{Command, Status, answer, run};
+use mz_tool::{Status, run};
 use std::alloc::{AllocError, Global};
 use std::test::Fail;
 
@@ -17,6 +17,10 @@ const OTHER_WORDS: &[&str] = &[
     "Verify spec bin",
     "show",
     "show bin bin",
+    "compile",
+    "compile bin",
+    "compile bin out out",
+    "Compile bin out",
     "spec bin",
 ];
 
@@ -50,7 +54,9 @@ const MISSING: &[(&str, Status, u64)] = &[
     // The binary is read in two pulls.
     ("verify bin other", Status::ReadFault, 4),
     ("show other", Status::ReadFault, 1),
+    ("compile other out", Status::ReadFault, 1),
     ("verify bin", Status::Usage, 0),
+    ("compile bin", Status::Usage, 0),
 ];
 
 /// A file that is missing is the last one that is started; words of no command start none.
@@ -61,57 +67,6 @@ fn missing_files(rt: HostRuntime) -> Result<(), Fail> {
         assert!(rt; status == *wanted, "{line}");
         assert!(rt; out.bytes().is_empty(), "{line}");
         assert!(rt; comes_next, "{calls} calls for {line}");
-    }
-    Ok(())
-}
-
-/// How a run over the smallest files ends where these calls on the folder and on the sink fail, none
-/// being number 0. The sink takes ten bytes at a time.
-fn ended_failing(alloc: Global, call: u64, write: u64) -> Result<(Status, MemSink), AllocError> {
-    let mut folder = MemFolder::new(alloc);
-    folder.add("spec", ONE_SPEC.as_bytes())?;
-    folder.add("bin", ONE)?;
-    folder.fail_call(call)?;
-    let mut out = MemSink::new(alloc, 100)?;
-    out.take_at_most(10);
-    out.fail_call(write)?;
-    let words = words_of(alloc, "verify spec bin")?;
-    let status = run(alloc, &words, &mut folder, &mut out);
-    Ok((status, out))
-}
-
-/// Each file takes a start and two pulls.
-#[test]
-fn each_failing_call_is_a_read_fault(rt: HostRuntime) -> Result<(), Fail> {
-    for call in 1..8 {
-        let (status, out) = ended_failing(rt.alloc(), call, 0)?;
-        let (wanted, line) = if call <= 6 {
-            (Status::ReadFault, "")
-        } else {
-            (Status::Done, ACCEPTED_ONE)
-        };
-        assert!(rt; status == wanted, "where call {call} fails");
-        assert!(rt; out.bytes() == line.as_bytes(), "where call {call} fails");
-    }
-    Ok(())
-}
-
-/// The line has 64 bytes, and so takes seven writes.
-#[test]
-fn each_failing_write_leaves_the_front(rt: HostRuntime) -> Result<(), Fail> {
-    for write in 1..9 {
-        let (status, out) = ended_failing(rt.alloc(), 0, write)?;
-        let wanted = if write <= 7 {
-            Status::OutFault
-        } else {
-            Status::Done
-        };
-        assert!(rt; status == wanted, "where write {write} fails");
-        let front = ACCEPTED_ONE
-            .as_bytes()
-            .iter()
-            .take(10 * (write as usize - 1));
-        assert!(rt; out.bytes().iter().eq(front), "where write {write} fails");
     }
     Ok(())
 }
@@ -129,47 +84,6 @@ fn a_full_sink_holds_a_prefix(rt: HostRuntime) -> Result<(), Fail> {
         out.bytes() == b"sort 0 4\nso".as_slice(),
         "the room is used"
     );
-    Ok(())
-}
-
-/// How a command ends where files may have so many bytes.
-fn ended_within(
-    alloc: Global,
-    limit: u32,
-    command: Command<'_>,
-) -> Result<(Status, MemSink), AllocError> {
-    let mut folder = MemFolder::new(alloc);
-    folder.add("spec", ONE_SPEC.as_bytes())?;
-    folder.add("bin", ONE)?;
-    let mut out = MemSink::new(alloc, 100)?;
-    let status = answer(alloc, u64::from(limit), command, &mut folder, &mut out);
-    Ok((status, out))
-}
-
-const VERIFY: Command<'static> = Command::Verify {
-    spec: "spec",
-    bin: "bin",
-};
-
-const SHOW: Command<'static> = Command::Show { bin: "bin" };
-
-/// How many bytes a file may have, and how the command ends. The specification has 18 bytes, the binary 51.
-const LIMITS: &[(u32, Command<'static>, Status, &str)] = &[
-    (17, VERIFY, Status::TooLong, ""),
-    (18, VERIFY, Status::TooLong, ""),
-    (50, VERIFY, Status::TooLong, ""),
-    (51, VERIFY, Status::Done, ACCEPTED_ONE),
-    (50, SHOW, Status::TooLong, ""),
-    (51, SHOW, Status::Done, "sort 0 4\nend\n"),
-];
-
-#[test]
-fn a_file_past_the_limit_is_too_long(rt: HostRuntime) -> Result<(), Fail> {
-    for (limit, command, wanted, text) in LIMITS {
-        let (status, out) = ended_within(rt.alloc(), *limit, *command)?;
-        assert!(rt; status == *wanted, "within {limit} bytes");
-        assert!(rt; out.bytes() == text.as_bytes(), "within {limit} bytes");
-    }
     Ok(())
 }
 
@@ -193,15 +107,24 @@ fn take_all(alloc: Global) -> Result<Option<Vec<Vec<u8>>>, AllocError> {
     Ok(Some(held))
 }
 
+const COMMANDS: &[&str] = &[
+    "verify spec bin",
+    "show bin",
+    "compile text out",
+    "sample 1",
+];
+
 #[test]
 fn want_of_memory_is_told(rt: HostRuntime) -> Result<(), Fail> {
     let alloc = rt.alloc();
-    for line in ["verify spec bin", "show bin"] {
+    for line in COMMANDS {
         let words = words_of(alloc, line)?;
         let mut folder = MemFolder::new(alloc);
         folder.add("spec", ONE_SPEC.as_bytes())?;
         folder.add("bin", ONE)?;
-        let mut out = MemSink::new(alloc, 100)?;
+        folder.add("text", b"(sort wff provable)")?;
+        folder.room("out", 51)?;
+        let mut out = MemSink::new(alloc, 200)?;
         let Some(held) = take_all(alloc)? else {
             return Ok(());
         };
@@ -209,6 +132,7 @@ fn want_of_memory_is_told(rt: HostRuntime) -> Result<(), Fail> {
         drop(held);
         assert!(rt; status == Status::Memory, "{line} without memory");
         assert!(rt; out.bytes().is_empty(), "{line} without memory");
+        assert!(rt; folder.file("out").is_none(), "{line} without memory");
         let status = run(alloc, &words, &mut folder, &mut out);
         assert!(rt; status == Status::Done, "{line} with memory again");
     }

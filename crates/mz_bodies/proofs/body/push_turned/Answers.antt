@@ -1,5 +1,5 @@
-use Rattle.std.proofs.Common.{rules, arith}
-use Rattle.std.proofs.lemmas.List.{append_assoc, append-nil, map-append, reverse-append}
+use Rattle.std.proofs.Common.{arith}
+use Rattle.std.proofs.lemmas.List.{append_assoc, map-append, reverse-append}
 use Rattle.std.proofs.lemmas.Grind.{common_steps}
 use Rattle.mz_bodies.proofs.body.push_turned.Goals as goal
 

@@ -1,4 +1,4 @@
-use Rattle.std.proofs.Common.{ℕ, ◌≡◌, ◌<◌, ◌∷◌, [], ◌++◌, OnOk, None, ◌+◌, ◌-◌, ◌*◌, ◌≤◌, length, map, reverse}
+use Rattle.std.proofs.Common.{◌≡◌, ◌++◌, map, reverse}
 use Rattle.mz_bodies.specs.Owes.{to_do}
 use Rattle.mz_bodies.specs.Pushing.{pushes}
 use Rattle.mz_bodies.proofs.body.push_turned.Given as goal

@@ -1,5 +1,5 @@
-use Rattle.std.proofs.Common.{rules, refl, arith}
-use Rattle.mz_bodies.proofs.Ways.{jump_sight, two_jumps}
+use Rattle.std.proofs.Common.{refl}
+use Rattle.mz_bodies.proofs.Ways.{two_jumps}
 use Rattle.mz_bodies.specs.Sight.{here}
 use Rattle.mz_bodies.proofs.cells.jump_from_inside.Goals as goal
 

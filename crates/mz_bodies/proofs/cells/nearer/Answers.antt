@@ -1,4 +1,4 @@
-use Rattle.std.proofs.Common.{rules, arith}
+use Rattle.std.proofs.Common.{rules}
 use Rattle.mz_bodies.proofs.Ways.{jump_way, outer_way}
 use Rattle.mz_bodies.proofs.cells.nearer.Goals as goal
 

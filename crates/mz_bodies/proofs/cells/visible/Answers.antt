@@ -1,4 +1,4 @@
-use Rattle.std.proofs.Common.{rules, arith}
+use Rattle.std.proofs.Common.{arith}
 use Rattle.mz_bodies.specs.Sight.{here}
 use Rattle.mz_bodies.proofs.cells.visible.Goals as goal
 

@@ -1,5 +1,5 @@
-use Rattle.std.proofs.Common.{ℕ, ◌≡◌, ◌≤◌, ◌<◌, ◌++◌, ◌∷◌, [], OnOk, OnErr, length, ◌+◌, ◌-◌, ◌*◌}
-use Rattle.mz_bodies.specs.Sight.{link_at, links, InSight, AreRight}
+use Rattle.std.proofs.Common.{ℕ, ◌≤◌, ◌<◌, length}
+use Rattle.mz_bodies.specs.Sight.{link_at, links, InSight}
 use Rattle.mz_bodies.proofs.cells.visible.Given as goal
 
 abbrev pub invariant-loop-at : goal.invariant-loop-at

@@ -1,4 +1,4 @@
-use Rattle.std.proofs.Common.{ℕ, ◌≤◌, ◌+◌, ◌*◌, arith, ap, length, take, refl, sym, ◌∙◌, subst}
+use Rattle.std.proofs.Common.{◌*◌, arith, ap, length, take, refl, sym, ◌∙◌, subst}
 use Rattle.mz_logic.specs.Tree.{listed, size, trees_size}
 use Rattle.mz_unify.specs.Profile.{expr}
 use Rattle.mz_machine.specs.Tables.{is_axiom}

@@ -1,4 +1,4 @@
-use Rattle.std.proofs.Common.{ℕ, ◌≤◌, ◌+◌, ◌*◌, length, arith, ap, take, refl, sym, ◌∙◌, subst, []}
+use Rattle.std.proofs.Common.{◌*◌, arith, ap, take, refl, sym, ◌∙◌, subst, []}
 use Rattle.mz_logic.specs.Tree.{size}
 use Rattle.mz_machine.specs.Tables.{is_definition}
 use Rattle.mz_unify.specs.Profile.{expr}

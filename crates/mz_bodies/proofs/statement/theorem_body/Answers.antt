@@ -1,9 +1,9 @@
-use Rattle.std.proofs.Common.{ℕ, ◌≤◌, ◌+◌, ◌*◌, arith, ap, length, take, refl, sym, ◌∙◌, subst, []}
+use Rattle.std.proofs.Common.{◌*◌, arith, ap, length, take, refl, sym, ◌∙◌, subst, []}
 use Rattle.mz_logic.specs.Tree.{listed, trees_size}
 use Rattle.mz_unify.specs.Profile.{proof}
 use Rattle.mz_machine.specs.Tables.{is_theorem}
 use Rattle.mz_mmu.specs.ProofView.{proof_view}
-use Rattle.mz_steps.specs.Bodies.{IsBody}
+use Rattle.mz_steps.specs.SharedBodies.{IsSharedBody}
 use Rattle.mz_store.specs.Sharing.{trees_of}
 use Rattle.mz_bodies.specs.Claims.{proved}
 use Rattle.mz_bodies.specs.Going.{IsAfter}
@@ -53,7 +53,7 @@ returns-clause-body c = λ ps ds is long.
     let b = c.put_proof.new.self in
     let p = proof_view c.args.proof.now in
     let same = c.in_ok-put_hyps.ensures.same ∙ c.in_ok-written.ensures.before in
-    subst (λ (z : Before). IsBody c.args.before.env.now is_theorem ps ds (proved z.env.now hyps [] p) hyps c.in_ok-bytes.bytes.items) same
+    subst (λ (z : Before). IsSharedBody c.args.before.env.now is_theorem ps ds (proved z.env.now hyps [] p) hyps c.in_ok-bytes.bytes.items) same
     (body_as c.args.before b.before is_theorem ps ds (proved c.put_hyps.new.self.before.env.now hyps [] p) hyps _ (c.in_ok-put_proof.ensures.same ∙ same)
     (ended b.before.env.now (assuming o (length c.args.hyps.now) (6 * trees_size (trees_of s c.args.hyps.now))) b.shared.store b.shared.variables.items b.heap.places.items b.heap.len b.hyps.items b.cells.cells.items (6 * proof_weight c.put_hyps.new.self.before.env.now p)
     (proved c.put_hyps.new.self.before.env.now hyps [] p) ds (to_do b.tasks.items) b.out.items _

@@ -1,4 +1,4 @@
-use Rattle.std.proofs.Common.{◌≡◌, ◌∙◌, refl, ap, subst, sym, List, ℕ, Some, length}
+use Rattle.std.proofs.Common.{◌∙◌, refl, ap, subst, length}
 use Rattle.std.specs.Prelude.{◌≤◌}
 use Rattle.mz_emit.specs.Compiling.{IsCompilation}
 use Rattle.mz_emit.specs.Lines.{line_of}

@@ -1,7 +1,9 @@
-use Rattle.std.proofs.Common.{◌≡◌, ◌∙◌, ◌∷◌, [], ℕ, List, ap, sym}
+use Rattle.std.proofs.Common.{ap, [], ◌∷◌}
 use Rattle.mz_tool.specs.Asked.{request}
 use Rattle.mz_tool.specs.Inputs.{contents_of}
-use Rattle.mz_tool.proofs.Answered.{two-read, verify-yes, verify-no, verify-proved, verify-only_yes, verify-only_no, one-read, compile-yes, compile-no, compile-proved, compile-only_yes, compile-only_no}
+use Rattle.mz_tool.specs.Request.{assemble, axioms}
+use Rattle.mz_tool.proofs.Answered.{two-read, verify-yes, verify-no, verify-proved, verify-only_yes, verify-only_no, one-read, compile-yes, compile-no, compile-proved, compile-only_yes, compile-only_no, same-yes, same-no, same-proved, same-sound, same-only_yes, same-only_no}
+use Rattle.mz_tool.proofs.Sampled.{sample-yes, sample-no, sample-proved, sample-only_yes, sample-only_no}
 use Rattle.mz_tool.proofs.outcome.outcome_of.Goals as goal
 
 pub returns-in-Verify-Two-clause-yes : goal.returns-in-Verify-Two-clause-yes
@@ -43,3 +45,63 @@ returns-in-Compile-One-clause-only_no c = compile-only_no (request c.args.comman
 pub returns-in-Compile-One-clause-proved : goal.returns-in-Compile-One-clause-proved
 returns-in-Compile-One-clause-proved c = compile-proved (request c.args.command) (contents_of c.args.contents.now) c.in-Compile-One.text-0.now c.in-Compile-One.out-0.now c.deref-in-Compile-One.result.now
     (ap request c.in-Compile-One.is-0) (one-read (contents_of c.args.contents.now) c.in-Compile-One.text.items c.deref-in-Compile-One.result.now (ap contents_of c.in-Compile-One.is-1) c.deref-in-Compile-One.ensures.value) c.compile.result
+
+pub returns-in-Sample-Nothing-clause-yes : goal.returns-in-Sample-Nothing-clause-yes
+returns-in-Sample-Nothing-clause-yes c =
+    sample-yes (request c.args.command) (contents_of c.args.contents.now) c.in-Sample-Nothing.size.number (ap request c.in-Sample-Nothing.is-0) (ap contents_of c.in-Sample-Nothing.is-1) c.sample.result c.sample.ensures.yes
+
+pub returns-in-Sample-Nothing-clause-no : goal.returns-in-Sample-Nothing-clause-no
+returns-in-Sample-Nothing-clause-no c =
+    sample-no (request c.args.command) (contents_of c.args.contents.now) c.in-Sample-Nothing.size.number (ap request c.in-Sample-Nothing.is-0) (ap contents_of c.in-Sample-Nothing.is-1) c.sample.result c.sample.ensures.no
+
+pub returns-in-Sample-Nothing-clause-only_yes : goal.returns-in-Sample-Nothing-clause-only_yes
+returns-in-Sample-Nothing-clause-only_yes c =
+    sample-only_yes (request c.args.command) (contents_of c.args.contents.now) c.in-Sample-Nothing.size.number (ap request c.in-Sample-Nothing.is-0) (ap contents_of c.in-Sample-Nothing.is-1) c.sample.result c.sample.ensures.only_yes
+
+pub returns-in-Sample-Nothing-clause-only_no : goal.returns-in-Sample-Nothing-clause-only_no
+returns-in-Sample-Nothing-clause-only_no c =
+    sample-only_no (request c.args.command) (contents_of c.args.contents.now) c.in-Sample-Nothing.size.number (ap request c.in-Sample-Nothing.is-0) (ap contents_of c.in-Sample-Nothing.is-1) c.sample.result c.sample.ensures.only_no
+
+pub returns-in-Sample-Nothing-clause-proved : goal.returns-in-Sample-Nothing-clause-proved
+returns-in-Sample-Nothing-clause-proved c =
+    sample-proved (request c.args.command) (contents_of c.args.contents.now) c.in-Sample-Nothing.size.number (ap request c.in-Sample-Nothing.is-0) (ap contents_of c.in-Sample-Nothing.is-1) c.sample.result c.sample.ensures.proved
+
+pub returns-in-Assemble-One-clause-yes : goal.returns-in-Assemble-One-clause-yes
+returns-in-Assemble-One-clause-yes c = same-yes (request c.args.command) (assemble c.in-Assemble-One.listing-0.now c.in-Assemble-One.out-0.now) (contents_of c.args.contents.now) (c.deref-in-Assemble-One.result.now ∷ [])
+    (ap request c.in-Assemble-One.is-0) (one-read (contents_of c.args.contents.now) c.in-Assemble-One.listing.items c.deref-in-Assemble-One.result.now (ap contents_of c.in-Assemble-One.is-1) c.deref-in-Assemble-One.ensures.value) c.assemble.result c.assemble.ensures.yes
+
+pub returns-in-Assemble-One-clause-no : goal.returns-in-Assemble-One-clause-no
+returns-in-Assemble-One-clause-no c = same-no (request c.args.command) (assemble c.in-Assemble-One.listing-0.now c.in-Assemble-One.out-0.now) (contents_of c.args.contents.now) (c.deref-in-Assemble-One.result.now ∷ [])
+    (ap request c.in-Assemble-One.is-0) (one-read (contents_of c.args.contents.now) c.in-Assemble-One.listing.items c.deref-in-Assemble-One.result.now (ap contents_of c.in-Assemble-One.is-1) c.deref-in-Assemble-One.ensures.value) c.assemble.result c.assemble.ensures.no
+
+pub returns-in-Assemble-One-clause-only_yes : goal.returns-in-Assemble-One-clause-only_yes
+returns-in-Assemble-One-clause-only_yes c = same-only_yes (request c.args.command) (assemble c.in-Assemble-One.listing-0.now c.in-Assemble-One.out-0.now) (contents_of c.args.contents.now) (c.deref-in-Assemble-One.result.now ∷ [])
+    (ap request c.in-Assemble-One.is-0) (one-read (contents_of c.args.contents.now) c.in-Assemble-One.listing.items c.deref-in-Assemble-One.result.now (ap contents_of c.in-Assemble-One.is-1) c.deref-in-Assemble-One.ensures.value) c.assemble.result c.assemble.ensures.only_yes
+
+pub returns-in-Assemble-One-clause-only_no : goal.returns-in-Assemble-One-clause-only_no
+returns-in-Assemble-One-clause-only_no c = same-only_no (request c.args.command) (assemble c.in-Assemble-One.listing-0.now c.in-Assemble-One.out-0.now) (contents_of c.args.contents.now) (c.deref-in-Assemble-One.result.now ∷ [])
+    (ap request c.in-Assemble-One.is-0) (one-read (contents_of c.args.contents.now) c.in-Assemble-One.listing.items c.deref-in-Assemble-One.result.now (ap contents_of c.in-Assemble-One.is-1) c.deref-in-Assemble-One.ensures.value) c.assemble.result c.assemble.ensures.only_no
+
+pub returns-in-Assemble-One-clause-proved : goal.returns-in-Assemble-One-clause-proved
+returns-in-Assemble-One-clause-proved c = same-proved (request c.args.command) (assemble c.in-Assemble-One.listing-0.now c.in-Assemble-One.out-0.now) (contents_of c.args.contents.now) (c.deref-in-Assemble-One.result.now ∷ [])
+    (ap request c.in-Assemble-One.is-0) (one-read (contents_of c.args.contents.now) c.in-Assemble-One.listing.items c.deref-in-Assemble-One.result.now (ap contents_of c.in-Assemble-One.is-1) c.deref-in-Assemble-One.ensures.value) c.assemble.result tt
+
+pub returns-in-Axioms-Two-clause-yes : goal.returns-in-Axioms-Two-clause-yes
+returns-in-Axioms-Two-clause-yes c = same-yes (request c.args.command) (axioms c.in-Axioms-Two.spec-0.now c.in-Axioms-Two.bin-0.now) (contents_of c.args.contents.now) (c.as_slice.result.now ∷ c.deref-in-Axioms-Two.result.now ∷ [])
+    (ap request c.in-Axioms-Two.is-0) (two-read (contents_of c.args.contents.now) c.in-Axioms-Two.spec.items c.in-Axioms-Two.bin.items c.as_slice.result.now c.deref-in-Axioms-Two.result.now (ap contents_of c.in-Axioms-Two.is-1) c.as_slice.ensures.value c.deref-in-Axioms-Two.ensures.value) c.axioms.result c.axioms.ensures.yes
+
+pub returns-in-Axioms-Two-clause-no : goal.returns-in-Axioms-Two-clause-no
+returns-in-Axioms-Two-clause-no c = same-no (request c.args.command) (axioms c.in-Axioms-Two.spec-0.now c.in-Axioms-Two.bin-0.now) (contents_of c.args.contents.now) (c.as_slice.result.now ∷ c.deref-in-Axioms-Two.result.now ∷ [])
+    (ap request c.in-Axioms-Two.is-0) (two-read (contents_of c.args.contents.now) c.in-Axioms-Two.spec.items c.in-Axioms-Two.bin.items c.as_slice.result.now c.deref-in-Axioms-Two.result.now (ap contents_of c.in-Axioms-Two.is-1) c.as_slice.ensures.value c.deref-in-Axioms-Two.ensures.value) c.axioms.result c.axioms.ensures.no
+
+pub returns-in-Axioms-Two-clause-only_yes : goal.returns-in-Axioms-Two-clause-only_yes
+returns-in-Axioms-Two-clause-only_yes c = same-only_yes (request c.args.command) (axioms c.in-Axioms-Two.spec-0.now c.in-Axioms-Two.bin-0.now) (contents_of c.args.contents.now) (c.as_slice.result.now ∷ c.deref-in-Axioms-Two.result.now ∷ [])
+    (ap request c.in-Axioms-Two.is-0) (two-read (contents_of c.args.contents.now) c.in-Axioms-Two.spec.items c.in-Axioms-Two.bin.items c.as_slice.result.now c.deref-in-Axioms-Two.result.now (ap contents_of c.in-Axioms-Two.is-1) c.as_slice.ensures.value c.deref-in-Axioms-Two.ensures.value) c.axioms.result (λ put text is. c.axioms.ensures.only_yes text is.1)
+
+pub returns-in-Axioms-Two-clause-only_no : goal.returns-in-Axioms-Two-clause-only_no
+returns-in-Axioms-Two-clause-only_no c = same-only_no (request c.args.command) (axioms c.in-Axioms-Two.spec-0.now c.in-Axioms-Two.bin-0.now) (contents_of c.args.contents.now) (c.as_slice.result.now ∷ c.deref-in-Axioms-Two.result.now ∷ [])
+    (ap request c.in-Axioms-Two.is-0) (two-read (contents_of c.args.contents.now) c.in-Axioms-Two.spec.items c.in-Axioms-Two.bin.items c.as_slice.result.now c.deref-in-Axioms-Two.result.now (ap contents_of c.in-Axioms-Two.is-1) c.as_slice.ensures.value c.deref-in-Axioms-Two.ensures.value) c.axioms.result c.axioms.ensures.only_no
+
+pub returns-in-Axioms-Two-clause-proved : goal.returns-in-Axioms-Two-clause-proved
+returns-in-Axioms-Two-clause-proved c = same-sound (request c.args.command) (axioms c.in-Axioms-Two.spec-0.now c.in-Axioms-Two.bin-0.now) (contents_of c.args.contents.now) (c.as_slice.result.now ∷ c.deref-in-Axioms-Two.result.now ∷ [])
+    (ap request c.in-Axioms-Two.is-0) (two-read (contents_of c.args.contents.now) c.in-Axioms-Two.spec.items c.in-Axioms-Two.bin.items c.as_slice.result.now c.deref-in-Axioms-Two.result.now (ap contents_of c.in-Axioms-Two.is-1) c.as_slice.ensures.value c.deref-in-Axioms-Two.ensures.value) c.axioms.result c.axioms.ensures.sound

@@ -1,5 +1,4 @@
-use Rattle.std.proofs.Common.{◌≡◌, ◌≤◌, ◌∙◌, Some, ap, sym, subst, length, refl}
-use Rattle.mz_io.specs.Outside.{HasRoom}
+use Rattle.std.proofs.Common.{◌≤◌, ap, sym, subst, length}
 use Rattle.mz_tool.specs.Inputs.{name_of, bytes_of}
 use Rattle.mz_tool.specs.Request.{longest}
 use Rattle.mz_tool.proofs.Answered.{shorter-serves}

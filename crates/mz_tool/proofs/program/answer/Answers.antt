@@ -1,5 +1,4 @@
 use Rattle.std.proofs.Common.{◌≡◌, ◌≤◌, ◌++◌, ℕ, List, Option, length, subst, sym}
-use Rattle.mz_io.specs.Outside.{AppendsPrefix}
 use Rattle.mz_tool.specs.Asked.{request}
 use Rattle.mz_tool.specs.Request.{IsPut, name_put}
 use Rattle.mz_tool.specs.declared.command.Command.{Command}

@@ -1,9 +1,7 @@
-use Rattle.std.proofs.Common.{◌≡◌, ◌≤◌, ◌∙◌, ◌++◌, ℕ, List, Option, Some, None, inl, inr, refl, ap, sym, subst, length}
+use Rattle.std.proofs.Common.{◌≤◌, ◌∙◌, None, inl, inr, refl, ap, sym, subst, length}
 use Rattle.mz_io.specs.Outside.{AppendsPrefix}
-use Rattle.mz_tool.specs.Asked.{request}
 use Rattle.mz_tool.specs.Inputs.{bytes_of, contents_of}
-use Rattle.mz_tool.specs.Request.{Hold, IsPut, names_read, name_put}
-use Rattle.mz_tool.specs.Run.{IsAnswer}
+use Rattle.mz_tool.specs.Request.{Hold, IsPut}
 use Rattle.mz_tool.proofs.Answered.{put-after}
 use Rattle.mz_tool.proofs.whole.answer_whole.Goals as goal
 

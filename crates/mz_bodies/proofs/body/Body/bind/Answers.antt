@@ -1,4 +1,3 @@
-use Rattle.std.proofs.Common.{ap, ◌∙◌}
 use Rattle.mz_mmu.specs.ProofView.{proof_view}
 use Rattle.mz_bodies.specs.Owes.{to_do}
 use Rattle.mz_bodies.proofs.Binding.{bind_done, bind_cost}

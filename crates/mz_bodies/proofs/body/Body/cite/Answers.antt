@@ -1,5 +1,4 @@
-use Rattle.std.proofs.Common.{refl, sym, ap, ◌∙◌, arith, ◌∷◌, ◌++◌, subst, ◌≡◌, List}
-use Rattle.mz_cmd.specs.declared.code.ProofCode.TheVariants as code
+use Rattle.std.proofs.Common.{sym, ap, ◌∙◌, ◌∷◌, ◌++◌, subst, List}
 use Rattle.mz_logic.specs.Signature.{Signature}
 use Rattle.mz_logic.specs.Tree.{instance}
 use Rattle.mz_logic.specs.DeclView.{assertion_view}
@@ -7,8 +6,8 @@ use Rattle.mz_logic.specs.View.{tree}
 use Rattle.mz_store.specs.Sharing.{trees_of}
 use Rattle.mz_shared.specs.Instances.{AreSorted}
 use Rattle.mz_bodies.specs.Pushing.{pushes}
-use Rattle.mz_bodies.specs.Owes.{push, give, to_do}
-use Rattle.mz_bodies.proofs.Grown.{fits_sorted, grows_on, are_in_grown, trees_grown}
+use Rattle.mz_bodies.specs.Owes.{push, to_do}
+use Rattle.mz_shared.proofs.Making.{fits_sorted, grows_on, are_in_grown, trees_grown}
 use Rattle.mz_bodies.proofs.Growing.{cite_done, cite_cost, cite_reach, concl_is, shared_as, vars_as}
 use Rattle.mz_bodies.proofs.body.Body.cite.Goals as goal
 

@@ -1,4 +1,3 @@
-use Rattle.std.proofs.Common.{subst, List, sym}
 use Rattle.mz_logic.specs.Declaration.{signatures}
 use Rattle.mz_bodies.proofs.Dummies.{dummy_made}
 use Rattle.mz_bodies.proofs.body.Body.make_dummy.Goals as goal

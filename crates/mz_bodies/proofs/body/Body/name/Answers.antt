@@ -1,7 +1,7 @@
-use Rattle.std.proofs.Common.{◌≡◌, ◌<◌, ◌+◌, ◌∷◌, [], refl, sym, ap, ◌∙◌, subst, ℕ, Option}
+use Rattle.std.proofs.Common.{◌<◌, ◌+◌, ◌∷◌, [], sym, ap, ◌∙◌, subst, ℕ, Option}
 use Rattle.mz_mmu.specs.Proof.{by_name}
 use Rattle.mz_mmu.specs.ProofView.{proof_view}
-use Rattle.mz_bodies.specs.Owes.{prove, save, to_do, left, let_costs}
+use Rattle.mz_bodies.specs.Owes.{prove, to_do, left, let_costs}
 use Rattle.mz_bodies.specs.Scopes.{in_sight}
 use Rattle.mz_bodies.specs.Costs.{cost}
 use Rattle.mz_bodies.specs.Sight.{parts}

@@ -1,4 +1,4 @@
-use Rattle.std.proofs.Common.{refl, sym, ap, ◌∙◌, subst, ◌∷◌, []}
+use Rattle.std.proofs.Common.{ap, ◌∙◌, subst, ◌∷◌, []}
 use Rattle.mz_mmu.specs.ProofView.{proof_view}
 use Rattle.mz_bodies.specs.Owes.{prove, prove_all, to_do}
 use Rattle.mz_bodies.specs.Going.{Does}

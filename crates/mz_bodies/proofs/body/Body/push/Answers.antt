@@ -1,6 +1,6 @@
-use Rattle.std.proofs.Common.{refl, sym, ap, ◌∙◌, arith, ◌++◌}
+use Rattle.std.proofs.Common.{sym, ap, ◌∙◌, arith, ◌++◌}
 use Rattle.mz_store.specs.Sharing.{tree_of}
-use Rattle.mz_bodies.specs.Owes.{make, to_do}
+use Rattle.mz_bodies.specs.Owes.{to_do}
 use Rattle.mz_bodies.specs.Sight.{parts}
 use Rattle.mz_bodies.specs.Pushing.{pushes}
 use Rattle.mz_bodies.proofs.Moves.{push_there, push_parts, size_some, parts_cost}
@@ -13,7 +13,7 @@ pub returns-in-Some-clause-less : goal.returns-in-Some-clause-less
 returns-in-Some-clause-less c = (let a = size_some (tree_of c.args.self.now.shared.store c.args.id.0) in omega (arith, a))
 
 pub returns-in_ok-push_turned-in-Some-head-clause-does : goal.returns-in_ok-push_turned-in-Some-head-clause-does
-returns-in_ok-push_turned-in-Some-head-clause-does c = λ o d. push_parts _ o _ _ _ _ _ _ c.args.id.0 c.in-Some-head.field-0 c.args-in-Some-head.result.now _ _ _ c.in-Some-head.ensures
+returns-in_ok-push_turned-in-Some-head-clause-does c = λ o d. push_parts _ o _ _ _ _ _ _ c.args.id.0 c.in-Some-head.field-0 c.args-in-Some-head.result.now _ _ _ c.in-Some-head.ensures (sym c.in_default.ensures)
     c.args-in-Some-head.ensures.ids c.args-in-Some-head.ensures.trees
     (c.in_ok-push_turned-in-Some-head.ensures ∙ ap (λ z. pushes c.args-in-Some-head.result.now ++ z) c.in_ok-add-in-Some-head.ensures) d
 

@@ -1,4 +1,4 @@
-use Rattle.std.proofs.Common.{◌∷◌, [], ap, ◌∙◌, sym}
+use Rattle.std.proofs.Common.{◌∷◌, [], ap, ◌∙◌}
 use Rattle.std.proofs.Common.{◌++◌}
 use Rattle.mz_store.specs.Sharing.{tree_of}
 use Rattle.mz_bodies.specs.Owes.{to_do}

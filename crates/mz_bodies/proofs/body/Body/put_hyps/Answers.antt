@@ -1,4 +1,4 @@
-use Rattle.std.proofs.Common.{ℕ, ◌≡◌, ◌≤◌, ◌*◌, length, take, refl, sym, ◌∙◌, subst, arith}
+use Rattle.std.proofs.Common.{◌≡◌, ◌*◌, length, take, refl, sym, ◌∙◌, subst, arith}
 use Rattle.mz_logic.specs.Tree.{trees_size}
 use Rattle.mz_store.specs.Sharing.{trees_of}
 use Rattle.mz_bodies.specs.Going.{IsAfter}

@@ -1,7 +1,7 @@
-use Rattle.std.proofs.Common.{ℕ, ◌≡◌, ◌<◌, ◌∷◌, [], ◌++◌, refl, sym, ap, ◌∙◌, subst, arith, append_assoc}
-use Rattle.mz_bodies.specs.Owes.{task_view, to_do, left}
+use Rattle.std.proofs.Common.{◌<◌, [], refl, sym, ap, ◌∙◌, subst}
+use Rattle.mz_bodies.specs.Owes.{left}
 use Rattle.mz_bodies.specs.Sight.{parts}
-use Rattle.mz_bodies.specs.Going.{Job, IsAfter, Does, steps_left}
+use Rattle.mz_bodies.specs.Going.{IsAfter, steps_left}
 use Rattle.mz_bodies.proofs.Moves.{at_last, popped}
 use Rattle.mz_bodies.proofs.body.Body.run.Goals as goal
 

@@ -1,5 +1,5 @@
-use Rattle.std.proofs.Common.{ℕ, ◌≡◌, []}
-use Rattle.mz_bodies.specs.Going.{Job, IsAfter, Does, steps_left}
+use Rattle.std.proofs.Common.{◌≡◌, []}
+use Rattle.mz_bodies.specs.Going.{Job, Does, steps_left}
 use Rattle.mz_bodies.proofs.body.Body.run.Given as goal
 
 abbrev pub invariant-loop-task : goal.invariant-loop-task

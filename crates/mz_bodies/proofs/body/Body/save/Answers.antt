@@ -1,4 +1,4 @@
-use Rattle.std.proofs.Common.{refl, sym, ap, ◌∙◌, Some}
+use Rattle.std.proofs.Common.{ap, ◌∙◌, Some}
 use Rattle.mz_bodies.proofs.Saving.{saved}
 use Rattle.mz_bodies.proofs.body.Body.save.Goals as goal
 

@@ -1,8 +1,8 @@
-use Rattle.std.proofs.Common.{rules, refl}
+use Rattle.std.proofs.Common.{refl}
 use Rattle.std.specs.Prelude.{None, ℕ, Option}
 use Rattle.mz_bodies.specs.Sight.{Link, Part, link, part_of}
 use Rattle.mz_bodies.specs.declared.cells.Cell.{Cell}
-use Rattle.mz_bodies.proofs.Lists.{set_map, set_long, set_at, set_others}
+use Rattle.mz_bodies.proofs.Lists.{set_map, set_at, set_others}
 use Rattle.mz_bodies.proofs.cells.Cells.set_place.Goals as goal
 
 pub returns-clause-parts : goal.returns-clause-parts

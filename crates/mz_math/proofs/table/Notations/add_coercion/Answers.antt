@@ -17,7 +17,7 @@ returns-then-not-stays_one_path-clause-answer c =
 
 pub invariant_of-self-2 : goal.invariant_of-self-2
 invariant_of-self-2 c =
-    let v : Table = record { delimiters = c.self.inside.delimiters; leading = c.self.inside.leading.items; infixes = c.self.inside.infixes.items; names = c.self.inside.names.items; coercions = c.self.inside.coercions.items } in
+    let v : Table = record { delimiters = c.self.inside.delimiters; leading = c.self.inside.leading; infixes = c.self.inside.infixes; names = c.self.inside.names; coercions = c.self.inside.coercions.items } in
     let k : Coercion = record { term = c.args.term; from = c.args.from; to = c.args.to } in
     let one = subst (λ (cs : List Coercion). OnePath (cs ++ k ∷ [])) c.deref.ensures.value (c.stays_one_path.ensures.0 c.if-not-stays_one_path.false) in
     subst (λ (cs : List Coercion). IsTable (record v { coercions = cs })) (sym c.in-Ok.ensures.items) (coercion-is v k c.self.invariant one)

@@ -1,4 +1,4 @@
-use Rattle.std.proofs.Common.{◌∙◌, ap, subst, List, Contains, MatchOption}
+use Rattle.std.proofs.Common.{ap, subst, List, Contains, MatchOption}
 use Rattle.mz_math.specs.Notation.{Notation}
 use Rattle.mz_math.specs.Clear.{JoinedBy}
 use Rattle.mz_math.proofs.words.Vocabulary.infix.Goals as goal
@@ -6,4 +6,4 @@ use Rattle.mz_math.proofs.words.Vocabulary.infix.Goals as goal
 pub returns : goal.returns
 returns c =
     let P : List Notation → Type 0 = λ ks. MatchOption c.joined_by.result ((k : Notation) → Contains ks k → JoinedBy k c.args.token.now → ⊥) (λ k. Contains ks k.now × JoinedBy k.now c.args.token.now) in
-    subst P (c.infixes.ensures ∙ ap (λ w. w.infixes) c.self.view_is) c.joined_by.ensures
+    subst P (ap (λ w. w.infixes) c.self.view_is) c.joined_by.ensures

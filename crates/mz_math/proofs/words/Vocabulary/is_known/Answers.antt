@@ -1,9 +1,9 @@
-use Rattle.std.proofs.Common.{◌≡◌, ◌∙◌, ℕ, List, ap, sym, subst, refl, Contains, inl}
+use Rattle.std.proofs.Common.{◌≡◌, ◌∙◌, ◌⊎◌, ℕ, List, ap, sym, subst, refl, Contains, inl}
 use Rattle.std.proofs.lemmas.Bool.{true≢false}
-use Rattle.mz_math.specs.Notation.{Notation, TermName}
+use Rattle.mz_math.specs.Notation.{TermName}
 use Rattle.mz_math.specs.Clear.{HasConstant}
 use Rattle.mz_math.specs.Grammar.{Words}
-use Rattle.mz_math.proofs.Knowing.{known-last, known-parenthesis, known-leading, known-infix, known-name}
+use Rattle.mz_math.proofs.Knowing.{known-last, known-parenthesis, known-constant, known-name}
 use Rattle.mz_math.proofs.words.Vocabulary.is_known.Goals as goal
 
 pub returns-then-names_variable : goal.returns-then-names_variable
@@ -16,23 +16,14 @@ returns-then-is_parenthesis c = (λ t. known-parenthesis c.args.self.now c.args.
 
 pub returns-then-has_constant : goal.returns-then-has_constant
 returns-then-has_constant c = (
-  λ t. known-leading c.args.self.now c.args.token.now
-      (subst (λ (ks : List Notation). (q : ℕ) × HasConstant ks c.args.token.now q) (c.leading.ensures ∙ ap (λ (w : Words). w.leading) c.self.view_is) (c.has_constant.ensures.0 c.if-has_constant.true)),
-  λ h. refl,
-)
-
-pub returns-then-has_constant-2 : goal.returns-then-has_constant-2
-returns-then-has_constant-2 c = (
-  λ t. known-infix c.args.self.now c.args.token.now
-      (subst (λ (ks : List Notation). (q : ℕ) × HasConstant ks c.args.token.now q) (c.infixes.ensures ∙ ap (λ (w : Words). w.infixes) c.self.view_is) (c.has_constant-2.ensures.0 c.if-has_constant-2.true)),
+  λ t. known-constant c.args.self.now c.args.token.now
+      (subst (λ (ws : Words). (q : ℕ) × (HasConstant ws.leading c.args.token.now q ⊎ HasConstant ws.infixes c.args.token.now q)) c.self.view_is (c.has_constant.ensures.0 c.if-has_constant.true)),
   λ h. refl,
 )
 
 pub returns : goal.returns
 returns c =
     let names = ap (λ (w : Words). w.names) c.self.view_is in
-    let leading = c.leading.ensures ∙ ap (λ (w : Words). w.leading) c.self.view_is in
-    let infixes = c.infixes.ensures ∙ ap (λ (w : Words). w.infixes) c.self.view_is in
     let variables = ap (λ (w : Words). w.variables) c.self.view_is in (
       λ t. known-name c.args.self.now c.args.token.now
           (subst (λ (ns : List TermName). (n : TermName) × Contains ns n × (n.name ≡ c.args.token.now)) names (c.names_term.ensures.0 t)),
@@ -40,7 +31,6 @@ returns c =
           (known-last c.args.self.now c.args.token.now
           (λ v. true≢false (sym (c.names_variable.ensures.1 (v.0, subst (λ (ns : List (List ℕ)). Contains ns c.args.token.now) (sym variables) v.1)) ∙ c.if-names_variable.false))
           (λ p. true≢false (sym (c.is_parenthesis.ensures.1 p) ∙ c.if-is_parenthesis.false))
-          (λ q. true≢false (sym (c.has_constant.ensures.1 (subst (λ (ks : List Notation). (i : ℕ) × HasConstant ks c.args.token.now i) (sym leading) q)) ∙ c.if-has_constant.false))
-          (λ q. true≢false (sym (c.has_constant-2.ensures.1 (subst (λ (ks : List Notation). (i : ℕ) × HasConstant ks c.args.token.now i) (sym infixes) q)) ∙ c.if-has_constant-2.false))
+          (λ has. true≢false (sym (c.has_constant.ensures.1 (subst (λ (ws : Words). (q : ℕ) × (HasConstant ws.leading c.args.token.now q ⊎ HasConstant ws.infixes c.args.token.now q)) (sym c.self.view_is) has)) ∙ c.if-has_constant.false))
           h)),
     )

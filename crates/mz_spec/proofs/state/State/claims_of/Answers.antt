@@ -1,98 +1,22 @@
-use Rattle.std.proofs.Common.{◌∙◌, ◌++◌, [], map, Err, ap, sym, subst}
-use Rattle.std.proofs.lemmas.Result.{err_from_is_err_and}
-use Rattle.mz_checks.specs.Checks.{AllHold, FailsFirst, retold}
-use Rattle.mz_grammar.specs.Code.{assertion, group, lexeme, source}
-use Rattle.mz_grammar.specs.Reading.{OnFault}
-use Rattle.mz_logic.specs.View.{tree}
-use Rattle.mz_math.specs.Formula.{Variables, Reader, IsFormula, formula_checks}
-use Rattle.mz_math.specs.declared.formula.Wanted.TheVariants.{Provable as provable}
-use Rattle.mz_spec.specs.Answers.{JudgesOrMem}
-use Rattle.mz_spec.specs.Code.{EndsSmall, stated}
+use Rattle.std.proofs.Common.{◌∙◌, [], map, ap}
+use Rattle.std.proofs.lemmas.Result.{IfOk-weaker}
+use Rattle.mz_grammar.specs.Code.{assertion}
+use Rattle.mz_spec.specs.Code.{stated}
 use Rattle.mz_spec.specs.Entries.{state}
-use Rattle.mz_spec.specs.Formulas.{AreHyps, AreTokens, inner, told, strings_checks}
-use Rattle.mz_spec.specs.Rules.{Every}
-use Rattle.mz_spec.specs.View.{claim, stated_claim, stated_of, group_stated, premise_stated, view}
+use Rattle.mz_spec.specs.View.{view}
 use Rattle.mz_spec.proofs.Judged.{few-sorts}
-use Rattle.mz_spec.proofs.Strung.{before-halt, last-halt, all-strings, stated-of_formulas}
 use Rattle.mz_spec.proofs.state.State.claims_of.Goals as goal
 
 pub scope_of-requires-clause-few : goal.scope_of-requires-clause-few
 scope_of-requires-clause-few c = few-sorts (state c.args.self.now) c.requires.kept c.requires.few
 
-pub hyps_of-requires : goal.hyps_of-requires
-hyps_of-requires c =
-    let hs = stated_of (map group c.args.assertion.now.head.groups.items) (map source c.args.assertion.now.premises.items) in
-    let first = c.in_ok-push_group_stated.ensures ∙ ap (λ xs. map stated xs ++ group_stated (map group c.deref.result.now)) c.new-stated.ensures.items ∙ ap (λ gs. group_stated (map group gs)) c.deref.ensures.value in
-    let both = c.in_ok-push_premise_stated.ensures ∙ ap (λ xs. xs ++ premise_stated (map source c.deref-2.result.now)) first ∙ ap (λ ps. group_stated (map group c.args.assertion.now.head.groups.items) ++ premise_stated (map source ps)) c.deref-2.ensures.value in
-    let same = ap (map stated) c.deref-3.ensures.value ∙ both in
-    record { small = subst (Every (λ h. EndsSmall h.math)) (sym same) (stated-of_formulas hs (lexeme c.args.assertion.now.conclusion) c.requires.small).0 }
-
-pub formula-requires : goal.formula-requires
-formula-requires c =
-    let hs = stated_of (map group c.args.assertion.now.head.groups.items) (map source c.args.assertion.now.premises.items) in
-    record { small = (stated-of_formulas hs (lexeme c.args.assertion.now.conclusion) c.requires.small).1 }
-
-pub returns-in_err-hyps-clause-judged : goal.returns-in_err-hyps-clause-judged
-returns-in_err-hyps-clause-judged c = λ parts tokens are.
-    let σ = state c.args.self.now in
-    let v = view (assertion c.args.assertion.now) in
-    let hs = stated_of (map group c.args.assertion.now.head.groups.items) (map source c.args.assertion.now.premises.items) in
-    let first = c.in_ok-push_group_stated.ensures ∙ ap (λ xs. map stated xs ++ group_stated (map group c.deref.result.now)) c.new-stated.ensures.items ∙ ap (λ gs. group_stated (map group gs)) c.deref.ensures.value in
-    let both = c.in_ok-push_premise_stated.ensures ∙ ap (λ xs. xs ++ premise_stated (map source c.deref-2.result.now)) first ∙ ap (λ ps. group_stated (map group c.args.assertion.now.head.groups.items) ++ premise_stated (map source ps)) c.deref-2.ensures.value in
-    let same = ap (map stated) c.deref-3.ensures.value ∙ both in
-    let halt = c.in_err-hyps.field-0.0 in
-    let scope = c.in_ok-scope.ensures v.variables v.types [] parts in
-    let p = err_from_is_err_and c.from_residual-in_err-hyps.result c.from_residual-in_err-hyps.ensures.1 in
-    subst (λ r. JudgesOrMem r (strings_checks σ v.variables v.formulas tokens)) (sym (p.1 ∙ ap Err p.2))
-    (before-halt σ v.variables (map stated_claim hs) (claim (lexeme c.args.assertion.now.conclusion)) tokens halt are
-    (λ before cut. subst (λ xs. OnFault halt (FailsFirst (strings_checks σ v.variables (map stated_claim xs) before))) same
-    (c.in_err-hyps.ensures.judged v.variables scope before (subst (λ xs. AreTokens σ (map stated_claim xs) before) (sym same) cut))))
-
-pub returns-in_err-conclusion-clause-judged : goal.returns-in_err-conclusion-clause-judged
-returns-in_err-conclusion-clause-judged c = λ parts tokens are.
-    let σ = state c.args.self.now in
-    let v = view (assertion c.args.assertion.now) in
-    let l = lexeme c.args.assertion.now.conclusion in
-    let hs = stated_of (map group c.args.assertion.now.head.groups.items) (map source c.args.assertion.now.premises.items) in
-    let first = c.in_ok-push_group_stated.ensures ∙ ap (λ xs. map stated xs ++ group_stated (map group c.deref.result.now)) c.new-stated.ensures.items ∙ ap (λ gs. group_stated (map group gs)) c.deref.ensures.value in
-    let both = c.in_ok-push_premise_stated.ensures ∙ ap (λ xs. xs ++ premise_stated (map source c.deref-2.result.now)) first ∙ ap (λ ps. group_stated (map group c.args.assertion.now.head.groups.items) ++ premise_stated (map source ps)) c.deref-2.ensures.value in
-    let same = ap (map stated) c.deref-3.ensures.value ∙ both in
-    let halt = c.in_err-conclusion.field-0.0 in
-    let scope = c.in_ok-scope.ensures v.variables v.types [] parts in
-    let reads : Variables → Reader = λ x. record { env = σ.env; table = σ.table; scope = x } in
-    let p = err_from_is_err_and c.from_residual-in_err-conclusion.result c.from_residual-in_err-conclusion.ensures.1 in
-    subst (λ r. JudgesOrMem r (strings_checks σ v.variables v.formulas tokens)) (sym (p.1 ∙ ap Err p.2))
-    (last-halt σ v.variables (map stated_claim hs) (claim l) tokens halt are
-    (λ before cut. subst (λ xs. AllHold (strings_checks σ v.variables (map stated_claim xs) before)) same
-    (c.in_ok-hyps.ensures.judged v.variables scope before (subst (λ xs. AreTokens σ (map stated_claim xs) before) (sym same) cut)))
-    (λ ps cut. subst (λ x. OnFault halt (FailsFirst (retold (told l) (formula_checks (reads x) provable (inner l) ps)))) scope (c.in_err-conclusion.ensures.judged ps cut)))
+pub claims_in-requires-clause-stated : goal.claims_in-requires-clause-stated
+claims_in-requires-clause-stated c = ap (map stated) c.deref.ensures.value ∙ c.in_ok-stated.ensures
 
 pub returns-clause-judged : goal.returns-clause-judged
-returns-clause-judged c = λ parts tokens are.
-    let σ = state c.args.self.now in
-    let v = view (assertion c.args.assertion.now) in
-    let l = lexeme c.args.assertion.now.conclusion in
-    let hs = stated_of (map group c.args.assertion.now.head.groups.items) (map source c.args.assertion.now.premises.items) in
-    let first = c.in_ok-push_group_stated.ensures ∙ ap (λ xs. map stated xs ++ group_stated (map group c.deref.result.now)) c.new-stated.ensures.items ∙ ap (λ gs. group_stated (map group gs)) c.deref.ensures.value in
-    let both = c.in_ok-push_premise_stated.ensures ∙ ap (λ xs. xs ++ premise_stated (map source c.deref-2.result.now)) first ∙ ap (λ ps. group_stated (map group c.args.assertion.now.head.groups.items) ++ premise_stated (map source ps)) c.deref-2.ensures.value in
-    let same = ap (map stated) c.deref-3.ensures.value ∙ both in
-    let scope = c.in_ok-scope.ensures v.variables v.types [] parts in
-    let reads : Variables → Reader = λ x. record { env = σ.env; table = σ.table; scope = x } in
-    all-strings σ v.variables (map stated_claim hs) (claim l) tokens are
-    (λ before cut. subst (λ xs. AllHold (strings_checks σ v.variables (map stated_claim xs) before)) same
-    (c.in_ok-hyps.ensures.judged v.variables scope before (subst (λ xs. AreTokens σ (map stated_claim xs) before) (sym same) cut)))
-    (λ ps cut. subst (λ x. AllHold (retold (told l) (formula_checks (reads x) provable (inner l) ps))) scope (c.in_ok-conclusion.ensures.judged ps cut))
+returns-clause-judged c = λ parts. let v = view (assertion c.args.assertion.now) in c.claims_in.ensures.judged (c.in_ok-scope.ensures v.variables v.types [] parts)
 
 pub returns-clause-claims : goal.returns-clause-claims
-returns-clause-claims c = λ parts.
-    let σ = state c.args.self.now in
+returns-clause-claims c =
     let v = view (assertion c.args.assertion.now) in
-    let l = lexeme c.args.assertion.now.conclusion in
-    let first = c.in_ok-push_group_stated.ensures ∙ ap (λ xs. map stated xs ++ group_stated (map group c.deref.result.now)) c.new-stated.ensures.items ∙ ap (λ gs. group_stated (map group gs)) c.deref.ensures.value in
-    let both = c.in_ok-push_premise_stated.ensures ∙ ap (λ xs. xs ++ premise_stated (map source c.deref-2.result.now)) first ∙ ap (λ ps. group_stated (map group c.args.assertion.now.head.groups.items) ++ premise_stated (map source ps)) c.deref-2.ensures.value in
-    let same = ap (map stated) c.deref-3.ensures.value ∙ both in
-    let scope = c.in_ok-scope.ensures v.variables v.types [] parts in
-    let reads : Variables → Reader = λ x. record { env = σ.env; table = σ.table; scope = x } in (
-      subst (λ xs. AreHyps σ v.variables xs c.in_ok-hyps.hyps) same (c.in_ok-hyps.ensures.meant v.variables scope),
-      subst (λ x. IsFormula (reads x) provable (inner l) (tree c.in_ok-conclusion.conclusion)) scope c.in_ok-conclusion.ensures.meant,
-    )
+    IfOk-weaker c.claims_in.result _ _ (λ claims meant parts. meant (c.in_ok-scope.ensures v.variables v.types [] parts)) c.claims_in.ensures.claims

@@ -1,41 +1,4 @@
-use Rattle.std.proofs.Common.{◌∙◌, length, Err, ap, subst, sym, arith}
-use Rattle.std.proofs.lemmas.Result.{err_from_is_err_and}
-use Rattle.mz_checks.specs.Checks.{nothing}
-use Rattle.mz_grammar.specs.Code.{lexeme, term}
-use Rattle.mz_spec.specs.Answers.{JudgesOrMem}
-use Rattle.mz_spec.specs.Entries.{state}
-use Rattle.mz_spec.specs.Rules.{new_name, statement_checks}
-use Rattle.mz_spec.specs.View.{view}
-use Rattle.mz_spec.proofs.Judged.{parts-halt, parts-hold, few-sorts, few-params}
 use Rattle.mz_spec.proofs.state.State.term_of.Goals as goal
 
-pub returns-in_err-check_parts-clause-judged : goal.returns-in_err-check_parts-clause-judged
-returns-in_err-check_parts-clause-judged c = λ tokens cut.
-    let σ = state c.args.self.now in
-    let v = view (term c.args.term.now) in
-    let p = err_from_is_err_and c.from_residual-in_err-check_parts.result c.from_residual-in_err-check_parts.ensures.1 in
-    subst (λ r. JudgesOrMem r (statement_checks σ c.args.place (term c.args.term.now) tokens)) (sym (p.1 ∙ ap Err p.2))
-    (parts-halt σ c.args.place v.variables v.types v.result (new_name c.args.self.now.term_names (lexeme c.args.term.now.head.name)) nothing c.in_err-check_parts.field-0.0 c.in_ok-check_new.ensures
-    (c.in_err-check_parts.ensures v.variables v.types v.result c.in_ok-parts.ensures))
-
-pub binders_of-requires-clause-few : goal.binders_of-requires-clause-few
-binders_of-requires-clause-few c = few-sorts (state c.args.self.now) c.requires.kept c.requires.few
-
-pub binders_of-requires-clause-small : goal.binders_of-requires-clause-small
-binders_of-requires-clause-small c =
-    let few = few-params (term c.args.term.now) c.in_ok-parts.parts c.requires.spelled c.in_ok-parts.ensures in
-    let same = ap length c.deref.ensures.value in
-    omega (arith, few, same)
-
-pub result_of-requires-clause-few : goal.result_of-requires-clause-few
-result_of-requires-clause-few c = few-sorts (state c.args.self.now) c.requires.kept c.requires.few
-
-pub result_of-requires-clause-small : goal.result_of-requires-clause-small
-result_of-requires-clause-small c = let few = few-params (term c.args.term.now) c.in_ok-parts.parts c.requires.spelled c.in_ok-parts.ensures in omega (arith, few)
-
-pub returns-clause-judged : goal.returns-clause-judged
-returns-clause-judged c = λ tokens cut.
-    let σ = state c.args.self.now in
-    let v = view (term c.args.term.now) in
-    parts-hold σ c.args.place v.variables v.types v.result (new_name c.args.self.now.term_names (lexeme c.args.term.now.head.name)) nothing c.in_ok-check_new.ensures
-    (c.in_ok-check_parts.ensures v.variables v.types v.result c.in_ok-parts.ensures) tt
+pub term_with-requires-clause-new : goal.term_with-requires-clause-new
+term_with-requires-clause-new c = c.in_ok-check_new.ensures

@@ -1,0 +1,13 @@
+pub mod Numerals
+pub mod LineReading
+pub mod Grammar
+pub mod Keeping
+pub mod Kept
+pub mod Looping
+pub mod OneText
+pub mod OneAnswer
+pub mod Runs
+pub mod LineTexts
+pub mod GoodLines
+pub mod Shown
+pub mod Listable

@@ -1,0 +1,11 @@
+pub mod Numbers
+pub mod Lines
+pub mod Reading
+pub mod Statements
+pub mod Rows
+pub mod Progress
+pub mod Making
+pub mod Answers
+pub mod Spoken
+pub mod Assembling
+pub mod Laws

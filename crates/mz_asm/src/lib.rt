@@ -1,0 +1,26 @@
+//! From a listing to the binary that it is the listing of.
+//!
+//! A listing's lines say which sorts, terms, axioms and theorems a binary has, and the commands of
+//! their unify streams and bodies. The binary is written in the normal layout, each command as short
+//! as it can be. `specs/Assembling.antt` says which texts are listings, and which rule a text breaks.
+#![tactic(auto)]
+
+mod assemble;
+mod assembled;
+mod assembly;
+mod bytes;
+mod kind;
+mod laws;
+mod line;
+mod number;
+mod rows;
+mod rule;
+mod spoken;
+mod stop;
+mod want;
+
+pub use assemble::assemble_bytes;
+pub use assembled::Assembled;
+pub use laws::{assembly_is_one, lines_are_one};
+pub use rule::A;
+pub use spoken::assembled_line;

@@ -1,0 +1,194 @@
+-- Each derivation without gaps that cites only what P allows closes to one that cites only axioms that Q allows. It is the
+-- closing proof of mz_logic, with P in place of any citation, and Q in place of all axioms.
+use Rattle.std.proofs.Common.{ℕ, zero, suc, ◌≡◌, ◌<◌, Bool, true, false, List, [], ◌++◌, slice_get, Contains, length, Some, refl, sym, ap₂, ◌∙◌, subst, inl, inr, append_assoc}
+use Rattle.std.proofs.lemmas.List.Elements.{All-contains}
+use Rattle.mz_logic.specs.Tree.{Tree, Trees, none, more, instance, instances, followed_by}
+use Rattle.mz_logic.specs.Declaration.{Assertion, Declaration, assertion_decl, sorts, signatures, assertions}
+use Rattle.mz_logic.specs.Sorts.{Fits, AreProvable}
+use Rattle.mz_logic.specs.Variables.{Apart}
+use Rattle.mz_logic.specs.Legality.{IsLegalDecl, IsBinderThere}
+use Rattle.mz_logic.specs.Derivations.{Derivation, Derivations, hypothesis, cite, convert, gap, no_derivs, more_derivs, Derives, AllDerive, CitesOnly, AllCiteOnly, without_gaps}
+use Rattle.mz_logic.specs.LegalLists.{AreDummies, IsProvedBy}
+use Rattle.mz_logic.specs.declared.binder.Binder.{Binder}
+use Rattle.mz_logic.specs.declared.binder.SortMods.{SortMods}
+use Rattle.mz_logic.proofs.Instance.{none_some}
+use Rattle.mz_logic.specs.Laws.{BoundArePlain}
+use Rattle.mz_logic.proofs.Extend.{Extends, extends_append, extends_itself, EnvExtends, fits_extends, apart_extends, between_extends, derives_extends, all_derive_extends}
+use Rattle.mz_logic.proofs.Sound.{AssertionRight, RightEnv, fits_followed_by}
+use Rattle.mz_logic.proofs.Lists.{each_from_all}
+use Rattle.mz_logic.proofs.EightRules.{names_there, binders_right}
+use Rattle.mz_logic.proofs.Compose.{instance_first}
+use Rattle.mz_logic.proofs.Graft.{graft, derives_graft, cites_graft, cites_more}
+use Rattle.mz_logic.proofs.Fresh.{IsScoped, AreAllDummies, slice_get-append_add, fresh, fresh_fits, scoped_with_dummies, apart_fresh, split_at}
+
+-- ---- a list of dummies
+
+all_dummies : (ss : List SortMods) (bs : List Binder) → AreDummies ss bs → AreAllDummies bs
+all_dummies ss bs h i b at = (h i b at).0
+
+dummies_append : (ss : List SortMods) (as_ bs : List Binder) → AreDummies ss as_ → AreDummies ss bs → AreDummies ss (as_ ++ bs)
+dummies_append ss as_ bs h k i b at = elim (split_at as_ bs i b at) [ inl here ↦ h i b here | inr later ↦ k later.0 b later.2 ]
+
+dummies_extend : (ss ss' : List SortMods) → Extends ss ss' → (bs : List Binder) → AreDummies ss bs → AreDummies ss' bs
+dummies_extend ss ss' longer bs h i b at =
+    let k = h i b at in
+    (k.0, (k.1.0, longer b.sort k.1.0 k.1.1, k.1.2, k.1.3))
+
+-- ---- hypotheses over the parameters alone
+
+instances_of_provable : (env : List Declaration) (ctx : List Binder) (es fs : Trees) (ps : List Binder) → Fits (signatures env) ctx es ps
+    → (gs : Trees) → AreProvable env ps gs → instances (followed_by es fs) gs ≡ instances es gs
+instances_of_provable env ctx es fs ps fits none h = refl
+instances_of_provable env ctx es fs ps fits (more g gs) h =
+    let k = h zero g refl in
+    ap₂ more (instance_first (signatures env) ctx es fs ps fits g k.0 k.1) (instances_of_provable env ctx es fs ps fits gs (λ i e at. h (suc i) e at))
+
+-- the derivation has no gap, and cites only what Q allows
+abbrev pub cites_in : (ℕ → Type 0) → List Declaration → Derivation → Type 0
+cites_in Q env d = CitesOnly (without_gaps Q) d
+
+-- each axiom that P allows is one that Q does, and each such theorem has a derivation that cites only what Q allows
+pub record CloseBy (P Q : ℕ → Type 0) (env : List Declaration) : Type 0 where
+  pub axioms : (T : ℕ) (a : Assertion) → slice_get (assertions env) T ≡ Some a → P T → a.is_axiom ≡ true → Q T
+  pub theorems : (T : ℕ) (a : Assertion) → slice_get (assertions env) T ≡ Some a → P T → a.is_axiom ≡ false → IsProvedBy (cites_in Q) env a
+
+-- ---- every derivation closes, in a context with further dummies
+
+module _ (env : List Declaration) (right : RightEnv env) (P Q : ℕ → Type 0) (closed : CloseBy P Q env) (hyps : Trees) where
+  abbrev Closes : List Binder → Tree → Type 0
+  Closes ctx e = (new : List Binder) × AreDummies (sorts env) new × ((d : Derivation) × CitesOnly (without_gaps Q) d × Derives env (ctx ++ new) hyps d e)
+
+  abbrev AllClose : List Binder → Trees → Type 0
+  AllClose ctx es = (new : List Binder) × AreDummies (sorts env) new × ((ds : Derivations) × AllCiteOnly (without_gaps Q) ds × AllDerive env (ctx ++ new) hyps ds es)
+
+  -- the same environment
+  same_env : EnvExtends env env
+  same_env = record { sorts_too = extends_itself _; terms_too = extends_itself _; signatures_too = extends_itself _; assertions_too = extends_itself _ }
+
+  -- a cited theorem's closed derivation takes the place of the citation
+  cite_closed : (ctx new : List Binder) → IsScoped ctx → AreDummies (sorts env) new → (T : ℕ) (a : Assertion) → slice_get (assertions env) T ≡ Some a
+      → (es : Trees) → Fits (signatures env) ctx es a.params → Apart ctx es a.params
+      → (ds : Derivations) → AllCiteOnly (without_gaps Q) ds → AllDerive env (ctx ++ new) hyps ds (instances es a.hyps)
+      → IsProvedBy (cites_in Q) env a → Closes ctx (instance es a.conclusion)
+  cite_closed ctx new scoped new_dummies T a at es fits apart ds cites they (bs, bs_dummies, (d, d_cites, d_derives)) =
+      (new ++ bs, dummies_append (sorts env) new bs new_dummies bs_dummies, (graft f ds d, cites_graft (without_gaps Q) f ds cites d d_cites, derives_all))
+    where
+      ctx₂ : List Binder
+      ctx₂ = ctx ++ new
+
+      f : Trees
+      f = followed_by es (fresh (length (ctx ++ new)) bs)
+
+      scoped₂ : IsScoped (ctx ++ new)
+      scoped₂ = scoped_with_dummies ctx new scoped (all_dummies (sorts env) new new_dummies)
+
+      fits₂ : Fits (signatures env) (ctx ++ new) es a.params
+      fits₂ = fits_extends (signatures env) (signatures env) ctx (ctx ++ new) (extends_itself _) (extends_append ctx new) es a.params fits
+
+      apart₂ : Apart (ctx ++ new) es a.params
+      apart₂ = apart_extends (signatures env) ctx (ctx ++ new) (extends_append ctx new) es a.params fits apart
+
+      a_right : AssertionRight env a
+      a_right = right.assertions_right T a at
+
+      no_deps : BoundArePlain (a.params ++ bs)
+      no_deps i b is bd = elim (split_at a.params bs i b is) [ inl here ↦ a_right.0 i b here bd | inr later ↦ (all_dummies (sorts env) bs bs_dummies later.0 b later.2).1 ]
+
+      f_fits : Fits (signatures env) ((ctx ++ new) ++ bs) (followed_by es (fresh (length (ctx ++ new)) bs)) (a.params ++ bs)
+      f_fits = fits_followed_by (signatures env) ((ctx ++ new) ++ bs) es (fresh (length (ctx ++ new)) bs) a.params bs
+          (fits_extends (signatures env) (signatures env) (ctx ++ new) ((ctx ++ new) ++ bs) (extends_itself _) (extends_append (ctx ++ new) bs) es a.params fits₂)
+          (fresh_fits (signatures env) ((ctx ++ new) ++ bs) (length (ctx ++ new)) bs (λ k b is. slice_get-append_add (ctx ++ new) bs k ∙ is) (all_dummies (sorts env) bs bs_dummies))
+
+      f_apart : Apart ((ctx ++ new) ++ bs) (followed_by es (fresh (length (ctx ++ new)) bs)) (a.params ++ bs)
+      f_apart = apart_fresh (signatures env) (ctx ++ new) scoped₂ es a.params fits₂ apart₂ bs (all_dummies (sorts env) bs bs_dummies)
+
+      given : AllDerive env ((ctx ++ new) ++ bs) hyps ds (instances (followed_by es (fresh (length (ctx ++ new)) bs)) a.hyps)
+      given = subst (AllDerive env ((ctx ++ new) ++ bs) hyps ds)
+          (sym (instances_of_provable env (ctx ++ new) es (fresh (length (ctx ++ new)) bs) a.params fits₂ a.hyps a_right.1))
+          (all_derive_extends env env (ctx ++ new) ((ctx ++ new) ++ bs) same_env (extends_append (ctx ++ new) bs) hyps ds (instances es a.hyps) they)
+
+      grafted : Derives env ((ctx ++ new) ++ bs) hyps (graft (followed_by es (fresh (length (ctx ++ new)) bs)) ds d) (instance (followed_by es (fresh (length (ctx ++ new)) bs)) a.conclusion)
+      grafted = derives_graft env ((ctx ++ new) ++ bs) (a.params ++ bs) no_deps (followed_by es (fresh (length (ctx ++ new)) bs)) f_fits f_apart a.hyps hyps ds given d a.conclusion d_derives
+
+      derives_all : Derives env (ctx ++ (new ++ bs)) hyps (graft (followed_by es (fresh (length (ctx ++ new)) bs)) ds d) (instance es a.conclusion)
+      derives_all = subst (λ c. Derives env c hyps (graft (followed_by es (fresh (length (ctx ++ new)) bs)) ds d) (instance es a.conclusion)) (append_assoc ctx new bs)
+          (subst (Derives env ((ctx ++ new) ++ bs) hyps (graft (followed_by es (fresh (length (ctx ++ new)) bs)) ds d))
+          (instance_first (signatures env) (ctx ++ new) es (fresh (length (ctx ++ new)) bs) a.params fits₂ a.conclusion a_right.2.0 a_right.2.1) grafted)
+
+  cite_either : (ctx : List Binder) → IsScoped ctx → (T : ℕ) (a : Assertion) → slice_get (assertions env) T ≡ Some a → P T
+      → (es : Trees) → Fits (signatures env) ctx es a.params → Apart ctx es a.params → AllClose ctx (instances es a.hyps) → Closes ctx (instance es a.conclusion)
+  cite_either ctx scoped T a at may es fits apart (new, new_dummies, (ds, cites, they)) = go a.is_axiom refl
+    where
+      go : (v : Bool) → a.is_axiom ≡ v → Closes ctx (instance es a.conclusion)
+      go true is = (
+        new,
+        new_dummies,
+        (
+          cite T es ds,
+          (closed.axioms T a at may is, cites),
+          (
+            a,
+            at,
+            refl,
+            fits_extends (signatures env) (signatures env) ctx (ctx ++ new) (extends_itself _) (extends_append ctx new) es a.params fits,
+            apart_extends (signatures env) ctx (ctx ++ new) (extends_append ctx new) es a.params fits apart,
+            they,
+          ),
+        ),
+      )
+      go false is = cite_closed ctx new scoped new_dummies T a at es fits apart ds cites they (closed.theorems T a at may is)
+
+  mutual
+    closes : (d : Derivation) → CitesOnly (without_gaps P) d → (ctx : List Binder) → IsScoped ctx → (e : Tree) → Derives env ctx hyps d e → Closes ctx e
+    closes (hypothesis i) only ctx scoped e at = ([], λ k b is. absurd (none_some is), (hypothesis i, tt, at))
+    closes (cite T es ds) (may, only) ctx scoped e (a, at, is, fits, apart, h) =
+        subst (Closes ctx) (sym is) (cite_either ctx scoped T a at may es fits apart (all_close ds only ctx scoped (instances es a.hyps) h))
+    closes (convert x c d) (c_free, only) ctx scoped e (is, (g, h, k)) =
+        let r = closes d only ctx scoped g k in
+        (r.0, r.1, (convert x c r.2.0, (c_free, r.2.1), (is, (g, between_extends env env ctx (ctx ++ r.0) same_env (extends_append ctx r.0) c x g h, r.2.2))))
+    closes (gap x) only ctx scoped e h = absurd only
+
+    all_close : (ds : Derivations) → AllCiteOnly (without_gaps P) ds → (ctx : List Binder) → IsScoped ctx → (es : Trees) → AllDerive env ctx hyps ds es → AllClose ctx es
+    all_close no_derivs only ctx scoped none h = ([], λ k b is. absurd (none_some is), (no_derivs, tt, tt))
+    all_close no_derivs only ctx scoped (more e es) h = absurd h
+    all_close (more_derivs d ds) only ctx scoped none h = absurd h
+    all_close (more_derivs d ds) (only, all) ctx scoped (more e es) (h, rest) =
+        let r = closes d only ctx scoped e h in
+        let q = all_close ds all (ctx ++ r.0) (scoped_with_dummies ctx r.0 scoped (all_dummies (sorts env) r.0 r.1)) es
+        (all_derive_extends env env ctx (ctx ++ r.0) same_env (extends_append ctx r.0) hyps ds es rest) in (
+          r.0 ++ q.0,
+          dummies_append (sorts env) r.0 q.0 r.1 q.1,
+          (
+            more_derivs r.2.0 q.2.0,
+            (r.2.1, q.2.1),
+            subst (λ c. Derives env c hyps r.2.0 e × AllDerive env c hyps q.2.0 es) (append_assoc ctx r.0 q.0)
+                (derives_extends env env (ctx ++ r.0) ((ctx ++ r.0) ++ q.0) same_env (extends_append (ctx ++ r.0) q.0) hyps r.2.0 e r.2.2, q.2.2),
+          ),
+        )
+
+params_scoped : (env : List Declaration) (a : Assertion) → IsLegalDecl env (assertion_decl a) → IsScoped a.params
+params_scoped env a legal = record { no_deps = λ i b at bd. ((binders_right env (assertion_decl a) legal i b at).0 bd).0; inside = inside }
+  where
+    inside : (i : ℕ) (b : Binder) → slice_get a.params i ≡ Some b → (x : ℕ) → Contains b.deps x → x < length a.params
+    inside i b at x has =
+        All-contains (λ j. j < length a.params) b.deps x
+        (each_from_all (IsBinderThere (sorts env) (length a.params)) a.params (names_there env (assertion_decl a) legal).0 i b at).1 has
+
+pub close_theorem : (env : List Declaration) → RightEnv env → (P Q : ℕ → Type 0) → CloseBy P Q env → (a : Assertion) → IsLegalDecl env (assertion_decl a)
+    → IsProvedBy (cites_in P) env a → IsProvedBy (cites_in Q) env a
+close_theorem env right P Q closed a legal (bs, dummies, (d, allowed, h)) =
+    let r = closes env right P Q closed a.hyps d allowed (a.params ++ bs) (scoped_with_dummies a.params bs (params_scoped env a legal) (all_dummies (sorts env) bs dummies)) a.conclusion h in
+    (bs ++ r.0, dummies_append (sorts env) bs r.0 dummies r.1, (r.2.0, r.2.1, subst (λ c. Derives env c a.hyps r.2.0 a.conclusion) (append_assoc a.params bs r.0) r.2.2))
+
+-- the same over more declarations, where more may be cited
+pub proved_extends : (env env' : List Declaration) → EnvExtends env env' → (P Q : ℕ → Type 0) → ((T : ℕ) → P T → Q T) → (a : Assertion)
+    → IsProvedBy (cites_in P) env a → IsProvedBy (cites_in Q) env' a
+proved_extends env env' m P Q wider a (bs, dummies, (d, cites, h)) = (
+  bs,
+  dummies_extend (sorts env) (sorts env') m.sorts_too bs dummies,
+  (
+    d,
+    cites_more (without_gaps P) (without_gaps Q) wider (λ none. none) d cites,
+    derives_extends env env' (a.params ++ bs) (a.params ++ bs) m (extends_itself _) a.hyps d a.conclusion h,
+  ),
+)

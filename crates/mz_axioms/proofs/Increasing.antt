@@ -1,0 +1,78 @@
+-- Ascending lists of numbers.
+use Rattle.std.proofs.Common.{◌≡◌, ◌∙◌, ◌≤◌, ◌<◌, ◌+◌, ◌⊎◌, ℕ, zero, suc, List, [], ◌∷◌, ◌++◌, map, length, get_or, slice_get, Some, refl, ap, subst, inl, inr, arith}
+use Rattle.std.specs.Prelude.{All, Contains}
+use Rattle.std.specs.List.Sorted.{IsStrictlyIncreasing}
+use Rattle.std.proofs.lemmas.List.{get_or_append_left, get_or_push, length_push, length-map, get_or-map}
+use Rattle.std.proofs.lemmas.List.Elements.{Contains-get_or}
+use Rattle.std.proofs.lemmas.List.Kept.{AllPairs-from_increasing}
+use Rattle.mz_logic.proofs.Instance.{one_at, none_some}
+
+pub less-or : (a b : ℕ) → (a < b) ⊎ (b ≤ a)
+less-or a zero = inr (omega arith)
+less-or zero (suc b) = inl (omega arith)
+less-or (suc a) (suc b) = elim (less-or a b) [ inl l ↦ inl (omega (arith, l)) | inr g ↦ inr (omega (arith, g)) ]
+
+pub increasing-push : (xs : List ℕ) (x : ℕ) → IsStrictlyIncreasing xs → All (λ y. y < x) xs → IsStrictlyIncreasing (xs ++ x ∷ [])
+increasing-push xs x up below k lt =
+    let long = length_push xs x in
+    let first : k < length xs = omega (arith, lt, long) in
+    let a = get_or_append_left xs (x ∷ []) 0 k first in
+    elim (less-or (k + 1) (length xs)) [
+      | inl inside ↦ (let b = get_or_append_left xs (x ∷ []) 0 (k + 1) inside in let c = up k inside in omega (arith, a, b, c))
+      | inr past ↦ (
+          let b = get_or_push xs x 0 (k + 1) (omega (arith, past, first)) in
+          let c = below k 0 first in
+          omega (arith, a, b, c)
+          )
+    ]
+
+pub increasing-map : (f : ℕ → ℕ) (xs : List ℕ) → IsStrictlyIncreasing xs → ((x y : ℕ) → Contains xs x → Contains xs y → x < y → f x < f y) → IsStrictlyIncreasing (map f xs)
+increasing-map f xs up grows k lt =
+    let long : length (map f xs) ≡ length xs = length-map xs f in
+    let inside : k + 1 < length xs = omega (arith, lt, long) in
+    let a = get_or-map f xs k 0 0 (omega (arith, inside)) in
+    let b = get_or-map f xs (k + 1) 0 0 inside in
+    let c = grows (get_or xs k 0) (get_or xs (k + 1) 0) (Contains-get_or xs k 0 (omega (arith, inside))) (Contains-get_or xs (k + 1) 0 inside) (up k inside) in
+    omega (arith, a, b, c)
+
+-- an element of an ascending list is less than those after it
+pub increasing-pair : (xs : List ℕ) (i j : ℕ) → IsStrictlyIncreasing xs → i < j → j < length xs → get_or xs i 0 < get_or xs j 0
+increasing-pair xs i j up lt within = AllPairs-from_increasing xs up i j 0 lt within
+
+-- as many numbers below n as ascend are no more than n
+pub at-least : (xs : List ℕ) (k : ℕ) → IsStrictlyIncreasing xs → k < length xs → k ≤ get_or xs k 0
+at-least xs zero up lt = omega arith
+at-least xs (suc k) up lt =
+    let a = at-least xs k up (omega (arith, lt)) in
+    let b = increasing-pair xs k (suc k) up (omega arith) lt in
+    omega (arith, a, b)
+
+pub increasing-few : (xs : List ℕ) (n : ℕ) → IsStrictlyIncreasing xs → All (λ x. x < n) xs → length xs ≤ n
+increasing-few [] n up below = omega arith
+increasing-few (x ∷ xs) n up below =
+    let a = at-least (x ∷ xs) (length xs) up (omega arith) in
+    let b = below (length xs) 0 (omega arith) in
+    omega (arith, a, b)
+
+-- ---- elements by their places
+
+pub get-within : {A : Type 0} (xs : List A) (k : ℕ) (x : A) → slice_get xs k ≡ Some x → k < length xs
+get-within [] k x at = absurd (none_some at)
+get-within (y ∷ xs) zero x at = omega arith
+get-within (y ∷ xs) (suc k) x at = let h = get-within xs k x at in omega (arith, h)
+
+pub get-is : {A : Type 0} (xs : List A) (k : ℕ) (x d : A) → slice_get xs k ≡ Some x → get_or xs k d ≡ x
+get-is [] k x d at = absurd (none_some at)
+get-is (y ∷ xs) zero x d at = one_at refl at
+get-is (y ∷ xs) (suc k) x d at = get-is xs k x d at
+
+pub get-there : {A : Type 0} (xs : List A) (k : ℕ) (d : A) → k < length xs → slice_get xs k ≡ Some (get_or xs k d)
+get-there [] k d lt = absurd (omega (arith, lt))
+get-there (y ∷ xs) zero d lt = refl
+get-there (y ∷ xs) (suc k) d lt = get-there xs k d (omega (arith, lt))
+
+pub get-contained : {A : Type 0} (xs : List A) (k : ℕ) (x : A) → slice_get xs k ≡ Some x → Contains xs x
+get-contained xs k x at = subst (Contains xs) (get-is xs k x x at) (Contains-get_or xs k x (get-within xs k x at))
+
+pub contained-get : {A : Type 0} (xs : List A) (x : A) → Contains xs x → (k : ℕ) × (slice_get xs k ≡ Some x)
+contained-get xs x (k, lt, is) = (k, get-there xs k x lt ∙ ap (λ y. Some y) is)

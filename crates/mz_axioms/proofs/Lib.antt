@@ -1,0 +1,11 @@
+pub mod ClosingBy
+pub mod Citing
+pub mod Supporting
+pub mod Resting
+pub mod Increasing
+pub mod Merging
+pub mod Placing
+pub mod Telling
+pub mod Numbering
+pub mod Listing
+pub mod Texting

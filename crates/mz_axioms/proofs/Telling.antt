@@ -1,0 +1,352 @@
+-- What is known of the rows stays true as the list of statements goes on.
+use Rattle.std.proofs.Common.{◌≡◌, ◌∙◌, ◌≤◌, ◌<◌, ◌+◌, ◌⊎◌, ℕ, zero, suc, Bool, true, false, List, [], ◌∷◌, ◌++◌, map, length, get_or, slice_get, Option, Some, None, Result, Ok, Err, refl, sym, ap, subst, inl, inr, arith, length-append, append_assoc, append-nil}
+use Rattle.std.specs.Prelude.{◌↔◌, Contains, MatchBool, IfOk, option_to_list}
+use Rattle.std.specs.List.Sorted.{IsStrictlyIncreasing}
+use Rattle.std.proofs.lemmas.List.{length-map, map_push}
+use Rattle.std.proofs.lemmas.List.Elements.{Contains-push, Contains-push_cases}
+use Rattle.mz_cmd.specs.declared.statement.StmtAt.TheVariants.{End, Head}
+use Rattle.mz_cmd.specs.Codes.{statement_code}
+use Rattle.mz_cmd.specs.StatementList.{statement_at}
+use Rattle.mz_logic.specs.Declaration.{Declaration, sort_decl, term_decl, assertion_decl, assertions}
+use Rattle.mz_logic.specs.LegalLists.{Statement, declarations}
+use Rattle.mz_logic.proofs.Instance.{one_at, none_some}
+use Rattle.mz_logic.proofs.Fresh.{split_at}
+use Rattle.mz_layout.specs.Tables.{list_at}
+use Rattle.mz_machine.specs.FileRows.{body_bytes}
+use Rattle.mz_binary.specs.Spelling.{is_local_code}
+use Rattle.mz_binary.specs.Chains.{IsGoodStatement, GoodTo}
+use Rattle.mz_binary.specs.Good.{Good}
+use Rattle.mz_binary.proofs.ChainLaws.{chain-more}
+use Rattle.mz_binary.proofs.Heads.{head-at}
+use Rattle.mz_axioms.specs.declared.rows.Place.{Place}
+use Rattle.mz_axioms.specs.declared.rows.Row.{Row}
+use Rattle.mz_axioms.specs.Supports.{AssertionBody, body_there, place_after, body_of, bodies_from, bodies_of, InSupport}
+use Rattle.mz_axioms.specs.Citations.{IsCitedIn}
+use Rattle.mz_axioms.specs.Places.{place_there, past_public, places_from, publics_past, place_by}
+use Rattle.mz_axioms.specs.Rows.{ComesTo, Tells, TellsAll, TellsFile, Gives, Reaches, IsNew, IsNoted, AreInOrder, AreWithin, AreFew}
+use Rattle.mz_axioms.proofs.Citing.{CitedBetween}
+use Rattle.mz_axioms.proofs.Increasing.{get-within, get-contained, increasing-few, get-there}
+use Rattle.mz_axioms.proofs.Placing.{places-more, publics-more, places-many, by-code}
+use Rattle.mz_axioms.proofs.Resting.{at-seam}
+use Rattle.mz_axioms.proofs.Supporting.{support-step, support-inverts, comes-on, comes-low, one-kind}
+
+-- ---- answers
+
+pub if-more : {A E : Type 0} (P Q : A → Type 0) (r : Result A E) → ((x : A) → P x → Q x) → IfOk r P → IfOk r Q
+if-more P Q (Ok x) m h = m x h
+if-more P Q (Err e) m h = h
+
+-- ---- citations of a body, one after another
+
+none-there : {A : Type 0} (x : A) → Contains [] x → ⊥
+none-there x (k, lt, is) = omega (arith, lt)
+
+module _ (file : List ℕ) (rows : List Row) (pos end : ℕ) where
+  abbrev Whole : ℕ → Type 0
+  Whole A = Reaches rows (body_bytes file pos end) A
+
+  -- these axioms and those that are reached from a place on are all that are reached
+  abbrev pub Reached : ℕ → List ℕ → Type 0
+  Reached at axioms = (A : ℕ) → (Contains axioms A ⊎ Reaches rows (body_bytes file at end) A) ↔ Reaches rows (body_bytes file pos end) A
+
+  pub reached-first : Reached pos []
+  reached-first A = (λ h. elim h [ inl no_ ↦ absurd (none-there A no_) | inr on ↦ on ], λ on. inr on)
+
+  pub reached-more : (at U after : ℕ) (old new : List ℕ) → CitedBetween file at end (Some (U, after)) → ((A : ℕ) → Contains new A ↔ (Contains old A ⊎ Gives rows U A)) → Reached at old → Reached after new
+  reached-more at U after old new (lt, le, said) union h A = (
+    λ r. elim r [
+      | inl has ↦ elim ((union A).0 has) [ inl was ↦ (h A).0 (inl was) | inr gives ↦ (h A).0 (inr (U, (said U).1 (inl refl), gives)) ]
+      | inr (V, cited, gives) ↦ (h A).0 (inr (V, (said V).1 (inr cited), gives))
+    ],
+    λ w. elim ((h A).1 w) [
+      | inl was ↦ inl ((union A).1 (inl was))
+      | inr (V, cited, gives) ↦ elim ((said V).0 cited) [
+        | inl same ↦ inl ((union A).1 (inr (subst (λ n. Gives rows n A) same gives)))
+        | inr on ↦ inr (V, on, gives)
+      ]
+    ],
+  )
+
+  pub reached-last : (at : ℕ) (axioms : List ℕ) → CitedBetween file at end None → Reached at axioms → (A : ℕ) → Contains axioms A ↔ Reaches rows (body_bytes file pos end) A
+  reached-last at axioms said h A = (
+    λ has. (h A).0 (inl has),
+    λ w. elim ((h A).1 w) [ inl has ↦ has | inr (V, cited, gives) ↦ absurd (said V cited) ],
+  )
+
+pub gives-this : (rows : List Row) (U A : ℕ) (row : Row) → slice_get rows U ≡ Some row → Gives rows U A ↔ Contains row.axioms.items A
+gives-this rows U A row at = (λ (r, is, has). subst (λ (x : Row). Contains x.axioms.items A) (one_at is at) has, λ has. (row, at, has))
+
+pub gives-past : (rows : List Row) (U A : ℕ) → length rows ≤ U → Gives rows U A → ⊥
+gives-past rows U A past (row, at, has) = let lt = get-within rows U row at in omega (arith, lt, past)
+
+-- what a row that was read gives
+pub with-read : (rows : List Row) (U : ℕ) (row : Row) (axioms new : List ℕ) → U < length rows → row ≡ get_or rows U row
+    → ((A : ℕ) → Contains new A ↔ (Contains axioms A ⊎ Contains row.axioms.items A)) → (A : ℕ) → Contains new A ↔ (Contains axioms A ⊎ Gives rows U A)
+with-read rows U row axioms new lt is union A =
+    let at : slice_get rows U ≡ Some row = get-there rows U row lt ∙ ap (λ (r : Row). Some r) (sym is) in
+    let gives = gives-this rows U A row at in (
+      λ has. elim ((union A).0 has) [ inl was ↦ inl was | inr more_ ↦ inr (gives.1 more_) ],
+      λ h. elim h [ inl was ↦ (union A).1 (inl was) | inr g ↦ (union A).1 (inr (gives.0 g)) ],
+    )
+
+-- ---- the axioms of a new row
+
+contains-one : (row A : ℕ) → Contains (row ∷ []) A ↔ (A ≡ row)
+contains-one row A = (
+  λ has. elim (Contains-push_cases [] row A has) [ inl no_ ↦ absurd (none-there A no_) | inr same ↦ sym same ],
+  λ same. subst (Contains (row ∷ [])) (sym same) (Contains-push [] row),
+)
+
+-- an axiom's are itself
+pub alone : (xs : List ℕ) (row n A : ℕ) (b : Bool) (Q : Type 0) → xs ≡ row ∷ [] → row ≡ n → b ≡ true → Contains xs A ↔ MatchBool b (A ≡ n) Q
+alone xs row n A b Q is same kind =
+    subst (λ (k : Bool). Contains xs A ↔ MatchBool k (A ≡ n) Q) (sym kind)
+    (λ has. ((contains-one row A).0 (subst (λ (ys : List ℕ). Contains ys A) is has)) ∙ same, λ e. subst (λ (ys : List ℕ). Contains ys A) (sym is) ((contains-one row A).1 (e ∙ sym same)))
+
+pub alone-ascends : (xs : List ℕ) (row : ℕ) → xs ≡ row ∷ [] → IsStrictlyIncreasing xs
+alone-ascends xs row is = subst IsStrictlyIncreasing (sym is) (λ k lt. absurd (omega (arith, lt)))
+
+-- a theorem's are those that its body reaches
+pub not-alone : (P Q R : Type 0) (b : Bool) → b ≡ false → P ↔ R → P ↔ MatchBool b Q R
+not-alone P Q R b kind h = subst (λ (k : Bool). P ↔ MatchBool k Q R) (sym kind) h
+
+pub noted-new : (o : Option Place) (place : Place) (bytes : List ℕ) (old new : List Row) (row : Row) → o ≡ Some place → new ≡ old ++ row ∷ [] → IsNew old place bytes row → IsNoted o bytes old new
+noted-new o place bytes old new row is pushed h = subst (λ (x : Option Place). IsNoted x bytes old new) (sym is) (row, pushed, h)
+
+-- ---- one row more
+
+get-some : {A : Type 0} (xs : List A) (k : ℕ) → k < length xs → (x : A) × (slice_get xs k ≡ Some x)
+get-some [] k lt = absurd (omega (arith, lt))
+get-some (x ∷ xs) zero lt = (x, refl)
+get-some (x ∷ xs) (suc k) lt = get-some xs k (omega (arith, lt))
+
+module _ (bodies : List AssertionBody) (rows : List Row) (many : length rows ≡ length bodies) (each : (U : ℕ) (row : Row) → slice_get rows U ≡ Some row → Tells bodies U row) (body : AssertionBody) where
+  last-there : slice_get (bodies ++ body ∷ []) (length bodies) ≡ Some body
+  last-there = at-seam bodies body [] (length bodies) refl
+
+  reached-support : (A : ℕ) → Reaches rows body.bytes A ↔ InSupport (bodies ++ body ∷ []) (length bodies) A
+  reached-support A = (
+    λ (U, cited, (row, at, has)). (
+        let low : U < length bodies = (let w = get-within rows U row at in omega (arith, w, many)) in
+        support-step (bodies ++ body ∷ []) (length bodies) U A (record { body = body; there = last-there; cited = cited; earlier = low })
+        ((comes-on bodies (body ∷ []) U A low).0 (((each U row at).axioms A).0 has))
+        ),
+    λ h. (
+        let (U, cites, comes) = support-inverts (bodies ++ body ∷ []) (length bodies) A h in
+        let same : cites.body ≡ body = one_at cites.there last-there in
+        let (row, at) = get-some rows U (let e = cites.earlier in omega (arith, e, many)) in (
+          U,
+          subst (λ (b : AssertionBody). IsCitedIn b.bytes U) same cites.cited,
+          (row, at, ((each U row at).axioms A).1 ((comes-on bodies (body ∷ []) U A cites.earlier).1 comes)),
+        )
+        ),
+  )
+
+  -- a citation of the new one comes to what it says
+  new-comes : (A : ℕ) (k : Bool) → body.is_axiom ≡ k → MatchBool k (A ≡ length rows) (Reaches rows body.bytes A) ↔ ComesTo (bodies ++ body ∷ []) (length bodies) A
+  new-comes A true is = (
+    λ same. inl (record { body = body; there = last-there; is = is }, same ∙ many),
+    λ h. elim h [
+      | inl here ↦ here.1 ∙ sym many
+      | inr on ↦ absurd (let e : true ≡ false = one-kind (bodies ++ body ∷ []) (length bodies) true false (record { body = body; there = last-there; is = is }) on.0 in cc)
+    ],
+  )
+  new-comes A false is = (
+    λ r. inr (record { body = body; there = last-there; is = is }, (reached-support A).0 r),
+    λ h. elim h [
+      | inl here ↦ absurd (let e : true ≡ false = one-kind (bodies ++ body ∷ []) (length bodies) true false here.0 (record { body = body; there = last-there; is = is }) in cc)
+      | inr on ↦ (reached-support A).1 on.1
+    ],
+  )
+
+  pub each-more : (place : Place) (new : Row) → place.is_axiom ≡ body.is_axiom → IsNew rows place body.bytes new
+      → (U : ℕ) (row : Row) → slice_get (rows ++ new ∷ []) U ≡ Some row → Tells (bodies ++ body ∷ []) U row
+  each-more place new kind is U row at = elim (split_at rows (new ∷ []) U row at) [
+    | inl old ↦ (
+        let told = each U row old in
+        let low : U < length bodies = (let w = get-within rows U row old in omega (arith, w, many)) in
+        record {
+          in_order = told.in_order;
+          axioms = λ A. (λ has. (comes-on bodies (body ∷ []) U A low).0 ((told.axioms A).0 has), λ c. (told.axioms A).1 ((comes-on bodies (body ∷ []) U A low).1 c));
+        }
+        )
+    | inr (k, place_, there) ↦ at-end k place_ there
+  ]
+    where
+      here : Tells (bodies ++ body ∷ []) (length bodies) new
+      here = record {
+        in_order = is.in_order;
+        axioms = λ A. (
+            let made = new-comes A place.is_axiom (sym kind) in (
+              λ has. made.0 ((is.axioms A).0 has),
+              λ c. (is.axioms A).1 (made.1 c),
+            )
+            );
+      }
+
+      at-end : (k : ℕ) → U ≡ length rows + k → slice_get (new ∷ []) k ≡ Some row → Tells (bodies ++ body ∷ []) U row
+      at-end zero e there = subst (Tells (bodies ++ body ∷ []) U) (one_at refl there) (subst (λ n. Tells (bodies ++ body ∷ []) n new) (omega (arith, e, many)) here)
+      at-end (suc k) e there = absurd (none_some there)
+
+-- ---- the list
+
+module _ (file : List ℕ) where
+  pub bodies-many : (at : ℕ) (ss : List Statement) → length (bodies_from file at ss) ≡ length (assertions (declarations ss))
+  bodies-many at [] = refl
+  bodies-many at (s ∷ ss) = one-more at s.decl (bodies_from file (place_after (statement_at file at)) ss) (declarations ss) (bodies-many (place_after (statement_at file at)) ss)
+    where
+      one-more : (at : ℕ) (d : Declaration) (xs : List AssertionBody) (ds : List Declaration) → length xs ≡ length (assertions ds) → length (body_of file at d ++ xs) ≡ length (assertions (d ∷ ds))
+      one-more at (sort_decl _) xs ds e = e
+      one-more at (term_decl _) xs ds e = e
+      one-more at (assertion_decl a) xs ds e = ap (λ n. suc n) e
+
+  bodies-more : (env : List Declaration) (from : ℕ) (ss : List Statement) (env' : List Declaration) (to : ℕ) (s : Statement) → GoodTo false file env from ss env' to
+      → bodies_from file from (ss ++ s ∷ []) ≡ bodies_from file from ss ++ body_of file to s.decl
+  bodies-more env from [] env' to s chain = append-nil (body_of file from s.decl) ∙ ap (λ n. body_of file n s.decl) (sym chain.1)
+  bodies-more env from (t ∷ ts) env' to s (next, good, chain) =
+      let goes : place_after (statement_at file from) ≡ next = ap place_after good.spelled.stands in
+      ap (λ n. body_of file from t.decl ++ bodies_from file n (ts ++ s ∷ [])) goes
+      ∙ ap (λ xs. body_of file from t.decl ++ xs) (bodies-more (env ++ t.decl ∷ []) next ts env' to s chain)
+      ∙ ap (λ n. body_of file from t.decl ++ (bodies_from file n ts ++ body_of file to s.decl)) (sym goes)
+      ∙ sym (append_assoc (body_of file from t.decl) (bodies_from file (place_after (statement_at file from)) ts) (body_of file to s.decl))
+
+  pub rows-many : (ss : List Statement) (rows : List Row) → TellsAll file ss rows → length rows ≡ length (bodies_of file ss)
+  rows-many ss rows t =
+      let a : length (map (λ (r : Row). r.place) rows) ≡ length rows = length-map rows (λ (r : Row). r.place) in
+      let b : length (map (λ (r : Row). r.place) rows) ≡ length (places_from 0 ss) = ap (λ (xs : List Place). length xs) t.places in
+      let c = places-many 0 ss in
+      let d = bodies-many (list_at file) ss in
+      omega (arith, a, b, c, d)
+
+  -- a statement more, of this code, whose body stands there
+  told-more : (ss : List Statement) (old new : List Row) (d : Declaration) (local : Bool) (at : ℕ) (o : Option Place) → TellsAll file ss old
+      → option_to_list o ≡ place_there (publics_past 0 ss) local d → IsNoted o (body_there file (statement_at file at)) old new
+      → (map (λ (r : Row). r.place) new ≡ places_from 0 ss ++ place_there (publics_past 0 ss) local d)
+      × ((U : ℕ) (row : Row) → slice_get new U ≡ Some row → Tells (bodies_of file ss ++ body_of file at d) U row)
+  told-more ss old new d local at o t place noted = go d o place noted
+    where
+      same : (d : Declaration) → place_there (publics_past 0 ss) local d ≡ [] → body_of file at d ≡ [] → new ≡ old
+          → (map (λ (r : Row). r.place) new ≡ places_from 0 ss ++ place_there (publics_past 0 ss) local d)
+          × ((U : ℕ) (row : Row) → slice_get new U ≡ Some row → Tells (bodies_of file ss ++ body_of file at d) U row)
+      same d no-place no-body is = (
+        ap (λ (rs : List Row). map (λ (r : Row). r.place) rs) is ∙ t.places ∙ sym (append-nil (places_from 0 ss)) ∙ ap (λ ps. places_from 0 ss ++ ps) (sym no-place),
+        λ U row has. subst (λ bs. Tells bs U row) (sym (append-nil (bodies_of file ss)) ∙ ap (λ bs. bodies_of file ss ++ bs) (sym no-body)) (t.each U row (subst (λ (rs : List Row). slice_get rs U ≡ Some row) is has)),
+      )
+
+      go : (d : Declaration) (o : Option Place) → option_to_list o ≡ place_there (publics_past 0 ss) local d → IsNoted o (body_there file (statement_at file at)) old new
+          → (map (λ (r : Row). r.place) new ≡ places_from 0 ss ++ place_there (publics_past 0 ss) local d)
+          × ((U : ℕ) (row : Row) → slice_get new U ≡ Some row → Tells (bodies_of file ss ++ body_of file at d) U row)
+      go (sort_decl m) None place noted = same (sort_decl m) refl refl noted
+      go (sort_decl m) (Some p) place noted = absurd cc
+      go (term_decl m) None place noted = same (term_decl m) refl refl noted
+      go (term_decl m) (Some p) place noted = absurd cc
+      go (assertion_decl a) None place noted = absurd cc
+      go (assertion_decl a) (Some p) place (row, pushed, is) =
+          let p-is : p ≡ record { number = publics_past 0 ss; is_axiom = a.is_axiom; is_local = local } = (let e : p ∷ [] ≡ record { number = publics_past 0 ss; is_axiom = a.is_axiom; is_local = local } ∷ [] = place in cc) in
+          let body : AssertionBody = record { is_axiom = a.is_axiom; bytes = body_there file (statement_at file at) } in (
+            ap (λ (rs : List Row). map (λ (r : Row). r.place) rs) pushed ∙ map_push (λ (r : Row). r.place) old row ∙ ap (λ (ps : List Place). ps ++ row.place ∷ []) t.places
+                ∙ ap (λ (q : Place). places_from 0 ss ++ q ∷ []) (is.place_is ∙ p-is),
+            λ U r has. each-more (bodies_of file ss) old (rows-many ss old t) t.each body p row (ap (λ (q : Place). q.is_axiom) p-is) is U r (subst (λ (rs : List Row). slice_get rs U ≡ Some r) pushed has),
+          )
+
+  -- ---- how far the list has been gone over
+
+  pub record Walked (at : ℕ) (rows : List Row) (publics : ℕ) : Type 0 where
+    pub whole : List Statement
+    pub good : Good false file whole
+    pub before : List Statement
+    pub after : List Statement
+    pub env : List Declaration
+    pub all : whole ≡ before ++ after
+    pub gone : GoodTo false file [] (list_at file) before env at
+    pub left : GoodTo false file env at after good.env good.to
+    pub tells : TellsAll file before rows
+    pub publics_are : publics ≡ publics_past 0 before
+    pub publics_low : publics ≤ at
+    pub rows_low : length rows ≤ at
+
+  pub walked-first : (ss : List Statement) → Good false file ss → Walked (list_at file) [] 0
+  walked-first ss good = record {
+    whole = ss;
+    good = good;
+    before = [];
+    after = ss;
+    env = [];
+    all = refl;
+    gone = (refl, refl);
+    left = good.statements;
+    tells = record { places = refl; each = λ U row at. absurd (none_some at) };
+    publics_are = refl;
+    publics_low = omega arith;
+    rows_low = omega arith;
+  }
+
+  past-most : (k : ℕ) (l : Bool) → past_public k l ≤ k + 1
+  past-most k true = omega arith
+  past-most k false = omega arith
+
+  noted-most : (o : Option Place) (bytes : List ℕ) (old new : List Row) → IsNoted o bytes old new → length new ≤ length old + 1
+  noted-most None bytes old new is = (let e : length new ≡ length old = ap (λ (rs : List Row). length rs) is in omega (arith, e))
+  noted-most (Some p) bytes old new (row, is, _) = (let e : length new ≡ length (old ++ row ∷ []) = ap (λ (rs : List Row). length rs) is in omega (arith, e, length-append old (row ∷ [])))
+
+  pub walked-more : (at code body next : ℕ) (old new : List Row) (publics : ℕ) → Walked at old publics → statement_at file at ≡ Ok (Head code body next)
+      → IsNoted (place_by publics (statement_code code)) (body_bytes file body next) old new → Walked next new (past_public publics (is_local_code code))
+  walked-more at code body next old new publics w stands noted = go w.after w.left w.all
+    where
+      go : (after : List Statement) → GoodTo false file w.env at after w.good.env w.good.to → w.whole ≡ w.before ++ after → Walked next new (past_public publics (is_local_code code))
+      go [] (_, end) all =
+          absurd (let e : Ok (Head code body next) ≡ Ok End = sym stands ∙ ap (statement_at file) (sym end) ∙ w.good.ends.ends in cc)
+      go (s ∷ ss) (next', good, rest) all =
+          let both : Ok (Head good.spelled.code good.spelled.body next') ≡ Ok (Head code body next) = sym good.spelled.stands ∙ stands in
+          let code-is : good.spelled.code ≡ code = cc in
+          let next-is : next' ≡ next = cc in
+          let place : option_to_list (place_by publics (statement_code code)) ≡ place_there (publics_past 0 w.before) s.is_local s.decl =
+          ap (λ (n : ℕ). option_to_list (place_by publics (statement_code n))) (sym code-is) ∙ by-code publics good.spelled.code s good.spelled.kind ∙ ap (λ (n : ℕ). place_there n s.is_local s.decl) w.publics_are in
+          let bytes : body_bytes file body next ≡ body_there file (statement_at file at) = sym (ap (body_there file) stands) in
+          let told = told-more w.before old new s.decl s.is_local at (place_by publics (statement_code code)) w.tells place
+          (subst (λ (bs : List ℕ). IsNoted (place_by publics (statement_code code)) bs old new) bytes noted) in
+          let local-is : s.is_local ≡ is_local_code code = good.spelled.kind.1 ∙ ap is_local_code code-is in
+          record {
+            whole = w.whole;
+            good = w.good;
+            before = w.before ++ s ∷ [];
+            after = ss;
+            env = w.env ++ s.decl ∷ [];
+            all = all ∙ sym (append_assoc w.before (s ∷ []) ss);
+            gone = subst (GoodTo false file [] (list_at file) (w.before ++ s ∷ []) (w.env ++ s.decl ∷ [])) next-is
+                (chain-more (IsGoodStatement false file) [] (list_at file) w.before w.env at s next' w.gone good);
+            left = subst (λ (n : ℕ). GoodTo false file (w.env ++ s.decl ∷ []) n ss w.good.env w.good.to) next-is rest;
+            tells = record {
+              places = told.0 ∙ sym (places-more 0 w.before s);
+              each = λ U row has. subst (λ (bs : List AssertionBody). Tells bs U row) (sym (bodies-more [] (list_at file) w.before w.env at s w.gone)) (told.1 U row has);
+            };
+            publics_are = ap (λ (n : ℕ). past_public n (is_local_code code)) w.publics_are ∙ ap (past_public (publics_past 0 w.before)) (sym local-is) ∙ sym (publics-more 0 w.before s);
+            publics_low = (let a = past-most publics (is_local_code code) in let b = w.publics_low in let c = (head-at file at code body next stands).further in omega (arith, a, b, c));
+            rows_low = (let a = noted-most (place_by publics (statement_code code)) (body_bytes file body next) old new noted in let b = w.rows_low in let c = (head-at file at code body next stands).further in omega (arith, a, b, c));
+          }
+
+  pub walked-last : (at : ℕ) (rows : List Row) (publics : ℕ) → Walked at rows publics → ((code body next : ℕ) → statement_at file at ≡ Ok (Head code body next) → ⊥) → TellsFile file rows
+  walked-last at rows publics w no_head = go w.after w.left w.all
+    where
+      go : (after : List Statement) → GoodTo false file w.env at after w.good.env w.good.to → w.whole ≡ w.before ++ after → TellsFile file rows
+      go [] left all = (w.whole, w.good, subst (λ (ss : List Statement). TellsAll file ss rows) (sym (all ∙ append-nil w.before)) w.tells)
+      go (s ∷ ss) (next, good, rest) all = absurd (no_head good.spelled.code good.spelled.body next good.spelled.stands)
+
+  pub walked-order : (at : ℕ) (rows : List Row) (publics : ℕ) → Walked at rows publics → AreInOrder rows
+  walked-order at rows publics w U row is = (w.tells.each U row is).in_order
+
+  -- ---- what the rows of a whole file are
+
+  pub told-within : (rows : List Row) → TellsFile file rows → AreWithin rows
+  told-within rows (ss, good, t) U row at k d lt =
+      let A = get_or row.axioms.items k d in
+      let has = get-contained row.axioms.items k A (get-there row.axioms.items k d lt) in
+      let low = comes-low (bodies_of file ss) U A (((t.each U row at).axioms A).0 has) in
+      let w = get-within rows U row at in
+      omega (arith, low, w)
+
+  pub told-few : (rows : List Row) → TellsFile file rows → AreFew rows
+  told-few rows told k d lt =
+      let row = get_or rows k d in
+      let at = get-there rows k d lt in
+      increasing-few row.axioms.items (length rows) ((told.2.each k row at).in_order) (told-within rows told k row at)

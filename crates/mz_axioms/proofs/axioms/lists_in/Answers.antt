@@ -1,0 +1,27 @@
+use Rattle.std.proofs.Common.{◌≡◌, ℕ, false, List, sym, subst, inl}
+use Rattle.mz_axioms.specs.declared.rows.Row.{Row}
+use Rattle.mz_axioms.specs.Rows.{IsGood, TellsFile, supports_of}
+use Rattle.mz_binary.proofs.WholeFiles.{good-excludes}
+use Rattle.mz_axioms.proofs.Telling.{if-more, told-within, told-few}
+use Rattle.mz_axioms.proofs.axioms.lists_in.Goals as goal
+
+pub read-requires : goal.read-requires
+read-requires c = c.requires.small
+
+pub rows_of-requires : goal.rows_of-requires
+rows_of-requires c = subst IsGood (sym c.in-Ok.ensures.0) c.requires.good
+
+pub unreachable-requires : goal.unreachable-requires
+unreachable-requires c = good-excludes false c.args.bin.now c.requires.good.0 c.in_default.field-0 c.requires.good.1 (inl c.in_default.ensures)
+
+pub lists_of-requires-clause-within : goal.lists_of-requires-clause-within
+lists_of-requires-clause-within c = told-within c.in-Ok.mmb c.in_ok-rows.rows.items c.in_ok-rows.ensures.told
+
+pub lists_of-requires-clause-few : goal.lists_of-requires-clause-few
+lists_of-requires-clause-few c = told-few c.in-Ok.mmb c.in_ok-rows.rows.items c.in_ok-rows.ensures.told
+
+pub returns : goal.returns
+returns c =
+    let rows = c.in_ok-rows.rows.items in
+    let told = subst (λ (f : List ℕ). TellsFile f rows) c.in-Ok.ensures.0 c.in_ok-rows.ensures.told in
+    if-more (λ lists. lists ≡ supports_of rows) (λ lists. (table : List Row) × TellsFile c.args.bin.now table × (lists ≡ supports_of table)) c.lists_of.result (λ lists is. (rows, told, is)) c.lists_of.ensures

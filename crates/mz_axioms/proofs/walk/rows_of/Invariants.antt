@@ -1,0 +1,9 @@
+use Rattle.std.proofs.Common.{◌≤◌, ◌-◌, length}
+use Rattle.mz_axioms.proofs.Telling.{Walked}
+use Rattle.mz_axioms.proofs.walk.rows_of.Given as goal
+
+abbrev pub invariant-statements : goal.invariant-statements
+invariant-statements l = record { so_far : Walked l.mmb l.at l.rows.items l.publics; within : l.at ≤ length l.mmb }
+
+abbrev pub decreases-statements : goal.decreases-statements
+decreases-statements l = length l.mmb - l.at

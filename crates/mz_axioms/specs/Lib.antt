@@ -1,0 +1,7 @@
+pub mod Supports
+pub mod Citations
+pub mod Places
+pub mod Rows
+pub mod Lists
+pub mod Reading
+pub mod Text

@@ -1,0 +1,25 @@
+-- What is said of a specification and a binary together.
+use Rattle.std.specs.Prelude.{◌≡◌, ◌+◌, ⊤, ℕ, false, List}
+use Rattle.mz_binary.specs.FileRun.{file_steps}
+use Rattle.mz_match.specs.Verdict.{FirstRefusal, Ticks}
+use Rattle.mz_axioms.specs.Lists.{AreSupports}
+use Rattle.mz_axioms.specs.declared.axioms.AxiomsRead.{AxiomsRead}
+use Rattle.mz_axioms.specs.declared.axioms.AxiomsRead.TheVariants as read
+
+-- the supports of an accepted pair, or its first refusal
+abbrev pub IsAxiomsRead : List ℕ → List ℕ → AxiomsRead → Type 0
+IsAxiomsRead spec bin (read.Lists lists) = AreSupports spec bin lists
+IsAxiomsRead spec bin (read.Refused verdict) = FirstRefusal spec bin verdict
+IsAxiomsRead spec bin read.Mem = ⊤
+
+-- the commands executed are those of verification
+abbrev pub TicksAs : List ℕ → (old new : ℕ) → AxiomsRead → Type 0
+TicksAs bin old new (read.Lists lists) = new ≡ old + file_steps false bin
+TicksAs bin old new (read.Refused verdict) = Ticks bin old new verdict
+TicksAs bin old new read.Mem = ⊤
+
+-- the pair is accepted, and this is said of it unless memory is wanting
+abbrev pub IsLists : AxiomsRead → Type 0
+IsLists (read.Lists lists) = ⊤
+IsLists (read.Refused verdict) = ⊥
+IsLists read.Mem = ⊤

@@ -1,0 +1,42 @@
+-- What is printed of the supports (this project's own).
+use Rattle.std.specs.Prelude.{◌≡◌, ◌<◌, ◌-◌, ◌++◌, ℕ, List, [], take, drop, length, All, slice_get, Option, Some, None, codes, flat_map}
+use Rattle.mz_spec.specs.State.{Entry}
+use Rattle.mz_spec.specs.Spec.{SpecMakes}
+use Rattle.mz_axioms.specs.Lists.{TheoremSupport, AreSupports}
+
+-- the bytes of a text from a place up to another
+abbrev pub bytes_between : List ℕ → ℕ → ℕ → List ℕ
+bytes_between text from to = take (to - from) (drop from text)
+
+abbrev pub name_in : List ℕ → Option Entry → List ℕ
+name_in text None = []
+name_in text (Some e) = bytes_between text e.from e.to
+
+-- the name of the k-th declaration, as the text has it
+abbrev pub name_at : List ℕ → List Entry → ℕ → List ℕ
+name_at text entries k = name_in text (slice_get entries k)
+
+-- for each axiom a space and its name
+abbrev pub axiom_names : List ℕ → List Entry → List ℕ → List ℕ
+axiom_names text entries axioms = flat_map (λ a. codes " " ++ name_at text entries a) axioms
+
+-- a theorem's name and a colon, the names of its axioms, and a newline
+abbrev pub support_line : List ℕ → List Entry → TheoremSupport → List ℕ
+support_line text entries s = name_at text entries s.theorem ++ codes ":" ++ axiom_names text entries s.axioms ++ codes "\n"
+
+-- a line for each theorem
+abbrev pub supports_text : List ℕ → List Entry → List TheoremSupport → List ℕ
+supports_text text entries supports = flat_map (support_line text entries) supports
+
+-- the numbers are those of declarations
+pub record IsNamed (entries : List Entry) (s : TheoremSupport) : Type 0 where
+  pub theorem : s.theorem < length entries
+  pub axioms : All (λ a. a < length entries) s.axioms
+
+-- the text of the supports of a specification's theorems
+abbrev pub IsTextOf : List ℕ → List TheoremSupport → List ℕ → Type 0
+IsTextOf text supports line = (entries : List Entry) × SpecMakes text entries × (line ≡ supports_text text entries supports)
+
+-- a binary proves the specification, and these are the supports of its theorems
+abbrev pub AreOfSome : List ℕ → List TheoremSupport → Type 0
+AreOfSome text supports = (bin : List ℕ) × AreSupports text bin supports

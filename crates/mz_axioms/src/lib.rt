@@ -1,0 +1,20 @@
+//! What each theorem of a specification rests on, where a binary proves it.
+//!
+//! The support of a theorem is the axioms that its proof cites, and the supports of the theorems that
+//! it cites. `specs/Supports.antt` says so of the bodies of a binary, `specs/Lists.antt` what is told
+//! of a specification's theorems.
+#![tactic(auto)]
+
+mod axioms;
+mod citations;
+mod lists;
+mod places;
+mod rows;
+mod text;
+mod union;
+mod walk;
+
+pub use axioms::{AxiomsRead, axioms_of};
+pub use citations::cited_at;
+pub use lists::Lists;
+pub use text::axioms_text;

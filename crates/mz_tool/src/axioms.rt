@@ -1,0 +1,56 @@
+// The command `axioms`.
+ghost use Rattle.std.specs.Prelude.{◌≡◌, ◌<◌, ◌^◌, ℕ, List, None, length};
+ghost use Rattle.mz_match.specs.Verdict.{IsSound};
+ghost use Rattle.mz_axioms.specs.Reading.{IsAxiomsRead};
+ghost use Rattle.mz_tool.specs.Run.{AreAxiomsTold, IsRefuted};
+ghost use Rattle.mz_tool.specs.Outcomes.{IfYes, IfNo, OnYes, OnNo};
+
+use crate::outcome::Outcome;
+use crate::output::Put;
+use mz_axioms::{AxiomsRead, axioms_of, axioms_text};
+use mz_cmd::Steps;
+use mz_match::{accepted_pairs_are_sound, each_pair_has_one_verdict, verdict_line};
+use std::alloc::Global;
+use std::marker::Brand;
+use std::sync::ledger::{Blank, Ledger};
+
+/// Tells on which axioms each theorem of a specification rests, where a binary is accepted against it.
+pub fn axioms(alloc: Global, spec: &[u8], bin: &[u8]) -> Outcome
+    requires spec { length spec.now < 2 ^ 32 }
+    requires bin { length bin.now < 2 ^ 32 }
+    ensures yes { IfYes result (λ put text. (put ≡ None) × AreAxiomsTold spec.now bin.now text) }
+    ensures no { IfNo result (λ text. IsRefuted spec.now bin.now text) }
+    ensures sound { OnYes result (IsSound spec.now bin.now) }
+    ensures only_yes { (text : List ℕ) → AreAxiomsTold spec.now bin.now text → OnNo result ⊥ }
+    ensures only_no { (text : List ℕ) → IsRefuted spec.now bin.now text → OnYes result ⊥ }
+{
+    each_pair_has_one_verdict();
+    accepted_pairs_are_sound();
+    match rests::<Brand>(alloc, Blank::new(1), spec, bin) {
+        AxiomsRead::Lists(lists) => match axioms_text(alloc, spec, &lists) {
+            Ok(text) => Outcome::Yes {
+                put: Put::Nothing,
+                text,
+            },
+            Err(_) => Outcome::Mem,
+        },
+        AxiomsRead::Refused(verdict) => match verdict_line(alloc, &verdict) {
+            Ok(text) => Outcome::No { text },
+            Err(_) => Outcome::Mem,
+        },
+        AxiomsRead::Mem => Outcome::Mem,
+    }
+}
+
+/// What the theorems rest on, the steps of the verification counted in a ledger of their own.
+fn rests<L: Ledger>(alloc: Global, blank: Blank, spec: &[u8], bin: &[u8]) -> AxiomsRead
+    requires name { blank.name ≡ L.name }
+    requires parts { blank.parts ≡ L.parts }
+    requires some { 0 < blank.parts }
+    requires spec { length spec.now < 2 ^ 32 }
+    requires bin { length bin.now < 2 ^ 32 }
+    ensures { IsAxiomsRead spec.now bin.now result }
+{
+    let mut steps = Steps::<L>::start(blank);
+    axioms_of(alloc, spec, bin, &mut steps)
+}

@@ -1,0 +1,78 @@
+// The command `sample`.
+ghost use Rattle.std.specs.Prelude.{◌≡◌, ◌<◌, ◌^◌, ℕ, List, None, length};
+ghost use Rattle.mz_sample.specs.Samples.{sample_specification, sample_text};
+ghost use Rattle.mz_tool.specs.Run.{IsUpheld, IsFaulted, IsProvedByText, IsSampleUpheld, IsSampleFaulted};
+ghost use Rattle.mz_tool.specs.Outcomes.{IfYes, IfNo, OnYes, OnNo, IsAfter};
+
+use crate::compile::compile;
+use crate::outcome::Outcome;
+use crate::output::Put;
+use crate::size::SampleSize;
+use crate::verify::verify;
+use mz_emit::compilation_is_decided;
+use mz_sample::{sample_line, sample_specification, sample_text};
+use mz_type::typed_or_faulty;
+use std::alloc::Global;
+
+/// Makes a sample, compiles its text, and verifies the binary against its specification. The line on
+/// how long both are comes before that of the verdict.
+pub fn sample(alloc: Global, size: SampleSize) -> Outcome
+    ensures yes { IfYes result (λ put text. (put ≡ None) × IsSampleUpheld size.number text) }
+    ensures no { IfNo result (λ text. IsSampleFaulted size.number text) }
+    ensures proved { OnYes result (IsProvedByText (sample_specification size.number) (sample_text size.number)) }
+    ensures only_yes { (text : List ℕ) → IsSampleUpheld size.number text → OnNo result ⊥ }
+    ensures only_no { (text : List ℕ) → IsSampleFaulted size.number text → OnYes result ⊥ }
+{
+    let Ok(specification) = sample_specification(alloc, size.number) else {
+        return Outcome::Mem;
+    };
+    let Ok(text) = sample_text(alloc, size.number) else {
+        return Outcome::Mem;
+    };
+    let Ok(line) = sample_line(alloc, specification.len(), text.len()) else {
+        return Outcome::Mem;
+    };
+    after(line, upheld(alloc, &specification, &text))
+}
+
+/// Compiles a text, and verifies the binary against a specification.
+fn upheld(alloc: Global, specification: &[u8], text: &[u8]) -> Outcome
+    requires specification { length specification.now < 2 ^ 32 }
+    requires text { length text.now < 2 ^ 32 }
+    ensures yes { IfYes result (λ put line. (put ≡ None) × IsUpheld specification.now text.now line) }
+    ensures no { IfNo result (λ line. IsFaulted specification.now text.now line) }
+    ensures proved { OnYes result (IsProvedByText specification.now text.now) }
+    ensures only_yes { (line : List ℕ) → IsUpheld specification.now text.now line → OnNo result ⊥ }
+    ensures only_no { (line : List ℕ) → IsFaulted specification.now text.now line → OnYes result ⊥ }
+{
+    compilation_is_decided();
+    typed_or_faulty();
+    match compile(alloc, text) {
+        Outcome::Yes { put, .. } => match put {
+            Put::File(bin) => verify(alloc, specification, &bin),
+            Put::Nothing => unreachable!(),
+        },
+        refused => refused,
+    }
+}
+
+/// The same answer, with a line before its text.
+fn after(mut line: Vec<u8>, outcome: Outcome) -> Outcome
+    ensures { IsAfter line.items outcome result }
+{
+    match outcome {
+        Outcome::Yes { put, text } => {
+            let Ok(()) = line.extend_from_slice(&text) else {
+                return Outcome::Mem;
+            };
+            Outcome::Yes { put, text: line }
+        }
+        Outcome::No { text } => {
+            let Ok(()) = line.extend_from_slice(&text) else {
+                return Outcome::Mem;
+            };
+            Outcome::No { text: line }
+        }
+        Outcome::Mem => Outcome::Mem,
+    }
+}

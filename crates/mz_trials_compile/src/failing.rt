@@ -1,0 +1,222 @@
+// Calls on the folder and on the output that fail, one by one, under each command; files that are too long.
+use crate::files::{ONE, ONE_SPEC};
+use crate::runs::words_of;
+use crate::texts::SORT;
+use mz_io::{Folder, MemFolder, MemSink};
+use mz_tool::{Command, Status, answer, run};
+use std::alloc::{AllocError, Global};
+use std::process::Abort;
+use std::test::Fail;
+
+const ACCEPTED_ONE: &str = "accepted: 1 sorts, 0 terms, 0 axioms, 0 definitions, 0 theorems\n";
+
+const ONE_LISTING: &str = "sort 0 4\nend\n";
+
+const SAMPLE_ONE: &str =
+    "sample: 367 bytes of specification, 514 bytes of text\naccepted: 2 sorts, 2 terms, 3 axioms, 1 definitions, 2 theorems\n";
+
+/// A command line, how many calls read its files, how many put one, and what is written. A file takes a
+/// start and two pulls, of which the second comes to its end.
+const RUNS: &[(&str, u8, u8, &str)] = &[
+    ("verify spec bin", 6, 0, ACCEPTED_ONE),
+    ("show bin", 3, 0, ONE_LISTING),
+    ("compile text out", 3, 1, "compiled: 51 bytes\n"),
+    ("assemble list out", 3, 1, "assembled: 51 bytes\n"),
+    ("sample 1", 0, 0, SAMPLE_ONE),
+];
+
+/// The smallest specification, binary, proof text and listing, with room for a file that is put.
+fn smallest(alloc: Global) -> Result<MemFolder, AllocError> {
+    let mut folder = MemFolder::new(alloc);
+    folder.add("spec", ONE_SPEC.as_bytes())?;
+    folder.add("bin", ONE)?;
+    folder.add("text", SORT.as_bytes())?;
+    folder.add("list", ONE_LISTING.as_bytes())?;
+    folder.room("out", 51)?;
+    Ok(folder)
+}
+
+/// Asserts that the smallest files are as they were, and whether one was put.
+fn assert_files(rt: &impl Abort, folder: &MemFolder, is_put: bool, what: &str) {
+    assert!(rt;
+        folder.file("spec") == Some(ONE_SPEC.as_bytes()),
+        "the specification for {what}"
+    );
+    assert!(rt; folder.file("bin") == Some(ONE), "the binary for {what}");
+    assert!(rt;
+        folder.file("text") == Some(SORT.as_bytes()),
+        "the text for {what}"
+    );
+    assert!(rt;
+        folder.file("list") == Some(ONE_LISTING.as_bytes()),
+        "the listing for {what}"
+    );
+    assert!(rt;
+        (folder.file("out") == Some(ONE)) == is_put,
+        "the file that is put for {what}"
+    );
+    assert!(rt;
+        folder.file("out").is_some() == is_put,
+        "whether a file is put for {what}"
+    );
+}
+
+/// How a run over the smallest files ends where the call of this number on the folder fails, and whether
+/// that call comes after it.
+fn ended_at_call(
+    alloc: Global,
+    line: &str,
+    call: u64,
+) -> Result<(Status, MemFolder, MemSink, bool), AllocError> {
+    let mut folder = smallest(alloc)?;
+    folder.fail_call(call)?;
+    let mut out = MemSink::new(alloc, 200)?;
+    out.take_at_most(1);
+    let status = run(alloc, &words_of(alloc, line)?, &mut folder, &mut out);
+    let comes_next = folder.start("bin").is_err();
+    Ok((status, folder, out, comes_next))
+}
+
+/// Counts the failing call up until a run meets no failure: a failing start or pull is a ReadFault, a
+/// failing put a WriteFault, and nothing is written.
+fn expect_calls(
+    rt: &(impl Abort + AllocGlobal),
+    line: &str,
+    reads: u8,
+    puts: u8,
+    text: &str,
+) -> Result<(), Fail> {
+    let reads = u64::from(reads);
+    let calls = reads + u64::from(puts);
+    for call in 1..=calls {
+        let (status, folder, out, comes_next) = ended_at_call(rt.alloc(), line, call)?;
+        let wanted = if call <= reads {
+            Status::ReadFault
+        } else {
+            Status::WriteFault
+        };
+        assert!(rt; status == wanted, "{line} where call {call} fails");
+        assert!(rt; out.bytes().is_empty(), "{line} where call {call} fails");
+        assert!(rt; !comes_next, "{line} makes call {call}");
+        assert_files(rt, &folder, false, line);
+    }
+    let (status, folder, out, comes_next) = ended_at_call(rt.alloc(), line, calls + 1)?;
+    assert!(rt; status == Status::Done, "{line} where no call fails");
+    assert!(rt;
+        out.bytes() == text.as_bytes(),
+        "{line} where no call fails"
+    );
+    assert!(rt; comes_next, "{line} makes no further call");
+    assert_files(rt, &folder, puts > 0, line);
+    Ok(())
+}
+
+#[test]
+fn each_failing_call_on_the_folder_is_told(rt: HostRuntime) -> Result<(), Fail> {
+    for (line, reads, puts, text) in RUNS {
+        expect_calls(&rt, line, *reads, *puts, text)?;
+    }
+    Ok(())
+}
+
+/// How a run over the smallest files ends where the write of this number fails, of an output that takes one
+/// byte at a time.
+fn ended_at_write(
+    alloc: Global,
+    line: &str,
+    write: u64,
+) -> Result<(Status, MemFolder, MemSink), AllocError> {
+    let mut folder = smallest(alloc)?;
+    let mut out = MemSink::new(alloc, 200)?;
+    out.take_at_most(1);
+    out.fail_call(write)?;
+    let status = run(alloc, &words_of(alloc, line)?, &mut folder, &mut out);
+    Ok((status, folder, out))
+}
+
+/// Counts the failing write up until a run meets no failure: what was written before is there, and a file
+/// is put already.
+fn expect_writes(
+    rt: &(impl Abort + AllocGlobal),
+    line: &str,
+    puts: u8,
+    text: &str,
+) -> Result<(), Fail> {
+    for written in 0..text.len() {
+        let (status, folder, out) = ended_at_write(rt.alloc(), line, written as u64 + 1)?;
+        assert!(rt; status == Status::OutFault, "{line} after {written} bytes");
+        let front = text.as_bytes().iter().take(written);
+        assert!(rt;
+            out.bytes().iter().eq(front),
+            "{line} after {written} bytes"
+        );
+        assert_files(rt, &folder, puts > 0, line);
+    }
+    let (status, folder, out) = ended_at_write(rt.alloc(), line, text.len() as u64 + 1)?;
+    assert!(rt; status == Status::Done, "{line} where no write fails");
+    assert!(rt;
+        out.bytes() == text.as_bytes(),
+        "{line} where no write fails"
+    );
+    assert_files(rt, &folder, puts > 0, line);
+    Ok(())
+}
+
+#[test]
+fn each_failing_write_leaves_the_front(rt: HostRuntime) -> Result<(), Fail> {
+    for (line, _, puts, text) in RUNS {
+        expect_writes(&rt, line, *puts, text)?;
+    }
+    Ok(())
+}
+
+/// How a command over the smallest files ends where files may have so many bytes.
+fn ended_within(
+    alloc: Global,
+    limit: u32,
+    line: &str,
+) -> Result<(Status, MemFolder, MemSink), AllocError> {
+    let mut folder = smallest(alloc)?;
+    let mut out = MemSink::new(alloc, 200)?;
+    let words = words_of(alloc, line)?;
+    let status = match Command::read(&words) {
+        Some(command) => answer(alloc, u64::from(limit), command, &mut folder, &mut out),
+        None => Status::Usage,
+    };
+    Ok((status, folder, out))
+}
+
+/// How many bytes a file may have, and what is written where none is too long. The specification has 18
+/// bytes, the binary 51, the text 20 and the listing 13; a sample is no file.
+const LIMITS: &[(u32, &str, Option<&str>)] = &[
+    (17, "verify spec bin", None),
+    (18, "verify spec bin", None),
+    (50, "verify spec bin", None),
+    (51, "verify spec bin", Some(ACCEPTED_ONE)),
+    (50, "show bin", None),
+    (51, "show bin", Some(ONE_LISTING)),
+    (19, "compile text out", None),
+    (20, "compile text out", Some("compiled: 51 bytes\n")),
+    (12, "assemble list out", None),
+    (13, "assemble list out", Some("assembled: 51 bytes\n")),
+    (0, "sample 1", Some(SAMPLE_ONE)),
+];
+
+#[test]
+fn a_file_past_the_limit_is_too_long(rt: HostRuntime) -> Result<(), Fail> {
+    for (limit, line, text) in LIMITS {
+        let (status, folder, out) = ended_within(rt.alloc(), *limit, line)?;
+        let wanted = match text {
+            Some(_) => Status::Done,
+            None => Status::TooLong,
+        };
+        assert!(rt; status == wanted, "{line} within {limit} bytes");
+        assert!(rt;
+            out.bytes() == text.unwrap_or("").as_bytes(),
+            "{line} within {limit} bytes"
+        );
+        let is_put = text.is_some() && line.as_bytes().ends_with(b" out");
+        assert_files(&rt, &folder, is_put, line);
+    }
+    Ok(())
+}

@@ -1,0 +1,20 @@
+//! Tests of the program over proof texts and samples, and under calls that fail. It has no code of its
+//! own.
+#![tactic(auto)]
+
+#[cfg(test)]
+mod compiling;
+#[cfg(test)]
+mod failing;
+#[cfg(test)]
+mod files;
+#[cfg(test)]
+mod form_texts;
+#[cfg(test)]
+mod forms;
+#[cfg(test)]
+mod runs;
+#[cfg(test)]
+mod samples;
+#[cfg(test)]
+mod texts;

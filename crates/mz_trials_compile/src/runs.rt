@@ -1,0 +1,40 @@
+// Runs of the program over a folder and a sink in memory.
+use mz_io::{MemFolder, MemSink};
+use mz_tool::{Status, run};
+use std::alloc::{AllocError, Global};
+use std::process::Abort;
+use std::test::Fail;
+
+/// The words of a command line, separated by single spaces; no words where it is empty.
+pub fn words_of(alloc: Global, line: &str) -> Result<Vec<String>, AllocError> {
+    let mut words = Vec::new(alloc);
+    for word in line.split_whitespace() {
+        words.push(word.to_string(alloc)?)?;
+    }
+    Ok(words)
+}
+
+/// Verifies a binary against a specification, and compares the line and the status.
+pub fn expect_verdict(
+    rt: &(impl Abort + AllocGlobal),
+    spec: &[u8],
+    bin: &[u8],
+    line: &str,
+    what: &str,
+) -> Result<(), Fail> {
+    let alloc = rt.alloc();
+    let mut folder = MemFolder::new(alloc);
+    folder.add("spec", spec)?;
+    folder.add("bin", bin)?;
+    let mut out = MemSink::new(alloc, 200)?;
+    let words = words_of(alloc, "verify spec bin")?;
+    let status = run(alloc, &words, &mut folder, &mut out);
+    let text = format!(in alloc; "{line}\n")?;
+    assert!(rt; out.bytes() == text.as_bytes(), "the line for {what}");
+    let is_accepted = line.as_bytes().starts_with(b"accepted: ");
+    assert!(rt;
+        (status == Status::Done) == is_accepted,
+        "the status for {what}"
+    );
+    Ok(())
+}

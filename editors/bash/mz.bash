@@ -1,0 +1,25 @@
+# Completion of the program's words in bash: the command, then files of the kinds that it reads and writes.
+
+_mz_files() { # the endings that fit, as mm0 or mmu
+    local ending
+    compopt -o filenames
+    COMPREPLY=($(compgen -d -- "$1"))
+    for ending in "${@:2}"; do
+        COMPREPLY+=($(compgen -f -X "!*.$ending" -- "$1"))
+    done
+}
+
+_mz() {
+    local word=${COMP_WORDS[COMP_CWORD]} IFS=$'\n'
+    COMPREPLY=()
+    case $COMP_CWORD:${COMP_WORDS[1]} in
+        1:*) COMPREPLY=($(compgen -W $'verify\ncompile\nshow\nassemble\naxioms\nsample' -- "$word")) ;;
+        2:verify | 2:axioms) _mz_files "$word" mm0 ;;
+        3:verify | 3:axioms | 2:show) _mz_files "$word" mmb ;;
+        2:compile) _mz_files "$word" mmu ;;
+        3:compile | 3:assemble) _mz_files "$word" mmb ;;
+        2:assemble) _mz_files "$word" list ;;
+    esac
+}
+
+complete -F _mz mz ./mz

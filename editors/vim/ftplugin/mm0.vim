@@ -1,0 +1,3 @@
+" Comments begin with two hyphens.
+setlocal commentstring=--\ %s
+let b:undo_ftplugin = "setlocal commentstring<"
