@@ -1,159 +1,176 @@
 -- The first citation of a body, and those after it.
-use Rattle.std.proofs.Common.{◌≡◌, ◌∙◌, ◌≤◌, ◌<◌, ◌+◌, ◌-◌, ◌⊎◌, ℕ, zero, suc, Bool, true, false, List, [], ◌∷◌, length, take, drop, Option, Some, None, Result, Ok, Err, refl, sym, ap, subst, inl, inr, arith}
-use Rattle.std.specs.Prelude.{◌↔◌, if◌then◌else◌}
+use Rattle.std.proofs.Common.{◌≡◌, ◌∙◌, ◌≤◌, ◌<◌, ◌+◌, ◌-◌, ◌⊎◌, ℕ, zero, suc, List, [], ◌∷◌, ◌++◌, length, take, drop, Option, Some, None, Ok, Err, refl, sym, ap, subst, inl, inr, arith}
+use Rattle.std.specs.Prelude.{◌↔◌, All}
 use Rattle.std.proofs.lemmas.List.{drop-drop, drop-take, length-drop}
+use Rattle.std.proofs.lemmas.List.Elements.{All-nil, All-cons, All-head, All-tail, All-append}
 use Rattle.mz_cmd.specs.declared.command.Cmd.{Cmd}
 use Rattle.mz_cmd.specs.declared.command.CmdFault.{CmdFault}
-use Rattle.mz_cmd.specs.declared.command.CmdFault.TheVariants.{Cut}
-use Rattle.mz_cmd.specs.declared.code.ProofCode.{ProofCode}
-use Rattle.mz_cmd.specs.declared.code.ProofCode.TheVariants.{Thm, ThmSave}
-use Rattle.mz_cmd.specs.Codes.{proof_code}
 use Rattle.mz_cmd.specs.Reading.{first_command}
-use Rattle.mz_unify.proofs.Turning.{command-long, drop-less}
+use Rattle.mz_unify.proofs.Turning.{command-long}
 use Rattle.mz_machine.specs.Sound.{IsCitation, CitesWithin}
 use Rattle.mz_machine.specs.FileRows.{body_bytes}
-use Rattle.mz_axioms.specs.Citations.{is_citing, cited_or, first_citation, first_cited, IsCitedIn}
+use Rattle.mz_axioms.specs.Commands.{StandThere, length_of, IsCiting, IsCitedIn}
+use Rattle.mz_axioms.specs.Citations.{IsFirstCitation, CiteNothing, IsFirstIn}
 
--- ---- the bound of the definitions doesn't matter once it is enough
+abbrev pub IsSilent : Cmd → Type 0
+IsSilent c = IsCiting c → ⊥
 
-pub cites-enough : (n m : ℕ) (bytes : List ℕ) (T : ℕ) → length bytes ≤ m → CitesWithin n bytes T → CitesWithin m bytes T
-cites-enough zero m bytes T le h = absurd h
-cites-enough (suc n) zero [] T le (c, read, _) = absurd (let e : Err Cut ≡ Ok c = read in cc)
-cites-enough (suc n) zero (x ∷ bytes) T le h = absurd (omega (arith, le))
-cites-enough (suc n) (suc m) bytes T le (c, read, inl here) = (c, read, inl here)
-cites-enough (suc n) (suc m) bytes T le (c, read, inr on) =
-    (c, read, inr (cites-enough n m (drop c.len bytes) T (drop-less bytes c.len m (command-long bytes c read).0 le) on))
+one-command : (bytes : List ℕ) (c d : Cmd) → first_command bytes ≡ Ok c → first_command bytes ≡ Ok d → c ≡ d
+one-command bytes c d e f = let both : Ok c ≡ Ok d = sym e ∙ f in cc
 
-by-test : (b : Bool) (x y z : Option (ℕ × ℕ)) → y ≡ z → (if b then x else y) ≡ (if b then x else z)
-by-test true x y z e = refl
-by-test false x y z e = e
+no-command : (bytes : List ℕ) (c : Cmd) (f : CmdFault) → first_command bytes ≡ Err f → first_command bytes ≡ Ok c → ⊥
+no-command bytes c f e read = let both : Err f ≡ Ok c = sym e ∙ read in cc
 
-either : (at : ℕ) (bytes : List ℕ) (r : Result Cmd CmdFault) (f g : ℕ → List ℕ → Option (ℕ × ℕ)) → ((c : Cmd) → r ≡ Ok c → f (at + c.len) (drop c.len bytes) ≡ g (at + c.len) (drop c.len bytes))
-    → cited_or at bytes r f ≡ cited_or at bytes r g
-either at bytes (Err e) f g h = refl
-either at bytes (Ok c) f g h = by-test (is_citing (proof_code c.code)) (Some (c.value, at + c.len)) (f (at + c.len) (drop c.len bytes)) (g (at + c.len) (drop c.len bytes)) (h c refl)
+-- ---- citations, command by command
 
-pub first-enough : (n m at : ℕ) (bytes : List ℕ) → length bytes ≤ n → length bytes ≤ m → first_citation n at bytes ≡ first_citation m at bytes
-first-enough zero zero at bytes le le' = refl
-first-enough zero (suc m) at [] le le' = refl
-first-enough zero (suc m) at (x ∷ bytes) le le' = absurd (omega (arith, le))
-first-enough (suc n) zero at [] le le' = refl
-first-enough (suc n) zero at (x ∷ bytes) le le' = absurd (omega (arith, le'))
-first-enough (suc n) (suc m) at bytes le le' =
-    either at bytes (first_command bytes) (first_citation n) (first_citation m)
-    (λ c is. first-enough n m (at + c.len) (drop c.len bytes) (drop-less bytes c.len n (command-long bytes c is).0 le) (drop-less bytes c.len m (command-long bytes c is).0 le'))
+cited-on : (bytes : List ℕ) (c : Cmd) (T : ℕ) → first_command bytes ≡ Ok c → IsCitedIn (drop c.len bytes) T → IsCitedIn bytes T
+cited-on bytes c T read r = record { before = c ∷ r.before; command = r.command; stand = (read, r.stand); cites = r.cites }
 
--- ---- command by command
-
-pub first-unread : (at : ℕ) (bytes : List ℕ) (f : CmdFault) → first_command bytes ≡ Err f → first_cited at bytes ≡ None
-first-unread at [] f read = refl
-first-unread at (x ∷ bytes) f read = ap (λ r. cited_or at (x ∷ bytes) r (first_citation (length bytes))) read
-
-unfold-first : (at : ℕ) (bytes : List ℕ) (c : Cmd) → first_command bytes ≡ Ok c → (n : ℕ) × (length bytes ≡ suc n) × (first_cited at bytes ≡ cited_or at bytes (Ok c) (first_citation n))
-unfold-first at [] c read = absurd (let e : Err Cut ≡ Ok c = read in cc)
-unfold-first at (x ∷ bytes) c read = (length bytes, refl, ap (λ r. cited_or at (x ∷ bytes) r (first_citation (length bytes))) read)
-
-pub first-here : (at : ℕ) (bytes : List ℕ) (c : Cmd) → first_command bytes ≡ Ok c → is_citing (proof_code c.code) ≡ true → first_cited at bytes ≡ Some (c.value, at + c.len)
-first-here at bytes c read citing =
-    let (n, is, e) = unfold-first at bytes c read in
-    e ∙ ap (λ (b : Bool). if b then Some (c.value, at + c.len) else first_citation n (at + c.len) (drop c.len bytes)) citing
-
-pub first-later : (at : ℕ) (bytes : List ℕ) (c : Cmd) → first_command bytes ≡ Ok c → is_citing (proof_code c.code) ≡ false → first_cited at bytes ≡ first_cited (at + c.len) (drop c.len bytes)
-first-later at bytes c read citing =
-    let (n, is, e) = unfold-first at bytes c read in
-    let le : length bytes ≤ suc n = omega (arith, is) in
-    let less : length (drop c.len bytes) ≤ n = drop-less bytes c.len n (command-long bytes c read).0 le in
-    e ∙ ap (λ (b : Bool). if b then Some (c.value, at + c.len) else first_citation n (at + c.len) (drop c.len bytes)) citing
-    ∙ first-enough n (length (drop c.len bytes)) (at + c.len) (drop c.len bytes) less (omega arith)
-
--- ---- citations as a set
-
-citing-is : (o : Option ProofCode) → is_citing o ≡ true → (o ≡ Some Thm) ⊎ (o ≡ Some ThmSave)
-citing-is None h = absurd cc
-citing-is (Some Thm) h = inl refl
-citing-is (Some ThmSave) h = inr refl
-citing-is (Some c) h = absurd cc
-
-is-citing : (c : Cmd) (T : ℕ) → IsCitation c T → is_citing (proof_code c.code) ≡ true
-is-citing c T (inl e, _) = ap is_citing e
-is-citing c T (inr e, _) = ap is_citing e
-
-ok-is : {a b : Cmd} → (r : Result Cmd CmdFault) → r ≡ Ok a → r ≡ Ok b → a ≡ b
-ok-is {a} {b} r e f = let both : Ok a ≡ Ok b = sym e ∙ f in cc
+-- as the machine's bodies say it
+pub cited-within : (n : ℕ) (bytes : List ℕ) (T : ℕ) → CitesWithin n bytes T → IsCitedIn bytes T
+cited-within zero bytes T h = absurd h
+cited-within (suc n) bytes T (c, read, inl here) = record { before = []; command = c; stand = (read, tt); cites = here }
+cited-within (suc n) bytes T (c, read, inr on) = cited-on bytes c T read (cited-within n (drop c.len bytes) T on)
 
 cited-step : (bytes : List ℕ) (c : Cmd) (T : ℕ) → first_command bytes ≡ Ok c → IsCitedIn bytes T ↔ (IsCitation c T ⊎ IsCitedIn (drop c.len bytes) T)
-cited-step [] c T read = absurd (let e : Err Cut ≡ Ok c = read in cc)
-cited-step (x ∷ bytes) c T read = (there, back)
+cited-step bytes c T read = (λ r. there r.before r.command r.stand r.cites, back)
   where
-    less : length (drop c.len (x ∷ bytes)) ≤ length bytes
-    less = drop-less (x ∷ bytes) c.len (length bytes) (command-long (x ∷ bytes) c read).0 (omega arith)
+    there : (cs : List Cmd) (d : Cmd) → StandThere bytes (cs ++ d ∷ []) → IsCitation d T → IsCitation c T ⊎ IsCitedIn (drop c.len bytes) T
+    there [] d (read', _) cites = inl (subst (λ z. IsCitation z T) (one-command bytes d c read' read) cites)
+    there (e ∷ cs) d (read', stand) cites = inr (record {
+      before = cs;
+      command = d;
+      stand = subst (λ (z : Cmd). StandThere (drop z.len bytes) (cs ++ d ∷ [])) (one-command bytes e c read' read) stand;
+      cites = cites;
+    })
 
-    there : IsCitedIn (x ∷ bytes) T → IsCitation c T ⊎ IsCitedIn (drop c.len (x ∷ bytes)) T
-    there (c', read', inl here) = let same : c' ≡ c = ok-is (first_command (x ∷ bytes)) read' read in inl (subst (λ z. IsCitation z T) same here)
-    there (c', read', inr on) = let same : c' ≡ c = ok-is (first_command (x ∷ bytes)) read' read in
-        inr (cites-enough (length bytes) (length (drop c.len (x ∷ bytes))) (drop c.len (x ∷ bytes)) T (omega arith) (subst (λ (z : Cmd). CitesWithin (length bytes) (drop z.len (x ∷ bytes)) T) same on))
+    back : (IsCitation c T ⊎ IsCitedIn (drop c.len bytes) T) → IsCitedIn bytes T
+    back (inl here) = record { before = []; command = c; stand = (read, tt); cites = here }
+    back (inr on) = cited-on bytes c T read on
 
-    back : (IsCitation c T ⊎ IsCitedIn (drop c.len (x ∷ bytes)) T) → IsCitedIn (x ∷ bytes) T
-    back (inl here) = (c, read, inl here)
-    back (inr on) = (c, read, inr (cites-enough (length (drop c.len (x ∷ bytes))) (length bytes) (drop c.len (x ∷ bytes)) T less on))
+-- ---- commands that stand one after another
 
--- what the first citation says of the others: there is none, or they are its row and those after it
-abbrev pub Cited : ℕ → List ℕ → Option (ℕ × ℕ) → Type 0
-Cited at bytes None = (T : ℕ) → IsCitedIn bytes T → ⊥
-Cited at bytes (Some (U, after)) = (at < after) × (after ≤ at + length bytes) × ((T : ℕ) → IsCitedIn bytes T ↔ ((T ≡ U) ⊎ IsCitedIn (drop (after - at) bytes) T))
+stand-on : (cs : List Cmd) (bytes : List ℕ) (c : Cmd) → StandThere bytes cs → first_command (drop (length_of cs) bytes) ≡ Ok c → StandThere bytes (cs ++ c ∷ [])
+stand-on [] bytes c stand read = (read, tt)
+stand-on (d ∷ cs) bytes c (here, stand) read =
+    (here, stand-on cs (drop d.len bytes) c stand (ap (λ bs. first_command bs) (drop-drop (length_of cs) d.len bytes) ∙ read))
 
-none-read : (bytes : List ℕ) (f : CmdFault) (T : ℕ) → first_command bytes ≡ Err f → IsCitedIn bytes T → ⊥
-none-read [] f T read h = h
-none-read (x ∷ bytes) f T read (c, read', _) = let e : Err f ≡ Ok c = sym read ∙ read' in cc
+length-on : (cs : List Cmd) (c : Cmd) → length_of (cs ++ c ∷ []) ≡ length_of cs + c.len
+length-on [] c = omega arith
+length-on (d ∷ cs) c = let h = length-on cs c in omega (arith, h)
 
-pub cited-by-first : (n at : ℕ) (bytes : List ℕ) → length bytes ≤ n → Cited at bytes (first_cited at bytes)
-cited-by-first zero at [] le = λ T h. h
-cited-by-first zero at (x ∷ bytes) le = absurd (omega (arith, le))
-cited-by-first (suc n) at bytes le =
-    go (λ c is. cited-by-first n (at + c.len) (drop c.len bytes) (drop-less bytes c.len n (command-long bytes c is).0 le)) (first_command bytes) refl
-  where
-    shift : (len after : ℕ) → at + len < after → drop (after - (at + len)) (drop len bytes) ≡ drop (after - at) bytes
-    shift len after lt = drop-drop (after - (at + len)) len bytes ∙ ap (λ k. drop k bytes) (omega (arith, lt))
+-- they are as long as the bytes at most, and the last takes one
+stand-long : (cs : List Cmd) (bytes : List ℕ) (c : Cmd) → StandThere bytes (cs ++ c ∷ []) → (0 < length_of (cs ++ c ∷ [])) × (length_of (cs ++ c ∷ []) ≤ length bytes)
+stand-long [] bytes c (here, _) = let (one, long) = command-long bytes c here in (omega (arith, one), omega (arith, long))
+stand-long (d ∷ cs) bytes c (here, stand) =
+    let (one, long) = command-long bytes d here in
+    let (some, within) = stand-long cs (drop d.len bytes) c stand in
+    (omega (arith, some), omega (arith, within, long, length-drop d.len bytes))
 
-    later : (c : Cmd) → first_command bytes ≡ Ok c → is_citing (proof_code c.code) ≡ false → (o : Option (ℕ × ℕ)) → Cited (at + c.len) (drop c.len bytes) o → Cited at bytes o
-    later c read citing None h = λ T cited. elim ((cited-step bytes c T read).0 cited) [
-      | inl here ↦ (let e : true ≡ false = sym (is-citing c T here) ∙ citing in absurd cc)
-      | inr on ↦ h T on
-    ]
-    later c read citing (Some (U, after)) (lt, within, h) = (
-      omega (arith, lt),
-      (let long = (command-long bytes c read).1 in omega (arith, within, length-drop c.len bytes, long)),
-      λ T. (
-        λ cited. elim ((cited-step bytes c T read).0 cited) [
-          | inl here ↦ (let e : true ≡ false = sym (is-citing c T here) ∙ citing in absurd cc)
-          | inr on ↦ elim ((h T).0 on) [ inl is ↦ inl is | inr further ↦ inr (subst (λ bs. IsCitedIn bs T) (shift c.len after lt) further) ]
-        ],
-        λ either. (cited-step bytes c T read).1 (inr ((h T).1 (elim either [ inl is ↦ inl is | inr further ↦ inr (subst (λ bs. IsCitedIn bs T) (sym (shift c.len after lt)) further) ]))),
+-- ---- the loop over a body's commands
+
+-- commands that cite nothing stand before the place
+pub record Passed (bytes : List ℕ) (at : ℕ) : Type 0 where
+  pub commands : List Cmd
+  pub stand : StandThere bytes commands
+  pub silent : All IsSilent commands
+  pub taken : at ≡ length_of commands
+
+pub passed-first : (bytes : List ℕ) → Passed bytes 0
+passed-first bytes = record { commands = []; stand = tt; silent = All-nil IsSilent; taken = refl }
+
+read-behind : (bytes : List ℕ) (at : ℕ) (p : Passed bytes at) (c : Cmd) → first_command (drop at bytes) ≡ Ok c → StandThere bytes (p.commands ++ c ∷ [])
+read-behind bytes at p c read = stand-on p.commands bytes c p.stand (subst (λ n. first_command (drop n bytes) ≡ Ok c) p.taken read)
+
+pub passed-more : (bytes : List ℕ) (at : ℕ) (c : Cmd) → Passed bytes at → first_command (drop at bytes) ≡ Ok c → IsSilent c → Passed bytes (at + c.len)
+passed-more bytes at c p read silent = record {
+  commands = p.commands ++ c ∷ [];
+  stand = read-behind bytes at p c read;
+  silent = All-append IsSilent p.commands (c ∷ []) p.silent (All-cons IsSilent c [] silent (All-nil IsSilent));
+  taken = (let e = length-on p.commands c in let t = p.taken in omega (arith, e, t));
+}
+
+pub passed-here : (bytes : List ℕ) (from at : ℕ) (c : Cmd) → Passed bytes at → first_command (drop at bytes) ≡ Ok c → IsCiting c → IsFirstCitation bytes from c.value (from + (at + c.len))
+passed-here bytes from at c p read citing = record {
+  before = p.commands;
+  command = c;
+  stand = read-behind bytes at p c read;
+  others = p.silent;
+  cites = (citing, refl);
+  ends = (let e = length-on p.commands c in let t = p.taken in omega (arith, e, t));
+}
+
+none-behind : (cs ds : List Cmd) (d : Cmd) (bytes : List ℕ) (f : CmdFault) → StandThere bytes cs → All IsSilent cs → first_command (drop (length_of cs) bytes) ≡ Err f
+    → StandThere bytes (ds ++ d ∷ []) → IsCiting d → ⊥
+none-behind [] [] d bytes f stand silent ends (read, _) citing = no-command bytes d f ends read
+none-behind [] (e ∷ ds) d bytes f stand silent ends (read, _) citing = no-command bytes e f ends read
+none-behind (c ∷ cs) [] d bytes f (here, _) silent ends (read, _) citing =
+    All-head IsSilent c cs silent (subst IsCiting (one-command bytes d c read here) citing)
+none-behind (c ∷ cs) (e ∷ ds) d bytes f (here, stand) silent ends (read, others) citing =
+    none-behind cs ds d (drop c.len bytes) f stand (All-tail IsSilent c cs silent) (ap (λ bs. first_command bs) (drop-drop (length_of cs) c.len bytes) ∙ ends)
+    (subst (λ (z : Cmd). StandThere (drop z.len bytes) (ds ++ d ∷ [])) (one-command bytes e c read here) others) citing
+
+pub passed-none : (bytes : List ℕ) (at : ℕ) (f : CmdFault) → Passed bytes at → first_command (drop at bytes) ≡ Err f → CiteNothing bytes
+passed-none bytes at f p ends row r =
+    none-behind p.commands r.before r.command bytes f p.stand p.silent (subst (λ n. first_command (drop n bytes) ≡ Err f) p.taken ends) r.stand r.cites.0
+
+-- ---- there is one first citation, or none
+
+first-is-cited : (bytes : List ℕ) (at row next : ℕ) → IsFirstCitation bytes at row next → IsCitedIn bytes row
+first-is-cited bytes at row next h = record { before = h.before; command = h.command; stand = h.stand; cites = h.cites }
+
+one-first : (cs ds : List Cmd) (c d : Cmd) (bytes : List ℕ) → StandThere bytes (cs ++ c ∷ []) → StandThere bytes (ds ++ d ∷ []) → All IsSilent cs → All IsSilent ds → IsCiting c → IsCiting d
+    → (c ≡ d) × (length_of (cs ++ c ∷ []) ≡ length_of (ds ++ d ∷ []))
+one-first [] [] c d bytes (here, _) (there, _) cs-silent ds-silent c-cites d-cites =
+    let same = one-command bytes c d here there in (same, ap (λ (z : Cmd). length_of (z ∷ [])) same)
+one-first [] (e ∷ ds) c d bytes (here, _) (there, _) cs-silent ds-silent c-cites d-cites =
+    absurd (All-head IsSilent e ds ds-silent (subst IsCiting (one-command bytes c e here there) c-cites))
+one-first (e ∷ cs) [] c d bytes (here, _) (there, _) cs-silent ds-silent c-cites d-cites =
+    absurd (All-head IsSilent e cs cs-silent (subst IsCiting (one-command bytes d e there here) d-cites))
+one-first (e ∷ cs) (g ∷ ds) c d bytes (here, stand) (there, others) cs-silent ds-silent c-cites d-cites =
+    let same = one-command bytes g e there here in
+    let rest = one-first cs ds c d (drop e.len bytes) stand (subst (λ (z : Cmd). StandThere (drop z.len bytes) (ds ++ d ∷ [])) same others)
+    (All-tail IsSilent e cs cs-silent) (All-tail IsSilent g ds ds-silent) c-cites d-cites in
+    let same-length : e.len ≡ g.len = ap (λ (z : Cmd). z.len) (sym same) in
+    let rest-length = rest.1 in
+    (rest.0, omega (arith, same-length, rest-length))
+
+pub first-some : (at : ℕ) (bytes : List ℕ) (o : Option (ℕ × ℕ)) → IsFirstIn at bytes o → (row next : ℕ) → (o ≡ Some (row, next)) ↔ IsFirstCitation bytes at row next
+first-some at bytes None none row next = (λ e. absurd cc, λ h. absurd (none row (first-is-cited bytes at row next h)))
+first-some at bytes (Some (U, after)) first row next = (
+  λ e. (let same : (U, after) ≡ (row, next) = cc in subst (λ (p : ℕ × ℕ). IsFirstCitation bytes at p.0 p.1) same first),
+  λ h. (
+      let (command, long) = one-first first.before h.before first.command h.command bytes first.stand h.stand first.others h.others first.cites.0 h.cites.0 in
+      let rows : U ≡ row = sym first.cites.1 ∙ ap (λ (z : Cmd). z.value) command ∙ h.cites.1 in
+      let places : after ≡ next = first.ends ∙ ap (λ n. at + n) long ∙ sym h.ends in
+      cc
       ),
+)
+
+pub first-none : (at : ℕ) (bytes : List ℕ) (o : Option (ℕ × ℕ)) → IsFirstIn at bytes o → (o ≡ None) ↔ CiteNothing bytes
+first-none at bytes None none = (λ e. none, λ h. refl)
+first-none at bytes (Some (U, after)) first = (λ e. absurd cc, λ h. absurd (h U (first-is-cited bytes at U after first)))
+
+-- ---- the citations behind the first
+
+behind-first : (cs : List Cmd) (c : Cmd) (bytes : List ℕ) (U : ℕ) → StandThere bytes (cs ++ c ∷ []) → All IsSilent cs → IsCitation c U
+    → (T : ℕ) → IsCitedIn bytes T ↔ ((T ≡ U) ⊎ IsCitedIn (drop (length_of (cs ++ c ∷ [])) bytes) T)
+behind-first [] c bytes U (here, _) silent cites T = (
+  λ cited. elim ((cited-step bytes c T here).0 cited) [ inl it ↦ inl (sym it.1 ∙ cites.1) | inr on ↦ inr (subst (λ bs. IsCitedIn bs T) same on) ],
+  λ h. (cited-step bytes c T here).1 (elim h [ inl is ↦ inl (cites.0, cites.1 ∙ sym is) | inr on ↦ inr (subst (λ bs. IsCitedIn bs T) (sym same) on) ]),
+)
+  where
+    same : drop c.len bytes ≡ drop (length_of (c ∷ [])) bytes
+    same = ap (λ n. drop n bytes) (omega arith)
+behind-first (d ∷ cs) c bytes U (here, stand) silent cites T =
+    let rest = behind-first cs c (drop d.len bytes) U stand (All-tail IsSilent d cs silent) cites T in
+    let same : drop (length_of (cs ++ c ∷ [])) (drop d.len bytes) ≡ drop (length_of ((d ∷ cs) ++ c ∷ [])) bytes = drop-drop (length_of (cs ++ c ∷ [])) d.len bytes in (
+      λ cited. elim ((cited-step bytes d T here).0 cited) [
+        | inl it ↦ absurd (All-head IsSilent d cs silent it.0)
+        | inr on ↦ elim (rest.0 on) [ inl is ↦ inl is | inr further ↦ inr (subst (λ bs. IsCitedIn bs T) same further) ]
+      ],
+      λ h. (cited-step bytes d T here).1 (inr (rest.1 (elim h [ inl is ↦ inl is | inr further ↦ inr (subst (λ bs. IsCitedIn bs T) (sym same) further) ]))),
     )
-
-    here-is : (c : Cmd) → first_command bytes ≡ Ok c → is_citing (proof_code c.code) ≡ true → Cited at bytes (Some (c.value, at + c.len))
-    here-is c read citing =
-        let (one, long) = command-long bytes c read in
-        let same : drop c.len bytes ≡ drop ((at + c.len) - at) bytes = ap (λ k. drop k bytes) (omega arith) in (
-          omega (arith, one),
-          omega (arith, long),
-          λ T. (
-            λ cited. elim ((cited-step bytes c T read).0 cited) [ inl it ↦ inl (sym it.1) | inr on ↦ inr (subst (λ bs. IsCitedIn bs T) same on) ],
-            λ either. (cited-step bytes c T read).1 (elim either [
-              | inl is ↦ inl (citing-is (proof_code c.code) citing, sym is)
-              | inr on ↦ inr (subst (λ bs. IsCitedIn bs T) (sym same) on)
-            ]),
-          ),
-        )
-
-    go : ((c : Cmd) → first_command bytes ≡ Ok c → Cited (at + c.len) (drop c.len bytes) (first_cited (at + c.len) (drop c.len bytes))) → (r : Result Cmd CmdFault) → first_command bytes ≡ r → Cited at bytes (first_cited at bytes)
-    go more (Err f) is = subst (Cited at bytes) (sym (first-unread at bytes f is)) (λ T h. none-read bytes f T is h)
-    go more (Ok c) is = by (is_citing (proof_code c.code)) refl
-      where
-        by : (b : Bool) → is_citing (proof_code c.code) ≡ b → Cited at bytes (first_cited at bytes)
-        by true citing = subst (Cited at bytes) (sym (first-here at bytes c is citing)) (here-is c is citing)
-        by false citing = subst (Cited at bytes) (sym (first-later at bytes c is citing)) (later c is citing (first_cited (at + c.len) (drop c.len bytes)) (more c is))
 
 -- ---- between two places of a file
 
@@ -174,12 +191,15 @@ CitedBetween file pos end None = (T : ℕ) → IsCitedIn (body_bytes file pos en
 CitedBetween file pos end (Some (U, after)) =
     (pos < after) × (after ≤ end) × ((T : ℕ) → IsCitedIn (body_bytes file pos end) T ↔ ((T ≡ U) ⊎ IsCitedIn (body_bytes file after end) T))
 
-pub cited-between : (file : List ℕ) (pos end : ℕ) → pos ≤ end → (o : Option (ℕ × ℕ)) → o ≡ first_cited pos (body_bytes file pos end) → CitedBetween file pos end o
-cited-between file pos end order o is = go o (subst (Cited pos (body_bytes file pos end)) (sym is) (cited-by-first (length (body_bytes file pos end)) pos (body_bytes file pos end) (omega arith)))
-  where
-    go : (o : Option (ℕ × ℕ)) → Cited pos (body_bytes file pos end) o → CitedBetween file pos end o
-    go None h = h
-    go (Some (U, after)) (lt, within, h) =
-        let short : length (body_bytes file pos end) ≤ end - pos = length-take-le (end - pos) (drop pos file) in
-        let le : after ≤ end = omega (arith, within, short, order) in
-        (lt, le, λ T. subst (λ bs. IsCitedIn (body_bytes file pos end) T ↔ ((T ≡ U) ⊎ IsCitedIn bs T)) (rest-at file pos after end lt le) (h T))
+pub cited-between : (file : List ℕ) (pos end : ℕ) → pos ≤ end → (o : Option (ℕ × ℕ)) → IsFirstIn pos (body_bytes file pos end) o → CitedBetween file pos end o
+cited-between file pos end order None none = none
+cited-between file pos end order (Some (U, after)) first =
+    let bytes = body_bytes file pos end in
+    let (some, within) = stand-long first.before bytes first.command first.stand in
+    let ends = first.ends in
+    let short = length-take-le (end - pos) (drop pos file) in
+    let lt : pos < after = omega (arith, ends, some) in
+    let le : after ≤ end = omega (arith, ends, within, short, order) in
+    let behind : drop (length_of (first.before ++ first.command ∷ [])) bytes ≡ body_bytes file after end =
+    ap (λ n. drop n bytes) (omega (arith, ends)) ∙ rest-at file pos after end lt le in
+    (lt, le, λ T. subst (λ bs. IsCitedIn bytes T ↔ ((T ≡ U) ⊎ IsCitedIn bs T)) behind (behind-first first.before first.command bytes U first.stand first.others first.cites T))

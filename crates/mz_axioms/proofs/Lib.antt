@@ -1,4 +1,3 @@
-pub mod ClosingBy
 pub mod Citing
 pub mod Supporting
 pub mod Resting

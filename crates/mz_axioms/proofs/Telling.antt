@@ -20,8 +20,8 @@ use Rattle.mz_binary.proofs.ChainLaws.{chain-more}
 use Rattle.mz_binary.proofs.Heads.{head-at}
 use Rattle.mz_axioms.specs.declared.rows.Place.{Place}
 use Rattle.mz_axioms.specs.declared.rows.Row.{Row}
+use Rattle.mz_axioms.specs.Commands.{IsCitedIn}
 use Rattle.mz_axioms.specs.Supports.{AssertionBody, body_there, place_after, body_of, bodies_from, bodies_of, InSupport}
-use Rattle.mz_axioms.specs.Citations.{IsCitedIn}
 use Rattle.mz_axioms.specs.Places.{place_there, past_public, places_from, publics_past, place_by}
 use Rattle.mz_axioms.specs.Rows.{ComesTo, Tells, TellsAll, TellsFile, Gives, Reaches, IsNew, IsNoted, AreInOrder, AreWithin, AreFew}
 use Rattle.mz_axioms.proofs.Citing.{CitedBetween}

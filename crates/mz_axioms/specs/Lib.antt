@@ -1,3 +1,4 @@
+pub mod Commands
 pub mod Supports
 pub mod Citations
 pub mod Places

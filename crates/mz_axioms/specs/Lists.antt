@@ -1,4 +1,5 @@
--- What the theorems of a specification rest on, where a binary proves them.
+-- What the theorems of a specification rest on, where a binary proves them (mm0.md, section on theorems: a theorem follows
+-- from the axioms before it; that a tool tells which is this project's own).
 use Rattle.std.specs.Prelude.{◌≡◌, ◌<◌, ◌^◌, ℕ, false, List, [], map, length, All, Contains, slice_get, Option, Some, None}
 use Rattle.std.specs.List.Sorted.{IsStrictlyIncreasing}
 use Rattle.mz_logic.specs.Declaration.{Declaration}

@@ -1,4 +1,4 @@
--- What is said of a specification and a binary together.
+-- What is said of a specification and a binary together (this project's own: `verify`'s refusals, or the supports).
 use Rattle.std.specs.Prelude.{◌≡◌, ◌+◌, ⊤, ℕ, false, List}
 use Rattle.mz_binary.specs.FileRun.{file_steps}
 use Rattle.mz_match.specs.Verdict.{FirstRefusal, Ticks}

@@ -1,10 +1,11 @@
--- What is known of the axioms and theorems of a binary, row by row.
+-- What is known of the axioms and theorems of a binary, row by row of its table of theorems (the .mmb format: axioms and
+-- theorems are numbered together in the order of their statements, and are cited by these numbers).
 use Rattle.std.specs.Prelude.{◌≡◌, ◌≤◌, ◌<◌, ◌⊎◌, ◌↔◌, ℕ, true, false, if◌then◌else◌, MatchBool, List, [], ◌∷◌, ◌++◌, map, flat_map, length, All, Contains, slice_get, Option, Some, None}
 use Rattle.std.specs.List.Sorted.{IsStrictlyIncreasing}
 use Rattle.mz_logic.specs.LegalLists.{Statement}
 use Rattle.mz_binary.specs.Good.{Good}
 use Rattle.mz_axioms.specs.Supports.{AssertionBody, IsKind, InSupport, bodies_of}
-use Rattle.mz_axioms.specs.Citations.{IsCitedIn}
+use Rattle.mz_axioms.specs.Commands.{IsCitedIn}
 use Rattle.mz_axioms.specs.Places.{places_from, is_listed}
 use Rattle.mz_axioms.specs.Lists.{TheoremSupport}
 use Rattle.mz_axioms.specs.declared.rows.Place.{Place}

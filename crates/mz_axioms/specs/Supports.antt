@@ -1,6 +1,6 @@
 -- What a theorem rests on: the axioms that its proof cites, and what the theorems rest on that it cites (mm0.md, section
 -- on theorems: a theorem follows from the axioms; the proofs are the bodies of the .mmb format).
-use Rattle.std.specs.Prelude.{◌≡◌, ◌<◌, ℕ, Bool, true, false, List, [], ◌∷◌, ◌++◌, length, slice_get, Some, Result, Ok, Err}
+use Rattle.std.specs.Prelude.{◌≡◌, ◌<◌, ℕ, Bool, true, false, List, [], ◌∷◌, ◌++◌, slice_get, Some, Result, Ok, Err}
 use Rattle.mz_cmd.specs.declared.statement.StmtAt.{StmtAt}
 use Rattle.mz_cmd.specs.declared.statement.StmtAt.TheVariants.{End, Head}
 use Rattle.mz_cmd.specs.declared.statement.StmtFault.{StmtFault}
@@ -11,7 +11,7 @@ use Rattle.mz_logic.specs.LegalLists.{Statement}
 use Rattle.mz_logic.specs.Closed.{IsAxiomIn}
 use Rattle.mz_layout.specs.Tables.{list_at}
 use Rattle.mz_machine.specs.FileRows.{body_bytes}
-use Rattle.mz_machine.specs.Sound.{CitesWithin}
+use Rattle.mz_axioms.specs.Commands.{IsCitedIn}
 
 -- ---- the bodies of the axioms and theorems of a binary, numbered together in their order
 
@@ -50,7 +50,7 @@ bodies_of file ss = bodies_from file (list_at file) ss
 pub record Cites (bodies : List AssertionBody) (T U : ℕ) : Type 0 where
   pub body : AssertionBody
   pub there : slice_get bodies T ≡ Some body
-  pub cited : CitesWithin (length body.bytes) body.bytes U
+  pub cited : IsCitedIn body.bytes U
   pub earlier : U < T
 
 -- the U-th is an axiom, or a theorem

@@ -1,20 +1,22 @@
 // The citations of a body.
-ghost use Rattle.std.specs.Prelude.{◌≡◌, ◌≤◌, ◌<◌, ◌+◌, ◌^◌, length};
-ghost use Rattle.mz_cmd.specs.Codes.{proof_code};
+ghost use Rattle.std.specs.Prelude.{◌≡◌, ◌≤◌, ◌<◌, ◌+◌, ◌^◌, ◌↔◌, ℕ, length, IsTrue, Some, None};
 ghost use Rattle.mz_cmd.specs.StatementList.{statement_at};
 ghost use Rattle.mz_machine.specs.FileRows.{body_bytes};
 ghost use Rattle.mz_axioms.specs.Supports.{place_after};
-ghost use Rattle.mz_axioms.specs.Citations.{IsInBody, first_cited as the_first_cited, is_citing, rest_of_body};
+ghost use Rattle.mz_axioms.specs.Commands.{IsCiting};
+ghost use Rattle.mz_axioms.specs.Citations.{CiteNothing, IsFirstCitation, IsFirstIn, IsInBody, rest_of_body};
 
 use mz_binary::Statement;
-use mz_cmd::{ProofCode, StmtAt, cmd_at, stmt_at};
+use mz_cmd::{Cmd, ProofCode, StmtAt, cmd_at, stmt_at};
 use mz_layout::Mmb;
 
-/// The row of the first citation from a place of the statement's body on, and the place after it;
-/// `None` exactly where none follows. The place is that of a command, or the body's end.
+/// The row that the first Thm or ThmSave cites from a place of the statement's body on, and the place
+/// after that command; `None` exactly where none stands there. The place is that of a command, or the
+/// body's end.
 pub fn cited_at(mmb: &Mmb, statement: &Statement, pos: u32) -> Option<(u32, u32)>
     requires { IsInBody mmb.now statement.now.at pos }
-    ensures { result ≡ the_first_cited pos (rest_of_body mmb.now statement.now.at pos) }
+    ensures some { (row next : ℕ) → (result ≡ Some (row, next)) ↔ IsFirstCitation (rest_of_body mmb.now statement.now.at pos) pos row next }
+    ensures none { (result ≡ None) ↔ CiteNothing (rest_of_body mmb.now statement.now.at pos) }
 {
     citation_in(mmb, pos, end_of(mmb, statement, pos))
 }
@@ -23,7 +25,7 @@ pub fn cited_at(mmb: &Mmb, statement: &Statement, pos: u32) -> Option<(u32, u32)
 pub fn citation_in(mmb: &Mmb, pos: u32, end: u32) -> Option<(u32, u32)>
     requires order { pos ≤ end }
     requires within { end ≤ length mmb.now }
-    ensures { result ≡ the_first_cited pos (body_bytes mmb.now pos end) }
+    ensures { IsFirstIn pos (body_bytes mmb.now pos end) result }
 {
     first_cited(&mmb.file()[pos as usize..end as usize], pos)
 }
@@ -43,7 +45,7 @@ fn end_of(mmb: &Mmb, statement: &Statement, pos: u32) -> u32
 /// The first citation in bytes that stand at a place.
 fn first_cited(bytes: &[u8], from: u32) -> Option<(u32, u32)>
     requires { from + length bytes.now < 2 ^ 32 }
-    ensures { result ≡ the_first_cited from bytes.now }
+    ensures { IsFirstIn from bytes.now result }
 {
     let mut at = 0;
     'commands: loop {
@@ -51,18 +53,18 @@ fn first_cited(bytes: &[u8], from: u32) -> Option<(u32, u32)>
             return None;
         };
         let next = at + u32::from(cmd.len);
-        if is_citation(cmd.code) {
+        if is_citation(cmd) {
             return Some((cmd.value, from + next));
         }
         at = next;
     }
 }
 
-/// Whether the command with this code cites.
-fn is_citation(code: u8) -> bool
-    ensures { result ≡ is_citing (proof_code code) }
+/// Whether the command cites.
+fn is_citation(cmd: Cmd) -> bool
+    ensures { IsTrue result ↔ IsCiting cmd }
 {
-    match ProofCode::try_from(code) {
+    match ProofCode::try_from(cmd.code) {
         Ok(ProofCode::Thm) => true,
         Ok(ProofCode::ThmSave) => true,
         Ok(_) => false,

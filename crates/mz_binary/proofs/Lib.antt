@@ -17,3 +17,6 @@ pub mod Passing
 pub mod Counting
 pub mod EarlierWords
 pub mod Running
+pub mod GapMarks
+pub mod GapFree
+pub mod CitedMarks

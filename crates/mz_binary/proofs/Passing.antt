@@ -1,6 +1,6 @@
 -- Past one statement more.
 use Rattle.std.proofs.Common.{◌≡◌, ◌⊎◌, ◌<◌, ◌≤◌, ◌+◌, ◌∙◌, ℕ, Bool, true, false, List, [], ◌∷◌, ◌++◌, length, Some, Result, Ok, Err, refl, sym, ap, subst, inl, inr, arith, length-append}
-use Rattle.std.specs.Prelude.{MatchBool, if◌then◌else◌}
+use Rattle.std.specs.Prelude.{◌↔◌, MatchBool, if◌then◌else◌}
 use Rattle.mz_checks.specs.Checks.{AllHold, Judges}
 use Rattle.mz_cmd.specs.declared.code.StatementCode.{StatementCode}
 use Rattle.mz_cmd.specs.declared.code.StatementCode.TheVariants as codes
@@ -9,7 +9,7 @@ use Rattle.mz_cmd.specs.declared.rule.Refusal.{Refusal}
 use Rattle.mz_cmd.specs.declared.statement.StmtAt.TheVariants as there
 use Rattle.mz_cmd.specs.Codes.{statement_byte, statement_code}
 use Rattle.mz_cmd.specs.StatementList.{statement_at}
-use Rattle.mz_logic.specs.Declaration.{Declaration, sort_decl, term_decl, assertion_decl, sorts}
+use Rattle.mz_logic.specs.Declaration.{Declaration, sort_decl, term_decl, assertion_decl, sorts, assertions}
 use Rattle.mz_logic.specs.LegalLists.{Statement}
 use Rattle.mz_layout.specs.Tables.{list_at, mods_of, sort_count, term_count, thm_count}
 use Rattle.mz_layout.specs.Layout.{IsBinary}
@@ -25,10 +25,12 @@ use Rattle.mz_binary.specs.Checking.{kind_checks, place_checks}
 use Rattle.mz_binary.specs.FileRun.{with_term, with_thm, Found, list_ends, has_body, Onward, ended, onward, after_kind, find_at, run_found, run_place, RunsBody}
 use Rattle.mz_binary.specs.Chains.{IsGoodStatement, GoodTo}
 use Rattle.mz_binary.specs.Good.{Good, FailsAfter}
-use Rattle.mz_binary.specs.Progress.{Progress, HasPassed, CountsRows, IsReached, IsHead, kind_byte, next_row, rows_past, is_local_kind, kind_code, row_after}
+use Rattle.mz_binary.specs.Progress.{Progress, HasPassed, CountsRows, IsReached, IsHead, RestsOnGap, marks_past, kind_byte, next_row, rows_past, is_local_kind, kind_code, row_after}
+use Rattle.mz_binary.specs.Gapped.{AreMarks}
 use Rattle.mz_binary.specs.Judging.{Passes}
 use Rattle.mz_binary.proofs.Heads.{head-at, IsHeadAt}
 use Rattle.mz_binary.proofs.ChainLaws.{chain-more}
+use Rattle.mz_binary.proofs.GapMarks.{kind-tells, NewMark, new-mark}
 use Rattle.mz_binary.proofs.SortsSoFar.{taken}
 use Rattle.mz_binary.proofs.PlacesJudged.{place-judged}
 use Rattle.mz_binary.proofs.Inverting.{ends-there}
@@ -143,8 +145,8 @@ pub record RowsWithin (file : List ℕ) (rows : Rows) (passed : ℕ) : Type 0 wh
   pub thms_within : rows.thms ≤ thm_count file
   pub many : passed ≡ rows.sorts + rows.terms + rows.thms
 
-module _ (file : List ℕ) (rows : Rows) (env : List Declaration) (counts : CountsRows rows env) (at body next passed : ℕ) (before : RowsWithin file rows passed) where
-  pub within-past : (k : StatementCode) → AllHold (kind_checks false file (taken_by env) at body next (Some k)) → RowsWithin file (rows_past rows k) (passed + 1)
+module _ (gaps : Bool) (file : List ℕ) (rows : Rows) (env : List Declaration) (counts : CountsRows rows env) (at body next passed : ℕ) (before : RowsWithin file rows passed) where
+  pub within-past : (k : StatementCode) → AllHold (kind_checks gaps file (taken_by env) at body next (Some k)) → RowsWithin file (rows_past rows k) (passed + 1)
   within-past codes.Sort all = record { sorts_within = omega (arith, all.0, counts.sorts_are); terms_within = before.terms_within; thms_within = before.thms_within; many = omega (arith, before.many) }
   within-past codes.Term all = record { sorts_within = before.sorts_within; terms_within = omega (arith, all.0, counts.terms_are); thms_within = before.thms_within; many = omega (arith, before.many) }
   within-past codes.LocalDefinition all = record { sorts_within = before.sorts_within; terms_within = omega (arith, all.0, counts.terms_are); thms_within = before.thms_within; many = omega (arith, before.many) }
@@ -154,19 +156,19 @@ module _ (file : List ℕ) (rows : Rows) (env : List Declaration) (counts : Coun
 
 -- ---- what is found runs
 
-pub run-of : (file : List ℕ) (t : Taken) (at : ℕ) (f : Found) → find_at file t at ≡ Ok f → run_place false file t at ≡ run_found false file t f
-run-of file t at f e = ap (λ r. r >>= run_found false file t) e
+pub run-of : (gaps : Bool) (file : List ℕ) (t : Taken) (at : ℕ) (f : Found) → find_at file t at ≡ Ok f → run_place gaps file t at ≡ run_found gaps file t f
+run-of gaps file t at f e = ap (λ r. r >>= run_found gaps file t) e
 
 -- ---- what stops the checker
 
 module _ (p : Progress) (ss : List Statement) (env : List Declaration) (before : HasPassed p ss env) where
   -- the place is judged after what env declares
-  judged-here : (r : Result Onward (ℕ × K)) → run_place false p.file (taken_before p.file p.rows) p.at ≡ r → Judges r (place_checks false p.file (taken_by env) p.at)
+  judged-here : (r : Result Onward (ℕ × K)) → run_place p.gaps p.file (taken_before p.file p.rows) p.at ≡ r → Judges r (place_checks p.gaps p.file (taken_by env) p.at)
   judged-here r e =
-      subst (λ (x : Result Onward (ℕ × K)). Judges x (place_checks false p.file (taken_by env) p.at)) (ap (λ t. run_place false p.file t p.at) (taken p ss env before) ∙ e) (place-judged false p.file (taken_by env) p.at)
+      subst (λ (x : Result Onward (ℕ × K)). Judges x (place_checks p.gaps p.file (taken_by env) p.at)) (ap (λ t. run_place p.gaps p.file t p.at) (taken p ss env before) ∙ e) (place-judged p.gaps p.file (taken_by env) p.at)
 
   -- the first rule that fails after the statements before
-  pub fails-here : (refusal : Refusal) → IsReached p → refusal.statement ≡ p.passed + 1 → run_place false p.file (taken_before p.file p.rows) p.at ≡ Err (refusal.at, refusal.rule) → FailsAfter false p.file ss env p.at refusal
+  pub fails-here : (refusal : Refusal) → IsReached p → refusal.statement ≡ p.passed + 1 → run_place p.gaps p.file (taken_before p.file p.rows) p.at ≡ Err (refusal.at, refusal.rule) → FailsAfter p.gaps p.file ss env p.at refusal
   fails-here refusal reached number e =
       record { layout = reached.binary.layout; statements = before.statements; number = omega (arith, number, before.many); fails = judged-here (Err (refusal.at, refusal.rule)) e }
 
@@ -174,17 +176,17 @@ module _ (p : Progress) (ss : List Statement) (env : List Declaration) (before :
   found-here f e = ap (λ t. find_at p.file t p.at) (taken p ss env before) ∙ e
 
   -- the list's end after the statements before
-  pub ends-here : IsReached p → find_at p.file (taken_before p.file p.rows) p.at ≡ Ok list_ends → Good false p.file ss
+  pub ends-here : IsReached p → find_at p.file (taken_before p.file p.rows) p.at ≡ Ok list_ends → Good p.gaps p.file ss
   ends-here reached e =
-      let ran : run_place false p.file (taken_by env) p.at ≡ Ok ended = run-of p.file (taken_by env) p.at list_ends (found-here list_ends e) in
+      let ran : run_place p.gaps p.file (taken_by env) p.at ≡ Ok ended = run-of p.gaps p.file (taken_by env) p.at list_ends (found-here list_ends e) in
       record {
         layout = reached.binary.layout;
         env = env;
         to = p.at;
         statements = before.statements;
         ends = record {
-          ends = ends-there false p.file (taken_by env) p.at ran;
-          passes = subst (λ (x : Result Onward (ℕ × K)). Judges x (place_checks false p.file (taken_by env) p.at)) ran (place-judged false p.file (taken_by env) p.at);
+          ends = ends-there p.gaps p.file (taken_by env) p.at ran;
+          passes = subst (λ (x : Result Onward (ℕ × K)). Judges x (place_checks p.gaps p.file (taken_by env) p.at)) ran (place-judged p.gaps p.file (taken_by env) p.at);
         };
       }
 
@@ -193,24 +195,25 @@ module _ (p : Progress) (ss : List Statement) (env : List Declaration) (before :
 
   -- ---- a good statement
 
-  module _ (head : Head) (stands : IsHead p.file head) (place : head.at ≡ p.at) (ran : run_place false p.file (taken_before p.file p.rows) p.at ≡ Ok (onward (after_kind p.file (taken_before p.file p.rows) head.code) head.next)) where
+  module _ (head : Head) (stands : IsHead p.file head) (place : head.at ≡ p.at) (ran : run_place p.gaps p.file (taken_before p.file p.rows) p.at ≡ Ok (onward (after_kind p.file (taken_before p.file p.rows) head.code) head.next)) where
     stands-there : statement_at p.file p.at ≡ Ok (there.Head (statement_byte head.code) head.body head.next)
     stands-there = subst (λ at. statement_at p.file at ≡ Ok (there.Head (statement_byte head.code) head.body head.next)) place stands
 
-    passes-all : AllHold (place_checks false p.file (taken_by env) p.at)
+    passes-all : AllHold (place_checks p.gaps p.file (taken_by env) p.at)
     passes-all = judged-here (Ok (onward (after_kind p.file (taken_before p.file p.rows) head.code) head.next)) ran
 
-    kind-holds : AllHold (kind_checks false p.file (taken_by env) p.at head.body head.next (Some head.code))
-    kind-holds = at-head false p.file env p.at (statement_byte head.code) head.body head.next head.code stands-there (code-of head.code) passes-all
+    kind-holds : AllHold (kind_checks p.gaps p.file (taken_by env) p.at head.body head.next (Some head.code))
+    kind-holds = at-head p.gaps p.file env p.at (statement_byte head.code) head.body head.next head.code stands-there (code-of head.code) passes-all
 
-    follows : FollowedBy false p.file env p.at head.body head.next head.code
+    follows : FollowedBy p.gaps p.file env p.at head.body head.next head.code
     follows =
-        let (legal, declares) = well-chain false p.file [] (list_at p.file) ss env p.at before.statements tt (record { sorts_are = refl; terms_are = tt; thms_are = tt }) in
-        followed false p.file env p.at (statement_byte head.code) head.body head.next stands-there head.code (code-of head.code) legal declares kind-holds
+        let (legal, declares) = well-chain p.gaps p.file [] (list_at p.file) ss env p.at before.statements tt (record { sorts_are = refl; terms_are = tt; thms_are = tt }) in
+        followed p.gaps p.file env p.at (statement_byte head.code) head.body head.next stands-there head.code (code-of head.code) legal declares kind-holds
 
 -- the checker and what it tells, past a statement
 pub record IsPast (p after : Progress) (told : Told) (head : Head) : Type 0 where
   pub same_file : after.file ≡ p.file
+  pub same_gaps : after.gaps ≡ p.gaps
   pub goes_on : after.at ≡ head.next
   pub one_more : after.passed ≡ p.passed + 1
   pub rows_are : after.rows ≡ rows_past p.rows head.code
@@ -219,6 +222,8 @@ pub record IsPast (p after : Progress) (told : Told) (head : Head) : Type 0 wher
   pub kind : told.kind ≡ kind_byte head.code
   pub row : told.row ≡ next_row p.rows head.code
   pub mark : told.local ≡ is_local_kind head.code
+  pub gap : (told.gap ≡ true) ↔ RestsOnGap p head
+  pub marks_are : after.marks ≡ marks_past p.gaps head.code told.gap p.marks
 
 spelled-kind : (file : List ℕ) (env : List Declaration) (at : ℕ) (s : Statement) (next code body : ℕ) → IsSpelled file env at s next → statement_at file at ≡ Ok (there.Head code body next) → HasKind code s
 spelled-kind file env at s next code body sp e =
@@ -227,23 +232,39 @@ spelled-kind file env at s next code body sp e =
     subst (λ (z : ℕ). HasKind z s) same sp.kind
 
 module _ (p after : Progress) (told : Told) (head : Head) (past : IsPast p after told head) (stands : IsHead p.file head) (place : head.at ≡ p.at)
-    (ran : run_place false p.file (taken_before p.file p.rows) p.at ≡ Ok (onward (after_kind p.file (taken_before p.file p.rows) head.code) head.next)) where
+    (ran : run_place p.gaps p.file (taken_before p.file p.rows) p.at ≡ Ok (onward (after_kind p.file (taken_before p.file p.rows) head.code) head.next)) where
   module _ (ss : List Statement) (env : List Declaration) (before : HasPassed p ss env) where
-    f : FollowedBy false p.file env p.at head.body head.next head.code
+    f : FollowedBy p.gaps p.file env p.at head.body head.next head.code
     f = follows p ss env before head stands place ran
 
     abbrev s : Statement
     s = f.statement
 
-    good : IsGoodStatement false p.file env p.at s after.at
-    good = subst (λ (to : ℕ). IsGoodStatement false p.file env p.at s to) (sym past.goes_on) (record { spelled = f.spelled; passes = passes-all p ss env before head stands place ran })
+    good : IsGoodStatement p.gaps p.file env p.at s after.at
+    good = subst (λ (to : ℕ). IsGoodStatement p.gaps p.file env p.at s to) (sym past.goes_on) (record { spelled = f.spelled; passes = passes-all p ss env before head stands place ran })
+
+    kind-is : HasKind (statement_byte head.code) s
+    kind-is = spelled-kind p.file env p.at s head.next (statement_byte head.code) head.body f.spelled (stands-there p ss env before head stands place ran)
+
+    -- the marks with the new one, and whether the new one is on a gapped theorem
+    news : p.gaps ≡ true → NewMark p.file ss p.at s head.code (marks_past true head.code told.gap p.marks) told.gap (length (assertions env))
+    news mode =
+        new-mark p.gaps p.file ss env p.at before.statements s head.code head.body head.next (stands-there p ss env before head stands place ran) (kind-tells head.code s.decl kind-is.0) p.marks (before.marks mode) told.gap
+        (λ h. let (m, k, why) = past.gap.0 h in (k, why), λ (k, why). past.gap.1 (mode, k, why))
+
+    marks-after : p.gaps ≡ true → AreMarks after.file (ss ++ s ∷ []) after.marks
+    marks-after mode =
+        subst (λ file. AreMarks file (ss ++ s ∷ []) after.marks) (sym past.same_file)
+        (subst (AreMarks p.file (ss ++ s ∷ [])) (sym (past.marks_are ∙ ap (λ g. marks_past g head.code told.gap p.marks) mode)) (news mode).are)
 
     passed : HasPassed after (ss ++ s ∷ []) (env ++ s.decl ∷ [])
     passed = record {
-      statements = subst (λ file. GoodTo false file [] (list_at file) (ss ++ s ∷ []) (env ++ s.decl ∷ []) after.at) (sym past.same_file)
-          (chain-more (IsGoodStatement false p.file) [] (list_at p.file) ss env p.at s after.at before.statements good);
+      statements = subst (λ g. GoodTo g after.file [] (list_at after.file) (ss ++ s ∷ []) (env ++ s.decl ∷ []) after.at) (sym past.same_gaps)
+          (subst (λ file. GoodTo p.gaps file [] (list_at file) (ss ++ s ∷ []) (env ++ s.decl ∷ []) after.at) (sym past.same_file)
+          (chain-more (IsGoodStatement p.gaps p.file) [] (list_at p.file) ss env p.at s after.at before.statements good));
       many = omega (arith, past.one_more, before.many, length-append ss (s ∷ []));
       rows = subst (λ r. CountsRows r (env ++ s.decl ∷ [])) (sym past.rows_are) (counts-past p.rows env before.rows p.file head.code (env ++ s.decl ∷ []) f.taken);
+      marks = λ mode. marks-after (sym past.same_gaps ∙ mode);
     }
 
     head-is : IsHeadAt p.file p.at (statement_byte head.code) head.body head.next
@@ -251,7 +272,7 @@ module _ (p after : Progress) (told : Told) (head : Head) (past : IsPast p after
 
     pub passes : Passes p ss env after told
     passes =
-        let kind : HasKind (statement_byte head.code) s = spelled-kind p.file env p.at s head.next (statement_byte head.code) head.body f.spelled (stands-there p ss env before head stands place ran) in
+        let kind : HasKind (statement_byte head.code) s = kind-is in
         let t : IsTold p.rows env head.code s.decl = is-told p.rows env before.rows head.code s.decl kind.0 in
         record {
           statement = s;
@@ -264,7 +285,9 @@ module _ (p after : Progress) (told : Told) (head : Head) (past : IsPast p after
             row = past.row ∙ t.row;
             mark = past.mark ∙ mark-of head.code ∙ sym kind.1;
           };
+          gap = (λ h. (let (mode, k, why) = past.gap.0 h in (mode, (news mode).told.0 h)), λ (mode, g). (news mode).told.1 g);
           same_file = past.same_file;
+          same_gaps = past.same_gaps;
           further = omega (arith, past.goes_on, head-is.further);
           within = omega (arith, past.goes_on, head-is.within);
         }
@@ -272,7 +295,7 @@ module _ (p after : Progress) (told : Told) (head : Head) (past : IsPast p after
   pub reached : IsReached p → IsReached after
   reached r =
       let (ss, env, before) = r.before in
-      let enough : RowsWithin p.file (rows_past p.rows head.code) (p.passed + 1) = within-past p.file p.rows env before.rows p.at head.body head.next p.passed
+      let enough : RowsWithin p.file (rows_past p.rows head.code) (p.passed + 1) = within-past p.gaps p.file p.rows env before.rows p.at head.body head.next p.passed
       (record { sorts_within = r.sorts_within; terms_within = r.terms_within; thms_within = r.thms_within; many = r.many }) head.code (kind-holds p ss env before head stands place ran) in
       let files : length after.file ≡ length p.file = ap length past.same_file in
       let sort_counts : sort_count after.file ≡ sort_count p.file = ap sort_count past.same_file in
@@ -305,7 +328,7 @@ module _ (p after : Progress) (told : Told) (head : Head) (past : IsPast p after
   pub row-there : IsReached p → next_row p.rows head.code < sort_count p.file + term_count p.file + thm_count p.file
   row-there r = let (ss, env, before) = r.before in go env before.rows head.code (kind-holds p ss env before head stands place ran)
     where
-      go : (env : List Declaration) → CountsRows p.rows env → (k : StatementCode) → AllHold (kind_checks false p.file (taken_by env) p.at head.body head.next (Some k))
+      go : (env : List Declaration) → CountsRows p.rows env → (k : StatementCode) → AllHold (kind_checks p.gaps p.file (taken_by env) p.at head.body head.next (Some k))
           → next_row p.rows k < sort_count p.file + term_count p.file + thm_count p.file
       go env counts codes.Sort all = omega (arith, all.0, counts.sorts_are)
       go env counts codes.Term all = omega (arith, all.0, counts.terms_are)

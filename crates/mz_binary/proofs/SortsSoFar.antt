@@ -44,5 +44,5 @@ chain-sorts gaps file env from (s ∷ ss) env' to chain before =
 
 pub taken : (p : Progress) (ss : List Statement) (env : List Declaration) → HasPassed p ss env → taken_by env ≡ taken_before p.file p.rows
 taken p ss env before =
-    let declared : sorts env ≡ first_sorts p.file p.rows.sorts = chain-sorts false p.file [] (list_at p.file) ss env p.at before.statements refl ∙ ap (first_sorts p.file) (sym before.rows.sorts_are) in
+    let declared : sorts env ≡ first_sorts p.file p.rows.sorts = chain-sorts p.gaps p.file [] (list_at p.file) ss env p.at before.statements refl ∙ ap (first_sorts p.file) (sym before.rows.sorts_are) in
     same-taken (taken_by env) (taken_before p.file p.rows) declared (sym before.rows.terms_are) (sym before.rows.thms_are)

@@ -1,7 +1,7 @@
 -- What a checker answers.
-use Rattle.std.specs.Prelude.{◌≡◌, ◌≤◌, ◌<◌, ⊤, ℕ, ◌+◌, List, [], ◌∷◌, ◌++◌, length, false}
-use Rattle.mz_logic.specs.Declaration.{Declaration}
-use Rattle.mz_logic.specs.LegalLists.{Statement, Legal, declarations}
+use Rattle.std.specs.Prelude.{◌≡◌, ◌≤◌, ◌<◌, ◌↔◌, ⊤, ℕ, ◌+◌, Bool, true, false, List, [], ◌∷◌, ◌++◌, length}
+use Rattle.mz_logic.specs.Declaration.{Declaration, assertions}
+use Rattle.mz_logic.specs.LegalLists.{Statement, Legal, DraftLegal, declarations}
 use Rattle.mz_logic.specs.Closed.{TheoremsClosed}
 use Rattle.mz_layout.specs.Tables.{list_at}
 use Rattle.mz_layout.specs.Layout.{Layout}
@@ -14,23 +14,27 @@ use Rattle.mz_machine.specs.FileRows.{taken_by}
 use Rattle.mz_binary.specs.FileRun.{RunsBody}
 use Rattle.mz_binary.specs.Chains.{IsGoodStatement, GoodTo}
 use Rattle.mz_binary.specs.Good.{Good, FailsAfter, BinaryFault}
+use Rattle.mz_binary.specs.Gapped.{GappedIn, AreFreeUnlessGapped}
 use Rattle.mz_binary.specs.Progress.{Progress, HasPassed, CountsRows, Tells, next_steps, steps_left, most_left}
 
--- the next statement is good, it is what is told, and the checker has passed it
+-- the next statement is good, it is what is told, and the checker has passed it; in a draft it is told where it is a gapped
+-- theorem
 pub record Passes (p : Progress) (ss : List Statement) (env : List Declaration) (after : Progress) (told : Told) : Type 0 where
   pub statement : Statement
-  pub good : IsGoodStatement false p.file env p.at statement after.at
+  pub good : IsGoodStatement p.gaps p.file env p.at statement after.at
   pub passed : HasPassed after (ss ++ statement ∷ []) (env ++ statement.decl ∷ [])
   pub tells : Tells told (length ss + 1) p.at env statement
+  pub gap : (told.gap ≡ true) ↔ ((p.gaps ≡ true) × GappedIn p.file (ss ++ statement ∷ []) (length (assertions env)))
   pub same_file : after.file ≡ p.file
+  pub same_gaps : after.gaps ≡ p.gaps
   pub further : p.at < after.at
   pub within : after.at ≤ length p.file
 
 -- after good statements, which declare env, what comes next; want of memory only where a body runs
 abbrev pub IsNext : Progress → List Statement → List Declaration → Next → Type 0
 IsNext p ss env (next.Statement after told) = Passes p ss env after told
-IsNext p ss env (next.End rows) = Good false p.file ss × CountsRows rows env
-IsNext p ss env (next.Refused refusal) = FailsAfter false p.file ss env p.at refusal
+IsNext p ss env (next.End rows) = Good p.gaps p.file ss × CountsRows rows env
+IsNext p ss env (next.Refused refusal) = FailsAfter p.gaps p.file ss env p.at refusal
 IsNext p ss env next.Mem = RunsBody p.file (taken_by env) p.at
 
 -- the answer is another than want of memory
@@ -55,20 +59,26 @@ IsMost p old new (next.Refused refusal) = new ≤ old + most_left p
 IsMost p old new next.Mem = new ≤ old + most_left p
 
 -- header and tables are in order, and after good statements a body runs
-pub record RunsSomeBody (file : List ℕ) : Type 0 where
+pub record RunsSomeBody (gaps : Bool) (file : List ℕ) : Type 0 where
   pub layout : Layout file
   pub before : List Statement
   pub env : List Declaration
   pub at : ℕ
-  pub statements : GoodTo false file [] (list_at file) before env at
+  pub statements : GoodTo gaps file [] (list_at file) before env at
   pub runs : RunsBody file (taken_by env) at
 
--- The file is good, by statements that are a legal list, with closed derivations of all theorems, and that take so
--- many rows; or this is its first fault. It is want of memory only where a body runs.
-abbrev pub IsChecked : List ℕ → Checked → Type 0
-IsChecked file (checked.Good rows) = (ss : List Statement) × Good false file ss × Legal ss × TheoremsClosed ss × CountsRows rows (declarations ss)
-IsChecked file (checked.Refused refusal) = BinaryFault false file refusal
-IsChecked file checked.Mem = RunsSomeBody file
+-- What good statements are: a legal list, with closed derivations of all theorems. In a draft a legal draft, of which each
+-- theorem that isn't gapped has a derivation without gaps that cites no gapped theorem.
+abbrev pub AreSound : Bool → List ℕ → List Statement → Type 0
+AreSound false file ss = Legal ss × TheoremsClosed ss
+AreSound true file ss = DraftLegal ss × AreFreeUnlessGapped file ss
+
+-- The file is good, by statements that are sound and that take so many rows; or this is its first fault. It is want of
+-- memory only where a body runs.
+abbrev pub IsChecked : Bool → List ℕ → Checked → Type 0
+IsChecked gaps file (checked.Good rows) = (ss : List Statement) × Good gaps file ss × AreSound gaps file ss × CountsRows rows (declarations ss)
+IsChecked gaps file (checked.Refused refusal) = BinaryFault gaps file refusal
+IsChecked gaps file checked.Mem = RunsSomeBody gaps file
 
 -- what is said is other than want of memory
 abbrev pub IfJudged : Checked → Type 0 → Type 0

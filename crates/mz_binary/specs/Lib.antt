@@ -2,6 +2,7 @@ pub mod Spelling
 pub mod Checking
 pub mod Chains
 pub mod Good
+pub mod Gapped
 pub mod FileRun
 pub mod WholeLaws
 pub mod Files

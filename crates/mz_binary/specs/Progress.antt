@@ -1,5 +1,5 @@
 -- How far a checker has come, and what it answers.
-use Rattle.std.specs.Prelude.{◌≡◌, ◌≤◌, ◌⊎◌, ℕ, ◌+◌, ◌-◌, ◌*◌, Bool, true, false, List, [], length, if◌then◌else◌, MatchResult, Result, Ok, Err}
+use Rattle.std.specs.Prelude.{◌≡◌, ◌≤◌, ◌⊎◌, ℕ, ◌+◌, ◌-◌, ◌*◌, ◌&&◌, Bool, true, false, List, [], ◌∷◌, ◌++◌, length, if◌then◌else◌, MatchResult, Result, Ok, Err}
 use Rattle.mz_cmd.specs.declared.code.StatementCode.{StatementCode}
 use Rattle.mz_cmd.specs.declared.code.StatementCode.TheVariants as codes
 use Rattle.mz_cmd.specs.declared.rule.K.{K}
@@ -18,7 +18,9 @@ use Rattle.mz_binary.specs.declared.statement.Statement.{Statement as Told}
 use Rattle.mz_binary.specs.declared.place.Head.{Head}
 use Rattle.mz_binary.specs.declared.place.Found.{Found as Seen}
 use Rattle.mz_binary.specs.declared.place.Found.TheVariants as seen
+use Rattle.mz_machine.specs.BodyAnswers.{HasGap}
 use Rattle.mz_binary.specs.Chains.{GoodTo, IsListEnd}
+use Rattle.mz_binary.specs.Gapped.{AreMarks, CitesMarked}
 
 -- what env declares has taken these rows
 pub record CountsRows (rows : Rows) (env : List Declaration) : Type 0 where
@@ -50,6 +52,16 @@ abbrev pub is_local_kind : StatementCode → Bool
 is_local_kind codes.LocalDefinition = true
 is_local_kind codes.LocalTheorem = true
 is_local_kind k = false
+
+abbrev pub is_theorem_kind : StatementCode → Bool
+is_theorem_kind codes.Theorem = true
+is_theorem_kind codes.LocalTheorem = true
+is_theorem_kind k = false
+
+-- an axiom or a theorem
+abbrev pub is_assertion_kind : StatementCode → Bool
+is_assertion_kind codes.Axiom = true
+is_assertion_kind k = is_theorem_kind k
 
 abbrev pub is_axiom_kind : StatementCode → Bool
 is_axiom_kind codes.Axiom = true
@@ -89,18 +101,22 @@ StandsAt file at (seen.WithBody head) = IsHead file head × (head.at ≡ at)
 
 -- ---- how far the checker has come
 
--- the file, the place of the next statement, how many stand before it, and the rows that these have taken
+-- whether gaps are let through, the file, the place of the next statement, how many stand before it, the rows that these
+-- have taken, and in a draft the marks of the gapped theorems
 pub record Progress : Type 0 where
+  pub gaps : Bool
   pub file : List ℕ
   pub at : ℕ
   pub passed : ℕ
   pub rows : Rows
+  pub marks : List Bool
 
 -- these are the statements before, all good, and they declare env
 pub record HasPassed (p : Progress) (ss : List Statement) (env : List Declaration) : Type 0 where
-  pub statements : GoodTo false p.file [] (list_at p.file) ss env p.at
+  pub statements : GoodTo p.gaps p.file [] (list_at p.file) ss env p.at
   pub many : p.passed ≡ length ss
   pub rows : CountsRows p.rows env
+  pub marks : p.gaps ≡ true → AreMarks p.file ss p.marks
 
 -- where a checker can be
 pub record IsReached (p : Progress) : Type 0 where
@@ -112,15 +128,26 @@ pub record IsReached (p : Progress) : Type 0 where
   pub many : p.passed ≡ p.rows.sorts + p.rows.terms + p.rows.thms
   pub before : (ss : List Statement) × (env : List Declaration) × HasPassed p ss env
 
+-- ---- gaps
+
+-- the next statement is a theorem of a draft, and its body leaves a gap or cites a marked theorem
+abbrev pub RestsOnGap : Progress → Head → Type 0
+RestsOnGap p head = (p.gaps ≡ true) × (is_theorem_kind head.code ≡ true)
+    × (HasGap (body_bytes p.file head.body head.next) ⊎ CitesMarked (body_bytes p.file head.body head.next) p.marks)
+
+-- the marks with one more, where the statement is an axiom or theorem of a draft
+abbrev pub marks_past : Bool → StatementCode → Bool → List Bool → List Bool
+marks_past gaps k gap marks = if gaps && is_assertion_kind k then marks ++ gap ∷ [] else marks
+
 -- ---- the commands executed
 
 -- in the body of the next statement, up to the rule that fails
 abbrev pub next_steps : Progress → ℕ
-next_steps p = found_steps false p.file (taken_before p.file p.rows) (find_at p.file (taken_before p.file p.rows) p.at)
+next_steps p = found_steps p.gaps p.file (taken_before p.file p.rows) (find_at p.file (taken_before p.file p.rows) p.at)
 
 -- in all that is left of the list, up to its first fault
 abbrev pub steps_left : Progress → ℕ
-steps_left p = list_steps false p.file (length p.file + 1) (taken_before p.file p.rows) p.at
+steps_left p = list_steps p.gaps p.file (length p.file + 1) (taken_before p.file p.rows) p.at
 
 -- the most that can be: a command of a body executes itself and at most one of a stream a byte of the file
 abbrev pub most_left : Progress → ℕ

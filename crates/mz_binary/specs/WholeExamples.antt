@@ -1,6 +1,6 @@
 -- Whole files whose verdict is known from outside: the statement, the place and the rule of the first fault, and how
 -- many commands are executed.
-use Rattle.std.specs.Prelude.{◌≡◌, ℕ, List, [], ◌∷◌, take, Option, Some, None, Result, Ok, Err, false}
+use Rattle.std.specs.Prelude.{◌≡◌, ℕ, List, [], ◌∷◌, take, Option, Some, None, Result, Ok, Err, true, false}
 use Rattle.mz_cmd.specs.declared.rule.K.{K}
 use Rattle.mz_cmd.specs.declared.rule.K.TheVariants as k
 use Rattle.mz_cmd.specs.declared.rule.Refusal.{Refusal}
@@ -16,6 +16,13 @@ refused = λ n at rule. Some (record { statement = n; at = at; rule = rule })
 
 abbrev pub first_fault : List ℕ → Option Refusal
 first_fault file = fault_of (run_file false file)
+
+abbrev pub first_fault_of_draft : List ℕ → Option Refusal
+first_fault_of_draft file = fault_of (run_file true file)
+
+-- a gap is refused, and let through in a draft
+abbrev pub Gaps : Type 0
+Gaps = (first_fault (with_byte 157 0x20 fold) ≡ refused 4 157 k.Sorry) × (first_fault_of_draft (with_byte 157 0x20 fold) ≡ None) × (first_fault_of_draft fold ≡ None)
 
 -- good files
 abbrev pub AcceptedFiles : Type 0
@@ -105,7 +112,6 @@ BodiesChanged =
     × (first_fault (with_byte 150 0x1A fold) ≡ refused 4 150 k.Cong)
     × (first_fault (with_byte 150 0x13 fold) ≡ refused 4 156 k.Unfold)
     × (first_fault (with_byte 150 0x1F fold) ≡ refused 4 150 k.SaveKind)
-    × (first_fault (with_byte 157 0x20 fold) ≡ refused 4 157 k.Sorry)
 
 -- the commands executed, up to the first fault
 abbrev pub StepsOfFiles : Type 0

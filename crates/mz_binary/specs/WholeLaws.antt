@@ -11,6 +11,7 @@ use Rattle.mz_machine.specs.Sound.{cites_as}
 use Rattle.mz_machine.specs.FileRows.{Taken, body_bytes}
 use Rattle.mz_binary.specs.Chains.{Statements, IsGoodStatement, GoodTo}
 use Rattle.mz_binary.specs.Good.{Good, BinaryFault}
+use Rattle.mz_binary.specs.Gapped.{AreFreeUnlessGapped}
 use Rattle.mz_binary.specs.FileRun.{run_list, run_file, list_steps, file_steps}
 
 -- the statements of a good file are a legal list, a draft where gaps are let through
@@ -62,3 +63,9 @@ StepsOfAFile = (gaps : Bool) (file : List ℕ) → file_steps gaps file ≤ leng
 abbrev pub BoundNeverEndsAList : Type 0
 BoundNeverEndsAList = (gaps : Bool) (file : List ℕ) (bound other n : ℕ) (taken : Taken) (at : ℕ) → length file - at < bound → length file - at < other
     → (run_list gaps file bound n taken at ≡ run_list gaps file other n taken at) × (list_steps gaps file bound taken at ≡ list_steps gaps file other taken at)
+
+-- ---- gaps
+
+-- each theorem of a good file that isn't gapped has a derivation without gaps that cites no gapped theorem
+abbrev pub UngappedAreFree : Type 0
+UngappedAreFree = (gaps : Bool) (file : List ℕ) (ss : List Statement) → Good gaps file ss → AreFreeUnlessGapped file ss

@@ -1,40 +1,48 @@
 // The list of statements, one after another.
-ghost use Rattle.std.specs.Prelude.{◌≡◌, ◌≤◌, ◌<◌, ◌+◌, ◌-◌, ◌*◌, ◌^◌, ℕ, List, [], length, Ok, Err, false};
+ghost use Rattle.std.specs.Prelude.{◌≡◌, ◌≤◌, ◌<◌, ◌+◌, ◌-◌, ◌*◌, ◌^◌, ◌↔◌, ℕ, List, [], length, Ok, Err, true, OnOk, OnErr};
+ghost use Rattle.mz_mode.specs.Gaps.{gaps_of};
 ghost use Rattle.mz_logic.specs.Declaration.{Declaration};
 ghost use Rattle.mz_logic.specs.LegalLists.{Statement as Declared};
 ghost use Rattle.mz_machine.specs.Before.{taken_before};
-ghost use Rattle.mz_binary.specs.FileRun.{after_kind, file_steps, find_at, onward, run_place};
-ghost use Rattle.mz_binary.specs.Progress.{HasPassed, IsHead, found_of, kind_byte, next_row, next_steps, rows_past, steps_left, most_left};
+ghost use Rattle.mz_machine.specs.BodyAnswers.{HasGap};
+ghost use Rattle.mz_machine.specs.FileRows.{body_bytes};
+ghost use Rattle.mz_binary.specs.FileRun.{after_kind, file_steps, find_at, onward, run_place, RunsBody};
+ghost use Rattle.mz_binary.specs.Progress.{HasPassed, IsHead, RestsOnGap, found_of, is_assertion_kind, is_theorem_kind, kind_byte, marks_past, next_row, next_steps, rows_past, steps_left, most_left};
 ghost use Rattle.mz_binary.specs.Judging.{IfTold, IsLeft, IsMost, IsNext};
 
+use crate::gaps::cites_marked;
 use crate::place::{Fault, Found, Head, found_at, is_local};
 use crate::statement::{Rows, Statement};
-use mz_cmd::{Refusal, StatementCode, Steps};
+use mz_cmd::{Mem, Refusal, StatementCode, Steps};
 use mz_layout::Mmb;
 use mz_machine::{BodyChecked, check_body};
+use mz_mode::Mode;
 use std::alloc::Global;
 use std::marker::Model;
 use std::sync::ledger::Ledger;
 
 /// A checker of the list of statements of one binary. Its meaning is how far it has come; the
-/// statements before are good.
+/// statements before are good, a draft's with gaps.
 #[derive(Drop)]
 pub struct Checker<'a> {
     alloc: Global,
     mmb: &'a Mmb<'a>,
+    mode: Mode,
     rows: Rows,
     passed: u32,
     at: u32,
+    gapped: Vec<bool>,
 }
 
 impl<'a> Model for Checker<'a> {
+    ghost use Rattle.mz_mode.specs.Gaps.{gaps_of};
     ghost use Rattle.mz_binary.specs.Progress.{Progress, IsReached};
 
     ghost Value = { Progress };
 
-    ghost view = { λ c. record { file = c.mmb.now; at = c.at; passed = c.passed; rows = c.rows } };
+    ghost view = { λ c. record { gaps = gaps_of c.mode; file = c.mmb.now; at = c.at; passed = c.passed; rows = c.rows; marks = c.gapped.items } };
 
-    ghost invariant = { λ c. IsReached (record { file = c.mmb.now; at = c.at; passed = c.passed; rows = c.rows }) };
+    ghost invariant = { λ c. IsReached (record { gaps = gaps_of c.mode; file = c.mmb.now; at = c.at; passed = c.passed; rows = c.rows; marks = c.gapped.items }) };
 }
 
 /// What comes next in the list of statements.
@@ -46,16 +54,18 @@ pub enum Next<'a> {
     End(Rows),
     /// The first rule that fails.
     Refused(Refusal),
-    /// Want of memory, which only a body that runs may find.
+    /// Want of memory, which only a body that runs may find, and in a draft the mark of its row.
     Mem,
 }
 
 impl<'a> Checker<'a> {
-    /// At the first statement.
-    pub fn new(alloc: Global, mmb: &'a Mmb<'a>) -> Checker<'a>
+    /// At the first statement. In a draft bodies may leave gaps, and the theorems that rest on one are
+    /// told apart.
+    pub fn new(alloc: Global, mmb: &'a Mmb<'a>, mode: Mode) -> Checker<'a>
         ensures file { result.file ≡ mmb.now }
+        ensures gaps { result.gaps ≡ gaps_of mode }
         ensures nothing { HasPassed result [] [] }
-        ensures steps { steps_left result ≡ file_steps false mmb.now }
+        ensures steps { steps_left result ≡ file_steps (gaps_of mode) mmb.now }
     {
         let at = mmb.proof_at();
         let rows = Rows {
@@ -66,9 +76,11 @@ impl<'a> Checker<'a> {
         Checker {
             alloc,
             mmb,
+            mode,
             rows,
             passed: 0,
             at,
+            gapped: Vec::new(alloc),
         }
     }
 
@@ -81,7 +93,7 @@ impl<'a> Checker<'a> {
     {
         match found_at(self.mmb, self.rows, self.at) {
             Ok(Found::End) => Next::End(self.rows),
-            Ok(Found::Alone(head)) => self.past(head),
+            Ok(Found::Alone(head)) => self.past(head, false),
             Ok(Found::WithBody(head)) => self.past_body(head, steps),
             Err(fault) => self.refused(fault),
         }
@@ -100,18 +112,39 @@ impl<'a> Checker<'a> {
         let kind = kind_of(head.code);
         let row = row_of(self.rows, head.code);
         let body = (head.body, head.next);
-        match check_body(self.alloc, self.mmb, kind, row, self.rows, body, steps) {
-            BodyChecked::Good(_) => self.past(head),
+        match check_body(
+            self.alloc, self.mmb, self.mode, kind, row, self.rows, body, steps,
+        ) {
+            BodyChecked::Good(end) => {
+                let gap = self.rests_on_gap(head, end.sorry);
+                self.past(head, gap)
+            }
             BodyChecked::Refused { at, rule } => self.refused((at, rule)),
             BodyChecked::Mem => Next::Mem,
         }
     }
 
-    /// Past a statement, whose body runs if it has one.
-    fn past(self, head: Head) -> Next<'a>
+    /// Whether the next statement is a theorem of a draft whose body leaves a gap or cites a theorem
+    /// that rests on one.
+    fn rests_on_gap(&self, head: Head, sorry: bool) -> bool
+        requires head { IsHead self.now.file head }
+        requires sorry { (sorry ≡ true) ↔ HasGap (body_bytes self.now.file head.body head.next) }
+        ensures { (result ≡ true) ↔ RestsOnGap self.now head }
+    {
+        if !self.mode.allows_gaps() || !is_theorem(head.code) {
+            return false;
+        }
+        let bytes = &self.mmb.file()[head.body as usize..head.next as usize];
+        sorry || cites_marked(bytes, &self.gapped)
+    }
+
+    /// Past a statement, whose body runs if it has one: whether it rests on a gap is told, and marked.
+    fn past(self, head: Head, gap: bool) -> Next<'a>
         requires head { IsHead self.file head }
         requires at { head.at ≡ self.at }
-        requires runs { run_place false self.file (taken_before self.file self.rows) self.at ≡ Ok (onward (after_kind self.file (taken_before self.file self.rows) head.code) head.next) }
+        requires runs { run_place self.gaps self.file (taken_before self.file self.rows) self.at ≡ Ok (onward (after_kind self.file (taken_before self.file self.rows) head.code) head.next) }
+        requires gap { (gap ≡ true) ↔ RestsOnGap self head }
+        requires body { is_assertion_kind head.code ≡ true → RunsBody self.file (taken_before self.file self.rows) self.at }
         ensures next { (ss : List Declared) (env : List Declaration) → HasPassed self.entry ss env → IsNext self.entry ss env result }
         ensures left { IsLeft self.entry result }
         ensures most { (old new : ℕ) → new ≤ old + (head.next - head.body) * (length self.entry.file + 1) → IsMost self.entry old new result }
@@ -122,20 +155,34 @@ impl<'a> Checker<'a> {
             kind: kind_of(head.code),
             row: row_of(self.rows, head.code),
             local: is_local(head.code),
+            gap,
+        };
+        let Checker {
+            alloc,
+            mmb,
+            mode,
+            rows,
+            mut gapped,
+            ..
+        } = self;
+        let Ok(()) = mark(mode, head.code, gap, &mut gapped) else {
+            return Next::Mem;
         };
         let after = Checker {
-            alloc: self.alloc,
-            mmb: self.mmb,
-            rows: after_rows(self.rows, head.code),
+            alloc,
+            mmb,
+            mode,
+            rows: after_rows(rows, head.code),
             passed: told.number,
             at: head.next,
+            gapped,
         };
         Next::Statement(after, told)
     }
 
     /// The rule that fails at the next statement.
     fn refused(self, fault: Fault) -> Next<'a>
-        requires { run_place false self.file (taken_before self.file self.rows) self.at ≡ Err fault }
+        requires { run_place self.gaps self.file (taken_before self.file self.rows) self.at ≡ Err fault }
         ensures next { (ss : List Declared) (env : List Declaration) → HasPassed self.entry ss env → IsNext self.entry ss env result }
         ensures left { IsLeft self.entry result }
         ensures most { (old new : ℕ) → new ≤ old + most_left self.entry → IsMost self.entry old new result }
@@ -149,7 +196,40 @@ impl<'a> Checker<'a> {
     }
 }
 
+/// In a draft an axiom or theorem gets its mark.
+fn mark(mode: Mode, code: StatementCode, gap: bool, marks: &mut Vec<bool>) -> Result<(), Mem>
+    ensures ok { OnOk result (marks.new.items ≡ marks_past (gaps_of mode) code gap marks.old.items) }
+    ensures err { OnErr result (is_assertion_kind code ≡ true) }
+{
+    if mode.allows_gaps() && is_assertion(code) {
+        marks.push(gap)?;
+    }
+    Ok(())
+}
+
 // ---- the kinds of statements
+
+fn is_theorem(code: StatementCode) -> bool
+    ensures { result ≡ is_theorem_kind code }
+{
+    match code {
+        StatementCode::Theorem | StatementCode::LocalTheorem => true,
+        StatementCode::Sort
+        | StatementCode::Term
+        | StatementCode::LocalDefinition
+        | StatementCode::Axiom => false,
+    }
+}
+
+/// Whether it is an axiom or a theorem.
+fn is_assertion(code: StatementCode) -> bool
+    ensures { result ≡ is_assertion_kind code }
+{
+    match code {
+        StatementCode::Axiom | StatementCode::Theorem | StatementCode::LocalTheorem => true,
+        StatementCode::Sort | StatementCode::Term | StatementCode::LocalDefinition => false,
+    }
+}
 
 /// What is told of the kind: the code of it without the mark.
 fn kind_of(code: StatementCode) -> u8

@@ -1,5 +1,5 @@
 // Worked files, computed.
-ghost use Rattle.mz_binary.specs.WholeExamples.{AcceptedFiles, BodiesChanged, CutFiles, HeadersChanged, RowsChanged, StepsOfFiles};
+ghost use Rattle.mz_binary.specs.WholeExamples.{AcceptedFiles, BodiesChanged, CutFiles, Gaps, HeadersChanged, RowsChanged, StepsOfFiles};
 
 /// Files whose verdict is known from outside: accepted, or the statement, the place and the rule of the
 /// first fault; and how many commands are executed.
@@ -9,5 +9,6 @@ pub fn worked_files()
     ensures headers { HeadersChanged }
     ensures rows { RowsChanged }
     ensures bodies { BodiesChanged }
+    ensures gaps { Gaps }
     ensures steps { StepsOfFiles }
 {}

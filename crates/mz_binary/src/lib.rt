@@ -7,6 +7,7 @@
 
 mod checker;
 mod examples;
+mod gaps;
 mod laws;
 mod line;
 mod place;
@@ -22,6 +23,6 @@ pub use line::refusal_line;
 pub use statement::{Rows, Statement};
 pub use whole::{Checked, check_all};
 pub use whole_laws::{
-    steps_of_files_are_bounded, whole_files_are_legal, whole_files_have_one_outcome,
-    whole_files_spell_one_list,
+    steps_of_files_are_bounded, ungapped_theorems_are_free, whole_files_are_legal,
+    whole_files_have_one_outcome, whole_files_spell_one_list,
 };

@@ -15,4 +15,7 @@ pub struct Statement {
     pub row: u32,
     /// Whether it is local: a definition with code 0D, or a theorem with code 0E.
     pub local: bool,
+    /// Whether it is a theorem of a draft that rests on a gap: its body leaves one, or cites a theorem
+    /// that rests on one.
+    pub gap: bool,
 }

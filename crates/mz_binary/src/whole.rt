@@ -1,5 +1,6 @@
 // A whole binary.
-ghost use Rattle.std.specs.Prelude.{◌≡◌, ◌≤◌, ◌<◌, ◌+◌, ◌*◌, ◌^◌, List, [], length, false};
+ghost use Rattle.std.specs.Prelude.{◌≡◌, ◌≤◌, ◌<◌, ◌+◌, ◌*◌, ◌^◌, List, [], length};
+ghost use Rattle.mz_mode.specs.Gaps.{gaps_of};
 ghost use Rattle.mz_layout.specs.Layout.{Layout};
 ghost use Rattle.mz_binary.specs.FileRun.{file_steps};
 ghost use Rattle.mz_binary.specs.Progress.{HasPassed, most_left, steps_left};
@@ -9,6 +10,7 @@ use crate::checker::{Checker, Next};
 use crate::statement::Rows;
 use mz_cmd::{Refusal, Steps};
 use mz_layout::Mmb;
+use mz_mode::Mode;
 use std::alloc::Global;
 use std::sync::ledger::Ledger;
 
@@ -19,19 +21,20 @@ pub enum Checked {
     Good(Rows),
     /// Its first fault.
     Refused(Refusal),
-    /// Want of memory, which only a body that runs may find.
+    /// Want of memory, which only a body that runs may find, and in a draft the mark of its row.
     Mem,
 }
 
-/// Checks header, tables and the whole list of statements.
-pub fn check_all<L: Ledger>(alloc: Global, file: &[u8], steps: &mut Steps<L>) -> Checked
+/// Checks header, tables and the whole list of statements. A draft's bodies may leave gaps; then the
+/// theorems that rest on none are proved without.
+pub fn check_all<L: Ledger>(alloc: Global, file: &[u8], mode: Mode, steps: &mut Steps<L>) -> Checked
     requires { length file.now < 2 ^ 32 }
-    ensures checked { IsChecked file.now result }
-    ensures steps { IfJudged result (steps.new ≡ steps.old + file_steps false file.now) }
+    ensures checked { IsChecked (gaps_of mode) file.now result }
+    ensures steps { IfJudged result (steps.new ≡ steps.old + file_steps (gaps_of mode) file.now) }
     ensures bound { steps.new ≤ steps.old + (length file.now * length file.now + length file.now) }
 {
     match Mmb::read(file) {
-        Ok(mmb) => check_list(Checker::new(alloc, &mmb), steps),
+        Ok(mmb) => check_list(Checker::new(alloc, &mmb, mode), steps),
         Err(refusal) => Checked::Refused(refusal),
     }
 }
@@ -40,7 +43,7 @@ pub fn check_all<L: Ledger>(alloc: Global, file: &[u8], steps: &mut Steps<L>) ->
 fn check_list<L: Ledger>(first: Checker, steps: &mut Steps<L>) -> Checked
     requires layout { Layout first.file }
     requires nothing { HasPassed first [] [] }
-    ensures checked { IsChecked first.entry.file result }
+    ensures checked { IsChecked first.entry.gaps first.entry.file result }
     ensures steps { IfJudged result (steps.new ≡ steps.old + steps_left first.entry) }
     ensures bound { steps.new ≤ steps.old + most_left first.entry }
 {

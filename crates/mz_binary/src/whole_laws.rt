@@ -1,5 +1,5 @@
 // Laws of whole files, of all kinds of statements.
-ghost use Rattle.mz_binary.specs.WholeLaws.{BoundNeverEndsAList, GoodFilesAreClosed, GoodFilesAreLegal, GoodFilesSpell, GoodOrFault, NotBoth, OneFault, OneListOfStatements, RunsAreExact, StepsOfAFile, TheoremsCiteAsTheirBodies};
+ghost use Rattle.mz_binary.specs.WholeLaws.{BoundNeverEndsAList, GoodFilesAreClosed, GoodFilesAreLegal, GoodFilesSpell, GoodOrFault, NotBoth, OneFault, OneListOfStatements, RunsAreExact, StepsOfAFile, TheoremsCiteAsTheirBodies, UngappedAreFree};
 
 /// The statements of a good file are a legal list, with closed derivations; and a theorem's derivation
 /// cites what its body cites.
@@ -27,4 +27,10 @@ pub fn whole_files_have_one_outcome()
 pub fn steps_of_files_are_bounded()
     ensures steps { StepsOfAFile }
     ensures bound { BoundNeverEndsAList }
+{}
+
+/// A theorem of a good file that isn't gapped has a derivation without gaps that cites no gapped
+/// theorem.
+pub fn ungapped_theorems_are_free()
+    ensures { UngappedAreFree }
 {}

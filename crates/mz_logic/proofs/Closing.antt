@@ -1,21 +1,22 @@
--- Each theorem of a legal list has a closed derivation.
-use Rattle.std.proofs.Common.{ℕ, zero, suc, ◌≡◌, ◌<◌, Bool, true, false, List, [], ◌∷◌, ◌++◌, slice_get, Contains, length, Some, refl, sym, ap₂, ◌∙◌, subst, inl, inr, append_assoc, append-nil}
+-- Derivations close: where what is cited rests on some assertions, there is one that cites those alone. So each theorem of
+-- a legal list has a derivation over the axioms of its support, and a closed one.
+use Rattle.std.proofs.Common.{ℕ, zero, suc, ◌≡◌, ◌<◌, ◌+◌, Bool, true, false, List, [], ◌∷◌, ◌++◌, slice_get, Contains, length, Some, refl, sym, ap₂, ◌∙◌, subst, inl, inr, append_assoc, append-nil, arith}
 use Rattle.std.proofs.lemmas.List.Elements.{All-contains}
 use Rattle.mz_logic.specs.Tree.{Tree, Trees, none, more, instance, instances, followed_by}
 use Rattle.mz_logic.specs.Declaration.{Assertion, Declaration, sort_decl, term_decl, assertion_decl, sorts, signatures, assertions}
 use Rattle.mz_logic.specs.Sorts.{Fits, AreProvable}
 use Rattle.mz_logic.specs.Variables.{Apart}
 use Rattle.mz_logic.specs.Legality.{IsLegalDecl, IsBinderThere, LegalEnvAfter, IsLegalEnv}
-use Rattle.mz_logic.specs.Derivations.{Derivation, Derivations, hypothesis, cite, convert, gap, no_derivs, more_derivs, Derives, AllDerive, CitesOnly, AllCiteOnly, Uses, without_gaps, IsGapFree}
-use Rattle.mz_logic.specs.LegalLists.{AreDummies, IsProvedBy, IsProvedIfTheorem, Statement, IsLegalStatement, LegalAfter, LegalBy, Legal, gap_free, declarations}
-use Rattle.mz_logic.specs.Closed.{IsAxiomIn, CitesAxioms, IsClosed, TheoremsClosed}
+use Rattle.mz_logic.specs.Derivations.{Derivation, Derivations, hypothesis, cite, convert, gap, no_derivs, more_derivs, Derives, AllDerive, CitesOnly, AllCiteOnly, without_gaps}
+use Rattle.mz_logic.specs.LegalLists.{AreDummies, IsProvedBy, IsProvedIfTheorem, Statement, IsLegalStatement, LegalAfter, LegalBy, Legal, declarations}
+use Rattle.mz_logic.specs.Closed.{by_citing, AreSupports, by_number, on_support, IsAxiomIn, CitesAxioms, TheoremsClosed}
 use Rattle.mz_logic.specs.declared.binder.Binder.{Binder}
 use Rattle.mz_logic.specs.declared.binder.SortMods.{SortMods}
 use Rattle.mz_logic.proofs.Instance.{one_at, none_some}
 use Rattle.mz_logic.specs.Laws.{BoundArePlain}
 use Rattle.mz_logic.proofs.Extend.{Extends, extends_append, extends_itself, EnvExtends, env_extends_append, fits_extends, apart_extends, between_extends, derives_extends, all_derive_extends, assertions-append}
 use Rattle.mz_logic.proofs.Sound.{AssertionRight, RightEnv, fits_followed_by}
-use Rattle.mz_logic.proofs.LegalIsRight.{append_cases, right_step}
+use Rattle.mz_logic.proofs.LegalIsRight.{right_step}
 use Rattle.mz_logic.proofs.Lists.{each_from_all}
 use Rattle.mz_logic.proofs.EightRules.{names_there, binders_right}
 use Rattle.mz_logic.proofs.Compose.{instance_first}
@@ -44,30 +45,31 @@ instances_of_provable env ctx es fs ps fits (more g gs) h =
     let k = h zero g refl in
     ap₂ more (instance_first (signatures env) ctx es fs ps fits g k.0 k.1) (instances_of_provable env ctx es fs ps fits gs (λ i e at. h (suc i) e at))
 
--- each theorem of the environment has a closed derivation over it
-abbrev AreClosed : List Declaration → Type 0
-AreClosed env = (T : ℕ) (a : Assertion) → slice_get (assertions env) T ≡ Some a → a.is_axiom ≡ false → IsClosed env a
+same_env : (env : List Declaration) → EnvExtends env env
+same_env env = record { sorts_too = extends_itself _; terms_too = extends_itself _; signatures_too = extends_itself _; assertions_too = extends_itself _ }
+
+-- over env what has P rests on what has Q: an axiom with P has Q, and a theorem with P is proved by citations of
+-- assertions with Q alone
+record RestsOn (env : List Declaration) (P Q : ℕ → Type 0) : Type 0 where
+  pub axioms : (T : ℕ) (a : Assertion) → slice_get (assertions env) T ≡ Some a → a.is_axiom ≡ true → P T → Q T
+  pub theorems : (T : ℕ) (a : Assertion) → slice_get (assertions env) T ≡ Some a → a.is_axiom ≡ false → P T → IsProvedBy (by_citing Q) env a
 
 -- ---- every derivation closes, in a context with further dummies
 
-module _ (env : List Declaration) (right : RightEnv env) (closed : AreClosed env) (hyps : Trees) where
+module _ (env : List Declaration) (right : RightEnv env) (P Q : ℕ → Type 0) (rests : RestsOn env P Q) (hyps : Trees) where
   abbrev Closes : List Binder → Tree → Type 0
-  Closes ctx e = (new : List Binder) × AreDummies (sorts env) new × ((d : Derivation) × CitesAxioms env d × Derives env (ctx ++ new) hyps d e)
+  Closes ctx e = (new : List Binder) × AreDummies (sorts env) new × ((d : Derivation) × CitesOnly (without_gaps Q) d × Derives env (ctx ++ new) hyps d e)
 
   abbrev AllClose : List Binder → Trees → Type 0
-  AllClose ctx es = (new : List Binder) × AreDummies (sorts env) new × ((ds : Derivations) × AllCiteOnly (without_gaps (IsAxiomIn env)) ds × AllDerive env (ctx ++ new) hyps ds es)
-
-  -- the same environment
-  same_env : EnvExtends env env
-  same_env = record { sorts_too = extends_itself _; terms_too = extends_itself _; signatures_too = extends_itself _; assertions_too = extends_itself _ }
+  AllClose ctx es = (new : List Binder) × AreDummies (sorts env) new × ((ds : Derivations) × AllCiteOnly (without_gaps Q) ds × AllDerive env (ctx ++ new) hyps ds es)
 
   -- a cited theorem's closed derivation takes the place of the citation
   cite_closed : (ctx new : List Binder) → IsScoped ctx → AreDummies (sorts env) new → (T : ℕ) (a : Assertion) → slice_get (assertions env) T ≡ Some a
       → (es : Trees) → Fits (signatures env) ctx es a.params → Apart ctx es a.params
-      → (ds : Derivations) → AllCiteOnly (without_gaps (IsAxiomIn env)) ds → AllDerive env (ctx ++ new) hyps ds (instances es a.hyps)
-      → IsClosed env a → Closes ctx (instance es a.conclusion)
+      → (ds : Derivations) → AllCiteOnly (without_gaps Q) ds → AllDerive env (ctx ++ new) hyps ds (instances es a.hyps)
+      → IsProvedBy (by_citing Q) env a → Closes ctx (instance es a.conclusion)
   cite_closed ctx new scoped new_dummies T a at es fits apart ds cites they (bs, bs_dummies, (d, d_cites, d_derives)) =
-      (new ++ bs, dummies_append (sorts env) new bs new_dummies bs_dummies, (graft f ds d, cites_graft (without_gaps (IsAxiomIn env)) f ds cites d d_cites, derives_all))
+      (new ++ bs, dummies_append (sorts env) new bs new_dummies bs_dummies, (graft f ds d, cites_graft (without_gaps Q) f ds cites d d_cites, derives_all))
     where
       ctx₂ : List Binder
       ctx₂ = ctx ++ new
@@ -101,7 +103,7 @@ module _ (env : List Declaration) (right : RightEnv env) (closed : AreClosed env
       given : AllDerive env ((ctx ++ new) ++ bs) hyps ds (instances (followed_by es (fresh (length (ctx ++ new)) bs)) a.hyps)
       given = subst (AllDerive env ((ctx ++ new) ++ bs) hyps ds)
           (sym (instances_of_provable env (ctx ++ new) es (fresh (length (ctx ++ new)) bs) a.params fits₂ a.hyps a_right.1))
-          (all_derive_extends env env (ctx ++ new) ((ctx ++ new) ++ bs) same_env (extends_append (ctx ++ new) bs) hyps ds (instances es a.hyps) they)
+          (all_derive_extends env env (ctx ++ new) ((ctx ++ new) ++ bs) (same_env env) (extends_append (ctx ++ new) bs) hyps ds (instances es a.hyps) they)
 
       grafted : Derives env ((ctx ++ new) ++ bs) hyps (graft (followed_by es (fresh (length (ctx ++ new)) bs)) ds d) (instance (followed_by es (fresh (length (ctx ++ new)) bs)) a.conclusion)
       grafted = derives_graft env ((ctx ++ new) ++ bs) (a.params ++ bs) no_deps (followed_by es (fresh (length (ctx ++ new)) bs)) f_fits f_apart a.hyps hyps ds given d a.conclusion d_derives
@@ -111,9 +113,9 @@ module _ (env : List Declaration) (right : RightEnv env) (closed : AreClosed env
           (subst (Derives env ((ctx ++ new) ++ bs) hyps (graft (followed_by es (fresh (length (ctx ++ new)) bs)) ds d))
           (instance_first (signatures env) (ctx ++ new) es (fresh (length (ctx ++ new)) bs) a.params fits₂ a.conclusion a_right.2.0 a_right.2.1) grafted)
 
-  cite_either : (ctx : List Binder) → IsScoped ctx → (T : ℕ) (a : Assertion) → slice_get (assertions env) T ≡ Some a
+  cite_either : (ctx : List Binder) → IsScoped ctx → (T : ℕ) (a : Assertion) → slice_get (assertions env) T ≡ Some a → P T
       → (es : Trees) → Fits (signatures env) ctx es a.params → Apart ctx es a.params → AllClose ctx (instances es a.hyps) → Closes ctx (instance es a.conclusion)
-  cite_either ctx scoped T a at es fits apart (new, new_dummies, (ds, cites, they)) = go a.is_axiom refl
+  cite_either ctx scoped T a at may es fits apart (new, new_dummies, (ds, cites, they)) = go a.is_axiom refl
     where
       go : (v : Bool) → a.is_axiom ≡ v → Closes ctx (instance es a.conclusion)
       go true is = (
@@ -121,7 +123,7 @@ module _ (env : List Declaration) (right : RightEnv env) (closed : AreClosed env
         new_dummies,
         (
           cite T es ds,
-          ((a, at, is), cites),
+          (rests.axioms T a at is may, cites),
           (
             a,
             at,
@@ -132,51 +134,35 @@ module _ (env : List Declaration) (right : RightEnv env) (closed : AreClosed env
           ),
         ),
       )
-      go false is = cite_closed ctx new scoped new_dummies T a at es fits apart ds cites they (closed T a at is)
+      go false is = cite_closed ctx new scoped new_dummies T a at es fits apart ds cites they (rests.theorems T a at is may)
 
   mutual
-    closes : (d : Derivation) → IsGapFree d → (ctx : List Binder) → IsScoped ctx → (e : Tree) → Derives env ctx hyps d e → Closes ctx e
-    closes (hypothesis i) free ctx scoped e at = ([], λ k b is. absurd (none_some is), (hypothesis i, tt, at))
-    closes (cite T es ds) (_, free) ctx scoped e (a, at, is, fits, apart, h) =
-        subst (Closes ctx) (sym is) (cite_either ctx scoped T a at es fits apart (all_close ds free ctx scoped (instances es a.hyps) h))
-    closes (convert x c d) (c_free, free) ctx scoped e (is, (g, h, k)) =
-        let r = closes d free ctx scoped g k in
-        (r.0, r.1, (convert x c r.2.0, (c_free, r.2.1), (is, (g, between_extends env env ctx (ctx ++ r.0) same_env (extends_append ctx r.0) c x g h, r.2.2))))
-    closes (gap x) free ctx scoped e h = absurd free
+    closes : (d : Derivation) → CitesOnly (without_gaps P) d → (ctx : List Binder) → IsScoped ctx → (e : Tree) → Derives env ctx hyps d e → Closes ctx e
+    closes (hypothesis i) only ctx scoped e at = ([], λ k b is. absurd (none_some is), (hypothesis i, tt, at))
+    closes (cite T es ds) (may, only) ctx scoped e (a, at, is, fits, apart, h) =
+        subst (Closes ctx) (sym is) (cite_either ctx scoped T a at may es fits apart (all_close ds only ctx scoped (instances es a.hyps) h))
+    closes (convert x c d) (c_free, only) ctx scoped e (is, (g, h, k)) =
+        let r = closes d only ctx scoped g k in
+        (r.0, r.1, (convert x c r.2.0, (c_free, r.2.1), (is, (g, between_extends env env ctx (ctx ++ r.0) (same_env env) (extends_append ctx r.0) c x g h, r.2.2))))
+    closes (gap x) only ctx scoped e h = absurd only
 
-    all_close : (ds : Derivations) → AllCiteOnly (without_gaps (λ T. Unit {0})) ds → (ctx : List Binder) → IsScoped ctx → (es : Trees) → AllDerive env ctx hyps ds es → AllClose ctx es
-    all_close no_derivs free ctx scoped none h = ([], λ k b is. absurd (none_some is), (no_derivs, tt, tt))
-    all_close no_derivs free ctx scoped (more e es) h = absurd h
-    all_close (more_derivs d ds) free ctx scoped none h = absurd h
-    all_close (more_derivs d ds) (d_free, free) ctx scoped (more e es) (h, rest) =
-        let r = closes d d_free ctx scoped e h in
-        let q = all_close ds free (ctx ++ r.0) (scoped_with_dummies ctx r.0 scoped (all_dummies (sorts env) r.0 r.1)) es
-        (all_derive_extends env env ctx (ctx ++ r.0) same_env (extends_append ctx r.0) hyps ds es rest) in (
+    all_close : (ds : Derivations) → AllCiteOnly (without_gaps P) ds → (ctx : List Binder) → IsScoped ctx → (es : Trees) → AllDerive env ctx hyps ds es → AllClose ctx es
+    all_close no_derivs only ctx scoped none h = ([], λ k b is. absurd (none_some is), (no_derivs, tt, tt))
+    all_close no_derivs only ctx scoped (more e es) h = absurd h
+    all_close (more_derivs d ds) only ctx scoped none h = absurd h
+    all_close (more_derivs d ds) (first, only) ctx scoped (more e es) (h, rest) =
+        let r = closes d first ctx scoped e h in
+        let q = all_close ds only (ctx ++ r.0) (scoped_with_dummies ctx r.0 scoped (all_dummies (sorts env) r.0 r.1)) es
+        (all_derive_extends env env ctx (ctx ++ r.0) (same_env env) (extends_append ctx r.0) hyps ds es rest) in (
           r.0 ++ q.0,
           dummies_append (sorts env) r.0 q.0 r.1 q.1,
           (
             more_derivs r.2.0 q.2.0,
             (r.2.1, q.2.1),
             subst (λ c. Derives env c hyps r.2.0 e × AllDerive env c hyps q.2.0 es) (append_assoc ctx r.0 q.0)
-                (derives_extends env env (ctx ++ r.0) ((ctx ++ r.0) ++ q.0) same_env (extends_append (ctx ++ r.0) q.0) hyps r.2.0 e r.2.2, q.2.2),
+                (derives_extends env env (ctx ++ r.0) ((ctx ++ r.0) ++ q.0) (same_env env) (extends_append (ctx ++ r.0) q.0) hyps r.2.0 e r.2.2, q.2.2),
           ),
         )
-
--- ---- over a whole list
-
-axiom_extends : (env env' : List Declaration) → EnvExtends env env' → (T : ℕ) → IsAxiomIn env T → IsAxiomIn env' T
-axiom_extends env env' m T (a, at, is) = (a, m.assertions_too T a at, is)
-
-closed_extends : (env env' : List Declaration) → EnvExtends env env' → (a : Assertion) → IsClosed env a → IsClosed env' a
-closed_extends env env' m a (bs, dummies, (d, cites, h)) = (
-  bs,
-  dummies_extend (sorts env) (sorts env') m.sorts_too bs dummies,
-  (
-    d,
-    cites_more (without_gaps (IsAxiomIn env)) (without_gaps (IsAxiomIn env')) (axiom_extends env env' m) (λ none. none) d cites,
-    derives_extends env env' (a.params ++ bs) (a.params ++ bs) m (extends_itself _) a.hyps d a.conclusion h,
-  ),
-)
 
 params_scoped : (env : List Declaration) (a : Assertion) → IsLegalDecl env (assertion_decl a) → IsScoped a.params
 params_scoped env a legal = record { no_deps = λ i b at bd. ((binders_right env (assertion_decl a) legal i b at).0 bd).0; inside = inside }
@@ -186,49 +172,116 @@ params_scoped env a legal = record { no_deps = λ i b at bd. ((binders_right env
         All-contains (λ j. j < length a.params) b.deps x
         (each_from_all (IsBinderThere (sorts env) (length a.params)) a.params (names_there env (assertion_decl a) legal).0 i b at).1 has
 
-close_theorem : (env : List Declaration) → RightEnv env → AreClosed env → (a : Assertion) → IsLegalDecl env (assertion_decl a)
-    → IsProvedBy gap_free env a → IsClosed env a
-close_theorem env right closed a legal (bs, dummies, (d, free, h)) =
-    let r = closes env right closed a.hyps d free (a.params ++ bs) (scoped_with_dummies a.params bs (params_scoped env a legal) (all_dummies (sorts env) bs dummies)) a.conclusion h in
+close_theorem : (env : List Declaration) → RightEnv env → (P Q : ℕ → Type 0) → RestsOn env P Q → (a : Assertion) → IsLegalDecl env (assertion_decl a)
+    → IsProvedBy (by_citing P) env a → IsProvedBy (by_citing Q) env a
+close_theorem env right P Q rests a legal (bs, dummies, (d, only, h)) =
+    let r = closes env right P Q rests a.hyps d only (a.params ++ bs) (scoped_with_dummies a.params bs (params_scoped env a legal) (all_dummies (sorts env) bs dummies)) a.conclusion h in
     (bs ++ r.0, dummies_append (sorts env) bs r.0 dummies r.1, (r.2.0, r.2.1, subst (λ c. Derives env c a.hyps r.2.0 a.conclusion) (append_assoc a.params bs r.0) r.2.2))
 
--- a statement's theorem is closed over the statements before it
-closed_if_theorem : (env : List Declaration) → RightEnv env → AreClosed env → (d : Declaration)
-    → IsLegalDecl env d → IsProvedIfTheorem gap_free env d → IsProvedIfTheorem CitesAxioms env d
-closed_if_theorem env right closed (sort_decl _) legal proved = tt
-closed_if_theorem env right closed (term_decl _) legal proved = tt
-closed_if_theorem env right closed (assertion_decl a) legal proved = λ is_theorem. close_theorem env right closed a legal (proved is_theorem)
+-- ---- over a whole list
 
-closed_step : (env : List Declaration) (d : Declaration) → AreClosed env → IsProvedIfTheorem CitesAxioms env d → AreClosed (env ++ d ∷ [])
-closed_step env d closed proved T a at is_theorem =
-    elim (append_cases (assertions env) (assertions (d ∷ [])) T a (subst (λ xs. slice_get xs T ≡ Some a) (assertions-append env (d ∷ [])) at)) [
-      | inl old ↦ closed_extends env (env ++ d ∷ []) m a (closed T a old is_theorem)
-      | inr new ↦ closed_extends env (env ++ d ∷ []) m a (new_one d proved new.0 new.1)
-    ]
+-- the same over more declarations, where more may be cited
+proved_extends : (env env' : List Declaration) → EnvExtends env env' → (P Q : ℕ → Type 0) → ((T : ℕ) → P T → Q T) → (a : Assertion)
+    → IsProvedBy (by_citing P) env a → IsProvedBy (by_citing Q) env' a
+proved_extends env env' m P Q wider a (bs, dummies, (d, cites, h)) = (
+  bs,
+  dummies_extend (sorts env) (sorts env') m.sorts_too bs dummies,
+  (
+    d,
+    cites_more (without_gaps P) (without_gaps Q) wider (λ none. none) d cites,
+    derives_extends env env' (a.params ++ bs) (a.params ++ bs) m (extends_itself _) a.hyps d a.conclusion h,
+  ),
+)
+
+axiom_extends : (env env' : List Declaration) → EnvExtends env env' → (T : ℕ) → IsAxiomIn env T → IsAxiomIn env' T
+axiom_extends env env' m T (a, at, is) = (a, m.assertions_too T a at, is)
+
+module _ (cited support : ℕ → ℕ → Type 0) where
+  -- what the T-th may rest on
+  abbrev Allowed : List Declaration → ℕ → ℕ → Type 0
+  Allowed env T A = support T A × IsAxiomIn env A
+
+  -- each theorem of the environment rests on its support
+  abbrev AreRested : List Declaration → Type 0
+  AreRested env = (T : ℕ) (a : Assertion) → slice_get (assertions env) T ≡ Some a → a.is_axiom ≡ false → IsProvedBy (by_citing (Allowed env T)) env a
+
+  allowed_extends : (env env' : List Declaration) → EnvExtends env env' → (T : ℕ) (a : Assertion) → IsProvedBy (by_citing (Allowed env T)) env a
+      → IsProvedBy (by_citing (Allowed env' T)) env' a
+  allowed_extends env env' m T a p = proved_extends env env' m (Allowed env T) (Allowed env' T) (λ A h. (h.0, axiom_extends env env' m A h.1)) a p
+
+  -- what the next theorem cites rests on its support
+  next_rests : (all env : List Declaration) → AreSupports all cited support → EnvExtends env all → AreRested env
+      → RestsOn env (cited (length (assertions env))) (Allowed env (length (assertions env)))
+  next_rests all env supports m rested = record {
+    axioms = λ T a at is may. (supports.axioms (length (assertions env)) T a (m.assertions_too T a at) is may, (a, at, is));
+    theorems = λ T a at is may. proved_extends env env (same_env env) (Allowed env T) (Allowed env (length (assertions env)))
+        (λ A h. (supports.theorems (length (assertions env)) T A a (m.assertions_too T a at) is may h.0, h.1)) a (rested T a at is);
+  }
+
+  rested_step : (env : List Declaration) (d : Declaration) → AreRested env → IsProvedIfTheorem (on_support support) env d → AreRested (env ++ d ∷ [])
+  rested_step env d rested proved T a at is_theorem =
+      elim (split_at (assertions env) (assertions (d ∷ [])) T a (subst (λ xs. slice_get xs T ≡ Some a) (assertions-append env (d ∷ [])) at)) [
+        | inl old ↦ allowed_extends env (env ++ d ∷ []) m T a (rested T a old is_theorem)
+        | inr new ↦ allowed_extends env (env ++ d ∷ []) m T a (new_one d proved new.0 new.1 new.2)
+      ]
+    where
+      m : EnvExtends env (env ++ d ∷ [])
+      m = env_extends_append env (d ∷ [])
+
+      new_one : (d' : Declaration) → IsProvedIfTheorem (on_support support) env d' → (j : ℕ) → T ≡ length (assertions env) + j
+          → slice_get (assertions (d' ∷ [])) j ≡ Some a → IsProvedBy (by_citing (Allowed env T)) env a
+      new_one (sort_decl _) p j e new = absurd (none_some new)
+      new_one (term_decl _) p j e new = absurd (none_some new)
+      new_one (assertion_decl a') p (suc j) e new = absurd (none_some new)
+      new_one (assertion_decl a') p zero e new =
+          let same : a' ≡ a = one_at refl new in
+          let place : length (assertions env) ≡ T = omega (arith, e) in
+          subst (λ n. IsProvedBy (by_citing (Allowed env n)) env a) place (subst (λ x. IsProvedIfTheorem (on_support support) env (assertion_decl x)) same p is_theorem)
+
+  supported_after : (all env : List Declaration) (list : List Statement) → AreSupports all cited support → all ≡ env ++ declarations list → RightEnv env → AreRested env
+      → LegalAfter (by_number cited) env list → LegalAfter (on_support support) env list
+  supported_after all env [] supports whole right rested h = tt
+  supported_after all env (s ∷ ss) supports whole right rested ((legal, mark, proved), rest) = (
+    (legal, mark, here),
+    supported_after all (env ++ s.decl ∷ []) ss supports (whole ∙ sym (append_assoc env (s.decl ∷ []) (declarations ss)))
+        (right_step env s.decl right legal) (rested_step env s.decl rested here) rest,
+  )
+    where
+      m : EnvExtends env all
+      m = subst (EnvExtends env) (sym whole) (env_extends_append env (declarations (s ∷ ss)))
+
+      by_decl : (d : Declaration) → IsLegalDecl env d → IsProvedIfTheorem (by_number cited) env d → IsProvedIfTheorem (on_support support) env d
+      by_decl (sort_decl _) l p = tt
+      by_decl (term_decl _) l p = tt
+      by_decl (assertion_decl a) l p = λ is_theorem. close_theorem env right (cited (length (assertions env))) (Allowed env (length (assertions env)))
+          (next_rests all env supports m rested) a l (p is_theorem)
+
+      here : IsProvedIfTheorem (on_support support) env s.decl
+      here = by_decl s.decl legal proved
+
+pub legal_by_supports : (list : List Statement) (cited support : ℕ → ℕ → Type 0) → AreSupports (declarations list) cited support
+    → LegalBy (by_number cited) list → LegalBy (on_support support) list
+legal_by_supports list cited support supports h =
+    supported_after cited support (declarations list) [] list supports refl
+    (record { terms_right = λ t d at. absurd (none_some at); assertions_right = λ t a at. absurd (none_some at) }) (λ T a at is. absurd (none_some at)) h
+
+-- what is allowed by one is by the other
+pub legal_by_more : (Q R : List Declaration → Derivation → Type 0) → ((env : List Declaration) (d : Derivation) → Q env d → R env d)
+    → (env : List Declaration) (list : List Statement) → LegalAfter Q env list → LegalAfter R env list
+legal_by_more Q R wider env [] h = tt
+legal_by_more Q R wider env (s ∷ ss) ((legal, mark, proved), rest) = ((legal, mark, by_decl s.decl proved), legal_by_more Q R wider (env ++ s.decl ∷ []) ss rest)
   where
-    m : EnvExtends env (env ++ d ∷ [])
-    m = env_extends_append env (d ∷ [])
+    by_decl : (d : Declaration) → IsProvedIfTheorem Q env d → IsProvedIfTheorem R env d
+    by_decl (sort_decl _) p = tt
+    by_decl (term_decl _) p = tt
+    by_decl (assertion_decl a) p = λ is_theorem. let (bs, dummies, (d, q, h)) = p is_theorem in (bs, dummies, (d, wider env d q, h))
 
-    new_one : (d' : Declaration) → IsProvedIfTheorem CitesAxioms env d' → (j : ℕ) → slice_get (assertions (d' ∷ [])) j ≡ Some a → IsClosed env a
-    new_one (sort_decl _) p j new = absurd (none_some new)
-    new_one (term_decl _) p j new = absurd (none_some new)
-    new_one (assertion_decl a') p zero new =
-        let same : a' ≡ a = one_at refl new in subst (λ x. IsProvedIfTheorem CitesAxioms env (assertion_decl x)) same p is_theorem
-    new_one (assertion_decl a') p (suc j) new = absurd (none_some new)
-
-closed_after : (env : List Declaration) (list : List Statement) → RightEnv env → AreClosed env
-    → LegalAfter gap_free env list → LegalAfter CitesAxioms env list
-closed_after env [] right closed h = tt
-closed_after env (s ∷ ss) right closed ((legal, mark, proved), rest) =
-    let here : IsProvedIfTheorem CitesAxioms env s.decl = closed_if_theorem env right closed s.decl legal proved in (
-      (legal, mark, here),
-      closed_after (env ++ s.decl ∷ []) ss (right_step env s.decl right legal) (closed_step env s.decl closed here) rest,
-    )
-
--- a legal list is one by citations of axioms alone
+-- a legal list is one by citations of axioms alone: where everything may be cited, each axiom is in the support
 pub legal_list_by_axioms : (list : List Statement) → Legal list → LegalBy CitesAxioms list
 legal_list_by_axioms list h =
-    closed_after [] list (record { terms_right = λ t d at. absurd (none_some at); assertions_right = λ t a at. absurd (none_some at) }) (λ T a at is. absurd (none_some at)) h
+    legal_by_more (on_support (λ T A. Unit {0})) CitesAxioms
+    (λ env d cites. cites_more (without_gaps (λ A. Unit {0} × IsAxiomIn env A)) (without_gaps (IsAxiomIn env)) (λ T k. k.1) (λ none. none) d cites) [] list
+    (legal_by_supports list (λ T U. Unit {0}) (λ T A. Unit {0}) (record { axioms = λ T U a at is may. tt; theorems = λ T U A a at is may on. tt }) h)
 
 -- ---- a list read statement by statement
 

@@ -13,6 +13,7 @@ pub mod Push
 pub mod Lookup
 pub mod Trees
 pub mod Scoped
+pub mod Bound
 pub mod Follow
 pub mod EightRules
 pub mod PlainLegality

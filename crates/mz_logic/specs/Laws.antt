@@ -1,5 +1,5 @@
 -- What follows from the definitions: the statements of the laws that `laws.rt` proves.
-use Rattle.std.specs.Prelude.{ℕ, ◌≡◌, ◌<◌, ◌↔◌, true, false, List, [], ◌++◌, All, Contains, length, slice_get, Some}
+use Rattle.std.specs.Prelude.{ℕ, ◌≡◌, ◌<◌, ◌↔◌, Bool, true, false, List, [], ◌++◌, All, Contains, length, slice_get, Some}
 use Rattle.std.specs.Int.{bit_at}
 use Rattle.mz_logic.specs.Tree.{Tree, Trees, operand, instance, instances}
 use Rattle.mz_logic.specs.Signature.{Signature}
@@ -11,7 +11,7 @@ use Rattle.mz_logic.specs.Legality.{Each, EachTree, IsDummy, AreParams, IsLegalD
 use Rattle.mz_logic.specs.Conversions.{Conversion, Between}
 use Rattle.mz_logic.specs.Derivations.{Derivation, Derives}
 use Rattle.mz_logic.specs.LegalLists.{Statement, Legal, LegalBy, declarations}
-use Rattle.mz_logic.specs.Closed.{CitesAxioms, TheoremsClosed}
+use Rattle.mz_logic.specs.Closed.{AreSupports, by_number, on_support, CitesAxioms, TheoremsClosed}
 use Rattle.mz_logic.specs.Words.{TermWords, word_bound, word_sort, word_deps, bound_places, binders_of, result_of}
 use Rattle.mz_logic.specs.declared.word.Word.{Word}
 use Rattle.mz_logic.specs.declared.binder.Binder.{Binder}
@@ -118,6 +118,13 @@ LegalListsAreLegalEnvs = (list : List Statement) → Legal list → IsLegalEnv (
 -- a list that is legal is so by derivations that cite axioms alone
 abbrev pub LegalByAxioms : Type 0
 LegalByAxioms = (list : List Statement) → Legal list → LegalBy CitesAxioms list
+
+-- A list that is legal by what each theorem cites is so by the axioms of the theorem's support. Tests say what is cited, and
+-- what is in a support.
+abbrev pub LegalBySupports : Type 0
+LegalBySupports = (list : List Statement) (cited support : ℕ → ℕ → Bool)
+    → AreSupports (declarations list) (λ T U. cited T U ≡ true) (λ T A. support T A ≡ true)
+    → LegalBy (by_number (λ T U. cited T U ≡ true)) list → LegalBy (on_support (λ T A. support T A ≡ true)) list
 
 -- each theorem of a legal list has a closed derivation over the statements before it
 abbrev pub LegalListsAreClosed : Type 0

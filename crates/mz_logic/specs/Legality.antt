@@ -100,6 +100,10 @@ IsParam ss params i b =
 abbrev pub AreParams : List SortMods → List Binder → Type 0
 AreParams ss params = Each params (IsParam ss params)
 
+-- regular variables depend on bound ones alone
+abbrev pub DependOnBound : List Binder → Type 0
+DependOnBound ctx = Each ctx (λ _ b. b.bound ≡ false → (x : ℕ) → Contains b.deps x → IsBoundAt ctx x)
+
 abbrev pub IsDummy : Binder → Type 0
 IsDummy b = (b.bound ≡ true) × (b.deps ≡ [])
 

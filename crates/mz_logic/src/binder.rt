@@ -1,6 +1,7 @@
 ghost use Rattle.std.specs.Prelude.{◌≡◌, ◌↔◌, ◌∷◌, [], ◌++◌, IsTrue, IfErr, OnOk, OnErr, length};
 ghost use Rattle.mz_logic.specs.Modifiers.{IsPure, IsStrict, IsProvable, IsFree};
 
+use crate::room::push_tightly;
 use std::alloc::{AllocError, AllocFailed, Global};
 use std::marker::Model;
 
@@ -146,7 +147,7 @@ impl Binders {
         ensures err { IfErr result (λ e. e.value ≡ binder) }
         ensures same { OnErr result (self.new ≡ self.old) }
     {
-        self.items.push(binder)
+        push_tightly(&mut self.items, binder)
     }
 
     /// How many there are.

@@ -25,22 +25,22 @@ fn are_all_apart(env: &Env, ctx: &Context, es: &Exprs, params: &[Binder]) -> boo
     requires many { length (listed es.now) ≡ length params.now }
     ensures { IsTrue result ↔ Apart ctx.now es.now params.now }
 {
-    for i in 0..params.len() {
-        if !is_apart_from_all(env, ctx, es, params, i) {
+    for j in 0..params.len() {
+        if params[j].bound && !are_apart_from(env, ctx, es, params, j) {
             return false;
         }
     }
     true
 }
 
-/// Whether the i-th operand is apart from each.
-fn is_apart_from_all(env: &Env, ctx: &Context, es: &Exprs, params: &[Binder], i: usize) -> bool
+/// Whether each operand is apart from the j-th.
+fn are_apart_from(env: &Env, ctx: &Context, es: &Exprs, params: &[Binder], j: usize) -> bool
     requires there { AllInRange (signatures env.now) (length ctx.now) es.now }
     requires many { length (listed es.now) ≡ length params.now }
-    requires within { i < length params.now }
-    ensures { IsTrue result ↔ ((j : ℕ) → ApartAt ctx.now es.now params.now i j) }
+    requires within { j < length params.now }
+    ensures { IsTrue result ↔ ((i : ℕ) → ApartAt ctx.now es.now params.now i j) }
 {
-    for j in 0..params.len() {
+    for i in 0..params.len() {
         if !is_apart_from(env, ctx, es, params, i, j) {
             return false;
         }

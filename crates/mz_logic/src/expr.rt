@@ -2,6 +2,7 @@ ghost use Rattle.std.specs.Prelude.{◌≡◌, ◌↔◌, length, option_map, sl
 ghost use Rattle.mz_logic.specs.Tree.{listed, operand, app, none, more, followed_by};
 ghost use Rattle.mz_logic.specs.View.{tree, trees};
 
+use crate::room::push_tightly;
 use std::alloc::{AllocError, AllocFailed, Global};
 use std::marker::Model;
 
@@ -72,6 +73,18 @@ impl Exprs {
         }
     }
 
+    /// No expressions, with room for so many.
+    ///
+    /// # Errors
+    ///
+    /// Where there is no memory.
+    pub fn with_capacity(alloc: Global, capacity: usize) -> Result<Exprs, AllocError>
+        ensures { IfOk result (λ es. es ≡ none) }
+    {
+        let items = Vec::with_capacity(alloc, capacity)?;
+        Ok(Exprs { items })
+    }
+
     /// The list of these expressions.
     pub fn from_vec(items: Vec<Expr>) -> Exprs
         ensures { result ≡ trees items.items }
@@ -89,7 +102,7 @@ impl Exprs {
         ensures err { IfErr result (λ e. e.value ≡ expr) }
         ensures same { OnErr result (self.new ≡ self.old) }
     {
-        self.items.push(expr)
+        push_tightly(&mut self.items, expr)
     }
 }
 
@@ -150,7 +163,7 @@ pub fn copy_of(alloc: Global, expr: &Expr) -> Result<Expr, AllocError>
 pub fn copies_of(alloc: Global, es: &Exprs) -> Result<Exprs, AllocError>
     ensures { IfOk result (λ copies. copies ≡ es.now) }
 {
-    let mut copies = Exprs::new(alloc);
+    let mut copies = Exprs::with_capacity(alloc, es.len())?;
     for e in es.as_slice() {
         let copy = copy_of(alloc, e)?;
         copies.push(copy)?;

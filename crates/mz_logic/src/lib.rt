@@ -13,6 +13,7 @@ mod env;
 mod examples;
 mod expr;
 mod laws;
+mod room;
 mod sorts;
 mod vars;
 mod word;
@@ -27,13 +28,16 @@ pub use examples::{
     definition_unfolds, dependencies_come_before, four_statements_are_legal,
     implication_is_derived, operands_are_apart,
 };
-pub use expr::{Expr, Exprs, copy_of, same_expr, same_exprs};
+pub use expr::{Expr, Exprs, copies_of, copy_of, same_expr, same_exprs};
 pub use laws::{
     conversions_keep_sorts, derived_is_provable, instances_have_what_is_put_in,
     instances_keep_sorts, instances_stay_apart, legal_declarations_are_sorted,
     legal_lists_are_closed, legal_lists_are_legal_envs, longer_ones_keep, sorts_are_unique,
     words_are_read_back, words_say_binders,
 };
+pub use room::push_tightly;
 pub use sorts::is_bound_var;
-pub use vars::{has_place, in_all_vars, in_free_tree, in_free_vars, in_tree, is_bound_at};
+pub use vars::{
+    free_vars_are_in, has_place, in_all_vars, in_free_tree, in_free_vars, in_tree, is_bound_at,
+};
 pub use word::{Terms, Word};

@@ -1,7 +1,7 @@
 ghost use Rattle.std.specs.Prelude.{◌≡◌, ◌↔◌, ℕ, ◌<◌, length, drop, Contains, IsTrue, true, false, ◌⊎◌};
 ghost use Rattle.mz_logic.specs.DeclView.{term_of};
 ghost use Rattle.mz_logic.specs.Declaration.{signatures};
-ghost use Rattle.mz_logic.specs.Legality.{InRange, AllInRange, Each, NamesThere, BindersRight, DepsRight};
+ghost use Rattle.mz_logic.specs.Legality.{InRange, AllInRange, DependOnBound, NamesThere, BindersRight, SortsRight, BoundRight, DepsRight};
 ghost use Rattle.mz_logic.specs.Sorts.{HasSort};
 ghost use Rattle.mz_logic.specs.Variables.{InV, InSomeV, InFV, InSomeFV, IsBoundAt, IsOperandAt, IsFreeOperand};
 ghost use Rattle.mz_logic.specs.Tree.{var, operand, listed};
@@ -183,7 +183,10 @@ fn is_variable(expr: &Expr, x: usize) -> bool
 
 /// Whether the result depends on each variable of FV of the body.
 pub fn body_deps_are_right(env: &Env, term: &TermDecl) -> bool
-    requires { NamesThere env.now (term_of term.now) }
+    requires names { NamesThere env.now (term_of term.now) }
+    requires binders { BindersRight env.now (term_of term.now) }
+    requires sorts { SortsRight env.now (term_of term.now) }
+    requires bound { BoundRight env.now (term_of term.now) }
     ensures { IsTrue result ↔ DepsRight env.now (term_of term.now) }
 {
     match term.form.body() {
@@ -193,15 +196,27 @@ pub fn body_deps_are_right(env: &Env, term: &TermDecl) -> bool
 }
 
 /// Whether the places hold all variables of FV of the expression.
-fn free_vars_are_in(env: &Env, ctx: &Context, expr: &Expr, places: &Deps) -> bool
-    requires there { InRange (signatures env.now) (length ctx.now) (tree expr.now) }
-    requires scoped { Each ctx.now (λ _ b. (x : ℕ) → Contains b.deps x → x < length ctx.now) }
+pub fn free_vars_are_in(env: &Env, ctx: &Context, expr: &Expr, places: &Deps) -> bool
+    requires sorted { (s : ℕ) × HasSort (signatures env.now) ctx.now (tree expr.now) s }
+    requires deps { DependOnBound ctx.now }
     ensures { IsTrue result ↔ ((x : ℕ) → InFV (signatures env.now) ctx.now x (tree expr.now) → Contains places.now x) }
 {
     for x in 0..ctx.len() {
-        if in_free_tree(env, ctx, expr, x) && !has_place(places, x) {
+        if is_free(env, ctx, expr, x) && !has_place(places, x) {
             return false;
         }
     }
     true
+}
+
+/// Whether `x` is in FV of the expression. Only bound variables can be, so no other is looked for.
+fn is_free(env: &Env, ctx: &Context, expr: &Expr, x: usize) -> bool
+    requires sorted { (s : ℕ) × HasSort (signatures env.now) ctx.now (tree expr.now) s }
+    requires deps { DependOnBound ctx.now }
+    ensures { IsTrue result ↔ InFV (signatures env.now) ctx.now x (tree expr.now) }
+{
+    if !ctx.is_bound(x) {
+        return false;
+    }
+    in_free_tree(env, ctx, expr, x)
 }

@@ -12,7 +12,7 @@ use Rattle.mz_cmd.specs.Codes.{proof_code}
 use Rattle.mz_cmd.specs.Reading.{first_command}
 use Rattle.mz_logic.specs.Tree.{Tree}
 use Rattle.mz_unify.specs.Steps.{◌>>=◌, Turn, over, goes_on, goes_to}
-use Rattle.mz_unify.specs.Profile.{strict}
+use Rattle.mz_unify.specs.Profile.{plain}
 use Rattle.mz_unify.specs.UnifyMachine.{is_empty}
 use Rattle.mz_unify.proofs.Turning.{command-long, drop-less}
 use Rattle.mz_machine.specs.Tables.{Tables, State, Kind, Heading}
@@ -41,13 +41,13 @@ some-left [] n h = absurd (omega (arith, h))
 some-left (x ∷ xs) zero h = refl
 some-left (x ∷ xs) (suc n) h = some-left xs n (omega (arith, h))
 
-module _ (T : Tables) (h : Heading) where
+module _ (gaps : Bool) (T : Tables) (h : Heading) where
   -- what is left of a body, at a place of the file
   abbrev pub left_run : ℕ → List ℕ → State Tree → Result (State Tree) (ℕ × K)
-  left_run at bytes st = body_from strict T h (length bytes) at bytes st
+  left_run at bytes st = body_from (plain gaps) T h (length bytes) at bytes st
 
   abbrev pub left_steps : ℕ → List ℕ → State Tree → ℕ
-  left_steps at bytes st = body_steps_from strict T h (length bytes) at bytes st
+  left_steps at bytes st = body_steps_from (plain gaps) T h (length bytes) at bytes st
 
   -- ---- a command that isn't read
 
@@ -63,7 +63,7 @@ module _ (T : Tables) (h : Heading) where
 
   -- ---- END
 
-  is-end : (c : Cmd) → c.code ≡ 0 → body_command strict h.kind c.code c.value ≡ Some ends
+  is-end : (c : Cmd) → c.code ≡ 0 → body_command (plain gaps) h.kind c.code c.value ≡ Some ends
   is-end c z = rw z refl
 
   module _ (at : ℕ) (c : Cmd) (st : State Tree) where
@@ -72,7 +72,7 @@ module _ (T : Tables) (h : Heading) where
     long-run [] e z more = absurd cc
     long-run (x ∷ xs) e z more = rw (e, is-end c z, more) refl
 
-    rest-steps : (rest : List ℕ) → is_empty rest ≡ false → command_steps strict T h rest st (Some ends) ≡ 0
+    rest-steps : (rest : List ℕ) → is_empty rest ≡ false → command_steps (plain gaps) T h rest st (Some ends) ≡ 0
     rest-steps [] more = absurd cc
     rest-steps (b ∷ bs) more = refl
 
@@ -85,12 +85,12 @@ module _ (T : Tables) (h : Heading) where
     long-steps [] e z more = absurd cc
     long-steps (x ∷ xs) e z more = rw (e, is-end c z, more, rest-steps (drop c.len (x ∷ xs)) more) refl
 
-    end-run : (bytes : List ℕ) (last : State Tree) → first_command bytes ≡ Ok c → c.code ≡ 0 → is_empty (drop c.len bytes) ≡ true → proof_end strict T h st ≡ Ok last → left_run at bytes st ≡ Ok last
+    end-run : (bytes : List ℕ) (last : State Tree) → first_command bytes ≡ Ok c → c.code ≡ 0 → is_empty (drop c.len bytes) ≡ true → proof_end (plain gaps) T h st ≡ Ok last → left_run at bytes st ≡ Ok last
     unfolding body_from
     end-run [] last e z none done = absurd cc
     end-run (x ∷ xs) last e z none done = rw (e, is-end c z, none, done) refl
 
-    end-stopped : (bytes : List ℕ) (d : K) → first_command bytes ≡ Ok c → c.code ≡ 0 → is_empty (drop c.len bytes) ≡ true → proof_end strict T h st ≡ Err d → left_run at bytes st ≡ Err (at, d)
+    end-stopped : (bytes : List ℕ) (d : K) → first_command bytes ≡ Ok c → c.code ≡ 0 → is_empty (drop c.len bytes) ≡ true → proof_end (plain gaps) T h st ≡ Err d → left_run at bytes st ≡ Err (at, d)
     unfolding body_from
     end-stopped [] d e z none done = absurd cc
     end-stopped (x ∷ xs) d e z none done = rw (e, is-end c z, none, done) refl
@@ -100,71 +100,71 @@ module _ (T : Tables) (h : Heading) where
     no-turn (Err d) f = refl
 
     end-steps : (bytes : List ℕ) → first_command bytes ≡ Ok c → c.code ≡ 0 → is_empty (drop c.len bytes) ≡ true
-        → left_steps at bytes st ≡ suc (match_steps strict T st (ends_with strict T h st))
+        → left_steps at bytes st ≡ suc (match_steps (plain gaps) T st (ends_with (plain gaps) T h st))
     unfolding body_steps_from
     end-steps [] e z none = absurd cc
     end-steps (x ∷ xs) e z none =
-        rw (e, is-end c z, rest-none (drop c.len (x ∷ xs)) none, no-turn (proof_end strict T h st) (λ len s. body_steps_from strict T h (length xs) (at + len) (drop len (x ∷ xs)) s)) (omega arith)
+        rw (e, is-end c z, rest-none (drop c.len (x ∷ xs)) none, no-turn (proof_end (plain gaps) T h st) (λ len s. body_steps_from (plain gaps) T h (length xs) (at + len) (drop len (x ∷ xs)) s)) (omega arith)
 
   -- ---- another command
 
-  not-ends : (kind : Kind) (value : ℕ) (o : Option ProofCode) → if_allowed strict kind value o ≡ Some ends → ⊥
+  not-ends : (kind : Kind) (value : ℕ) (o : Option ProofCode) → if_allowed (plain gaps) kind value o ≡ Some ends → ⊥
   not-ends kind value None e = cc
-  not-ends kind value (Some c) e = go (stands_in strict kind c) e
+  not-ends kind value (Some c) e = go (stands_in (plain gaps) kind c) e
     where
       go : (b : Bool) → (if b then Some (proves c value) else None) ≡ Some ends → ⊥
       go true e = cc
       go false e = cc
 
-  no-end : (c : Cmd) → (c.code ≡ 0 → ⊥) → body_command strict h.kind c.code c.value ≡ Some ends → ⊥
+  no-end : (c : Cmd) → (c.code ≡ 0 → ⊥) → body_command (plain gaps) h.kind c.code c.value ≡ Some ends → ⊥
   no-end c other = go (nat_eq c.code 0) refl
     where
-      go : (b : Bool) → nat_eq c.code 0 ≡ b → (if b then Some ends else if_allowed strict h.kind c.value (proof_code c.code)) ≡ Some ends → ⊥
+      go : (b : Bool) → nat_eq c.code 0 ≡ b → (if b then Some ends else if_allowed (plain gaps) h.kind c.value (proof_code c.code)) ≡ Some ends → ⊥
       go true is e = other (eqb-true _ _ is)
       go false is e = not-ends h.kind c.value (proof_code c.code) e
 
   by-row : (at len : ℕ) (rest : List ℕ) (st : State Tree) (u : Option BodyCommand) → (u ≡ Some ends → ⊥)
-      → body_turn_by strict T h at len rest st u ≡ (row_by T at st u >>= λ s. onward len s)
+      → body_turn_by (plain gaps) T h at len rest st u ≡ (row_by gaps T at st u >>= λ s. onward len s)
   by-row at len rest st None other = refl
   by-row at len rest st (Some ends) other = absurd (other refl)
   by-row at len rest st (Some (proves c value)) other = refl
 
-  by-steps : (rest : List ℕ) (st : State Tree) (u : Option BodyCommand) → (u ≡ Some ends → ⊥) → command_steps strict T h rest st u ≡ steps_by T st u
+  by-steps : (rest : List ℕ) (st : State Tree) (u : Option BodyCommand) → (u ≡ Some ends → ⊥) → command_steps (plain gaps) T h rest st u ≡ steps_by gaps T st u
   by-steps rest st None other = refl
   by-steps rest st (Some ends) other = absurd (other refl)
   by-steps rest st (Some (proves c value)) other = refl
 
   module _ (at : ℕ) (c : Cmd) (st : State Tree) (other : c.code ≡ 0 → ⊥) where
-    turned : (bytes : List ℕ) → body_turn strict T h at bytes st (Ok c) ≡ (row_of T h at st c >>= λ s. onward c.len s)
-    turned bytes = by-row at c.len (drop c.len bytes) st (body_command strict h.kind c.code c.value) (no-end c other)
+    turned : (bytes : List ℕ) → body_turn (plain gaps) T h at bytes st (Ok c) ≡ (row_of gaps T h at st c >>= λ s. onward c.len s)
+    turned bytes = by-row at c.len (drop c.len bytes) st (body_command (plain gaps) h.kind c.code c.value) (no-end c other)
 
-    counted : (bytes : List ℕ) → command_steps strict T h (drop c.len bytes) st (body_command strict h.kind c.code c.value) ≡ steps_for T h st c
-    counted bytes = by-steps (drop c.len bytes) st (body_command strict h.kind c.code c.value) (no-end c other)
+    counted : (bytes : List ℕ) → command_steps (plain gaps) T h (drop c.len bytes) st (body_command (plain gaps) h.kind c.code c.value) ≡ steps_for gaps T h st c
+    counted bytes = by-steps (drop c.len bytes) st (body_command (plain gaps) h.kind c.code c.value) (no-end c other)
 
-    stopped-run : (bytes : List ℕ) (d : K) → first_command bytes ≡ Ok c → row_of T h at st c ≡ Err d → left_run at bytes st ≡ Err (at, d)
+    stopped-run : (bytes : List ℕ) (d : K) → first_command bytes ≡ Ok c → row_of gaps T h at st c ≡ Err d → left_run at bytes st ≡ Err (at, d)
     unfolding body_from
     stopped-run [] d e row = absurd cc
     stopped-run (x ∷ xs) d e row = rw (e, turned (x ∷ xs), row) refl
 
-    stopped-steps : (bytes : List ℕ) (d : K) → first_command bytes ≡ Ok c → row_of T h at st c ≡ Err d → left_steps at bytes st ≡ steps_for T h st c
+    stopped-steps : (bytes : List ℕ) (d : K) → first_command bytes ≡ Ok c → row_of gaps T h at st c ≡ Err d → left_steps at bytes st ≡ steps_for gaps T h st c
     unfolding body_steps_from
     stopped-steps [] d e row = absurd cc
     stopped-steps (x ∷ xs) d e row = rw (e, turned (x ∷ xs), row, counted (x ∷ xs)) (omega arith)
 
-    went-run : (bytes : List ℕ) (s : State Tree) → first_command bytes ≡ Ok c → row_of T h at st c ≡ Ok s → left_run at bytes st ≡ left_run (at + c.len) (drop c.len bytes) s
+    went-run : (bytes : List ℕ) (s : State Tree) → first_command bytes ≡ Ok c → row_of gaps T h at st c ≡ Ok s → left_run at bytes st ≡ left_run (at + c.len) (drop c.len bytes) s
     unfolding body_from
     went-run [] s e row = absurd cc
     went-run (x ∷ xs) s e row =
         let (one, within) = command-long (x ∷ xs) c e in
-        rw (e, turned (x ∷ xs), row) (bound-never-ends strict T h (length xs) (at + c.len) (drop c.len (x ∷ xs)) s (drop-less (x ∷ xs) c.len (length xs) one (omega arith)))
+        rw (e, turned (x ∷ xs), row) (bound-never-ends (plain gaps) T h (length xs) (at + c.len) (drop c.len (x ∷ xs)) s (drop-less (x ∷ xs) c.len (length xs) one (omega arith)))
 
-    went-steps : (bytes : List ℕ) (s : State Tree) → first_command bytes ≡ Ok c → row_of T h at st c ≡ Ok s
-        → left_steps at bytes st ≡ steps_for T h st c + left_steps (at + c.len) (drop c.len bytes) s
+    went-steps : (bytes : List ℕ) (s : State Tree) → first_command bytes ≡ Ok c → row_of gaps T h at st c ≡ Ok s
+        → left_steps at bytes st ≡ steps_for gaps T h st c + left_steps (at + c.len) (drop c.len bytes) s
     unfolding body_steps_from
     went-steps [] s e row = absurd cc
     went-steps (x ∷ xs) s e row =
         let (one, within) = command-long (x ∷ xs) c e in
-        rw (e, turned (x ∷ xs), row, counted (x ∷ xs)) (ap (λ n. steps_for T h st c + n) (count-is-whole strict T h (length xs) (at + c.len) (drop c.len (x ∷ xs)) s (drop-less (x ∷ xs) c.len (length xs) one (omega arith))))
+        rw (e, turned (x ∷ xs), row, counted (x ∷ xs)) (ap (λ n. steps_for gaps T h st c + n) (count-is-whole (plain gaps) T h (length xs) (at + c.len) (drop c.len (x ∷ xs)) s (drop-less (x ∷ xs) c.len (length xs) one (omega arith))))
 
   -- ---- underway
 
@@ -192,23 +192,23 @@ module _ (T : Tables) (h : Heading) where
       long-whole z more =
           (on.0 ∙ long-run (base + at) c st (drop at bytes) e z more, let none = long-steps (base + at) c st (drop at bytes) e z more in let all = on.1 in omega (arith, none, all))
 
-      pub end-whole : (last : State Tree) → c.code ≡ 0 → is_empty (drop c.len (drop at bytes)) ≡ true → proof_end strict T h st ≡ Ok last → whole ≡ Ok last
+      pub end-whole : (last : State Tree) → c.code ≡ 0 → is_empty (drop c.len (drop at bytes)) ≡ true → proof_end (plain gaps) T h st ≡ Ok last → whole ≡ Ok last
       end-whole last z none done = on.0 ∙ end-run (base + at) c st (drop at bytes) last e z none done
 
-      pub end-refused : (d : K) → c.code ≡ 0 → is_empty (drop c.len (drop at bytes)) ≡ true → proof_end strict T h st ≡ Err d → whole ≡ Err (base + at, d)
+      pub end-refused : (d : K) → c.code ≡ 0 → is_empty (drop c.len (drop at bytes)) ≡ true → proof_end (plain gaps) T h st ≡ Err d → whole ≡ Err (base + at, d)
       end-refused d z none done = on.0 ∙ end-stopped (base + at) c st (drop at bytes) d e z none done
 
-      pub end-many : (later : ℕ) → c.code ≡ 0 → is_empty (drop c.len (drop at bytes)) ≡ true → later ≡ steps + suc (match_steps strict T st (ends_with strict T h st)) → later ≡ first + many
+      pub end-many : (later : ℕ) → c.code ≡ 0 → is_empty (drop c.len (drop at bytes)) ≡ true → later ≡ steps + suc (match_steps (plain gaps) T st (ends_with (plain gaps) T h st)) → later ≡ first + many
       end-many later z none is = let one = end-steps (base + at) c st (drop at bytes) e z none in let all = on.1 in omega (arith, one, all, is)
 
       module _ (other : c.code ≡ 0 → ⊥) where
-        pub refused-whole : (d : K) → row_of T h (base + at) st c ≡ Err d → whole ≡ Err (base + at, d)
+        pub refused-whole : (d : K) → row_of gaps T h (base + at) st c ≡ Err d → whole ≡ Err (base + at, d)
         refused-whole d row = on.0 ∙ stopped-run (base + at) c st other (drop at bytes) d e row
 
-        pub refused-many : (d : K) (later : ℕ) → row_of T h (base + at) st c ≡ Err d → later ≡ steps + steps_for T h st c → later ≡ first + many
+        pub refused-many : (d : K) (later : ℕ) → row_of gaps T h (base + at) st c ≡ Err d → later ≡ steps + steps_for gaps T h st c → later ≡ first + many
         refused-many d later row is = let one = stopped-steps (base + at) c st other (drop at bytes) d e row in let all = on.1 in omega (arith, one, all, is)
 
-        pub goes-on : (s : State Tree) (later : ℕ) → row_of T h (base + at) st c ≡ Ok s → later ≡ steps + steps_for T h st c → IsUnderway base bytes start first (at + c.len) s later
+        pub goes-on : (s : State Tree) (later : ℕ) → row_of gaps T h (base + at) st c ≡ Ok s → later ≡ steps + steps_for gaps T h st c → IsUnderway base bytes start first (at + c.len) s later
         goes-on s later row is =
             let run = went-run (base + at) c st other (drop at bytes) s e row in
             let count = went-steps (base + at) c st other (drop at bytes) s e row in

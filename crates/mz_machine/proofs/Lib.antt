@@ -1,6 +1,8 @@
 pub mod Outcomes
 pub mod BodyRuns
 pub mod PlainRows
+pub mod GapRows
+pub mod GapWalk
 pub mod Stacks
 pub mod Declared
 pub mod Operands

@@ -63,7 +63,7 @@ allowed-plain : (gaps : Bool) (kind : Kind) (value : ℕ) (o : Option ProofCode)
 allowed-plain gaps kind value None = refl
 allowed-plain gaps kind value (Some c) = ap (λ (b : Bool). cond b (Some (proves c value)) None) (stands-plain gaps kind c)
 
-command-plain : (gaps : Bool) (kind : Kind) (byte value : ℕ) → body_command (plain gaps) kind byte value ≡ body_command strict kind byte value
+pub command-plain : (gaps : Bool) (kind : Kind) (byte value : ℕ) → body_command (plain gaps) kind byte value ≡ body_command strict kind byte value
 command-plain gaps kind byte value = ap (λ (o : Option BodyCommand). cond (eqb byte 0x00) (Some ends) o) (allowed-plain gaps kind value (proof_code byte))
 
 module _ (gaps : Bool) (tables : Tables) (h : Heading) where

@@ -4,7 +4,7 @@ use Rattle.mz_cmd.specs.declared.rule.K.{K}
 use Rattle.mz_cmd.specs.declared.rule.K.TheVariants as k
 use Rattle.mz_logic.specs.declared.binder.Binder.{Binder}
 use Rattle.mz_logic.specs.declared.binder.ResultType.{ResultType}
-use Rattle.mz_unify.specs.Profile.{strict}
+use Rattle.mz_unify.specs.Profile.{strict, draft}
 use Rattle.mz_unify.specs.Spells.{TermRow, ThmRow}
 use Rattle.mz_machine.specs.Tables.{Tables, is_axiom, is_theorem, is_definition, Heading}
 use Rattle.mz_machine.specs.Bodies.{body_run}
@@ -16,6 +16,10 @@ outcome (Err f) = Some f
 
 abbrev pub verdict : Tables → Heading → ℕ → List ℕ → Option (ℕ × K)
 verdict tables h at bytes = outcome (body_run strict tables h at bytes)
+
+-- the same in a draft
+abbrev pub draft_verdict : Tables → Heading → ℕ → List ℕ → Option (ℕ × K)
+draft_verdict tables h at bytes = outcome (body_run draft tables h at bytes)
 
 abbrev pub regular : ℕ → List ℕ → Binder
 regular = λ s deps. record { sort = s; bound = false; deps = deps }
@@ -175,6 +179,17 @@ FiftyFive =
 abbrev pub Gap : Type 0
 Gap =
     (verdict (before_fold) (theorem_body (regular 0 [] ∷ []) fold_stream) 140 (0x12 ∷ 0x10 ∷ 0x10 ∷ 0x16 ∷ 0x12 ∷ 0x50 ∷ 0x01 ∷ 0x52 ∷ 0x01 ∷ 0x17 ∷ 0x12 ∷ 0x50 ∷ 0x01 ∷ 0x12 ∷ 0x10 ∷ 0x10 ∷ 0x1B ∷ 0x20 ∷ 0x00 ∷ []) ≡ Some (157, k.Sorry))
+
+-- In a draft it is let through: in place of a conversion, and of a proof. Nothing is left for it, a proof is no claim; a
+-- claim has a provable sort, and the sides of an obligation have one sort.
+abbrev pub GapsOfDrafts : Type 0
+GapsOfDrafts =
+    (draft_verdict (before_fold) (theorem_body (regular 0 [] ∷ []) fold_stream) 140 (0x12 ∷ 0x10 ∷ 0x10 ∷ 0x16 ∷ 0x12 ∷ 0x50 ∷ 0x01 ∷ 0x52 ∷ 0x01 ∷ 0x17 ∷ 0x12 ∷ 0x50 ∷ 0x01 ∷ 0x12 ∷ 0x10 ∷ 0x10 ∷ 0x1B ∷ 0x20 ∷ 0x00 ∷ []) ≡ None)
+    × (draft_verdict (before_fold) (theorem_body (regular 0 [] ∷ []) fold_stream) 140 (0x12 ∷ 0x10 ∷ 0x10 ∷ 0x16 ∷ 0x12 ∷ 0x50 ∷ 0x01 ∷ 0x20 ∷ 0x00 ∷ []) ≡ None)
+    × (draft_verdict (before_fold) (theorem_body (regular 0 [] ∷ []) fold_stream) 140 (0x20 ∷ 0x00 ∷ []) ≡ Some (140, k.Underflow))
+    × (draft_verdict (before_fold) (theorem_body (regular 0 [] ∷ []) fold_stream) 140 (0x12 ∷ 0x10 ∷ 0x10 ∷ 0x16 ∷ 0x12 ∷ 0x50 ∷ 0x01 ∷ 0x20 ∷ 0x20 ∷ 0x00 ∷ []) ≡ Some (148, k.Kind))
+    × (draft_verdict (before_gen (0 ∷ [])) (theorem_body (bound 1 ∷ regular 0 (0 ∷ []) ∷ []) gen_stream) 162 (0x12 ∷ 0x20 ∷ 0x00 ∷ []) ≡ Some (163, k.NotProvable))
+    × (draft_verdict (before_gen (0 ∷ [])) (theorem_body (bound 1 ∷ regular 0 (0 ∷ []) ∷ []) gen_stream) 162 (0x52 ∷ 0x01 ∷ 0x16 ∷ 0x12 ∷ 0x52 ∷ 0x02 ∷ 0x17 ∷ 0x20 ∷ 0x00 ∷ []) ≡ Some (169, k.Sorry))
 
 -- Refl in an axiom
 abbrev pub OfAnotherBody : Type 0

@@ -1,4 +1,5 @@
--- Soundness of bodies: what a body that runs makes of its row.
+-- Soundness of bodies: what a body that runs makes of its row (documents of the .mmb format, on proof
+-- streams; Carneiro, the rules of derivation and conversion).
 use Rattle.std.specs.Prelude.{◌≡◌, ℕ, zero, suc, ◌<◌, ◌⊎◌, Bool, true, false, List, length, drop, All, Some, Ok}
 use Rattle.mz_cmd.specs.declared.command.Cmd.{Cmd}
 use Rattle.mz_cmd.specs.declared.code.ProofCode.{ProofCode}

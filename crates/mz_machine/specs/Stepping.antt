@@ -1,8 +1,9 @@
 -- What a machine answers to a command, and to the END.
-use Rattle.std.specs.Prelude.{◌≡◌, ℕ, ⊤, ◌+◌, ◌≤◌, List, length, map, Ok, Err}
+use Rattle.std.specs.Prelude.{◌≡◌, ℕ, ⊤, ◌+◌, ◌≤◌, ◌||◌, Bool, false, List, length, map, Ok, Err}
 use Rattle.std.specs.List.{range_with_len}
 use Rattle.mz_cmd.specs.declared.command.Cmd.{Cmd}
-use Rattle.mz_unify.specs.Profile.{strict}
+use Rattle.mz_cmd.specs.Codes.{proof_code}
+use Rattle.mz_unify.specs.Profile.{plain}
 use Rattle.mz_logic.specs.Tree.{Tree}
 use Rattle.mz_logic.specs.declared.word.Word.{Word}
 use Rattle.mz_layout.specs.Tables.{term_row, thm_row}
@@ -12,7 +13,7 @@ use Rattle.mz_machine.specs.Tables.{State, Kind, is_axiom, is_theorem, is_defini
 use Rattle.mz_machine.specs.ProofMachine.{proof_end}
 use Rattle.mz_machine.specs.Bodies.{body_command, body_start}
 use Rattle.mz_machine.specs.Before.{heading_of}
-use Rattle.mz_machine.specs.Steps.{Underway, tables_for, heading_for, row_of, TakesNone}
+use Rattle.mz_machine.specs.Steps.{Underway, tables_for, heading_for, row_of, is_sorry, TakesNone}
 use Rattle.mz_machine.specs.BodyAnswers.{CountsOf}
 use Rattle.mz_machine.specs.declared.earlier.Rows.{Rows}
 use Rattle.mz_machine.specs.declared.machine.Stepped.{Stepped}
@@ -35,29 +36,33 @@ abbrev pub first_items : ℕ → List Kept
 first_items n = map (λ i. Expr (record { 0 = i })) (range_with_len 0 n)
 
 -- the machine before the first command
-pub record IsBegun (file : List ℕ) (kind row : ℕ) (before : Rows) (u : Underway) : Type 0 where
+pub record IsBegun (gaps : Bool) (file : List ℕ) (kind row : ℕ) (before : Rows) (u : Underway) : Type 0 where
+  pub gaps_are : u.gaps ≡ gaps
   pub file_is : u.file ≡ file
   pub kind_is : u.kind ≡ kind
   pub row_is : u.row ≡ row
   pub before_is : u.before ≡ before
-  pub state : u.state ≡ body_start strict (heading_of file kind row)
+  pub state : u.state ≡ body_start (plain gaps) (heading_of file kind row)
+  pub no_gap : u.sorry ≡ false
   pub nodes : u.nodes ≡ length (heading_of file kind row).params
 
 -- ---- a command
 
--- the same body, with at most one expression more in the store
-pub record GoesOn (u after : Underway) : Type 0 where
+-- the same body, with at most one expression more in the store; a gap was left before or is left now
+pub record GoesOn (u : Underway) (c : Cmd) (after : Underway) : Type 0 where
+  pub gaps : after.gaps ≡ u.gaps
   pub file : after.file ≡ u.file
   pub kind : after.kind ≡ u.kind
   pub row : after.row ≡ u.row
   pub before : after.before ≡ u.before
+  pub sorry : after.sorry ≡ (u.sorry || is_sorry (proof_code c.code))
   pub nodes : after.nodes ≤ u.nodes + 1
 
 -- what a command leads to, its place being `at`; want of memory comes only where memory is taken
 abbrev pub IsStepped : Underway → Cmd → ℕ → Stepped → Type 0
-IsStepped u c at (stepped.Machine after) = (row_of (tables_for u) (heading_for u) at u.state c ≡ Ok after.state) × GoesOn u after
-IsStepped u c at (stepped.Refused rule) = row_of (tables_for u) (heading_for u) at u.state c ≡ Err rule
-IsStepped u c at stepped.Mem = TakesNone u.state (body_command strict (heading_for u).kind c.code c.value) → ⊥
+IsStepped u c at (stepped.Machine after) = (row_of u.gaps (tables_for u) (heading_for u) at u.state c ≡ Ok after.state) × GoesOn u c after
+IsStepped u c at (stepped.Refused rule) = row_of u.gaps (tables_for u) (heading_for u) at u.state c ≡ Err rule
+IsStepped u c at stepped.Mem = TakesNone u.state (body_command (plain u.gaps) (heading_for u).kind c.code c.value) → ⊥
 
 -- it isn't want of memory, and this holds; or it is
 abbrev pub UnlessMem : Stepped → Type 0 → Type 0
@@ -69,8 +74,8 @@ UnlessMem stepped.Mem P = ⊤
 
 -- what the END leads to; want of memory says nothing
 abbrev pub IsFinished : Underway → Finished → Type 0
-IsFinished u (finished.Body end) = (last : State Tree) × (proof_end strict (tables_for u) (heading_for u) u.state ≡ Ok last) × CountsOf (heading_for u) last end
-IsFinished u (finished.Refused rule) = proof_end strict (tables_for u) (heading_for u) u.state ≡ Err rule
+IsFinished u (finished.Body end) = (last : State Tree) × (proof_end (plain u.gaps) (tables_for u) (heading_for u) u.state ≡ Ok last) × CountsOf (heading_for u) last end × (end.sorry ≡ u.sorry)
+IsFinished u (finished.Refused rule) = proof_end (plain u.gaps) (tables_for u) (heading_for u) u.state ≡ Err rule
 IsFinished u finished.Mem = ⊤
 
 abbrev pub UnlessEndMem : Finished → Type 0 → Type 0

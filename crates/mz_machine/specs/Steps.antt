@@ -6,7 +6,7 @@ use Rattle.mz_cmd.specs.declared.command.Cmd.{Cmd}
 use Rattle.mz_cmd.specs.declared.code.ProofCode.{ProofCode}
 use Rattle.mz_cmd.specs.declared.code.ProofCode.TheVariants as code
 use Rattle.mz_logic.specs.Tree.{Tree}
-use Rattle.mz_unify.specs.Profile.{strict, Item}
+use Rattle.mz_unify.specs.Profile.{plain, Item}
 use Rattle.mz_machine.specs.Tables.{Tables, State, Heading}
 use Rattle.mz_machine.specs.Premises.{is_conversion}
 use Rattle.mz_machine.specs.ProofMachine.{proof_row, ends_with}
@@ -14,14 +14,16 @@ use Rattle.mz_machine.specs.Bodies.{BodyCommand, ends, proves, body_command, row
 use Rattle.mz_machine.specs.Before.{heading_of, tables_before}
 use Rattle.mz_machine.specs.declared.earlier.Rows.{Rows}
 
--- a machine between two commands: the file, the statement whose body runs with the rows before it, the state, and how
--- many expressions its store holds
+-- a machine between two commands: whether gaps are let through, the file, the statement whose body runs with the rows
+-- before it, the state, whether a gap was left, and how many expressions its store holds
 pub record Underway : Type 0 where
+  pub gaps : Bool
   pub file : List ℕ
   pub kind : ℕ
   pub row : ℕ
   pub before : Rows
   pub state : State Tree
+  pub sorry : Bool
   pub nodes : ℕ
 
 abbrev pub tables_for : Underway → Tables
@@ -33,26 +35,32 @@ heading_for u = heading_of u.file u.kind u.row
 -- ---- one command
 
 -- the row of a command other than END; one that is not of this body has none
-abbrev pub row_by : Tables → ℕ → State Tree → Option BodyCommand → Result (State Tree) K
-row_by tables at st None = Err k.Command
-row_by tables at st (Some ends) = Err k.Command
-row_by tables at st (Some (proves c value)) = proof_row strict tables at c value st
+abbrev pub row_by : Bool → Tables → ℕ → State Tree → Option BodyCommand → Result (State Tree) K
+row_by gaps tables at st None = Err k.Command
+row_by gaps tables at st (Some ends) = Err k.Command
+row_by gaps tables at st (Some (proves c value)) = proof_row (plain gaps) tables at c value st
 
-abbrev pub row_of : Tables → Heading → ℕ → State Tree → Cmd → Result (State Tree) K
-row_of tables h at st c = row_by tables at st (body_command strict h.kind c.code c.value)
+abbrev pub row_of : Bool → Tables → Heading → ℕ → State Tree → Cmd → Result (State Tree) K
+row_of gaps tables h at st c = row_by gaps tables at st (body_command (plain gaps) h.kind c.code c.value)
+
+-- it is Sorry, which leaves a gap
+abbrev pub is_sorry : Option ProofCode → Bool
+is_sorry None = false
+is_sorry (Some code.Sorry) = true
+is_sorry (Some c) = false
 
 -- it and the unify commands that it executes
-abbrev pub steps_by : Tables → State Tree → Option BodyCommand → ℕ
-steps_by tables st None = 1
-steps_by tables st (Some ends) = 1
-steps_by tables st (Some (proves c value)) = suc (row_steps strict tables c value st)
+abbrev pub steps_by : Bool → Tables → State Tree → Option BodyCommand → ℕ
+steps_by gaps tables st None = 1
+steps_by gaps tables st (Some ends) = 1
+steps_by gaps tables st (Some (proves c value)) = suc (row_steps (plain gaps) tables c value st)
 
-abbrev pub steps_for : Tables → Heading → State Tree → Cmd → ℕ
-steps_for tables h st c = steps_by tables st (body_command strict h.kind c.code c.value)
+abbrev pub steps_for : Bool → Tables → Heading → State Tree → Cmd → ℕ
+steps_for gaps tables h st c = steps_by gaps tables st (body_command (plain gaps) h.kind c.code c.value)
 
 -- the END, and the commands of the row's own stream that it executes
-abbrev pub end_steps : Tables → Heading → State Tree → ℕ
-end_steps tables h st = suc (match_steps strict tables st (ends_with strict tables h st))
+abbrev pub end_steps : Bool → Tables → Heading → State Tree → ℕ
+end_steps gaps tables h st = suc (match_steps (plain gaps) tables st (ends_with (plain gaps) tables h st))
 
 -- ---- commands that take no memory
 

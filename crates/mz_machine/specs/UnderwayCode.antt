@@ -1,6 +1,6 @@
 -- How a machine's value is stored as data.
-use Rattle.std.specs.Prelude.{ℕ, zero, suc, ◌≡◌, List, refl}
-use Rattle.std.specs.Coded.{Coded, code_by, coded×, coded_ℕ, coded_list}
+use Rattle.std.specs.Prelude.{ℕ, zero, suc, ◌≡◌, Bool, List, refl}
+use Rattle.std.specs.Coded.{Coded, code_by, coded×, coded_ℕ, coded_bool, coded_list}
 use Rattle.mz_logic.specs.Tree.{Tree}
 use Rattle.mz_logic.specs.Codes.{tree_code, binder_code}
 use Rattle.mz_logic.specs.declared.binder.Binder.{Binder}
@@ -41,6 +41,6 @@ abbrev pub rows_code : Coded Rows
 rows_code = code_by (ℕ × (ℕ × ℕ)) (coded× coded_ℕ (coded× coded_ℕ coded_ℕ)) (λ r. (r.sorts, (r.terms, r.thms))) (λ p. record { sorts = p.0; terms = p.1.0; thms = p.1.1 }) (λ _. refl)
 
 abbrev pub underway_code : Coded Underway
-underway_code = code_by (List ℕ × (ℕ × (ℕ × (Rows × (State Tree × ℕ))))) (coded× (coded_list coded_ℕ) (coded× coded_ℕ (coded× coded_ℕ (coded× rows_code (coded× state_code coded_ℕ)))))
-    (λ u. (u.file, (u.kind, (u.row, (u.before, (u.state, u.nodes))))))
-    (λ p. record { file = p.0; kind = p.1.0; row = p.1.1.0; before = p.1.1.1.0; state = p.1.1.1.1.0; nodes = p.1.1.1.1.1 }) (λ _. refl)
+underway_code = code_by (Bool × (List ℕ × (ℕ × (ℕ × (Rows × (State Tree × (Bool × ℕ))))))) (coded× coded_bool (coded× (coded_list coded_ℕ) (coded× coded_ℕ (coded× coded_ℕ (coded× rows_code (coded× state_code (coded× coded_bool coded_ℕ)))))))
+    (λ u. (u.gaps, (u.file, (u.kind, (u.row, (u.before, (u.state, (u.sorry, u.nodes))))))))
+    (λ p. record { gaps = p.0; file = p.1.0; kind = p.1.1.0; row = p.1.1.1.0; before = p.1.1.1.1.0; state = p.1.1.1.1.1.0; sorry = p.1.1.1.1.1.1.0; nodes = p.1.1.1.1.1.1.1 }) (λ _. refl)

@@ -1,6 +1,7 @@
 //! A whole body, read in place.
-ghost use Rattle.std.specs.Prelude.{◌≡◌, ◌≤◌, ◌<◌, ◌^◌, ◌+◌, ◌-◌, ◌*◌, length};
-ghost use Rattle.mz_unify.specs.Profile.{strict};
+ghost use Rattle.std.specs.Prelude.{◌≡◌, ◌≤◌, ◌<◌, ◌^◌, ◌+◌, ◌-◌, ◌*◌, false, length};
+ghost use Rattle.mz_mode.specs.Gaps.{gaps_of};
+ghost use Rattle.mz_unify.specs.Profile.{plain};
 ghost use Rattle.mz_machine.specs.Bodies.{body_run, body_steps, body_from, body_steps_from};
 ghost use Rattle.mz_machine.specs.Steps.{heading_for, tables_for};
 ghost use Rattle.mz_machine.specs.FileRows.{body_bytes};
@@ -12,6 +13,7 @@ use crate::earlier::Rows;
 use crate::machine::{Finished, Machine, Stepped};
 use mz_cmd::{END, K, Steps, cmd_at};
 use mz_layout::Mmb;
+use mz_mode::Mode;
 use std::alloc::Global;
 use std::sync::ledger::Ledger;
 
@@ -22,6 +24,8 @@ pub struct BodyEnd {
     pub hyps: u32,
     /// How many dummies, each by a `Dummy`.
     pub dummies: u32,
+    /// Whether it has left a gap, by a `Sorry`: never where gaps aren't let through.
+    pub sorry: bool,
 }
 
 /// What became of a body.
@@ -39,12 +43,14 @@ pub enum BodyChecked {
 /// second. The statement has this kind, 02 for an axiom, 05 for a definition and 06 for a theorem;
 /// `row` is the next row of its table, and `before` counts the rows that were declared before.
 ///
-/// The words of the row and of those before it are right. A step is counted for each command that
+/// The words of the row and of those before it are right. In a draft the body may leave gaps. A step
+/// is counted for each command that
 /// is executed, of the body and of the streams that it runs, up to the END or the one that is
 /// refused; never more than one for each byte of the body and of a stream at each.
 pub fn check_body<L: Ledger>(
     alloc: Global,
     mmb: &Mmb,
+    mode: Mode,
     kind: u8,
     row: u32,
     before: Rows,
@@ -54,11 +60,11 @@ pub fn check_body<L: Ledger>(
     requires may_run { MayRun mmb.now kind row before }
     requires order { body.0 ≤ body.1 }
     requires within { body.1 ≤ length mmb.now }
-    ensures run { IsBodyRun (heading_of mmb.now kind row) (body_run strict (tables_before mmb.now before) (heading_of mmb.now kind row) body.0 (body_bytes mmb.now body.0 body.1)) result }
+    ensures run { IsBodyRun (heading_of mmb.now kind row) (body_bytes mmb.now body.0 body.1) (body_run (plain (gaps_of mode)) (tables_before mmb.now before) (heading_of mmb.now kind row) body.0 (body_bytes mmb.now body.0 body.1)) result }
     ensures most { steps.new ≤ steps.old + (body.1 - body.0) * (length mmb.now + 1) }
-    ensures steps { UnlessMem result (steps.new ≡ steps.old + body_steps strict (tables_before mmb.now before) (heading_of mmb.now kind row) body.0 (body_bytes mmb.now body.0 body.1)) }
+    ensures steps { UnlessMem result (steps.new ≡ steps.old + body_steps (plain (gaps_of mode)) (tables_before mmb.now before) (heading_of mmb.now kind row) body.0 (body_bytes mmb.now body.0 body.1)) }
 {
-    let Ok(machine) = Machine::begin(alloc, mmb, kind, row, before) else {
+    let Ok(machine) = Machine::begin(alloc, mmb, mode, kind, row, before) else {
         return BodyChecked::Mem;
     };
     let bytes = &mmb.file()[body.0 as usize..body.1 as usize];
@@ -68,8 +74,9 @@ pub fn check_body<L: Ledger>(
 /// Runs the commands of a body, whose first byte stands at a place of the file.
 fn run<L: Ledger>(start: Machine, bytes: &[u8], from: u32, steps: &mut Steps<L>) -> BodyChecked
     requires within { from + length bytes.now < 2 ^ 32 }
-    ensures run { IsBodyRun (heading_for start.entry) (body_from strict (tables_for start.entry) (heading_for start.entry) (length bytes.now) from bytes.now start.entry.state) result }
-    ensures steps { UnlessMem result (steps.new ≡ steps.old + body_steps_from strict (tables_for start.entry) (heading_for start.entry) (length bytes.now) from bytes.now start.entry.state) }
+    requires fresh { start.sorry ≡ false }
+    ensures run { IsBodyRun (heading_for start.entry) bytes.now (body_from (plain start.entry.gaps) (tables_for start.entry) (heading_for start.entry) (length bytes.now) from bytes.now start.entry.state) result }
+    ensures steps { UnlessMem result (steps.new ≡ steps.old + body_steps_from (plain start.entry.gaps) (tables_for start.entry) (heading_for start.entry) (length bytes.now) from bytes.now start.entry.state) }
     ensures most { steps.new ≤ steps.old + length bytes.now * (length start.entry.file + 1) }
 {
     let mut machine = start;

@@ -1,5 +1,6 @@
 //! What each command does: its premises in order, and what it leaves.
 pub(crate) mod conversions;
+pub(crate) mod gaps;
 pub(crate) mod heap;
 pub(crate) mod terms;
 
@@ -20,6 +21,7 @@ use crate::command::{Command, Converting, Keeping, Making, Stop};
 use crate::earlier::Earlier;
 use crate::stack::{push, push_id};
 use conversions::{cong, conv, conv_cut, conv_save, refl, symm, unfold};
+pub(crate) use gaps::gap;
 use heap::{conv_refer, dummy, hyp, refer, save};
 use mz_cmd::{K, Steps};
 use mz_store::{Id, Item, Store};
@@ -195,7 +197,7 @@ fn convert<L: Ledger>(
     }
 }
 
-/// Executes a command.
+/// Executes a command by the published table: a gap is refused.
 pub(crate) fn execute<L: Ledger>(
     alloc: Global,
     earlier: &Earlier,

@@ -1,6 +1,6 @@
 // Worked bodies, computed.
 ghost use Rattle.mz_machine.specs.Cases.{CodesChanged, Counts, CountsToFault, LongEnd, Run, StreamsChanged};
-ghost use Rattle.mz_machine.specs.Examples.{AllVariables, CitesItself, ConversionSaved, CutOrLong, Dependency, Dummies, FiftyFive, Folding, Gap, HypothesesLastFirst, Implications, ObligationLeft, OfAnotherBody, OfAnotherRow};
+ghost use Rattle.mz_machine.specs.Examples.{AllVariables, CitesItself, ConversionSaved, CutOrLong, Dependency, Dummies, FiftyFive, Folding, Gap, GapsOfDrafts, HypothesesLastFirst, Implications, ObligationLeft, OfAnotherBody, OfAnotherRow};
 
 /// Bodies whose outcome is known from outside: the verdict, and where a rule fails its place.
 pub fn worked_bodies()
@@ -15,6 +15,7 @@ pub fn worked_bodies()
     ensures dummies { Dummies }
     ensures fifty_five { FiftyFive }
     ensures gap { Gap }
+    ensures gaps_of_drafts { GapsOfDrafts }
     ensures of_another_body { OfAnotherBody }
     ensures of_another_row { OfAnotherRow }
     ensures cut_or_long { CutOrLong }

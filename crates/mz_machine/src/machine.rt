@@ -1,24 +1,27 @@
 //! A machine that takes the commands of one body.
-ghost use Rattle.std.specs.Prelude.{◌≡◌, ◌≤◌, ◌<◌, ◌+◌, ◌^◌, ℕ, IfOk, OnOk, length};
+ghost use Rattle.std.specs.Prelude.{◌≡◌, ◌≤◌, ◌<◌, ◌+◌, ◌^◌, ◌&&◌, ◌||◌, ℕ, IfOk, OnOk, Some, length};
+ghost use Rattle.mz_mode.specs.Gaps.{gaps_of};
+ghost use Rattle.mz_cmd.specs.Codes.{proof_code};
 ghost use Rattle.mz_store.specs.Bits.{bound_vars};
 ghost use Rattle.mz_store.specs.Sharing.{AreIn, IsOver};
-ghost use Rattle.mz_unify.specs.Profile.{strict};
+ghost use Rattle.mz_unify.specs.Profile.{plain};
 ghost use Rattle.mz_unify.specs.Stored.{AreItemsIn};
 ghost use Rattle.mz_machine.specs.Bodies.{body_command};
 ghost use Rattle.mz_machine.specs.Before.{MayRun, kind_at, tables_of, signatures_of};
-ghost use Rattle.mz_machine.specs.OverStore.{state_at, mode_for, Gives, NeverWants, Grows};
+ghost use Rattle.mz_machine.specs.OverStore.{state_at, mode_for, code_of, Gives, NeverWants, Grows};
 ghost use Rattle.mz_machine.specs.OverStore.{UnlessMem as OrMem};
-ghost use Rattle.mz_machine.specs.Steps.{heading_for, tables_for, steps_for, row_by, steps_by, end_steps, TakesNone};
+ghost use Rattle.mz_machine.specs.Steps.{heading_for, tables_for, steps_for, row_by, steps_by, end_steps, is_sorry, TakesNone};
 ghost use Rattle.mz_machine.specs.Stepping.{IsBegun, IsStepped, IsFinished, UnlessMem, UnlessEndMem};
 
 use crate::begin::{deps_mode, first_items, read_words};
 use crate::body::BodyEnd;
-use crate::command::{Stop, decoded, kind_by};
-use crate::commands::execute;
+use crate::command::{Command, Converting, Stop, decoded, kind_by};
+use crate::commands::{execute, gap};
 use crate::earlier::{Earlier, Rows};
 use crate::end::end;
-use mz_cmd::{Cmd, K, Steps};
+use mz_cmd::{Cmd, K, ProofCode, Steps};
 use mz_layout::Mmb;
+use mz_mode::Mode;
 use mz_store::{Id, Item, Store};
 use std::alloc::{AllocError, Global};
 use std::marker::Model;
@@ -30,6 +33,7 @@ use std::sync::ledger::Ledger;
 pub struct Machine<'a> {
     alloc: Global,
     mmb: &'a Mmb<'a>,
+    mode: Mode,
     kind: u8,
     row: u32,
     before: Rows,
@@ -38,10 +42,12 @@ pub struct Machine<'a> {
     heap: Vec<Item>,
     stack: Vec<Item>,
     hyps: Vec<Id>,
+    sorry: bool,
 }
 
 impl<'a> Model for Machine<'a> {
     ghost use Rattle.std.specs.Prelude.{length, ◌≡◌};
+    ghost use Rattle.mz_mode.specs.Gaps.{gaps_of};
     ghost use Rattle.mz_store.specs.Bits.{bound_vars};
     ghost use Rattle.mz_machine.specs.Before.{heading_of};
     ghost use Rattle.mz_machine.specs.Steps.{Underway};
@@ -52,7 +58,7 @@ impl<'a> Model for Machine<'a> {
 
     ghost coded = { underway_code };
 
-    ghost view = { λ m. record { file = m.mmb.now; kind = m.kind; row = m.row; before = m.before; state = state_at m.store m.heap.items m.stack.items m.hyps.items; nodes = length m.store.entries } };
+    ghost view = { λ m. record { gaps = gaps_of m.mode; file = m.mmb.now; kind = m.kind; row = m.row; before = m.before; state = state_at m.store m.heap.items m.stack.items m.hyps.items; sorry = m.sorry; nodes = length m.store.entries } };
 
     ghost invariant = { λ m. IsUnderway m.mmb.now m.kind m.row m.before m.store m.heap.items m.stack.items m.hyps.items × (m.bound_params ≡ length (bound_vars (heading_of m.mmb.now m.kind m.row).params)) };
 }
@@ -83,7 +89,7 @@ impl<'a> Machine<'a> {
     /// The machine before the first command of a statement's body: the row's parameters are in the
     /// heap. The statement's kind is 02 for an axiom, 05 for a definition and 06 for a theorem;
     /// `row` is the next row of its table, and `before` counts the rows that were declared before.
-    /// The words of the row and of those before it are right.
+    /// The words of the row and of those before it are right. A draft's body may leave gaps.
     ///
     /// # Errors
     ///
@@ -91,12 +97,13 @@ impl<'a> Machine<'a> {
     pub fn begin(
         alloc: Global,
         mmb: &'a Mmb<'a>,
+        mode: Mode,
         kind: u8,
         row: u32,
         before: Rows,
     ) -> Result<Machine<'a>, AllocError>
         requires { MayRun mmb.now kind row before }
-        ensures { IfOk result (λ machine. IsBegun mmb.now kind row before machine) }
+        ensures { IfOk result (λ machine. IsBegun (gaps_of mode) mmb.now kind row before machine) }
     {
         let earlier = Earlier::new(mmb, before);
         let words = read_words(alloc, &earlier, kind_by(kind), row)?;
@@ -107,6 +114,7 @@ impl<'a> Machine<'a> {
         Ok(Machine {
             alloc,
             mmb,
+            mode,
             kind,
             row,
             before,
@@ -115,6 +123,7 @@ impl<'a> Machine<'a> {
             heap,
             stack: Vec::new(alloc),
             hyps: Vec::new(alloc),
+            sorry: false,
         })
     }
 
@@ -124,12 +133,13 @@ impl<'a> Machine<'a> {
     pub fn step<L: Ledger>(self, cmd: Cmd, steps: &mut Steps<L>) -> Stepped<'a>
         requires { cmd.code ≡ 0 → ⊥ }
         ensures row { (at : ℕ) → IsStepped self.entry cmd at result }
-        ensures steps { UnlessMem result (steps.new ≡ steps.old + steps_for (tables_for self.entry) (heading_for self.entry) self.entry.state cmd) }
+        ensures steps { UnlessMem result (steps.new ≡ steps.old + steps_for self.entry.gaps (tables_for self.entry) (heading_for self.entry) self.entry.state cmd) }
         ensures most { steps.new ≤ steps.old + (1 + length self.entry.file) }
     {
         let Machine {
             alloc,
             mmb,
+            mode,
             kind,
             row,
             before,
@@ -138,14 +148,16 @@ impl<'a> Machine<'a> {
             mut heap,
             mut stack,
             mut hyps,
+            sorry,
         } = self;
         let earlier = Earlier::new(mmb, before);
         match obey(
-            alloc, &earlier, kind, cmd, &mut store, &mut heap, &mut stack, &mut hyps, steps,
+            alloc, &earlier, mode, kind, cmd, &mut store, &mut heap, &mut stack, &mut hyps, steps,
         ) {
             Ok(()) => Stepped::Machine(Machine {
                 alloc,
                 mmb,
+                mode,
                 kind,
                 row,
                 before,
@@ -154,6 +166,7 @@ impl<'a> Machine<'a> {
                 heap,
                 stack,
                 hyps,
+                sorry: has_gap(sorry, cmd.code),
             }),
             Err(Stop::Rule(rule)) => Stepped::Refused(rule),
             Err(Stop::Mem) => Stepped::Mem,
@@ -164,7 +177,7 @@ impl<'a> Machine<'a> {
     /// command of the row's own stream that is executed.
     pub fn finish<L: Ledger>(self, steps: &mut Steps<L>) -> Finished
         ensures run { IsFinished self.entry result }
-        ensures steps { UnlessEndMem result (steps.new ≡ steps.old + end_steps (tables_for self.entry) (heading_for self.entry) self.entry.state) }
+        ensures steps { UnlessEndMem result (steps.new ≡ steps.old + end_steps self.entry.gaps (tables_for self.entry) (heading_for self.entry) self.entry.state) }
         ensures most { steps.new ≤ steps.old + (1 + length self.entry.file) }
     {
         let Machine {
@@ -177,6 +190,7 @@ impl<'a> Machine<'a> {
             store,
             stack,
             hyps,
+            sorry,
             ..
         } = self;
         steps.tick();
@@ -191,17 +205,19 @@ impl<'a> Machine<'a> {
             &hyps,
             steps,
         ) {
-            Ok(()) => Finished::Body(counted(&store, bound_params, &hyps)),
+            Ok(()) => Finished::Body(counted(&store, bound_params, &hyps, sorry)),
             Err(Stop::Rule(rule)) => Finished::Refused(rule),
             Err(Stop::Mem) => Finished::Mem,
         }
     }
 }
 
-/// Executes a command other than END, if it stands in bodies of the kind, and counts its steps.
+/// Executes a command other than END, if it stands in bodies of the kind, and counts its steps. A
+/// draft's gap is let through.
 fn obey<L: Ledger>(
     alloc: Global,
     earlier: &Earlier,
+    mode: Mode,
     kind: u8,
     cmd: Cmd,
     store: &mut Store,
@@ -212,7 +228,7 @@ fn obey<L: Ledger>(
 ) -> Result<(), Stop>
     requires code { cmd.code ≡ 0 → ⊥ }
     requires over { IsOver (signatures_of earlier.now) store.old }
-    requires mode { store.old.mode ≡ mode_for (kind_at kind) }
+    requires told { store.old.mode ≡ mode_for (kind_at kind) }
     requires heap { AreItemsIn store.old heap.old.items }
     requires stack { AreItemsIn store.old stack.old.items }
     requires hyps { AreIn store.old hyps.old.items }
@@ -220,29 +236,69 @@ fn obey<L: Ledger>(
     ensures grows { OnOk result (Grows (signatures_of earlier.now) store.old store.new) }
     ensures ids { OnOk result (AreItemsIn store.new heap.new.items × AreItemsIn store.new stack.new.items × AreIn store.new hyps.new.items) }
     ensures few { OnOk result (length hyps.new.items < 2 ^ 32) }
-    ensures row { (at : ℕ) → Gives (row_by (tables_of earlier.now) at (state_at store.old heap.old.items stack.old.items hyps.old.items) (body_command strict (kind_at kind) cmd.code cmd.value)) result (λ _. state_at store.new heap.new.items stack.new.items hyps.new.items) }
-    ensures never { TakesNone (state_at store.old heap.old.items stack.old.items hyps.old.items) (body_command strict (kind_at kind) cmd.code cmd.value) → NeverWants result }
-    ensures steps { OrMem result (steps.new ≡ steps.old + steps_by (tables_of earlier.now) (state_at store.old heap.old.items stack.old.items hyps.old.items) (body_command strict (kind_at kind) cmd.code cmd.value)) }
+    ensures row { (at : ℕ) → Gives (row_by (gaps_of mode) (tables_of earlier.now) at (state_at store.old heap.old.items stack.old.items hyps.old.items) (body_command (plain (gaps_of mode)) (kind_at kind) cmd.code cmd.value)) result (λ _. state_at store.new heap.new.items stack.new.items hyps.new.items) }
+    ensures never { TakesNone (state_at store.old heap.old.items stack.old.items hyps.old.items) (body_command (plain (gaps_of mode)) (kind_at kind) cmd.code cmd.value) → NeverWants result }
+    ensures steps { OrMem result (steps.new ≡ steps.old + steps_by (gaps_of mode) (tables_of earlier.now) (state_at store.old heap.old.items stack.old.items hyps.old.items) (body_command (plain (gaps_of mode)) (kind_at kind) cmd.code cmd.value)) }
     ensures most { steps.new ≤ steps.old + (1 + length earlier.now.file) }
 {
     steps.tick();
     let Some(command) = decoded(kind_by(kind), cmd.code) else {
         return Err(Stop::Rule(K::Command));
     };
+    if leaves_gap(mode, command) {
+        gap(earlier, store, stack)?;
+        return Ok(());
+    }
     execute(
         alloc, earlier, command, cmd.value, store, heap, stack, hyps, steps,
     )
 }
 
+/// Whether the command is a gap that is let through.
+fn leaves_gap(mode: Mode, command: Command) -> bool
+    ensures { result ≡ (gaps_of mode && is_sorry (Some (code_of command))) }
+{
+    mode.allows_gaps() && is_gap(command)
+}
+
+fn is_gap(command: Command) -> bool
+    ensures { result ≡ is_sorry (Some (code_of command)) }
+{
+    match command {
+        Command::Converts(converting) => matches!(converting, Converting::Sorry),
+        Command::Makes(_) | Command::Keeps(_) => false,
+    }
+}
+
+/// Whether a gap was left before, or the command with this code leaves one.
+fn has_gap(before: bool, code: u8) -> bool
+    ensures { result ≡ (before || is_sorry (proof_code code)) }
+{
+    before || is_sorry(code)
+}
+
+/// Whether the command with this code leaves a gap.
+fn is_sorry(code: u8) -> bool
+    ensures { result ≡ is_sorry (proof_code code) }
+{
+    match ProofCode::try_from(code) {
+        Ok(ProofCode::Sorry) => true,
+        Ok(_) => false,
+        Err(_) => false,
+    }
+}
+
 /// The hypotheses, and the bound variables that aren't parameters.
-fn counted(store: &Store, bound_params: u32, hyps: &[Id]) -> BodyEnd
+fn counted(store: &Store, bound_params: u32, hyps: &[Id], sorry: bool) -> BodyEnd
     requires few { length hyps.now < 2 ^ 32 }
     requires bound { bound_params ≤ length (bound_vars store.now.context) }
     ensures hyps { result.hyps ≡ length hyps.now }
     ensures dummies { result.dummies + bound_params ≡ length (bound_vars store.now.context) }
+    ensures sorry { result.sorry ≡ sorry }
 {
     BodyEnd {
         hyps: hyps.len() as u32,
         dummies: store.bound_count() - bound_params,
+        sorry,
     }
 }

@@ -16,6 +16,8 @@ pub(crate) fn pop(store: &Store, stack: &mut Vec<Item>) -> Result<Item, K>
     ensures ids { IfOk result (λ item. IsItemIn store.now item × AreItemsIn store.now stack.new.items) }
     ensures items { IfOk result (λ item. stack.old.items ≡ stack.new.items ++ item ∷ []) }
     ensures taken { GivesRule (pop (items_at store.now stack.old.items)) result (λ item. (item_at store.now item, items_at store.now stack.new.items)) }
+    ensures room { OnOk result (vec_len stack.new + 1 ≤ vec_len stack.old) }
+    ensures capacity { vec_capacity stack.new ≡ vec_capacity stack.old }
 {
     match stack.pop() {
         Some(item) => Ok(item),

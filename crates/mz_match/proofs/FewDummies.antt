@@ -25,7 +25,7 @@ use Rattle.mz_layout.specs.Tables.{list_at, term_row}
 use Rattle.mz_unify.specs.Steps.{◌>>◌, need, at_place, Turn, over, goes_on, follow}
 use Rattle.mz_unify.specs.Streams.{of_definition}
 use Rattle.mz_unify.specs.Spells.{trees_of, dummy_of, variables_from, SpellsForm}
-use Rattle.mz_unify.specs.Profile.{strict, Item, expr, proof, obligation, conversion}
+use Rattle.mz_unify.specs.Profile.{plain, strict, Item, expr, proof, obligation, conversion}
 use Rattle.mz_unify.specs.Sorted.{Sorted, ItemsSorted}
 use Rattle.mz_unify.specs.UnifyMachine.{in_definition, is_empty}
 use Rattle.mz_unify.proofs.Inverting.{from_bind, from_need, from_want, taken, taken-is, place-ok}
@@ -69,95 +69,96 @@ one-more (b ∷ bs) s = go b.bound (one-more bs s)
     go true e = ap suc e
     go false e = e
 
-referred-few : (x : Item Tree) (st st' : State Tree) → referred strict x st ≡ Ok st' → Few st → Few st'
-referred-few (expr e) st st' is few = few-same _ st' is few
-referred-few (proof e) st st' is few = few-same _ st' is few
-referred-few (obligation l r) st st' is few = few-same _ st' is few
-referred-few (conversion l r) st st' is few =
-    from_bind (pop_obligation st.stack) _ st' is λ o popped e1.
-    from_need (strict.same l o.0 && strict.same r o.1) k.ConversionReference _ st' e1 λ t e2. few-same _ st' e2 few
+module _ (gaps : Bool) where
+  referred-few : (x : Item Tree) (st st' : State Tree) → referred (plain gaps) x st ≡ Ok st' → Few st → Few st'
+  referred-few (expr e) st st' is few = few-same _ st' is few
+  referred-few (proof e) st st' is few = few-same _ st' is few
+  referred-few (obligation l r) st st' is few = few-same _ st' is few
+  referred-few (conversion l r) st st' is few =
+      from_bind (pop_obligation st.stack) _ st' is λ o popped e1.
+      from_need ((plain gaps).same l o.0 && (plain gaps).same r o.1) k.ConversionReference _ st' e1 λ t e2. few-same _ st' e2 few
 
-row-few : (tables : Tables) (at : ℕ) (c : ProofCode) (n : ℕ) (st st' : State Tree) → stands_in strict is_definition c ≡ true → proof_row strict tables at c n st ≡ Ok st' → Few st → Few st'
-unfolding proof_row
-row-few tables at code.Term n st st' may e few = from_bind (built strict tables at n st) _ st' e λ r made e1. few-same _ st' e1 few
-row-few tables at code.TermSave n st st' may e few = from_bind (built strict tables at n st) _ st' e λ r made e1. few-same _ st' e1 few
-row-few tables at code.Ref n st st' may e few = from_want (slice_get st.heap n) k.HeapIndex _ st' e λ x there e1. referred-few x st st' e1 few
-row-few tables at code.Dummy n st st' may e few =
-    from_need (may_be_dummy_sort (slice_get tables.sorts n)) k.DummySort _ st' e λ sort e1.
-    from_need (ltb (bound_count st.ctx) 55) k.DummyCount _ st' e1 λ room e2.
-    few-same _ st' e2 (let below = ltb-true (bound_count st.ctx) 55 room in omega (arith, below, one-more st.ctx n))
-row-few tables at code.Save n st st' may e few =
-    from_bind (pop st.stack) _ st' e λ x popped e1. from_need (not (is_obligation x.0)) k.SaveKind _ st' e1 λ t e2. few-same _ st' e2 few
-row-few tables at code.ConvRef n st st' may e few = absurd (false≢true may)
-row-few tables at code.Thm n st st' may e few = absurd (false≢true may)
-row-few tables at code.ThmSave n st st' may e few = absurd (false≢true may)
-row-few tables at code.Hyp n st st' may e few = absurd (false≢true may)
-row-few tables at code.Conv n st st' may e few = absurd (false≢true may)
-row-few tables at code.Refl n st st' may e few = absurd (false≢true may)
-row-few tables at code.Symm n st st' may e few = absurd (false≢true may)
-row-few tables at code.Cong n st st' may e few = absurd (false≢true may)
-row-few tables at code.Unfold n st st' may e few = absurd (false≢true may)
-row-few tables at code.ConvCut n st st' may e few = absurd (false≢true may)
-row-few tables at code.ConvSave n st st' may e few = absurd (false≢true may)
-row-few tables at code.Sorry n st st' may e few = absurd (false≢true may)
+  row-few : (tables : Tables) (at : ℕ) (c : ProofCode) (n : ℕ) (st st' : State Tree) → stands_in (plain gaps) is_definition c ≡ true → proof_row (plain gaps) tables at c n st ≡ Ok st' → Few st → Few st'
+  unfolding proof_row
+  row-few tables at code.Term n st st' may e few = from_bind (built (plain gaps) tables at n st) _ st' e λ r made e1. few-same _ st' e1 few
+  row-few tables at code.TermSave n st st' may e few = from_bind (built (plain gaps) tables at n st) _ st' e λ r made e1. few-same _ st' e1 few
+  row-few tables at code.Ref n st st' may e few = from_want (slice_get st.heap n) k.HeapIndex _ st' e λ x there e1. referred-few x st st' e1 few
+  row-few tables at code.Dummy n st st' may e few =
+      from_need (may_be_dummy_sort (slice_get tables.sorts n)) k.DummySort _ st' e λ sort e1.
+      from_need (ltb (bound_count st.ctx) 55) k.DummyCount _ st' e1 λ room e2.
+      few-same _ st' e2 (let below = ltb-true (bound_count st.ctx) 55 room in omega (arith, below, one-more st.ctx n))
+  row-few tables at code.Save n st st' may e few =
+      from_bind (pop st.stack) _ st' e λ x popped e1. from_need (not (is_obligation x.0)) k.SaveKind _ st' e1 λ t e2. few-same _ st' e2 few
+  row-few tables at code.ConvRef n st st' may e few = absurd (false≢true may)
+  row-few tables at code.Thm n st st' may e few = absurd (false≢true may)
+  row-few tables at code.ThmSave n st st' may e few = absurd (false≢true may)
+  row-few tables at code.Hyp n st st' may e few = absurd (false≢true may)
+  row-few tables at code.Conv n st st' may e few = absurd (false≢true may)
+  row-few tables at code.Refl n st st' may e few = absurd (false≢true may)
+  row-few tables at code.Symm n st st' may e few = absurd (false≢true may)
+  row-few tables at code.Cong n st st' may e few = absurd (false≢true may)
+  row-few tables at code.Unfold n st st' may e few = absurd (false≢true may)
+  row-few tables at code.ConvCut n st st' may e few = absurd (false≢true may)
+  row-few tables at code.ConvSave n st st' may e few = absurd (false≢true may)
+  row-few tables at code.Sorry n st st' may e few = absurd (false≢true may)
 
-from_follow : {S F G : Type 0} (r : Result (Turn S) F) (rest : ℕ → S → Result S F) (y : S) → follow r rest ≡ Ok y
-    → ((s : S) → r ≡ Ok (over s) → s ≡ y → G) → ((len : ℕ) (s : S) → r ≡ Ok (goes_on len s) → rest len s ≡ Ok y → G) → G
-from_follow (Err f) rest y e ended went = absurd cc
-from_follow (Ok (over s)) rest y e ended went = ended s refl cc
-from_follow (Ok (goes_on len s)) rest y e ended went = went len s refl e
+  from_follow : {S F G : Type 0} (r : Result (Turn S) F) (rest : ℕ → S → Result S F) (y : S) → follow r rest ≡ Ok y
+      → ((s : S) → r ≡ Ok (over s) → s ≡ y → G) → ((len : ℕ) (s : S) → r ≡ Ok (goes_on len s) → rest len s ≡ Ok y → G) → G
+  from_follow (Err f) rest y e ended went = absurd cc
+  from_follow (Ok (over s)) rest y e ended went = ended s refl cc
+  from_follow (Ok (goes_on len s)) rest y e ended went = went len s refl e
 
-module _ (tables : Tables) (h : Heading) (kind : h.kind ≡ is_definition) where
-  end-few : (st s : State Tree) → proof_end strict tables h st ≡ Ok s → Few st → Few s
-  unfolding proof_end
-  end-few st s done few =
-      from_bind (ends_with strict tables h st) _ s done λ m is e1.
-      from_bind (matched_by strict tables st.ctx m) _ s e1 λ u ran e2. few-same st s e2 few
+  module _ (tables : Tables) (h : Heading) (kind : h.kind ≡ is_definition) where
+    end-few : (st s : State Tree) → proof_end (plain gaps) tables h st ≡ Ok s → Few st → Few s
+    unfolding proof_end
+    end-few st s done few =
+        from_bind (ends_with (plain gaps) tables h st) _ s done λ m is e1.
+        from_bind (matched_by (plain gaps) tables st.ctx m) _ s e1 λ u ran e2. few-same st s e2 few
 
-  allowed : (value : ℕ) (o : Option ProofCode) (c : ProofCode) (n : ℕ) → if_allowed strict h.kind value o ≡ Some (proves c n) → stands_in strict is_definition c ≡ true
-  allowed value None c n e = absurd cc
-  allowed value (Some d) c n e = go (stands_in strict h.kind d) refl e
-    where
-      go : (b : Bool) → stands_in strict h.kind d ≡ b → cond b (Some (proves d value)) None ≡ Some (proves c n) → stands_in strict is_definition c ≡ true
-      go true may t = let both : proves d value ≡ proves c n = cc in let same : d ≡ c = cc in subst (λ (x : ProofCode). stands_in strict is_definition x ≡ true) same (ap (λ (z : Kind). stands_in strict z d) (sym kind) ∙ may)
-      go false may t = absurd cc
+    allowed : (value : ℕ) (o : Option ProofCode) (c : ProofCode) (n : ℕ) → if_allowed (plain gaps) h.kind value o ≡ Some (proves c n) → stands_in (plain gaps) is_definition c ≡ true
+    allowed value None c n e = absurd cc
+    allowed value (Some d) c n e = go (stands_in (plain gaps) h.kind d) refl e
+      where
+        go : (b : Bool) → stands_in (plain gaps) h.kind d ≡ b → cond b (Some (proves d value)) None ≡ Some (proves c n) → stands_in (plain gaps) is_definition c ≡ true
+        go true may t = let both : proves d value ≡ proves c n = cc in let same : d ≡ c = cc in subst (λ (x : ProofCode). stands_in (plain gaps) is_definition x ≡ true) same (ap (λ (z : Kind). stands_in (plain gaps) z d) (sym kind) ∙ may)
+        go false may t = absurd cc
 
-  command-may : (byte value : ℕ) (c : ProofCode) (n : ℕ) → body_command strict h.kind byte value ≡ Some (proves c n) → stands_in strict is_definition c ≡ true
-  command-may byte value c n e = go (eqb byte 0x00) e
-    where
-      go : (b : Bool) → cond b (Some ends) (if_allowed strict h.kind value (proof_code byte)) ≡ Some (proves c n) → stands_in strict is_definition c ≡ true
-      go true t = absurd cc
-      go false t = allowed value (proof_code byte) c n t
+    command-may : (byte value : ℕ) (c : ProofCode) (n : ℕ) → body_command (plain gaps) h.kind byte value ≡ Some (proves c n) → stands_in (plain gaps) is_definition c ≡ true
+    command-may byte value c n e = go (eqb byte 0x00) e
+      where
+        go : (b : Bool) → cond b (Some ends) (if_allowed (plain gaps) h.kind value (proof_code byte)) ≡ Some (proves c n) → stands_in (plain gaps) is_definition c ≡ true
+        go true t = absurd cc
+        go false t = allowed value (proof_code byte) c n t
 
-  -- the state after a turn
-  abbrev Next : Turn (State Tree) → State Tree → Type 0
-  Next (over s) t = s ≡ t
-  Next (goes_on len s) t = s ≡ t
+    -- the state after a turn
+    abbrev Next : Turn (State Tree) → State Tree → Type 0
+    Next (over s) t = s ≡ t
+    Next (goes_on len s) t = s ≡ t
 
-  turn-few : (at len : ℕ) (rest : List ℕ) (st t : State Tree) (turn : Turn (State Tree)) (o : Option BodyCommand) → ((c : ProofCode) (n : ℕ) → o ≡ Some (proves c n) → stands_in strict is_definition c ≡ true)
-      → body_turn_by strict tables h at len rest st o ≡ Ok turn → Next turn t → Few st → Few t
-  turn-few at len rest st t turn None may e next few = absurd cc
-  turn-few at len rest st t turn (Some ends) may e next few =
-      from_bind (need (is_empty rest) k.StatementLength >> proof_end strict tables h st) _ turn e λ s both e1.
-      from_need (is_empty rest) k.StatementLength _ s both λ p done.
-      let is : over s ≡ turn = cc in subst Few (subst (λ (u : Turn (State Tree)). Next u t) (sym is) next) (end-few st s done few)
-  turn-few at len rest st t turn (Some (proves c n)) may e next few =
-      from_bind (proof_row strict tables at c n st) _ turn e λ s row e1.
-      let is : goes_on len s ≡ turn = cc in subst Few (subst (λ (u : Turn (State Tree)). Next u t) (sym is) next) (row-few tables at c n st s (may c n refl) row few)
+    turn-few : (at len : ℕ) (rest : List ℕ) (st t : State Tree) (turn : Turn (State Tree)) (o : Option BodyCommand) → ((c : ProofCode) (n : ℕ) → o ≡ Some (proves c n) → stands_in (plain gaps) is_definition c ≡ true)
+        → body_turn_by (plain gaps) tables h at len rest st o ≡ Ok turn → Next turn t → Few st → Few t
+    turn-few at len rest st t turn None may e next few = absurd cc
+    turn-few at len rest st t turn (Some ends) may e next few =
+        from_bind (need (is_empty rest) k.StatementLength >> proof_end (plain gaps) tables h st) _ turn e λ s both e1.
+        from_need (is_empty rest) k.StatementLength _ s both λ p done.
+        let is : over s ≡ turn = cc in subst Few (subst (λ (u : Turn (State Tree)). Next u t) (sym is) next) (end-few st s done few)
+    turn-few at len rest st t turn (Some (proves c n)) may e next few =
+        from_bind (proof_row (plain gaps) tables at c n st) _ turn e λ s row e1.
+        let is : goes_on len s ≡ turn = cc in subst Few (subst (λ (u : Turn (State Tree)). Next u t) (sym is) next) (row-few tables at c n st s (may c n refl) row few)
 
-  read-few : (at : ℕ) (bytes : List ℕ) (st t : State Tree) (turn : Turn (State Tree)) (r : Result Cmd CmdFault) → body_turn strict tables h at bytes st r ≡ Ok turn → Next turn t → Few st → Few t
-  read-few at bytes st t turn (Err f) e next few = absurd cc
-  read-few at bytes st t turn (Ok b) e next few =
-      turn-few at b.len (drop b.len bytes) st t turn (body_command strict h.kind b.code b.value) (λ c n is. command-may b.code b.value c n is) e next few
+    read-few : (at : ℕ) (bytes : List ℕ) (st t : State Tree) (turn : Turn (State Tree)) (r : Result Cmd CmdFault) → body_turn (plain gaps) tables h at bytes st r ≡ Ok turn → Next turn t → Few st → Few t
+    read-few at bytes st t turn (Err f) e next few = absurd cc
+    read-few at bytes st t turn (Ok b) e next few =
+        turn-few at b.len (drop b.len bytes) st t turn (body_command (plain gaps) h.kind b.code b.value) (λ c n is. command-may b.code b.value c n is) e next few
 
-  body-few : (n at : ℕ) (bytes : List ℕ) (st last : State Tree) → body_from strict tables h n at bytes st ≡ Ok last → Few st → Few last
-  unfolding body_from
-  body-few zero at bytes st last e few = absurd cc
-  body-few (suc n) at bytes st last e few =
-      from_follow (at_place at (body_turn strict tables h at bytes st (first_command bytes))) _ last e
-      (λ s turn same. read-few at bytes st last (over s) (first_command bytes) (place-ok at (body_turn strict tables h at bytes st (first_command bytes)) (over s) turn) same few)
-      (λ len s turn rest. body-few n (at + len) (drop len bytes) s last rest
-      (read-few at bytes st s (goes_on len s) (first_command bytes) (place-ok at (body_turn strict tables h at bytes st (first_command bytes)) (goes_on len s) turn) refl few))
+    body-few : (n at : ℕ) (bytes : List ℕ) (st last : State Tree) → body_from (plain gaps) tables h n at bytes st ≡ Ok last → Few st → Few last
+    unfolding body_from
+    body-few zero at bytes st last e few = absurd cc
+    body-few (suc n) at bytes st last e few =
+        from_follow (at_place at (body_turn (plain gaps) tables h at bytes st (first_command bytes))) _ last e
+        (λ s turn same. read-few at bytes st last (over s) (first_command bytes) (place-ok at (body_turn (plain gaps) tables h at bytes st (first_command bytes)) (over s) turn) same few)
+        (λ len s turn rest. body-few n (at + len) (drop len bytes) s last rest
+        (read-few at bytes st s (goes_on len s) (first_command bytes) (place-ok at (body_turn (plain gaps) tables h at bytes st (first_command bytes)) (goes_on len s) turn) refl few))
 
 -- ---- distinct bound variables of a context are no more than it has
 
@@ -241,11 +242,11 @@ last-expr : (sigs : List _) (ctx : List Binder) (xs : List (Item Tree)) (e : Tre
 last-expr sigs ctx (expr x ∷ []) e is (s, _) = subst (Sorted sigs ctx) (taken-is x e is) s
 last-expr sigs ctx _ e is h = absurd cc
 
-run-few : (tables : Tables) (env : List Declaration) → Declares tables env → (h : Heading) (at : ℕ) (bytes : List ℕ) → h.kind ≡ is_definition → bound_count h.params ≤ 55 → Runs strict tables h at bytes
+run-few : (gaps : Bool) (tables : Tables) (env : List Declaration) → Declares tables env → (h : Heading) (at : ℕ) (bytes : List ℕ) → h.kind ≡ is_definition → bound_count h.params ≤ 55 → Runs (plain gaps) tables h at bytes
     → (ds : List Binder) (body : Tree) → SpellsForm (signatures env) h.params (Some h.stream) (defined ds body) → length ds ≤ 55
-run-few tables env declares h at bytes kind few (last, run-is) ds body text =
-    let (fact, done) = body-fact false tables env declares h at bytes last run-is in
-    let last-few : Few last = body-few tables h kind (length bytes) at bytes (body_start strict h) last run-is few in
+run-few gaps tables env declares h at bytes kind few (last, run-is) ds body text =
+    let (fact, done) = body-fact gaps tables env declares h at bytes last run-is in
+    let last-few : Few last = body-few gaps tables h kind (length bytes) at bytes (body_start (plain gaps) h) last run-is few in
     end-ran tables h last done λ e m u e-is ending-is ran.
     from_need (sort_of (signatures_in tables) last.ctx e == h.result.sort) k.DefinitionSort _ m (subst (λ (z : Kind). ending strict tables h last z e ≡ Ok m) kind ending-is) λ sort-test e1.
     from_need (free_within (signatures_in tables) last.ctx h.result.deps e (length last.ctx)) k.DefinitionDependencies _ m e1 λ free-test e2.
@@ -258,14 +259,14 @@ run-few tables env declares h at bytes kind few (last, run-is) ds body text =
     subst (λ (bs : List Binder). length bs ≤ 55) same (omega (arith, enough, last-few))
 
 -- what is asked of a definition's statement, whether it is local or not
-body-asked : (file : List ℕ) (env : List Declaration) (at code body next : ℕ) (t : Term) → IsKindOf code (term_decl t) → AllHold (kind_checks false file (taken_by env) at body next (statement_code code))
-    → (l : Bool) × AllHold (term_checks false file (taken_by env) at body next l)
-body-asked file env at code body next t (inl is) all = (false, subst (λ (c : ℕ). AllHold (kind_checks false file (taken_by env) at body next (statement_code c))) is all)
-body-asked file env at code body next t (inr is) all = (true, subst (λ (c : ℕ). AllHold (kind_checks false file (taken_by env) at body next (statement_code c))) is all)
+body-asked : (gaps : Bool) (file : List ℕ) (env : List Declaration) (at code body next : ℕ) (t : Term) → IsKindOf code (term_decl t) → AllHold (kind_checks gaps file (taken_by env) at body next (statement_code code))
+    → (l : Bool) × AllHold (term_checks gaps file (taken_by env) at body next l)
+body-asked gaps file env at code body next t (inl is) all = (false, subst (λ (c : ℕ). AllHold (kind_checks gaps file (taken_by env) at body next (statement_code c))) is all)
+body-asked gaps file env at code body next t (inr is) all = (true, subst (λ (c : ℕ). AllHold (kind_checks gaps file (taken_by env) at body next (statement_code c))) is all)
 
-pub few-dummies : (file : List ℕ) (ss : List Statement) (env : List Declaration) (at : ℕ) (s : Statement) (next : ℕ) (t : Term) (dummies : List Binder) (body : Tree)
-    → GoodTo false file [] (list_at file) ss env at → IsGoodStatement false file env at s next → s.decl ≡ term_decl t → t.form ≡ defined dummies body → length dummies ≤ 55
-few-dummies file ss env at s next t dummies body before good d-is form-is = go (term_of_file file r).stream refl
+pub few-dummies : (gaps : Bool) (file : List ℕ) (ss : List Statement) (env : List Declaration) (at : ℕ) (s : Statement) (next : ℕ) (t : Term) (dummies : List Binder) (body : Tree)
+    → GoodTo gaps file [] (list_at file) ss env at → IsGoodStatement gaps file env at s next → s.decl ≡ term_decl t → t.form ≡ defined dummies body → length dummies ≤ 55
+few-dummies gaps file ss env at s next t dummies body before good d-is form-is = go (term_of_file file r).stream refl
   where
     r : ℕ
     r = length (terms env)
@@ -273,25 +274,25 @@ few-dummies file ss env at s next t dummies body before good d-is form-is = go (
     kind : IsKindOf good.spelled.code (term_decl t)
     kind = subst (IsKindOf good.spelled.code) d-is good.spelled.kind.0
 
-    here : AllHold (kind_checks false file (taken_by env) at good.spelled.body next (statement_code good.spelled.code))
-    here = subst (λ (x : Result StmtAt StmtFault). AllHold (checks_of false file (taken_by env) at x)) good.spelled.stands good.passes
+    here : AllHold (kind_checks gaps file (taken_by env) at good.spelled.body next (statement_code good.spelled.code))
+    here = subst (λ (x : Result StmtAt StmtFault). AllHold (checks_of gaps file (taken_by env) at x)) good.spelled.stands good.passes
 
-    asked : AllHold (term_body_checks false file (taken_by env) at good.spelled.body next (term_of_file file r).stream)
+    asked : AllHold (term_body_checks gaps file (taken_by env) at good.spelled.body next (term_of_file file r).stream)
     asked =
-        let (l, all) = body-asked file env at good.spelled.code good.spelled.body next t kind here in
-        all_hold-rest (word_checks (sorts env) (term_row file r)) (term_body_checks false file (taken_by env) at good.spelled.body next (term_of_file file r).stream) all.1.1
+        let (l, all) = body-asked gaps file env at good.spelled.code good.spelled.body next t kind here in
+        all_hold-rest (word_checks (sorts env) (term_row file r)) (term_body_checks gaps file (taken_by env) at good.spelled.body next (term_of_file file r).stream) all.1.1
 
     row : SpellsRow file env (term_decl t)
     row = subst (SpellsRow file env) d-is good.spelled.row
 
     has : HasRow file env (term_decl t)
-    has = subst (HasRow file env) d-is (good-rows false file env at s next good)
+    has = subst (HasRow file env) d-is (good-rows gaps file env at s next good)
 
     spelled : SpellsForm (signatures env) (term_of_file file r).signature.params (term_of_file file r).stream (defined dummies body)
     spelled = subst (SpellsForm (signatures env) (term_of_file file r).signature.params (term_of_file file r).stream) form-is row.1.1
 
     declares : Declares (rows_taken file (taken_by env)) env
-    declares = (well-chain false file [] (list_at file) ss env at before tt (record { sorts_are = refl; terms_are = tt; thms_are = tt })).1
+    declares = (well-chain gaps file [] (list_at file) ss env at before tt (record { sorts_are = refl; terms_are = tt; thms_are = tt })).1
 
     enough : bound_count (binders_of (term_row file r).words.params) ≤ 55
     enough =
@@ -301,7 +302,7 @@ few-dummies file ss env at s next t dummies body before good d-is form-is = go (
     go : (o : Option (List ℕ)) → (term_of_file file r).stream ≡ o → length dummies ≤ 55
     go None is = absurd (subst (λ (o : Option (List ℕ)). SpellsForm (signatures env) (term_of_file file r).signature.params o (defined dummies body)) is spelled)
     go (Some stream) is =
-        let runs = (bodies-checked strict (rows_taken file (taken_by env)) (definition_of (term_of_file file r) stream) good.spelled.body (body_bytes file good.spelled.body next)).0.0
-        (subst (λ (o : Option (List ℕ)). AllHold (term_body_checks false file (taken_by env) at good.spelled.body next o)) is asked) in
-        run-few (rows_taken file (taken_by env)) env declares (definition_of (term_of_file file r) stream) good.spelled.body (body_bytes file good.spelled.body next) refl enough runs dummies body
+        let runs = (bodies-checked (plain gaps) (rows_taken file (taken_by env)) (definition_of (term_of_file file r) stream) good.spelled.body (body_bytes file good.spelled.body next)).0.0
+        (subst (λ (o : Option (List ℕ)). AllHold (term_body_checks gaps file (taken_by env) at good.spelled.body next o)) is asked) in
+        run-few gaps (rows_taken file (taken_by env)) env declares (definition_of (term_of_file file r) stream) good.spelled.body (body_bytes file good.spelled.body next) refl enough runs dummies body
         (subst (λ (o : Option (List ℕ)). SpellsForm (signatures env) (term_of_file file r).signature.params o (defined dummies body)) is spelled)

@@ -14,3 +14,4 @@ pub mod OneVerdict
 pub mod Pairing
 mod ProvingTheorems
 pub mod SomeVerdict
+pub mod GapPlaces

@@ -123,7 +123,7 @@ partner-decided (d ∷ left) p = (kind-decided (kind_of d) (kind_of p.decl), λ 
 
 -- their public ones agree with the first declarations, or one of them differs
 abbrev pub Walked : List ℕ → List Declaration → List Statement → Type 0
-Walked bin ds ss = ((left : List Declaration) × Leaves ds ss left) ⊎ ((d : ℕ) × (s : ℕ) × (rule : M) × MatchFails bin ds d s rule)
+Walked bin ds ss = ((left : List Declaration) × Leaves ds ss left) ⊎ ((d : ℕ) × (s : ℕ) × (rule : M) × MatchFails false bin ds d s rule)
 
 module _ (bin : List ℕ) (layout : Layout bin) (ds : List Declaration) where
   -- a statement is local or public
@@ -175,7 +175,7 @@ abbrev pub Either : List ℕ → List ℕ → Type 0
 Either spec bin = ((counts : Counts) × AcceptsWith spec bin counts) ⊎ ((verdict : Verdict) × FirstRefusal spec bin verdict)
 
 module _ (spec bin : List ℕ) (ds : List Declaration) (is_spec : SpecOf spec ds) where
-  differs : (d s : ℕ) (rule : M) → MatchFails bin ds d s rule → Either spec bin
+  differs : (d s : ℕ) (rule : M) → MatchFails false bin ds d s rule → Either spec bin
   differs d s rule fails = inr (verdicts.Match d s rule, (ds, is_spec, fails))
 
   -- at a good end

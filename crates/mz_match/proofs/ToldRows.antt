@@ -65,10 +65,10 @@ more-arities file env (term_decl d) (there, says) so_far t s at =
           ))
     ]
 
-chain-arities : (file : List ℕ) (env : List Declaration) (from : ℕ) (ss : List Statement) (env' : List Declaration) (to : ℕ) → GoodTo false file env from ss env' to → Arities file env → Arities file env'
-chain-arities file env from [] env' to (same, _) so_far = subst (Arities file) (sym same) so_far
-chain-arities file env from (s ∷ ss) env' to (next, good, rest) so_far =
-    chain-arities file (env ++ s.decl ∷ []) next ss env' to rest (more-arities file env s.decl (good-rows false file env from s next good) so_far)
+chain-arities : (gaps : Bool) (file : List ℕ) (env : List Declaration) (from : ℕ) (ss : List Statement) (env' : List Declaration) (to : ℕ) → GoodTo gaps file env from ss env' to → Arities file env → Arities file env'
+chain-arities gaps file env from [] env' to (same, _) so_far = subst (Arities file) (sym same) so_far
+chain-arities gaps file env from (s ∷ ss) env' to (next, good, rest) so_far =
+    chain-arities gaps file (env ++ s.decl ∷ []) next ss env' to rest (more-arities file env s.decl (good-rows gaps file env from s next good) so_far)
 
 -- ---- a whole stream
 
@@ -194,8 +194,8 @@ row-told file env told (assertion_decl a) arities kind row (there, says) (_, spe
 )
 
 -- its row says what it declares
-pub told-row : (file rows : List ℕ) (told : Told) (ss : List Statement) (env : List Declaration) (s : Statement) (next : ℕ) → IsTold file rows told ss env s next → IsRowOf file told s.decl
-told-row file rows told ss env s next is =
-    let arities = chain-arities file [] (list_at file) ss env told.at is.before (λ t x at. absurd cc) in
-    row-told file env told s.decl arities is.tells.kind is.tells.row (good-rows false file env told.at s next is.good) is.good.spelled.row
-    (λ t dummies body d-is form-is. few-dummies file ss env told.at s next t dummies body is.before is.good d-is form-is)
+pub told-row : (gaps : Bool) (file rows : List ℕ) (told : Told) (ss : List Statement) (env : List Declaration) (s : Statement) (next : ℕ) → IsTold gaps file rows told ss env s next → IsRowOf file told s.decl
+told-row gaps file rows told ss env s next is =
+    let arities = chain-arities gaps file [] (list_at file) ss env told.at is.before (λ t x at. absurd cc) in
+    row-told file env told s.decl arities is.tells.kind is.tells.row (good-rows gaps file env told.at s next is.good) is.good.spelled.row
+    (λ t dummies body d-is form-is. few-dummies gaps file ss env told.at s next t dummies body is.before is.good d-is form-is)

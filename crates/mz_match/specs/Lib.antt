@@ -9,3 +9,4 @@ pub mod Proved
 pub mod Lines
 pub mod Verdict
 pub mod Told
+pub mod Drafts

@@ -1,5 +1,5 @@
 -- What is said of a specification and a binary together (this project's own, of mm0.md's and the .mmb format's parts).
-use Rattle.std.specs.Prelude.{◌≡◌, ◌≤◌, ◌⊎◌, ◌+◌, ⊤, ℕ, List, [], ◌∷◌, length, false, if◌then◌else◌}
+use Rattle.std.specs.Prelude.{◌≡◌, ◌≤◌, ◌⊎◌, ◌+◌, ⊤, ℕ, List, [], ◌∷◌, length, Bool, false, if◌then◌else◌}
 use Rattle.mz_checks.specs.Checks.{FailsFirst}
 use Rattle.mz_cmd.specs.declared.rule.Refusal.{Refusal}
 use Rattle.mz_logic.specs.Declaration.{Declaration}
@@ -38,17 +38,23 @@ counts_of ds = record {
   theorems = count kinds.Theorem ds;
 }
 
--- the specification declares something, the binary is good, and its public statements agree
-pub record Accepts (spec bin : List ℕ) : Type 0 where
+-- the specification declares something, the binary is good, with gaps or without, and its public statements agree
+pub record AcceptsBy (gaps : Bool) (spec bin : List ℕ) : Type 0 where
   pub declared : List Declaration
   pub statements : List Statement
   pub is_spec : SpecOf spec declared
-  pub is_good : Good false bin statements
+  pub is_good : Good gaps bin statements
   pub agrees : Agrees declared (publics statements)
 
+abbrev pub Accepts : List ℕ → List ℕ → Type 0
+Accepts spec bin = AcceptsBy false spec bin
+
 -- so many of each kind are declared
+abbrev pub AcceptsWithBy : Bool → List ℕ → List ℕ → Counts → Type 0
+AcceptsWithBy gaps spec bin counts = (accepts : AcceptsBy gaps spec bin) × (counts ≡ counts_of accepts.declared)
+
 abbrev pub AcceptsWith : List ℕ → List ℕ → Counts → Type 0
-AcceptsWith spec bin counts = (accepts : Accepts spec bin) × (counts ≡ counts_of accepts.declared)
+AcceptsWith spec bin counts = AcceptsWithBy false spec bin counts
 
 -- The specification and the binary's statements agree, and every theorem of the specification is proved. All of the
 -- binary's statements are a legal list too, and each of its theorems has a closed derivation.
@@ -73,47 +79,53 @@ IsSoundIfAccepted spec bin verdicts.Mem = ⊤
 
 -- the binary's first fault comes before anything differs from the declarations: header and tables fail, or the
 -- statements before are good and agree, and after them a rule fails
-abbrev pub BinaryFails : List ℕ → List Declaration → Refusal → Type 0
-BinaryFails bin ds refusal =
+abbrev pub BinaryFails : Bool → List ℕ → List Declaration → Refusal → Type 0
+BinaryFails gaps bin ds refusal =
     ((refusal.statement ≡ 0) × FailsFirst (layout_checks bin) (refusal.at, refusal.rule))
-    ⊎ ((ss : List Statement) × (env : List Declaration) × (at : ℕ) × (left : List Declaration) × FailsAfter false bin ss env at refusal × Leaves ds ss left)
+    ⊎ ((ss : List Statement) × (env : List Declaration) × (at : ℕ) × (left : List Declaration) × FailsAfter gaps bin ss env at refusal × Leaves ds ss left)
 
 -- after good statements that agree, the list ends before the declarations do, or a good public statement stands there
 -- that differs from the next declaration
-abbrev pub Differs : List ℕ → List Statement → List Declaration → ℕ → List Declaration → M → Type 0
-Differs bin before env at left rule =
-    (EndsAt false bin env at × FailsFirst (end_checks left) rule)
-    ⊎ ((s : Statement) × (next : ℕ) × IsGoodStatement false bin env at s next × (s.is_local ≡ false) × FailsFirst (partner_checks left (partner_of before s)) rule)
+abbrev pub Differs : Bool → List ℕ → List Statement → List Declaration → ℕ → List Declaration → M → Type 0
+Differs gaps bin before env at left rule =
+    (EndsAt gaps bin env at × FailsFirst (end_checks left) rule)
+    ⊎ ((s : Statement) × (next : ℕ) × IsGoodStatement gaps bin env at s next × (s.is_local ≡ false) × FailsFirst (partner_checks left (partner_of before s)) rule)
 
 -- the first difference: at which declaration, and at which statement
-pub record MatchFails (bin : List ℕ) (ds : List Declaration) (declaration statement : ℕ) (rule : M) : Type 0 where
+pub record MatchFails (gaps : Bool) (bin : List ℕ) (ds : List Declaration) (declaration statement : ℕ) (rule : M) : Type 0 where
   pub layout : Layout bin
   pub before : List Statement
   pub env : List Declaration
   pub at : ℕ
   pub left : List Declaration
-  pub statements : GoodTo false bin [] (list_at bin) before env at
+  pub statements : GoodTo gaps bin [] (list_at bin) before env at
   pub leaves : Leaves ds before left
   pub declaration_is : declaration ≡ length (publics before) + 1
   pub statement_is : statement ≡ length before + 1
-  pub fails : Differs bin before env at left rule
+  pub fails : Differs gaps bin before env at left rule
 
 -- the first refusal: of the specification, else of the binary or of the match, whichever comes first
+abbrev pub FirstRefusalBy : Bool → List ℕ → List ℕ → Verdict → Type 0
+FirstRefusalBy gaps spec bin (verdicts.Accepted counts) = ⊥
+FirstRefusalBy gaps spec bin (verdicts.Spec refusal) = SpecFault spec refusal
+FirstRefusalBy gaps spec bin (verdicts.Binary refusal) = (ds : List Declaration) × SpecOf spec ds × BinaryFails gaps bin ds refusal
+FirstRefusalBy gaps spec bin (verdicts.Match declaration statement rule) = (ds : List Declaration) × SpecOf spec ds × MatchFails gaps bin ds declaration statement rule
+FirstRefusalBy gaps spec bin verdicts.Mem = ⊥
+
 abbrev pub FirstRefusal : List ℕ → List ℕ → Verdict → Type 0
-FirstRefusal spec bin (verdicts.Accepted counts) = ⊥
-FirstRefusal spec bin (verdicts.Spec refusal) = SpecFault spec refusal
-FirstRefusal spec bin (verdicts.Binary refusal) = (ds : List Declaration) × SpecOf spec ds × BinaryFails bin ds refusal
-FirstRefusal spec bin (verdicts.Match declaration statement rule) = (ds : List Declaration) × SpecOf spec ds × MatchFails bin ds declaration statement rule
-FirstRefusal spec bin verdicts.Mem = ⊥
+FirstRefusal spec bin verdict = FirstRefusalBy false spec bin verdict
 
 -- ---- either
 
+abbrev pub IsVerdictBy : Bool → List ℕ → List ℕ → Verdict → Type 0
+IsVerdictBy gaps spec bin (verdicts.Accepted counts) = AcceptsWithBy gaps spec bin counts
+IsVerdictBy gaps spec bin (verdicts.Spec refusal) = FirstRefusalBy gaps spec bin (verdicts.Spec refusal)
+IsVerdictBy gaps spec bin (verdicts.Binary refusal) = FirstRefusalBy gaps spec bin (verdicts.Binary refusal)
+IsVerdictBy gaps spec bin (verdicts.Match declaration statement rule) = FirstRefusalBy gaps spec bin (verdicts.Match declaration statement rule)
+IsVerdictBy gaps spec bin verdicts.Mem = ⊤
+
 abbrev pub IsVerdict : List ℕ → List ℕ → Verdict → Type 0
-IsVerdict spec bin (verdicts.Accepted counts) = AcceptsWith spec bin counts
-IsVerdict spec bin (verdicts.Spec refusal) = FirstRefusal spec bin (verdicts.Spec refusal)
-IsVerdict spec bin (verdicts.Binary refusal) = FirstRefusal spec bin (verdicts.Binary refusal)
-IsVerdict spec bin (verdicts.Match declaration statement rule) = FirstRefusal spec bin (verdicts.Match declaration statement rule)
-IsVerdict spec bin verdicts.Mem = ⊤
+IsVerdict spec bin verdict = IsVerdictBy false spec bin verdict
 
 -- ---- its line
 
@@ -129,12 +141,15 @@ line_of verdicts.Mem = []
 
 -- the commands executed: none before the binary, then all of it up to its first fault, and no more than these at a
 -- difference; where memory is wanting only the bound on the whole file holds
+abbrev pub TicksBy : Bool → List ℕ → (old new : ℕ) → Verdict → Type 0
+TicksBy gaps bin old new (verdicts.Accepted counts) = new ≡ old + file_steps gaps bin
+TicksBy gaps bin old new (verdicts.Spec refusal) = new ≡ old
+TicksBy gaps bin old new (verdicts.Binary refusal) = new ≡ old + file_steps gaps bin
+TicksBy gaps bin old new (verdicts.Match declaration statement rule) = new ≤ old + file_steps gaps bin
+TicksBy gaps bin old new verdicts.Mem = ⊤
+
 abbrev pub Ticks : List ℕ → (old new : ℕ) → Verdict → Type 0
-Ticks bin old new (verdicts.Accepted counts) = new ≡ old + file_steps false bin
-Ticks bin old new (verdicts.Spec refusal) = new ≡ old
-Ticks bin old new (verdicts.Binary refusal) = new ≡ old + file_steps false bin
-Ticks bin old new (verdicts.Match declaration statement rule) = new ≤ old + file_steps false bin
-Ticks bin old new verdicts.Mem = ⊤
+Ticks bin old new verdict = TicksBy false bin old new verdict
 
 -- a difference, or want of memory
 abbrev pub IsDifference : Verdict → Type 0

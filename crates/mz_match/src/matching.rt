@@ -1,5 +1,5 @@
 // How far the match has come.
-ghost use Rattle.std.specs.Prelude.{◌≡◌, ◌≤◌, ◌<◌, ◌+◌, ◌^◌, ℕ, List, [], length, IfErr, OnOk};
+ghost use Rattle.std.specs.Prelude.{◌≡◌, ◌≤◌, ◌<◌, ◌+◌, ◌++◌, ◌∷◌, ◌^◌, ℕ, List, [], length, IfErr, OnOk};
 ghost use Rattle.mz_logic.specs.Declaration.{Declaration};
 ghost use Rattle.mz_logic.specs.LegalLists.{Statement as Declared};
 ghost use Rattle.mz_layout.specs.Layout.{Layout};
@@ -7,8 +7,8 @@ ghost use Rattle.mz_binary.specs.Judging.{Passes};
 ghost use Rattle.mz_binary.specs.Progress.{HasPassed, Progress};
 ghost use Rattle.mz_spec.specs.Spec.{SpecMakes};
 ghost use Rattle.mz_spec.specs.State.{Entry, env_of};
-ghost use Rattle.mz_match.specs.Told.{IsMatched, IsMatchedMore, IsNextTold};
-ghost use Rattle.mz_match.specs.Verdict.{IsDifference, IsVerdict, counts_of};
+ghost use Rattle.mz_match.specs.Told.{IsMatched, IsNextTold};
+ghost use Rattle.mz_match.specs.Verdict.{IsDifference, IsVerdictBy, counts_of};
 
 use crate::count::count_all;
 use crate::pair::{TERM, match_statement};
@@ -50,9 +50,10 @@ impl Matching {
     pub fn pass(&mut self, spec: &Spec, mmb: &Mmb, told: &Statement) -> Result<(), Verdict>
         requires told { IsNextTold mmb.now (env_of spec.now) self.old told.now }
         ensures passed { (p after : Progress) (ss : List Declared) (env : List Declaration) → p.file ≡ mmb.now → IsMatched p (env_of spec.now) self.old ss env
-            → Passes p ss env after told.now → OnOk result (IsMatchedMore (env_of spec.now) self.new after) }
+            → (passes : Passes p ss env after told.now) → OnOk result (IsMatched after (env_of spec.now) self.new (ss ++ passes.statement ∷ []) (env ++ passes.statement.decl ∷ [])) }
         ensures kind { IfErr result IsDifference }
-        ensures stops { (text : List ℕ) → SpecMakes text spec.now → IfErr result (λ verdict. IsVerdict text mmb.now verdict) }
+        ensures stops { (p after : Progress) (ss : List Declared) (env : List Declaration) → p.file ≡ mmb.now → IsMatched p (env_of spec.now) self.old ss env
+            → Passes p ss env after told.now → (text : List ℕ) → SpecMakes text spec.now → IfErr result (λ verdict. IsVerdictBy p.gaps text mmb.now verdict) }
     {
         if !told.local {
             if let Err(rule) = match_statement(spec, self.done, mmb, told, &self.publics) {

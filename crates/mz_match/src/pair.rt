@@ -1,5 +1,5 @@
 // A declaration and its partner.
-ghost use Rattle.std.specs.Prelude.{◌≡◌, ◌≤◌, ◌↔◌, ℕ, IsTrue, List, OnErr, drop, if◌then◌else◌, length, false, true};
+ghost use Rattle.std.specs.Prelude.{◌≡◌, ◌≤◌, ◌↔◌, ℕ, Bool, IsTrue, List, OnErr, drop, if◌then◌else◌, length, false, true};
 ghost use Rattle.mz_checks.specs.Checks.{Judges};
 ghost use Rattle.mz_logic.specs.Declaration.{Assertion, Declaration, Term, sort_decl};
 ghost use Rattle.mz_logic.specs.DeclView.{assertion_of, assertion_view, declaration, form as form_lem, is_axiom, term_of};
@@ -44,9 +44,9 @@ pub fn match_statement(
     publics: &Publics,
 ) -> Result<(), M>
     requires place { i ≤ length spec.now }
-    requires told { (ss : List Declared) × (env : List Declaration) × (s : Declared) × (next : ℕ) × IsTold mmb.now publics.now statement.now ss env s next }
+    requires told { (gaps : Bool) × (ss : List Declared) × (env : List Declaration) × (s : Declared) × (next : ℕ) × IsTold gaps mmb.now publics.now statement.now ss env s next }
     requires public_ { statement.now.local ≡ false }
-    ensures { (ss : List Declared) (env : List Declaration) (s : Declared) (next : ℕ) → IsTold mmb.now publics.now statement.now ss env s next
+    ensures { (gaps : Bool) (ss : List Declared) (env : List Declaration) (s : Declared) (next : ℕ) → IsTold gaps mmb.now publics.now statement.now ss env s next
         → Judges result (partner_checks (drop i (env_of spec.now)) (partner_of ss s)) }
 {
     if i == spec.len() {

@@ -1,14 +1,17 @@
 // A specification and a binary together.
-ghost use Rattle.std.specs.Prelude.{◌≡◌, ◌⊎◌, ◌<◌, ◌≤◌, ◌+◌, ◌*◌, ◌^◌, ℕ, List, length};
+ghost use Rattle.std.specs.Prelude.{◌≡◌, ◌⊎◌, ◌<◌, ◌≤◌, ◌+◌, ◌*◌, ◌^◌, ℕ, List, [], length, OnOk};
+ghost use Rattle.mz_mode.specs.Gaps.{gaps_of};
 ghost use Rattle.mz_layout.specs.Layout.{Layout};
 ghost use Rattle.mz_spec.specs.Spec.{SpecMakes};
-ghost use Rattle.mz_match.specs.Verdict.{AcceptsWith, FirstRefusal, IsSoundIfAccepted, IsVerdict, Ticks};
+ghost use Rattle.mz_match.specs.Drafts.{IsJudged, places_past};
+ghost use Rattle.mz_match.specs.Verdict.{AcceptsWith, FirstRefusal, IsSoundIfAccepted, IsVerdict, Ticks, TicksBy};
 
 use crate::matching::Matching;
 use crate::verdict::{Counts, Verdict};
-use mz_binary::{Checker, Next};
-use mz_cmd::Steps;
+use mz_binary::{Checker, Next, Statement};
+use mz_cmd::{Mem, Steps};
 use mz_layout::Mmb;
+use mz_mode::Mode;
 use mz_spec::{Spec, SpecRead, read_spec};
 use std::alloc::Global;
 use std::sync::ledger::Ledger;
@@ -30,14 +33,24 @@ pub fn verify_bytes<L: Ledger>(
     ensures steps { Ticks bin.now steps.old steps.new result }
     ensures bound { steps.new ≤ steps.old + (length bin.now * length bin.now + length bin.now) }
 {
-    judge(alloc, spec, bin, steps)
+    let mut places = Vec::new(alloc);
+    judge(alloc, spec, bin, Mode::Strict, &mut places, steps)
 }
 
-fn judge<L: Ledger>(alloc: Global, spec: &[u8], bin: &[u8], steps: &mut Steps<L>) -> Verdict
+/// What is said of the two, and in a draft the places of the declarations whose theorems rest on a gap.
+pub(crate) fn judge<L: Ledger>(
+    alloc: Global,
+    spec: &[u8],
+    bin: &[u8],
+    mode: Mode,
+    places: &mut Vec<u32>,
+    steps: &mut Steps<L>,
+) -> Verdict
     requires spec { length spec.now < 2 ^ 32 }
     requires bin { length bin.now < 2 ^ 32 }
-    ensures verdict { IsVerdict spec.now bin.now result }
-    ensures steps { Ticks bin.now steps.old steps.new result }
+    requires none { places.old.items ≡ [] }
+    ensures verdict { IsJudged (gaps_of mode) spec.now bin.now result places.new.items }
+    ensures steps { TicksBy (gaps_of mode) bin.now steps.old steps.new result }
     ensures bound { steps.new ≤ steps.old + (length bin.now * length bin.now + length bin.now) }
 {
     let declared = match read_spec(alloc, spec) {
@@ -46,27 +59,39 @@ fn judge<L: Ledger>(alloc: Global, spec: &[u8], bin: &[u8], steps: &mut Steps<L>
         SpecRead::Mem => return Verdict::Mem,
     };
     match Mmb::read(bin) {
-        Ok(mmb) => check_list(alloc, &declared, &mmb, steps),
+        Ok(mmb) => check_list(alloc, &declared, &mmb, mode, places, steps),
         Err(refusal) => Verdict::Binary(refusal),
     }
 }
 
 /// Checks the list of statements, and each public one beside its declaration.
-fn check_list<L: Ledger>(alloc: Global, spec: &Spec, mmb: &Mmb, steps: &mut Steps<L>) -> Verdict
+fn check_list<L: Ledger>(
+    alloc: Global,
+    spec: &Spec,
+    mmb: &Mmb,
+    mode: Mode,
+    places: &mut Vec<u32>,
+    steps: &mut Steps<L>,
+) -> Verdict
     requires small { length mmb.now < 2 ^ 32 }
     requires layout { Layout mmb.now }
-    ensures verdict { (text : List ℕ) → SpecMakes text spec.now → IsVerdict text mmb.now result }
-    ensures steps { Ticks mmb.now steps.old steps.new result }
+    requires none { places.old.items ≡ [] }
+    ensures verdict { (text : List ℕ) → SpecMakes text spec.now → IsJudged (gaps_of mode) text mmb.now result places.new.items }
+    ensures steps { TicksBy (gaps_of mode) mmb.now steps.old steps.new result }
     ensures bound { steps.new ≤ steps.old + (length mmb.now * length mmb.now + length mmb.now) }
 {
-    let mut checker = Checker::new(alloc, mmb);
+    let mut checker = Checker::new(alloc, mmb, mode);
     let mut matching = Matching::new(alloc);
     'statements: loop {
         match checker.check_next(steps) {
             Next::Statement(after, told) => {
+                let place = matching.done;
                 if let Err(verdict) = matching.pass(spec, mmb, &told) {
                     return verdict;
                 }
+                let Ok(()) = note(&told, place, places) else {
+                    return Verdict::Mem;
+                };
                 checker = after;
             }
             Next::End(_) => return matching.end(spec),
@@ -74,4 +99,14 @@ fn check_list<L: Ledger>(alloc: Global, spec: &Spec, mmb: &Mmb, steps: &mut Step
             Next::Mem => return Verdict::Mem,
         }
     }
+}
+
+/// Notes the declaration's place of a public theorem that rests on a gap.
+fn note(told: &Statement, place: u32, places: &mut Vec<u32>) -> Result<(), Mem>
+    ensures { OnOk result (places.new.items ≡ places_past told.now.local told.now.gap place places.old.items) }
+{
+    if told.gap && !told.local {
+        places.push(place)?;
+    }
+    Ok(())
 }

@@ -4,7 +4,9 @@ use Rattle.std.specs.Prelude.{◌==◌}
 use Rattle.std.proofs.lemmas.Bool.{cond-true, cond-false, eq-eqb}
 use Rattle.std.proofs.lemmas.Bool.Decides.{eqb_tells}
 use Rattle.mz_logic.specs.Tree.{Tree, Trees, none, more, listed}
-use Rattle.mz_math.specs.Notation.{Element, fixed, slot, slots, places}
+use Rattle.mz_notation.specs.Notation.{slots, places}
+use Rattle.mz_notation.specs.declared.notation.Element.{Element}
+use Rattle.mz_notation.specs.declared.notation.Element.TheVariants.{Fixed as fixed, Slot as slot}
 use Rattle.mz_math.specs.Grammar.{operand_for, arranged}
 
 other : (j i : ℕ) → j < i → (j == i) ≡ false

@@ -4,8 +4,12 @@ use Rattle.std.specs.Prelude.{codes}
 use Rattle.mz_checks.proofs.InOrder.{at_most-decided, both-decided, bytes-decided}
 use Rattle.mz_logic.specs.Tree.{Tree, Trees, var, app, none, more, followed_by}
 use Rattle.mz_logic.specs.Signature.{Signature}
-use Rattle.mz_math.specs.Notation.{max_level, above, Element, fixed, slot, Notation, TermName}
-use Rattle.mz_math.specs.Clear.{LedBy, JoinedBy}
+use Rattle.mz_notation.specs.Notation.{max_level, above}
+use Rattle.mz_notation.specs.declared.notation.Element.{Element}
+use Rattle.mz_notation.specs.declared.notation.Element.TheVariants.{Fixed as fixed, Slot as slot}
+use Rattle.mz_notation.specs.declared.notation.Notation.{Notation}
+use Rattle.mz_notation.specs.declared.table.TermName.{TermName}
+use Rattle.mz_notation.specs.Clear.{LedBy, JoinedBy}
 use Rattle.mz_math.specs.Lookups.{NoVariable, NoLeading, NoTermName}
 use Rattle.mz_math.specs.Answers.{MayLead}
 use Rattle.mz_math.specs.Grammar.{Item, token, expr, items, level_before, operands_at_max, variable, applied, end, word, head_level, Words, Exp, IsTermName, last_level, notated_tree, tokens_of, part_tokens}

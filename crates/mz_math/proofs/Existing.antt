@@ -8,17 +8,23 @@ use Rattle.mz_checks.proofs.InOrder.{at_most-decided, bytes-decided, both-decide
 use Rattle.mz_lex.specs.Kinds.{is_space}
 use Rattle.mz_logic.specs.Tree.{Tree}
 use Rattle.mz_logic.specs.Declaration.{signatures}
-use Rattle.mz_math.specs.Pieces.{Delimiters, Piece, IsSpaces, IsPiece, PiecesFrom, Pieces, piece_texts, piece_text}
-use Rattle.mz_math.specs.Notation.{Element, fixed, slot, Notation, TermName}
-use Rattle.mz_math.specs.Clear.{HasConstant}
+use Rattle.mz_tokens.specs.Pieces.{IsSpaces, IsPiece, PiecesFrom, Pieces, piece_texts, piece_text}
+use Rattle.mz_tokens.specs.declared.pieces.Delimiters.{Delimiters}
+use Rattle.mz_tokens.specs.declared.pieces.Piece.{Piece}
+use Rattle.mz_notation.specs.declared.notation.Element.{Element}
+use Rattle.mz_notation.specs.declared.notation.Element.TheVariants.{Fixed as fixed, Slot as slot}
+use Rattle.mz_notation.specs.declared.notation.Notation.{Notation}
+use Rattle.mz_notation.specs.declared.table.TermName.{TermName}
+use Rattle.mz_notation.specs.Clear.{HasConstant}
 use Rattle.mz_math.specs.Grammar.{Words, Exp, IsVariable, IsNamed, IsSomeConstant, IsKnown}
-use Rattle.mz_math.specs.Readable.{IsTable, AreVariables}
+use Rattle.mz_notation.specs.Kept.{IsTable, AreVariables}
 use Rattle.mz_math.specs.Meaning.{Wanted, Coerced, IsClaimed, height}
-use Rattle.mz_math.specs.Coercions.{IsPath, wrapped}
+use Rattle.mz_notation.specs.Coercions.{IsPath, wrapped}
 use Rattle.mz_math.specs.Formula.{Reader, words, most, StandsFor, Means, Misreading, is_known, known_checks, token_checks, formula_checks, IsFormula, Misreads}
-use Rattle.mz_math.specs.Answers.{EndsAt, IsWhole, settled}
-use Rattle.mz_math.proofs.Tables.{table-readable}
-use Rattle.mz_math.proofs.Strings.{next-first, whole-first, whole-more, whole-piece}
+use Rattle.mz_tokens.specs.Answers.{EndsAt, IsWhole}
+use Rattle.mz_math.specs.Answers.{settled}
+use Rattle.mz_math.proofs.Readable.{table-readable}
+use Rattle.mz_tokens.proofs.Strings.{next-first, whole-first, whole-more, whole-piece}
 use Rattle.mz_math.proofs.Judging.{parts, stands, same}
 use Rattle.mz_math.proofs.Deciding.{Decided, found, placed, equal-decided, either-decided, tree-decided}
 use Rattle.mz_math.proofs.Standing.{path-decided, coerced-decided, claimed-decided}

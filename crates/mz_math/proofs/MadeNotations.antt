@@ -9,13 +9,23 @@ use Rattle.mz_checks.proofs.InOrder.{at_most-decided, both-decided, bytes-decide
 use Rattle.mz_logic.specs.Signature.{Signature}
 use Rattle.mz_logic.specs.declared.binder.Binder.{Binder}
 use Rattle.mz_logic.specs.declared.binder.ResultType.{ResultType}
-use Rattle.mz_math.specs.Pieces.{Delimiters, Piece, Pieces, piece_text}
-use Rattle.mz_math.specs.Notation.{level_of, places, Element, fixed, slot, infixed, prefixed, Notation, Table, with_notation}
-use Rattle.mz_math.specs.Readable.{IsTable}
-use Rattle.mz_math.specs.Forms.{IsConstant, IsInfix, IsPrefix, IsSpan, IsElement, AreElements, EachOnce, Begins, General, IsGeneral, Literal, constant, name, Tail, NoteFault, notation_checks}
-use Rattle.mz_math.specs.Answers.{IsClearTable}
-use Rattle.mz_math.proofs.OneMeaning.{pieces-one}
-use Rattle.mz_math.proofs.Tables.{none-some, some-same, constant-one, infix-one, prefix-one, begins-one}
+use Rattle.mz_tokens.specs.Pieces.{Pieces, piece_text}
+use Rattle.mz_tokens.specs.declared.pieces.Delimiters.{Delimiters}
+use Rattle.mz_tokens.specs.declared.pieces.Piece.{Piece}
+use Rattle.mz_notation.specs.Notation.{level_of, places, infixed, prefixed, Table, with_notation}
+use Rattle.mz_notation.specs.declared.notation.Element.{Element}
+use Rattle.mz_notation.specs.declared.notation.Element.TheVariants.{Fixed as fixed, Slot as slot}
+use Rattle.mz_notation.specs.declared.notation.Notation.{Notation}
+use Rattle.mz_notation.specs.Kept.{IsTable}
+use Rattle.mz_tokens.specs.Pieces.{IsConstant}
+use Rattle.mz_notation.specs.Forms.{IsInfix, IsPrefix, IsSpan, IsElement, AreElements, EachOnce, Begins, General, IsGeneral, notation_checks}
+use Rattle.mz_notation.specs.declared.form.Literal.{Literal}
+use Rattle.mz_notation.specs.declared.form.Literal.TheVariants.{Constant as constant, Name as name}
+use Rattle.mz_notation.specs.declared.form.Tail.{Tail}
+use Rattle.mz_notation.specs.declared.table.NoteFault.{NoteFault}
+use Rattle.mz_notation.specs.Answers.{IsClearTable}
+use Rattle.mz_tokens.proofs.Cutting.{pieces-one}
+use Rattle.mz_notation.proofs.Tables.{none-some, some-same, constant-one, infix-one, prefix-one, begins-one}
 use Rattle.mz_math.proofs.Deciding.{Decided, equal-decided, not-decided, true-decided, three-decided, some-decided}
 use Rattle.mz_math.proofs.Existing.{some-pieces}
 use Rattle.mz_math.proofs.StayingClear.{clear-decided}

@@ -6,14 +6,18 @@ use Rattle.mz_checks.proofs.CheckLaws.{all_hold-or_fails}
 use Rattle.mz_checks.proofs.InOrder.{both-decided}
 use Rattle.mz_logic.specs.Signature.{Signature}
 use Rattle.mz_logic.specs.declared.binder.Binder.{Binder}
-use Rattle.mz_math.specs.Pieces.{Delimiters, no_delimiters, Piece, Pieces, piece_texts, AreCharacters, AreDelimiters}
-use Rattle.mz_math.specs.Notation.{Coercion, Table}
-use Rattle.mz_math.specs.Coercions.{IsPath, OnePath}
-use Rattle.mz_math.specs.Readable.{IsTable}
-use Rattle.mz_math.specs.Forms.{NoteFault, IsCoercion, coercion_checks, delimiter_checks}
-use Rattle.mz_math.specs.Answers.{MayStart, MayEnd, IsClashAt}
-use Rattle.mz_math.proofs.OneMeaning.{pieces-one}
-use Rattle.mz_math.proofs.Paths.{stays-one, clash-two, clash-parts, clash-made}
+use Rattle.mz_tokens.specs.Pieces.{no_delimiters, Pieces, piece_texts, AreCharacters, AreDelimiters}
+use Rattle.mz_tokens.specs.declared.pieces.Delimiters.{Delimiters}
+use Rattle.mz_tokens.specs.declared.pieces.Piece.{Piece}
+use Rattle.mz_notation.specs.Notation.{Table}
+use Rattle.mz_notation.specs.declared.coercion.Coercion.{Coercion}
+use Rattle.mz_notation.specs.Coercions.{IsPath, OnePath}
+use Rattle.mz_notation.specs.Kept.{IsTable}
+use Rattle.mz_notation.specs.Forms.{IsCoercion, coercion_checks, delimiter_checks}
+use Rattle.mz_notation.specs.declared.table.NoteFault.{NoteFault}
+use Rattle.mz_notation.specs.Answers.{MayStart, MayEnd, IsClashAt}
+use Rattle.mz_tokens.proofs.Cutting.{pieces-one}
+use Rattle.mz_notation.proofs.Paths.{stays-one, clash-two, clash-parts, clash-made}
 use Rattle.mz_math.proofs.Deciding.{Decided, found, equal-decided, some-decided, true-decided}
 use Rattle.mz_math.proofs.Standing.{path-decided}
 use Rattle.mz_math.proofs.Existing.{some-pieces}

@@ -1,16 +1,8 @@
-pub mod Pieces
-pub mod Notation
-pub mod Clear
 pub mod Grammar
-pub mod Coercions
 pub mod Readable
 pub mod Meaning
 pub mod Formula
-pub mod Forms
 pub mod Reading
 pub mod Lookups
 pub mod Answers
 pub mod Laws
-pub mod Places
-pub mod Names
-pub mod Headed

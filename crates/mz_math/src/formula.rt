@@ -4,20 +4,18 @@ ghost use Rattle.mz_logic.specs.Declaration.{sorts};
 ghost use Rattle.mz_logic.specs.Modifiers.{MayBeClaimSort};
 ghost use Rattle.mz_logic.specs.View.{tree};
 ghost use Rattle.mz_math.specs.Answers.{IsClaimRead, IsFirstUnknown, IsJudged, settled};
-ghost use Rattle.mz_math.specs.Coercions.{IsPath, OnePath, Reaches};
+ghost use Rattle.mz_notation.specs.Coercions.{IsPath, OnePath, Reaches};
 ghost use Rattle.mz_math.specs.Formula.{IsParsed};
 ghost use Rattle.mz_math.specs.Meaning.{IsGoal};
-ghost use Rattle.mz_math.specs.Readable.{AreVariables};
+ghost use Rattle.mz_notation.specs.Kept.{AreVariables};
 
-use crate::coercion::{Coercion, distance, wrap};
 use crate::meaning::{Built, build, sort_of};
 use crate::parser::{Syntax, parse};
-use crate::pieces::{Piece, Tokens};
-use crate::scope::Scope;
-use crate::table::Notations;
 use crate::words::Vocabulary;
 use mz_lex::S;
 use mz_logic::{Context, Env, Expr};
+use mz_notation::{Coercion, Notations, Scope, distance, wrap};
+use mz_tokens::{Piece, Tokens};
 use std::alloc::Global;
 
 /// At most so many tokens, and at most so high a tree.

@@ -4,11 +4,11 @@ ghost use Rattle.mz_logic.specs.Declaration.{signatures};
 ghost use Rattle.mz_logic.specs.Tree.{Tree, Trees};
 ghost use Rattle.mz_logic.specs.View.{tree as tree_lem};
 ghost use Rattle.mz_math.specs.Answers.{FitsParam, IsBuilt, AreBuilt, IsOperandBuilt};
-ghost use Rattle.mz_math.specs.Coercions.{OnePath};
+ghost use Rattle.mz_notation.specs.Coercions.{OnePath};
 ghost use Rattle.mz_math.specs.Meaning.{Coerced, CoercedAll};
 
-use crate::coercion::{Coercion, distance, reaches, wrap};
 use mz_logic::{Binder, Context, Env, Expr, Exprs, is_bound_var};
+use mz_notation::{Coercion, distance, reaches, wrap};
 use std::alloc::Global;
 
 /// An expression, where it isn't too high.

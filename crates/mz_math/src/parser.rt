@@ -2,18 +2,18 @@
 ghost use Rattle.std.specs.Prelude.{◌≡◌, ◌≢◌, ◌↔◌, ◌≤◌, ◌<◌, ◌+◌, ◌^◌, ◌∷◌, ⊤, [], ℕ, List, false, true, IsTrue, MatchOption, IfSome, Contains, length, drop, slice_get, Some, codes};
 ghost use Rattle.mz_logic.specs.Tree.{none, more, followed_by};
 ghost use Rattle.mz_logic.specs.View.{tree, trees};
-ghost use Rattle.mz_math.specs.Notation.{above, max_level, places, slots as in_places};
-ghost use Rattle.mz_math.specs.Clear.{LedBy, JoinedBy};
+ghost use Rattle.mz_notation.specs.Notation.{above, max_level, places, slots as in_places};
+ghost use Rattle.mz_notation.specs.Clear.{LedBy, JoinedBy};
 ghost use Rattle.mz_math.specs.Grammar.{IsTermName, IsVariable, IsLeading, items, operands_at_max, level_before, last_level, infix_items, notated_tree, head_level, applied, operand_for, arranged as in_order, Exp};
 ghost use Rattle.mz_math.specs.Readable.{IsReadable};
 ghost use Rattle.mz_math.specs.Answers.{IfRead, IfNotRead, IfBegun, IfPartsRead, IfNoParts, IfParsed, IfNotParsed, IsBegunAs, MayLead};
 ghost use Rattle.mz_math.specs.Lookups.{NoTermName, NoVariable, NoLeading, NoInfix};
 ghost use Rattle.mz_math.specs.Reading.{NoReading, NoParts, NotJoined};
 
-use crate::notation::{Element, MAX, Notation};
-use crate::pieces::Tokens;
 use crate::words::Vocabulary;
 use mz_logic::{Expr, Exprs, copy_of};
+use mz_notation::{Element, MAX, Notation};
+use mz_tokens::Tokens;
 use std::alloc::Global;
 
 /// An expression at the front of the tokens, and where the others begin.

@@ -13,6 +13,7 @@ use crate::fault::Stop;
 use crate::keyword::Keyword;
 use crate::reader::Reader;
 use crate::scope::Scope;
+use mz_logic::push_tightly;
 use mz_sexpr::U;
 
 impl<'r, 'a> Reader<'r, 'a> {
@@ -113,7 +114,7 @@ impl<'r, 'a> Reader<'r, 'a> {
         let mut left = first;
         while let Some(n) = left {
             let conv = self.conv(sc, n)?;
-            convs.push(conv)?;
+            push_tightly(&mut convs, conv)?;
             left = self.nodes.next(n);
         }
         Ok(Convs::from_vec(convs))

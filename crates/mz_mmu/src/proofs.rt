@@ -15,6 +15,7 @@ use crate::proof::{Proof, ProofBox, Proofs};
 use crate::reader::Reader;
 use crate::scope::Scope;
 use crate::space::Space;
+use mz_logic::push_tightly;
 use mz_sexpr::U;
 
 impl<'r, 'a> Reader<'r, 'a> {
@@ -204,7 +205,7 @@ impl<'r, 'a> Reader<'r, 'a> {
         let mut left = first;
         while let Some(n) = left {
             let proof = self.proof(sc, hyps, lets, n)?;
-            proofs.push(proof)?;
+            push_tightly(&mut proofs, proof)?;
             left = self.nodes.next(n);
         }
         Ok(Proofs::from_vec(proofs))

@@ -1,5 +1,7 @@
 -- One byte more of a text.
-use Rattle.std.proofs.Common.{ℕ, ◌≡◌, ◌<◌, ◌≤◌, ◌+◌, List, ◌∷◌, ◌++◌, length, get_or, drop, refl, sym, ap, ◌∙◌, subst, Option, Some, None, option_to_list, map, append_assoc, arith}
+use Rattle.std.proofs.Common.{ℕ, ◌≡◌, ◌<◌, ◌≤◌, ◌+◌, List, ◌∷◌, ◌++◌, length, get_or, drop, refl, sym, ap, ◌∙◌, subst, Option, Some, None, Bool, true, false, option_to_list, map, append_assoc, arith}
+use Rattle.std.specs.Prelude.{◌==◌, ◌||◌, if◌then◌else◌, take_while}
+use Rattle.std.proofs.lemmas.Bool.{false≢true}
 use Rattle.std.proofs.lemmas.List.{drop_more, map-append}
 use Rattle.mz_sexpr.specs.declared.scan.Class.{Class}
 use Rattle.mz_sexpr.specs.declared.scan.Class.TheVariants.{Space, Note, Opening, Closing, Letter}
@@ -8,8 +10,9 @@ use Rattle.mz_sexpr.specs.declared.sexprs.Row.{Row}
 use Rattle.mz_sexpr.specs.declared.rule.TextRefusal.{TextRefusal}
 use Rattle.mz_checks.specs.Checks.{Checks, AllHold, FailsFirst, ◌>>◌}
 use Rattle.mz_sexpr.specs.Token.{Token}
-use Rattle.mz_sexpr.specs.Scan.{class_after, checks_at, byte_checks, seen_with, tokens, token_of}
-use Rattle.mz_sexpr.specs.Rows.{Entry, entry, option_entry, entries}
+use Rattle.mz_sexpr.specs.Scan.{class_after, plain_class, checks_at, byte_checks, seen_with, tokens, token_of}
+use Rattle.mz_sexpr.specs.Rows.{Entry, entry, option_entry, entries, word_from}
+use Rattle.mz_sexpr.specs.Grammar.{is_letter, begins_comment}
 use Rattle.mz_sexpr.proofs.Deciding.{Decides, decides_after, fails_before}
 
 pub last_seen : (s : Seen) (c : Class) → (seen_with s c).last ≡ c
@@ -34,9 +37,66 @@ entries_after i s Letter bs ts = go s.last
     go Closing = refl
     go Letter = refl
 
-listed_entry : (o : Option Row) → map entry (option_to_list o) ≡ option_to_list (option_entry o)
-listed_entry None = refl
-listed_entry (Some r) = refl
+listed_entry : (text : List ℕ) (o : Option Row) → map (entry text) (option_to_list o) ≡ option_to_list (option_entry text o)
+listed_entry text None = refl
+listed_entry text (Some r) = refl
+
+-- ---- a row's byte says whether it is a list's
+
+abbrev is_opening : Class → Bool
+is_opening Opening = true
+is_opening _ = false
+
+abbrev is_plain : Class → Bool
+is_plain Letter = true
+is_plain _ = false
+
+module _ (b : ℕ) where
+  plain_opening : (x y z : Bool) → is_opening (if x then Opening else (if y then Closing else (if z then Space else Letter))) ≡ true → x ≡ true
+  plain_opening true y z h = refl
+  plain_opening false true z h = absurd (false≢true h)
+  plain_opening false false true h = absurd (false≢true h)
+  plain_opening false false false h = absurd (false≢true h)
+
+  plain_letter : (x y z : Bool) → is_plain (if x then Opening else (if y then Closing else (if z then Space else Letter))) ≡ true → x ≡ false
+  plain_letter true y z h = absurd (false≢true h)
+  plain_letter false y z h = refl
+
+  noted : (x : Bool) → is_opening (if x then Space else Note) ≡ true → (b == 40) ≡ true
+  noted true h = absurd (false≢true h)
+  noted false h = absurd (false≢true h)
+
+  noted_letter : (x : Bool) → is_plain (if x then Space else Note) ≡ true → (b == 40) ≡ false
+  noted_letter true h = absurd (false≢true h)
+  noted_letter false h = absurd (false≢true h)
+
+  opening_is : is_opening (plain_class b) ≡ true → (b == 40) ≡ true
+  opening_is h = plain_opening (b == 40) (b == 41) (b == 32 || b == 10) h
+
+  letter_is : is_plain (plain_class b) ≡ true → (b == 40) ≡ false
+  letter_is h = plain_letter (b == 40) (b == 41) (b == 32 || b == 10) h
+
+  commented : (x : Bool) → is_opening (if x then Note else plain_class b) ≡ true → (b == 40) ≡ true
+  commented true h = absurd (false≢true h)
+  commented false h = opening_is h
+
+  commented_letter : (x : Bool) → is_plain (if x then Note else plain_class b) ≡ true → (b == 40) ≡ false
+  commented_letter true h = absurd (false≢true h)
+  commented_letter false h = letter_is h
+
+  opening_byte : (last : Class) (bs : List ℕ) → is_opening (class_after last b bs) ≡ true → (b == 40) ≡ true
+  opening_byte Note bs h = noted (b == 10) h
+  opening_byte Letter bs h = opening_is h
+  opening_byte Space bs h = commented (begins_comment (b ∷ bs)) h
+  opening_byte Opening bs h = commented (begins_comment (b ∷ bs)) h
+  opening_byte Closing bs h = commented (begins_comment (b ∷ bs)) h
+
+  letter_byte : (last : Class) (bs : List ℕ) → is_plain (class_after last b bs) ≡ true → (b == 40) ≡ false
+  letter_byte Note bs h = noted_letter (b == 10) h
+  letter_byte Letter bs h = letter_is h
+  letter_byte Space bs h = commented_letter (begins_comment (b ∷ bs)) h
+  letter_byte Opening bs h = commented_letter (begins_comment (b ∷ bs)) h
+  letter_byte Closing bs h = commented_letter (begins_comment (b ∷ bs)) h
 
 module _ (text : List ℕ) (i : ℕ) (s : Seen) (below : i < length text) where
   abbrev pub rest_of : List ℕ
@@ -47,6 +107,15 @@ module _ (text : List ℕ) (i : ℕ) (s : Seen) (below : i < length text) where
 
   cut : drop i text ≡ byte_of ∷ rest_of
   cut = drop_more text i 0 below
+
+  begins : (t : Bool) → (byte_of == 40) ≡ t → word_from (drop i text) ≡ (if t then None else Some (take_while is_letter (drop i text)))
+  begins t h = ap (λ x. if x then None else Some (take_while is_letter (drop i text))) (ap (λ bs. get_or bs 0 0 == 40) cut ∙ h)
+
+  pub begins_list : Opening ≡ class_after s.last byte_of rest_of → word_from (drop i text) ≡ None
+  begins_list is = begins true (opening_byte byte_of s.last rest_of (ap is_opening (sym is)))
+
+  pub begins_atom : Letter ≡ class_after s.last byte_of rest_of → word_from (drop i text) ≡ Some (take_while is_letter (drop i text))
+  begins_atom is = begins false (letter_byte byte_of s.last rest_of (ap is_plain (sym is)))
 
   pub byte_decides : (c : Class) (cs : Checks TextRefusal) → c ≡ class_after s.last byte_of rest_of → AllHold (checks_at i s byte_of c)
       → Decides (byte_checks i s (drop i text)) cs → Decides (byte_checks (i + 1) (seen_with s c) rest_of) cs
@@ -64,17 +133,17 @@ module _ (text : List ℕ) (i : ℕ) (s : Seen) (below : i < length text) where
 
   pub byte_rows : (c : Class) (rows more_rows : List Row) (o : Option Row) (all : List Entry) → c ≡ class_after s.last byte_of rest_of
       → more_rows ≡ rows ++ option_to_list o
-      → option_to_list (option_entry o) ≡ entries s.depth (token_of i s.last c (drop i text))
-      → map entry rows ++ entries s.depth (tokens i s.last (drop i text)) ≡ all
-      → map entry more_rows ++ entries (seen_with s c).depth (tokens (i + 1) (seen_with s c).last rest_of) ≡ all
+      → option_to_list (option_entry text o) ≡ entries s.depth (token_of i s.last c (drop i text))
+      → map (entry text) rows ++ entries s.depth (tokens i s.last (drop i text)) ≡ all
+      → map (entry text) more_rows ++ entries (seen_with s c).depth (tokens (i + 1) (seen_with s c).last rest_of) ≡ all
   byte_rows c rows more_rows o all is pushed adds h =
-      ap (λ rs. map entry rs ++ left (seen_with s c).last) pushed
-      ∙ ap (λ k. map entry (rows ++ option_to_list o) ++ left k) (last_seen s c)
-      ∙ ap (λ es. es ++ left c) (map-append entry rows (option_to_list o))
-      ∙ append_assoc (map entry rows) (map entry (option_to_list o)) (left c)
-      ∙ ap (λ es. map entry rows ++ (es ++ left c)) (listed_entry o ∙ adds)
-      ∙ ap (λ es. map entry rows ++ es) (sym (entries_after i s c (drop i text) (tokens (i + 1) c rest_of)))
-      ∙ ap (λ ts. map entry rows ++ entries s.depth ts) step
+      ap (λ rs. map (entry text) rs ++ left (seen_with s c).last) pushed
+      ∙ ap (λ k. map (entry text) (rows ++ option_to_list o) ++ left k) (last_seen s c)
+      ∙ ap (λ es. es ++ left c) (map-append (entry text) rows (option_to_list o))
+      ∙ append_assoc (map (entry text) rows) (map (entry text) (option_to_list o)) (left c)
+      ∙ ap (λ es. map (entry text) rows ++ (es ++ left c)) (listed_entry text o ∙ adds)
+      ∙ ap (λ es. map (entry text) rows ++ es) (sym (entries_after i s c (drop i text) (tokens (i + 1) c rest_of)))
+      ∙ ap (λ ts. map (entry text) rows ++ entries s.depth ts) step
       ∙ h
     where
       left : Class → List Entry

@@ -5,7 +5,7 @@ use Rattle.std.proofs.Math.Seq.{drop-cons}
 use Rattle.mz_sexpr.specs.Node.{no_nodes, node}
 use Rattle.mz_sexpr.specs.Number.{tails, node_count, node_at, nodes_after, first, rest, StandsFor}
 use Rattle.mz_sexpr.specs.Rows.{Entry, level, head_node, depth_inside, Steps, entry_at, no_entry, IsShallow}
-use Rattle.mz_sexpr.proofs.Levels.{lists, tails_of_top, level_here, level_above}
+use Rattle.mz_sexpr.proofs.Levels.{lists, tails_of_top, level_here, level_above, level_below}
 
 length-lists : (es : List Entry) → length (lists es) ≡ length es
 length-lists [] = refl
@@ -48,6 +48,10 @@ none_past es n d h = ap (λ x. level x d) (drop_all n es h)
 
 pub none_below : (es : List Entry) (n d : ℕ) → n < length es → (entry_at es n).depth < d → level (drop n es) d ≡ no_nodes
 none_below es n d h less = ap (λ x. level x d) (cut es n h) ∙ level_above (entry_at es n) (drop (n + 1) es) d less
+
+-- a deeper row adds nothing to a level
+pub passed_over : (es : List Entry) (n k : ℕ) → n < length es → k < (entry_at es n).depth → level (drop n es) k ≡ level (drop (n + 1) es) k
+passed_over es n k h below = ap (λ x. level x k) (cut es n h) ∙ level_below (entry_at es n) (drop (n + 1) es) k below
 
 pub depth_inside_at_most : (d : ℕ) (b : Option (List ℕ)) → depth_inside d b ≤ suc d
 depth_inside_at_most d None = omega arith

@@ -1,8 +1,10 @@
--- How the code keeps nodes: one row for each, in the order of their first bytes, with the number of lists around it.
-use Rattle.std.specs.Prelude.{ℕ, suc, ◌≡◌, ◌≤◌, ◌<◌, ◌+◌, ◌-◌, ◌^◌, ⊤, ◌==◌, nat_lt, if◌then◌else◌, List, [], ◌∷◌, length, drop, get_or, Option, Some, None}
+-- How the code keeps nodes: one row for each, in the order of their first bytes, with the number of lists around it. An
+-- atom's bytes are those of the text.
+use Rattle.std.specs.Prelude.{ℕ, suc, ◌≡◌, ◌≤◌, ◌<◌, ◌+◌, ◌-◌, ◌^◌, ⊤, ◌==◌, nat_lt, if◌then◌else◌, List, [], ◌∷◌, length, drop, get_or, take_while, Option, Some, None}
 use Rattle.mz_sexpr.specs.declared.sexprs.Row.{Row}
 use Rattle.mz_sexpr.specs.Node.{Node, Nodes, atom, list, no_nodes, node}
 use Rattle.mz_sexpr.specs.Token.{Token, open_at, close, word_at}
+use Rattle.mz_sexpr.specs.Grammar.{is_letter}
 
 -- a row: how many lists are around the node, its place, and an atom's bytes
 pub record Entry : Type 0 where
@@ -10,12 +12,16 @@ pub record Entry : Type 0 where
   pub at : ℕ
   pub bytes : Option (List ℕ)
 
-abbrev pub entry : Row → Entry
-entry r = record { depth = r.depth; at = r.at; bytes = elim r.word as (λ _. Option (List ℕ)) [ None ↦ None | Some w ↦ Some w.now ] }
+-- the atom that begins where the bytes do, unless a list does
+abbrev pub word_from : List ℕ → Option (List ℕ)
+word_from bs = if get_or bs 0 0 == 40 then None else Some (take_while is_letter bs)
 
-abbrev pub option_entry : Option Row → Option Entry
-option_entry None = None
-option_entry (Some r) = Some (entry r)
+abbrev pub entry : List ℕ → Row → Entry
+entry text r = record { depth = r.depth; at = r.at; bytes = word_from (drop r.at text) }
+
+abbrev pub option_entry : List ℕ → Option Row → Option Entry
+option_entry text None = None
+option_entry text (Some r) = Some (entry text r)
 
 -- the rows of atoms and parentheses, with d lists around the first
 abbrev pub entries : ℕ → List Token → List Entry

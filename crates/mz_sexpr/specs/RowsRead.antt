@@ -8,6 +8,6 @@ use Rattle.mz_sexpr.specs.Scan.{text_checks, tokens}
 use Rattle.mz_sexpr.specs.Rows.{entry, entries}
 
 abbrev pub AreRows : List ℕ → RowsRead → Type 0
-AreRows text (read.Rows rows) = AllHold (text_checks text) × (map entry rows.items ≡ entries 0 (tokens 0 Space text))
+AreRows text (read.Rows rows) = AllHold (text_checks text) × (map (entry text) rows.items ≡ entries 0 (tokens 0 Space text))
 AreRows text (read.Refused r) = FailsFirst (text_checks text) r
 AreRows text read.Mem = ⊤

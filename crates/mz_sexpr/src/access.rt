@@ -1,16 +1,30 @@
-ghost use Rattle.std.specs.Prelude.{◌≡◌, ◌≤◌, ◌<◌, ◌+◌, ◌-◌, ◌^◌, IsTrue, length, map, drop};
+ghost use Rattle.std.specs.Prelude.{ℕ, List, ◌≡◌, ◌↔◌, ◌≤◌, ◌<◌, ◌+◌, ◌-◌, ◌^◌, IsTrue, length, map, drop, is_some, take_while};
 ghost use Rattle.mz_sexpr.specs.Node.{is_atom, word, parts, place};
 ghost use Rattle.mz_sexpr.specs.Number.{node_count, node_at, nodes_after, StandsFor};
-ghost use Rattle.mz_sexpr.specs.Rows.{entry, level, Steps, IsShallow};
+ghost use Rattle.mz_sexpr.specs.Grammar.{is_letter};
+ghost use Rattle.mz_sexpr.specs.Rows.{entry, level, word_from, Steps, IsShallow};
 
-use crate::sexprs::{Row, Sexprs};
+use crate::sexprs::{Row, Sexprs, word_of};
+
+/// What a text has from a place on.
+fn bytes_from(text: &[u8], at: usize) -> &[u8]
+    ensures { result.now ≡ drop at text.now }
+{
+    text.get(at..).unwrap_or(&[])
+}
+
+/// Whether an atom begins where the bytes do, and no list.
+fn begins_atom(bytes: &[u8]) -> bool
+    ensures { result ≡ is_some (word_from bytes.now) }
+{
+    !matches!(bytes, [b'(', ..])
+}
 
 /// The n-th row, if it stands at this depth.
 fn row_of_depth(rows: &[Row], n: usize, depth: u32) -> Option<u32>
     requires short { length rows.now < 2 ^ 32 }
-    requires steps { Steps 0 (map entry rows.now) }
-    requires shallow { IsShallow (map entry rows.now) n depth }
-    ensures { StandsFor (level (map entry rows.now) 0) result (level (drop n (map entry rows.now)) depth) }
+    ensures { (text : List ℕ) → Steps 0 (map (entry text) rows.now) → IsShallow (map (entry text) rows.now) n depth
+        → StandsFor (level (map (entry text) rows.now) 0) result (level (drop n (map (entry text) rows.now)) depth) }
 {
     if n < rows.len() && rows[n].depth == depth {
         Some(n as u32)
@@ -20,6 +34,15 @@ fn row_of_depth(rows: &[Row], n: usize, depth: u32) -> Option<u32>
 }
 
 impl<'a> Sexprs<'a> {
+    /// The text from the node's first byte on.
+    fn bytes_from(&self, n: u32) -> &'a [u8]
+        requires { n < node_count self.now }
+        ensures begins { is_some (word_from result.now) ≡ Rattle.mz_sexpr.specs.Node.is_atom (node_at self.now n) }
+        ensures word { IsTrue (Rattle.mz_sexpr.specs.Node.is_atom (node_at self.now n)) → take_while is_letter result.now ≡ word (node_at self.now n) }
+    {
+        bytes_from(self.text, self.rows[n as usize].at as usize)
+    }
+
     /// How many nodes there are, those within others included.
     pub fn count(&self) -> u32
         ensures { result ≡ node_count self.now }
@@ -40,7 +63,7 @@ impl<'a> Sexprs<'a> {
         requires { n < node_count self.now }
         ensures { result ≡ Rattle.mz_sexpr.specs.Node.is_atom (node_at self.now n) }
     {
-        self.rows[n as usize].word.is_some()
+        begins_atom(self.bytes_from(n))
     }
 
     /// The bytes of an atom, as they stand in the text.
@@ -49,7 +72,7 @@ impl<'a> Sexprs<'a> {
         requires atom { IsTrue (Rattle.mz_sexpr.specs.Node.is_atom (node_at self.now n)) }
         ensures { result.now ≡ word (node_at self.now n) }
     {
-        self.rows[n as usize].word.unwrap_or(&[])
+        word_of(self.bytes_from(n))
     }
 
     /// The first part of a list; none for a list without parts and for an atom.
@@ -57,11 +80,11 @@ impl<'a> Sexprs<'a> {
         requires { n < node_count self.now }
         ensures { StandsFor self.now result (parts (node_at self.now n)) }
     {
-        let row = &self.rows[n as usize];
-        match row.word {
-            Some(_) => None,
-            None => row_of_depth(&self.rows, n as usize + 1, row.depth + 1),
+        if self.is_atom(n) {
+            return None;
         }
+        let depth = self.rows[n as usize].depth;
+        row_of_depth(&self.rows, n as usize + 1, depth + 1)
     }
 
     /// The next node of the same list, the top forms being one list; none for the last.

@@ -1,4 +1,4 @@
-ghost use Rattle.std.specs.Prelude.{◌≡◌, ◌≤◌, ◌<◌, ◌+◌, ◌^◌, length, map, IfOk};
+ghost use Rattle.std.specs.Prelude.{ℕ, List, ◌≡◌, ◌≤◌, ◌<◌, ◌+◌, ◌^◌, length, map, IfOk};
 ghost use Rattle.mz_sexpr.specs.Rows.{entry, EndsAt, EndFrom};
 
 use crate::sexprs::Row;
@@ -10,8 +10,8 @@ fn end_of(rows: &[Row], ends: &[u32], n: usize) -> usize
     requires within { n < length rows.now }
     requires many { length ends.now ≡ length rows.now }
     requires short { length rows.now < 2 ^ 32 }
-    requires known { EndFrom (map entry rows.now) ends.now (n + 1) }
-    ensures { EndsAt (map entry rows.now) n result }
+    requires known { (text : List ℕ) → EndFrom (map (entry text) rows.now) ends.now (n + 1) }
+    ensures { (text : List ℕ) → EndsAt (map (entry text) rows.now) n result }
 {
     let depth = rows[n].depth;
     let mut end = n + 1;
@@ -25,7 +25,7 @@ fn end_of(rows: &[Row], ends: &[u32], n: usize) -> usize
 pub(crate) fn ends_of(alloc: Global, rows: &[Row]) -> Result<Vec<u32>, AllocError>
     requires { length rows.now < 2 ^ 32 }
     ensures many { IfOk result (λ v. length v.items ≡ length rows.now) }
-    ensures known { IfOk result (λ v. EndFrom (map entry rows.now) v.items 0) }
+    ensures known { IfOk result (λ v. (text : List ℕ) → EndFrom (map (entry text) rows.now) v.items 0) }
 {
     let mut ends: Vec<u32> = vec![in alloc; 0; rows.len()]?;
     let mut n = rows.len();

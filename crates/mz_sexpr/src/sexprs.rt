@@ -1,8 +1,8 @@
-ghost use Rattle.std.specs.Prelude.{◌≡◌, ◌++◌, OnOk, ◌≤◌, ◌<◌, ◌^◌, length, drop};
+ghost use Rattle.std.specs.Prelude.{ℕ, List, ◌≡◌, ◌++◌, ◌+◌, OnOk, ◌<◌, ◌^◌, length, drop, get_or};
 ghost use Rattle.std.specs.List.{take_while};
 ghost use Rattle.std.specs.Option.{option_to_list};
 ghost use Rattle.mz_sexpr.specs.Grammar.{is_letter};
-ghost use Rattle.mz_sexpr.specs.Scan.{token_of};
+ghost use Rattle.mz_sexpr.specs.Scan.{class_after, token_of};
 ghost use Rattle.mz_sexpr.specs.Rows.{entries, option_entry};
 ghost use Rattle.mz_sexpr.specs.RowsRead.{AreRows};
 ghost use Rattle.mz_sexpr.specs.Reading.{IsReading};
@@ -13,20 +13,20 @@ use crate::scan::{Class, Seen, class_at, fault_at};
 use std::alloc::{AllocError, Global};
 use std::marker::Model;
 
-/// A node: how many lists are around it, the place of its first byte, and an atom's bytes (a list
-/// has none).
+/// A node: how many lists are around it, and the place of its first byte. That byte says whether it
+/// is a list, and an atom's bytes are read off the text.
 #[derive(Clone, Copy)]
-pub(crate) struct Row<'a> {
+pub(crate) struct Row {
     pub(crate) depth: u32,
     pub(crate) at: u32,
-    pub(crate) word: Option<&'a [u8]>,
 }
 
 /// The nodes of a text. They lie flat, in the order of their first bytes, and are spoken of by
 /// their numbers from 0. An atom is a slice of the text itself.
 #[derive(Drop)]
 pub struct Sexprs<'a> {
-    pub(crate) rows: Vec<Row<'a>>,
+    pub(crate) text: &'a [u8],
+    pub(crate) rows: Vec<Row>,
     // for each node, the number of the first later one that is no part of it
     pub(crate) ends: Vec<u32>,
 }
@@ -42,9 +42,9 @@ impl<'a> Model for Sexprs<'a> {
 
     ghost use Rattle.mz_sexpr.specs.Rows.{entry, level, IsLinked};
 
-    ghost view = { λ a. level (map entry a.rows.items) 0 };
+    ghost view = { λ a. level (map (entry a.text.now) a.rows.items) 0 };
 
-    ghost invariant = { λ a. IsLinked (map entry a.rows.items) a.ends.items };
+    ghost invariant = { λ a. IsLinked (map (entry a.text.now) a.rows.items) a.ends.items };
 }
 
 /// What reading a text answers.
@@ -60,8 +60,8 @@ pub enum SexprRead<'a> {
 
 /// The rows of a text, before their ends are known.
 #[derive(Drop)]
-pub(crate) enum RowsRead<'a> {
-    Rows(Vec<Row<'a>>),
+pub(crate) enum RowsRead {
+    Rows(Vec<Row>),
     Refused(TextRefusal),
     Mem,
 }
@@ -73,7 +73,7 @@ fn is_letter(byte: u8) -> bool
 }
 
 /// The longest run of letters in front.
-fn word_of(rest: &[u8]) -> &[u8]
+pub(crate) fn word_of(rest: &[u8]) -> &[u8]
     ensures { result.now ≡ take_while Rattle.mz_sexpr.specs.Grammar.is_letter rest.now }
 {
     for n in 0..rest.len() {
@@ -85,27 +85,23 @@ fn word_of(rest: &[u8]) -> &[u8]
 }
 
 /// The node that begins at the byte, if one does.
-fn row_at<'a>(text: &'a [u8], at: usize, seen: Seen, class: Class) -> Option<Row<'a>>
-    requires within { at ≤ length text.now }
-    requires short { length text.now < 2 ^ 32 }
-    ensures { option_to_list (option_entry result)
-        ≡ entries seen.depth (token_of at seen.last class (drop at text.now)) }
+fn row_at(at: usize, seen: Seen, class: Class) -> Option<Row>
+    requires { at < 2 ^ 32 }
+    ensures { (text : List ℕ) → class ≡ class_after seen.last (get_or text at 0) (drop (at + 1) text) → at < length text
+        → option_to_list (option_entry text result) ≡ entries seen.depth (token_of at seen.last class (drop at text)) }
 {
-    let word = match (seen.last, class) {
-        (_, Class::Opening) => None,
-        (Class::Letter, _) => return None,
-        (_, Class::Letter) => Some(word_of(&text[at..])),
-        _ => return None,
-    };
-    Some(Row {
-        depth: seen.depth,
-        at: at as u32,
-        word,
-    })
+    match (seen.last, class) {
+        (Class::Letter, Class::Letter) => None,
+        (_, Class::Opening | Class::Letter) => Some(Row {
+            depth: seen.depth,
+            at: at as u32,
+        }),
+        _ => None,
+    }
 }
 
-fn push_if_any<'a>(rows: &mut Vec<Row<'a>>, row: Option<Row<'a>>) -> Result<(), AllocError>
-    ensures { OnOk result (rows.new.items ≡ rows.old.items ++ option_to_list row.entry) }
+fn push_if_any(rows: &mut Vec<Row>, row: Option<Row>) -> Result<(), AllocError>
+    ensures { OnOk result (rows.new.items ≡ rows.old.items ++ option_to_list row) }
 {
     if let Some(row) = row {
         rows.push(row)?;
@@ -114,18 +110,18 @@ fn push_if_any<'a>(rows: &mut Vec<Row<'a>>, row: Option<Row<'a>>) -> Result<(), 
 }
 
 /// The rows of a text, or the first of its bytes that may not stand where it does.
-fn read_rows<'a>(alloc: Global, text: &'a [u8]) -> RowsRead<'a>
+fn read_rows(alloc: Global, text: &[u8]) -> RowsRead
     requires { length text.now < 2 ^ 32 }
     ensures { AreRows text.now result }
 {
-    let mut rows: Vec<Row<'a>> = Vec::new(alloc);
+    let mut rows: Vec<Row> = Vec::new(alloc);
     let mut seen = Seen::nothing();
     for i in 0..text.len() {
         let class = class_at(seen.last, text, i);
         if let Some(refusal) = fault_at(seen, i, text[i], class) {
             return RowsRead::Refused(refusal);
         }
-        let row = row_at(text, i, seen, class);
+        let row = row_at(i, seen, class);
         let Ok(()) = push_if_any(&mut rows, row) else {
             return RowsRead::Mem;
         };
@@ -146,7 +142,7 @@ pub fn read_sexprs<'a>(alloc: Global, text: &'a [u8]) -> SexprRead<'a>
 {
     match read_rows(alloc, text) {
         RowsRead::Rows(rows) => match ends_of(alloc, &rows) {
-            Ok(ends) => SexprRead::Nodes(Sexprs { rows, ends }),
+            Ok(ends) => SexprRead::Nodes(Sexprs { text, rows, ends }),
             Err(_) => SexprRead::Mem,
         },
         RowsRead::Refused(refusal) => SexprRead::Refused(refusal),

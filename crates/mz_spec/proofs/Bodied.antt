@@ -12,11 +12,11 @@ use Rattle.mz_logic.specs.Declaration.{signatures}
 use Rattle.mz_logic.specs.Variables.{InFV}
 use Rattle.mz_logic.specs.declared.binder.ResultType.{ResultType}
 use Rattle.mz_logic.proofs.Scoped.{DepsInside}
-use Rattle.mz_math.specs.declared.pieces.Piece.{Piece}
+use Rattle.mz_tokens.specs.declared.pieces.Piece.{Piece}
 use Rattle.mz_math.specs.declared.formula.Wanted.TheVariants.{Sort as of_sort}
-use Rattle.mz_math.specs.Formula.{Variables}
-use Rattle.mz_math.specs.Pieces.{Pieces}
-use Rattle.mz_math.specs.Readable.{IsTable, AreVariables}
+use Rattle.mz_notation.specs.Notation.{Variables}
+use Rattle.mz_tokens.specs.Pieces.{Pieces}
+use Rattle.mz_notation.specs.Kept.{IsTable, AreVariables}
 use Rattle.mz_math.proofs.Lawful.{one-meaning}
 use Rattle.mz_grammar.specs.Reading.{OnFault}
 use Rattle.mz_grammar.specs.Statement.{TypeText, Head, definition_statement}

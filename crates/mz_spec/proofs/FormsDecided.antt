@@ -4,11 +4,11 @@ use Rattle.std.specs.Prelude.{slice_range, option_map}
 use Rattle.mz_lex.specs.Lexemes.{Lexeme}
 use Rattle.mz_checks.specs.Checks.{Checks, retold, AllHold, FailsFirst}
 use Rattle.mz_logic.specs.Declaration.{signatures}
-use Rattle.mz_math.specs.declared.form.Literal.{Literal}
-use Rattle.mz_math.specs.declared.form.Literal.TheVariants.{Constant as constant, Name as name}
-use Rattle.mz_math.specs.declared.notation.Notation.{Notation}
-use Rattle.mz_math.specs.Notation.{Table}
-use Rattle.mz_math.specs.Forms.{General, IsGeneral, notation_checks, coercion_checks, delimiter_checks}
+use Rattle.mz_notation.specs.declared.form.Literal.{Literal}
+use Rattle.mz_notation.specs.declared.form.Literal.TheVariants.{Constant as constant, Name as name}
+use Rattle.mz_notation.specs.declared.notation.Notation.{Notation}
+use Rattle.mz_notation.specs.Notation.{Table}
+use Rattle.mz_notation.specs.Forms.{General, IsGeneral, notation_checks, coercion_checks, delimiter_checks}
 use Rattle.mz_math.proofs.Statements.{delimiters-judged, coercions-judged}
 use Rattle.mz_math.proofs.MadeNotations.{infix-judged, prefix-judged, general-judged}
 use Rattle.mz_grammar.specs.declared.kind.Fixity.{Fixity}

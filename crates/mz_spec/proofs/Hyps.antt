@@ -3,8 +3,8 @@ use Rattle.std.proofs.Common.{◌≡◌, ◌∙◌, ◌<◌, ◌+◌, ◌-◌, �
 use Rattle.mz_checks.specs.Checks.{Checks, AllHold, FailsFirst}
 use Rattle.mz_checks.proofs.InOrder.{Decides, decides-after, fails-before}
 use Rattle.mz_logic.specs.Tree.{Tree, Trees, none, more, followed_by}
-use Rattle.mz_math.specs.declared.pieces.Piece.{Piece}
-use Rattle.mz_math.specs.Pieces.{Pieces}
+use Rattle.mz_tokens.specs.declared.pieces.Piece.{Piece}
+use Rattle.mz_tokens.specs.Pieces.{Pieces}
 use Rattle.mz_grammar.specs.Reading.{OnFault}
 use Rattle.mz_grammar.specs.declared.refusal.Fault.{Fault}
 use Rattle.mz_grammar.specs.declared.refusal.Halt.{Halt}

@@ -15,7 +15,7 @@ use Rattle.mz_spec.specs.State.{State, variable_bytes}
 use Rattle.mz_spec.specs.View.{Variable, names_of, view, params_of}
 use Rattle.mz_spec.specs.declared.parts.Parts.{Parts}
 use Rattle.mz_spec.proofs.Loops.{assoc, mem-before, mem-after}
-use Rattle.mz_math.specs.Readable.{AreVariables}
+use Rattle.mz_notation.specs.Kept.{AreVariables}
 use Rattle.mz_spec.proofs.Naming.{parts-few, variables-named}
 use Rattle.mz_spec.proofs.Places.{split-variables}
 

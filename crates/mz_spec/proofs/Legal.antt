@@ -18,9 +18,9 @@ use Rattle.mz_logic.specs.declared.binder.Binder.{Binder}
 use Rattle.mz_logic.specs.declared.binder.SortMods.{SortMods}
 use Rattle.mz_logic.proofs.Lists.{all_from_each}
 use Rattle.mz_logic.proofs.PlainLegality.{terms_are_sorted, assertions_are_sorted}
-use Rattle.mz_math.specs.declared.pieces.Piece.{Piece}
+use Rattle.mz_tokens.specs.declared.pieces.Piece.{Piece}
 use Rattle.mz_math.specs.declared.formula.Wanted.TheVariants.{Sort as of_sort}
-use Rattle.mz_math.specs.Readable.{IsTable, AreVariables}
+use Rattle.mz_notation.specs.Kept.{IsTable, AreVariables}
 use Rattle.mz_math.proofs.Lawful.{one-meaning}
 use Rattle.mz_grammar.specs.Statement.{TypeText, Source, type_source, formula_source, NameText, Group, Head, Statement, sort_statement, term_statement, assert_statement, definition_statement, operator_statement, coercion_statement, delimiter_statement, notation_statement}
 use Rattle.mz_grammar.specs.declared.kind.AssertKind.{AssertKind}

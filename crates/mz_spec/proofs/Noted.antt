@@ -5,14 +5,14 @@ use Rattle.mz_checks.specs.Checks.{Checks, nothing, each_in_order, ◌>>◌, ret
 use Rattle.mz_checks.proofs.InOrder.{fails-before, fails-after, all_hold-both}
 use Rattle.mz_logic.specs.Declaration.{signatures}
 use Rattle.mz_logic.specs.Signature.{Signature}
-use Rattle.mz_math.specs.declared.pieces.Delimiters.{Delimiters}
-use Rattle.mz_math.specs.declared.pieces.Piece.{Piece}
-use Rattle.mz_math.specs.declared.notation.Notation.{Notation}
-use Rattle.mz_math.specs.declared.table.NoteFault.{NoteFault}
-use Rattle.mz_math.specs.declared.table.NoteFault.TheVariants as faults
-use Rattle.mz_math.specs.Notation.{Table}
-use Rattle.mz_math.specs.Forms.{IsInfix, IsPrefix, IsGeneral, General, notation_checks, IsAnswer, AddsNotation}
-use Rattle.mz_math.specs.Readable.{AreVariables}
+use Rattle.mz_tokens.specs.declared.pieces.Delimiters.{Delimiters}
+use Rattle.mz_tokens.specs.declared.pieces.Piece.{Piece}
+use Rattle.mz_notation.specs.declared.notation.Notation.{Notation}
+use Rattle.mz_notation.specs.declared.table.NoteFault.{NoteFault}
+use Rattle.mz_notation.specs.declared.table.NoteFault.TheVariants as faults
+use Rattle.mz_notation.specs.Notation.{Table}
+use Rattle.mz_notation.specs.Forms.{IsInfix, IsPrefix, IsGeneral, General, notation_checks, IsAnswer, AddsNotation}
+use Rattle.mz_notation.specs.Kept.{AreVariables}
 use Rattle.mz_grammar.specs.declared.kind.Fixity.{Fixity}
 use Rattle.mz_grammar.specs.declared.refusal.Fault.{Fault}
 use Rattle.mz_grammar.specs.declared.refusal.Halt.{Halt}

@@ -6,7 +6,7 @@ use Rattle.mz_lex.proofs.Lexing.{one-lexing}
 use Rattle.mz_logic.specs.Legality.{IsLegalEnv}
 use Rattle.mz_checks.specs.Checks.{FailsFirst}
 use Rattle.mz_checks.proofs.CheckLaws.{fails_first-unique, all_hold-excludes}
-use Rattle.mz_math.specs.declared.pieces.Piece.{Piece}
+use Rattle.mz_tokens.specs.declared.pieces.Piece.{Piece}
 use Rattle.mz_grammar.specs.declared.refusal.Fault.{Fault}
 use Rattle.mz_grammar.specs.Statement.{Statement, Spells}
 use Rattle.mz_grammar.specs.Stops.{Stops, StopsBy}

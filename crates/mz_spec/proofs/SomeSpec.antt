@@ -9,15 +9,15 @@ use Rattle.mz_logic.specs.Variables.{InFV}
 use Rattle.mz_checks.specs.Checks.{Checks, each_in_order, ◌>>◌, AllHold, FailsFirst, AreDecided}
 use Rattle.mz_checks.proofs.CheckLaws.{all_hold-or_fails, all_hold-excludes}
 use Rattle.mz_checks.proofs.InOrder.{all_hold-both, all_hold-first, all_hold-rest, fails-before, fails-after, are_decided-rows}
-use Rattle.mz_math.specs.declared.pieces.Piece.{Piece}
-use Rattle.mz_math.specs.Pieces.{Pieces}
-use Rattle.mz_math.specs.Notation.{with_notation, with_coercion, with_delimiters}
+use Rattle.mz_tokens.specs.declared.pieces.Piece.{Piece}
+use Rattle.mz_tokens.specs.Pieces.{Pieces}
+use Rattle.mz_notation.specs.Notation.{with_notation, with_coercion, with_delimiters}
 use Rattle.mz_math.specs.Formula.{Misreading, IsFormula, Misreads, formula_checks}
-use Rattle.mz_math.specs.Readable.{AreVariables}
+use Rattle.mz_notation.specs.Kept.{AreVariables}
 use Rattle.mz_math.proofs.Deciding.{Decided}
 use Rattle.mz_math.proofs.Existing.{some-reading}
 use Rattle.mz_math.proofs.Lawful.{one-meaning, one-reading as one-string}
-use Rattle.mz_math.proofs.OneMeaning.{pieces-one}
+use Rattle.mz_tokens.proofs.Cutting.{pieces-one}
 use Rattle.mz_grammar.specs.declared.refusal.Fault.{Fault}
 use Rattle.mz_grammar.specs.Statement.{TypeText, Statement, sort_statement, term_statement, assert_statement, definition_statement, operator_statement, coercion_statement, delimiter_statement, notation_statement, Spells}
 use Rattle.mz_grammar.specs.Stops.{Stops}

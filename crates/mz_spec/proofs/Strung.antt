@@ -2,8 +2,8 @@
 use Rattle.std.proofs.Common.{◌≡◌, ◌++◌, ℕ, List, [], ◌∷◌, map, refl, sym, subst}
 use Rattle.mz_checks.specs.Checks.{Checks, nothing, ◌>>◌, AllHold, FailsFirst, each_in_order}
 use Rattle.mz_checks.proofs.InOrder.{all_hold-both}
-use Rattle.mz_math.specs.declared.pieces.Piece.{Piece}
-use Rattle.mz_math.specs.Pieces.{Pieces}
+use Rattle.mz_tokens.specs.declared.pieces.Piece.{Piece}
+use Rattle.mz_tokens.specs.Pieces.{Pieces}
 use Rattle.mz_grammar.specs.Reading.{OnFault}
 use Rattle.mz_grammar.specs.declared.refusal.Fault.{Fault}
 use Rattle.mz_grammar.specs.declared.refusal.Halt.{Halt}

@@ -22,7 +22,7 @@ use Rattle.mz_spec.specs.Declaring.{After}
 use Rattle.mz_spec.specs.Spec.{Stand, SpecMakes, SpecFault, IsGood, Fails}
 use Rattle.mz_spec.specs.Reading.{StandTo}
 use Rattle.mz_checks.specs.Checks.{AllHold, FailsFirst}
-use Rattle.mz_math.specs.declared.pieces.Piece.{Piece}
+use Rattle.mz_tokens.specs.declared.pieces.Piece.{Piece}
 use Rattle.mz_spec.specs.Formulas.{AreTokens}
 use Rattle.mz_spec.specs.Rules.{statement_checks}
 use Rattle.mz_spec.proofs.Tokens.{formulas-tokens}

@@ -3,12 +3,12 @@ use Rattle.std.proofs.Common.{◌≡◌, ◌<◌, ◌≤◌, ◌+◌, ◌-◌, �
 use Rattle.std.specs.Prelude.{slice_index, IsTrue}
 use Rattle.std.proofs.lemmas.Bool.{cases_eq, cases_lt}
 use Rattle.mz_lex.specs.Kinds.{is_space}
-use Rattle.mz_math.specs.declared.pieces.Delimiters.{Delimiters}
-use Rattle.mz_math.specs.declared.pieces.Piece.{Piece}
-use Rattle.mz_math.specs.Pieces.{IsSpaces, IsPiece, PiecesFrom, Pieces}
-use Rattle.mz_math.specs.Answers.{EndsAt, IsWhole}
-use Rattle.mz_math.proofs.OneMeaning.{pieces-one}
-use Rattle.mz_math.proofs.Strings.{whole-first, whole-more, whole-piece}
+use Rattle.mz_tokens.specs.declared.pieces.Delimiters.{Delimiters}
+use Rattle.mz_tokens.specs.declared.pieces.Piece.{Piece}
+use Rattle.mz_tokens.specs.Pieces.{IsSpaces, IsPiece, PiecesFrom, Pieces}
+use Rattle.mz_tokens.specs.Answers.{EndsAt, IsWhole}
+use Rattle.mz_tokens.proofs.Cutting.{pieces-one}
+use Rattle.mz_tokens.proofs.Strings.{whole-first, whole-more, whole-piece}
 use Rattle.mz_spec.specs.View.{Formula}
 use Rattle.mz_spec.specs.State.{State}
 use Rattle.mz_spec.specs.Formulas.{AreTokens, inner, math_of}

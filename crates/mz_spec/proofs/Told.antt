@@ -4,12 +4,12 @@ use Rattle.mz_lex.specs.Lexemes.{Lexeme}
 use Rattle.mz_lex.specs.declared.rule.S.{S}
 use Rattle.mz_checks.specs.Checks.{Checks, nothing, ask, ◌>>◌, retold, AllHold, FailsFirst}
 use Rattle.mz_logic.specs.Tree.{Tree}
-use Rattle.mz_math.specs.declared.pieces.Piece.{Piece}
+use Rattle.mz_tokens.specs.declared.pieces.Piece.{Piece}
 use Rattle.mz_math.specs.declared.formula.Wanted.{Wanted}
-use Rattle.mz_math.specs.Pieces.{Pieces, PiecesFrom, piece_texts}
+use Rattle.mz_tokens.specs.Pieces.{Pieces, PiecesFrom, piece_texts}
 use Rattle.mz_math.specs.Grammar.{Words}
 use Rattle.mz_math.specs.Formula.{Reader, Misreading, words, known_checks, token_checks, formula_checks, IsFormula, Misreads}
-use Rattle.mz_math.proofs.OneMeaning.{pieces-one}
+use Rattle.mz_tokens.proofs.Cutting.{pieces-one}
 use Rattle.mz_spec.specs.Code.{EndsSmall}
 use Rattle.mz_spec.specs.Formulas.{inner, place_of, told}
 

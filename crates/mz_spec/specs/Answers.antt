@@ -7,7 +7,7 @@ use Rattle.mz_grammar.specs.Statement.{Statement}
 use Rattle.mz_grammar.specs.declared.refusal.Fault.{Fault}
 use Rattle.mz_grammar.specs.declared.refusal.Halt.{Halt}
 use Rattle.mz_grammar.specs.declared.refusal.Halt.TheVariants as halts
-use Rattle.mz_math.specs.declared.pieces.Piece.{Piece}
+use Rattle.mz_tokens.specs.declared.pieces.Piece.{Piece}
 use Rattle.mz_spec.specs.declared.reader.SpecRead.{SpecRead}
 use Rattle.mz_spec.specs.declared.reader.SpecRead.TheVariants.{Spec, Refused, Mem}
 use Rattle.mz_spec.specs.View.{view}

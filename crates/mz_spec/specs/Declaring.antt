@@ -4,7 +4,7 @@ use Rattle.std.specs.Prelude.{◌≡◌, ◌+◌, ◌*◌, ℕ, List, Bool, true
 use Rattle.mz_lex.specs.Lexemes.{Lexeme}
 use Rattle.mz_logic.specs.Tree.{Tree, Trees}
 use Rattle.mz_logic.specs.Declaration.{Declaration, sort_decl, term_decl, assertion_decl, Form, plain_form, abstract_form, defined}
-use Rattle.mz_math.specs.Notation.{Table}
+use Rattle.mz_notation.specs.Notation.{Table}
 use Rattle.mz_grammar.specs.declared.kind.AssertKind.{AssertKind}
 use Rattle.mz_grammar.specs.declared.kind.AssertKind.TheVariants as kinds
 use Rattle.mz_grammar.specs.Statement.{Modifiers, TypeText, Statement, sort_statement, term_statement, assert_statement, definition_statement}

@@ -7,15 +7,15 @@ use Rattle.mz_lex.specs.declared.rule.S.{S}
 use Rattle.mz_lex.specs.declared.rule.S.TheVariants as rules
 use Rattle.mz_checks.specs.Checks.{Checks, nothing, retold}
 use Rattle.mz_logic.specs.Declaration.{signatures}
-use Rattle.mz_math.specs.declared.notation.Notation.{Notation}
-use Rattle.mz_math.specs.declared.coercion.Coercion.{Coercion}
-use Rattle.mz_math.specs.declared.form.Literal.{Literal}
-use Rattle.mz_math.specs.declared.form.Literal.TheVariants.{Constant as constant, Name as name}
-use Rattle.mz_math.specs.declared.form.Tail.{Tail}
-use Rattle.mz_math.specs.declared.table.NoteFault.{NoteFault}
-use Rattle.mz_math.specs.Notation.{Table, with_coercion}
-use Rattle.mz_math.specs.Forms.{IsInfix, IsPrefix, IsGeneral, General, IsSpan, notation_checks, coercion_checks, delimiter_checks, AddsNotation, AddsDelimiters}
-use Rattle.mz_math.specs.declared.table.NoteFault.TheVariants as faults
+use Rattle.mz_notation.specs.declared.notation.Notation.{Notation}
+use Rattle.mz_notation.specs.declared.coercion.Coercion.{Coercion}
+use Rattle.mz_notation.specs.declared.form.Literal.{Literal}
+use Rattle.mz_notation.specs.declared.form.Literal.TheVariants.{Constant as constant, Name as name}
+use Rattle.mz_notation.specs.declared.form.Tail.{Tail}
+use Rattle.mz_notation.specs.declared.table.NoteFault.{NoteFault}
+use Rattle.mz_notation.specs.Notation.{Table, with_coercion}
+use Rattle.mz_notation.specs.Forms.{IsInfix, IsPrefix, IsGeneral, General, IsSpan, notation_checks, coercion_checks, delimiter_checks, AddsNotation, AddsDelimiters}
+use Rattle.mz_notation.specs.declared.table.NoteFault.TheVariants as faults
 use Rattle.mz_grammar.specs.declared.kind.Fixity.{Fixity}
 use Rattle.mz_grammar.specs.declared.kind.Fixity.TheVariants as fixities
 use Rattle.mz_grammar.specs.declared.refusal.Fault.{Fault}

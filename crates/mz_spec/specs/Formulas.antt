@@ -9,8 +9,8 @@ use Rattle.mz_checks.specs.Checks.{Checks, nothing, demand, retold, ◌>>◌}
 use Rattle.mz_logic.specs.Tree.{Tree, Trees, none, more, followed_by}
 use Rattle.mz_logic.specs.Declaration.{signatures}
 use Rattle.mz_logic.specs.Variables.{InFV}
-use Rattle.mz_math.specs.declared.pieces.Piece.{Piece}
-use Rattle.mz_math.specs.Pieces.{Pieces}
+use Rattle.mz_tokens.specs.declared.pieces.Piece.{Piece}
+use Rattle.mz_tokens.specs.Pieces.{Pieces}
 use Rattle.mz_math.specs.declared.formula.Wanted.{Wanted}
 use Rattle.mz_math.specs.declared.formula.Wanted.TheVariants.{Provable as provable, Sort as of_sort}
 use Rattle.mz_math.specs.Formula.{Misreading, formula_checks, IsFormula}

@@ -4,8 +4,8 @@ use Rattle.std.specs.List.{list_all}
 use Rattle.mz_lex.specs.Kinds.{is_digit}
 use Rattle.mz_lex.specs.Lexemes.{Lexeme}
 use Rattle.mz_checks.specs.Checks.{Checks, each_in_order, ◌>>◌}
-use Rattle.mz_math.specs.declared.table.NoteFault.{NoteFault}
-use Rattle.mz_math.specs.declared.table.NoteFault.TheVariants as faults
+use Rattle.mz_notation.specs.declared.table.NoteFault.{NoteFault}
+use Rattle.mz_notation.specs.declared.table.NoteFault.TheVariants as faults
 use Rattle.mz_grammar.specs.declared.refusal.Halt.{Halt}
 use Rattle.mz_grammar.specs.declared.refusal.Halt.TheVariants as halts
 use Rattle.mz_grammar.specs.Statement.{TypeText, Level, number_level, max_level}

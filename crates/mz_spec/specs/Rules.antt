@@ -7,7 +7,7 @@ use Rattle.mz_checks.specs.Checks.{Checks, nothing, demand, each_in_order, ◌>>
 use Rattle.mz_logic.specs.Declaration.{sorts as sorts_in}
 use Rattle.mz_logic.specs.Modifiers.{IsPure, IsStrict, IsFree}
 use Rattle.mz_logic.specs.declared.binder.SortMods.{SortMods}
-use Rattle.mz_math.specs.declared.pieces.Piece.{Piece}
+use Rattle.mz_tokens.specs.declared.pieces.Piece.{Piece}
 use Rattle.mz_grammar.specs.declared.refusal.Fault.{Fault}
 use Rattle.mz_spec.specs.Names.{number_of, IsNew, IsKnown}
 use Rattle.mz_grammar.specs.Statement.{TypeText, Level, number_level, max_level, Statement}

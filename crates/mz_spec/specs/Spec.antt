@@ -5,7 +5,7 @@ use Rattle.mz_lex.specs.Lexemes.{Lexeme, LexesFrom, Lexes}
 use Rattle.mz_lex.specs.declared.token.LexFault.{LexFault}
 use Rattle.mz_logic.specs.Declaration.{Declaration}
 use Rattle.mz_checks.specs.Checks.{AllHold, FailsFirst}
-use Rattle.mz_math.specs.declared.pieces.Piece.{Piece}
+use Rattle.mz_tokens.specs.declared.pieces.Piece.{Piece}
 use Rattle.mz_grammar.specs.declared.refusal.Fault.{Fault}
 use Rattle.mz_grammar.specs.Statement.{Statement, Spells}
 use Rattle.mz_grammar.specs.Stops.{Stops}

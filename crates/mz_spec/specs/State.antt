@@ -8,8 +8,9 @@ use Rattle.mz_logic.specs.Codes.{declaration_code}
 use Rattle.mz_logic.specs.Signature.{Signature}
 use Rattle.mz_logic.specs.declared.binder.Binder.{Binder}
 use Rattle.mz_logic.specs.declared.binder.ResultType.{ResultType}
-use Rattle.mz_math.specs.Notation.{Table, empty_table, with_name}
-use Rattle.mz_math.specs.Formula.{Variables, Reader}
+use Rattle.mz_notation.specs.Notation.{Table, empty_table, with_name}
+use Rattle.mz_notation.specs.Notation.{Variables}
+use Rattle.mz_math.specs.Formula.{Reader}
 use Rattle.mz_spec.specs.declared.spec.Mark.{Mark}
 use Rattle.mz_spec.specs.Names.{number_of}
 use Rattle.mz_grammar.specs.Statement.{TypeText}

@@ -3,7 +3,7 @@ ghost use Rattle.std.specs.Prelude.{◌≡◌, ◌+◌, ◌<◌, ◌^◌, ◌++�
 ghost use Rattle.mz_checks.specs.Checks.{AllHold, each_in_order};
 ghost use Rattle.mz_grammar.specs.Statement.{TypeText};
 ghost use Rattle.mz_grammar.specs.Code.{coercion as coercion_lem, delimiter as delimiter_lem, lexeme, level as level_lem, literal as literal_lem, notation as notation_lem, operator as operator_lem, tail as tail_lem, type_text};
-ghost use Rattle.mz_math.specs.Forms.{IsAnswer, notation_checks};
+ghost use Rattle.mz_notation.specs.Forms.{IsAnswer, notation_checks};
 ghost use Rattle.mz_spec.specs.Answers.{JudgesOrMem, JudgesStatement};
 ghost use Rattle.mz_spec.specs.Code.{AreParts, variable};
 ghost use Rattle.mz_spec.specs.Declaring.{After};

@@ -2,7 +2,7 @@
 ghost use Rattle.std.specs.Prelude.{◌≡◌, ◌+◌, ◌<◌, ◌^◌, ◌++◌, List, IfOk, OnOk, length, map, option_map};
 ghost use Rattle.mz_grammar.specs.Code.{lexeme, type_text};
 ghost use Rattle.mz_grammar.specs.Statement.{TypeText as TypeLem};
-ghost use Rattle.mz_math.specs.Readable.{AreVariables};
+ghost use Rattle.mz_notation.specs.Kept.{AreVariables};
 ghost use Rattle.mz_spec.specs.Code.{AreParts, variable as variable_lem};
 ghost use Rattle.mz_spec.specs.Entries.{state};
 ghost use Rattle.mz_spec.specs.State.{binder_of as binder_of_lem, bytes_of as bytes_of_lem, result_of, scope_of as scope_of_lem, sort_number as sort_number_lem, term_number as term_number_lem, variable_bytes};

@@ -1,5 +1,5 @@
 -- The free variables of a term over operands, gathered one parameter after another.
-use Rattle.std.proofs.Common.{ℕ, suc, ◌≡◌, ◌<◌, ◌≤◌, ◌^◌, ◌⊎◌, true, false, List, [], ◌∷◌, length, take, drop, get_or, slice_get, Some, ap, sym, ◌∙◌, subst, inl, inr, arith, bit_and, bit_or, w64, if◌then◌else◌}
+use Rattle.std.proofs.Common.{ℕ, suc, ◌≡◌, ◌<◌, ◌≤◌, ◌^◌, ◌⊎◌, true, false, List, [], ◌∷◌, length, take, drop, get_or, slice_get, Some, ap, sym, ◌∙◌, subst, inl, inr, bit_and, bit_or, w64, if◌then◌else◌}
 use Rattle.std.specs.Int.{bit_not}
 use Rattle.mz_logic.specs.Tree.{Tree, app}
 use Rattle.mz_logic.specs.Signature.{Signature}
@@ -16,7 +16,7 @@ use Rattle.mz_store.proofs.OverTerms.{signature-at}
 use Rattle.mz_store.proofs.AllVariables.{drop-past}
 use Rattle.mz_store.proofs.Params.{nothing, next-id, next-binder, taken-all}
 
--- the operands of bound parameters that a result names
+-- the operands of bound parameters among the first `end` that the bits name
 abbrev pub Named : Sharing → List Id → List Word → ℕ → ℕ → ℕ → Type 0
 Named s is ws end bits x = IsOperandAt (binders_of ws) (trees_of s is) (places_set bits (bound_places 0 (take end ws))) x
 
@@ -26,15 +26,6 @@ FreeFrom sigs s is ws i x = InSomeFV sigs s.context x (binders_of ws) (trees_of 
 
 abbrev pub Free : List Signature → Sharing → List Id → List Word → ℕ → ℕ → ℕ → Type 0
 Free sigs s is ws end bits x = FreeFrom sigs s is ws 0 x ⊎ Named s is ws end bits x
-
-pub free-first : (sigs : List Signature) (s : Sharing) (is : List Id) (ws : List Word) (end bits word : ℕ) → Tells (bound_vars s.context) word (Named s is ws end bits)
-    → Gathers (bound_vars s.context) word (Free sigs s is ws end bits) (FreeFrom sigs s is ws 0)
-free-first sigs s is ws end bits word tells =
-    gather-first (bound_vars s.context) word (Free sigs s is ws end bits) (FreeFrom sigs s is ws 0) (Named s is ws end bits) swap (λ x h. inr h) (λ x h. inl h) tells
-  where
-    swap : (x : ℕ) → Free sigs s is ws end bits x → Named s is ws end bits x ⊎ FreeFrom sigs s is ws 0 x
-    swap x (inl h) = inr h
-    swap x (inr h) = inl h
 
 -- the i-th parameter and operand, and those after them
 from-next : (sigs : List Signature) (s : Sharing) (is : List Id) (ws : List Word) (i j : ℕ) (w : Word) → slice_get ws i ≡ Some w → i < length is → j ≡ suc i → (x : ℕ)
@@ -89,13 +80,20 @@ free-take sigs s is ws i j word kept binding part w at inside next regular free 
     from : (x : ℕ) → S x → InFV sigs s.context x e × (Named s is ws i (word_deps w) x → ⊥)
     from x (_, h, out) = (h, λ k. out (subst (λ ds. IsOperandAt (binders_of ws) (trees_of s is) ds x) (sym deps-are) k))
 
-pub free-end : (terms : List TermWords) (s : Sharing) (is : List Id) (t end i word bits : ℕ) → CanTake terms s.context t (trees_of s is)
-    → end ≡ length (term_at terms t).params → length is ≤ i → bits ≡ word_deps (term_at terms t).result
-    → Gathers (bound_vars s.context) word (Free (signatures_of terms) s is (term_at terms t).params end bits) (FreeFrom (signatures_of terms) s is (term_at terms t).params i)
-    → Tells (bound_vars s.context) word (IsTold of.Free (signatures_of terms) s.context (app t (trees_of s is)))
-free-end terms s is t end i word bits (there, fits) end-is past bits-are so-far =
-    tells-same (bound_vars s.context) word (Free sigs s is ws end bits) (λ x. InFV sigs s.context x (app t (trees_of s is))) to from
-    (gather-end (bound_vars s.context) word (Free sigs s is ws end bits) (FreeFrom sigs s is ws i) so-far over)
+-- what is free in the operands, and what the result names
+pub free-end : (terms : List TermWords) (s : Sharing) (is : List Id) (t i word named : ℕ) → CanTake terms s.context t (trees_of s is)
+    → length is ≤ i → length (term_at terms t).params ≤ i
+    → Gathers (bound_vars s.context) word (FreeFrom (signatures_of terms) s is (term_at terms t).params 0) (FreeFrom (signatures_of terms) s is (term_at terms t).params i)
+    → Tells (bound_vars s.context) named (Named s is (term_at terms t).params i (word_deps (term_at terms t).result))
+    → Tells (bound_vars s.context) (bit_or word named) (IsTold of.Free (signatures_of terms) s.context (app t (trees_of s is)))
+free-end terms s is t i word named (there, fits) past all so-far tells =
+    tells-same (bound_vars s.context) (bit_or word named) (Free sigs s is ws i bits) (λ x. InFV sigs s.context x (app t (trees_of s is))) to from
+    (gather-end (bound_vars s.context) (bit_or word named) (Free sigs s is ws i bits) (λ x. ⊥)
+    (gather-step (bound_vars s.context) word named (Free sigs s is ws i bits) (Named s is ws i bits) (λ x. ⊥) (Named s is ws i bits)
+    (gather-first (bound_vars s.context) word (Free sigs s is ws i bits) (Named s is ws i bits) (FreeFrom sigs s is ws 0) (λ x h. h) (λ x h. inl h) (λ x h. inr h)
+    (gather-end (bound_vars s.context) word (FreeFrom sigs s is ws 0) (FreeFrom sigs s is ws i) so-far over))
+    (λ x h. inl h) (λ x h. h) (λ x h. absurd h) tells)
+    (λ x h. h))
   where
     sigs : List Signature
     sigs = signatures_of terms
@@ -103,24 +101,26 @@ free-end terms s is t end i word bits (there, fits) end-is past bits-are so-far 
     ws : List Word
     ws = (term_at terms t).params
 
+    bits : ℕ
+    bits = word_deps (term_at terms t).result
+
     d : Signature
     d = signature_of (term_at terms t)
 
     over : (x : ℕ) → FreeFrom sigs s is ws i x → ⊥
     over x h = subst (λ (js : List Id). InSomeFV sigs s.context x (binders_of ws) (trees_of s is) (drop i (binders_of ws)) (trees_of s js)) (drop-past is i past) h
 
-    result-deps : places_set bits (bound_places 0 (take end ws)) ≡ d.result.deps
-    result-deps = ap (λ n. places_set n (bound_places 0 (take end ws))) bits-are
-        ∙ ap (λ vs. places_set (word_deps (term_at terms t).result) (bound_places 0 vs)) (taken-all ws end (let e : length ws ≡ end = sym end-is in omega arith))
+    result-deps : places_set bits (bound_places 0 (take i ws)) ≡ d.result.deps
+    result-deps = ap (λ vs. places_set bits (bound_places 0 vs)) (taken-all ws i all)
 
-    to : (x : ℕ) → Free sigs s is ws end bits x → InFV sigs s.context x (app t (trees_of s is))
+    to : (x : ℕ) → Free sigs s is ws i bits x → InFV sigs s.context x (app t (trees_of s is))
     to x (inl h) = (d, signature-at terms t there, inl h)
     to x (inr h) = (d, signature-at terms t there, inr (subst (λ ds. IsOperandAt (binders_of ws) (trees_of s is) ds x) result-deps h))
 
-    from : (x : ℕ) → InFV sigs s.context x (app t (trees_of s is)) → Free sigs s is ws end bits x
+    from : (x : ℕ) → InFV sigs s.context x (app t (trees_of s is)) → Free sigs s is ws i bits x
     from x (c, at, h) = go (subst (λ (b : Signature). InSomeFV sigs s.context x b.params (trees_of s is) b.params (trees_of s is) ⊎ IsOperandAt b.params (trees_of s is) b.result.deps x)
         (one_at at (signature-at terms t there)) h)
       where
-        go : InSomeFV sigs s.context x d.params (trees_of s is) d.params (trees_of s is) ⊎ IsOperandAt d.params (trees_of s is) d.result.deps x → Free sigs s is ws end bits x
+        go : InSomeFV sigs s.context x d.params (trees_of s is) d.params (trees_of s is) ⊎ IsOperandAt d.params (trees_of s is) d.result.deps x → Free sigs s is ws i bits x
         go (inl k) = inl k
         go (inr k) = inr (subst (λ ds. IsOperandAt (binders_of ws) (trees_of s is) ds x) (sym result-deps) k)

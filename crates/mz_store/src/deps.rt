@@ -1,9 +1,11 @@
 //! The word of an application's variables, from those of its operands.
-ghost use Rattle.std.specs.Prelude.{ℕ, ◌≡◌, ◌<◌, ◌≤◌, ◌%◌, ◌==◌, if◌then◌else◌, List, length, take};
+ghost use Rattle.std.specs.Prelude.{ℕ, ◌≡◌, ◌<◌, ◌%◌, ◌==◌, if◌then◌else◌, Contains, IfOk, List, length};
 ghost use Rattle.mz_logic.specs.Signature.{Signature};
 ghost use Rattle.mz_logic.specs.Tree.{app};
-ghost use Rattle.mz_logic.specs.Variables.{InSomeV, IsOperandAt};
-ghost use Rattle.mz_logic.specs.Words.{signatures_of, term_at, binders_of, bound_places, places_set};
+ghost use Rattle.mz_logic.specs.Sorts.{Fits};
+ghost use Rattle.mz_logic.specs.Variables.{InSomeV, IsBoundAt, IsOperandAt};
+ghost use Rattle.mz_logic.specs.Words.{signatures_of, places_set};
+ghost use Rattle.mz_logic.specs.declared.binder.Binder.{Binder};
 ghost use Rattle.mz_store.specs.Bits.{Tells, bound_vars};
 ghost use Rattle.mz_store.specs.Sharing.{IsIn, AreIn, deps_of, trees_of, IsOver, IsTold, CanTake};
 ghost use Rattle.mz_store.specs.declared.item.DepsMode.TheVariants.{All, Free};
@@ -11,17 +13,28 @@ ghost use Rattle.mz_store.specs.declared.item.DepsMode.TheVariants.{All, Free};
 use crate::item::{DepsMode, Id};
 use crate::store::Store;
 use mz_logic::Terms;
+use std::alloc::{AllocError, Global};
 
 /// The word of the term `t` over these operands.
-pub fn deps_of_term<T: Terms>(store: &Store, terms: &T, t: u32, args: &[Id]) -> u64
+///
+/// # Errors
+///
+/// Where there is no memory.
+pub fn deps_of_term<T: Terms>(
+    alloc: Global,
+    store: &Store,
+    terms: &T,
+    t: u32,
+    args: &[Id],
+) -> Result<u64, AllocError>
     requires over { IsOver (signatures_of (T.all_terms terms.now)) store.now }
     requires ids { AreIn store.now args.now }
     requires fit { CanTake (T.all_terms terms.now) store.now.context t (trees_of store.now args.now) }
-    ensures { Tells (bound_vars store.now.context) result (IsTold store.now.mode (signatures_of (T.all_terms terms.now)) store.now.context (app t (trees_of store.now args.now))) }
+    ensures { IfOk result (λ word. Tells (bound_vars store.now.context) word (IsTold store.now.mode (signatures_of (T.all_terms terms.now)) store.now.context (app t (trees_of store.now args.now)))) }
 {
     match store.mode() {
-        DepsMode::All => all_deps(store, args),
-        DepsMode::Free => free_deps(store, terms, t, args),
+        DepsMode::All => Ok(all_deps(store, args)),
+        DepsMode::Free => free_deps(alloc, store, terms, t, args),
     }
 }
 
@@ -40,51 +53,49 @@ fn all_deps(store: &Store, args: &[Id]) -> u64
 
 /// The free variables: those of each regular operand without what binds them, and the operands of
 /// bound parameters on which the result depends.
-fn free_deps<T: Terms>(store: &Store, terms: &T, t: u32, args: &[Id]) -> u64
+fn free_deps<T: Terms>(
+    alloc: Global,
+    store: &Store,
+    terms: &T,
+    t: u32,
+    args: &[Id],
+) -> Result<u64, AllocError>
     requires mode { store.now.mode ≡ Free }
     requires over { IsOver (signatures_of (T.all_terms terms.now)) store.now }
     requires ids { AreIn store.now args.now }
     requires fit { CanTake (T.all_terms terms.now) store.now.context t (trees_of store.now args.now) }
-    ensures { Tells (bound_vars store.now.context) result (IsTold Free (signatures_of (T.all_terms terms.now)) store.now.context (app t (trees_of store.now args.now))) }
+    ensures { IfOk result (λ word. Tells (bound_vars store.now.context) word (IsTold Free (signatures_of (T.all_terms terms.now)) store.now.context (app t (trees_of store.now args.now)))) }
 {
-    let arity = terms.arity(t);
-    let mut word = bound_operands(store, terms, t, arity, terms.result(t).deps(), args);
-    for i in 0..arity {
+    // the places of the bound parameters so far: only they can bind
+    let mut bound = Vec::new(alloc);
+    let mut word = 0;
+    for i in 0..terms.arity(t) {
         let param = terms.param(t, i);
         if param.bound() {
-            continue;
+            bound.push(i)?;
+        } else {
+            word |= store.deps(args[i as usize]) & !named(store, &bound, param.deps(), args);
         }
-        let binding = bound_operands(store, terms, t, i, param.deps(), args);
-        word |= store.deps(args[i as usize]) & !binding;
     }
-    word
+    Ok(word | named(store, &bound, terms.result(t).deps(), args))
 }
 
-/// The operands of the bound ones among the first `end` parameters whose bits are set, as variables.
-fn bound_operands<T: Terms>(
-    store: &Store,
-    terms: &T,
-    t: u32,
-    end: u32,
-    bits: u64,
-    args: &[Id],
-) -> u64
-    requires end { end ≤ length (term_at (T.all_terms terms.now) t).params }
-    requires over { IsOver (signatures_of (T.all_terms terms.now)) store.now }
+/// The operands at those of the places whose bits are set. They are variables, where bound parameters
+/// stand at the places.
+fn named(store: &Store, places: &[u32], bits: u64, args: &[Id]) -> u64
     requires ids { AreIn store.now args.now }
-    requires fit { CanTake (T.all_terms terms.now) store.now.context t (trees_of store.now args.now) }
-    ensures { Tells (bound_vars store.now.context) result (IsOperandAt (binders_of (term_at (T.all_terms terms.now) t).params) (trees_of store.now args.now) (places_set bits (bound_places 0 (take end (term_at (T.all_terms terms.now) t).params)))) }
+    requires within { (j : ℕ) → Contains places.now j → j < length args.now }
+    ensures { (sigs : List Signature) (params : List Binder) → IsOver sigs store.now → Fits sigs store.now.context (trees_of store.now args.now) params
+        → ((j : ℕ) → Contains places.now j → IsBoundAt params j)
+        → Tells (bound_vars store.now.context) result (IsOperandAt params (trees_of store.now args.now) (places_set bits places.now)) }
 {
     let mut word = 0;
     let mut left = bits;
-    for i in 0..end {
+    for place in places {
         if left == 0 {
             return word;
         }
-        if !terms.param(t, i).bound() {
-            continue;
-        }
-        word |= chosen(store, left, args[i as usize]);
+        word |= chosen(store, left, args[*place as usize]);
         left >>= 1;
     }
     word

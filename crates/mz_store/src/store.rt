@@ -169,10 +169,11 @@ impl Store {
         if let Some(id) = self.find(&key) {
             return Ok(id);
         }
+        let deps = deps_of_term(self.alloc, self, terms, t, args)?;
         let operands = Vec::from_slice(self.alloc, args)?;
         let node = Node {
             sort: terms.result(t).sort(),
-            deps: deps_of_term(self, terms, t, args),
+            deps,
             form: Form::Application(t, operands),
         };
         self.add(key, node)

@@ -5,6 +5,7 @@ ghost use Rattle.std.specs.Prelude.{◌≡◌, ◌<◌, ◌^◌, length};
 use mz_binary::{Checked, Checker, Next, Rows, Statement, check_all, refusal_line};
 use mz_cmd::{K, Mem, Refusal, Steps};
 use mz_layout::Mmb;
+use mz_mode::Mode;
 use std::alloc::{AllocError, Global};
 use std::marker::Brand;
 use std::process::Abort;
@@ -31,14 +32,14 @@ fn with_byte(alloc: Global, at: usize, byte: u8) -> Result<Vec<u8>, Mem> {
     Ok(file)
 }
 
-fn check_with<L: Ledger>(alloc: Global, blank: Blank, file: &[u8]) -> Checked
+fn check_with<L: Ledger>(alloc: Global, blank: Blank, file: &[u8], mode: Mode) -> Checked
     requires name { blank.name ≡ L.name }
     requires parts { blank.parts ≡ L.parts }
     requires some { 0 < blank.parts }
     requires fits { length file.now < 2 ^ 32 }
 {
     let mut steps = Steps::<L>::start(blank);
-    check_all(alloc, file, &mut steps)
+    check_all(alloc, file, mode, &mut steps)
 }
 
 /// How many rows a file has, or its refusal's line.
@@ -54,29 +55,36 @@ fn told(alloc: Global, checked: Checked) -> Result<Vec<u8>, Mem> {
 }
 
 /// What is told of the file with one byte in place of another.
-fn line_of(rt: &(impl Abort + AllocGlobal), at: usize, byte: u8) -> Result<Vec<u8>, Mem> {
+fn line_of(
+    rt: &(impl Abort + AllocGlobal),
+    at: usize,
+    byte: u8,
+    mode: Mode,
+) -> Result<Vec<u8>, Mem> {
     let file = with_byte(rt.alloc(), at, byte)?;
     assert!(rt; file.len() < 200);
     told(
         rt.alloc(),
-        check_with::<Brand>(rt.alloc(), Blank::new(1), &file),
+        check_with::<Brand>(rt.alloc(), Blank::new(1), &file, mode),
     )
 }
 
 /// A byte and its place, and what is told of the file then.
-const WHOLE: &[(usize, u8, &str)] = &[
-    (132, 0x4D, "good: 1 2 1\n"),
+const WHOLE: &[(usize, u8, Mode, &str)] = &[
+    (132, 0x4D, Mode::Strict, "good: 1 2 1\n"),
     (
         157,
         0x20,
+        Mode::Strict,
         "refused: binary statement 4 at byte 157: K30 sorry\n",
     ),
+    (157, 0x20, Mode::Draft, "good: 1 2 1\n"),
 ];
 
 #[test]
 fn whole_files(rt: HostRuntime) -> Result<(), Fail> {
-    for (at, byte, line) in WHOLE {
-        let found = line_of(&rt, *at, *byte)?;
+    for (at, byte, mode, line) in WHOLE {
+        let found = line_of(&rt, *at, *byte, *mode)?;
         assert!(rt; found.as_slice() == line.as_bytes(), "{byte} at {at}");
     }
     Ok(())
@@ -87,6 +95,7 @@ fn end_of<L: Ledger>(
     alloc: Global,
     blank: Blank,
     mmb: &Mmb<'_>,
+    mode: Mode,
     statements: &mut Vec<Statement>,
 ) -> Result<Result<Rows, Refusal>, Mem>
     requires name { blank.name ≡ L.name }
@@ -94,7 +103,7 @@ fn end_of<L: Ledger>(
     requires some { 0 < blank.parts }
 {
     let mut steps = Steps::<L>::start(blank);
-    let mut checker = Checker::new(alloc, mmb);
+    let mut checker = Checker::new(alloc, mmb, mode);
     for _ in 0..10 {
         match checker.check_next(&mut steps) {
             Next::Statement(after, statement) => {
@@ -117,6 +126,7 @@ const STATEMENTS: &[Statement] = &[
         kind: 4,
         row: 0,
         local: false,
+        gap: false,
     },
     Statement {
         number: 2,
@@ -124,6 +134,7 @@ const STATEMENTS: &[Statement] = &[
         kind: 5,
         row: 0,
         local: false,
+        gap: false,
     },
     Statement {
         number: 3,
@@ -131,6 +142,7 @@ const STATEMENTS: &[Statement] = &[
         kind: 5,
         row: 1,
         local: false,
+        gap: false,
     },
     Statement {
         number: 4,
@@ -138,6 +150,7 @@ const STATEMENTS: &[Statement] = &[
         kind: 6,
         row: 0,
         local: true,
+        gap: false,
     },
 ];
 
@@ -170,12 +183,13 @@ fn end_with(
     rt: &(impl Abort + AllocGlobal),
     at: usize,
     byte: u8,
+    mode: Mode,
     statements: &mut Vec<Statement>,
 ) -> Result<Result<Rows, Refusal>, Mem> {
     let file = with_byte(rt.alloc(), at, byte)?;
     assert!(rt; file.len() < 200);
     match Mmb::read(&file) {
-        Ok(mmb) => end_of::<Brand>(rt.alloc(), Blank::new(1), &mmb, statements),
+        Ok(mmb) => end_of::<Brand>(rt.alloc(), Blank::new(1), &mmb, mode, statements),
         Err(refusal) => Ok(Err(refusal)),
     }
 }
@@ -185,12 +199,25 @@ fn end_with(
 fn statements_one_by_one(rt: HostRuntime) -> Result<(), Fail> {
     for (at, byte, count, after) in ENDINGS {
         let mut found = Vec::new(rt.alloc());
-        let ended = end_with(&rt, *at, *byte, &mut found)?;
+        let ended = end_with(&rt, *at, *byte, Mode::Strict, &mut found)?;
         assert!(rt;
             found.iter().eq(STATEMENTS.iter().take(*count)),
             "{count} statements"
         );
         assert!(rt; ended == *after, "after {count} statements");
+    }
+    Ok(())
+}
+
+/// In a draft the open proof goes through, and its theorem is told apart.
+#[test]
+fn gaps_are_told(rt: HostRuntime) -> Result<(), Fail> {
+    let mut found = Vec::new(rt.alloc());
+    let ended = end_with(&rt, 157, 0x20, Mode::Draft, &mut found)?;
+    assert!(rt; ended.is_ok(), "good in a draft");
+    assert!(rt; found.len() == 4, "four statements");
+    for (i, statement) in found.iter().enumerate() {
+        assert!(rt; statement.gap == (i == 3), "statement {i}");
     }
     Ok(())
 }

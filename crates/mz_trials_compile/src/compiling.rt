@@ -1,6 +1,7 @@
 // Proof texts that are compiled, and what is refused.
+use crate::failing::ONE_LISTING;
 use crate::files::{EMPTY, FOLD_SPEC, IMP_SPEC, ONE, ONE_SPEC};
-use crate::runs::{expect_verdict, words_of};
+use crate::runs::{compiled, expect_verdict, words_of};
 use crate::texts::{
     EMPTY_TEXT, FIFTY_FIVE, FIFTY_FIVE_SPECIFICATION, FOLD_TEXT, IMPLICATION, LET_TWICE,
     LET_TWICE_SPECIFICATION, LOCAL_DEFINITION, LOCAL_DEFINITION_SPECIFICATION, LOCAL_IN_AXIOM,
@@ -11,20 +12,6 @@ use mz_tool::{Status, run};
 use std::alloc::{AllocError, Global};
 use std::process::Abort;
 use std::test::Fail;
-
-/// A room for each binary of these tests.
-const ROOM: u64 = 4096;
-
-/// How compiling a text ends, the folder after it, and what was written.
-fn compiled(alloc: Global, text: &str) -> Result<(Status, MemFolder, MemSink), AllocError> {
-    let mut folder = MemFolder::new(alloc);
-    folder.add("text", text.as_bytes())?;
-    folder.room("out", ROOM)?;
-    let mut out = MemSink::new(alloc, 200)?;
-    let words = words_of(alloc, "compile text out")?;
-    let status = run(alloc, &words, &mut folder, &mut out);
-    Ok((status, folder, out))
-}
 
 /// A text, a specification, and what `verify` says of both: of what is compiled.
 const VERIFIED: &[(&str, &str, &str)] = &[
@@ -82,7 +69,7 @@ fn expect_verified(
     spec: &str,
     line: &str,
 ) -> Result<(), Fail> {
-    let (status, folder, _) = compiled(rt.alloc(), text)?;
+    let (status, folder, _) = compiled(rt.alloc(), text.as_bytes())?;
     assert!(rt; status == Status::Done, "compiling {text}");
     let Some(bin) = folder.file("out") else {
         assert!(rt; false, "a file is put for {text}");
@@ -125,7 +112,7 @@ const LINES: &[(&str, Option<&[u8]>, &str)] = &[
 #[test]
 fn the_smallest_binaries(rt: HostRuntime) -> Result<(), Fail> {
     for (text, bin, line) in LINES {
-        let (status, folder, out) = compiled(rt.alloc(), text)?;
+        let (status, folder, out) = compiled(rt.alloc(), text.as_bytes())?;
         assert!(rt; status == Status::Done, "compiling {text}");
         assert!(rt; out.bytes() == line.as_bytes(), "the line for {text}");
         if let Some(bin) = bin {
@@ -142,7 +129,7 @@ fn expect_refused(
     line: &str,
     what: &str,
 ) -> Result<(), Fail> {
-    let (status, folder, out) = compiled(rt.alloc(), text)?;
+    let (status, folder, out) = compiled(rt.alloc(), text.as_bytes())?;
     assert!(rt; status == Status::Refused, "the status for {what}");
     assert!(rt; out.bytes() == line.as_bytes(), "the line for {what}");
     assert!(rt; folder.file("out").is_none(), "no file for {what}");
@@ -157,40 +144,54 @@ fn texts_that_are_refused(rt: HostRuntime) -> Result<(), Fail> {
     Ok(())
 }
 
-/// How compiling the smallest text to a file of this name ends, where a file of this name may have so many
+/// How a command over the smallest text and listing ends, where a file of this name may have so many
 /// bytes, and the folder after it.
-fn ended(alloc: Global, name: &str, room: u64) -> Result<(Status, MemFolder), AllocError> {
+fn ended(
+    alloc: Global,
+    line: &str,
+    name: &str,
+    room: u64,
+) -> Result<(Status, MemFolder), AllocError> {
     let mut folder = MemFolder::new(alloc);
     folder.add("text", SORT.as_bytes())?;
+    folder.add("list", ONE_LISTING.as_bytes())?;
     folder.room(name, room)?;
     let mut out = MemSink::new(alloc, 100)?;
-    let line = format!(in alloc; "compile text {name}")?;
-    let words = words_of(alloc, &line)?;
+    let words = words_of(alloc, line)?;
     let status = run(alloc, &words, &mut folder, &mut out);
     Ok((status, folder))
 }
 
-/// The name of the file that is put, the bytes that it may have, and how the run ends. The binary has 51.
-const ENDS: &[(&str, u64, Status)] = &[
-    ("out", 51, Status::Done),
-    ("out", 50, Status::WriteFault),
-    ("text", 51, Status::Done),
-    ("text", 50, Status::WriteFault),
+/// A command, the name of the file that it puts, the bytes that this may have, and how the run ends. The
+/// binary has 51. The file may be the one that is read.
+const ENDS: &[(&str, &str, u64, Status)] = &[
+    ("compile text out", "out", 51, Status::Done),
+    ("compile text out", "out", 50, Status::WriteFault),
+    ("compile text text", "text", 51, Status::Done),
+    ("compile text text", "text", 50, Status::WriteFault),
+    ("assemble list out", "out", 51, Status::Done),
+    ("assemble list out", "out", 50, Status::WriteFault),
+    ("assemble list list", "list", 51, Status::Done),
+    ("assemble list list", "list", 50, Status::WriteFault),
 ];
 
 #[test]
 fn a_file_is_put_where_there_is_room(rt: HostRuntime) -> Result<(), Fail> {
-    for (name, room, wanted) in ENDS {
-        let (status, folder) = ended(rt.alloc(), name, *room)?;
+    for (line, name, room, wanted) in ENDS {
+        let (status, folder) = ended(rt.alloc(), line, name, *room)?;
         let is_put = *wanted == Status::Done;
-        assert!(rt; status == *wanted, "the status for {name} of {room} bytes");
+        assert!(rt; status == *wanted, "{line} of {room} bytes");
         assert!(rt;
             (folder.file(name) == Some(ONE)) == is_put,
-            "the file for {name} of {room} bytes"
+            "the file for {line} of {room} bytes"
         );
         assert!(rt;
             (folder.file("text") == Some(SORT.as_bytes())) != (is_put && *name == "text"),
-            "the text for {name} of {room} bytes"
+            "the text for {line} of {room} bytes"
+        );
+        assert!(rt;
+            (folder.file("list") == Some(ONE_LISTING.as_bytes())) != (is_put && *name == "list"),
+            "the listing for {line} of {room} bytes"
         );
     }
     Ok(())

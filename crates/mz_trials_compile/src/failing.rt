@@ -1,5 +1,5 @@
 // Calls on the folder and on the output that fail, one by one, under each command; files that are too long.
-use crate::files::{ONE, ONE_SPEC};
+use crate::files::{IMP, IMP_SPEC, ONE, ONE_SPEC};
 use crate::runs::words_of;
 use crate::texts::SORT;
 use mz_io::{Folder, MemFolder, MemSink};
@@ -10,54 +10,63 @@ use std::test::Fail;
 
 const ACCEPTED_ONE: &str = "accepted: 1 sorts, 0 terms, 0 axioms, 0 definitions, 0 theorems\n";
 
-const ONE_LISTING: &str = "sort 0 4\nend\n";
+pub const ONE_LISTING: &str = "sort 0 4\nend\n";
+
+const RESTS_ON: &str = "a1i: ax_1 ax_mp\n";
 
 const SAMPLE_ONE: &str =
     "sample: 367 bytes of specification, 514 bytes of text\naccepted: 2 sorts, 2 terms, 3 axioms, 1 definitions, 2 theorems\n";
 
 /// A command line, how many calls read its files, how many put one, and what is written. A file takes a
 /// start and two pulls, of which the second comes to its end.
-const RUNS: &[(&str, u8, u8, &str)] = &[
+pub const RUNS: &[(&str, u8, u8, &str)] = &[
     ("verify spec bin", 6, 0, ACCEPTED_ONE),
     ("show bin", 3, 0, ONE_LISTING),
     ("compile text out", 3, 1, "compiled: 51 bytes\n"),
     ("assemble list out", 3, 1, "assembled: 51 bytes\n"),
+    ("axioms claim proof", 6, 0, RESTS_ON),
     ("sample 1", 0, 0, SAMPLE_ONE),
 ];
 
-/// The smallest specification, binary, proof text and listing, with room for a file that is put.
-fn smallest(alloc: Global) -> Result<MemFolder, AllocError> {
+/// The smallest specification, proof text and listing, and a specification with a theorem.
+const TEXTS: &[(&str, &str)] = &[
+    ("spec", ONE_SPEC),
+    ("text", SORT),
+    ("list", ONE_LISTING),
+    ("claim", IMP_SPEC),
+];
+
+/// The binaries of both specifications.
+const BINARIES: &[(&str, &[u8])] = &[("bin", ONE), ("proof", IMP)];
+
+/// These files, with room for one that is put.
+pub fn smallest(alloc: Global) -> Result<MemFolder, AllocError> {
     let mut folder = MemFolder::new(alloc);
-    folder.add("spec", ONE_SPEC.as_bytes())?;
-    folder.add("bin", ONE)?;
-    folder.add("text", SORT.as_bytes())?;
-    folder.add("list", ONE_LISTING.as_bytes())?;
+    for (name, text) in TEXTS {
+        folder.add(name, text.as_bytes())?;
+    }
+    for (name, bytes) in BINARIES {
+        folder.add(name, bytes)?;
+    }
     folder.room("out", 51)?;
     Ok(folder)
 }
 
-/// Asserts that the smallest files are as they were, and whether one was put.
-fn assert_files(rt: &impl Abort, folder: &MemFolder, is_put: bool, what: &str) {
+/// Asserts that the files are as they were, and whether one was put.
+pub fn assert_files(rt: &impl Abort, folder: &MemFolder, is_put: bool, what: &str) {
+    for (name, text) in TEXTS {
+        assert!(rt;
+            folder.file(name) == Some(text.as_bytes()),
+            "{name} for {what}"
+        );
+    }
+    for (name, bytes) in BINARIES {
+        assert!(rt; folder.file(name) == Some(*bytes), "{name} for {what}");
+    }
+    let put = if is_put { Some(ONE) } else { None };
     assert!(rt;
-        folder.file("spec") == Some(ONE_SPEC.as_bytes()),
-        "the specification for {what}"
-    );
-    assert!(rt; folder.file("bin") == Some(ONE), "the binary for {what}");
-    assert!(rt;
-        folder.file("text") == Some(SORT.as_bytes()),
-        "the text for {what}"
-    );
-    assert!(rt;
-        folder.file("list") == Some(ONE_LISTING.as_bytes()),
-        "the listing for {what}"
-    );
-    assert!(rt;
-        (folder.file("out") == Some(ONE)) == is_put,
+        folder.file("out") == put,
         "the file that is put for {what}"
-    );
-    assert!(rt;
-        folder.file("out").is_some() == is_put,
-        "whether a file is put for {what}"
     );
 }
 
@@ -186,8 +195,9 @@ fn ended_within(
     Ok((status, folder, out))
 }
 
-/// How many bytes a file may have, and what is written where none is too long. The specification has 18
-/// bytes, the binary 51, the text 20 and the listing 13; a sample is no file.
+/// How many bytes a file may have, and what is written where none is too long. The smallest specification
+/// has 18 bytes, the binary 51, the text 20 and the listing 13, the claim 228 and the
+/// proof 238; a sample is no file.
 const LIMITS: &[(u32, &str, Option<&str>)] = &[
     (17, "verify spec bin", None),
     (18, "verify spec bin", None),
@@ -199,6 +209,10 @@ const LIMITS: &[(u32, &str, Option<&str>)] = &[
     (20, "compile text out", Some("compiled: 51 bytes\n")),
     (12, "assemble list out", None),
     (13, "assemble list out", Some("assembled: 51 bytes\n")),
+    (227, "axioms claim proof", None),
+    (228, "axioms claim proof", None),
+    (237, "axioms claim proof", None),
+    (238, "axioms claim proof", Some(RESTS_ON)),
     (0, "sample 1", Some(SAMPLE_ONE)),
 ];
 

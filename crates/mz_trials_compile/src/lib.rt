@@ -13,8 +13,14 @@ mod form_texts;
 #[cfg(test)]
 mod forms;
 #[cfg(test)]
+mod hostile;
+#[cfg(test)]
+mod hostile_sheets;
+#[cfg(test)]
 mod runs;
 #[cfg(test)]
 mod samples;
+#[cfg(test)]
+mod slow;
 #[cfg(test)]
 mod texts;

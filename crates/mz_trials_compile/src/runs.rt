@@ -14,6 +14,20 @@ pub fn words_of(alloc: Global, line: &str) -> Result<Vec<String>, AllocError> {
     Ok(words)
 }
 
+/// A room for each binary of these tests.
+const ROOM: u64 = 4096;
+
+/// How compiling a text ends, the folder after it, and what was written.
+pub fn compiled(alloc: Global, text: &[u8]) -> Result<(Status, MemFolder, MemSink), AllocError> {
+    let mut folder = MemFolder::new(alloc);
+    folder.add("text", text)?;
+    folder.room("out", ROOM)?;
+    let mut out = MemSink::new(alloc, 200)?;
+    let words = words_of(alloc, "compile text out")?;
+    let status = run(alloc, &words, &mut folder, &mut out);
+    Ok((status, folder, out))
+}
+
 /// Verifies a binary against a specification, and compares the line and the status.
 pub fn expect_verdict(
     rt: &(impl Abort + AllocGlobal),

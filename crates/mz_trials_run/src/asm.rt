@@ -45,7 +45,7 @@ const TEXTS: &[(&str, &str)] = &[
     ("local axiom 0 0\n", "refused: listing line 1: A1 form\n"),
     ("local sort 0 0\n", "refused: listing line 1: A1 form\n"),
     // A number that is too large.
-    ("sort 0 16\n", "refused: listing line 1: A2 range\n"),
+    ("sort 0 16\nend\n", "refused: listing line 1: A2 range\n"),
     (
         "sort 4294967296 4\nend\n",
         "refused: listing line 1: A2 range\n",

@@ -1,4 +1,5 @@
 //! Each call with ample memory, the limit of a read, failing calls one by one, and the adapters.
+use crate::program::files::ONE;
 use mz_io::{
     DiskFolder, Failed, Folder, MemFolder, MemSink, Read, Sink, StdSink, read_bounded, write_whole,
 };
@@ -64,6 +65,20 @@ fn a_whole_file_comes_exactly_up_to_the_limit(rt: HostRuntime) -> Result<(), Fai
             "{len} bytes at the limit {limit}"
         );
         assert_file(&rt, &folder, "file", &bytes);
+    }
+    Ok(())
+}
+
+/// How many bytes of the smallest binary may be read, and how the read ends. It has 51.
+const LIMITS_OF_ONE: &[(u64, &str, &[u8])] = &[(50, "too long", b""), (51, "bytes", ONE)];
+
+#[test]
+fn the_smallest_binary_is_read_up_to_its_length(rt: HostRuntime) -> Result<(), Fail> {
+    let mut folder = MemFolder::new(rt.alloc());
+    folder.add("bin", ONE)?;
+    for (limit, word, bytes) in LIMITS_OF_ONE {
+        let read = read_bounded(rt.alloc(), &mut folder, "bin", *limit);
+        assert!(rt; shown(&read) == (*word, *bytes), "the limit {limit}");
     }
     Ok(())
 }

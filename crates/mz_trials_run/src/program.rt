@@ -6,6 +6,8 @@ mod cut;
 mod faults;
 pub mod files;
 mod hostile;
+mod hostile_listings;
+mod hostile_sheets;
 pub mod listings;
 mod lists;
 mod matching;
@@ -52,7 +54,11 @@ pub fn expect(
     Ok(())
 }
 
-/// Verifies a binary against a specification, and compares the line and the status.
+/// The commands that say the same of a pair that is refused.
+const REFUSING: &[&str] = &["verify spec bin", "axioms spec bin"];
+
+/// Verifies a binary against a specification, and compares the line and the status. Where it is refused,
+/// `axioms` says the same.
 pub fn expect_verdict(
     rt: &(impl Abort + AllocGlobal),
     spec: &[u8],
@@ -61,20 +67,14 @@ pub fn expect_verdict(
     what: &str,
 ) -> Result<(), Fail> {
     let text = format!(in rt.alloc(); "{line}\n")?;
-    let status = if line.as_bytes().starts_with(b"accepted: ") {
-        Status::Done
-    } else {
-        Status::Refused
-    };
-    expect(
-        rt,
-        "verify spec bin",
-        spec,
-        bin,
-        status,
-        text.as_bytes(),
-        what,
-    )
+    let text = text.as_bytes();
+    if line.as_bytes().starts_with(b"accepted: ") {
+        return expect(rt, "verify spec bin", spec, bin, Status::Done, text, what);
+    }
+    for command in REFUSING {
+        expect(rt, command, spec, bin, Status::Refused, text, what)?;
+    }
+    Ok(())
 }
 
 /// Verifies changes of one file against one specification.

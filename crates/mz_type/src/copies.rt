@@ -3,7 +3,7 @@ ghost use Rattle.std.specs.Prelude.{◌≡◌, IfOk};
 ghost use Rattle.mz_logic.specs.DeclView.{declaration, form, term_view, assertion_view};
 
 use mz_logic::{
-    Binder, Binders, Decl, Deps, Exprs, ResultType, TermDecl, TermForm, ThmDecl, copy_of,
+    Binder, Binders, Decl, Deps, ResultType, TermDecl, TermForm, ThmDecl, copies_of, copy_of,
 };
 use std::alloc::{AllocError, Global};
 
@@ -44,18 +44,6 @@ fn copy_of_result(alloc: Global, result_type: &ResultType) -> Result<ResultType,
         sort: result_type.sort,
         deps,
     })
-}
-
-/// Copies of the expressions.
-fn copies_of(alloc: Global, es: &Exprs) -> Result<Exprs, AllocError>
-    ensures { IfOk result (λ copies. copies ≡ es.now) }
-{
-    let mut copies = Exprs::new(alloc);
-    for e in es.as_slice() {
-        let copy = copy_of(alloc, e)?;
-        copies.push(copy)?;
-    }
-    Ok(copies)
 }
 
 fn copy_of_form(alloc: Global, term: &TermForm) -> Result<TermForm, AllocError>

@@ -8,7 +8,7 @@ ghost use Rattle.mz_type.specs.Meaning.{LegalAsStated};
 ghost use Rattle.mz_type.specs.Names.{StatementThere};
 ghost use Rattle.mz_type.specs.Parts;
 ghost use Rattle.mz_type.specs.Rules.{statement_rules, text_rules};
-ghost use Rattle.mz_type.specs.TypedText.{statement_at, declared, IsTypedText};
+ghost use Rattle.mz_type.specs.TypedText.{statement_at, IsTypedText};
 ghost use Rattle.mz_type.specs.Weight.{declaration_weight, weight_of};
 ghost use Rattle.mz_type.specs.Typing.{IsTyping, IsTypingOf, TextStops, IsStopped, IsRefusal};
 
@@ -27,8 +27,7 @@ use std::marker::Model;
 #[derive(Drop)]
 pub struct Typed<'t, 'a> {
     pub(crate) text: &'t Text<'a>,
-    // what its statements declare, and what they weigh
-    pub(crate) env: Env,
+    // what its statements weigh
     pub(crate) weight: u128,
 }
 
@@ -40,12 +39,12 @@ impl<'t, 'a> Model for Typed<'t, 'a> {
     ghost coded = { forms_code };
 
     ghost use Rattle.std.specs.Prelude.{◌≡◌, ◌<◌, ◌^◌, ◌^◌};
-    ghost use Rattle.mz_type.specs.TypedText.{IsTypedText};
+    ghost use Rattle.mz_type.specs.TypedText.{declared, IsTypedText};
     ghost use Rattle.mz_type.specs.Weight.{weight_of};
 
     ghost view = { λ a. a.text.now };
 
-    ghost invariant = { λ a. IsTypedText a.text.now a.env × (a.weight ≡ weight_of a.text.now.statements) × (a.weight < 2 ^ 64) };
+    ghost invariant = { λ a. IsTypedText a.text.now (declared a.text.now.statements) × (a.weight ≡ weight_of a.text.now.statements) × (a.weight < 2 ^ 64) };
 }
 
 /// What checking the type rules of a text answers.
@@ -182,7 +181,6 @@ pub fn check_text<'t, 'a>(alloc: Global, text: &'t Text<'a>) -> TypedRead<'t, 'a
     };
     TypedRead::Typed(Typed {
         text,
-        env: made.0,
         weight: made.1,
     })
 }
@@ -194,12 +192,5 @@ impl<'t, 'a> Typed<'t, 'a> {
         ensures legal { LegalAsStated self.now.statements }
     {
         self.text
-    }
-
-    /// The environment that its statements make: their declarations in order.
-    pub fn env(&self) -> &Env
-        ensures { result.now ≡ declared self.now.statements }
-    {
-        &self.env
     }
 }

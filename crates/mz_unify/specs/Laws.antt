@@ -1,4 +1,6 @@
--- What is promised of spellings and of the unify machine as definitions.
+-- What is promised of spellings and of the unify machine as definitions (documents of the .mmb
+-- format, on unify streams; Carneiro, the rule of theorem application, whose instance a stream that
+-- runs has matched).
 use Rattle.std.specs.Prelude.{◌≡◌, ℕ, Bool, ◌+◌, ◌≤◌, ◌<◌, ◌↔◌, List, [], ◌++◌, length, map, reverse, Ok}
 use Rattle.mz_logic.specs.Tree.{Tree, Trees, none, followed_by, variables, instance, instances}
 use Rattle.mz_logic.specs.Signature.{Signature}

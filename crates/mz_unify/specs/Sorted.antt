@@ -1,4 +1,4 @@
--- Expressions and items that have sorts.
+-- Expressions and items that have sorts (mm0.md, section on terms: each expression has one).
 use Rattle.std.specs.Prelude.{ℕ, ⊤, List, [], ◌∷◌}
 use Rattle.mz_logic.specs.Tree.{Tree}
 use Rattle.mz_logic.specs.Signature.{Signature}

@@ -1,4 +1,4 @@
-// Listings that the program assembles: those of the worked files, and texts that are none.
+// The listings of the worked files, which the program assembles to these files again.
 use super::files::{DUMMY, FOLD, GEN, IMP, ONE};
 use super::words_of;
 use mz_io::{MemFolder, MemSink};
@@ -40,24 +40,6 @@ fn listed_files_are_assembled_back(rt: HostRuntime) -> Result<(), Fail> {
         assert!(rt; status == Status::Done, "{told}");
         assert!(rt; out.bytes() == told.as_bytes(), "{told}");
         assert!(rt; folder.file("out") == Some(*file), "the bytes for {told}");
-    }
-    Ok(())
-}
-
-/// Texts that are no listings, and what is told of them.
-const REFUSED: &[(&str, &str)] = &[
-    ("", "refused: listing line 1: A1 form\n"),
-    ("sort 0 16\nend\n", "refused: listing line 1: A2 range\n"),
-    ("sort 1 4\nend\n", "refused: listing line 1: A3 row\n"),
-];
-
-#[test]
-fn other_texts_are_refused(rt: HostRuntime) -> Result<(), Fail> {
-    for (text, told) in REFUSED {
-        let (status, folder, out) = ended(rt.alloc(), "assemble list out", b"", text.as_bytes())?;
-        assert!(rt; status == Status::Refused, "{told}");
-        assert!(rt; out.bytes() == told.as_bytes(), "{told}");
-        assert!(rt; folder.file("out").is_none(), "no file for {told}");
     }
     Ok(())
 }

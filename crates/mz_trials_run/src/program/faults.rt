@@ -21,6 +21,14 @@ const OTHER_WORDS: &[&str] = &[
     "compile bin",
     "compile bin out out",
     "Compile bin out",
+    "assemble",
+    "assemble list",
+    "assemble list out out",
+    "axioms",
+    "axioms spec",
+    "axioms spec bin bin",
+    "Axioms spec bin",
+    "sample 1 1",
     "spec bin",
 ];
 
@@ -55,8 +63,13 @@ const MISSING: &[(&str, Status, u64)] = &[
     ("verify bin other", Status::ReadFault, 4),
     ("show other", Status::ReadFault, 1),
     ("compile other out", Status::ReadFault, 1),
+    ("assemble other out", Status::ReadFault, 1),
+    ("axioms other bin", Status::ReadFault, 1),
+    ("axioms bin other", Status::ReadFault, 4),
     ("verify bin", Status::Usage, 0),
     ("compile bin", Status::Usage, 0),
+    ("assemble bin", Status::Usage, 0),
+    ("axioms bin", Status::Usage, 0),
 ];
 
 /// A file that is missing is the last one that is started; words of no command start none.
@@ -111,6 +124,8 @@ const COMMANDS: &[&str] = &[
     "verify spec bin",
     "show bin",
     "compile text out",
+    "assemble list out",
+    "axioms spec bin",
     "sample 1",
 ];
 
@@ -123,6 +138,7 @@ fn want_of_memory_is_told(rt: HostRuntime) -> Result<(), Fail> {
         folder.add("spec", ONE_SPEC.as_bytes())?;
         folder.add("bin", ONE)?;
         folder.add("text", b"(sort wff provable)")?;
+        folder.add("list", b"sort 0 4\nend\n")?;
         folder.room("out", 51)?;
         let mut out = MemSink::new(alloc, 200)?;
         let Some(held) = take_all(alloc)? else {

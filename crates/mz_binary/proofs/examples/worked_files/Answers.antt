@@ -13,6 +13,7 @@ returns c = record {
   cut = (refl, refl, refl, refl, refl, refl);
   headers = (refl, refl, refl, refl, refl, refl, refl, refl, refl, refl, refl);
   rows = (refl, refl, refl, refl, refl, refl, refl, refl, refl, refl, refl, refl, refl, refl, refl);
-  bodies = (refl, refl, refl, refl, refl, refl, refl, refl, refl, refl, refl, refl, refl, refl, refl, refl, refl, refl, refl, refl, refl, refl, refl, refl, refl, refl, refl, refl, refl, refl);
+  bodies = (refl, refl, refl, refl, refl, refl, refl, refl, refl, refl, refl, refl, refl, refl, refl, refl, refl, refl, refl, refl, refl, refl, refl, refl, refl, refl, refl, refl, refl);
+  gaps = (refl, refl, refl);
   steps = (refl, refl, refl, refl, refl, refl, refl, refl, refl, refl, refl);
 }

@@ -1,11 +1,12 @@
-use Rattle.std.proofs.Common.{[], subst, false}
-use Rattle.mz_logic.proofs.Closing.{legal_list_is_closed}
+use Rattle.std.proofs.Common.{[], subst}
 use Rattle.mz_layout.specs.Tables.{list_at}
 use Rattle.mz_binary.specs.Chains.{IsGoodStatement}
 use Rattle.mz_binary.specs.Good.{Good}
+use Rattle.mz_binary.specs.Judging.{IsChecked}
+use Rattle.mz_binary.specs.declared.whole.Checked.TheVariants as Checked
 use Rattle.mz_binary.specs.Progress.{CountsRows}
 use Rattle.mz_binary.proofs.ChainLaws.{chain-declares}
-use Rattle.mz_binary.proofs.LegalChains.{good-legal}
+use Rattle.mz_binary.proofs.GapFree.{good-sound}
 use Rattle.mz_binary.proofs.whole.check_list.Goals as goal
 
 pub returns-in-End-clause-checked : goal.returns-in-End-clause-checked
@@ -13,11 +14,8 @@ returns-in-End-clause-checked g c =
     let so_far = c.statements.invariant.so_far in
     let file = c.statements.checker.file in
     let ends = c.in-End.ensures.next so_far.0 so_far.1 so_far.2 in
-    let declares = chain-declares (IsGoodStatement false file) [] (list_at file) so_far.0 so_far.1 c.statements.checker.at so_far.2.statements in
-    let legal = good-legal false file so_far.0 ends.0 in (
-      so_far.0,
-      subst (λ f. Good false f so_far.0) c.statements.invariant.same_file ends.0,
-      legal,
-      legal_list_is_closed so_far.0 legal,
-      subst (CountsRows c.in-End.rows) declares ends.1,
-    )
+    let declares = chain-declares (IsGoodStatement c.statements.checker.gaps file) [] (list_at file) so_far.0 so_far.1 c.statements.checker.at so_far.2.statements in
+    let gaps = c.statements.checker.gaps in
+    let whole = subst (λ f. Good gaps f so_far.0) c.statements.invariant.same_file ends.0 in
+    subst (λ g. IsChecked g c.args.first.file (Checked.Good c.in-End.rows)) c.statements.invariant.same_gaps
+    (so_far.0, whole, good-sound gaps c.args.first.file so_far.0 whole, subst (CountsRows c.in-End.rows) declares ends.1)

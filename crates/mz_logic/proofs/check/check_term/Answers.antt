@@ -14,3 +14,6 @@ returns-then-not-body_deps_are_right c =
 pub returns : goal.returns
 returns c =
     ((c.term_names_are_there.ensures.0 c.if-not-term_names_are_there.false), ((c.term_binders_are_right.ensures.0 c.if-not-term_binders_are_right.false), ((c.may_be_result_sort.ensures.0 c.if-not-may_be_result_sort.false), ((c.body_sorts_are_right.ensures.0 c.if-not-body_sorts_are_right.false), ((c.body_has_bound_operands.ensures.0 c.if-not-body_has_bound_operands.false), (tt, ((subst (All (λ b. MayBeDummySort (sorts c.args.env.now) b.sort)) c.dummies.ensures (c.dummy_sorts_are_right.ensures.0 c.if-not-dummy_sorts_are_right.false)), ((c.body_deps_are_right.ensures.0 c.if-not-body_deps_are_right.false), tt))))))))
+
+pub body_deps_are_right-requires-clause-binders : goal.body_deps_are_right-requires-clause-binders
+body_deps_are_right-requires-clause-binders c = c.term_binders_are_right.ensures.0 c.if-not-term_binders_are_right.false

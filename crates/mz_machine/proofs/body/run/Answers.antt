@@ -2,7 +2,12 @@ use Rattle.std.proofs.Common.{◌≡◌, ◌≤◌, ◌+◌, ◌*◌, ◌∙◌,
 use Rattle.mz_machine.specs.Steps.{tables_for, heading_for}
 use Rattle.mz_machine.proofs.BodyUnderway.{at-first, cut-whole, long-whole, end-whole, end-refused, end-many, refused-whole, refused-many, goes-on, further, ends-there, goes-further}
 use Rattle.mz_machine.proofs.BodyRunning.{itself, goes, row-over, steps-over, most-over, end-answer, end-counts, more-steps, within-steps}
+use Rattle.mz_machine.proofs.GapWalk.{gap-at-first, gap-ends, gap-goes-on}
 use Rattle.mz_machine.proofs.body.run.Goals as goal
+
+pub commands-init : goal.commands-init
+commands-init g c =
+    record { in_range = omega arith; same = itself c.args.start; underway = at-first c.args.start.gaps (tables_for c.args.start) (heading_for c.args.start) c.args.from c.args.bytes.now c.args.start.state c.args.steps.now; gap = gap-at-first c.args.bytes.now c.args.start.sorry c.requires.fresh; most = omega arith }
 
 pub returns-in_default-clause-run : goal.returns-in_default-clause-run
 returns-in_default-clause-run g c =
@@ -11,7 +16,7 @@ returns-in_default-clause-run g c =
     let same = c.commands.invariant.same in
     let on = c.commands.invariant.underway in
     let place = c.args.from + c.commands.at in
-    (cut-whole (tables_for u) (heading_for u) c.args.from c.args.bytes.now u.state c.args.steps.now c.commands.at v.state c.commands.steps on c.in_default.field-0 (sym c.in_default.ensures.computed)).0
+    (cut-whole u.gaps (tables_for u) (heading_for u) c.args.from c.args.bytes.now u.state c.args.steps.now c.commands.at v.state c.commands.steps on c.in_default.field-0 (sym c.in_default.ensures.computed)).0
 
 pub returns-in_default-clause-steps : goal.returns-in_default-clause-steps
 returns-in_default-clause-steps g c =
@@ -20,7 +25,7 @@ returns-in_default-clause-steps g c =
     let same = c.commands.invariant.same in
     let on = c.commands.invariant.underway in
     let place = c.args.from + c.commands.at in
-    (cut-whole (tables_for u) (heading_for u) c.args.from c.args.bytes.now u.state c.args.steps.now c.commands.at v.state c.commands.steps on c.in_default.field-0 (sym c.in_default.ensures.computed)).1
+    (cut-whole u.gaps (tables_for u) (heading_for u) c.args.from c.args.bytes.now u.state c.args.steps.now c.commands.at v.state c.commands.steps on c.in_default.field-0 (sym c.in_default.ensures.computed)).1
 
 pub returns-then-next-bytes-clause-run : goal.returns-then-next-bytes-clause-run
 returns-then-next-bytes-clause-run g c =
@@ -33,7 +38,7 @@ returns-then-next-bytes-clause-run g c =
     let read = sym c.in-Ok.ensures.computed in
     let ahead = further c.args.bytes.now c.commands.at cmd read c.commands.invariant.in_range in
     let more = goes-further c.args.bytes.now c.commands.at cmd.len (λ whole. c.if-next-bytes.true (ap (λ n. c.commands.at + n) c.from.ensures ∙ sym whole)) ahead.1 in
-    (long-whole (tables_for u) (heading_for u) c.args.from c.args.bytes.now u.state c.args.steps.now c.commands.at v.state c.commands.steps on cmd read c.if-cmd-eq-END.true more).0
+    (long-whole u.gaps (tables_for u) (heading_for u) c.args.from c.args.bytes.now u.state c.args.steps.now c.commands.at v.state c.commands.steps on cmd read c.if-cmd-eq-END.true more).0
 
 pub returns-then-next-bytes-clause-steps : goal.returns-then-next-bytes-clause-steps
 returns-then-next-bytes-clause-steps g c =
@@ -46,7 +51,7 @@ returns-then-next-bytes-clause-steps g c =
     let read = sym c.in-Ok.ensures.computed in
     let ahead = further c.args.bytes.now c.commands.at cmd read c.commands.invariant.in_range in
     let more = goes-further c.args.bytes.now c.commands.at cmd.len (λ whole. c.if-next-bytes.true (ap (λ n. c.commands.at + n) c.from.ensures ∙ sym whole)) ahead.1 in
-    (long-whole (tables_for u) (heading_for u) c.args.from c.args.bytes.now u.state c.args.steps.now c.commands.at v.state c.commands.steps on cmd read c.if-cmd-eq-END.true more).1
+    (long-whole u.gaps (tables_for u) (heading_for u) c.args.from c.args.bytes.now u.state c.args.steps.now c.commands.at v.state c.commands.steps on cmd read c.if-cmd-eq-END.true more).1
 
 pub returns-then-cmd-eq-END-clause-run : goal.returns-then-cmd-eq-END-clause-run
 returns-then-cmd-eq-END-clause-run g c =
@@ -60,9 +65,10 @@ returns-then-cmd-eq-END-clause-run g c =
     let ahead = further c.args.bytes.now c.commands.at cmd read c.commands.invariant.in_range in
     let none = ends-there c.args.bytes.now c.commands.at cmd.len (sym c.if-next-bytes.false ∙ ap (λ n. c.commands.at + n) c.from.ensures) in
     rw c.ended.ensures
-    (end-answer u v _ place c.finish.result same
-    (λ last done. end-whole (tables_for u) (heading_for u) c.args.from c.args.bytes.now u.state c.args.steps.now c.commands.at v.state c.commands.steps on cmd read last c.if-cmd-eq-END.true none done)
-    (λ d done. end-refused (tables_for u) (heading_for u) c.args.from c.args.bytes.now u.state c.args.steps.now c.commands.at v.state c.commands.steps on cmd read d c.if-cmd-eq-END.true none done) c.finish.ensures.run)
+    (end-answer u v c.args.bytes.now _ place c.finish.result same
+    (gap-ends c.args.bytes.now c.commands.at cmd v.sorry read c.if-cmd-eq-END.true none c.commands.invariant.gap)
+    (λ last done. end-whole u.gaps (tables_for u) (heading_for u) c.args.from c.args.bytes.now u.state c.args.steps.now c.commands.at v.state c.commands.steps on cmd read last c.if-cmd-eq-END.true none done)
+    (λ d done. end-refused u.gaps (tables_for u) (heading_for u) c.args.from c.args.bytes.now u.state c.args.steps.now c.commands.at v.state c.commands.steps on cmd read d c.if-cmd-eq-END.true none done) c.finish.ensures.run)
 
 pub returns-then-cmd-eq-END-clause-steps : goal.returns-then-cmd-eq-END-clause-steps
 returns-then-cmd-eq-END-clause-steps g c =
@@ -77,7 +83,7 @@ returns-then-cmd-eq-END-clause-steps g c =
     let none = ends-there c.args.bytes.now c.commands.at cmd.len (sym c.if-next-bytes.false ∙ ap (λ n. c.commands.at + n) c.from.ensures) in
     rw c.ended.ensures
     (end-counts u v place c.finish.new.steps c.commands.steps _ c.finish.result same c.finish.ensures.steps
-    (λ is. end-many (tables_for u) (heading_for u) c.args.from c.args.bytes.now u.state c.args.steps.now c.commands.at v.state c.commands.steps on cmd read c.finish.new.steps c.if-cmd-eq-END.true none is))
+    (λ is. end-many u.gaps (tables_for u) (heading_for u) c.args.from c.args.bytes.now u.state c.args.steps.now c.commands.at v.state c.commands.steps on cmd read c.finish.new.steps c.if-cmd-eq-END.true none is))
 
 pub returns-then-cmd-eq-END-clause-most : goal.returns-then-cmd-eq-END-clause-most
 returns-then-cmd-eq-END-clause-most g c =
@@ -102,7 +108,7 @@ returns-in-Refused-clause-run g c =
     let cmd = c.in-Ok.cmd in
     let read = sym c.in-Ok.ensures.computed in
     let ahead = further c.args.bytes.now c.commands.at cmd read c.commands.invariant.in_range in
-    refused-whole (tables_for u) (heading_for u) c.args.from c.args.bytes.now u.state c.args.steps.now c.commands.at v.state c.commands.steps on cmd read c.if-cmd-eq-END.false c.in-Refused.rule (row-over u v place v.state cmd _ same (c.in-Refused.ensures.row place))
+    refused-whole u.gaps (tables_for u) (heading_for u) c.args.from c.args.bytes.now u.state c.args.steps.now c.commands.at v.state c.commands.steps on cmd read c.if-cmd-eq-END.false c.in-Refused.rule (row-over u v place v.state cmd _ same (c.in-Refused.ensures.row place))
 
 pub returns-in-Refused-clause-steps : goal.returns-in-Refused-clause-steps
 returns-in-Refused-clause-steps g c =
@@ -114,7 +120,7 @@ returns-in-Refused-clause-steps g c =
     let cmd = c.in-Ok.cmd in
     let read = sym c.in-Ok.ensures.computed in
     let ahead = further c.args.bytes.now c.commands.at cmd read c.commands.invariant.in_range in
-    refused-many (tables_for u) (heading_for u) c.args.from c.args.bytes.now u.state c.args.steps.now c.commands.at v.state c.commands.steps on cmd read c.if-cmd-eq-END.false c.in-Refused.rule c.step.new.steps (row-over u v place v.state cmd _ same (c.in-Refused.ensures.row place))
+    refused-many u.gaps (tables_for u) (heading_for u) c.args.from c.args.bytes.now u.state c.args.steps.now c.commands.at v.state c.commands.steps on cmd read c.if-cmd-eq-END.false c.in-Refused.rule c.step.new.steps (row-over u v place v.state cmd _ same (c.in-Refused.ensures.row place))
     (steps-over u v v.state cmd c.step.new.steps c.commands.steps same c.in-Refused.ensures.steps)
 
 pub returns-in-Refused-clause-most : goal.returns-in-Refused-clause-most
@@ -162,7 +168,8 @@ commands-preserved g c =
     let ahead = further c.args.bytes.now c.commands.at cmd read c.commands.invariant.in_range in
     record {
       in_range = rw c.from.ensures ahead.1;
-      same = goes u v c.in-Machine.after same (c.in-Machine.ensures.row place).1;
-      underway = rw c.from.ensures (goes-on (tables_for u) (heading_for u) c.args.from c.args.bytes.now u.state c.args.steps.now c.commands.at v.state c.commands.steps on cmd read c.if-cmd-eq-END.false c.in-Machine.after.state c.step.new.steps (row-over u v place v.state cmd _ same (c.in-Machine.ensures.row place).0) (steps-over u v v.state cmd c.step.new.steps c.commands.steps same c.in-Machine.ensures.steps));
+      same = goes u v c.in-Machine.after cmd same (c.in-Machine.ensures.row place).1;
+      underway = rw c.from.ensures (goes-on u.gaps (tables_for u) (heading_for u) c.args.from c.args.bytes.now u.state c.args.steps.now c.commands.at v.state c.commands.steps on cmd read c.if-cmd-eq-END.false c.in-Machine.after.state c.step.new.steps (row-over u v place v.state cmd _ same (c.in-Machine.ensures.row place).0) (steps-over u v v.state cmd c.step.new.steps c.commands.steps same c.in-Machine.ensures.steps));
+      gap = rw c.from.ensures (gap-goes-on c.args.bytes.now c.commands.at cmd v.sorry c.in-Machine.after.sorry read (c.in-Machine.ensures.row place).1.sorry c.commands.invariant.gap);
       most = rw c.from.ensures (more-steps c.args.steps.now c.commands.steps c.step.new.steps c.commands.at cmd.len (length u.file) c.commands.invariant.most (most-over u v c.step.new.steps c.commands.steps same c.in-Machine.ensures.most) ahead.0);
     }

@@ -1,4 +1,6 @@
-use Rattle.std.proofs.Common.{◌≡◌, ◌≤◌, ◌+◌, ◌*◌, ◌-◌, length}
+use Rattle.std.specs.Prelude.{◌↔◌}
+use Rattle.std.proofs.Common.{◌≡◌, ◌≤◌, ◌⊎◌, ◌+◌, ◌*◌, ◌-◌, true, length, drop}
+use Rattle.mz_machine.specs.BodyAnswers.{HasGap}
 use Rattle.mz_machine.specs.Steps.{tables_for, heading_for}
 use Rattle.mz_machine.proofs.BodyUnderway.{IsUnderway}
 use Rattle.mz_machine.proofs.BodyRunning.{IsSameBody}
@@ -8,7 +10,8 @@ abbrev pub invariant-commands : goal.invariant-commands
 invariant-commands g l = record {
   in_range : l.at ≤ length l.bytes;
   same : IsSameBody l.fn.start l.machine;
-  underway : IsUnderway (tables_for l.fn.start) (heading_for l.fn.start) l.from l.bytes l.fn.start.state l.fn.steps l.at l.machine.state l.steps;
+  underway : IsUnderway l.fn.start.gaps (tables_for l.fn.start) (heading_for l.fn.start) l.from l.bytes l.fn.start.state l.fn.steps l.at l.machine.state l.steps;
+  gap : HasGap l.bytes ↔ ((l.machine.sorry ≡ true) ⊎ HasGap (drop l.at l.bytes));
   most : l.steps ≤ l.fn.steps + l.at * (length l.fn.start.file + 1);
 }
 

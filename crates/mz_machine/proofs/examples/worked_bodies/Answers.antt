@@ -18,6 +18,7 @@ returns c = record {
   dummies = (refl, refl, refl);
   fifty_five = refl;
   gap = refl;
+  gaps_of_drafts = (refl, refl, refl, refl, refl, refl);
   of_another_body = refl;
   of_another_row = refl;
   cut_or_long = (refl, refl);

@@ -1,3 +1,4 @@
+use Rattle.std.proofs.Common.{false}
 use Rattle.mz_match.proofs.SomeVerdict.{verdict-or-refusal}
 use Rattle.mz_match.proofs.OneVerdict.{accepted-excludes, counts-one, refusal-one}
 use Rattle.mz_match.proofs.laws.each_pair_has_one_verdict.Goals as goal
@@ -9,7 +10,7 @@ pub returns-clause-not_both : goal.returns-clause-not_both
 returns-clause-not_both c = accepted-excludes
 
 pub returns-clause-one_count : goal.returns-clause-one_count
-returns-clause-one_count c = counts-one
+returns-clause-one_count c = counts-one false
 
 pub returns-clause-one_refusal : goal.returns-clause-one_refusal
-returns-clause-one_refusal c = refusal-one
+returns-clause-one_refusal c = refusal-one false

@@ -1,15 +1,20 @@
-use Rattle.std.proofs.Common.{◌≡◌, ◌≤◌, ◌+◌, ◌-◌, ◌*◌, length, false}
+use Rattle.std.proofs.Common.{◌≡◌, ◌≤◌, ◌+◌, ◌-◌, ◌*◌, length, true, List}
+use Rattle.mz_mode.specs.Gaps.{gaps_of}
+use Rattle.mz_logic.specs.Declaration.{Declaration}
+use Rattle.mz_logic.specs.LegalLists.{Statement}
 use Rattle.mz_binary.specs.FileRun.{file_steps}
 use Rattle.mz_binary.specs.Progress.{steps_left, most_left}
 use Rattle.mz_spec.specs.State.{env_of}
-use Rattle.mz_match.specs.Told.{IsMatchedMore}
+use Rattle.mz_match.specs.Drafts.{ListsGapsOf}
+use Rattle.mz_match.specs.Told.{IsMatched}
 use Rattle.mz_match.proofs.verify.check_list.Given as goal
 
 abbrev pub invariant-statements : goal.invariant-statements
 invariant-statements g l = record {
-  so_far : IsMatchedMore (env_of l.fn.spec) l.matching l.checker;
+  so_far : (ss : List Statement) × (env : List Declaration) × IsMatched l.checker (env_of l.fn.spec) l.matching ss env × (l.checker.gaps ≡ true → ListsGapsOf l.checker.file ss l.places.items);
   same_file : l.checker.file ≡ l.fn.mmb;
-  counted : l.steps + steps_left l.checker ≡ l.fn.steps + file_steps false l.fn.mmb;
+  same_gaps : l.checker.gaps ≡ gaps_of l.fn.mode;
+  counted : l.steps + steps_left l.checker ≡ l.fn.steps + file_steps (gaps_of l.fn.mode) l.fn.mmb;
   most : l.steps + most_left l.checker ≤ l.fn.steps + (length l.fn.mmb * length l.fn.mmb + length l.fn.mmb);
 }
 

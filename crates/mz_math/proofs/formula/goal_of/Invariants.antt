@@ -1,6 +1,6 @@
 use Rattle.std.proofs.Common.{◌≡◌, ◌<◌, ℕ, length, get_or, Some}
-use Rattle.mz_math.specs.Notation.{Coercion}
-use Rattle.mz_math.specs.Coercions.{Reaches}
+use Rattle.mz_notation.specs.declared.coercion.Coercion.{Coercion}
+use Rattle.mz_notation.specs.Coercions.{Reaches}
 use Rattle.std.specs.Prelude.{IfSome}
 use Rattle.mz_logic.specs.Modifiers.{MayBeClaimSort}
 use Rattle.mz_logic.specs.Declaration.{sorts}

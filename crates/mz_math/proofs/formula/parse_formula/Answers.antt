@@ -3,13 +3,15 @@ use Rattle.mz_checks.specs.Checks.{AllHold}
 use Rattle.mz_lex.specs.declared.rule.S.TheVariants as rules
 use Rattle.mz_logic.specs.View.{tree}
 use Rattle.mz_logic.specs.Declaration.{signatures}
-use Rattle.mz_math.specs.Pieces.{Delimiters, Piece, Pieces, piece_texts}
+use Rattle.mz_tokens.specs.Pieces.{Pieces, piece_texts}
+use Rattle.mz_tokens.specs.declared.pieces.Delimiters.{Delimiters}
+use Rattle.mz_tokens.specs.declared.pieces.Piece.{Piece}
 use Rattle.mz_math.specs.Grammar.{Words, Exp}
 use Rattle.mz_math.specs.Readable.{IsReadable}
 use Rattle.mz_math.specs.Formula.{Reader, words, most, known_checks, IsParsed, breaks}
 use Rattle.mz_math.specs.Answers.{IsFirstUnknown}
-use Rattle.mz_math.proofs.Strings.{pieces-within}
-use Rattle.mz_math.proofs.Tables.{table-readable}
+use Rattle.mz_tokens.proofs.Strings.{pieces-within}
+use Rattle.mz_math.proofs.Readable.{table-readable}
 use Rattle.mz_math.proofs.Judging.{unknown-first, known-then, known-all}
 use Rattle.mz_math.proofs.formula.parse_formula.Goals as goal
 

@@ -2,8 +2,8 @@ use Rattle.std.proofs.Common.{◌≡◌, ◌+◌, ◌-◌, ◌∙◌, ℕ, suc, 
 use Rattle.std.proofs.lemmas.Option.{IfSome_then}
 use Rattle.mz_logic.specs.Tree.{Tree, Trees, none, more, followed_by}
 use Rattle.mz_logic.specs.View.{tree, trees}
-use Rattle.mz_math.proofs.Lists.{followed_by_none, followed_by_push}
-use Rattle.mz_math.specs.Notation.{places}
+use Rattle.mz_math.proofs.TreeLists.{followed_by_none, followed_by_push}
+use Rattle.mz_notation.specs.Notation.{places}
 use Rattle.mz_math.specs.Grammar.{operand_for}
 use Rattle.mz_math.specs.Grammar.{arranged as in_order}
 use Rattle.mz_math.proofs.parser.+arranged.Goals as goal

@@ -2,7 +2,7 @@ use Rattle.std.proofs.Common.{◌≡◌, ◌+◌, ◌-◌, ◌∙◌, ◌∷◌,
 use Rattle.std.proofs.lemmas.Bool.{true≢false}
 use Rattle.mz_logic.specs.Tree.{none, more, followed_by}
 use Rattle.mz_logic.specs.View.{tree}
-use Rattle.mz_math.specs.Notation.{max_level}
+use Rattle.mz_notation.specs.Notation.{max_level}
 use Rattle.mz_math.specs.Grammar.{items, operands_at_max, last_level, level_before}
 use Rattle.mz_math.specs.Reading.{ArePartsRead, NoParts, NoReading, IsRead}
 use Rattle.mz_math.proofs.Unique.{cons_head, cons_tail, empty_cons}

@@ -5,7 +5,7 @@ use Rattle.mz_sexpr.proofs.RowLemmas.{entry_is, below_entries}
 use Rattle.mz_sexpr.proofs.access.row_of_depth.Goals as goal
 
 pub returns-then-rows-n : goal.returns-then-rows-n
-returns-then-rows-n c =
+returns-then-rows-n c = λ text steps shallow.
     let rows = c.args.rows.now in
-    stands_here (map entry rows) c.requires.steps c.args.n (below_entries rows c.args.n c.if-n-rows.true) c.args.depth
-    (ap (λ (e : Entry). e.depth) (entry_is rows c.args.n _ c.if-n-rows.true) ∙ c.if-rows-n.true)
+    stands_here (map (entry text) rows) steps c.args.n (below_entries text rows c.args.n c.if-n-rows.true) c.args.depth
+    (ap (λ (e : Entry). e.depth) (entry_is text rows c.args.n _ c.if-n-rows.true) ∙ c.if-rows-n.true)

@@ -1,4 +1,4 @@
-use Rattle.std.proofs.Common.{ℕ, ◌≡◌, ◌≤◌, ◌<◌, ◌+◌, ◌-◌, drop, map, length}
+use Rattle.std.proofs.Common.{ℕ, List, ◌≡◌, ◌≤◌, ◌<◌, ◌+◌, ◌-◌, drop, map, length}
 use Rattle.mz_sexpr.specs.Rows.{entry, level}
 use Rattle.mz_sexpr.proofs.ends.end_of.Given as goal
 
@@ -6,7 +6,7 @@ abbrev pub invariant-loop-end : goal.invariant-loop-end
 invariant-loop-end l = record {
   later : l.n < l.end;
   within : l.end ≤ length l.rows;
-  same : (k : ℕ) → k ≤ l.depth → level (drop l.end (map entry l.rows)) k ≡ level (drop (l.n + 1) (map entry l.rows)) k;
+  same : (text : List ℕ) (k : ℕ) → k ≤ l.depth → level (drop l.end (map (entry text) l.rows)) k ≡ level (drop (l.n + 1) (map (entry text) l.rows)) k;
 }
 
 abbrev pub decreases-loop-end : goal.decreases-loop-end

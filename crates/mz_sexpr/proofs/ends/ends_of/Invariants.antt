@@ -1,4 +1,4 @@
-use Rattle.std.proofs.Common.{◌≡◌, ◌≤◌, map, length}
+use Rattle.std.proofs.Common.{ℕ, List, ◌≡◌, ◌≤◌, map, length}
 use Rattle.mz_sexpr.specs.Rows.{entry, EndFrom}
 use Rattle.mz_sexpr.proofs.ends.ends_of.Given as goal
 
@@ -6,7 +6,7 @@ abbrev pub invariant-loop-n : goal.invariant-loop-n
 invariant-loop-n l = record {
   within : l.n ≤ length l.rows;
   many : length l.ends.items ≡ length l.rows;
-  known : EndFrom (map entry l.rows) l.ends.items l.n;
+  known : (text : List ℕ) → EndFrom (map (entry text) l.rows) l.ends.items l.n;
 }
 
 abbrev pub decreases-loop-n : goal.decreases-loop-n

@@ -10,7 +10,7 @@ use Rattle.mz_sexpr.proofs.sexprs.read_sexprs.Goals as goal
 pub ends_of-requires : goal.ends_of-requires
 ends_of-requires c =
     let k = few_rows c.args.text.now in
-    let e = sym (length-map c.in-Rows.rows.items entry) ∙ ap length c.in-Rows.ensures.1 in
+    let e = sym (length-map c.in-Rows.rows.items (entry c.args.text.now)) ∙ ap length c.in-Rows.ensures.1 in
     let d = ap length c.deref.ensures.value in
     omega arith
 
@@ -20,8 +20,8 @@ invariant_of-result c =
     let e = ap length c.in-Rows.ensures.1 in
     record {
       steps = subst (Steps 0) (sym c.in-Rows.ensures.1) (steps_of_entries 0 (tokens 0 Space c.args.text.now));
-      many = c.in-Ok.ensures.many ∙ ap length c.deref.ensures.value ∙ sym (length-map c.in-Rows.rows.items entry);
-      ended = rw c.deref.ensures.value at c.in-Ok.ensures.known;
+      many = c.in-Ok.ensures.many ∙ ap length c.deref.ensures.value ∙ sym (length-map c.in-Rows.rows.items (entry c.args.text.now));
+      ended = rw c.deref.ensures.value at (c.in-Ok.ensures.known c.args.text.now);
       short = omega arith;
     }
 

@@ -5,17 +5,16 @@ use Rattle.mz_sexpr.specs.Node.{parts, place}
 use Rattle.mz_sexpr.specs.Number.{first}
 use Rattle.mz_sexpr.specs.declared.rule.U.{U}
 use Rattle.mz_mmu.specs.Order.{fault}
-use Rattle.mz_logic.specs.Declaration.{signatures}
-use Rattle.mz_logic.specs.Legality.{InRange, sort_of}
+use Rattle.mz_logic.specs.Declaration.{signatures, sorts}
+use Rattle.mz_logic.specs.Legality.{DependOnBound, sort_of}
+use Rattle.mz_logic.specs.Sorts.{HasSort}
 use Rattle.mz_logic.specs.Variables.{InFV}
 use Rattle.mz_logic.specs.View.{tree}
-use Rattle.mz_logic.proofs.Rules.{range_of_sort}
-use Rattle.mz_logic.proofs.Scoped.{DepsInside}
+use Rattle.mz_logic.proofs.Bound.{depends_on_bound}
 use Rattle.mz_type.specs.Parts.{part}
 use Rattle.mz_type.specs.Rules.{dummy_rules, expr_rules}
 use Rattle.mz_type.proofs.ExprRules.{sort_by_checks}
 use Rattle.mz_type.proofs.Judging.{handed_before, handed_after}
-use Rattle.mz_type.proofs.RulesDecided.{inside}
 use Rattle.mz_type.proofs.statements.check_body.Goals as goal
 
 pub returns-in_err-check_dummies : goal.returns-in_err-check_dummies
@@ -45,8 +44,8 @@ returns-in_err-check_expr c =
     handed_after A _ c.from_residual-in_err-check_expr.result f (subst (λ ns. AllHold (dummy_rules env ds ns)) (c.parts.ensures ∙ ap (λ ms. parts (first ms)) c.after.ensures) c.in_ok-check_dummies.ensures) c.from_residual-in_err-check_expr.ensures.1
     (fails-before B _ f (subst (λ cs. FailsFirst cs f) (ap (λ k. expr_rules sigs k e (first c.after-node.result)) (c.new-ctx.ensures ∙ ap (λ qs. qs ++ ds) c.as_slice.ensures) ∙ ap (λ m. expr_rules sigs ctx e (first m)) c.after-node.ensures) c.in_err-check_expr.ensures))
 
-pub free_vars_are_in-requires-clause-there : goal.free_vars_are_in-requires-clause-there
-free_vars_are_in-requires-clause-there c =
+pub free_vars_are_in-requires-clause-sorted : goal.free_vars_are_in-requires-clause-sorted
+free_vars_are_in-requires-clause-sorted c =
     let env = c.args.env.now in
     let sigs = signatures env in
     let ds = c.args.dummies.now in
@@ -55,11 +54,11 @@ free_vars_are_in-requires-clause-there c =
     let ctx = c.args.term.now.params ++ ds in
     let A = dummy_rules env ds (parts (part ps 4)) in
     let B = expr_rules sigs ctx e (part ps 5) in
-    subst (λ k. InRange sigs (length k) e) (sym (c.new-ctx.ensures ∙ ap (λ qs. qs ++ ds) c.as_slice.ensures))
-    (range_of_sort sigs ctx e _ (sort_by_checks sigs ctx e (part ps 5) c.requires.there (subst (λ cs. AllHold cs) (ap (λ k. expr_rules sigs k e (first c.after-node.result)) (c.new-ctx.ensures ∙ ap (λ qs. qs ++ ds) c.as_slice.ensures) ∙ ap (λ m. expr_rules sigs ctx e (first m)) c.after-node.ensures) c.in_ok-check_expr.ensures)))
+    subst (λ k. (s : ℕ) × HasSort sigs k e s) (sym (c.new-ctx.ensures ∙ ap (λ qs. qs ++ ds) c.as_slice.ensures))
+    (sort_of sigs ctx e, (sort_by_checks sigs ctx e (part ps 5) c.requires.there (subst (λ cs. AllHold cs) (ap (λ k. expr_rules sigs k e (first c.after-node.result)) (c.new-ctx.ensures ∙ ap (λ qs. qs ++ ds) c.as_slice.ensures) ∙ ap (λ m. expr_rules sigs ctx e (first m)) c.after-node.ensures) c.in_ok-check_expr.ensures)))
 
-pub free_vars_are_in-requires-clause-scoped : goal.free_vars_are_in-requires-clause-scoped
-free_vars_are_in-requires-clause-scoped c =
+pub free_vars_are_in-requires-clause-deps : goal.free_vars_are_in-requires-clause-deps
+free_vars_are_in-requires-clause-deps c =
     let env = c.args.env.now in
     let sigs = signatures env in
     let ds = c.args.dummies.now in
@@ -68,7 +67,7 @@ free_vars_are_in-requires-clause-scoped c =
     let ctx = c.args.term.now.params ++ ds in
     let A = dummy_rules env ds (parts (part ps 4)) in
     let B = expr_rules sigs ctx e (part ps 5) in
-    subst DepsInside (sym (c.new-ctx.ensures ∙ ap (λ qs. qs ++ ds) c.as_slice.ensures)) (inside env c.args.term.now.params ds c.requires.params c.requires.dummies)
+    subst DependOnBound (sym (c.new-ctx.ensures ∙ ap (λ qs. qs ++ ds) c.as_slice.ensures)) (depends_on_bound (sorts env) c.args.term.now.params ds c.requires.params c.requires.dummies)
 
 pub returns-then-not-free_vars_are_in : goal.returns-then-not-free_vars_are_in
 returns-then-not-free_vars_are_in c =

@@ -1,21 +1,26 @@
-use Rattle.std.proofs.Common.{◌≡◌, ◌+◌, ◌-◌, ◌*◌, ◌∙◌, ℕ, List, length, refl, ap, subst, arith}
+use Rattle.std.proofs.Common.{◌≡◌, ◌+◌, ◌-◌, ◌*◌, ◌∙◌, ℕ, List, length, refl, sym, ap, subst, arith}
+use Rattle.mz_mode.specs.Gaps.{gaps_of}
 use Rattle.mz_cmd.specs.Codes.{statement_byte}
 use Rattle.mz_binary.specs.declared.statement.Statement.{Statement as Told}
-use Rattle.mz_binary.specs.Progress.{Progress, IsReached, most_left, next_row, rows_past}
+use Rattle.mz_binary.specs.Progress.{Progress, IsReached, marks_past, most_left, next_row, rows_past}
 use Rattle.mz_binary.proofs.Heads.{head-at}
 use Rattle.mz_binary.proofs.Passing.{IsPast, passes, reached, further, taken-past}
-use Rattle.mz_binary.proofs.Counting.{left-past, most-past}
+use Rattle.mz_binary.proofs.Counting.{left-past, most-past, most-here}
+use Rattle.mz_binary.proofs.SortsSoFar.{taken}
+use Rattle.mz_binary.specs.FileRun.{RunsBody}
+use Rattle.mz_machine.specs.FileRows.{Taken}
 use Rattle.mz_binary.proofs.checker.Checker.past.Goals as goal
 
 abbrev after_of : goal.After-after_rows → Progress
-after_of c = record { file = c.self.inside.mmb.now; at = c.args.head.next; passed = c.self.inside.passed + 1; rows = c.after_rows.result }
+after_of c = record { gaps = gaps_of c.self.inside.mode; file = c.self.inside.mmb.now; at = c.args.head.next; passed = c.self.inside.passed + 1; rows = c.after_rows.result; marks = c.mark.new.marks.items }
 
 abbrev told_of : goal.After-after_rows → Told
-told_of c = record { number = c.self.inside.passed + 1; at = c.self.inside.at; kind = c.kind_of.result; row = c.row_of.result; local = c.is_local.result }
+told_of c = record { number = c.self.inside.passed + 1; at = c.self.inside.at; kind = c.kind_of.result; row = c.row_of.result; local = c.is_local.result; gap = c.args.gap }
 
 past-of : (c : goal.After-after_rows) → IsPast c.args.self (after_of c) (told_of c) c.args.head
 past-of c = record {
   same_file = ap (λ (q : Progress). q.file) c.self.view_is;
+  same_gaps = ap (λ (q : Progress). q.gaps) c.self.view_is;
   goes_on = refl;
   one_more = ap (λ (q : Progress). q.passed + 1) c.self.view_is;
   rows_are = c.after_rows.ensures ∙ ap (λ (q : Progress). rows_past q.rows c.args.head.code) c.self.view_is;
@@ -24,6 +29,8 @@ past-of c = record {
   kind = c.kind_of.ensures;
   row = c.row_of.ensures ∙ ap (λ (q : Progress). next_row q.rows c.args.head.code) c.self.view_is;
   mark = c.is_local.ensures;
+  gap = c.requires.gap;
+  marks_are = c.in-Ok.ensures.ok ∙ ap (λ (q : Progress). marks_past q.gaps c.args.head.code c.args.gap q.marks) c.self.view_is;
 }
 
 pub invariant_of-after : goal.invariant_of-after
@@ -39,7 +46,7 @@ returns-clause-left c =
     let past = past-of c in
     let on = further c.args.self (after_of c) (told_of c) c.args.head past c.requires.head c.requires.at c.requires.runs r in
     left-past c.args.self (after_of c) c.args.head.next _ c.requires.runs
-    (taken-past c.args.self (after_of c) (told_of c) c.args.head past c.requires.head c.requires.at c.requires.runs r) refl past.same_file on.0 on.1
+    (taken-past c.args.self (after_of c) (told_of c) c.args.head past c.requires.head c.requires.at c.requires.runs r) refl past.same_file past.same_gaps on.0 on.1
 
 pub returns-clause-most : goal.returns-clause-most
 returns-clause-most c = λ old new few.
@@ -48,3 +55,17 @@ returns-clause-most c = λ old new few.
     let same : most_left (after_of c) ≡ (length p.file - head.next) * (length p.file + 1) = ap (λ (f : List ℕ). (length f - head.next) * (length f + 1)) (past-of c).same_file in
     let at-head = head-at p.file head.at (statement_byte head.code) head.body head.next c.requires.head in
     omega (arith, same, most-past (length p.file) p.at head.body head.next old new (omega (arith, at-head.before, c.requires.at)) at-head.order at-head.within few)
+
+-- want of memory for the mark, which only an axiom or theorem gets
+
+pub returns-in_default-clause-next : goal.returns-in_default-clause-next
+returns-in_default-clause-next c = λ ss env before.
+    let p : Progress = c.args.self in
+    subst (λ (t : Taken). RunsBody p.file t p.at) (sym (taken p ss env before)) (c.requires.body c.in_default.ensures.err)
+
+pub returns-in_default-clause-most : goal.returns-in_default-clause-most
+returns-in_default-clause-most c = λ old new few.
+    let p : Progress = c.args.self in
+    let head = c.args.head in
+    let at-head = head-at p.file head.at (statement_byte head.code) head.body head.next c.requires.head in
+    most-here (length p.file) p.at head.body head.next old new (omega (arith, at-head.before, c.requires.at)) at-head.order at-head.within few

@@ -36,8 +36,8 @@ check_body-requires-clause-within g c =
     subst (λ (q : Progress). c.args.head.next ≤ length q.file) (sym c.self.view_is)
     (head-at c.args.self.file c.args.head.at (statement_byte c.args.head.code) c.args.head.body c.args.head.next c.requires.head).within
 
-pub returns-in-Mem-clause-next : goal.returns-in-Mem-clause-next
-returns-in-Mem-clause-next g c = λ ss env before.
+pub returns-clause-next : goal.returns-clause-next
+returns-clause-next g c = λ ss env before.
     let p : Progress = c.args.self in
     let head = c.args.head in
     body-here p ss env before (after_kind p.file (taken_before p.file p.rows) head.code) head.next (heading_of p.file (kind_byte head.code) (next_row p.rows head.code)) head.body (body_bytes p.file head.body head.next)
@@ -59,10 +59,13 @@ returns-in-Refused-clause-most g c =
     (most-here (length p.file) p.at head.body head.next c.args.steps.now c.check_body.new.steps (omega (arith, at-head.before, c.requires.at)) at-head.order at-head.within
     (subst (λ (q : Progress). c.check_body.new.steps ≤ c.args.steps.now + (head.next - head.body) * (length q.file + 1)) c.self.view_is c.check_body.ensures.most))
 
-pub returns-in-Mem-clause-most : goal.returns-in-Mem-clause-most
-returns-in-Mem-clause-most g c =
+pub returns-clause-most : goal.returns-clause-most
+returns-clause-most g c =
     let p : Progress = c.args.self in
     let head = c.args.head in
     let at-head = head-at p.file head.at (statement_byte head.code) head.body head.next c.requires.head in
     most-here (length p.file) p.at head.body head.next c.args.steps.now c.check_body.new.steps (omega (arith, at-head.before, c.requires.at)) at-head.order at-head.within
     (subst (λ (q : Progress). c.check_body.new.steps ≤ c.args.steps.now + (head.next - head.body) * (length q.file + 1)) c.self.view_is c.check_body.ensures.most)
+
+pub past-requires-clause-body : goal.past-requires-clause-body
+past-requires-clause-body g c _ = (_, _, _, _, _, c.requires.body)

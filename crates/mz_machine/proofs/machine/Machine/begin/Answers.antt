@@ -1,10 +1,12 @@
 use Rattle.std.proofs.Common.{◌∙◌, refl, length, sym, ap, subst}
+use Rattle.mz_mode.specs.Gaps.{gaps_of}
 use Rattle.mz_logic.specs.Words.{binders_of, BitsRight}
 use Rattle.mz_store.specs.Bits.{bound_vars}
 use Rattle.mz_machine.specs.Tables.{signatures_in}
-use Rattle.mz_machine.specs.Before.{kind_at, tables_before}
+use Rattle.mz_machine.specs.Before.{kind_at, tables_before, heading_of}
 use Rattle.mz_machine.specs.OverStore.{mode_for}
 use Rattle.mz_machine.specs.Stepping.{first_items}
+use Rattle.mz_machine.proofs.GapRows.{start-plain}
 use Rattle.mz_machine.proofs.Beginning.{own-bits, params-are, params-many, is-begun, state-begun, words-are, AreVars}
 use Rattle.mz_machine.proofs.machine.Machine.begin.Goals as goal
 
@@ -38,10 +40,12 @@ returns c =
     let many = c.in_ok-begin.ensures.many ∙ ap length c.deref.ensures.value in
     let trees = subst (AreVars s) c.deref.ensures.value c.in_ok-begin.ensures.trees in
     record {
+      gaps_are = refl;
       file_is = refl;
       kind_is = refl;
       row_is = refl;
       before_is = refl;
-      state = rw (c.in_ok-heap.ensures ∙ ap first_items (c.len.ensures ∙ c.in_ok-words.words.ok.0), c.new.ensures.items, c.new-2.ensures.items) (state-begun c.args.mmb.now c.args.kind c.args.row c.args.before s ws c.requires words ctx many trees);
+      state = rw (c.in_ok-heap.ensures ∙ ap first_items (c.len.ensures ∙ c.in_ok-words.words.ok.0), c.new.ensures.items, c.new-2.ensures.items) (state-begun c.args.mmb.now c.args.kind c.args.row c.args.before s ws c.requires words ctx many trees ∙ sym (start-plain (gaps_of c.args.mode) (heading_of c.args.mmb.now c.args.kind c.args.row)));
+      no_gap = refl;
       nodes = many ∙ sym (params-many c.args.mmb.now c.args.kind c.args.row c.args.before s ws c.requires words ctx many trees);
     }

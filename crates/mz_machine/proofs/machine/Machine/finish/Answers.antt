@@ -5,15 +5,18 @@ use Rattle.mz_cmd.specs.declared.rule.K.{K}
 use Rattle.mz_store.specs.Sharing.{IsOver, tree_of}
 use Rattle.mz_store.specs.declared.item.Id.{Id}
 use Rattle.mz_store.specs.declared.item.Item.{Item as Kept}
+use Rattle.mz_mode.specs.Gaps.{gaps_of}
 use Rattle.mz_unify.specs.Profile.{strict}
 use Rattle.mz_machine.specs.Tables.{Kind}
 use Rattle.mz_machine.specs.ProofMachine.{proof_end, ends_with}
 use Rattle.mz_machine.specs.Bodies.{match_steps}
-use Rattle.mz_machine.specs.Before.{Before, kind_at, heading_by, heading_of, tables_of, signatures_of}
+use Rattle.mz_machine.specs.Before.{Before, kind_at, heading_by, heading_of, tables_before, tables_of, signatures_of}
 use Rattle.mz_machine.specs.OverStore.{kind_of, state_at}
 use Rattle.mz_machine.specs.Steps.{Underway, heading_for, tables_for, end_steps}
 use Rattle.mz_machine.specs.Stepping.{IsFinished}
 use Rattle.mz_machine.specs.declared.machine.Finished.TheVariants.{Body, Refused}
+use Rattle.mz_machine.proofs.GapRows.{ends-steps}
+use Rattle.mz_machine.proofs.PlainRows.{end-plain}
 use Rattle.mz_machine.proofs.Dummies.{bound-more, context-longer}
 use Rattle.mz_machine.proofs.Machines.{before-is, same-four}
 use Rattle.mz_machine.proofs.Stopping.{stopped}
@@ -54,7 +57,7 @@ returns-in-Ok-clause-run g c =
     let dummies : c.counted.result.dummies + length h.params ≡ length s.context =
     omega (arith, c.counted.ensures.dummies, c.self.invariant.1, bound-more h.params s.context c.self.invariant.0.context) in
     subst (λ (u : Underway). IsFinished u (Body c.counted.result)) c.self.view_is
-    (st, sym ended ∙ c.in-Ok.ensures.row heap ∙ ap Ok is, record { hyps = hyps ∙ sym (length-map c.self.inside.hyps.items (λ (i : Id). tree_of s i.0)); dummies = dummies })
+    (st, end-plain (gaps_of c.self.inside.mode) (tables_before c.self.inside.mmb.now c.self.inside.before) h st ∙ sym ended ∙ c.in-Ok.ensures.row heap ∙ ap Ok is, record { hyps = hyps ∙ sym (length-map c.self.inside.hyps.items (λ (i : Id). tree_of s i.0)); dummies = dummies }, c.counted.ensures.sorry)
 
 pub returns-in-Ok-clause-steps : goal.returns-in-Ok-clause-steps
 returns-in-Ok-clause-steps g c =
@@ -64,8 +67,8 @@ returns-in-Ok-clause-steps g c =
     let many = same-four (λ (b : Before) (k : Kind) (stack : List Kept) (hyps : List Id). match_steps strict (tables_of b) (state_at s heap stack hyps) (ends_with strict (tables_of b) (heading_by b.file c.self.inside.row k) (state_at s heap stack hyps)))
     c.new-earlier.result _ (kind_of c.kind_by.result) (kind_at c.self.inside.kind) c.deref.result.now c.self.inside.stack.items c.deref-2.result.now c.self.inside.hyps.items
     same c.kind_by.ensures c.deref.ensures.value c.deref-2.ensures.value in
-    subst (λ (u : Underway). c.end.new.steps ≡ c.args.steps.now + end_steps (tables_for u) (heading_for u) u.state) c.self.view_is
-    (omega (arith, c.in-Ok.ensures.steps heap, c.tick.ensures, many))
+    subst (λ (u : Underway). c.end.new.steps ≡ c.args.steps.now + end_steps u.gaps (tables_for u) (heading_for u) u.state) c.self.view_is
+    (omega (arith, c.in-Ok.ensures.steps heap, c.tick.ensures, many, ends-steps (gaps_of c.self.inside.mode) (tables_before c.self.inside.mmb.now c.self.inside.before) (state_at s heap c.self.inside.stack.items c.self.inside.hyps.items) (heading_of c.self.inside.mmb.now c.self.inside.kind c.self.inside.row)))
 
 pub returns-in-Err-Rule-clause-run : goal.returns-in-Err-Rule-clause-run
 returns-in-Err-Rule-clause-run g c =
@@ -76,7 +79,7 @@ returns-in-Err-Rule-clause-run g c =
     c.new-earlier.result _ (kind_of c.kind_by.result) (kind_at c.self.inside.kind) c.deref.result.now c.self.inside.stack.items c.deref-2.result.now c.self.inside.hyps.items
     same c.kind_by.ensures c.deref.ensures.value c.deref-2.ensures.value in
     subst (λ (u : Underway). IsFinished u (Refused c.in-Err-Rule.rule)) c.self.view_is
-    (sym ended ∙ stopped c.in-Err-Rule.field-0 c.in-Err-Rule.rule
+    (end-plain (gaps_of c.self.inside.mode) (tables_before c.self.inside.mmb.now c.self.inside.before) (heading_of c.self.inside.mmb.now c.self.inside.kind c.self.inside.row) (state_at s heap c.self.inside.stack.items c.self.inside.hyps.items) ∙ sym ended ∙ stopped c.in-Err-Rule.field-0 c.in-Err-Rule.rule
     (λ (k : K). proof_end strict (tables_of c.new-earlier.result) (heading_by c.new-earlier.result.file c.self.inside.row (kind_of c.kind_by.result)) (state_at s heap c.deref.result.now c.deref-2.result.now) ≡ Err k)
     c.in-Err-Rule.field-0-is (c.in-Err-Rule.ensures.row heap))
 
@@ -92,5 +95,5 @@ returns-in-Err-Rule-clause-steps g c =
     (λ (k : K). c.end.new.steps ≡ c.tick.new.self + match_steps strict (tables_of c.new-earlier.result) (state_at s heap c.deref.result.now c.deref-2.result.now)
     (ends_with strict (tables_of c.new-earlier.result) (heading_by c.new-earlier.result.file c.self.inside.row (kind_of c.kind_by.result)) (state_at s heap c.deref.result.now c.deref-2.result.now)))
     c.in-Err-Rule.field-0-is (c.in-Err-Rule.ensures.steps heap) in
-    subst (λ (u : Underway). c.end.new.steps ≡ c.args.steps.now + end_steps (tables_for u) (heading_for u) u.state) c.self.view_is
-    (omega (arith, so-many, c.tick.ensures, many))
+    subst (λ (u : Underway). c.end.new.steps ≡ c.args.steps.now + end_steps u.gaps (tables_for u) (heading_for u) u.state) c.self.view_is
+    (omega (arith, so-many, c.tick.ensures, many, ends-steps (gaps_of c.self.inside.mode) (tables_before c.self.inside.mmb.now c.self.inside.before) (state_at s heap c.self.inside.stack.items c.self.inside.hyps.items) (heading_of c.self.inside.mmb.now c.self.inside.kind c.self.inside.row)))

@@ -5,7 +5,7 @@ use Rattle.mz_match.specs.declared.matching.Matching.{Matching}
 use Rattle.mz_match.specs.declared.verdict.Verdict.TheVariants as verdicts
 use Rattle.mz_match.specs.Match.{partner_checks, partner_of}
 use Rattle.mz_match.specs.Told.{IsTold}
-use Rattle.mz_match.specs.Verdict.{IsVerdict}
+use Rattle.mz_match.specs.Verdict.{IsVerdictBy}
 use Rattle.mz_logic.specs.Declaration.{terms}
 use Rattle.mz_match.proofs.Lists.{append-nil}
 use Rattle.mz_match.proofs.Pairing.{told-next, done-fewer, differs-here, matched-local, matched-public, term-row, no-term-row}
@@ -20,14 +20,14 @@ overflow_add-result c =
     omega (arith, few, fits)
 
 pub returns-in-Err-clause-stops : goal.returns-in-Err-clause-stops
-returns-in-Err-clause-stops c = λ text makes.
-    let t = c.requires.told in
-    let told = told-next t.progress (env_of c.args.spec.now) c.args.self.now t.before t.env t.later c.args.told.now t.matched t.passes in
-    let here : IsTold c.args.mmb.now c.args.self.now.publics c.args.told.now t.before t.env t.passes.statement t.later.at =
-    subst (λ f. IsTold f c.args.self.now.publics c.args.told.now t.before t.env t.passes.statement t.later.at) t.same_file told in
-    let fails : FailsFirst (partner_checks (drop c.args.self.now.done (env_of c.args.spec.now)) (partner_of t.before t.passes.statement)) c.in-Err.rule = c.in-Err.ensures t.before t.env t.passes.statement t.later.at here in
-    subst (λ f. IsVerdict text f (verdicts.Match (c.args.self.now.done + 1) c.args.told.now.number c.in-Err.rule)) t.same_file
-    (differs-here text c.args.spec.now t.progress c.args.self.now t.before t.env t.later c.args.told.now c.in-Err.rule makes t.matched t.passes c.if-not-told.true fails)
+returns-in-Err-clause-stops c = λ p after ss env same matched passes text makes.
+    let self = c.args.self.now in
+    let ds = env_of c.args.spec.now in
+    let here : IsTold p.gaps c.args.mmb.now self.publics c.args.told.now ss env passes.statement after.at =
+    subst (λ f. IsTold p.gaps f self.publics c.args.told.now ss env passes.statement after.at) same (told-next p ds self ss env after c.args.told.now matched passes) in
+    let fails : FailsFirst (partner_checks (drop self.done ds) (partner_of ss passes.statement)) c.in-Err.rule = c.in-Err.ensures p.gaps ss env passes.statement after.at here in
+    subst (λ f. IsVerdictBy p.gaps text f (verdicts.Match (self.done + 1) c.args.told.now.number c.in-Err.rule)) same
+    (differs-here text c.args.spec.now p self ss env after c.args.told.now c.in-Err.rule makes matched passes c.if-not-told.true fails)
 
 pub overflow_add-self : goal.overflow_add-self
 overflow_add-self c =
@@ -42,31 +42,23 @@ returns-clause-passed c = λ p after ss env same matched passes.
     let self = c.args.self.now in
     let told = c.args.told.now in
     let later : Matching = record { done = c.if-not-told.self.done; passed = told.number; publics = c.if-not-told.self.publics } in
-    let here : IsTold c.args.mmb.now self.publics told ss env passes.statement after.at =
-    subst (λ f. IsTold f self.publics told ss env passes.statement after.at) same (told-next p ds self ss env after told matched passes) in
-    let statements = ss ++ passes.statement ∷ [] in
-    let declared = env ++ passes.statement.decl ∷ [] in
+    let here : IsTold p.gaps c.args.mmb.now self.publics told ss env passes.statement after.at =
+    subst (λ f. IsTold p.gaps f self.publics told ss env passes.statement after.at) same (told-next p ds self ss env after told matched passes) in
     elim c.if-not-told.branch [
       | then-not-told+in_default+then-told-eq-TERM+in-Ok w ↦ (
-        statements,
-        declared,
-        matched-public p ds self ss env after told matched passes later refl (sym passes.tells.mark ∙ w.if-not-told.true) (w.in_default.ensures ss env passes.statement after.at here)
-            (ap (λ (x : Matching). x.done) w.self-is)
-            (ap (λ (x : Matching). x.publics) w.self-is ∙ w.in-Ok.ensures.ok ∙ ap (λ xs. self.publics ++ xs)
-            (ap (λ n. n ∷ []) passes.tells.row ∙ sym (term-row env passes.statement.decl (sym passes.tells.kind ∙ w.if-told-eq-TERM.true)))),
-      )
+          matched-public p ds self ss env after told matched passes later refl (sym passes.tells.mark ∙ w.if-not-told.true) (w.in_default.ensures p.gaps ss env passes.statement after.at here)
+          (ap (λ (x : Matching). x.done) w.self-is)
+          (ap (λ (x : Matching). x.publics) w.self-is ∙ w.in-Ok.ensures.ok ∙ ap (λ xs. self.publics ++ xs)
+          (ap (λ n. n ∷ []) passes.tells.row ∙ sym (term-row env passes.statement.decl (sym passes.tells.kind ∙ w.if-told-eq-TERM.true))))
+          )
       | then-not-told+in_default+else-told-eq-TERM w ↦ (
-        statements,
-        declared,
-        matched-public p ds self ss env after told matched passes later refl (sym passes.tells.mark ∙ w.if-not-told.true) (w.in_default.ensures ss env passes.statement after.at here)
-            (ap (λ (x : Matching). x.done) w.self-is)
-            (ap (λ (x : Matching). x.publics) w.self-is ∙ sym (append-nil self.publics) ∙ ap (λ xs. self.publics ++ xs)
-            (sym (no-term-row (length (terms env)) passes.statement.decl (λ is. w.if-told-eq-TERM.false (passes.tells.kind ∙ is))))),
-      )
+          matched-public p ds self ss env after told matched passes later refl (sym passes.tells.mark ∙ w.if-not-told.true) (w.in_default.ensures p.gaps ss env passes.statement after.at here)
+          (ap (λ (x : Matching). x.done) w.self-is)
+          (ap (λ (x : Matching). x.publics) w.self-is ∙ sym (append-nil self.publics) ∙ ap (λ xs. self.publics ++ xs)
+          (sym (no-term-row (length (terms env)) passes.statement.decl (λ is. w.if-told-eq-TERM.false (passes.tells.kind ∙ is)))))
+          )
       | else-not-told w ↦ (
-        statements,
-        declared,
-        matched-local p ds self ss env after told matched passes later refl (sym passes.tells.mark ∙ w.if-not-told.false)
-            (ap (λ (x : Matching). x.done) w.self-is) (ap (λ (x : Matching). x.publics) w.self-is),
-      )
+          matched-local p ds self ss env after told matched passes later refl (sym passes.tells.mark ∙ w.if-not-told.false)
+          (ap (λ (x : Matching). x.done) w.self-is) (ap (λ (x : Matching). x.publics) w.self-is)
+          )
     ]

@@ -137,7 +137,7 @@ convs-loop-left-preserved t c =
       there = stands_there all c.next-left.result (nodes_after all c.in-Some.n) c.next-left.ensures;
       small = omega (arith, sizes, c.loop-left.invariant.small);
       read = convs_read_more sc (nodes_from all c.loop-left.left) (nodes_from all c.args.first) (nodes_from all c.next-left.result) (node_at all c.in-Some.n) step c.in_ok-conv.conv c.in_ok-conv.ensures.read
-          c.loop-left.convs.items c.push.new.self.items c.in_ok-push.ensures.items c.loop-left.invariant.read;
+          c.loop-left.convs.items c.push_tightly.new.items.items c.in_ok-push_tightly.ensures.ok c.loop-left.invariant.read;
       asked = convs_asked_more sc (nodes_from all c.loop-left.left) (nodes_from all c.args.first) (nodes_from all c.next-left.result) (node_at all c.in-Some.n) step c.in_ok-conv.conv c.in_ok-conv.ensures.read
           c.loop-left.invariant.asked;
     }

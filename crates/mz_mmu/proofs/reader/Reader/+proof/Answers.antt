@@ -138,7 +138,7 @@ proofs-loop-left-preserved t c =
       there = stands_there all c.next-left.result (nodes_after all c.in-Some.n) c.next-left.ensures;
       small = omega (arith, sizes, c.loop-left.invariant.small);
       read = proofs_read_more sc hyps lets (nodes_from all c.loop-left.left) (nodes_from all c.args.first) (nodes_from all c.next-left.result) (node_at all c.in-Some.n) step c.in_ok-proof.proof read
-          c.loop-left.proofs.items c.push.new.self.items c.in_ok-push.ensures.items c.loop-left.invariant.read;
+          c.loop-left.proofs.items c.push_tightly.new.items.items c.in_ok-push_tightly.ensures.ok c.loop-left.invariant.read;
       same = c.in_ok-proof.ensures.same ∙ c.loop-left.invariant.same;
       asked = proofs_asked_more sc hyps lets (nodes_from all c.loop-left.left) (nodes_from all c.args.first) (nodes_from all c.next-left.result) (node_at all c.in-Some.n) step c.in_ok-proof.proof read
           c.loop-left.invariant.asked;

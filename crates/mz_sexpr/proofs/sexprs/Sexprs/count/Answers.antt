@@ -9,4 +9,4 @@ pub returns : goal.returns
 returns c =
     let rows = c.self.inside.rows.items in
     let many : c.len.result ≡ length rows = omega (arith, c.len.ensures, c.self.inside.rows.ok.0) in
-    many ∙ sym (length-map rows entry) ∙ sym (node_count_is (map entry rows) c.self.invariant.steps) ∙ ap node_count c.self.view_is
+    many ∙ sym (length-map rows (entry c.self.inside.text.now)) ∙ sym (node_count_is (map (entry c.self.inside.text.now) rows) c.self.invariant.steps) ∙ ap node_count c.self.view_is

@@ -7,7 +7,8 @@ use Rattle.mz_logic.specs.Declaration.{defined}
 use Rattle.mz_logic.specs.View.{tree}
 use Rattle.mz_logic.specs.declared.binder.Binder.{Binder}
 use Rattle.mz_logic.proofs.Scoped.{DepsInside}
-use Rattle.mz_math.specs.Formula.{Variables, Reader, IsFormula, formula_checks}
+use Rattle.mz_notation.specs.Notation.{Variables}
+use Rattle.mz_math.specs.Formula.{Reader, IsFormula, formula_checks}
 use Rattle.mz_math.specs.declared.formula.Wanted.TheVariants.{Sort as of_sort}
 use Rattle.mz_spec.specs.Answers.{JudgesOrMem}
 use Rattle.mz_spec.specs.Code.{variable}

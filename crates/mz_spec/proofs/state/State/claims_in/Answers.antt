@@ -4,7 +4,8 @@ use Rattle.mz_checks.specs.Checks.{AllHold, FailsFirst, retold}
 use Rattle.mz_grammar.specs.Code.{assertion, group, lexeme, source}
 use Rattle.mz_grammar.specs.Reading.{OnFault}
 use Rattle.mz_logic.specs.View.{tree}
-use Rattle.mz_math.specs.Formula.{Variables, Reader, IsFormula, formula_checks}
+use Rattle.mz_notation.specs.Notation.{Variables}
+use Rattle.mz_math.specs.Formula.{Reader, IsFormula, formula_checks}
 use Rattle.mz_math.specs.declared.formula.Wanted.TheVariants.{Provable as provable}
 use Rattle.mz_spec.specs.Answers.{JudgesOrMem}
 use Rattle.mz_spec.specs.Code.{EndsSmall}

@@ -3,7 +3,8 @@ use Rattle.std.proofs.lemmas.Result.{err_from_is_err_and}
 use Rattle.mz_checks.specs.Checks.{AllHold, FailsFirst, retold}
 use Rattle.mz_grammar.specs.Code.{lexeme}
 use Rattle.mz_grammar.specs.Reading.{OnFault}
-use Rattle.mz_math.specs.Formula.{Variables, Reader, IsFormula, formula_checks}
+use Rattle.mz_notation.specs.Notation.{Variables}
+use Rattle.mz_math.specs.Formula.{Reader, IsFormula, formula_checks}
 use Rattle.mz_math.specs.declared.formula.Wanted.TheVariants.{Provable as provable}
 use Rattle.mz_spec.specs.Answers.{JudgesOrMem}
 use Rattle.mz_spec.specs.Code.{EndsSmall, stated}

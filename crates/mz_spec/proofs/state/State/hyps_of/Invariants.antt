@@ -1,7 +1,7 @@
 use Rattle.std.proofs.Common.{◌≡◌, List, map, drop}
 use Rattle.mz_checks.proofs.InOrder.{Decides}
 use Rattle.mz_logic.specs.Tree.{Trees, followed_by}
-use Rattle.mz_math.specs.declared.pieces.Piece.{Piece}
+use Rattle.mz_tokens.specs.declared.pieces.Piece.{Piece}
 use Rattle.mz_spec.specs.Code.{EndsSmall, stated}
 use Rattle.mz_spec.specs.Entries.{state}
 use Rattle.mz_spec.specs.Formulas.{AreHyps, AreTokens, strings_checks}

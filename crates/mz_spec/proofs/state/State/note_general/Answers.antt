@@ -1,6 +1,6 @@
 use Rattle.std.proofs.Common.{arith, ◌++◌, ◌∷◌, [], map, ap, subst, sym}
 use Rattle.std.specs.Prelude.{option_map}
-use Rattle.mz_math.specs.Forms.{General}
+use Rattle.mz_notation.specs.Forms.{General}
 use Rattle.mz_grammar.specs.Code.{head, literal, notation, tail, type_text}
 use Rattle.mz_spec.specs.Entries.{state}
 use Rattle.mz_spec.specs.Forms.{AreLiterals}

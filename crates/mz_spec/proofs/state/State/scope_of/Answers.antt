@@ -1,5 +1,5 @@
 use Rattle.std.proofs.Common.{◌≡◌, ◌∙◌, ◌++◌, map, ap, sym, subst}
-use Rattle.mz_math.specs.Readable.{AreVariables}
+use Rattle.mz_notation.specs.Kept.{AreVariables}
 use Rattle.mz_spec.specs.Code.{variable}
 use Rattle.mz_spec.specs.State.{variable_bytes}
 use Rattle.mz_spec.proofs.Places.{front-variables}

@@ -1,0 +1,89 @@
+-- A specification and a binary whose proofs may have gaps (this project's own; a gap is Sorry of the .mmb format).
+use Rattle.std.specs.Prelude.{◌≡◌, ◌⊎◌, ⊤, ℕ, Bool, true, not, ◌&&◌, if◌then◌else◌, MatchBool, List, [], ◌∷◌, ◌++◌, length}
+use Rattle.mz_logic.specs.Declaration.{Declaration, sort_decl, term_decl, assertion_decl, assertions}
+use Rattle.mz_logic.specs.LegalLists.{Statement, DraftLegal, declarations}
+use Rattle.mz_binary.specs.Chains.{Statements}
+use Rattle.mz_binary.specs.Gapped.{GappedIn, AreFreeUnlessGapped}
+use Rattle.mz_spec.specs.Spec.{SpecOf}
+use Rattle.mz_match.specs.declared.draft.Draft.{Draft}
+use Rattle.mz_match.specs.declared.draft.Draft.TheVariants as drafts
+use Rattle.mz_match.specs.declared.verdict.Counts.{Counts}
+use Rattle.mz_match.specs.declared.verdict.Verdict.{Verdict}
+use Rattle.mz_match.specs.declared.verdict.Verdict.TheVariants as verdicts
+use Rattle.mz_match.specs.Match.{publics, Agrees}
+use Rattle.mz_match.specs.Verdict.{AcceptsBy, IsVerdictBy, counts_of}
+
+-- ---- which theorems rest on a gap
+
+-- the place of the declaration for which a statement stands, where it is a theorem with G, the T-th
+abbrev pub IsGapOf : (ℕ → Type 0) → (place T : ℕ) → Declaration → List ℕ → Type 0
+IsGapOf G place T (sort_decl _) here = here ≡ []
+IsGapOf G place T (term_decl _) here = here ≡ []
+IsGapOf G place T (assertion_decl _) here = ((here ≡ place ∷ []) × G T) ⊎ ((here ≡ []) × (G T → ⊥))
+
+-- a local statement stands for none
+abbrev pub IsGapHere : (ℕ → Type 0) → List Statement → Statement → List ℕ → Type 0
+IsGapHere G before s here = MatchBool s.is_local (here ≡ []) (IsGapOf G (length (publics before)) (length (assertions (declarations before))) s.decl here)
+
+-- the places of the declarations for which gapped theorems among the statements stand, in order; others stand before
+abbrev pub ListsGaps : (ℕ → Type 0) → List Statement → List Statement → List ℕ → Type 0
+ListsGaps G before [] places = places ≡ []
+ListsGaps G before (s ∷ ss) places = (here : List ℕ) × (rest : List ℕ) × (places ≡ here ++ rest) × IsGapHere G before s here × ListsGaps G (before ++ s ∷ []) ss rest
+
+-- of all statements of a binary
+abbrev pub ListsGapsOf : List ℕ → List Statement → List ℕ → Type 0
+ListsGapsOf bin ss places = ListsGaps (GappedIn bin ss) [] ss places
+
+-- ---- answers
+
+-- the pair is accepted with gaps, has so many declarations of each kind, and these are the places of the gapped theorems
+abbrev pub DraftAccepts : List ℕ → List ℕ → Counts → List ℕ → Type 0
+DraftAccepts spec bin counts places = (accepts : AcceptsBy true spec bin) × (counts ≡ counts_of accepts.declared) × ListsGapsOf bin accepts.statements places
+
+-- the answer without the places
+abbrev pub verdict_of : Draft → Verdict
+verdict_of (drafts.Accepted counts gaps) = verdicts.Accepted counts
+verdict_of (drafts.Spec refusal) = verdicts.Spec refusal
+verdict_of (drafts.Binary refusal) = verdicts.Binary refusal
+verdict_of (drafts.Match declaration statement rule) = verdicts.Match declaration statement rule
+verdict_of drafts.Mem = verdicts.Mem
+
+-- accepted, with the places of the gapped theorems; or the first refusal
+abbrev pub IsDraft : List ℕ → List ℕ → Draft → Type 0
+IsDraft spec bin (drafts.Accepted counts gaps) = DraftAccepts spec bin counts gaps
+IsDraft spec bin (drafts.Spec refusal) = IsVerdictBy true spec bin (verdicts.Spec refusal)
+IsDraft spec bin (drafts.Binary refusal) = IsVerdictBy true spec bin (verdicts.Binary refusal)
+IsDraft spec bin (drafts.Match declaration statement rule) = IsVerdictBy true spec bin (verdicts.Match declaration statement rule)
+IsDraft spec bin drafts.Mem = ⊤
+
+-- The specification and the binary's statements agree. These are a legal draft, and each of its theorems that isn't gapped
+-- has a derivation without gaps, over the statements before it, that cites no gapped theorem.
+pub record IsDraftSound (spec bin : List ℕ) : Type 0 where
+  pub declared : List Declaration
+  pub statements : List Statement
+  pub is_spec : SpecOf spec declared
+  pub spelled : Statements bin statements
+  pub legal : DraftLegal statements
+  pub free : AreFreeUnlessGapped bin statements
+  pub agrees : Agrees declared (publics statements)
+
+abbrev pub IsDraftSoundIfAccepted : List ℕ → List ℕ → Draft → Type 0
+IsDraftSoundIfAccepted spec bin (drafts.Accepted counts gaps) = IsDraftSound spec bin
+IsDraftSoundIfAccepted spec bin (drafts.Spec refusal) = ⊤
+IsDraftSoundIfAccepted spec bin (drafts.Binary refusal) = ⊤
+IsDraftSoundIfAccepted spec bin (drafts.Match declaration statement rule) = ⊤
+IsDraftSoundIfAccepted spec bin drafts.Mem = ⊤
+
+-- ---- as the list is read
+
+-- the places with that of one statement more
+abbrev pub places_past : Bool → Bool → ℕ → List ℕ → List ℕ
+places_past is_local gap place places = if gap && not is_local then places ++ place ∷ [] else places
+
+-- what is said of the two, and in a draft the places
+abbrev pub IsJudged : Bool → List ℕ → List ℕ → Verdict → List ℕ → Type 0
+IsJudged gaps spec bin (verdicts.Accepted counts) places = (accepts : AcceptsBy gaps spec bin) × (counts ≡ counts_of accepts.declared) × (gaps ≡ true → ListsGapsOf bin accepts.statements places)
+IsJudged gaps spec bin (verdicts.Spec refusal) places = IsVerdictBy gaps spec bin (verdicts.Spec refusal)
+IsJudged gaps spec bin (verdicts.Binary refusal) places = IsVerdictBy gaps spec bin (verdicts.Binary refusal)
+IsJudged gaps spec bin (verdicts.Match declaration statement rule) places = IsVerdictBy gaps spec bin (verdicts.Match declaration statement rule)
+IsJudged gaps spec bin verdicts.Mem places = ⊤

@@ -1,0 +1,100 @@
+// A specification and a binary whose proofs may have gaps.
+ghost use Rattle.std.specs.Prelude.{◌≡◌, ◌⊎◌, ◌<◌, ◌≤◌, ◌+◌, ◌*◌, ◌^◌, ℕ, length, true};
+ghost use Rattle.mz_match.specs.declared.verdict.Verdict.{Verdict as TheVerdict};
+ghost use Rattle.mz_match.specs.declared.verdict.Verdict.TheVariants as verdicts;
+ghost use Rattle.mz_match.specs.Drafts.{IsDraft, IsDraftSoundIfAccepted, verdict_of};
+ghost use Rattle.mz_match.specs.Verdict.{AcceptsWithBy, FirstRefusalBy, TicksBy};
+
+use crate::rule::M;
+use crate::verdict::{Counts, Verdict};
+use crate::verify::judge;
+use mz_cmd::{Refusal, Steps};
+use mz_mode::Mode;
+use mz_spec::SpecRefusal;
+use std::alloc::Global;
+use std::marker::Model;
+use std::sync::ledger::Ledger;
+
+/// The theorems of a specification that rest on a gap: the places of their declarations, from 0, in
+/// order.
+#[derive(Drop)]
+pub struct Gaps {
+    places: Vec<u32>,
+}
+
+impl Model for Gaps {
+    ghost use Rattle.std.specs.Prelude.{List, ℕ};
+
+    ghost Value = { List ℕ };
+
+    ghost view = { λ g. g.places.items };
+}
+
+impl Gaps {
+    /// The places.
+    pub fn places(&self) -> &[u32]
+        ensures { result.now ≡ self.now }
+    {
+        self.places.as_slice()
+    }
+}
+
+/// What is said of a specification and a binary whose proofs may have gaps.
+#[derive(Drop)]
+pub enum Draft {
+    /// The binary states what the specification declares, so many declarations of each kind, and proves
+    /// it but for these theorems, which rest on a gap.
+    Accepted(Counts, Gaps),
+    /// The specification's first fault.
+    Spec(SpecRefusal),
+    /// The binary's first fault, before anything differs.
+    Binary(Refusal),
+    /// The first difference: at which declaration and at which statement, both counted from 1.
+    Match {
+        declaration: u32,
+        statement: u32,
+        rule: M,
+    },
+    /// Want of memory.
+    Mem,
+}
+
+/// Checks a binary whose proofs may have gaps against a specification, as `verify_bytes` does one
+/// without, and tells which of the specification's theorems rest on a gap.
+pub fn draft_bytes<L: Ledger>(alloc: Global, spec: &[u8], bin: &[u8], steps: &mut Steps<L>) -> Draft
+    requires spec { length spec.now < 2 ^ 32 }
+    requires bin { length bin.now < 2 ^ 32 }
+    ensures draft { IsDraft spec.now bin.now result }
+    ensures accepted { (counts : Counts) → AcceptsWithBy true spec.now bin.now counts → (verdict_of result ≡ verdicts.Accepted counts) ⊎ (verdict_of result ≡ verdicts.Mem) }
+    ensures refused { (verdict : TheVerdict) → FirstRefusalBy true spec.now bin.now verdict → (verdict_of result ≡ verdict) ⊎ (verdict_of result ≡ verdicts.Mem) }
+    ensures sound { IsDraftSoundIfAccepted spec.now bin.now result }
+    ensures steps { TicksBy true bin.now steps.old steps.new (verdict_of result) }
+    ensures bound { steps.new ≤ steps.old + (length bin.now * length bin.now + length bin.now) }
+{
+    judge_draft(alloc, spec, bin, steps)
+}
+
+fn judge_draft<L: Ledger>(alloc: Global, spec: &[u8], bin: &[u8], steps: &mut Steps<L>) -> Draft
+    requires spec { length spec.now < 2 ^ 32 }
+    requires bin { length bin.now < 2 ^ 32 }
+    ensures draft { IsDraft spec.now bin.now result }
+    ensures steps { TicksBy true bin.now steps.old steps.new (verdict_of result) }
+    ensures bound { steps.new ≤ steps.old + (length bin.now * length bin.now + length bin.now) }
+{
+    let mut places = Vec::new(alloc);
+    match judge(alloc, spec, bin, Mode::Draft, &mut places, steps) {
+        Verdict::Accepted(counts) => Draft::Accepted(counts, Gaps { places }),
+        Verdict::Spec(refusal) => Draft::Spec(refusal),
+        Verdict::Binary(refusal) => Draft::Binary(refusal),
+        Verdict::Match {
+            declaration,
+            statement,
+            rule,
+        } => Draft::Match {
+            declaration,
+            statement,
+            rule,
+        },
+        Verdict::Mem => Draft::Mem,
+    }
+}

@@ -1,8 +1,0 @@
-use Rattle.std.proofs.Common.{◌≡◌, ℕ, List}
-use Rattle.mz_math.specs.Notation.{Element, fixed}
-use Rattle.mz_math.specs.Clear.{HasConstant}
-use Rattle.mz_math.proofs.Lists.{AllSoFar}
-use Rattle.mz_math.proofs.clear.keeps_levels.Given as goal
-
-abbrev pub invariant-loop-element : goal.invariant-loop-element
-invariant-loop-element l = AllSoFar (λ (x : Element). (w : List ℕ) (q p : ℕ) → x ≡ fixed w q → HasConstant l.notations w p → p ≡ q) l.elements l.element-index

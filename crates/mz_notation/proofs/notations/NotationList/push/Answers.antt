@@ -1,0 +1,30 @@
+use Rattle.std.proofs.Common.{◌∙◌, ◌++◌, ◌∷◌, [], List, Some, ap, sym, subst, Contains}
+use Rattle.std.specs.Prelude.{bytes_eq, if◌then◌else◌}
+use Rattle.mz_notation.specs.Notation.{Notation}
+use Rattle.mz_notation.specs.Headed.{AreFound, IsHeadedBy}
+use Rattle.mz_tokens.specs.Places.{LeadsTo, place_of}
+use Rattle.mz_tokens.proofs.Placing.{leads-kept, leads-more}
+use Rattle.mz_notation.proofs.Spotting.{headed-one}
+use Rattle.mz_notation.proofs.notations.NotationList.push.Goals as goal
+
+pub invariant_of-self-in_err-push : goal.invariant_of-self-in_err-push
+invariant_of-self-in_err-push c =
+    let ks = c.self.inside.items.items in
+    let head = c.in_ok-note_head.ensures.ok in (
+      subst (LeadsTo IsHeadedBy c.note_head.new.heads) (sym c.in_err-push.ensures.items)
+          (leads-kept IsHeadedBy c.self.inside.heads c.note_head.new.heads ks head.0 c.self.invariant.0
+          (λ k has by. c.requires.other k head.0 (subst (λ (ls : List Notation). Contains ls k) c.self.view_is has) head.1 by)
+          (λ w. head.2 w ∙ ap (λ n. if bytes_eq head.0 w then Some n else place_of c.self.inside.heads w) (c.len.ensures ∙ c.self.inside.items.ok.0))),
+      subst (AreFound c.note_constants.new.constants) (c.deref.ensures.value ∙ sym c.in_err-push.ensures.items) c.note_constants.ensures.found,
+    )
+
+pub invariant_of-self-2 : goal.invariant_of-self-2
+invariant_of-self-2 c =
+    let ks = c.self.inside.items.items in
+    let head = c.in_ok-note_head.ensures.ok in (
+      subst (LeadsTo IsHeadedBy c.note_head.new.heads) (sym c.in_ok-push.ensures.items)
+          (leads-more IsHeadedBy c.self.inside.heads c.note_head.new.heads ks head.0 c.args.notation (λ w by. headed-one c.args.notation head.0 w head.1 by) c.self.invariant.0
+          (λ k has by. c.requires.other k head.0 (subst (λ (ls : List Notation). Contains ls k) c.self.view_is has) head.1 by)
+          (λ w. head.2 w ∙ ap (λ n. if bytes_eq head.0 w then Some n else place_of c.self.inside.heads w) (c.len.ensures ∙ c.self.inside.items.ok.0))),
+      subst (AreFound c.note_constants.new.constants) (ap (λ ls. ls ++ c.args.notation ∷ []) c.deref.ensures.value ∙ sym c.in_ok-push.ensures.items) c.in_ok-note_constants.ensures.ok,
+    )

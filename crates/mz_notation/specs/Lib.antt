@@ -1,0 +1,8 @@
+pub mod Notation
+pub mod Clear
+pub mod Coercions
+pub mod Kept
+pub mod Forms
+pub mod Names
+pub mod Headed
+pub mod Answers

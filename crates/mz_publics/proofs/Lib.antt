@@ -1,0 +1,4 @@
+pub mod Renaming
+pub mod Numbers
+pub mod Beside
+pub mod Legal

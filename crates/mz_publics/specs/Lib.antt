@@ -1,0 +1,2 @@
+pub mod PublicPart
+pub mod Laws

@@ -1,0 +1,7 @@
+pub mod Names
+pub mod Shown
+pub mod Places
+pub mod Binding
+pub mod Formulas
+pub mod Statements
+pub mod Printed

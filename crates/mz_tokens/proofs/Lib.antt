@@ -1,0 +1,5 @@
+pub mod Lists
+pub mod Placing
+pub mod Cutting
+pub mod Strings
+pub mod Marking

@@ -1,0 +1,5 @@
+pub mod Pieces
+pub mod Sets
+pub mod Places
+pub mod Names
+pub mod Answers

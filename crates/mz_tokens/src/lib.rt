@@ -1,0 +1,17 @@
+//! The tokens of a math string (mm0.md, section on math strings and delimiters), and what is found by
+//! its bytes: places by words, names of variables. `specs/Pieces.antt` says which tokens a string has.
+#![tactic(auto)]
+
+mod bytes;
+mod identifier;
+mod pieces;
+mod places;
+mod set;
+mod variables;
+
+pub use bytes::Bytes;
+pub use identifier::is_identifier;
+pub use pieces::{Delimiters, Piece, Tokens, is_parenthesis};
+pub use places::Places;
+pub use set::ByteSet;
+pub use variables::VariableNames;
