@@ -8,3 +8,4 @@ pub mod Telling
 pub mod Numbering
 pub mod Listing
 pub mod Texting
+pub mod Gapping

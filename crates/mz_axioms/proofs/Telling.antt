@@ -12,7 +12,7 @@ use Rattle.mz_logic.specs.LegalLists.{Statement, declarations}
 use Rattle.mz_logic.proofs.Instance.{one_at, none_some}
 use Rattle.mz_logic.proofs.Fresh.{split_at}
 use Rattle.mz_layout.specs.Tables.{list_at}
-use Rattle.mz_machine.specs.FileRows.{body_bytes}
+use Rattle.mz_soundness.specs.FileRows.{body_bytes}
 use Rattle.mz_binary.specs.Spelling.{is_local_code}
 use Rattle.mz_binary.specs.Chains.{IsGoodStatement, GoodTo}
 use Rattle.mz_binary.specs.Good.{Good}
@@ -21,7 +21,8 @@ use Rattle.mz_binary.proofs.Heads.{head-at}
 use Rattle.mz_axioms.specs.declared.rows.Place.{Place}
 use Rattle.mz_axioms.specs.declared.rows.Row.{Row}
 use Rattle.mz_axioms.specs.Commands.{IsCitedIn}
-use Rattle.mz_axioms.specs.Supports.{AssertionBody, body_there, place_after, body_of, bodies_from, bodies_of, InSupport}
+use Rattle.mz_binary.specs.Gapped.{AssertionBody, body_there, place_after, body_of, bodies_from, bodies_of}
+use Rattle.mz_axioms.specs.Supports.{InSupport}
 use Rattle.mz_axioms.specs.Places.{place_there, past_public, places_from, publics_past, place_by}
 use Rattle.mz_axioms.specs.Rows.{ComesTo, Tells, TellsAll, TellsFile, Gives, Reaches, IsNew, IsNoted, AreInOrder, AreWithin, AreFew}
 use Rattle.mz_axioms.proofs.Citing.{CitedBetween}

@@ -2,10 +2,9 @@
 use Rattle.std.proofs.Common.{◌≡◌, ◌∙◌, ℕ, List, All, length, get_or, ap, arith}
 use Rattle.std.proofs.lemmas.List.Elements.{Contains-get_or}
 use Rattle.mz_logic.specs.Declaration.{Declaration}
-use Rattle.mz_spec.specs.declared.refusal.SpecRefusal.{SpecRefusal}
 use Rattle.mz_spec.specs.State.{Entry, env_of}
-use Rattle.mz_spec.specs.Spec.{SpecMakes, SpecFault}
-use Rattle.mz_spec.proofs.OneSpec.{one-reading, not-both}
+use Rattle.mz_spec.specs.Spec.{SpecMakes}
+use Rattle.mz_spec.proofs.OneSpec.{one-reading}
 use Rattle.mz_match.proofs.Lists.{length-env}
 use Rattle.mz_axioms.specs.Lists.{TheoremSupport}
 use Rattle.mz_axioms.specs.Text.{IsNamed, AreOfSome}
@@ -23,8 +22,3 @@ named spec entries supports makes (bin, are) k d lt =
           (let stands = h.only (get_or (get_or supports k d).axioms j e) (Contains-get_or (get_or supports k d).axioms j e within) in
           let w = get-within are.accepts.declared (get_or (get_or supports k d).axioms j e) stands.1.declared stands.1.there in omega (arith, w, many));
     }
-
--- and the specification has no fault
-pub no-fault : (spec : List ℕ) (refusal : SpecRefusal) (supports : List TheoremSupport) → AreOfSome spec supports → SpecFault spec refusal → ⊥
-no-fault spec refusal supports (bin, are) fault =
-    let (entries, made, declares) = are.accepts.is_spec in not-both spec entries refusal made fault

@@ -6,3 +6,4 @@ pub mod Rows
 pub mod Lists
 pub mod Reading
 pub mod Text
+pub mod Gaps

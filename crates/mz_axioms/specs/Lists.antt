@@ -5,7 +5,8 @@ use Rattle.std.specs.List.Sorted.{IsStrictlyIncreasing}
 use Rattle.mz_logic.specs.Declaration.{Declaration}
 use Rattle.mz_logic.specs.LegalLists.{Statement, declarations, IsProvedBy}
 use Rattle.mz_match.specs.Verdict.{Accepts}
-use Rattle.mz_axioms.specs.Supports.{InSupport, bodies_of, within_support}
+use Rattle.mz_binary.specs.Gapped.{bodies_of}
+use Rattle.mz_axioms.specs.Supports.{InSupport, within_support}
 use Rattle.mz_axioms.specs.Places.{StandsFor, theorems_of}
 
 -- a theorem and axioms, by the numbers of their declarations, from 0

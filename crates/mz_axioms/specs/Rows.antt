@@ -4,7 +4,8 @@ use Rattle.std.specs.Prelude.{◌≡◌, ◌≤◌, ◌<◌, ◌⊎◌, ◌↔�
 use Rattle.std.specs.List.Sorted.{IsStrictlyIncreasing}
 use Rattle.mz_logic.specs.LegalLists.{Statement}
 use Rattle.mz_binary.specs.Good.{Good}
-use Rattle.mz_axioms.specs.Supports.{AssertionBody, IsKind, InSupport, bodies_of}
+use Rattle.mz_binary.specs.Gapped.{AssertionBody, bodies_of}
+use Rattle.mz_axioms.specs.Supports.{IsKind, InSupport}
 use Rattle.mz_axioms.specs.Commands.{IsCitedIn}
 use Rattle.mz_axioms.specs.Places.{places_from, is_listed}
 use Rattle.mz_axioms.specs.Lists.{TheoremSupport}

@@ -2,12 +2,15 @@
 //!
 //! The support of a theorem is the axioms that its proof cites, and the supports of the theorems that
 //! it cites. `specs/Supports.antt` says so of the bodies of a binary, `specs/Lists.antt` what is told
-//! of a specification's theorems.
+//! of a specification's theorems. Where proofs may have gaps, which theorems rest on one is told by
+//! `mz_match`; `specs/Gaps.antt` has the text.
 #![tactic(auto)]
 
 mod axioms;
 mod citations;
+mod gaps;
 mod lists;
+mod names;
 mod places;
 mod rows;
 mod text;
@@ -16,5 +19,6 @@ mod walk;
 
 pub use axioms::{AxiomsRead, axioms_of};
 pub use citations::cited_at;
+pub use gaps::gaps_text;
 pub use lists::Lists;
 pub use text::axioms_text;

@@ -1,11 +1,12 @@
 // The text that tells on what theorems rest.
 ghost use Rattle.std.specs.Prelude.{◌≡◌, ◌<◌, ◌++◌, ◌^◌, length, All, IfOk, OnOk};
-ghost use Rattle.mz_axioms.specs.Text.{AreOfSome, IsNamed, IsTextOf, axiom_names, bytes_between, name_at, support_line, supports_text};
+ghost use Rattle.mz_axioms.specs.Text.{AreOfSome, IsNamed, IsTextOf, axiom_names, support_line, supports_text};
 
 use crate::lists::{Lists, Support};
+use crate::names::{declared_by, put_name};
 use mz_cmd::Mem;
-use mz_spec::{Spec, SpecRead, read_spec};
-use std::alloc::{AllocError, Global};
+use mz_spec::Spec;
+use std::alloc::Global;
 
 /// A line for each theorem of the specification: its name, a colon, and for each axiom on which it
 /// rests a space and the axiom's name.
@@ -14,11 +15,8 @@ pub fn axioms_text(alloc: Global, spec: &[u8], lists: &Lists) -> Result<Vec<u8>,
     requires supports { AreOfSome spec.now lists.now }
     ensures { IfOk result (λ text. IsTextOf spec.now lists.now text.items) }
 {
-    match read_spec(alloc, spec) {
-        SpecRead::Spec(declared) => lines(alloc, spec, &declared, lists),
-        SpecRead::Refused(_) => unreachable!(),
-        SpecRead::Mem => Err(AllocError),
-    }
+    let declared = declared_by(alloc, spec)?;
+    lines(alloc, spec, &declared, lists)
 }
 
 fn lines(alloc: Global, spec: &[u8], declared: &Spec, lists: &Lists) -> Result<Vec<u8>, Mem>
@@ -57,22 +55,4 @@ fn put_axioms(
         put_name(text, spec, declared, axiom)?;
     }
     Ok(())
-}
-
-/// Appends the name of a declaration.
-fn put_name(text: &mut Vec<u8>, spec: &[u8], declared: &Spec, number: u32) -> Result<(), Mem>
-    requires { number < length declared.now }
-    ensures { OnOk result (text.new.items ≡ text.old.items ++ name_at spec.now declared.now number) }
-{
-    let (from, to) = declared.name(number);
-    text.extend_from_slice(part(spec, from as usize, to as usize))?;
-    Ok(())
-}
-
-/// The bytes from a place up to another, as far as there are any.
-fn part(bytes: &[u8], from: usize, to: usize) -> &[u8]
-    ensures { result.now ≡ bytes_between bytes.now from to }
-{
-    let end = to.min(bytes.len());
-    if from < end { &bytes[from..end] } else { &[] }
 }

@@ -7,8 +7,8 @@ use Rattle.mz_cmd.specs.declared.code.ProofCode.{ProofCode}
 use Rattle.mz_cmd.specs.declared.code.ProofCode.TheVariants as code
 use Rattle.mz_cmd.specs.Codes.{proof_code}
 use Rattle.mz_cmd.specs.Reading.{first_command}
-use Rattle.mz_unify.proofs.Turning.{command-long, drop-less}
-use Rattle.mz_machine.specs.Sound.{IsCitation, CitesWithin}
+use Rattle.mz_unification.proofs.Turning.{command-long, drop-less}
+use Rattle.mz_soundness.specs.Sound.{IsCitation, CitesWithin}
 use Rattle.mz_binary.specs.Gapped.{CitesMarked, IsMarked, is_citing, mark_in, cites_mark}
 
 cites-is : (o : Option ProofCode) → is_citing o ≡ true → (o ≡ Some code.Thm) ⊎ (o ≡ Some code.ThmSave)

@@ -12,16 +12,16 @@ use Rattle.mz_logic.specs.declared.binder.SortMods.{SortMods}
 use Rattle.mz_logic.specs.declared.word.Word.{Word}
 use Rattle.mz_logic.proofs.WordsAsParams.{words_say_results}
 use Rattle.mz_layout.specs.Tables.{TermRow as TermRecord, mods_of, term_row, thm_row}
-use Rattle.mz_unify.specs.Profile.{plain}
-use Rattle.mz_machine.specs.Tables.{Tables, Heading}
-use Rattle.mz_machine.specs.Bodies.{Runs, body_checks}
-use Rattle.mz_machine.specs.Sound.{AreRowParams, IsRowResult}
-use Rattle.mz_machine.specs.Lists.{Body, Entry, a_sort, a_term, an_assertion, definition_of, assertion_of, BodyIsGood, IsGoodEntry}
-use Rattle.mz_machine.proofs.Outcomes.{bodies-checked}
-use Rattle.mz_machine.specs.RowWords.{param_check, param_checks, word_checks, IsResultWord}
-use Rattle.mz_machine.specs.FileRows.{Taken, stream_of, term_of_file, thm_of_file, rows_taken, body_bytes}
+use Rattle.mz_unification.specs.Profile.{plain}
+use Rattle.mz_soundness.specs.Tables.{Tables, Heading}
+use Rattle.mz_soundness.specs.Bodies.{Runs, body_checks}
+use Rattle.mz_soundness.specs.Sound.{AreRowParams, IsRowResult}
+use Rattle.mz_soundness.specs.Lists.{Body, Entry, a_sort, a_term, an_assertion, definition_of, assertion_of, BodyIsGood, IsGoodEntry}
+use Rattle.mz_soundness.proofs.Outcomes.{bodies-checked}
+use Rattle.mz_soundness.specs.RowWords.{param_check, param_checks, word_checks, IsResultWord}
+use Rattle.mz_soundness.specs.FileRows.{Taken, stream_of, term_of_file, thm_of_file, rows_taken, body_bytes}
 use Rattle.mz_binary.specs.Checking.{term_body_checks, term_checks, thm_checks, kind_checks}
-use Rattle.mz_machine.proofs.RightWords.{right-words}
+use Rattle.mz_soundness.proofs.RightWords.{right-words}
 
 -- the body of a statement
 abbrev pub body_of : List ℕ → ℕ → ℕ → Body

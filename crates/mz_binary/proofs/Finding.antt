@@ -9,10 +9,10 @@ use Rattle.mz_cmd.specs.declared.code.StatementCode.{StatementCode}
 use Rattle.mz_cmd.specs.declared.rule.K.{K}
 use Rattle.mz_cmd.specs.declared.rule.K.TheVariants as rules
 use Rattle.mz_layout.specs.Tables.{TermRow as TermRecord, sort_count, term_count, thm_count, term_row, thm_row}
-use Rattle.mz_unify.specs.Steps.{◌>>◌ as ◌then◌}
-use Rattle.mz_machine.specs.Lists.{definition_of, assertion_of}
-use Rattle.mz_machine.specs.FileRows.{Taken, term_of_file, thm_of_file, body_bytes}
-use Rattle.mz_machine.specs.RowWords.{param_checks, word_checks}
+use Rattle.mz_unification.specs.Steps.{◌>>◌ as ◌then◌}
+use Rattle.mz_soundness.specs.Lists.{definition_of, assertion_of}
+use Rattle.mz_soundness.specs.FileRows.{Taken, term_of_file, thm_of_file, body_bytes}
+use Rattle.mz_soundness.specs.RowWords.{param_checks, word_checks}
 use Rattle.mz_machine.specs.Before.{heading_of}
 use Rattle.mz_machine.specs.declared.earlier.Rows.{Rows}
 use Rattle.mz_binary.specs.Checking.{rule_of, IsEmptyBody, AllTaken}

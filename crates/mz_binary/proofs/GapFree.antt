@@ -7,9 +7,9 @@ use Rattle.mz_logic.specs.LegalLists.{Statement, declarations, IsProvedBy}
 use Rattle.mz_logic.proofs.Closing.{legal_list_is_closed}
 use Rattle.mz_logic.proofs.Graft.{cites_more}
 use Rattle.mz_layout.specs.Tables.{list_at}
-use Rattle.mz_machine.specs.FileRows.{body_bytes}
-use Rattle.mz_machine.specs.Gapped.{free_of}
-use Rattle.mz_machine.specs.Sound.{used_by, cites_as}
+use Rattle.mz_soundness.specs.FileRows.{body_bytes}
+use Rattle.mz_soundness.specs.Gapped.{free_of}
+use Rattle.mz_soundness.specs.Sound.{used_by, cites_as}
 use Rattle.mz_binary.specs.Chains.{IsGoodStatement, GoodTo}
 use Rattle.mz_binary.specs.Good.{Good}
 use Rattle.mz_binary.specs.Gapped.{AssertionBody, body_there, place_after, body_of, bodies_from, bodies_of, IsTheoremBody, IsGapped, leaves_gap, rests_on, GappedIn, AreFreeUnlessGapped}

@@ -13,13 +13,13 @@ use Rattle.mz_logic.specs.LegalLists.{Statement}
 use Rattle.mz_logic.proofs.Instance.{one_at, none_some}
 use Rattle.mz_logic.proofs.Extend.{assertions-append}
 use Rattle.mz_layout.specs.Tables.{list_at, thm_count, thm_row}
-use Rattle.mz_unify.specs.Steps.{◌>>◌ as ◌then◌}
-use Rattle.mz_machine.specs.Lists.{assertion_of}
+use Rattle.mz_unification.specs.Steps.{◌>>◌ as ◌then◌}
+use Rattle.mz_soundness.specs.Lists.{assertion_of}
 use Rattle.mz_machine.specs.BodyAnswers.{HasGap}
-use Rattle.mz_machine.specs.FileRows.{Taken, thm_of_file, body_bytes}
+use Rattle.mz_soundness.specs.FileRows.{Taken, thm_of_file, body_bytes}
 use Rattle.mz_binary.specs.FileRun.{test, test_params, Found, stands_alone, has_body, with_thm, find_thm, find_kind}
 use Rattle.mz_binary.proofs.Inverting.{then-ok, found-is}
-use Rattle.mz_machine.specs.Sound.{CitesWithin}
+use Rattle.mz_soundness.specs.Sound.{CitesWithin}
 use Rattle.mz_binary.specs.Chains.{IsGoodStatement, GoodTo}
 use Rattle.mz_binary.specs.Gapped.{AssertionBody, body_there, place_after, body_of, bodies_from, bodies_of, IsTheoremBody, IsGapped, leaves_gap, rests_on, GappedIn, IsMarked, AreMarks, CitesMarked}
 use Rattle.mz_binary.specs.Progress.{is_theorem_kind, is_assertion_kind, marks_past}

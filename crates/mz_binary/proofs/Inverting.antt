@@ -10,8 +10,8 @@ use Rattle.mz_cmd.specs.declared.statement.StmtAt.TheVariants.{End, Head}
 use Rattle.mz_cmd.specs.declared.statement.StmtFault.{StmtFault}
 use Rattle.mz_cmd.specs.Codes.{statement_code}
 use Rattle.mz_cmd.specs.StatementList.{statement_at}
-use Rattle.mz_unify.specs.Steps.{◌>>=◌, ◌>>◌ as ◌then◌}
-use Rattle.mz_machine.specs.FileRows.{Taken, term_of_file, body_bytes}
+use Rattle.mz_unification.specs.Steps.{◌>>=◌, ◌>>◌ as ◌then◌}
+use Rattle.mz_soundness.specs.FileRows.{Taken, term_of_file, body_bytes}
 use Rattle.mz_layout.specs.Tables.{TermRow as TermRecord, sort_count, term_count, thm_count, term_row, thm_row}
 use Rattle.mz_binary.specs.FileRun.{Passing, test, test_params, test_words, is_empty_body, Found, list_ends, stands_alone, has_body, Onward, ended, onward, if_runs, run_found, run_place, find_term_body, find_term, find_thm, find_kind, find_of, find_at, may_stand, with_sort, with_term, with_thm, after_kind}
 

@@ -12,9 +12,9 @@ use Rattle.mz_logic.specs.Legality.{IsLegalEnv}
 use Rattle.mz_logic.specs.LegalLists.{Statement, IsProvedBy, IsLegalStatement, LegalAfter, LegalBy, allowed_with}
 use Rattle.mz_logic.proofs.LegalIsRight.{legal_push}
 use Rattle.mz_layout.specs.Tables.{list_at}
-use Rattle.mz_machine.specs.Tables.{Declares}
-use Rattle.mz_machine.specs.Sound.{cites_as}
-use Rattle.mz_machine.specs.FileRows.{taken_by, rows_taken, body_bytes}
+use Rattle.mz_soundness.specs.Tables.{Declares}
+use Rattle.mz_soundness.specs.Sound.{cites_as}
+use Rattle.mz_soundness.specs.FileRows.{taken_by, rows_taken, body_bytes}
 use Rattle.mz_binary.specs.Checking.{kind_checks, checks_of}
 use Rattle.mz_binary.specs.Chains.{IsGoodStatement, GoodTo}
 use Rattle.mz_binary.specs.Good.{Good}

@@ -2,7 +2,7 @@
 use Rattle.std.proofs.Common.{◌≡◌, ◌<◌, ◌+◌, ◌-◌, ℕ, zero, suc, List, length, Some, Result, Ok, Err, refl, ap, arith, Bool}
 use Rattle.mz_cmd.specs.declared.rule.K.{K}
 use Rattle.mz_cmd.specs.declared.rule.Refusal.{Refusal}
-use Rattle.mz_machine.specs.FileRows.{Taken}
+use Rattle.mz_soundness.specs.FileRows.{Taken}
 use Rattle.mz_binary.specs.FileRun.{Onward, ended, onward, run_place, find_at, found_steps, follow_list, follow_steps, run_list, list_steps}
 use Rattle.mz_binary.specs.WholeLaws.{BoundNeverEndsAList}
 use Rattle.mz_binary.proofs.Heads.{head-at}

@@ -13,13 +13,13 @@ use Rattle.mz_logic.specs.Declaration.{Declaration, sort_decl, term_decl, assert
 use Rattle.mz_logic.specs.LegalLists.{Statement}
 use Rattle.mz_layout.specs.Tables.{list_at, mods_of, sort_count, term_count, thm_count}
 use Rattle.mz_layout.specs.Layout.{IsBinary}
-use Rattle.mz_unify.specs.Steps.{◌>>=◌}
-use Rattle.mz_machine.specs.Tables.{Heading}
+use Rattle.mz_unification.specs.Steps.{◌>>=◌}
+use Rattle.mz_soundness.specs.Tables.{Heading}
 use Rattle.mz_machine.specs.Before.{taken_before}
 use Rattle.mz_binary.specs.declared.place.Head.{Head}
 use Rattle.mz_machine.specs.declared.earlier.Rows.{Rows}
 use Rattle.mz_binary.specs.declared.statement.Statement.{Statement as Told}
-use Rattle.mz_machine.specs.FileRows.{Taken, taken_by}
+use Rattle.mz_soundness.specs.FileRows.{Taken, taken_by}
 use Rattle.mz_binary.specs.Spelling.{IsKindOf, HasKind, IsSpelled, is_local_code}
 use Rattle.mz_binary.specs.Checking.{kind_checks, place_checks}
 use Rattle.mz_binary.specs.FileRun.{with_term, with_thm, Found, list_ends, has_body, Onward, ended, onward, after_kind, find_at, run_found, run_place, RunsBody}

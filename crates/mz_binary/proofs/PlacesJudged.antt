@@ -9,7 +9,7 @@ use Rattle.std.proofs.lemmas.Slice.Eq.{bytes_eq-Decides}
 use Rattle.mz_checks.specs.Checks.{Checks, demand, ◌>>◌, each_in_order, AllHold, FailsFirst, Judges}
 use Rattle.mz_checks.proofs.InOrder.{fails-before, fails-after, all_hold-both, judges-after, Decides, decides-whole}
 use Rattle.mz_cmd.specs.declared.rule.K.{K}
-use Rattle.mz_unify.specs.Steps.{◌>>=◌, ◌>>◌ as ◌then◌}
+use Rattle.mz_unification.specs.Steps.{◌>>=◌, ◌>>◌ as ◌then◌}
 use Rattle.mz_cmd.specs.declared.rule.K.TheVariants.{Header, Table}
 use Rattle.mz_cmd.specs.declared.rule.K.TheVariants as rules
 use Rattle.mz_cmd.specs.declared.code.StatementCode.{StatementCode}
@@ -26,15 +26,15 @@ use Rattle.mz_logic.specs.Words.{word_bound, word_sort, word_deps}
 use Rattle.mz_logic.specs.declared.binder.SortMods.{SortMods}
 use Rattle.mz_logic.specs.declared.word.Word.{Word}
 use Rattle.mz_layout.specs.Tables.{TermRow as TermRecord}
-use Rattle.mz_unify.specs.Tests.{has_bit}
-use Rattle.mz_unify.specs.Profile.{plain}
-use Rattle.mz_unify.proofs.TestLaws.{bit-set, bit-not-set}
-use Rattle.mz_machine.specs.Bodies.{body_run, body_checks}
-use Rattle.mz_machine.specs.Bodies as bodies
-use Rattle.mz_machine.specs.Lists.{definition_of, assertion_of}
-use Rattle.mz_machine.specs.FileRows.{Taken, term_of_file, thm_of_file, rows_taken, body_bytes}
+use Rattle.mz_unification.specs.Tests.{has_bit}
+use Rattle.mz_unification.specs.Profile.{plain}
+use Rattle.mz_unification.proofs.TestLaws.{bit-set, bit-not-set}
+use Rattle.mz_soundness.specs.Bodies.{body_run, body_checks}
+use Rattle.mz_soundness.specs.Bodies as bodies
+use Rattle.mz_soundness.specs.Lists.{definition_of, assertion_of}
+use Rattle.mz_soundness.specs.FileRows.{Taken, term_of_file, thm_of_file, rows_taken, body_bytes}
 use Rattle.mz_binary.specs.Checking.{MayStand, IsEmptyBody, term_body_checks, sort_checks, term_checks, thm_checks, kind_checks, AllTaken, checks_of, place_checks}
-use Rattle.mz_machine.specs.RowWords.{bound_count, IsParamWord, IsParamAt, IsResultWord, param_check, param_checks, word_checks}
+use Rattle.mz_soundness.specs.RowWords.{bound_count, IsParamWord, IsParamAt, IsResultWord, param_check, param_checks, word_checks}
 use Rattle.mz_binary.specs.FileRun.{Passing, test, test_each, holds_records, test_header, test_tables, test_rows, test_layout, may_be, is_param_word, is_param_at, test_params, is_result_word, test_words, Found, list_ends, stands_alone, has_body, is_empty_body, find_sort, find_term_body, find_term, find_thm, find_kind, all_taken, find_of, may_stand, find_at, Onward, onward, if_runs, run_found, run_place}
 
 -- ---- tests, one after another

@@ -19,12 +19,12 @@ use Rattle.mz_logic.specs.declared.binder.SortMods.{SortMods}
 use Rattle.mz_logic.specs.declared.word.Word.{Word}
 use Rattle.mz_layout.specs.Tables.{TermRow, tables_of, sort_count, term_row, thm_row}
 use Rattle.mz_layout.proofs.TableLists.{length-sorts, slice_get-sorts}
-use Rattle.mz_unify.specs.Profile.{plain}
-use Rattle.mz_unify.specs.Spells.{SpellsForm}
-use Rattle.mz_machine.specs.Bodies.{body_checks}
-use Rattle.mz_machine.specs.Lists.{assertion_of}
-use Rattle.mz_machine.specs.FileRows.{taken_by, rows_taken, term_of_file, thm_of_file, body_bytes}
-use Rattle.mz_machine.specs.RowWords.{IsResultWord, param_check, param_checks, word_checks, AreParamWords}
+use Rattle.mz_unification.specs.Profile.{plain}
+use Rattle.mz_unification.specs.Spells.{SpellsForm}
+use Rattle.mz_soundness.specs.Bodies.{body_checks}
+use Rattle.mz_soundness.specs.Lists.{assertion_of}
+use Rattle.mz_soundness.specs.FileRows.{taken_by, rows_taken, term_of_file, thm_of_file, body_bytes}
+use Rattle.mz_soundness.specs.RowWords.{IsResultWord, param_check, param_checks, word_checks, AreParamWords}
 use Rattle.mz_binary.specs.Spelling.{IsKindOf, SpellsRow}
 use Rattle.mz_binary.specs.Checking.{term_body_checks, term_checks, thm_checks, kind_checks, checks_of}
 use Rattle.mz_binary.specs.Chains.{IsGoodStatement}

@@ -8,12 +8,12 @@ use Rattle.mz_cmd.specs.declared.code.StatementCode.TheVariants as codes
 use Rattle.mz_cmd.specs.declared.rule.K.{K}
 use Rattle.mz_cmd.specs.declared.rule.K.TheVariants as rules
 use Rattle.mz_layout.specs.Tables.{TermRow as TermRecord, sort_count, term_count, thm_count, term_row, thm_row}
-use Rattle.mz_unify.specs.Steps.{◌>>◌ as ◌then◌}
-use Rattle.mz_machine.specs.Tables.{Heading}
-use Rattle.mz_machine.specs.RowWords.{param_checks, word_checks}
-use Rattle.mz_machine.specs.FileRows.{Taken, thm_of_file, body_bytes}
+use Rattle.mz_unification.specs.Steps.{◌>>◌ as ◌then◌}
+use Rattle.mz_soundness.specs.Tables.{Heading}
+use Rattle.mz_soundness.specs.RowWords.{param_checks, word_checks}
+use Rattle.mz_soundness.specs.FileRows.{Taken, thm_of_file, body_bytes}
 use Rattle.mz_machine.specs.Before.{IsNextRow, MayRun, kind_at, taken_before}
-use Rattle.mz_machine.specs.Lists.{assertion_of}
+use Rattle.mz_soundness.specs.Lists.{assertion_of}
 use Rattle.mz_machine.specs.declared.earlier.Rows.{Rows}
 use Rattle.mz_logic.specs.Declaration.{sorts, terms, assertions}
 use Rattle.mz_layout.specs.Tables.{list_at}

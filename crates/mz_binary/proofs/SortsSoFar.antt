@@ -6,12 +6,12 @@ use Rattle.mz_logic.specs.Declaration.{Declaration, sort_decl, term_decl, assert
 use Rattle.mz_logic.specs.LegalLists.{Statement}
 use Rattle.mz_logic.specs.declared.binder.SortMods.{SortMods}
 use Rattle.mz_layout.specs.Tables.{list_at, tables_of}
-use Rattle.mz_machine.specs.RowWords.{first_sorts}
+use Rattle.mz_soundness.specs.RowWords.{first_sorts}
 use Rattle.mz_machine.specs.Before.{taken_before}
 use Rattle.mz_binary.specs.Spelling.{SpellsRow}
 use Rattle.mz_binary.specs.Chains.{GoodTo}
 use Rattle.mz_binary.specs.Progress.{Progress, HasPassed}
-use Rattle.mz_machine.specs.FileRows.{taken_by}
+use Rattle.mz_soundness.specs.FileRows.{taken_by}
 use Rattle.mz_binary.proofs.Declared.{sorts-append}
 use Rattle.mz_binary.proofs.Following.{same-taken}
 

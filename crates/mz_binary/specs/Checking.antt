@@ -13,11 +13,11 @@ use Rattle.mz_cmd.specs.Codes.{statement_code}
 use Rattle.mz_cmd.specs.StatementList.{statement_at}
 use Rattle.mz_logic.specs.Declaration.{Declaration}
 use Rattle.mz_layout.specs.Tables.{sort_count, term_count, thm_count, term_row, thm_row}
-use Rattle.mz_unify.specs.Profile.{plain}
-use Rattle.mz_machine.specs.Bodies.{body_checks}
-use Rattle.mz_machine.specs.Lists.{definition_of, assertion_of}
-use Rattle.mz_machine.specs.RowWords.{param_checks, word_checks}
-use Rattle.mz_machine.specs.FileRows.{Taken, taken_by, term_of_file, thm_of_file, rows_taken, body_bytes}
+use Rattle.mz_unification.specs.Profile.{plain}
+use Rattle.mz_soundness.specs.Bodies.{body_checks}
+use Rattle.mz_soundness.specs.Lists.{definition_of, assertion_of}
+use Rattle.mz_soundness.specs.RowWords.{param_checks, word_checks}
+use Rattle.mz_soundness.specs.FileRows.{Taken, taken_by, term_of_file, thm_of_file, rows_taken, body_bytes}
 
 -- ---- commands, of which one that is cut or unknown, begins no statement, or leads nowhere is refused
 abbrev pub rule_of : StmtFault → K

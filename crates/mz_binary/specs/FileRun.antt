@@ -17,14 +17,14 @@ use Rattle.mz_logic.specs.declared.binder.SortMods.{SortMods}
 use Rattle.mz_logic.specs.declared.word.Word.{Word}
 use Rattle.mz_layout.specs.Numbers.{byte_at}
 use Rattle.mz_layout.specs.Tables.{TermRow as TermRecord, sort_count, term_count, thm_count, terms_at, thms_at, list_at, term_record, thm_record, param_count, words_at, mods_of, term_row, thm_row}
-use Rattle.mz_unify.specs.Steps.{◌>>=◌, ◌>>◌}
-use Rattle.mz_unify.specs.Profile.{plain}
-use Rattle.mz_unify.specs.Tests.{has_bit}
-use Rattle.mz_machine.specs.Tables.{Heading}
-use Rattle.mz_machine.specs.Bodies.{body_run, body_steps}
-use Rattle.mz_machine.specs.Lists.{definition_of, assertion_of}
-use Rattle.mz_machine.specs.RowWords.{bound_count}
-use Rattle.mz_machine.specs.FileRows.{Taken, nothing_taken, term_of_file, thm_of_file, rows_taken, body_bytes}
+use Rattle.mz_unification.specs.Steps.{◌>>=◌, ◌>>◌}
+use Rattle.mz_unification.specs.Profile.{plain}
+use Rattle.mz_unification.specs.Tests.{has_bit}
+use Rattle.mz_soundness.specs.Tables.{Heading}
+use Rattle.mz_soundness.specs.Bodies.{body_run, body_steps}
+use Rattle.mz_soundness.specs.Lists.{definition_of, assertion_of}
+use Rattle.mz_soundness.specs.RowWords.{bound_count}
+use Rattle.mz_soundness.specs.FileRows.{Taken, nothing_taken, term_of_file, thm_of_file, rows_taken, body_bytes}
 use Rattle.mz_binary.specs.Checking.{rule_of}
 
 -- what passes, or the place and the rule that fails

@@ -10,7 +10,7 @@ use Rattle.mz_binary.specs.declared.checker.Next.{Next}
 use Rattle.mz_binary.specs.declared.checker.Next.TheVariants as next
 use Rattle.mz_binary.specs.declared.whole.Checked.{Checked}
 use Rattle.mz_binary.specs.declared.whole.Checked.TheVariants as checked
-use Rattle.mz_machine.specs.FileRows.{taken_by}
+use Rattle.mz_soundness.specs.FileRows.{taken_by}
 use Rattle.mz_binary.specs.FileRun.{RunsBody}
 use Rattle.mz_binary.specs.Chains.{IsGoodStatement, GoodTo}
 use Rattle.mz_binary.specs.Good.{Good, FailsAfter, BinaryFault}

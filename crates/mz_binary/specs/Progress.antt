@@ -10,7 +10,7 @@ use Rattle.mz_logic.specs.Declaration.{Declaration, sort_decl, term_decl, assert
 use Rattle.mz_logic.specs.LegalLists.{Statement}
 use Rattle.mz_layout.specs.Tables.{list_at, sort_count, term_count, thm_count}
 use Rattle.mz_layout.specs.Layout.{IsBinary}
-use Rattle.mz_machine.specs.FileRows.{body_bytes}
+use Rattle.mz_soundness.specs.FileRows.{body_bytes}
 use Rattle.mz_machine.specs.Before.{taken_before, heading_of}
 use Rattle.mz_binary.specs.FileRun.{Found, list_ends, stands_alone, has_body, after_kind, find_at, found_steps, list_steps}
 use Rattle.mz_machine.specs.declared.earlier.Rows.{Rows}

@@ -6,8 +6,8 @@ use Rattle.mz_cmd.specs.StatementList.{statement_at}
 use Rattle.mz_logic.specs.Declaration.{Declaration, sort_decl, term_decl, assertion_decl, sorts, terms, signatures, assertions}
 use Rattle.mz_logic.specs.LegalLists.{Statement}
 use Rattle.mz_layout.specs.Tables.{tables_of, term_count, thm_count}
-use Rattle.mz_unify.specs.Spells.{SpellsTerm, SpellsThm}
-use Rattle.mz_machine.specs.FileRows.{term_of_file, thm_of_file}
+use Rattle.mz_unification.specs.Spells.{SpellsTerm, SpellsThm}
+use Rattle.mz_soundness.specs.FileRows.{term_of_file, thm_of_file}
 
 -- ---- kinds
 

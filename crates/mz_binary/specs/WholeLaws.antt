@@ -7,8 +7,8 @@ use Rattle.mz_logic.specs.Declaration.{Assertion, Declaration, assertion_decl}
 use Rattle.mz_logic.specs.LegalLists.{Statement, IsProvedBy, LegalBy, allowed_with}
 use Rattle.mz_logic.specs.Closed.{TheoremsClosed}
 use Rattle.mz_layout.specs.Tables.{list_at}
-use Rattle.mz_machine.specs.Sound.{cites_as}
-use Rattle.mz_machine.specs.FileRows.{Taken, body_bytes}
+use Rattle.mz_soundness.specs.Sound.{cites_as}
+use Rattle.mz_soundness.specs.FileRows.{Taken, body_bytes}
 use Rattle.mz_binary.specs.Chains.{Statements, IsGoodStatement, GoodTo}
 use Rattle.mz_binary.specs.Good.{Good, BinaryFault}
 use Rattle.mz_binary.specs.Gapped.{AreFreeUnlessGapped}

@@ -5,7 +5,7 @@ ghost use Rattle.mz_logic.specs.Declaration.{Declaration};
 ghost use Rattle.mz_logic.specs.LegalLists.{Statement as Declared};
 ghost use Rattle.mz_machine.specs.Before.{taken_before};
 ghost use Rattle.mz_machine.specs.BodyAnswers.{HasGap};
-ghost use Rattle.mz_machine.specs.FileRows.{body_bytes};
+ghost use Rattle.mz_soundness.specs.FileRows.{body_bytes};
 ghost use Rattle.mz_binary.specs.FileRun.{after_kind, file_steps, find_at, onward, run_place, RunsBody};
 ghost use Rattle.mz_binary.specs.Progress.{HasPassed, IsHead, RestsOnGap, found_of, is_assertion_kind, is_theorem_kind, kind_byte, marks_past, next_row, next_steps, rows_past, steps_left, most_left};
 ghost use Rattle.mz_binary.specs.Judging.{IfTold, IsLeft, IsMost, IsNext};

@@ -1,5 +1,5 @@
 // Laws of the rows of statements.
-ghost use Rattle.mz_machine.specs.RowWords.{RightWordsSayParams};
+ghost use Rattle.mz_soundness.specs.RowWords.{RightWordsSayParams};
 ghost use Rattle.mz_binary.specs.Laws.{GoodStatementsHaveRows};
 
 /// Words that are right say right parameters, with no bit left out.

@@ -2,7 +2,7 @@
 ghost use Rattle.std.specs.Prelude.{◌≡◌, ◌≤◌, ◌↔◌, IsTrue, IfOk, length, Ok, Some};
 ghost use Rattle.mz_cmd.specs.declared.code.StatementCode.TheVariants as codes;
 ghost use Rattle.mz_layout.specs.Tables.{sort_count};
-ghost use Rattle.mz_machine.specs.FileRows.{body_bytes};
+ghost use Rattle.mz_soundness.specs.FileRows.{body_bytes};
 ghost use Rattle.mz_machine.specs.Before.{taken_before};
 ghost use Rattle.mz_binary.specs.Checking.{IsEmptyBody, rule_of as rule_for};
 ghost use Rattle.mz_binary.specs.FileRun.{find_at, find_kind, find_of};

@@ -5,7 +5,7 @@ ghost use Rattle.mz_logic.specs.Modifiers.{MayBeBoundSort, MayBeResultSort};
 ghost use Rattle.mz_logic.specs.Words.{word_deps};
 ghost use Rattle.mz_layout.specs.Tables.{sort_count, term_count, term_row, thm_count, thm_row};
 ghost use Rattle.mz_binary.specs.RowParams.{RowExists, params_of, words_at_of};
-ghost use Rattle.mz_machine.specs.RowWords.{IsParamWord, IsResultWord, bound_count, first_sorts, param_checks, word_checks};
+ghost use Rattle.mz_soundness.specs.RowWords.{IsParamWord, IsResultWord, bound_count, first_sorts, param_checks, word_checks};
 
 use crate::place::Fault;
 use mz_cmd::K;

@@ -6,8 +6,8 @@ use Rattle.mz_logic.specs.Declaration.{Declaration}
 use Rattle.mz_logic.specs.declared.binder.Binder.{Binder}
 use Rattle.mz_store.specs.Sharing.{Sharing, IsIn, Holds, tree_of}
 use Rattle.mz_store.specs.declared.item.Id.{Id}
-use Rattle.mz_unify.specs.Profile.{expr, proof}
-use Rattle.mz_unify.specs.Spells.{variables_from}
+use Rattle.mz_unification.specs.Profile.{expr, proof}
+use Rattle.mz_unification.specs.Spells.{variables_from}
 use Rattle.mz_steps.specs.Works.{from_to, work_start}
 use Rattle.mz_shared.specs.Instances.{Grows}
 use Rattle.mz_shared.specs.Places.{place_of}

@@ -7,7 +7,7 @@ use Rattle.mz_logic.specs.Declaration.{Declaration}
 use Rattle.mz_logic.specs.declared.binder.Binder.{Binder}
 use Rattle.mz_store.specs.Sharing.{Sharing, IsIn, tree_of, trees_of}
 use Rattle.mz_store.specs.declared.item.Id.{Id}
-use Rattle.mz_unify.specs.Profile.{Item}
+use Rattle.mz_unification.specs.Profile.{Item}
 use Rattle.mz_steps.specs.Works.{Work, work_start}
 use Rattle.mz_steps.specs.Steps.{Step, Steps}
 use Rattle.mz_steps.specs.SharedBodies.{built, Builds, AreDistinct, IsPlain, ArePlain}

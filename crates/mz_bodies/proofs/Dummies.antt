@@ -11,8 +11,8 @@ use Rattle.mz_logic.specs.Sorts.{HasSort}
 use Rattle.mz_logic.specs.declared.binder.Binder.{Binder}
 use Rattle.mz_store.specs.Sharing.{Sharing, IsIn, tree_of, head_of}
 use Rattle.mz_store.specs.declared.item.Id.{Id}
-use Rattle.mz_unify.specs.Profile.{Item, expr}
-use Rattle.mz_unify.specs.Spells.{dummy_of}
+use Rattle.mz_unification.specs.Profile.{Item, expr}
+use Rattle.mz_unification.specs.Spells.{dummy_of}
 use Rattle.mz_steps.specs.Works.{Work}
 use Rattle.mz_steps.specs.Steps.{Step, command_bytes}
 use Rattle.std.proofs.lemmas.Option.{slice_get_within}

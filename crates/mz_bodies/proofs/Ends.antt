@@ -10,10 +10,10 @@ use Rattle.mz_logic.specs.Sorts.{HasProvable, AreProvable}
 use Rattle.mz_logic.specs.declared.binder.Binder.{Binder}
 use Rattle.mz_store.specs.Sharing.{Sharing, IsIn, AreIn, tree_of, trees_of}
 use Rattle.mz_store.specs.declared.item.Id.{Id}
-use Rattle.mz_unify.specs.Profile.{Item, expr, proof, strict}
-use Rattle.mz_machine.specs.Bodies.{stands_in}
-use Rattle.mz_machine.specs.Premises.{bound_count}
-use Rattle.mz_machine.specs.Tables.{Kind}
+use Rattle.mz_unification.specs.Profile.{Item, expr, proof, strict}
+use Rattle.mz_soundness.specs.Bodies.{stands_in}
+use Rattle.mz_soundness.specs.Premises.{bound_count}
+use Rattle.mz_soundness.specs.Tables.{Kind}
 use Rattle.mz_mmu.specs.Proof.{Proof}
 use Rattle.mz_steps.specs.Works.{Work, work_start}
 use Rattle.mz_steps.specs.Steps.{Step, command_bytes}

@@ -12,9 +12,9 @@ use Rattle.mz_logic.specs.Conversions.{Conversion}
 use Rattle.mz_logic.specs.declared.binder.Binder.{Binder}
 use Rattle.mz_store.specs.Sharing.{Sharing, AreIn, Holds, tree_of, trees_of}
 use Rattle.mz_store.specs.declared.item.Id.{Id}
-use Rattle.mz_unify.specs.Profile.{Item, expr, proof, obligation}
-use Rattle.mz_unify.specs.Spells.{trees_of as listed_back}
-use Rattle.mz_unify.proofs.Trees.{trees_of-listed}
+use Rattle.mz_unification.specs.Profile.{Item, expr, proof, obligation}
+use Rattle.mz_unification.specs.Spells.{trees_of as listed_back}
+use Rattle.mz_unification.proofs.Trees.{trees_of-listed}
 use Rattle.mz_mmu.specs.Proof.{Proof, by_conv}
 use Rattle.mz_steps.specs.Works.{Work}
 use Rattle.mz_steps.specs.Steps.{stacked, above, Step, IsCited}

@@ -9,10 +9,10 @@ use Rattle.mz_logic.specs.declared.binder.Binder.{Binder}
 use Rattle.mz_logic.proofs.Extend.{extends_append}
 use Rattle.mz_store.specs.Sharing.{Sharing, IsIn, tree_of, head_of, operands_of, sort_of}
 use Rattle.mz_store.specs.declared.item.Id.{Id}
-use Rattle.mz_unify.specs.Profile.{Item, expr}
-use Rattle.mz_unify.specs.Spells.{trees_of as listed_back}
-use Rattle.mz_unify.specs.Sorted.{Sorted}
-use Rattle.mz_unify.proofs.Trees.{trees_of-listed}
+use Rattle.mz_unification.specs.Profile.{Item, expr}
+use Rattle.mz_unification.specs.Spells.{trees_of as listed_back}
+use Rattle.mz_unification.specs.Sorted.{Sorted}
+use Rattle.mz_unification.proofs.Trees.{trees_of-listed}
 use Rattle.mz_steps.specs.Works.{Work}
 use Rattle.mz_steps.specs.Steps.{stacked, kept, Step, command_bytes}
 use Rattle.mz_shared.specs.Places.{place_of}

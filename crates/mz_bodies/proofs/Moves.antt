@@ -9,7 +9,7 @@ use Rattle.mz_logic.specs.Declaration.{Declaration}
 use Rattle.mz_logic.specs.declared.binder.Binder.{Binder}
 use Rattle.mz_store.specs.Sharing.{Sharing, AreIn, tree_of, trees_of, head_of, operands_of}
 use Rattle.mz_store.specs.declared.item.Id.{Id}
-use Rattle.mz_unify.specs.Profile.{Item, expr, proof}
+use Rattle.mz_unification.specs.Profile.{Item, expr, proof}
 use Rattle.mz_mmu.specs.Proof.{Proofs, by_hyp, by_citation}
 use Rattle.mz_steps.specs.Steps.{stacked, above, Step, command_bytes}
 use Rattle.mz_shared.specs.Instances.{Grows}

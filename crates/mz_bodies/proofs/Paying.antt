@@ -14,9 +14,9 @@ use Rattle.mz_logic.specs.declared.binder.Binder.{Binder}
 use Rattle.mz_logic.proofs.LegalIsRight.{legal_env_is_right}
 use Rattle.mz_store.specs.Sharing.{Sharing, Holds, tree_of}
 use Rattle.mz_store.specs.declared.item.Id.{Id}
-use Rattle.mz_unify.specs.Profile.{Item, expr, obligation}
-use Rattle.mz_unify.proofs.Trees.{trees_of-listed}
-use Rattle.mz_machine.specs.ProofMachine.{sides}
+use Rattle.mz_unification.specs.Profile.{Item, expr, obligation}
+use Rattle.mz_unification.proofs.Trees.{trees_of-listed}
+use Rattle.mz_soundness.specs.ProofMachine.{sides}
 use Rattle.mz_steps.specs.Works.{Work}
 use Rattle.mz_steps.specs.Steps.{stacked, Step, command_bytes}
 use Rattle.mz_shared.specs.Instances.{Grows, InReach}

@@ -9,7 +9,7 @@ use Rattle.mz_logic.specs.declared.binder.Binder.{Binder}
 use Rattle.mz_logic.proofs.Extend.{extends_append}
 use Rattle.mz_store.specs.Sharing.{Sharing}
 use Rattle.mz_store.specs.declared.item.Id.{Id}
-use Rattle.mz_unify.specs.Profile.{Item, proof}
+use Rattle.mz_unification.specs.Profile.{Item, proof}
 use Rattle.mz_steps.specs.Works.{Work}
 use Rattle.mz_steps.specs.Steps.{kept, Step, command_bytes}
 use Rattle.mz_bodies.specs.Scopes.{in_sight}

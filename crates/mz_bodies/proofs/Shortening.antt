@@ -12,7 +12,7 @@ use Rattle.mz_logic.specs.Declaration.{Declaration}
 use Rattle.mz_logic.specs.declared.binder.Binder.{Binder}
 use Rattle.mz_store.specs.Sharing.{Sharing, trees_of}
 use Rattle.mz_store.specs.declared.item.Id.{Id}
-use Rattle.mz_unify.specs.Profile.{Item}
+use Rattle.mz_unification.specs.Profile.{Item}
 use Rattle.mz_steps.specs.Steps.{command_bytes}
 use Rattle.mz_shared.specs.Instances.{Grows}
 use Rattle.mz_bodies.specs.Sight.{Part, parts, part_at, links, InSight, here, out, IsRightAt, AreRight, IsThere}

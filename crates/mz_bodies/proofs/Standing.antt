@@ -4,9 +4,9 @@ use Rattle.std.proofs.Common.{refl, sym, subst, inl, inr}
 use Rattle.mz_cmd.specs.declared.code.ProofCode.{ProofCode}
 use Rattle.mz_cmd.specs.declared.code.ProofCode.TheVariants as code
 use Rattle.mz_store.specs.declared.item.Id.{Id}
-use Rattle.mz_unify.specs.Profile.{strict}
-use Rattle.mz_machine.specs.Tables.{Kind, is_theorem}
-use Rattle.mz_machine.specs.Bodies.{stands_in}
+use Rattle.mz_unification.specs.Profile.{strict}
+use Rattle.mz_soundness.specs.Tables.{Kind, is_theorem}
+use Rattle.mz_soundness.specs.Bodies.{stands_in}
 use Rattle.mz_steps.specs.Endings.{MayStand}
 use Rattle.mz_bodies.specs.Owes.{Task, push, make, MakesExpression, IsOfExpressions}
 use Rattle.mz_bodies.specs.Pushing.{pushes}

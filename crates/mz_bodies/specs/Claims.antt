@@ -6,7 +6,7 @@ use Rattle.mz_logic.specs.Sorts.{Fits}
 use Rattle.mz_logic.specs.Variables.{Apart}
 use Rattle.mz_logic.specs.Conversions.{Between}
 use Rattle.mz_logic.specs.declared.binder.Binder.{Binder}
-use Rattle.mz_unify.specs.Sorted.{Sorted}
+use Rattle.mz_unification.specs.Sorted.{Sorted}
 use Rattle.mz_mmu.specs.Proof.{Proof, Proofs, by_hyp, by_name, by_citation, by_conv, by_let, no_proofs, more_proofs}
 use Rattle.mz_shared.specs.Instances.{InReach}
 

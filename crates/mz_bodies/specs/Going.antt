@@ -9,9 +9,9 @@ use Rattle.mz_logic.specs.Words.{signatures_of}
 use Rattle.mz_logic.specs.declared.binder.Binder.{Binder}
 use Rattle.mz_store.specs.Sharing.{Sharing, IsIn, Holds, tree_of}
 use Rattle.mz_store.specs.declared.item.Id.{Id}
-use Rattle.mz_unify.specs.Spells.{dummy_of}
-use Rattle.mz_unify.specs.Profile.{Item, expr, proof, strict}
-use Rattle.mz_machine.specs.Tables.{Kind, is_theorem}
+use Rattle.mz_unification.specs.Spells.{dummy_of}
+use Rattle.mz_unification.specs.Profile.{Item, expr, proof, strict}
+use Rattle.mz_soundness.specs.Tables.{Kind, is_theorem}
 use Rattle.mz_steps.specs.Works.{Work, work_start}
 use Rattle.mz_steps.specs.SharedBodies.{Builds, AreDistinct, ArePlain}
 use Rattle.mz_steps.specs.Steps.{command_bytes}

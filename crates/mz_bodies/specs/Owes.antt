@@ -6,8 +6,8 @@ use Rattle.mz_logic.specs.Declaration.{Declaration}
 use Rattle.mz_logic.specs.Conversions.{Conversion, Conversions, Between, AllBetween}
 use Rattle.mz_logic.specs.declared.binder.Binder.{Binder}
 use Rattle.mz_store.specs.Sharing.{Sharing, IsIn, tree_of, head_of, operands_of}
-use Rattle.mz_unify.specs.Profile.{Item, expr, proof, obligation}
-use Rattle.mz_machine.specs.ProofMachine.{sides}
+use Rattle.mz_unification.specs.Profile.{Item, expr, proof, obligation}
+use Rattle.mz_soundness.specs.ProofMachine.{sides}
 use Rattle.mz_mmu.specs.Proof.{Proof, Proofs}
 use Rattle.mz_mmu.specs.ProofView.{proof_view, proofs_view}
 use Rattle.mz_mmu.specs.ConvView.{conversion, conversions}

@@ -8,10 +8,10 @@ use Rattle.mz_logic.specs.Sorts.{HasProvable}
 use Rattle.mz_logic.specs.declared.binder.Binder.{Binder}
 use Rattle.mz_store.specs.Sharing.{Sharing, IsIn, AreIn, tree_of, trees_of}
 use Rattle.mz_store.specs.declared.item.Id.{Id}
-use Rattle.mz_unify.specs.Profile.{Item, strict}
-use Rattle.mz_unify.specs.Spells.{dummy_of}
-use Rattle.mz_machine.specs.Bodies.{stands_in}
-use Rattle.mz_machine.specs.Tables.{Kind}
+use Rattle.mz_unification.specs.Profile.{Item, strict}
+use Rattle.mz_unification.specs.Spells.{dummy_of}
+use Rattle.mz_soundness.specs.Bodies.{stands_in}
+use Rattle.mz_soundness.specs.Tables.{Kind}
 use Rattle.mz_mmu.specs.Proof.{Proof}
 use Rattle.mz_bodies.specs.Claims.{IsSound}
 use Rattle.mz_shared.specs.Variables.{IsShared}

@@ -15,7 +15,7 @@ ghost use Rattle.mz_bodies.specs.Pushing.{pushes};
 ghost use Rattle.mz_bodies.specs.Going.{Job, IsAfter, Does, steps_left};
 ghost use Rattle.mz_bodies.specs.Stages.{HasDummiesBehind, Begins, Rests, leaving, assuming, Writes, Assumes, AssumesAll, Proves};
 ghost use Rattle.mz_bodies.specs.Claims.{proved};
-ghost use Rattle.mz_unify.specs.Profile.{expr, proof};
+ghost use Rattle.mz_unification.specs.Profile.{expr, proof};
 
 use crate::cells::{Cells, Chain};
 use crate::task::Task;

@@ -17,7 +17,7 @@ use Rattle.mz_logic.specs.declared.binder.Binder.{Binder}
 use Rattle.mz_logic.specs.declared.binder.SortMods.{SortMods}
 use Rattle.mz_logic.proofs.Lists.{each_from_all}
 use Rattle.mz_logic.proofs.PlainLegality.{assertions_are_sorted, terms_are_sorted}
-use Rattle.mz_machine.specs.Premises.{bound_count as bound_in}
+use Rattle.mz_soundness.specs.Premises.{bound_count as bound_in}
 use Rattle.mz_mmu.specs.Laws.{Ascends, HasNoProof, HasItsProof}
 use Rattle.mz_mmu.specs.Proof.{Statement, Proof}
 use Rattle.mz_type.specs.Meaning.{IsProofOf, IsProvedAsStated}

@@ -16,12 +16,12 @@ use Rattle.mz_logic.proofs.Longer.{keep_sorts}
 use Rattle.mz_store.specs.Bits.{bound_from, bound_vars}
 use Rattle.mz_store.specs.Sharing.{Sharing, Holds, tree_of}
 use Rattle.mz_store.specs.declared.item.Id.{Id}
-use Rattle.mz_unify.specs.Sorted.{Sorted, AllSorted}
-use Rattle.mz_unify.specs.Spells.{dummy_of}
-use Rattle.mz_unify.specs.Streams.{of_definition, of_assertion}
-use Rattle.mz_machine.specs.Lists.{kind_of}
-use Rattle.mz_machine.specs.Premises.{bound_count as bound_in}
-use Rattle.mz_machine.specs.Tables.{is_theorem, is_definition}
+use Rattle.mz_unification.specs.Sorted.{Sorted, AllSorted}
+use Rattle.mz_unification.specs.Spells.{dummy_of}
+use Rattle.mz_unification.specs.Streams.{of_definition, of_assertion}
+use Rattle.mz_soundness.specs.Lists.{kind_of}
+use Rattle.mz_soundness.specs.Premises.{bound_count as bound_in}
+use Rattle.mz_soundness.specs.Tables.{is_theorem, is_definition}
 use Rattle.mz_machine.proofs.BeforeLaws.{binders_many}
 use Rattle.mz_mmu.specs.Proof.{Proof}
 use Rattle.mz_steps.specs.SharedBodies.{IsSharedBody}

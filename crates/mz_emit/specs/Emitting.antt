@@ -12,11 +12,11 @@ use Rattle.mz_logic.specs.declared.binder.Binder.{Binder}
 use Rattle.mz_logic.specs.declared.binder.SortMods.{SortMods}
 use Rattle.mz_layout.specs.Normal.{Row, Written, Parts, row_of_term, row_of_thm}
 use Rattle.mz_layout.specs.NormalLaws.{rows_cost, statements_cost}
-use Rattle.mz_unify.specs.Sorted.{Sorted}
-use Rattle.mz_unify.specs.Streams.{of_assertion, of_definition}
-use Rattle.mz_machine.specs.Lists.{kind_of}
-use Rattle.mz_machine.specs.Premises.{bound_count as bound_in}
-use Rattle.mz_machine.specs.Tables.{is_axiom, is_theorem, is_definition}
+use Rattle.mz_unification.specs.Sorted.{Sorted}
+use Rattle.mz_unification.specs.Streams.{of_assertion, of_definition}
+use Rattle.mz_soundness.specs.Lists.{kind_of}
+use Rattle.mz_soundness.specs.Premises.{bound_count as bound_in}
+use Rattle.mz_soundness.specs.Tables.{is_axiom, is_theorem, is_definition}
 use Rattle.mz_mmu.specs.Laws.{IsWhole}
 use Rattle.mz_mmu.specs.Proof.{Proof, Statement}
 use Rattle.mz_type.specs.Meaning.{IsLegalAsStated, marked}

@@ -21,7 +21,7 @@ ghost use Rattle.mz_type.specs.TypedText.{statement_at};
 ghost use Rattle.mz_type.specs.Weight.{IsWithinLimits};
 ghost use Rattle.mz_emit.specs.Compiling.{IsBinaryOf};
 ghost use Rattle.mz_store.specs.Sharing.{AreIn, IsIn, tree_of, trees_of};
-ghost use Rattle.mz_machine.specs.Premises.{bound_count as bound_in};
+ghost use Rattle.mz_soundness.specs.Premises.{bound_count as bound_in};
 ghost use Rattle.mz_shared.specs.Rows.{words_of_row};
 ghost use Rattle.mz_bodies.specs.Stages.{HasDummiesBehind};
 ghost use Rattle.mz_emit.specs.Emitting;

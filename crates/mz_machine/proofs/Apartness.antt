@@ -17,13 +17,13 @@ use Rattle.mz_store.specs.declared.item.DepsMode.{DepsMode}
 use Rattle.mz_store.specs.declared.item.DepsMode.TheVariants.{All}
 use Rattle.mz_store.proofs.Meeting.{words-meet}
 use Rattle.mz_unify.specs.Stored.{trees_at}
-use Rattle.mz_unify.specs.Steps.{◌>>◌, need}
-use Rattle.mz_unify.specs.Tests.{is_member, is_bound_var, in_v, var_within}
+use Rattle.mz_unification.specs.Steps.{◌>>◌, need}
+use Rattle.mz_unification.specs.Tests.{is_member, is_bound_var, in_v, var_within}
 use Rattle.mz_unify.proofs.StoredIds.{tree-at}
-use Rattle.mz_unify.proofs.Inverting.{from_then, from_need, need_ok, some_is}
-use Rattle.mz_unify.proofs.TestLaws.{bound-is, in-v-true, v-in}
-use Rattle.mz_machine.specs.Premises.{operands_fit, apart_from, apart_at}
-use Rattle.mz_machine.proofs.Operands.{or-not}
+use Rattle.mz_unification.proofs.Inverting.{from_then, from_need, need_ok, some_is}
+use Rattle.mz_unification.proofs.TestLaws.{bound-is, in-v-true, v-in}
+use Rattle.mz_soundness.specs.Premises.{operands_fit, apart_from, apart_at}
+use Rattle.mz_soundness.proofs.Operands.{or-not}
 use Rattle.mz_machine.proofs.FittingOperands.{next-at, none-left, next-binder}
 
 -- ---- operands of bound parameters

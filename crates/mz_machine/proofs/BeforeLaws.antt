@@ -11,10 +11,10 @@ use Rattle.mz_logic.specs.Words.{signatures_of as signatures_by}
 use Rattle.mz_logic.specs.Signature.{Signature}
 use Rattle.mz_layout.specs.Tables.{term_row, thm_row, term_count, term_words}
 use Rattle.mz_layout.proofs.TableLists.{slice_get-rows, length-term_words, term_at-words}
-use Rattle.mz_unify.specs.Spells.{TermRow, ThmRow}
-use Rattle.mz_machine.specs.FileRows.{term_of_file, thm_of_file}
+use Rattle.mz_unification.specs.Spells.{TermRow, ThmRow}
+use Rattle.mz_soundness.specs.FileRows.{term_of_file, thm_of_file}
 use Rattle.mz_machine.specs.Before.{Before, AreWithin, tables_of, signatures_of, words_before, sorts_before}
-use Rattle.mz_machine.proofs.FirstSorts.{length-first_sorts, slice_get-first_sorts}
+use Rattle.mz_soundness.proofs.FirstSorts.{length-first_sorts, slice_get-first_sorts}
 
 pub length-words : (b : Before) → length (words_before b) ≡ b.rows.terms
 length-words b = length-map-range_with_len (λ t. (term_row b.file t).words) 0 b.rows.terms

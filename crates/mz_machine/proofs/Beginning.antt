@@ -12,19 +12,19 @@ use Rattle.mz_logic.specs.declared.word.Word.{Word}
 use Rattle.mz_layout.specs.Tables.{TermRow, term_row, thm_row}
 use Rattle.mz_store.specs.Sharing.{Sharing, tree_of, IsIn, IsOver}
 use Rattle.mz_store.specs.declared.item.Item.TheVariants.{Expr}
-use Rattle.mz_unify.specs.Profile.{strict, Item, expr}
+use Rattle.mz_unification.specs.Profile.{strict, Item, expr}
 use Rattle.mz_unify.specs.Stored.{AreItemsIn}
-use Rattle.mz_machine.specs.Tables.{Kind, is_axiom, is_theorem, is_definition, signatures_in}
-use Rattle.mz_machine.specs.Bodies.{body_start}
+use Rattle.mz_soundness.specs.Tables.{Kind, is_axiom, is_theorem, is_definition, signatures_in}
+use Rattle.mz_soundness.specs.Bodies.{body_start}
 use Rattle.mz_machine.specs.Before.{kind_at, heading_by, heading_of, IsNextRow, MayRun, tables_before}
-use Rattle.mz_machine.specs.RowWords.{first_sorts, param_check, param_checks, word_checks, IsResultWord}
+use Rattle.mz_soundness.specs.RowWords.{first_sorts, param_check, param_checks, word_checks, IsResultWord}
 use Rattle.mz_machine.specs.OverStore.{heap_at, state_at, mode_for, AreFirst, IsUnderway}
 use Rattle.mz_machine.specs.Stepping.{own_words, first_items}
 use Rattle.mz_machine.specs.declared.earlier.Rows.{Rows}
 use Rattle.mz_machine.proofs.BeforeLaws.{binders_many}
 use Rattle.mz_machine.proofs.Dummies.{no-dummies}
 use Rattle.mz_machine.proofs.Ending.{range-next, own-are}
-use Rattle.mz_machine.proofs.RightWords.{right-words}
+use Rattle.mz_soundness.proofs.RightWords.{right-words}
 
 -- ---- the row's own words
 

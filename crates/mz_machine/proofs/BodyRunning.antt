@@ -4,9 +4,9 @@ use Rattle.std.proofs.Common.{◌≡◌, ◌≤◌, ◌+◌, ◌*◌, ℕ, suc, 
 use Rattle.std.proofs.Math.Nat.{add-mul, mul-le-mul_right}
 use Rattle.mz_cmd.specs.declared.rule.K.{K}
 use Rattle.mz_logic.specs.Tree.{Tree}
-use Rattle.mz_machine.specs.Tables.{Tables, State, Heading}
-use Rattle.mz_machine.specs.ProofMachine.{proof_end}
-use Rattle.mz_unify.specs.Profile.{plain}
+use Rattle.mz_soundness.specs.Tables.{Tables, State, Heading}
+use Rattle.mz_soundness.specs.ProofMachine.{proof_end}
+use Rattle.mz_unification.specs.Profile.{plain}
 use Rattle.mz_machine.specs.BodyAnswers.{CountsOf, HasGap, IsBodyRun}
 use Rattle.mz_machine.specs.BodyAnswers.{UnlessMem as UnlessBodyMem}
 use Rattle.mz_machine.specs.Before.{heading_of, tables_before}

@@ -12,17 +12,17 @@ use Rattle.mz_layout.specs.Tables.{thm_row}
 use Rattle.mz_store.specs.Sharing.{Sharing}
 use Rattle.mz_store.specs.declared.item.Id.{Id}
 use Rattle.mz_store.specs.declared.item.Item.{Item as Kept}
-use Rattle.mz_unify.specs.Spells.{ThmRow}
-use Rattle.mz_unify.specs.Profile.{strict, Item, proof}
-use Rattle.mz_unify.specs.UnifyMachine.{in_citation, Matching, UnifyState, unify, unify_steps}
+use Rattle.mz_unification.specs.Spells.{ThmRow}
+use Rattle.mz_unification.specs.Profile.{strict, Item, proof}
+use Rattle.mz_unification.specs.UnifyMachine.{in_citation, Matching, UnifyState, unify, unify_steps}
 use Rattle.mz_unify.specs.Stored.{item_at, items_at, matching_at}
 use Rattle.mz_unify.specs.declared.unified.UnifyMode.TheVariants.{Use}
-use Rattle.mz_machine.specs.Tables.{Tables, State, signatures_in}
-use Rattle.mz_machine.specs.Premises.{pop_expr, pop_operands, operands_fit, are_apart}
-use Rattle.mz_machine.specs.ProofMachine.{proof_row, citation, cited}
-use Rattle.mz_machine.specs.Bodies.{row_steps}
+use Rattle.mz_soundness.specs.Tables.{Tables, State, signatures_in}
+use Rattle.mz_soundness.specs.Premises.{pop_expr, pop_operands, operands_fit, are_apart}
+use Rattle.mz_soundness.specs.ProofMachine.{proof_row, citation, cited}
+use Rattle.mz_soundness.specs.Bodies.{row_steps}
 use Rattle.mz_machine.specs.Before.{Before, tables_of, signatures_of, words_before}
-use Rattle.mz_machine.specs.FileRows.{thm_of_file}
+use Rattle.mz_soundness.specs.FileRows.{thm_of_file}
 use Rattle.mz_machine.specs.OverStore.{with_stack}
 use Rattle.mz_machine.proofs.BeforeLaws.{signatures-before, thm-before, no-thm-before, binders_many}
 use Rattle.mz_machine.proofs.TakenOperands.{too-few}

@@ -11,19 +11,19 @@ use Rattle.mz_logic.specs.declared.binder.Binder.{Binder}
 use Rattle.mz_store.specs.Sharing.{Sharing, tree_of, trees_of, head_of, operands_of}
 use Rattle.mz_store.specs.declared.item.Id.{Id}
 use Rattle.mz_store.specs.declared.item.Item.{Item as Kept}
-use Rattle.mz_unify.specs.Steps.{◌>>=◌, ◌>>◌, need, want, rule_of}
-use Rattle.mz_unify.specs.Spells.{TermRow}
-use Rattle.mz_unify.specs.Profile.{strict, Item, expr, obligation, tree_parts}
-use Rattle.mz_unify.specs.Tests.{same_tree}
-use Rattle.mz_unify.specs.UnifyMachine.{in_definition, Matching, UnifyState, unify, unify_steps}
+use Rattle.mz_unification.specs.Steps.{◌>>=◌, ◌>>◌, need, want, rule_of}
+use Rattle.mz_unification.specs.Spells.{TermRow}
+use Rattle.mz_unification.specs.Profile.{strict, Item, expr, obligation, tree_parts}
+use Rattle.mz_unification.specs.Tests.{same_tree}
+use Rattle.mz_unification.specs.UnifyMachine.{in_definition, Matching, UnifyState, unify, unify_steps}
 use Rattle.mz_unify.specs.Stored.{IsItemIn, AreItemsIn, trees_at}
-use Rattle.mz_unify.proofs.Inverting.{taken-is}
+use Rattle.mz_unification.proofs.Inverting.{taken-is}
 use Rattle.mz_unify.proofs.StoredIds.{items-in-both, listed-trees}
-use Rattle.mz_unify.proofs.Trees.{same_tree-true, same_tree-refl}
-use Rattle.mz_machine.specs.Tables.{Tables, State, signatures_in}
-use Rattle.mz_machine.specs.Premises.{pop, pop_expr, pop_obligation, pop_sides}
-use Rattle.mz_machine.specs.ProofMachine.{proof_row, sides, same_term, stream_of, unfolding_of, matched_by}
-use Rattle.mz_machine.specs.Bodies.{match_steps, fst_of, row_steps}
+use Rattle.mz_unification.proofs.Trees.{same_tree-true, same_tree-refl}
+use Rattle.mz_soundness.specs.Tables.{Tables, State, signatures_in}
+use Rattle.mz_soundness.specs.Premises.{pop, pop_expr, pop_obligation, pop_sides}
+use Rattle.mz_soundness.specs.ProofMachine.{proof_row, sides, same_term, stream_of, unfolding_of, matched_by}
+use Rattle.mz_soundness.specs.Bodies.{match_steps, fst_of, row_steps}
 use Rattle.mz_machine.specs.OverStore.{with_stack, pop_unfolding, Gives, StopsBy}
 use Rattle.mz_machine.specs.declared.command.Stop.{Stop}
 use Rattle.mz_machine.specs.declared.command.Stop.TheVariants.{Rule, Mem}

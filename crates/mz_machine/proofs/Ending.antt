@@ -11,14 +11,14 @@ use Rattle.mz_store.specs.Sharing.{Sharing, tree_of, IsIn, AreIn}
 use Rattle.mz_store.specs.declared.item.Id.{Id}
 use Rattle.mz_store.specs.declared.item.Item.{Item as Kept}
 use Rattle.mz_store.specs.declared.item.Item.TheVariants.{Proof}
-use Rattle.mz_unify.specs.Steps.{◌>>=◌, rule_of}
-use Rattle.mz_unify.specs.Profile.{strict, Item, proof}
-use Rattle.mz_unify.specs.UnifyMachine.{Matching, UnifyState, unify, unify_steps}
+use Rattle.mz_unification.specs.Steps.{◌>>=◌, rule_of}
+use Rattle.mz_unification.specs.Profile.{strict, Item, proof}
+use Rattle.mz_unification.specs.UnifyMachine.{Matching, UnifyState, unify, unify_steps}
 use Rattle.mz_unify.specs.Stored.{item_at, items_at, trees_at, matching_at, AreItemsIn, AreVariables, mode_of}
 use Rattle.mz_unify.proofs.StoredIds.{are-in-both, items-in-both, trees-append}
-use Rattle.mz_machine.specs.Tables.{Tables, State, Kind, is_axiom, is_theorem, is_definition, Heading, signatures_in}
-use Rattle.mz_machine.specs.ProofMachine.{last_item, as_proofs, own_variables, ending, ends_with, proof_end}
-use Rattle.mz_machine.specs.Bodies.{match_steps}
+use Rattle.mz_soundness.specs.Tables.{Tables, State, Kind, is_axiom, is_theorem, is_definition, Heading, signatures_in}
+use Rattle.mz_soundness.specs.ProofMachine.{last_item, as_proofs, own_variables, ending, ends_with, proof_end}
+use Rattle.mz_soundness.specs.Bodies.{match_steps}
 use Rattle.mz_machine.specs.Before.{heading_by}
 use Rattle.mz_machine.specs.OverStore.{Gives}
 use Rattle.mz_machine.specs.Endings.{mode_at, items_of, ended, IsOwnRun}

@@ -15,9 +15,9 @@ use Rattle.mz_store.specs.Sharing.{Sharing, tree_of}
 use Rattle.mz_store.specs.declared.item.Id.{Id}
 use Rattle.mz_unify.specs.Stored.{trees_at}
 use Rattle.mz_unify.proofs.StoredIds.{tree-at}
-use Rattle.mz_unify.specs.Steps.{◌>>◌, need}
-use Rattle.mz_unify.specs.Tests.{is_bound_var}
-use Rattle.mz_machine.specs.Premises.{operands_fit}
+use Rattle.mz_unification.specs.Steps.{◌>>◌, need}
+use Rattle.mz_unification.specs.Tests.{is_bound_var}
+use Rattle.mz_soundness.specs.Premises.{operands_fit}
 
 -- ---- lists, from a place on
 

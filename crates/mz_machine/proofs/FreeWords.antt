@@ -28,15 +28,15 @@ use Rattle.mz_store.specs.Sharing.{Sharing, IsIn, IsOver, IsTold, tree_of, entry
 use Rattle.mz_store.specs.declared.item.DepsMode.TheVariants.{Free}
 use Rattle.mz_store.specs.Bits.{Tells, bound_from, bound_vars}
 use Rattle.mz_store.proofs.Places.{bound-once, set-to, set-from}
-use Rattle.mz_unify.specs.Tests.{is_member}
+use Rattle.mz_unification.specs.Tests.{is_member}
 use Rattle.mz_store.proofs.Meeting.{bound-has}
-use Rattle.mz_unify.proofs.TestLaws.{contains-member, not-both}
-use Rattle.mz_machine.specs.FreeVars.{in_fv, free_within}
+use Rattle.mz_unification.proofs.TestLaws.{contains-member, not-both}
+use Rattle.mz_soundness.specs.FreeVars.{in_fv, free_within}
 use Rattle.mz_machine.specs.Before.{Before, signatures_of, HasRightWords}
 use Rattle.mz_machine.specs.OverStore.{IsContextOf}
-use Rattle.mz_machine.specs.RowWords.{bound_count, first_sorts, IsResultWord, param_check, param_checks, word_checks}
-use Rattle.mz_machine.proofs.RightWords.{right-words}
-use Rattle.mz_machine.proofs.FreeVarLaws.{fv-in, in-fv-true, free-within}
+use Rattle.mz_soundness.specs.RowWords.{bound_count, first_sorts, IsResultWord, param_check, param_checks, word_checks}
+use Rattle.mz_soundness.proofs.RightWords.{right-words}
+use Rattle.mz_soundness.proofs.FreeVarLaws.{fv-in, in-fv-true, free-within}
 
 -- ---- free variables are bound variables of the context
 

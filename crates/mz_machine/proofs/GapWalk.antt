@@ -8,9 +8,9 @@ use Rattle.mz_cmd.specs.declared.code.ProofCode.{ProofCode}
 use Rattle.mz_cmd.specs.declared.code.ProofCode.TheVariants as code
 use Rattle.mz_cmd.specs.Codes.{proof_code}
 use Rattle.mz_cmd.specs.Reading.{first_command}
-use Rattle.mz_unify.specs.UnifyMachine.{is_empty}
-use Rattle.mz_unify.proofs.Turning.{command-long, drop-less}
-use Rattle.mz_machine.specs.Sound.{GapsWithin}
+use Rattle.mz_unification.specs.UnifyMachine.{is_empty}
+use Rattle.mz_unification.proofs.Turning.{command-long, drop-less}
+use Rattle.mz_soundness.specs.Sound.{GapsWithin}
 use Rattle.mz_machine.specs.Steps.{is_sorry}
 use Rattle.mz_machine.specs.BodyAnswers.{HasGap}
 

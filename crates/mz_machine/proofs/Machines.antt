@@ -10,11 +10,11 @@ use Rattle.mz_store.specs.Sharing.{Sharing, AreIn}
 use Rattle.mz_store.specs.declared.item.Id.{Id}
 use Rattle.mz_store.specs.declared.item.Item.{Item as Kept}
 use Rattle.mz_store.specs.declared.item.DepsMode.TheVariants.{All}
-use Rattle.mz_unify.specs.Profile.{strict}
+use Rattle.mz_unification.specs.Profile.{strict}
 use Rattle.mz_unify.specs.Stored.{AreItemsIn}
 use Rattle.mz_unify.proofs.StoredIds.{still-in}
-use Rattle.mz_machine.specs.Tables.{Kind, is_axiom, is_theorem, is_definition, signatures_in}
-use Rattle.mz_machine.specs.Bodies.{BodyCommand, ends, proves, stands_in, if_allowed, body_command}
+use Rattle.mz_soundness.specs.Tables.{Kind, is_axiom, is_theorem, is_definition, signatures_in}
+use Rattle.mz_soundness.specs.Bodies.{BodyCommand, ends, proves, stands_in, if_allowed, body_command}
 use Rattle.mz_machine.specs.Before.{Before, heading_of, tables_before}
 use Rattle.mz_machine.specs.OverStore.{code_of, for_theorems, mode_for, Grows, IsUnderway}
 use Rattle.mz_machine.specs.declared.command.Command.{Command}

@@ -9,13 +9,13 @@ use Rattle.mz_logic.specs.Sorts.{HasSort}
 use Rattle.mz_logic.specs.declared.binder.Binder.{Binder}
 use Rattle.mz_logic.proofs.Rules.{sort_is}
 use Rattle.mz_store.specs.Bits.{bound_from, bound_vars}
-use Rattle.mz_unify.specs.Spells.{dummy_of}
-use Rattle.mz_unify.specs.Profile.{strict, Item, expr, proof, obligation, conversion}
-use Rattle.mz_unify.specs.Tests.{same_tree}
-use Rattle.mz_unify.proofs.Trees.{same_tree-true, same_tree-refl}
-use Rattle.mz_machine.specs.Tables.{Tables, State}
-use Rattle.mz_machine.specs.Premises.{pop, pop_expr, pop_obligation, is_conversion, is_obligation, may_be_dummy_sort, is_provable_sort, bound_count}
-use Rattle.mz_machine.specs.ProofMachine.{proof_row, referred, has_provable_sort}
+use Rattle.mz_unification.specs.Spells.{dummy_of}
+use Rattle.mz_unification.specs.Profile.{strict, Item, expr, proof, obligation, conversion}
+use Rattle.mz_unification.specs.Tests.{same_tree}
+use Rattle.mz_unification.proofs.Trees.{same_tree-true, same_tree-refl}
+use Rattle.mz_soundness.specs.Tables.{Tables, State}
+use Rattle.mz_soundness.specs.Premises.{pop, pop_expr, pop_obligation, is_conversion, is_obligation, may_be_dummy_sort, is_provable_sort, bound_count}
+use Rattle.mz_soundness.specs.ProofMachine.{proof_row, referred, has_provable_sort}
 use Rattle.mz_machine.specs.Before.{Before, tables_of, signatures_of}
 use Rattle.mz_machine.specs.OverStore.{with_stack}
 

@@ -16,20 +16,20 @@ use Rattle.mz_store.specs.Sharing.{trees_of as trees_in}
 use Rattle.mz_store.specs.declared.item.Id.{Id}
 use Rattle.mz_store.specs.declared.item.Item.{Item as Kept}
 use Rattle.mz_store.specs.declared.item.Item.TheVariants.{Expr, Proof, Obligation, Conversion}
-use Rattle.mz_unify.specs.Spells.{TermRow, trees_of}
-use Rattle.mz_unify.specs.Sorted.{AllSorted}
-use Rattle.mz_unify.specs.Profile.{strict, Item, expr, proof, obligation, conversion}
+use Rattle.mz_unification.specs.Spells.{TermRow, trees_of}
+use Rattle.mz_unification.specs.Sorted.{AllSorted}
+use Rattle.mz_unification.specs.Profile.{strict, Item, expr, proof, obligation, conversion}
 use Rattle.mz_unify.specs.Stored.{trees_at, item_at, items_at, IsItemIn, AreItemsIn}
-use Rattle.mz_unify.specs.Steps.{◌>>=◌}
+use Rattle.mz_unification.specs.Steps.{◌>>=◌}
 use Rattle.std.specs.Prelude.{reverse}
 use Rattle.std.proofs.lemmas.List.{length-map, reverse-append}
 use Rattle.mz_unify.proofs.StoredIds.{items-in-both, still-in}
-use Rattle.mz_machine.specs.Tables.{Tables, signatures_in, State}
-use Rattle.mz_machine.specs.Premises.{pop_operands, operands_fit}
-use Rattle.mz_machine.specs.ProofMachine.{proof_row, built, push, saved}
+use Rattle.mz_soundness.specs.Tables.{Tables, signatures_in, State}
+use Rattle.mz_soundness.specs.Premises.{pop_operands, operands_fit}
+use Rattle.mz_soundness.specs.ProofMachine.{proof_row, built, push, saved}
 use Rattle.mz_machine.specs.Before.{Before, signatures_of, words_before}
-use Rattle.mz_machine.specs.FileRows.{term_of_file}
-use Rattle.mz_machine.proofs.Operands.{fits-from}
+use Rattle.mz_soundness.specs.FileRows.{term_of_file}
+use Rattle.mz_soundness.proofs.Operands.{fits-from}
 use Rattle.mz_machine.proofs.BeforeLaws.{length-words, words-at, signatures-before}
 use Rattle.mz_machine.proofs.FittingOperands.{binders-many}
 

@@ -13,13 +13,13 @@ use Rattle.mz_layout.specs.Tables.{term_row}
 use Rattle.mz_store.specs.Sharing.{Sharing, IsIn, IsOver, tree_of, head_of, operands_of}
 use Rattle.mz_store.specs.declared.item.Id.{Id}
 use Rattle.mz_store.specs.declared.item.Item.{Item as Kept}
-use Rattle.mz_unify.specs.Profile.{strict}
-use Rattle.mz_unify.specs.UnifyMachine.{in_definition, Matching, unify, unify_steps}
+use Rattle.mz_unification.specs.Profile.{strict}
+use Rattle.mz_unification.specs.UnifyMachine.{in_definition, Matching, unify, unify_steps}
 use Rattle.mz_unify.specs.Stored.{IsItemIn, AreItemsIn, item_at, items_at, trees_at, matching_at}
 use Rattle.mz_unify.proofs.StoredIds.{items-push}
 use Rattle.mz_unify.specs.declared.unified.UnifyMode.TheVariants.{Body}
-use Rattle.mz_machine.specs.Tables.{State}
-use Rattle.mz_machine.specs.ProofMachine.{stream_of}
+use Rattle.mz_soundness.specs.Tables.{State}
+use Rattle.mz_soundness.specs.ProofMachine.{stream_of}
 use Rattle.mz_machine.specs.OverStore.{UnlessMem}
 use Rattle.mz_machine.specs.declared.command.Stop.{Stop}
 use Rattle.mz_machine.specs.declared.command.Stop.TheVariants.{Rule, Mem}

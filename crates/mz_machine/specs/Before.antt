@@ -6,10 +6,10 @@ use Rattle.mz_logic.specs.Signature.{Signature}
 use Rattle.mz_logic.specs.Words.{TermWords}
 use Rattle.mz_logic.specs.declared.binder.SortMods.{SortMods}
 use Rattle.mz_layout.specs.Tables.{sort_count, term_count, thm_count, term_row, thm_row}
-use Rattle.mz_machine.specs.Tables.{Tables, signatures_in, Kind, is_axiom, is_theorem, is_definition, Heading}
-use Rattle.mz_machine.specs.Lists.{definition_of, assertion_of}
-use Rattle.mz_machine.specs.RowWords.{first_sorts, param_checks, word_checks}
-use Rattle.mz_machine.specs.FileRows.{Taken, term_of_file, thm_of_file, rows_taken}
+use Rattle.mz_soundness.specs.Tables.{Tables, signatures_in, Kind, is_axiom, is_theorem, is_definition, Heading}
+use Rattle.mz_soundness.specs.Lists.{definition_of, assertion_of}
+use Rattle.mz_soundness.specs.RowWords.{first_sorts, param_checks, word_checks}
+use Rattle.mz_soundness.specs.FileRows.{Taken, term_of_file, thm_of_file, rows_taken}
 use Rattle.mz_machine.specs.declared.earlier.Rows.{Rows}
 
 -- ---- rows before a statement

@@ -1,17 +1,3 @@
-pub mod Tables
-pub mod FreeVars
-pub mod Premises
-pub mod ProofMachine
-pub mod Bodies
-pub mod Facts
-pub mod Laws
-pub mod Sound
-pub mod Lists
-pub mod Gapped
-pub mod Examples
-pub mod Cases
-pub mod RowWords
-pub mod FileRows
 pub mod Before
 pub mod OverStore
 pub mod Steps
@@ -20,4 +6,3 @@ pub mod OperandRows
 pub mod Endings
 pub mod Stepping
 pub mod UnderwayCode
-pub mod WordsPass

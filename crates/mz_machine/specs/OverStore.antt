@@ -10,14 +10,14 @@ use Rattle.mz_store.specs.declared.item.Id.{Id}
 use Rattle.mz_store.specs.declared.item.Item.{Item as Kept}
 use Rattle.mz_store.specs.declared.item.DepsMode.{DepsMode}
 use Rattle.mz_store.specs.declared.item.DepsMode.TheVariants.{All, Free}
-use Rattle.mz_unify.specs.Profile.{Item}
+use Rattle.mz_unification.specs.Profile.{Item}
 use Rattle.mz_unify.specs.Stored.{trees_at, item_at, items_at, AreItemsIn}
-use Rattle.mz_machine.specs.Tables.{State, Kind, is_axiom, is_theorem, is_definition}
+use Rattle.mz_soundness.specs.Tables.{State, Kind, is_axiom, is_theorem, is_definition}
 use Rattle.mz_machine.specs.Before.{kind_at, heading_of, MayRun, tables_before}
-use Rattle.mz_machine.specs.Tables.{signatures_in}
-use Rattle.mz_unify.specs.Steps.{◌>>=◌}
-use Rattle.mz_unify.specs.Profile.{strict}
-use Rattle.mz_machine.specs.Premises.{pop_expr, pop_sides}
+use Rattle.mz_soundness.specs.Tables.{signatures_in}
+use Rattle.mz_unification.specs.Steps.{◌>>=◌}
+use Rattle.mz_unification.specs.Profile.{strict}
+use Rattle.mz_soundness.specs.Premises.{pop_expr, pop_sides}
 use Rattle.mz_cmd.specs.declared.code.ProofCode.{ProofCode}
 use Rattle.mz_cmd.specs.declared.code.ProofCode.TheVariants as code
 use Rattle.mz_machine.specs.declared.command.BodyKind.{BodyKind}

@@ -3,15 +3,15 @@ use Rattle.std.specs.Prelude.{◌≡◌, ℕ, ⊤, ◌+◌, ◌≤◌, ◌||◌,
 use Rattle.std.specs.List.{range_with_len}
 use Rattle.mz_cmd.specs.declared.command.Cmd.{Cmd}
 use Rattle.mz_cmd.specs.Codes.{proof_code}
-use Rattle.mz_unify.specs.Profile.{plain}
+use Rattle.mz_unification.specs.Profile.{plain}
 use Rattle.mz_logic.specs.Tree.{Tree}
 use Rattle.mz_logic.specs.declared.word.Word.{Word}
 use Rattle.mz_layout.specs.Tables.{term_row, thm_row}
 use Rattle.mz_store.specs.declared.item.Item.{Item as Kept}
 use Rattle.mz_store.specs.declared.item.Item.TheVariants.{Expr}
-use Rattle.mz_machine.specs.Tables.{State, Kind, is_axiom, is_theorem, is_definition}
-use Rattle.mz_machine.specs.ProofMachine.{proof_end}
-use Rattle.mz_machine.specs.Bodies.{body_command, body_start}
+use Rattle.mz_soundness.specs.Tables.{State, Kind, is_axiom, is_theorem, is_definition}
+use Rattle.mz_soundness.specs.ProofMachine.{proof_end}
+use Rattle.mz_soundness.specs.Bodies.{body_command, body_start}
 use Rattle.mz_machine.specs.Before.{heading_of}
 use Rattle.mz_machine.specs.Steps.{Underway, tables_for, heading_for, row_of, is_sorry, TakesNone}
 use Rattle.mz_machine.specs.BodyAnswers.{CountsOf}

@@ -6,11 +6,11 @@ use Rattle.mz_cmd.specs.declared.command.Cmd.{Cmd}
 use Rattle.mz_cmd.specs.declared.code.ProofCode.{ProofCode}
 use Rattle.mz_cmd.specs.declared.code.ProofCode.TheVariants as code
 use Rattle.mz_logic.specs.Tree.{Tree}
-use Rattle.mz_unify.specs.Profile.{plain, Item}
-use Rattle.mz_machine.specs.Tables.{Tables, State, Heading}
-use Rattle.mz_machine.specs.Premises.{is_conversion}
-use Rattle.mz_machine.specs.ProofMachine.{proof_row, ends_with}
-use Rattle.mz_machine.specs.Bodies.{BodyCommand, ends, proves, body_command, row_steps, match_steps}
+use Rattle.mz_unification.specs.Profile.{plain, Item}
+use Rattle.mz_soundness.specs.Tables.{Tables, State, Heading}
+use Rattle.mz_soundness.specs.Premises.{is_conversion}
+use Rattle.mz_soundness.specs.ProofMachine.{proof_row, ends_with}
+use Rattle.mz_soundness.specs.Bodies.{BodyCommand, ends, proves, body_command, row_steps, match_steps}
 use Rattle.mz_machine.specs.Before.{heading_of, tables_before}
 use Rattle.mz_machine.specs.declared.earlier.Rows.{Rows}
 

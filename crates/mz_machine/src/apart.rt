@@ -8,8 +8,8 @@ ghost use Rattle.mz_logic.specs.declared.binder.Binder.{Binder};
 ghost use Rattle.mz_store.specs.Sharing.{IsIn, AreIn, IsOver, tree_of};
 ghost use Rattle.mz_store.specs.declared.item.DepsMode.TheVariants.{All};
 ghost use Rattle.mz_unify.specs.Stored.{trees_at};
-ghost use Rattle.mz_unify.specs.Tests.{is_bound_var, var_within};
-ghost use Rattle.mz_machine.specs.Premises.{operands_fit, apart_from, are_apart};
+ghost use Rattle.mz_unification.specs.Tests.{is_bound_var, var_within};
+ghost use Rattle.mz_soundness.specs.Premises.{operands_fit, apart_from, are_apart};
 ghost use Rattle.mz_machine.specs.Before.{signatures_of};
 ghost use Rattle.mz_machine.specs.OperandRows.{IsBefore, params_of};
 

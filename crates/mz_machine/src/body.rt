@@ -1,10 +1,10 @@
 //! A whole body, read in place.
 ghost use Rattle.std.specs.Prelude.{◌≡◌, ◌≤◌, ◌<◌, ◌^◌, ◌+◌, ◌-◌, ◌*◌, false, length};
 ghost use Rattle.mz_mode.specs.Gaps.{gaps_of};
-ghost use Rattle.mz_unify.specs.Profile.{plain};
-ghost use Rattle.mz_machine.specs.Bodies.{body_run, body_steps, body_from, body_steps_from};
+ghost use Rattle.mz_unification.specs.Profile.{plain};
+ghost use Rattle.mz_soundness.specs.Bodies.{body_run, body_steps, body_from, body_steps_from};
 ghost use Rattle.mz_machine.specs.Steps.{heading_for, tables_for};
-ghost use Rattle.mz_machine.specs.FileRows.{body_bytes};
+ghost use Rattle.mz_soundness.specs.FileRows.{body_bytes};
 ghost use Rattle.mz_machine.specs.Before.{MayRun, heading_of, tables_before};
 ghost use Rattle.mz_machine.specs.BodyAnswers.{IsBodyRun, UnlessMem};
 ghost use Rattle.mz_machine.specs.Stepping.{ended_at};

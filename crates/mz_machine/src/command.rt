@@ -1,7 +1,7 @@
 //! The commands of a body.
 ghost use Rattle.std.specs.Prelude.{ℕ, ◌≡◌, IfSome, IfNone, Some, None};
-ghost use Rattle.mz_unify.specs.Profile.{strict};
-ghost use Rattle.mz_machine.specs.Bodies.{stands_in, body_command, proves};
+ghost use Rattle.mz_unification.specs.Profile.{strict};
+ghost use Rattle.mz_soundness.specs.Bodies.{stands_in, body_command, proves};
 ghost use Rattle.mz_machine.specs.Before.{kind_at};
 ghost use Rattle.mz_machine.specs.OverStore.{kind_of, code_of};
 

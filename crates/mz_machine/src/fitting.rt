@@ -6,7 +6,7 @@ ghost use Rattle.mz_logic.specs.Words.{binders_of, word_bound, word_sort};
 ghost use Rattle.mz_logic.specs.declared.binder.Binder.{Binder};
 ghost use Rattle.mz_store.specs.Sharing.{IsIn, AreIn, IsOver, tree_of};
 ghost use Rattle.mz_unify.specs.Stored.{items_at, trees_at, AreItemsIn};
-ghost use Rattle.mz_machine.specs.Premises.{pop_operands, operands_fit};
+ghost use Rattle.mz_soundness.specs.Premises.{pop_operands, operands_fit};
 ghost use Rattle.mz_machine.specs.Before.{signatures_of};
 ghost use Rattle.mz_machine.specs.OperandRows.{IsBefore, params_of};
 ghost use Rattle.mz_machine.specs.OverStore.{Gives, GivesRule};

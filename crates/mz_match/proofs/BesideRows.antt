@@ -15,7 +15,7 @@ use Rattle.mz_layout.specs.Tables.{term_row}
 use Rattle.mz_binary.specs.Laws.{is_defined}
 use Rattle.mz_match.specs.declared.rule.M.TheVariants as rules
 use Rattle.mz_match.specs.Match.{form_checks}
-use Rattle.mz_unify.specs.Spells.{Marks, trees_of}
+use Rattle.mz_unification.specs.Spells.{Marks, trees_of}
 use Rattle.mz_match.specs.declared.compare.Sides.{Sides}
 use Rattle.mz_match.specs.Trees.{SameTrees, SameBody}
 use Rattle.mz_match.specs.TellsRow.{SaysFirst, SaysForm, SaysClaims, IsTermRow}

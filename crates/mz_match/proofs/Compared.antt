@@ -9,7 +9,7 @@ use Rattle.mz_logic.specs.Tree.{Tree, Trees, var, app, none, more, listed}
 use Rattle.mz_logic.specs.declared.expr.Expr.{Expr}
 use Rattle.mz_logic.specs.View.{tree, trees}
 use Rattle.mz_layout.specs.Tables.{term_row}
-use Rattle.mz_unify.specs.Spells.{Marks, dummy_of}
+use Rattle.mz_unification.specs.Spells.{Marks, dummy_of}
 use Rattle.mz_match.specs.declared.stream.Step.{Step}
 use Rattle.mz_match.specs.declared.stream.Cursor.{Cursor}
 use Rattle.mz_match.specs.Streams.{step_at, Says, HasArity, IsSaid, AreSaid, IsMade, IsMarkAt, AreMarks}

@@ -22,30 +22,30 @@ use Rattle.mz_logic.specs.Words.{binders_from, binders_of, word_bound}
 use Rattle.mz_logic.specs.declared.binder.Binder.{Binder}
 use Rattle.mz_logic.specs.declared.word.Word.{Word}
 use Rattle.mz_layout.specs.Tables.{list_at, term_row}
-use Rattle.mz_unify.specs.Steps.{◌>>◌, need, at_place, Turn, over, goes_on, follow}
-use Rattle.mz_unify.specs.Streams.{of_definition}
-use Rattle.mz_unify.specs.Spells.{trees_of, dummy_of, variables_from, SpellsForm}
-use Rattle.mz_unify.specs.Profile.{plain, strict, Item, expr, proof, obligation, conversion}
-use Rattle.mz_unify.specs.Sorted.{Sorted, ItemsSorted}
-use Rattle.mz_unify.specs.UnifyMachine.{in_definition, is_empty}
-use Rattle.mz_unify.proofs.Inverting.{from_bind, from_need, from_want, taken, taken-is, place-ok}
-use Rattle.mz_unify.proofs.Spelled.{place_from, renamed}
-use Rattle.mz_unify.proofs.OwnStream.{definition-spelled}
-use Rattle.mz_unify.proofs.Unfolding.{unfolding-is}
-use Rattle.mz_unify.proofs.OneSpelling.{one-text}
-use Rattle.mz_machine.specs.Tables.{Tables, signatures_in, State, Kind, is_definition, Heading, Declares}
+use Rattle.mz_unification.specs.Steps.{◌>>◌, need, at_place, Turn, over, goes_on, follow}
+use Rattle.mz_unification.specs.Streams.{of_definition}
+use Rattle.mz_unification.specs.Spells.{trees_of, dummy_of, variables_from, SpellsForm}
+use Rattle.mz_unification.specs.Profile.{plain, strict, Item, expr, proof, obligation, conversion}
+use Rattle.mz_unification.specs.Sorted.{Sorted, ItemsSorted}
+use Rattle.mz_unification.specs.UnifyMachine.{in_definition, is_empty}
+use Rattle.mz_unification.proofs.Inverting.{from_bind, from_need, from_want, taken, taken-is, place-ok}
+use Rattle.mz_unification.proofs.Spelled.{place_from, renamed}
+use Rattle.mz_unification.proofs.OwnStream.{definition-spelled}
+use Rattle.mz_unification.proofs.Unfolding.{unfolding-is}
+use Rattle.mz_unification.proofs.OneSpelling.{one-text}
+use Rattle.mz_soundness.specs.Tables.{Tables, signatures_in, State, Kind, is_definition, Heading, Declares}
 use Rattle.mz_logic.specs.Legality.{sort_of}
-use Rattle.mz_machine.specs.FreeVars.{free_within}
-use Rattle.mz_machine.specs.Premises.{bound_count, pop, pop_obligation, is_obligation, may_be_dummy_sort}
-use Rattle.mz_machine.specs.RowWords.{bound_count as bound_words, word_checks}
-use Rattle.mz_machine.specs.Lists.{definition_of}
-use Rattle.mz_machine.specs.FileRows.{taken_by, rows_taken, term_of_file, body_bytes}
-use Rattle.mz_machine.specs.ProofMachine.{ends_with, matched_by, built, referred, proof_row, proof_end, last_item, ending, own_stream}
-use Rattle.mz_machine.specs.Bodies.{BodyCommand, ends, proves, stands_in, if_allowed, body_command, body_turn, body_turn_by, body_from, body_start, Runs}
-use Rattle.mz_machine.proofs.Outcomes.{bodies-checked}
-use Rattle.mz_machine.proofs.WholeBody.{body-fact}
-use Rattle.mz_machine.proofs.Assertions.{end-ran, own-run}
-use Rattle.mz_machine.proofs.RightWords.{right-words}
+use Rattle.mz_soundness.specs.FreeVars.{free_within}
+use Rattle.mz_soundness.specs.Premises.{bound_count, pop, pop_obligation, is_obligation, may_be_dummy_sort}
+use Rattle.mz_soundness.specs.RowWords.{bound_count as bound_words, word_checks}
+use Rattle.mz_soundness.specs.Lists.{definition_of}
+use Rattle.mz_soundness.specs.FileRows.{taken_by, rows_taken, term_of_file, body_bytes}
+use Rattle.mz_soundness.specs.ProofMachine.{ends_with, matched_by, built, referred, proof_row, proof_end, last_item, ending, own_stream}
+use Rattle.mz_soundness.specs.Bodies.{BodyCommand, ends, proves, stands_in, if_allowed, body_command, body_turn, body_turn_by, body_from, body_start, Runs}
+use Rattle.mz_soundness.proofs.Outcomes.{bodies-checked}
+use Rattle.mz_soundness.proofs.WholeBody.{body-fact}
+use Rattle.mz_soundness.proofs.Assertions.{end-ran, own-run}
+use Rattle.mz_soundness.proofs.RightWords.{right-words}
 use Rattle.mz_binary.specs.Chains.{IsGoodStatement, GoodTo}
 use Rattle.mz_binary.specs.Checking.{checks_of, kind_checks, term_checks, term_body_checks}
 use Rattle.mz_binary.specs.Laws.{HasRow}

@@ -4,6 +4,7 @@ mod FewDummies
 mod ToldRows
 mod SaidStreams
 mod PlainTrees
+pub mod OwnBodies
 mod Renaming
 mod Compared
 mod Steps

@@ -11,7 +11,7 @@ use Rattle.mz_layout.specs.Layout.{Layout}
 use Rattle.mz_layout.specs.Tables.{list_at}
 use Rattle.mz_layout.proofs.Parts.{parts-of_layout}
 use Rattle.mz_binary.specs.declared.statement.Statement.{Statement as Told}
-use Rattle.mz_machine.specs.FileRows.{taken_by}
+use Rattle.mz_soundness.specs.FileRows.{taken_by}
 use Rattle.mz_binary.specs.Checking.{AllTaken, checks_of}
 use Rattle.mz_binary.specs.Chains.{IsGoodStatement, GoodTo}
 use Rattle.mz_binary.specs.Good.{Good, FailsAfter}

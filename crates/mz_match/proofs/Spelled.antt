@@ -7,7 +7,7 @@ use Rattle.std.proofs.lemmas.Bool.{eq-eqb, ne_eqb}
 use Rattle.mz_logic.specs.declared.binder.Binder.{Binder}
 use Rattle.mz_logic.specs.declared.word.Word.{Word}
 use Rattle.mz_logic.specs.Words.{word_bound, bound_places, places_set, binder_of, binders_from}
-use Rattle.mz_machine.specs.RowWords.{bound_count}
+use Rattle.mz_soundness.specs.RowWords.{bound_count}
 
 -- the element at hand, and what is left behind it
 left-at : {X : Type 0} → (xs : List X) (i : ℕ) (x : X) → i < length xs → x ≡ get_or xs i x → drop i xs ≡ x ∷ drop (i + 1) xs

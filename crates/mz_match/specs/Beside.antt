@@ -1,7 +1,7 @@
 -- A unify stream of a binary beside expressions of a specification.
 use Rattle.std.specs.Prelude.{◌≡◌, ◌≤◌, List, [], length}
 use Rattle.mz_logic.specs.Tree.{Tree, Trees}
-use Rattle.mz_unify.specs.Spells.{Marks}
+use Rattle.mz_unification.specs.Spells.{Marks}
 use Rattle.mz_match.specs.declared.compare.Sides.{Sides}
 use Rattle.mz_match.specs.declared.stream.Cursor.{Cursor}
 use Rattle.mz_match.specs.Streams.{IsSaid, AreSaid, IsMade, AreMarks, HypsAreSaid}

@@ -4,7 +4,7 @@ ghost use Rattle.std.specs.Prelude.{◌≡◌, ◌≤◌, ◌<◌, ◌^◌, ◌�
 ghost use Rattle.mz_logic.specs.Tree.{Tree, Trees, listed, var};
 ghost use Rattle.mz_logic.specs.View.{tree};
 ghost use Rattle.mz_layout.specs.Tables.{term_count, term_row};
-ghost use Rattle.mz_unify.specs.Spells.{Marks, trees_of};
+ghost use Rattle.mz_unification.specs.Spells.{Marks, trees_of};
 ghost use Rattle.mz_match.specs.Trees.{SameBody, SameTree, SameTrees};
 ghost use Rattle.mz_match.specs.Comparing.{all_none, Answers, all_compared, compared, dummy_compared, has_sort as sort_lem, is_taken as taken_lem, is_number as number_lem, makes_term as term_lem, paired};
 ghost use Rattle.mz_match.specs.Beside.{AllSaidAt, at_start, HypsSaidAt, IsPlainStream, IsStream, MadeAt, SaidAt, beside};

@@ -19,7 +19,7 @@ use Rattle.mz_notation.specs.Clear.{HasConstant}
 use Rattle.mz_math.specs.Grammar.{Words, Exp, IsVariable, IsNamed, IsSomeConstant, IsKnown}
 use Rattle.mz_notation.specs.Kept.{IsTable, AreVariables}
 use Rattle.mz_math.specs.Meaning.{Wanted, Coerced, IsClaimed, height}
-use Rattle.mz_notation.specs.Coercions.{IsPath, wrapped}
+use Rattle.mz_coercions.specs.Coercions.{IsPath, wrapped}
 use Rattle.mz_math.specs.Formula.{Reader, words, most, StandsFor, Means, Misreading, is_known, known_checks, token_checks, formula_checks, IsFormula, Misreads}
 use Rattle.mz_tokens.specs.Answers.{EndsAt, IsWhole}
 use Rattle.mz_math.specs.Answers.{settled}

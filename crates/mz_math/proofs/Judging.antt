@@ -11,13 +11,13 @@ use Rattle.std.specs.Prelude.{IfSome, MatchOption, slice_get}
 use Rattle.mz_logic.specs.declared.binder.Binder.{Binder}
 use Rattle.mz_tokens.specs.Pieces.{Pieces, piece_texts}
 use Rattle.mz_tokens.specs.declared.pieces.Piece.{Piece}
-use Rattle.mz_notation.specs.declared.coercion.Coercion.{Coercion}
-use Rattle.mz_notation.specs.Coercions.{IsPath, OnePath, Reaches, wrapped}
+use Rattle.mz_coercions.specs.declared.coercion.Coercion.{Coercion}
+use Rattle.mz_coercions.specs.Coercions.{IsPath, OnePath, Reaches, wrapped}
 use Rattle.mz_math.specs.Grammar.{Exp, tree_of}
 use Rattle.mz_math.specs.Meaning.{Wanted, provable, of_sort, Coerced, IsSettled, IsClaimed, IsGoal, height}
 use Rattle.mz_notation.specs.Kept.{IsTable, AreVariables}
 use Rattle.mz_math.specs.Formula.{Reader, words, most, StandsFor, Means, Misreading, breaks, token_checks, known_checks, Misreads, IsParsed}
-use Rattle.mz_notation.specs.Answers.{HasLength}
+use Rattle.mz_coercions.specs.Answers.{HasLength}
 use Rattle.mz_math.specs.Answers.{settled, IsMeant, IsJudged, IsFirstUnknown, IsClaimRead}
 use Rattle.mz_math.specs.declared.formula.Parsed.{Parsed}
 use Rattle.mz_math.specs.declared.formula.Parsed.TheVariants as parsed
@@ -25,7 +25,7 @@ use Rattle.mz_math.proofs.Unique.{one-expression}
 use Rattle.mz_math.proofs.Readable.{table-readable}
 use Rattle.mz_math.proofs.OneMeaning.{coerced-one}
 use Rattle.mz_math.proofs.Meanings.{wrapped-height}
-use Rattle.mz_notation.proofs.Paths.{length-one, path-reaches, last-end}
+use Rattle.mz_coercions.proofs.Paths.{length-one, path-reaches, last-end}
 
 -- ---- before the whole's own rule
 

@@ -9,13 +9,13 @@ use Rattle.mz_logic.specs.Signature.{Signature}
 use Rattle.mz_logic.specs.Sorts.{IsBoundVar}
 use Rattle.mz_logic.specs.declared.binder.Binder.{Binder}
 use Rattle.mz_logic.specs.declared.expr.Expr.{Expr}
-use Rattle.mz_notation.specs.declared.coercion.Coercion.{Coercion}
-use Rattle.mz_notation.specs.Coercions.{IsPath, OnePath, wrapped}
+use Rattle.mz_coercions.specs.declared.coercion.Coercion.{Coercion}
+use Rattle.mz_coercions.specs.Coercions.{IsPath, OnePath, wrapped}
 use Rattle.mz_math.specs.Meaning.{Coerced, CoercedAll, height, trees_height}
 use Rattle.mz_math.specs.Answers.{FitsParam}
-use Rattle.mz_notation.specs.Answers.{HasLength}
+use Rattle.mz_coercions.specs.Answers.{HasLength}
 use Rattle.mz_math.proofs.OneMeaning.{coerced-one, coerced-all}
-use Rattle.mz_notation.proofs.Paths.{length-one}
+use Rattle.mz_coercions.proofs.Paths.{length-one}
 use Rattle.mz_math.proofs.TreeLists.{followed_by_push}
 
 some-same : {A : Type 0} {x y : A} → Some x ≡ Some y → x ≡ y

@@ -10,11 +10,11 @@ use Rattle.mz_logic.specs.Modifiers.{MayBeClaimSort, IsProvable}
 use Rattle.mz_logic.specs.Sorts.{IsBoundVar}
 use Rattle.mz_logic.specs.declared.binder.Binder.{Binder}
 use Rattle.mz_logic.specs.declared.binder.SortMods.{SortMods}
-use Rattle.mz_notation.specs.declared.coercion.Coercion.{Coercion}
-use Rattle.mz_notation.specs.Coercions.{IsPath, OnePath, Reaches, wrapped}
+use Rattle.mz_coercions.specs.declared.coercion.Coercion.{Coercion}
+use Rattle.mz_coercions.specs.Coercions.{IsPath, OnePath, Reaches, wrapped}
 use Rattle.mz_math.specs.Meaning.{Wanted, provable, of_sort, Coerced, CoercedAll, IsClaimed, IsGoal}
 use Rattle.mz_math.specs.Answers.{FitsParam}
-use Rattle.mz_notation.proofs.Paths.{never-reach, path-reaches, last-end}
+use Rattle.mz_coercions.proofs.Paths.{never-reach, path-reaches, last-end}
 use Rattle.mz_math.proofs.Meanings.{fits-regular, fits-never, fits-other, fits-bound, all-cons, cons-all, app-coerced, coerced-app}
 use Rattle.mz_math.proofs.Deciding.{Decided, found, not-decided, equal-decided, some-decided, true-decided}
 

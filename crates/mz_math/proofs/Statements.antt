@@ -10,14 +10,14 @@ use Rattle.mz_tokens.specs.Pieces.{no_delimiters, Pieces, piece_texts, AreCharac
 use Rattle.mz_tokens.specs.declared.pieces.Delimiters.{Delimiters}
 use Rattle.mz_tokens.specs.declared.pieces.Piece.{Piece}
 use Rattle.mz_notation.specs.Notation.{Table}
-use Rattle.mz_notation.specs.declared.coercion.Coercion.{Coercion}
-use Rattle.mz_notation.specs.Coercions.{IsPath, OnePath}
+use Rattle.mz_coercions.specs.declared.coercion.Coercion.{Coercion}
+use Rattle.mz_coercions.specs.Coercions.{IsPath, OnePath}
 use Rattle.mz_notation.specs.Kept.{IsTable}
 use Rattle.mz_notation.specs.Forms.{IsCoercion, coercion_checks, delimiter_checks}
 use Rattle.mz_notation.specs.declared.table.NoteFault.{NoteFault}
-use Rattle.mz_notation.specs.Answers.{MayStart, MayEnd, IsClashAt}
+use Rattle.mz_coercions.specs.Answers.{MayStart, MayEnd, IsClashAt}
 use Rattle.mz_tokens.proofs.Cutting.{pieces-one}
-use Rattle.mz_notation.proofs.Paths.{stays-one, clash-two, clash-parts, clash-made}
+use Rattle.mz_coercions.proofs.Paths.{stays-one, clash-two, clash-parts, clash-made}
 use Rattle.mz_math.proofs.Deciding.{Decided, found, equal-decided, some-decided, true-decided}
 use Rattle.mz_math.proofs.Standing.{path-decided}
 use Rattle.mz_math.proofs.Existing.{some-pieces}

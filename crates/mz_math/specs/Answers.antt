@@ -11,8 +11,8 @@ use Rattle.mz_logic.specs.declared.binder.Binder.{Binder}
 use Rattle.mz_tokens.specs.declared.pieces.Piece.{Piece}
 use Rattle.mz_notation.specs.Notation.{above}
 use Rattle.mz_notation.specs.declared.notation.Notation.{Notation}
-use Rattle.mz_notation.specs.declared.coercion.Coercion.{Coercion}
-use Rattle.mz_notation.specs.Coercions.{IsPath, wrapped}
+use Rattle.mz_coercions.specs.declared.coercion.Coercion.{Coercion}
+use Rattle.mz_coercions.specs.Coercions.{IsPath, wrapped}
 use Rattle.mz_math.specs.Grammar.{Words, Item, Exp}
 use Rattle.mz_math.specs.Reading.{IsRead, NoReading, IsBegun, ArePartsRead, NoParts}
 use Rattle.mz_math.specs.Meaning.{Wanted, provable, of_sort, Coerced, CoercedAll, IsClaimed, height, trees_height}

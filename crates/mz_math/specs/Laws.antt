@@ -10,9 +10,9 @@ use Rattle.mz_tokens.specs.declared.pieces.Piece.{Piece}
 use Rattle.mz_notation.specs.Notation.{Table, empty_table, with_notation, with_name, with_coercion, with_delimiters}
 use Rattle.mz_notation.specs.declared.notation.Notation.{Notation}
 use Rattle.mz_notation.specs.declared.table.TermName.{TermName}
-use Rattle.mz_notation.specs.declared.coercion.Coercion.{Coercion}
+use Rattle.mz_coercions.specs.declared.coercion.Coercion.{Coercion}
 use Rattle.mz_notation.specs.Clear.{IsClear}
-use Rattle.mz_notation.specs.Coercions.{OnePath}
+use Rattle.mz_coercions.specs.Coercions.{OnePath}
 use Rattle.mz_math.specs.Grammar.{words_of, Exp}
 use Rattle.mz_notation.specs.Kept.{IsTable, AreVariables}
 use Rattle.mz_math.specs.Meaning.{Wanted}

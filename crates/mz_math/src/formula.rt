@@ -4,7 +4,7 @@ ghost use Rattle.mz_logic.specs.Declaration.{sorts};
 ghost use Rattle.mz_logic.specs.Modifiers.{MayBeClaimSort};
 ghost use Rattle.mz_logic.specs.View.{tree};
 ghost use Rattle.mz_math.specs.Answers.{IsClaimRead, IsFirstUnknown, IsJudged, settled};
-ghost use Rattle.mz_notation.specs.Coercions.{IsPath, OnePath, Reaches};
+ghost use Rattle.mz_coercions.specs.Coercions.{IsPath, OnePath, Reaches};
 ghost use Rattle.mz_math.specs.Formula.{IsParsed};
 ghost use Rattle.mz_math.specs.Meaning.{IsGoal};
 ghost use Rattle.mz_notation.specs.Kept.{AreVariables};
@@ -12,9 +12,10 @@ ghost use Rattle.mz_notation.specs.Kept.{AreVariables};
 use crate::meaning::{Built, build, sort_of};
 use crate::parser::{Syntax, parse};
 use crate::words::Vocabulary;
+use mz_coercions::{Coercions, distance, wrap};
 use mz_lex::S;
 use mz_logic::{Context, Env, Expr};
-use mz_notation::{Coercion, Notations, Scope, distance, wrap};
+use mz_notation::{Notations, Scope};
 use mz_tokens::{Piece, Tokens};
 use std::alloc::Global;
 
@@ -116,7 +117,7 @@ fn meaning_of(
         return refused(S::NoCoercion);
     };
     let goal = settled_sort(wanted, sort);
-    let Some(many) = distance(coercions, sort, goal, coercions.len()) else {
+    let Some(many) = distance(coercions, sort, goal) else {
         return refused(S::NoCoercion);
     };
     if many > MOST {
@@ -125,7 +126,7 @@ fn meaning_of(
     match build(alloc, env, coercions, ctx, syntax, MOST - many) {
         Built::Mem => Parsed::Mem,
         Built::High => refused(S::Depth),
-        Built::Tree(expr) => match wrap(alloc, coercions, sort, goal, coercions.len(), expr) {
+        Built::Tree(expr) => match wrap(alloc, coercions, sort, goal, expr) {
             Err(_) => Parsed::Mem,
             Ok(expr) => claimed(alloc, env, coercions, sort, expr, wanted),
         },
@@ -146,7 +147,7 @@ fn settled_sort(wanted: Wanted, sort: u32) -> u32
 fn claimed(
     alloc: Global,
     env: &Env,
-    coercions: &[Coercion],
+    coercions: &Coercions,
     sort: u32,
     expr: Expr,
     wanted: Wanted,
@@ -158,7 +159,7 @@ fn claimed(
         Wanted::Sort(_) => Parsed::Tree(expr),
         Wanted::Provable => match goal_of(env, coercions, sort) {
             None => refused(S::NotProvable),
-            Some(goal) => match wrap(alloc, coercions, sort, goal, coercions.len(), expr) {
+            Some(goal) => match wrap(alloc, coercions, sort, goal, expr) {
                 Err(_) => Parsed::Mem,
                 Ok(expr) => Parsed::Tree(expr),
             },
@@ -176,7 +177,7 @@ fn is_provable(env: &Env, sort: u32) -> bool
 }
 
 /// The provable sort for which an expression of a sort stands, if there is one.
-fn goal_of(env: &Env, coercions: &[Coercion], sort: u32) -> Option<u32>
+fn goal_of(env: &Env, coercions: &Coercions, sort: u32) -> Option<u32>
     requires { OnePath coercions.now }
     ensures { MatchOption result ((goal : ℕ) (path : List ℕ) → IsGoal env.now coercions.now sort goal → IsPath coercions.now sort path goal → ⊥)
         (λ goal. IsGoal env.now coercions.now sort goal × Reaches coercions.now (length coercions.now) sort goal) }
@@ -185,9 +186,10 @@ fn goal_of(env: &Env, coercions: &[Coercion], sort: u32) -> Option<u32>
         return Some(sort);
     }
     let mut found = None;
-    'coercions: for i in 0..coercions.len() {
-        let to = coercions[i].to;
-        if is_provable(env, to) && distance(coercions, sort, to, coercions.len()).is_some() {
+    let items = coercions.as_slice();
+    'coercions: for i in 0..items.len() {
+        let to = items[i].to;
+        if is_provable(env, to) && distance(coercions, sort, to).is_some() {
             if is_other(found, to) {
                 return None;
             }

@@ -4,11 +4,11 @@ ghost use Rattle.mz_logic.specs.Declaration.{signatures};
 ghost use Rattle.mz_logic.specs.Tree.{Tree, Trees};
 ghost use Rattle.mz_logic.specs.View.{tree as tree_lem};
 ghost use Rattle.mz_math.specs.Answers.{FitsParam, IsBuilt, AreBuilt, IsOperandBuilt};
-ghost use Rattle.mz_notation.specs.Coercions.{OnePath};
+ghost use Rattle.mz_coercions.specs.Coercions.{OnePath};
 ghost use Rattle.mz_math.specs.Meaning.{Coerced, CoercedAll};
 
+use mz_coercions::{Coercions, distance, reaches, wrap};
 use mz_logic::{Binder, Context, Env, Expr, Exprs, is_bound_var};
-use mz_notation::{Coercion, distance, reaches, wrap};
 use std::alloc::Global;
 
 /// An expression, where it isn't too high.
@@ -29,7 +29,7 @@ pub enum BuiltAll {
 
 /// The sort of a tree whose operands can be wrapped to their parameters' sorts.
 #[cycle(sort_of)]
-pub fn sort_of(env: &Env, coercions: &[Coercion], ctx: &Context<'_>, tree: &Expr) -> Option<u32>
+pub fn sort_of(env: &Env, coercions: &Coercions, ctx: &Context<'_>, tree: &Expr) -> Option<u32>
     requires { OnePath coercions.now }
     ensures { MatchOption result ((e : Tree) (s : ℕ) → Coerced (signatures env.now) coercions.now ctx.now (tree_lem tree.now) e s → ⊥)
         (λ s. (e : Tree) × Coerced (signatures env.now) coercions.now ctx.now (tree_lem tree.now) e s) }
@@ -56,7 +56,7 @@ pub fn sort_of(env: &Env, coercions: &[Coercion], ctx: &Context<'_>, tree: &Expr
 #[cycle(sort_of)]
 fn all_fit(
     env: &Env,
-    coercions: &[Coercion],
+    coercions: &Coercions,
     ctx: &Context<'_>,
     operands: &Exprs,
     params: &[Binder],
@@ -78,13 +78,7 @@ fn all_fit(
 
 /// Whether an operand can be wrapped to its parameter's sort.
 #[cycle(sort_of)]
-fn fits(
-    env: &Env,
-    coercions: &[Coercion],
-    ctx: &Context<'_>,
-    operand: &Expr,
-    param: &Binder,
-) -> bool
+fn fits(env: &Env, coercions: &Coercions, ctx: &Context<'_>, operand: &Expr, param: &Binder) -> bool
     requires { OnePath coercions.now }
     ensures { IsTrue result ↔ ((f : Tree) × FitsParam (signatures env.now) coercions.now ctx.now (tree_lem operand.now) param.now f) }
 {
@@ -105,7 +99,7 @@ fn fits(
 pub fn build(
     alloc: Global,
     env: &Env,
-    coercions: &[Coercion],
+    coercions: &Coercions,
     ctx: &Context<'_>,
     tree: &Expr,
     most: usize,
@@ -143,7 +137,7 @@ pub fn build(
 fn build_all(
     alloc: Global,
     env: &Env,
-    coercions: &[Coercion],
+    coercions: &Coercions,
     ctx: &Context<'_>,
     operands: &Exprs,
     params: &[Binder],
@@ -174,7 +168,7 @@ fn build_all(
 fn build_operand(
     alloc: Global,
     env: &Env,
-    coercions: &[Coercion],
+    coercions: &Coercions,
     ctx: &Context<'_>,
     operand: &Expr,
     param: &Binder,
@@ -185,14 +179,14 @@ fn build_operand(
     ensures { IsOperandBuilt (signatures env.now) coercions.now ctx.now (tree_lem operand.now) param.now most result }
 {
     let sort = head_sort(env, coercions, ctx, operand);
-    let Some(many) = distance(coercions, sort, param.sort, coercions.len()) else {
+    let Some(many) = distance(coercions, sort, param.sort) else {
         unreachable!()
     };
     if many > most {
         return Built::High;
     }
     match build(alloc, env, coercions, ctx, operand, most - many) {
-        Built::Tree(expr) => match wrap(alloc, coercions, sort, param.sort, coercions.len(), expr) {
+        Built::Tree(expr) => match wrap(alloc, coercions, sort, param.sort, expr) {
             Ok(expr) => Built::Tree(expr),
             Err(_) => Built::Mem,
         },
@@ -202,7 +196,7 @@ fn build_operand(
 }
 
 /// The sort of a tree that has one.
-fn head_sort(env: &Env, coercions: &[Coercion], ctx: &Context<'_>, tree: &Expr) -> u32
+fn head_sort(env: &Env, coercions: &Coercions, ctx: &Context<'_>, tree: &Expr) -> u32
     requires { (e : Tree) × (s : ℕ) × Coerced (signatures env.now) coercions.now ctx.now (tree_lem tree.now) e s }
     ensures { (e : Tree) (s : ℕ) → Coerced (signatures env.now) coercions.now ctx.now (tree_lem tree.now) e s → result ≡ s }
 {

@@ -1,7 +1,6 @@
 pub mod Spotting
 pub mod Constants
 pub mod Clearing
-pub mod Paths
 pub mod Literals
 pub mod Tables
 pub mod Naming

@@ -1,14 +1,13 @@
 -- Tables: what each statement keeps of them.
 use Rattle.std.proofs.Common.{◌≡◌, ◌≢◌, ◌⊎◌, ◌++◌, ◌∙◌, ℕ, zero, suc, List, [], ◌∷◌, length, Bool, true, false, Some, None, Option, slice_get, ap, ap₂, sym, refl, subst, inl, inr, arith, Contains, Result, Ok, Err}
 use Rattle.std.specs.Prelude.{codes, IsTrue, MatchBool, slice_range, ◌+◌, OnOk, OnErr, if◌then◌else◌}
-use Rattle.std.proofs.lemmas.Bool.{false≢true}
 use Rattle.mz_lex.specs.Kinds.{is_name}
 use Rattle.mz_logic.specs.Signature.{Signature}
 use Rattle.mz_tokens.specs.Pieces.{piece_text, no_delimiters, AreDelimiters}
 use Rattle.mz_tokens.specs.declared.pieces.Delimiters.{Delimiters}
 use Rattle.mz_notation.specs.Notation.{level_of, Element, fixed, slot, slots, Notation, TermName, Coercion, Table, empty_table, begins_with_slot, with_delimiters, with_leading, with_infix, with_notation, with_name, with_coercion, infixed, prefixed}
 use Rattle.mz_notation.specs.Clear.{HasConstant, LedBy, JoinedBy, IsClear}
-use Rattle.mz_notation.specs.Coercions.{OnePath}
+use Rattle.mz_coercions.specs.Coercions.{OnePath}
 use Rattle.mz_notation.specs.Kept.{AreDistinct, IsTable, AreVariables}
 use Rattle.mz_tokens.specs.Pieces.{IsConstant}
 use Rattle.mz_notation.specs.Forms.{IsInfix, IsPrefix, IsElement, AreElements, IsGeneral, General, Begins, Literal, constant, name, Tail, NoteFault, notation_checks, delimiter_checks, IsAnswer, AddsNotation}

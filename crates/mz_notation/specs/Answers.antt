@@ -1,11 +1,10 @@
--- What the calls within the crate answer, and those on paths of coercions.
-use Rattle.std.specs.Prelude.{◌≡◌, ◌≢◌, ◌≤◌, ◌<◌, ◌-◌, ◌++◌, ⊤, ℕ, List, [], ◌∷◌, Some, slice_get, Contains, length, MatchBool, codes}
+-- What the calls within the crate answer.
+use Rattle.std.specs.Prelude.{◌≡◌, ◌≢◌, ⊤, ℕ, List, Contains, length, MatchBool, codes}
 use Rattle.std.proofs.Common.{Result, Ok, Err}
 use Rattle.mz_tokens.specs.Pieces.{AreCharacters}
 use Rattle.mz_tokens.specs.declared.pieces.Delimiters.{Delimiters}
-use Rattle.mz_notation.specs.Notation.{Notation, Element, fixed, begins_with_slot, Coercion, Table}
+use Rattle.mz_notation.specs.Notation.{Notation, Element, fixed, begins_with_slot, Table}
 use Rattle.mz_notation.specs.Clear.{HasConstant, LedBy, JoinedBy, IsClear}
-use Rattle.mz_notation.specs.Coercions.{IsPath, Reaches}
 use Rattle.mz_notation.specs.Forms.{General, NoteFault, EachOnce, Begins}
 use Rattle.mz_notation.specs.declared.form.Statement.{Statement}
 use Rattle.mz_notation.specs.declared.table.NoteFault.TheVariants as faults
@@ -67,26 +66,3 @@ NoOtherLed ks k = (l : Notation) (w : List ℕ) → Contains ks l → LedBy k w 
 
 abbrev pub NoOtherJoined : List Notation → Notation → Type 0
 NoOtherJoined ks k = (l : Notation) (w : List ℕ) → Contains ks l → JoinedBy k w → JoinedBy l w → ⊥
-
--- ---- coercions
-
-abbrev pub HasLength : List Coercion → ℕ → ℕ → ℕ → ℕ → Type 0
-HasLength cs many from to n = (path : List ℕ) × IsPath cs from path to × (length path ≡ n) × (n ≤ many)
-
--- c begins a path of at most so many coercions
-abbrev pub Leads : List Coercion → ℕ → ℕ → ℕ → Coercion → Type 0
-Leads cs many from to c = (c.from ≡ from) × (0 < many) × Reaches cs (many - 1) c.to to
-
--- where the i-th coercion begins and ends, a new one being the last
-abbrev pub MayStart : List Coercion → Coercion → ℕ → ℕ → Type 0
-MayStart cs c i s = (d : Coercion) × (slice_get (cs ++ c ∷ []) i ≡ Some d) × (d.from ≡ s)
-
-abbrev pub MayEnd : List Coercion → Coercion → ℕ → ℕ → Type 0
-MayEnd cs c i s = (d : Coercion) × (slice_get (cs ++ c ∷ []) i ≡ Some d) × (d.to ≡ s)
-
--- two paths, one of them by the new coercion
-abbrev pub IsClashAt : List Coercion → Coercion → ℕ → ℕ → Type 0
-IsClashAt cs c from to = (p : List ℕ) × (q : List ℕ) × (r : List ℕ) × IsPath cs from p c.from × IsPath cs c.to q to × IsPath cs from r to
-
-abbrev pub ClashesFrom : List Coercion → Coercion → ℕ → Type 0
-ClashesFrom cs c from = (j : ℕ) × (to : ℕ) × MayEnd cs c j to × IsClashAt cs c from to

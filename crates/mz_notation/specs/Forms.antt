@@ -12,7 +12,7 @@ use Rattle.mz_tokens.specs.Pieces.{IsConstant, AreDelimiters}
 use Rattle.mz_tokens.specs.declared.pieces.Delimiters.{Delimiters}
 use Rattle.mz_notation.specs.Notation.{level_of, places, Element, fixed, slot, prefixed, infixed, Notation, Coercion, Table, with_delimiters, with_notation}
 use Rattle.mz_notation.specs.Clear.{IsClear}
-use Rattle.mz_notation.specs.Coercions.{OnePath}
+use Rattle.mz_coercions.specs.Coercions.{OnePath}
 pub use Rattle.mz_notation.specs.declared.form.Literal.{Literal}
 pub use Rattle.mz_notation.specs.declared.form.Literal.TheVariants.{Constant as constant, Name as name}
 pub use Rattle.mz_notation.specs.declared.form.Tail.{Tail}

@@ -3,7 +3,7 @@ use Rattle.std.specs.Prelude.{◌≡◌, ◌≢◌, ◌⊎◌, ℕ, List, [], So
 use Rattle.mz_lex.specs.Kinds.{is_name}
 use Rattle.mz_notation.specs.Notation.{Notation, TermName, Table}
 use Rattle.mz_notation.specs.Clear.{IsClear, HasConstant, LedBy, JoinedBy}
-use Rattle.mz_notation.specs.Coercions.{OnePath}
+use Rattle.mz_coercions.specs.Coercions.{OnePath}
 
 -- no two places of a list have one name
 abbrev pub AreDistinct : List (List ℕ) → Type 0

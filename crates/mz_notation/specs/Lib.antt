@@ -1,6 +1,5 @@
 pub mod Notation
 pub mod Clear
-pub mod Coercions
 pub mod Kept
 pub mod Forms
 pub mod Names

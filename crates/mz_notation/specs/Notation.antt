@@ -7,7 +7,7 @@ pub use Rattle.mz_notation.specs.declared.notation.Element.{Element}
 pub use Rattle.mz_notation.specs.declared.notation.Element.TheVariants.{Fixed as fixed, Slot as slot}
 pub use Rattle.mz_notation.specs.declared.notation.Notation.{Notation}
 pub use Rattle.mz_notation.specs.declared.table.TermName.{TermName}
-pub use Rattle.mz_notation.specs.declared.coercion.Coercion.{Coercion}
+pub use Rattle.mz_coercions.specs.declared.coercion.Coercion.{Coercion}
 
 -- ---- levels
 

@@ -7,10 +7,10 @@ ghost use Rattle.mz_notation.specs.Forms.{AreElements, Begins, EachOnce, IsCoerc
 ghost use Rattle.mz_notation.specs.Kept.{AreVariables};
 ghost use Rattle.mz_notation.specs.Notation.{fixed, places, slot, slots};
 
-use crate::coercion::Coercion;
 use crate::notation::{Element, Elements, Notation, level_number};
 use crate::scope::Scope;
 use crate::table::NoteFault;
+use mz_coercions::Coercion;
 use mz_logic::{Binder, Env, ResultType};
 use mz_tokens::{Bytes, Delimiters};
 use std::alloc::{AllocError, Global};

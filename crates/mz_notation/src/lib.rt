@@ -6,7 +6,6 @@
 #![tactic(auto)]
 
 mod clear;
-mod coercion;
 mod delimiter;
 mod form;
 mod names;
@@ -15,8 +14,8 @@ mod notations;
 mod scope;
 mod table;
 
-pub use coercion::{Coercion, distance, reaches, wrap};
 pub use form::{Literal, Tail};
+pub use mz_coercions::{Coercion, Coercions};
 pub use notation::{Element, Elements, MAX, Notation};
 pub use scope::Scope;
 pub use table::{Notations, NoteFault, TermName};

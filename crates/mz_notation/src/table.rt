@@ -5,20 +5,20 @@ ghost use Rattle.mz_logic.specs.Declaration.{signatures};
 ghost use Rattle.mz_notation.specs.Answers.{IsAdded, IsPlain, IsShaped};
 ghost use Rattle.mz_notation.specs.Clear.{HasConstant, JoinedBy, LedBy};
 ghost use Rattle.mz_notation.specs.declared.notation.Notation.{Notation};
-ghost use Rattle.mz_notation.specs.Coercions.{OnePath};
+ghost use Rattle.mz_coercions.specs.Coercions.{OnePath};
 ghost use Rattle.mz_notation.specs.Forms.{AddsDelimiters, AddsNotation, IsAnswer, IsGeneral, IsInfix, IsPrefix, coercion_checks, delimiter_checks, notation_checks};
 ghost use Rattle.mz_notation.specs.Kept.{IsTable};
 ghost use Rattle.mz_notation.specs.Names.{IsFoundAs};
 ghost use Rattle.mz_notation.specs.Notation.{TermName, empty_table, with_coercion, with_infix, with_leading, with_name, with_notation};
 
 use crate::clear::{is_clear_with_infix, is_clear_with_leading};
-use crate::coercion::{Coercion, stays_one_path};
 use crate::delimiter::declared;
 use crate::form::{Literal, Statement, Tail, general_of, infix_of, is_coercion, prefix_of};
 use crate::names::TermNames;
 use crate::notation::Notation;
 use crate::notations::NotationList;
 use crate::scope::Scope;
+use mz_coercions::{Coercion, Coercions};
 use mz_logic::{Env, ResultType};
 use mz_tokens::{Bytes, Delimiters};
 use std::alloc::{AllocError, AllocFailed, Global};
@@ -73,7 +73,7 @@ pub struct Notations {
     leading: NotationList,
     infixes: NotationList,
     names: TermNames,
-    coercions: Vec<Coercion>,
+    coercions: Coercions,
 }
 
 impl Model for Notations {
@@ -83,9 +83,9 @@ impl Model for Notations {
 
     ghost Value = { Table };
 
-    ghost view = { λ a. record { delimiters = a.delimiters; leading = a.leading; infixes = a.infixes; names = a.names; coercions = a.coercions.items } };
+    ghost view = { λ a. record { delimiters = a.delimiters; leading = a.leading; infixes = a.infixes; names = a.names; coercions = a.coercions } };
 
-    ghost invariant = { λ a. IsTable (record { delimiters = a.delimiters; leading = a.leading; infixes = a.infixes; names = a.names; coercions = a.coercions.items }) };
+    ghost invariant = { λ a. IsTable (record { delimiters = a.delimiters; leading = a.leading; infixes = a.infixes; names = a.names; coercions = a.coercions }) };
 }
 
 impl Notations {
@@ -99,7 +99,7 @@ impl Notations {
             leading: NotationList::new(alloc),
             infixes: NotationList::new(alloc),
             names: TermNames::new(alloc),
-            coercions: Vec::new(alloc),
+            coercions: Coercions::new(alloc),
         }
     }
 
@@ -163,7 +163,7 @@ impl Notations {
     }
 
     /// The coercions.
-    pub fn coercions(&self) -> &[Coercion]
+    pub fn coercions(&self) -> &Coercions
         ensures coercions { result.now ≡ self.now.coercions }
         ensures one_path { OnePath result.now }
         ensures table { IsTable self.now }
@@ -355,7 +355,7 @@ impl Notations {
         if !is_coercion(env, coercion) {
             return Err(NoteFault::Form);
         }
-        if !stays_one_path(&self.coercions, coercion) {
+        if !self.coercions.stays_one_path(coercion) {
             return Err(NoteFault::CoercionClash);
         }
         let Ok(()) = self.coercions.push(coercion) else {

@@ -12,7 +12,7 @@ use Rattle.mz_logic.specs.Sorts.{HasSort, Fits}
 use Rattle.mz_logic.specs.Legality.{InRange, AllInRange}
 use Rattle.mz_logic.specs.declared.binder.Binder.{Binder}
 use Rattle.mz_logic.proofs.Rules.{range_of_sort}
-use Rattle.mz_notation.specs.declared.coercion.Coercion.{Coercion}
+use Rattle.mz_coercions.specs.declared.coercion.Coercion.{Coercion}
 use Rattle.mz_tokens.specs.declared.pieces.Piece.{Piece}
 use Rattle.mz_tokens.specs.declared.pieces.Delimiters.{Delimiters}
 use Rattle.mz_math.specs.declared.formula.Wanted.{Wanted}

@@ -21,7 +21,7 @@ use Rattle.mz_printing.proofs.Spelling.{lexemes-append}
 
 -- ---- words one after the other
 
-written-append : (ws vs : List Word) → written (ws ++ vs) ≡ written ws ++ written vs
+pub written-append : (ws vs : List Word) → written (ws ++ vs) ≡ written ws ++ written vs
 written-append [] vs = refl
 written-append (w ∷ ws) vs = ap (λ xs. w.gap ++ (w.text ++ xs)) (written-append ws vs) ∙ ap (λ xs. w.gap ++ xs) (sym (append_assoc w.text (written ws) (written vs))) ∙ sym (append_assoc w.gap (w.text ++ written ws) (written vs))
 

@@ -10,7 +10,7 @@ use Rattle.mz_logic.specs.declared.binder.SortMods.{SortMods}
 use Rattle.mz_logic.proofs.Extend.{extends_append, sorts-append}
 use Rattle.mz_publics.specs.PublicPart.{public_number, is_local_term, mentions_local, any_mentions_local}
 use Rattle.mz_publics.proofs.Numbers.{local-number, public-number}
-use Rattle.mz_publics.proofs.Renaming.{IsKept, Kept, AllKept}
+use Rattle.mz_publics.proofs.Renaming.{AllTerms, AllTermsIn, IsKept, Kept, AllKept}
 
 pub signatures-append : (a b : List Declaration) → signatures (a ++ b) ≡ signatures a ++ signatures b
 signatures-append [] b = refl
@@ -120,17 +120,25 @@ with-local_term ls env env' d there local beside =
 
 -- ---- expressions that mention no local term
 
-mutual
-  pub none-mentioned : (ls : List Bool) (env env' : List Declaration) → AreBeside ls env env' → (n : ℕ) (e : Tree) → mentions_local ls e ≡ false → InRange (signatures env) n e
-      → Kept (public_number ls) (signatures env) (signatures env') e
-  none-mentioned ls env env' beside n (var x) is range = tt
-  none-mentioned ls env env' beside n (app t es) is range =
-      let parts = or_parts (is_local_term ls t) (any_mentions_local ls es) is in
-      (beside.kept t range.0 parts.0, none-mentioned-in ls env env' beside n es parts.1 range.2)
+-- what holds of each public term that is declared holds of each term in them
+module _ (ls : List Bool) (P : ℕ → Type 0) (sigs : List Signature) (of_public : (t : ℕ) → t < length sigs → is_local_term ls t ≡ false → P t) where
+  mutual
+    pub all-public : (n : ℕ) (e : Tree) → mentions_local ls e ≡ false → InRange sigs n e → AllTerms P e
+    all-public n (var x) is range = tt
+    all-public n (app t es) is range =
+        let parts = or_parts (is_local_term ls t) (any_mentions_local ls es) is in
+        (of_public t range.0 parts.0, all-public-in n es parts.1 range.2)
 
-  pub none-mentioned-in : (ls : List Bool) (env env' : List Declaration) → AreBeside ls env env' → (n : ℕ) (es : Trees) → any_mentions_local ls es ≡ false → AllInRange (signatures env) n es
-      → AllKept (public_number ls) (signatures env) (signatures env') es
-  none-mentioned-in ls env env' beside n none is range = tt
-  none-mentioned-in ls env env' beside n (more e es) is range =
-      let parts = or_parts (mentions_local ls e) (any_mentions_local ls es) is in
-      (none-mentioned ls env env' beside n e parts.0 range.0, none-mentioned-in ls env env' beside n es parts.1 range.1)
+    pub all-public-in : (n : ℕ) (es : Trees) → any_mentions_local ls es ≡ false → AllInRange sigs n es → AllTermsIn P es
+    all-public-in n none is range = tt
+    all-public-in n (more e es) is range =
+        let parts = or_parts (mentions_local ls e) (any_mentions_local ls es) is in
+        (all-public n e parts.0 range.0, all-public-in n es parts.1 range.1)
+
+pub none-mentioned : (ls : List Bool) (env env' : List Declaration) → AreBeside ls env env' → (n : ℕ) (e : Tree) → mentions_local ls e ≡ false → InRange (signatures env) n e
+    → Kept (public_number ls) (signatures env) (signatures env') e
+none-mentioned ls env env' beside = all-public ls (IsKept (public_number ls) (signatures env) (signatures env')) (signatures env) beside.kept
+
+pub none-mentioned-in : (ls : List Bool) (env env' : List Declaration) → AreBeside ls env env' → (n : ℕ) (es : Trees) → any_mentions_local ls es ≡ false → AllInRange (signatures env) n es
+    → AllKept (public_number ls) (signatures env) (signatures env') es
+none-mentioned-in ls env env' beside = all-public-in ls (IsKept (public_number ls) (signatures env) (signatures env')) (signatures env) beside.kept

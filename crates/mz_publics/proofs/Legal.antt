@@ -173,13 +173,13 @@ pub at-known : (ls : List Bool) (env : List Declaration) (s : Statement) (ss : L
 at-known ls env s ss l is at = record { before = at.before; all = at.all ∙ ap (λ b. at.before ++ (mark_of b s.decl ++ marks_of ss)) is; place = at.place }
 
 module _ (ls : List Bool) (hidden : Tree → Bool) where
-  public-next : (env env' : List Declaration) (d : Declaration) (ss : List Statement) → IsAt ls env (record { is_local = false; decl = d } ∷ ss) → AreBeside ls env env'
+  pub public-next : (env env' : List Declaration) (d : Declaration) (ss : List Statement) → IsAt ls env (record { is_local = false; decl = d } ∷ ss) → AreBeside ls env env'
       → AreBeside ls (env ++ d ∷ []) (env' ++ public_decl hidden (public_number ls) d ∷ [])
   public-next env env' (sort_decl m) ss at beside = with-sort ls env env' m beside
   public-next env env' (term_decl d) ss at beside = let there = mark-at ls env false d ss at in with-term ls env env' d _ refl there.0 there.1 beside
   public-next env env' (assertion_decl a) ss at beside = with-assertion ls env env' a (renamed_assertion (public_number ls) a) beside
 
-  local-next : (env env' : List Declaration) (d : Declaration) (ss : List Statement) → MayBeLocal d → IsAt ls env (record { is_local = true; decl = d } ∷ ss) → AreBeside ls env env'
+  pub local-next : (env env' : List Declaration) (d : Declaration) (ss : List Statement) → MayBeLocal d → IsAt ls env (record { is_local = true; decl = d } ∷ ss) → AreBeside ls env env'
       → AreBeside ls (env ++ d ∷ []) env'
   local-next env env' (sort_decl m) ss may at beside = absurd may
   local-next env env' (term_decl d) ss may at beside = let there = mark-at ls env true d ss at in with-local_term ls env env' d there.0 there.1 beside

@@ -2,6 +2,7 @@ pub mod Levels
 pub mod Numbered
 pub mod RowLemmas
 pub mod RowEnds
+pub mod Sizes
 pub mod Deciding
 pub mod ByteSteps
 pub mod Accessors

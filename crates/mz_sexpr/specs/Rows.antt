@@ -57,6 +57,16 @@ no_entry = record { depth = 0; at = 0; bytes = None }
 abbrev pub entry_at : List Entry → ℕ → Entry
 entry_at es n = get_or es n no_entry
 
+-- where the parts of each row end that its size tells, the first row being the k-th
+abbrev pub sized : ℕ → List Row → List ℕ
+sized k [] = []
+sized k (r ∷ rs) = (k + r.size) ∷ sized (suc k) rs
+
+-- where the parts of each row end: as is kept beside the rows, or as their sizes tell where nothing is
+abbrev pub all_ends : List Row → List ℕ → List ℕ
+all_ends rows [] = sized 0 rows
+all_ends rows (e ∷ es) = e ∷ es
+
 -- the row at the end, if there is one, has at most the depth d
 abbrev pub IsShallow : List Entry → ℕ → ℕ → Type 0
 IsShallow es n d = n < length es → (entry_at es n).depth ≤ d

@@ -4,6 +4,7 @@ ghost use Rattle.mz_sexpr.specs.Number.{node_count, node_at, nodes_after, Stands
 ghost use Rattle.mz_sexpr.specs.Grammar.{is_letter};
 ghost use Rattle.mz_sexpr.specs.Rows.{entry, level, word_from, Steps, IsShallow};
 
+use crate::ends::end_at;
 use crate::sexprs::{Row, Sexprs, word_of};
 
 /// What a text has from a place on.
@@ -26,7 +27,7 @@ fn row_of_depth(rows: &[Row], n: usize, depth: u32) -> Option<u32>
     ensures { (text : List ℕ) → Steps 0 (map (entry text) rows.now) → IsShallow (map (entry text) rows.now) n depth
         → StandsFor (level (map (entry text) rows.now) 0) result (level (drop n (map (entry text) rows.now)) depth) }
 {
-    if n < rows.len() && rows[n].depth == depth {
+    if n < rows.len() && rows[n].depth as u32 == depth {
         Some(n as u32)
     } else {
         None
@@ -83,7 +84,7 @@ impl<'a> Sexprs<'a> {
         if self.is_atom(n) {
             return None;
         }
-        let depth = self.rows[n as usize].depth;
+        let depth = self.rows[n as usize].depth as u32;
         row_of_depth(&self.rows, n as usize + 1, depth + 1)
     }
 
@@ -94,8 +95,8 @@ impl<'a> Sexprs<'a> {
     {
         row_of_depth(
             &self.rows,
-            self.ends[n as usize] as usize,
-            self.rows[n as usize].depth,
+            end_at(&self.rows, &self.ends, n as usize),
+            self.rows[n as usize].depth as u32,
         )
     }
 

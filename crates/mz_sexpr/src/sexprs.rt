@@ -1,23 +1,24 @@
-ghost use Rattle.std.specs.Prelude.{ℕ, List, ◌≡◌, ◌++◌, ◌+◌, OnOk, ◌<◌, ◌^◌, length, drop, get_or};
+ghost use Rattle.std.specs.Prelude.{ℕ, List, ◌≡◌, ◌++◌, ◌+◌, OnOk, IfOk, ◌<◌, ◌≤◌, ◌^◌, length, drop, get_or, map};
 ghost use Rattle.std.specs.List.{take_while};
 ghost use Rattle.std.specs.Option.{option_to_list};
 ghost use Rattle.mz_sexpr.specs.Grammar.{is_letter};
 ghost use Rattle.mz_sexpr.specs.Scan.{class_after, token_of};
-ghost use Rattle.mz_sexpr.specs.Rows.{entries, option_entry};
+ghost use Rattle.mz_sexpr.specs.Rows.{entry, entries, option_entry, level, Steps};
 ghost use Rattle.mz_sexpr.specs.RowsRead.{AreRows};
 ghost use Rattle.mz_sexpr.specs.Reading.{IsReading};
 
-use crate::ends::ends_of;
+use crate::ends::{ends_of, put_sizes};
 use crate::rule::{TextRefusal, U};
 use crate::scan::{Class, Seen, class_at, fault_at};
 use std::alloc::{AllocError, Global};
 use std::marker::Model;
 
-/// A node: how many lists are around it, and the place of its first byte. That byte says whether it
-/// is a list, and an atom's bytes are read off the text.
+/// A node: how many lists are around it, how many rows it and its parts take, and the place of its
+/// first byte. That byte says whether it is a list, and an atom's bytes are read off the text.
 #[derive(Clone, Copy)]
 pub(crate) struct Row {
-    pub(crate) depth: u32,
+    pub(crate) depth: u16,
+    pub(crate) size: u16,
     pub(crate) at: u32,
 }
 
@@ -27,7 +28,8 @@ pub(crate) struct Row {
 pub struct Sexprs<'a> {
     pub(crate) text: &'a [u8],
     pub(crate) rows: Vec<Row>,
-    // for each node, the number of the first later one that is no part of it
+    // for each node, the number of the first later one that is no part of it; none where the rows'
+    // sizes tell them
     pub(crate) ends: Vec<u32>,
 }
 
@@ -40,11 +42,11 @@ impl<'a> Model for Sexprs<'a> {
 
     ghost coded = { nodes_code };
 
-    ghost use Rattle.mz_sexpr.specs.Rows.{entry, level, IsLinked};
+    ghost use Rattle.mz_sexpr.specs.Rows.{entry, level, all_ends, IsLinked};
 
     ghost view = { λ a. level (map (entry a.text.now) a.rows.items) 0 };
 
-    ghost invariant = { λ a. IsLinked (map (entry a.text.now) a.rows.items) a.ends.items };
+    ghost invariant = { λ a. IsLinked (map (entry a.text.now) a.rows.items) (all_ends a.rows.items a.ends.items) };
 }
 
 /// What reading a text answers.
@@ -86,14 +88,16 @@ pub(crate) fn word_of(rest: &[u8]) -> &[u8]
 
 /// The node that begins at the byte, if one does.
 fn row_at(at: usize, seen: Seen, class: Class) -> Option<Row>
-    requires { at < 2 ^ 32 }
+    requires at { at < 2 ^ 32 }
+    requires depth { seen.depth ≤ 4096 }
     ensures { (text : List ℕ) → class ≡ class_after seen.last (get_or text at 0) (drop (at + 1) text) → at < length text
         → option_to_list (option_entry text result) ≡ entries seen.depth (token_of at seen.last class (drop at text)) }
 {
     match (seen.last, class) {
         (Class::Letter, Class::Letter) => None,
         (_, Class::Opening | Class::Letter) => Some(Row {
-            depth: seen.depth,
+            depth: seen.depth as u16,
+            size: 0,
             at: at as u32,
         }),
         _ => None,
@@ -134,6 +138,23 @@ fn read_rows(alloc: Global, text: &[u8]) -> RowsRead
     }
 }
 
+/// The nodes of a text: the ends of its rows are kept where not all sizes fit into the rows.
+fn linked<'a>(alloc: Global, text: &'a [u8], mut rows: Vec<Row>) -> Result<Sexprs<'a>, AllocError>
+    requires steps { Steps 0 (map (entry text.now) rows.items) }
+    requires short { length rows.items < 2 ^ 32 }
+    ensures { IfOk result (λ nodes. nodes ≡ level (map (entry text.now) rows.items) 0) }
+{
+    if put_sizes(&mut rows) {
+        return Ok(Sexprs {
+            text,
+            rows,
+            ends: Vec::new(alloc),
+        });
+    }
+    let ends = ends_of(alloc, &rows)?;
+    Ok(Sexprs { text, rows, ends })
+}
+
 /// The nodes of a text, or the first of its bytes that may not stand where it does. The text has
 /// at most 4,294,967,295 bytes.
 pub fn read_sexprs<'a>(alloc: Global, text: &'a [u8]) -> SexprRead<'a>
@@ -141,8 +162,8 @@ pub fn read_sexprs<'a>(alloc: Global, text: &'a [u8]) -> SexprRead<'a>
     ensures { IsReading text.now result }
 {
     match read_rows(alloc, text) {
-        RowsRead::Rows(rows) => match ends_of(alloc, &rows) {
-            Ok(ends) => SexprRead::Nodes(Sexprs { text, rows, ends }),
+        RowsRead::Rows(rows) => match linked(alloc, text, rows) {
+            Ok(nodes) => SexprRead::Nodes(nodes),
             Err(_) => SexprRead::Mem,
         },
         RowsRead::Refused(refusal) => SexprRead::Refused(refusal),

@@ -12,7 +12,7 @@ use Rattle.mz_store.specs.Bits.{bound_from, bound_vars}
 use Rattle.mz_store.specs.Sharing.{Sharing, AreIn, Holds, IsOver, KeepsIds, tree_of, trees_of, dummy_binder}
 use Rattle.mz_store.specs.declared.item.DepsMode.TheVariants as of
 use Rattle.mz_store.specs.declared.item.Id.{Id}
-use Rattle.mz_unify.specs.Spells.{trees_of as operands_of, variables_from}
+use Rattle.mz_unification.specs.Spells.{trees_of as operands_of, variables_from}
 use Rattle.mz_shared.specs.Variables.{IsShared}
 use Rattle.mz_shared.proofs.Making.{trees_push, in_push, are_in_grown, trees_grown}
 

@@ -6,7 +6,7 @@ use Rattle.mz_logic.specs.Tree.{Tree, Trees, var, app, none, more, operand, inst
 use Rattle.mz_logic.specs.Signature.{Signature}
 use Rattle.mz_logic.specs.Sorts.{HasSort, Fits}
 use Rattle.mz_logic.specs.declared.binder.Binder.{Binder}
-use Rattle.mz_unify.specs.Spells.{trees_of as operands_of, variables_from}
+use Rattle.mz_unification.specs.Spells.{trees_of as operands_of, variables_from}
 use Rattle.mz_store.specs.Sharing.{Sharing, AreIn, IsIn, IsOver, tree_of, trees_of}
 use Rattle.mz_store.specs.declared.item.Id.{Id}
 use Rattle.mz_shared.specs.Instances.{Grows, InReach, AllInReach, AreSorted}

@@ -5,7 +5,7 @@ use Rattle.mz_logic.specs.Legality.{Each}
 use Rattle.mz_store.specs.Sharing.{Sharing, AreIn, IsOver, trees_of}
 use Rattle.mz_store.specs.declared.item.DepsMode.TheVariants as of
 use Rattle.mz_store.specs.declared.item.Id.{Id}
-use Rattle.mz_unify.specs.Spells.{trees_of as operands_of, variables_from}
+use Rattle.mz_unification.specs.Spells.{trees_of as operands_of, variables_from}
 
 -- these are the ids of the variables, in order: the first numbers. Its words tell all variables
 pub record IsShared (sigs : List Signature) (s : Sharing) (vars : List Id) : Type 0 where

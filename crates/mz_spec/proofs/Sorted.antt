@@ -6,9 +6,9 @@ use Rattle.mz_logic.specs.Declaration.{signatures, sorts}
 use Rattle.mz_logic.specs.Modifiers.{MayBeClaimSort}
 use Rattle.mz_logic.specs.Sorts.{HasSort, Fits, HasProvable}
 use Rattle.mz_logic.specs.declared.binder.Binder.{Binder}
-use Rattle.mz_notation.specs.declared.coercion.Coercion.{Coercion}
+use Rattle.mz_coercions.specs.declared.coercion.Coercion.{Coercion}
 use Rattle.mz_math.specs.declared.formula.Wanted.TheVariants.{Provable as provable, Sort as of_sort}
-use Rattle.mz_notation.specs.Coercions.{IsPath, coercion_term, wrapped}
+use Rattle.mz_coercions.specs.Coercions.{IsPath, coercion_term, wrapped}
 use Rattle.mz_notation.specs.Forms.{IsCoercion}
 use Rattle.mz_math.specs.Formula.{Reader, IsFormula}
 use Rattle.mz_math.specs.Meaning.{Coerced, CoercedAll, IsGoal}

@@ -8,7 +8,7 @@ use Rattle.mz_lex.specs.declared.rule.S.TheVariants as rules
 use Rattle.mz_checks.specs.Checks.{Checks, nothing, retold}
 use Rattle.mz_logic.specs.Declaration.{signatures}
 use Rattle.mz_notation.specs.declared.notation.Notation.{Notation}
-use Rattle.mz_notation.specs.declared.coercion.Coercion.{Coercion}
+use Rattle.mz_coercions.specs.declared.coercion.Coercion.{Coercion}
 use Rattle.mz_notation.specs.declared.form.Literal.{Literal}
 use Rattle.mz_notation.specs.declared.form.Literal.TheVariants.{Constant as constant, Name as name}
 use Rattle.mz_notation.specs.declared.form.Tail.{Tail}

@@ -15,12 +15,12 @@ use Rattle.mz_logic.proofs.Instance.{one_at, none_some}
 use Rattle.mz_store.specs.Bits.{Tells, bound_vars}
 use Rattle.mz_store.specs.Sharing.{Sharing, Holds, IsIn, IsOver, IsTold, tree_of, trees_of}
 use Rattle.mz_store.specs.declared.item.Id.{Id}
-use Rattle.mz_unify.specs.Streams.{UnifyCommand}
+use Rattle.mz_unification.specs.Streams.{UnifyCommand}
 use Rattle.mz_shared.specs.Variables.{IsShared}
 use Rattle.mz_shared.proofs.Owned.{variable_id}
 use Rattle.mz_steps.specs.Works.{from_to}
 use Rattle.mz_streams.specs.Writing.{Written, and_then, assertion_written, stream_of, unify_bytes, write, write_hyps, writing_start}
-use Rattle.mz_unify.specs.Spells.{variables_from}
+use Rattle.mz_unification.specs.Spells.{variables_from}
 use Rattle.mz_shared.specs.Places.{place_of}
 use Rattle.mz_spell.specs.Going.{IsMarked, IsStatement, spelled}
 use Rattle.mz_spell.proofs.Telling.{RegularFirst, first_bits, own_in, own_is, tells_as, tells_or}

@@ -9,7 +9,7 @@ use Rattle.mz_store.specs.Bits.{Tells, bound_vars}
 use Rattle.mz_store.specs.Sharing.{AreIn, Holds, IsIn, IsOver, Sharing, tree_of, trees_of}
 use Rattle.mz_store.specs.declared.item.DepsMode.TheVariants as of
 use Rattle.mz_store.specs.declared.item.Id.{Id}
-use Rattle.mz_unify.specs.Streams.{UnifyCommand}
+use Rattle.mz_unification.specs.Streams.{UnifyCommand}
 use Rattle.mz_streams.specs.Writing.{Writing, Written, unify_bytes, write_all, write_hyps}
 use Rattle.mz_shared.specs.Instances.{AllInReach}
 use Rattle.mz_shared.specs.Places.{place_of}

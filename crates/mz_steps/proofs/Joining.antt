@@ -10,10 +10,10 @@ use Rattle.mz_logic.specs.declared.binder.Binder.{Binder}
 use Rattle.mz_logic.specs.declared.binder.SortMods.{SortMods}
 use Rattle.mz_logic.proofs.Extend.{Extends, extends_append, extends_itself, sorts-append, terms-append, assertions-append}
 use Rattle.mz_logic.proofs.Fresh.{split_at}
-use Rattle.mz_unify.specs.Spells.{trees_of}
-use Rattle.mz_unify.specs.Profile.{Item, expr, proof, obligation, conversion}
-use Rattle.mz_machine.specs.Tables.{Pairwise}
-use Rattle.mz_machine.specs.ProofMachine.{sides}
+use Rattle.mz_unification.specs.Spells.{trees_of}
+use Rattle.mz_unification.specs.Profile.{Item, expr, proof, obligation, conversion}
+use Rattle.mz_soundness.specs.Tables.{Pairwise}
+use Rattle.mz_soundness.specs.ProofMachine.{sides}
 use Rattle.mz_steps.specs.Works.{Work}
 use Rattle.mz_steps.specs.Steps.{stacked, kept, IsReferred, Step, Steps}
 use Rattle.mz_steps.specs.Sameness.{IsSameTerm}

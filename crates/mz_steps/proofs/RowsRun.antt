@@ -6,14 +6,14 @@ use Rattle.std.proofs.lemmas.Bool.{le-leb, lt-ltb}
 use Rattle.mz_cmd.specs.declared.code.ProofCode.TheVariants as code
 use Rattle.mz_logic.specs.Tree.{Tree, Trees, var, app, listed}
 use Rattle.mz_logic.specs.Legality.{sort_of}
-use Rattle.mz_unify.specs.Spells.{TermRow, ThmRow, trees_of, dummy_of}
-use Rattle.mz_unify.specs.Profile.{plain, Item, expr, proof, obligation, conversion}
-use Rattle.mz_unify.specs.UnifyMachine.{UnifyState, unify}
-use Rattle.mz_unify.specs.Laws.{citing, unfolding_by}
-use Rattle.mz_unify.proofs.Trees.{same_tree-refl, listed-trees_of}
-use Rattle.mz_machine.specs.Tables.{Tables, signatures_in, State}
-use Rattle.mz_machine.specs.Premises.{pop_exprs, pop_operands, is_obligation, may_be_dummy_sort, is_provable_sort, bound_count, operands_fit, are_apart}
-use Rattle.mz_machine.specs.ProofMachine.{built, citation, cited, sides, unfolding_of, proof_row}
+use Rattle.mz_unification.specs.Spells.{TermRow, ThmRow, trees_of, dummy_of}
+use Rattle.mz_unification.specs.Profile.{plain, Item, expr, proof, obligation, conversion}
+use Rattle.mz_unification.specs.UnifyMachine.{UnifyState, unify}
+use Rattle.mz_unification.specs.Laws.{citing, unfolding_by}
+use Rattle.mz_unification.proofs.Trees.{same_tree-refl, listed-trees_of}
+use Rattle.mz_soundness.specs.Tables.{Tables, signatures_in, State}
+use Rattle.mz_soundness.specs.Premises.{pop_exprs, pop_operands, is_obligation, may_be_dummy_sort, is_provable_sort, bound_count, operands_fit, are_apart}
+use Rattle.mz_soundness.specs.ProofMachine.{built, citation, cited, sides, unfolding_of, proof_row}
 use Rattle.mz_steps.specs.Steps.{above}
 
 -- ---- operands on the stack

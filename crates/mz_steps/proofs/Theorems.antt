@@ -5,14 +5,14 @@ use Rattle.mz_logic.specs.Declaration.{sorts, signatures}
 use Rattle.mz_logic.specs.Legality.{AreParams}
 use Rattle.mz_logic.specs.declared.binder.Binder.{Binder}
 use Rattle.mz_logic.proofs.PlainLegality.{assertions_are_sorted}
-use Rattle.mz_unify.specs.Streams.{of_assertion}
-use Rattle.mz_unify.specs.Spells.{trees_of, Text}
-use Rattle.mz_unify.proofs.Trees.{trees_of-listed}
-use Rattle.mz_machine.specs.Tables.{State, Kind}
-use Rattle.mz_machine.specs.Premises.{bound_count}
+use Rattle.mz_unification.specs.Streams.{of_assertion}
+use Rattle.mz_unification.specs.Spells.{trees_of, Text}
+use Rattle.mz_unification.proofs.Trees.{trees_of-listed}
+use Rattle.mz_soundness.specs.Tables.{State, Kind}
+use Rattle.mz_soundness.specs.Premises.{bound_count}
 use Rattle.mz_steps.specs.Works.{work_start, machine}
 use Rattle.mz_steps.specs.Steps.{Steps, run_commands}
-use Rattle.mz_unify.specs.Profile.{plain}
+use Rattle.mz_unification.specs.Profile.{plain}
 use Rattle.mz_steps.specs.Endings.{IsEnding, Ends}
 use Rattle.mz_steps.specs.Laws.{DependOnFirst}
 use Rattle.mz_steps.specs.Reaching.{LegalTheoremsRun}

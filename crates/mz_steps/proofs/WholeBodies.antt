@@ -3,10 +3,10 @@ use Rattle.std.proofs.Common.{◌≡◌, Bool, List, ◌++◌, length, Ok, subst
 use Rattle.mz_logic.specs.Tree.{Tree}
 use Rattle.mz_logic.specs.Declaration.{signatures}
 use Rattle.mz_logic.specs.declared.binder.Binder.{Binder}
-use Rattle.mz_machine.specs.Tables.{State}
+use Rattle.mz_soundness.specs.Tables.{State}
 use Rattle.mz_steps.specs.Works.{work_start, machine}
 use Rattle.mz_steps.specs.Steps.{run_commands}
-use Rattle.mz_unify.specs.Profile.{plain}
+use Rattle.mz_unification.specs.Profile.{plain}
 use Rattle.mz_steps.specs.Laws.{RightBodiesRun}
 use Rattle.mz_steps.proofs.Running.{steps-run}
 use Rattle.mz_steps.proofs.Ending.{ends-end}

@@ -4,9 +4,9 @@ use Rattle.mz_cmd.specs.declared.code.ProofCode.{ProofCode}
 use Rattle.mz_logic.specs.Tree.{Tree}
 use Rattle.mz_logic.specs.Declaration.{Declaration}
 use Rattle.mz_logic.specs.declared.binder.Binder.{Binder}
-use Rattle.mz_unify.specs.Profile.{strict, Item, expr, proof}
-use Rattle.mz_machine.specs.Premises.{bound_count}
-use Rattle.mz_machine.specs.Tables.{Kind, is_axiom, is_theorem, is_definition}
+use Rattle.mz_unification.specs.Profile.{strict, Item, expr, proof}
+use Rattle.mz_soundness.specs.Premises.{bound_count}
+use Rattle.mz_soundness.specs.Tables.{Kind, is_axiom, is_theorem, is_definition}
 use Rattle.mz_steps.specs.Endings.{spelled_body, MayStand}
 use Rattle.mz_steps.specs.Steps.{Steps}
 use Rattle.mz_steps.specs.Works.{Work, work_start}

@@ -6,7 +6,7 @@ use Rattle.mz_logic.specs.Declaration.{Term, Assertion, Declaration, sort_decl, 
 use Rattle.mz_logic.specs.Legality.{AreParams, Each}
 use Rattle.mz_logic.specs.declared.binder.Binder.{Binder}
 use Rattle.mz_logic.specs.declared.binder.SortMods.{SortMods}
-use Rattle.mz_unify.specs.Profile.{Item}
+use Rattle.mz_unification.specs.Profile.{Item}
 use Rattle.mz_steps.specs.Works.{Work}
 use Rattle.mz_steps.specs.Steps.{Steps}
 use Rattle.mz_steps.specs.Sameness.{IsSameTerm, IsSameEnv}

@@ -6,12 +6,12 @@ use Rattle.mz_logic.specs.Signature.{Signature}
 use Rattle.mz_logic.specs.Declaration.{Declaration, signatures}
 use Rattle.mz_logic.specs.Variables.{Occurs}
 use Rattle.mz_logic.specs.declared.binder.Binder.{Binder}
-use Rattle.mz_unify.specs.Sorted.{Sorted}
-use Rattle.mz_unify.specs.Profile.{plain, Profile, Item, expr, proof, obligation, conversion}
-use Rattle.mz_machine.specs.Tables.{Tables, State, Heading, Declares}
-use Rattle.mz_machine.specs.Premises.{bound_count}
-use Rattle.mz_machine.specs.ProofMachine.{proof_end}
-use Rattle.mz_machine.specs.Bodies.{body_start, body_run, Runs}
+use Rattle.mz_unification.specs.Sorted.{Sorted}
+use Rattle.mz_unification.specs.Profile.{plain, Profile, Item, expr, proof, obligation, conversion}
+use Rattle.mz_soundness.specs.Tables.{Tables, State, Heading, Declares}
+use Rattle.mz_soundness.specs.Premises.{bound_count}
+use Rattle.mz_soundness.specs.ProofMachine.{proof_end}
+use Rattle.mz_soundness.specs.Bodies.{body_start, body_run, Runs}
 use Rattle.mz_steps.specs.Works.{Work, work_start, machine, name_in}
 use Rattle.mz_steps.specs.Steps.{Steps, run_commands}
 use Rattle.mz_steps.specs.Sameness.{IsSameEnv}

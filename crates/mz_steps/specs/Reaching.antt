@@ -7,13 +7,13 @@ use Rattle.mz_logic.specs.Legality.{IsLegalDecl, IsLegalEnv}
 use Rattle.mz_logic.specs.Derivations.{Derivation, Derives}
 use Rattle.mz_logic.specs.LegalLists.{AreDummies, allowed_with}
 use Rattle.mz_logic.specs.declared.binder.Binder.{Binder}
-use Rattle.mz_unify.specs.Streams.{of_assertion}
-use Rattle.mz_unify.specs.Spells.{Text}
-use Rattle.mz_unify.specs.Profile.{plain, Item, expr, proof}
-use Rattle.mz_machine.specs.Tables.{Tables, State, is_theorem, Heading, Declares}
-use Rattle.mz_machine.specs.Premises.{bound_count}
-use Rattle.mz_machine.specs.ProofMachine.{proof_end}
-use Rattle.mz_machine.specs.Bodies.{body_start}
+use Rattle.mz_unification.specs.Streams.{of_assertion}
+use Rattle.mz_unification.specs.Spells.{Text}
+use Rattle.mz_unification.specs.Profile.{plain, Item, expr, proof}
+use Rattle.mz_soundness.specs.Tables.{Tables, State, is_theorem, Heading, Declares}
+use Rattle.mz_soundness.specs.Premises.{bound_count}
+use Rattle.mz_soundness.specs.ProofMachine.{proof_end}
+use Rattle.mz_soundness.specs.Bodies.{body_start}
 use Rattle.mz_steps.specs.Works.{Work, work_start}
 use Rattle.mz_steps.specs.Steps.{Steps, run_commands}
 use Rattle.mz_steps.specs.Sameness.{IsSameEnv}

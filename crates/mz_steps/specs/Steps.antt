@@ -13,14 +13,14 @@ use Rattle.mz_logic.specs.Sorts.{HasSort, Fits, HasProvable}
 use Rattle.mz_logic.specs.Variables.{Apart}
 use Rattle.mz_logic.specs.Conversions.{IsDefined, AreFresh}
 use Rattle.mz_logic.specs.declared.binder.Binder.{Binder}
-use Rattle.mz_unify.specs.Steps.{◌>>=◌}
-use Rattle.mz_unify.specs.Spells.{trees_of, dummy_of}
-use Rattle.mz_unify.specs.Sorted.{Sorted}
-use Rattle.mz_unify.specs.Profile.{Profile, Item, expr, proof, obligation, conversion}
-use Rattle.mz_unify.specs.Laws.{IsCitedAs}
-use Rattle.mz_machine.specs.Tables.{Tables, State}
-use Rattle.mz_machine.specs.Premises.{is_obligation}
-use Rattle.mz_machine.specs.ProofMachine.{sides, proof_row}
+use Rattle.mz_unification.specs.Steps.{◌>>=◌}
+use Rattle.mz_unification.specs.Spells.{trees_of, dummy_of}
+use Rattle.mz_unification.specs.Sorted.{Sorted}
+use Rattle.mz_unification.specs.Profile.{Profile, Item, expr, proof, obligation, conversion}
+use Rattle.mz_unification.specs.Laws.{IsCitedAs}
+use Rattle.mz_soundness.specs.Tables.{Tables, State}
+use Rattle.mz_soundness.specs.Premises.{is_obligation}
+use Rattle.mz_soundness.specs.ProofMachine.{sides, proof_row}
 use Rattle.mz_steps.specs.Works.{Work}
 
 -- ---- a new stack, and one more item in the heap

@@ -4,7 +4,7 @@ ghost use Rattle.mz_steps.specs.Laws.{BodiesRunAsCommands, RightBodiesRun, Right
 ghost use Rattle.mz_steps.specs.Growing.{ContextsDependOnParams, SameAtFirst, SameWithAssertion, SameWithSort, SameWithTerm, StepsJoin, StepsKeepTheHeap};
 ghost use Rattle.mz_steps.specs.SameLists.{SameListsAreSameEnvs};
 ghost use Rattle.mz_steps.specs.Reaching.{LegalAxiomsHaveSteps, LegalDefinitionsHaveSteps, LegalTheoremsHaveSteps, LegalTheoremsRun};
-ghost use Rattle.mz_unify.specs.Profile.{plain};
+ghost use Rattle.mz_unification.specs.Profile.{plain};
 
 /// Right steps run: the machine goes from what they begin with to what they make.
 pub fn right_steps_run()

@@ -7,10 +7,10 @@ use Rattle.mz_logic.specs.Tree.{Tree, Trees, var, app, none, more, listed}
 use Rattle.mz_logic.specs.Signature.{Signature}
 use Rattle.mz_logic.specs.Variables.{Occurs, OccursIn}
 use Rattle.mz_logic.specs.declared.binder.Binder.{Binder}
-use Rattle.mz_unify.specs.Streams.{StreamKind, of_assertion, of_definition, UnifyCommand}
-use Rattle.mz_unify.specs.Spells.{Marks, at_first, Text}
-use Rattle.mz_unify.specs.Sorted.{Sorted, AllSorted}
-use Rattle.mz_unify.proofs.Trees.{all-sorted-append}
+use Rattle.mz_unification.specs.Streams.{StreamKind, of_assertion, of_definition, UnifyCommand}
+use Rattle.mz_unification.specs.Spells.{Marks, at_first, Text}
+use Rattle.mz_unification.specs.Sorted.{Sorted, AllSorted}
+use Rattle.mz_unification.proofs.Trees.{all-sorted-append}
 use Rattle.mz_steps.specs.Works.{renamed, all_renamed, name_in, from_to, place_of}
 use Rattle.mz_steps.proofs.Naming.{place-at}
 use Rattle.mz_streams.specs.Writing.{Writing, Written, writing_start, write, write_hyps, assertion_written, definition_written, body_spelled, dummies_spelled, spelled_dummies, stream_of, AreShort}

@@ -6,9 +6,9 @@ use Rattle.mz_logic.specs.Declaration.{defined}
 use Rattle.mz_logic.specs.Legality.{Each, IsDummy, AreParams}
 use Rattle.mz_logic.specs.declared.binder.Binder.{Binder}
 use Rattle.mz_logic.specs.declared.binder.SortMods.{SortMods}
-use Rattle.mz_unify.specs.Streams.{StreamKind, of_assertion, of_definition, u_term, u_term_save, u_ref, u_dummy}
-use Rattle.mz_unify.specs.Spells.{dummy_of, Marks, SpellsText}
-use Rattle.mz_unify.specs.Sorted.{Sorted, AllSorted}
+use Rattle.mz_unification.specs.Streams.{StreamKind, of_assertion, of_definition, u_term, u_term_save, u_ref, u_dummy}
+use Rattle.mz_unification.specs.Spells.{dummy_of, Marks, SpellsText}
+use Rattle.mz_unification.specs.Sorted.{Sorted, AllSorted}
 use Rattle.mz_steps.specs.Sameness.{IsInside, IsSameForm}
 use Rattle.mz_streams.specs.Writing.{assertion_written, definition_written, body_spelled, dummies_spelled, stream_of, AreShort}
 use Rattle.mz_streams.specs.SpellsBefore.{SpellsBefore}

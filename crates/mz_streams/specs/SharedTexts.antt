@@ -4,7 +4,7 @@ use Rattle.std.specs.Prelude.{◌≡◌, ℕ, List, ◌++◌}
 use Rattle.mz_logic.specs.Tree.{Tree, Trees}
 use Rattle.mz_logic.specs.Signature.{Signature}
 use Rattle.mz_logic.specs.declared.binder.Binder.{Binder}
-use Rattle.mz_unify.specs.Streams.{StreamKind, UnifyCommand}
+use Rattle.mz_unification.specs.Streams.{StreamKind, UnifyCommand}
 use Rattle.mz_streams.specs.Sharing.{SharedStream}
 use Rattle.mz_streams.specs.SpellsBefore.{SpellsBefore}
 use Rattle.mz_streams.specs.Writing.{stream_of, AreShort}

@@ -3,7 +3,7 @@ use Rattle.std.specs.Prelude.{⊤, ℕ, List, ◌++◌, Option, Some, None}
 use Rattle.mz_logic.specs.Declaration.{Form, plain_form, abstract_form, defined, Term, Assertion, Declaration, term_decl, assertion_decl, signatures}
 use Rattle.mz_logic.specs.Legality.{IsLegalDecl}
 use Rattle.mz_logic.specs.declared.binder.Binder.{Binder}
-use Rattle.mz_unify.specs.Spells.{SpellsThm, SpellsTerm}
+use Rattle.mz_unification.specs.Spells.{SpellsThm, SpellsTerm}
 use Rattle.mz_streams.specs.Writing.{assertion_written, definition_written, stream_of, AreShort}
 use Rattle.mz_streams.specs.SpelledLists.{form_spelled}
 

@@ -5,5 +5,7 @@ mod StatedLists
 mod Answered
 mod Sampled
 mod Assemblies
+mod Specifications
 mod Rests
+mod Drafted
 mod Listed

@@ -1,7 +1,7 @@
 -- The words say which request they ask for.
 use Rattle.std.proofs.Common.{◌≡◌, ◌∙◌, ℕ, List, [], ◌∷◌, length, get_or, ap, sym, arith}
 use Rattle.std.proofs.lemmas.Fmt.{decimal_injective}
-use Rattle.mz_tool.specs.Request.{Request, verify, show, compile, assemble, axioms, sample, words_of, IsInRange, Asks}
+use Rattle.mz_tool.specs.Request.{Request, verify, show, compile, assemble, axioms, draft, specify, sample, words_of, IsInRange, Asks}
 
 first : List (List ℕ) → List ℕ
 first [] = []
@@ -49,6 +49,37 @@ lists-differ : (bin : List ℕ) (n : ℕ) → words_of (show bin) ≡ words_of (
 unfolding first
 lists-differ bin n e = let m : 104 ≡ 97 = ap (λ word. get_or word 1 0) (ap first e) in omega (arith, m)
 
+first-letters : (word word' : List ℕ) (rest rest' : List (List ℕ)) → (word ∷ rest) ≡ (word' ∷ rest') → get_or word 0 0 ≡ get_or word' 0 0
+unfolding first
+first-letters word word' rest rest' e = ap (λ w. get_or w 0 0) (ap first e)
+
+drafts-differ : (spec bin spec' bin' : List ℕ) → words_of (draft spec bin) ≡ words_of (verify spec' bin') → ⊥
+drafts-differ spec bin spec' bin' e = let n : 100 ≡ 118 = first-letters _ _ _ _ e in omega (arith, n)
+
+drafts-compiled : (spec bin text out : List ℕ) → words_of (draft spec bin) ≡ words_of (compile text out) → ⊥
+drafts-compiled spec bin text out e = let n : 100 ≡ 99 = first-letters _ _ _ _ e in omega (arith, n)
+
+drafts-assembled : (spec bin listing out : List ℕ) → words_of (draft spec bin) ≡ words_of (assemble listing out) → ⊥
+drafts-assembled spec bin listing out e = let n : 100 ≡ 97 = first-letters _ _ _ _ e in omega (arith, n)
+
+drafts-rest : (spec bin spec' bin' : List ℕ) → words_of (draft spec bin) ≡ words_of (axioms spec' bin') → ⊥
+drafts-rest spec bin spec' bin' e = let n : 100 ≡ 97 = first-letters _ _ _ _ e in omega (arith, n)
+
+specified-verified : (text out spec bin : List ℕ) → words_of (specify text out) ≡ words_of (verify spec bin) → ⊥
+specified-verified text out spec bin e = let n : 115 ≡ 118 = first-letters _ _ _ _ e in omega (arith, n)
+
+specified-compiled : (text out text' out' : List ℕ) → words_of (specify text out) ≡ words_of (compile text' out') → ⊥
+specified-compiled text out text' out' e = let n : 115 ≡ 99 = first-letters _ _ _ _ e in omega (arith, n)
+
+specified-assembled : (text out listing out' : List ℕ) → words_of (specify text out) ≡ words_of (assemble listing out') → ⊥
+specified-assembled text out listing out' e = let n : 115 ≡ 97 = first-letters _ _ _ _ e in omega (arith, n)
+
+specified-rests : (text out spec bin : List ℕ) → words_of (specify text out) ≡ words_of (axioms spec bin) → ⊥
+specified-rests text out spec bin e = let n : 115 ≡ 97 = first-letters _ _ _ _ e in omega (arith, n)
+
+drafts-specified : (spec bin text out : List ℕ) → words_of (draft spec bin) ≡ words_of (specify text out) → ⊥
+drafts-specified spec bin text out e = let n : 100 ≡ 115 = first-letters _ _ _ _ e in omega (arith, n)
+
 same-words : (r s : Request) → words_of r ≡ words_of s → IsInRange r → IsInRange s → r ≡ s
 unfolding second third
 same-words (verify spec bin) (verify spec' bin') e i j = ap (λ name. verify name bin) (ap second e) ∙ ap (λ name. verify spec' name) (ap third e)
@@ -56,36 +87,64 @@ same-words (verify spec bin) (show bin') e i j = absurd (lengths-differ _ _ _ _ 
 same-words (verify spec bin) (compile text out) e i j = absurd (commands-differ spec bin text out e)
 same-words (verify spec bin) (assemble listing out) e i j = absurd (listings-differ listing out spec bin (sym e))
 same-words (verify spec bin) (axioms spec' bin') e i j = absurd (rests-differ spec' bin' spec bin (sym e))
+same-words (verify spec bin) (draft spec' bin') e i j = absurd (drafts-differ spec' bin' spec bin (sym e))
+same-words (verify spec bin) (specify text out) e i j = absurd (specified-verified text out spec bin (sym e))
 same-words (verify spec bin) (sample n) e i j = absurd (lengths-differ _ _ _ _ _ e)
 same-words (show bin) (verify spec' bin') e i j = absurd (lengths-differ _ _ _ _ _ (sym e))
 same-words (show bin) (show bin') e i j = ap show (ap second e)
 same-words (show bin) (compile text out) e i j = absurd (lengths-differ _ _ _ _ _ (sym e))
 same-words (show bin) (assemble listing out) e i j = absurd (lengths-differ _ _ _ _ _ (sym e))
 same-words (show bin) (axioms spec bin') e i j = absurd (lengths-differ _ _ _ _ _ (sym e))
+same-words (show bin) (draft spec bin') e i j = absurd (lengths-differ _ _ _ _ _ (sym e))
+same-words (show bin) (specify text out) e i j = absurd (lengths-differ _ _ _ _ _ (sym e))
 same-words (show bin) (sample n) e i j = absurd (lists-differ bin n e)
 same-words (compile text out) (verify spec bin) e i j = absurd (commands-differ spec bin text out (sym e))
 same-words (compile text out) (show bin) e i j = absurd (lengths-differ _ _ _ _ _ e)
 same-words (compile text out) (compile text' out') e i j = ap (λ name. compile name out) (ap second e) ∙ ap (λ name. compile text' name) (ap third e)
 same-words (compile text out) (assemble listing out') e i j = absurd (makers-differ listing out' text out (sym e))
 same-words (compile text out) (axioms spec bin) e i j = absurd (rests-compiled spec bin text out (sym e))
+same-words (compile text out) (draft spec bin) e i j = absurd (drafts-compiled spec bin text out (sym e))
+same-words (compile text out) (specify text' out') e i j = absurd (specified-compiled text' out' text out (sym e))
 same-words (compile text out) (sample n) e i j = absurd (lengths-differ _ _ _ _ _ e)
 same-words (assemble listing out) (verify spec bin) e i j = absurd (listings-differ listing out spec bin e)
 same-words (assemble listing out) (show bin) e i j = absurd (lengths-differ _ _ _ _ _ e)
 same-words (assemble listing out) (compile text out') e i j = absurd (makers-differ listing out text out' e)
 same-words (assemble listing out) (assemble listing' out') e i j = ap (λ name. assemble name out) (ap second e) ∙ ap (λ name. assemble listing' name) (ap third e)
 same-words (assemble listing out) (axioms spec bin) e i j = absurd (rests-assembled spec bin listing out (sym e))
+same-words (assemble listing out) (draft spec bin) e i j = absurd (drafts-assembled spec bin listing out (sym e))
+same-words (assemble listing out) (specify text out') e i j = absurd (specified-assembled text out' listing out (sym e))
 same-words (assemble listing out) (sample n) e i j = absurd (lengths-differ _ _ _ _ _ e)
 same-words (axioms spec bin) (verify spec' bin') e i j = absurd (rests-differ spec bin spec' bin' e)
 same-words (axioms spec bin) (show bin') e i j = absurd (lengths-differ _ _ _ _ _ e)
 same-words (axioms spec bin) (compile text out) e i j = absurd (rests-compiled spec bin text out e)
 same-words (axioms spec bin) (assemble listing out) e i j = absurd (rests-assembled spec bin listing out e)
 same-words (axioms spec bin) (axioms spec' bin') e i j = ap (λ name. axioms name bin) (ap second e) ∙ ap (λ name. axioms spec' name) (ap third e)
+same-words (axioms spec bin) (draft spec' bin') e i j = absurd (drafts-rest spec' bin' spec bin (sym e))
+same-words (axioms spec bin) (specify text out) e i j = absurd (specified-rests text out spec bin (sym e))
 same-words (axioms spec bin) (sample n) e i j = absurd (lengths-differ _ _ _ _ _ e)
+same-words (draft spec bin) (verify spec' bin') e i j = absurd (drafts-differ spec bin spec' bin' e)
+same-words (draft spec bin) (show bin') e i j = absurd (lengths-differ _ _ _ _ _ e)
+same-words (draft spec bin) (compile text out) e i j = absurd (drafts-compiled spec bin text out e)
+same-words (draft spec bin) (assemble listing out) e i j = absurd (drafts-assembled spec bin listing out e)
+same-words (draft spec bin) (axioms spec' bin') e i j = absurd (drafts-rest spec bin spec' bin' e)
+same-words (draft spec bin) (draft spec' bin') e i j = ap (λ name. draft name bin) (ap second e) ∙ ap (λ name. draft spec' name) (ap third e)
+same-words (draft spec bin) (specify text out) e i j = absurd (drafts-specified spec bin text out e)
+same-words (draft spec bin) (sample n) e i j = absurd (lengths-differ _ _ _ _ _ e)
+same-words (specify text out) (verify spec bin) e i j = absurd (specified-verified text out spec bin e)
+same-words (specify text out) (show bin) e i j = absurd (lengths-differ _ _ _ _ _ e)
+same-words (specify text out) (compile text' out') e i j = absurd (specified-compiled text out text' out' e)
+same-words (specify text out) (assemble listing out') e i j = absurd (specified-assembled text out listing out' e)
+same-words (specify text out) (axioms spec bin) e i j = absurd (specified-rests text out spec bin e)
+same-words (specify text out) (draft spec bin) e i j = absurd (drafts-specified spec bin text out (sym e))
+same-words (specify text out) (specify text' out') e i j = ap (λ name. specify name out) (ap second e) ∙ ap (λ name. specify text' name) (ap third e)
+same-words (specify text out) (sample n) e i j = absurd (lengths-differ _ _ _ _ _ e)
 same-words (sample n) (verify spec bin) e i j = absurd (lengths-differ _ _ _ _ _ (sym e))
 same-words (sample n) (show bin) e i j = absurd (lists-differ bin n (sym e))
 same-words (sample n) (compile text out) e i j = absurd (lengths-differ _ _ _ _ _ (sym e))
 same-words (sample n) (assemble listing out) e i j = absurd (lengths-differ _ _ _ _ _ (sym e))
 same-words (sample n) (axioms spec bin) e i j = absurd (lengths-differ _ _ _ _ _ (sym e))
+same-words (sample n) (draft spec bin) e i j = absurd (lengths-differ _ _ _ _ _ (sym e))
+same-words (sample n) (specify text out) e i j = absurd (lengths-differ _ _ _ _ _ (sym e))
 same-words (sample n) (sample m) e (some, few) (some', few') = ap sample (decimal_injective n m (omega (arith, few)) (omega (arith, few')) (ap second e))
 
 -- words ask for one request at the most

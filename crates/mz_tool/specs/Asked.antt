@@ -1,7 +1,7 @@
 -- The request that a command stands for.
-use Rattle.mz_tool.specs.Request.{Request, verify, show, compile, assemble, axioms, sample}
+use Rattle.mz_tool.specs.Request.{Request, verify, show, compile, assemble, axioms, draft, specify, sample}
 use Rattle.mz_tool.specs.declared.command.Command.{Command}
-use Rattle.mz_tool.specs.declared.command.Command.TheVariants.{Verify, Show, Compile, Assemble, Axioms, Sample}
+use Rattle.mz_tool.specs.declared.command.Command.TheVariants.{Verify, Show, Compile, Assemble, Axioms, Draft, Specify, Sample}
 
 abbrev pub request : Command → Request
 request (Verify spec bin) = verify spec.now bin.now
@@ -9,4 +9,6 @@ request (Show bin) = show bin.now
 request (Compile text out) = compile text.now out.now
 request (Assemble listing out) = assemble listing.now out.now
 request (Axioms spec bin) = axioms spec.now bin.now
+request (Draft spec bin) = draft spec.now bin.now
+request (Specify text out) = specify text.now out.now
 request (Sample size) = sample size.number

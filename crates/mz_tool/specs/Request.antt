@@ -10,6 +10,8 @@ pub data Request : Type 0 where
   compile : (text out : List ℕ) → Request
   assemble : (listing out : List ℕ) → Request
   axioms : (spec bin : List ℕ) → Request
+  draft : (spec bin : List ℕ) → Request
+  specify : (text out : List ℕ) → Request
   sample : (n : ℕ) → Request
 
 abbrev pub words_of : Request → List (List ℕ)
@@ -18,6 +20,8 @@ words_of (show bin) = codes "show" ∷ bin ∷ []
 words_of (compile text out) = codes "compile" ∷ text ∷ out ∷ []
 words_of (assemble listing out) = codes "assemble" ∷ listing ∷ out ∷ []
 words_of (axioms spec bin) = codes "axioms" ∷ spec ∷ bin ∷ []
+words_of (draft spec bin) = codes "draft" ∷ spec ∷ bin ∷ []
+words_of (specify text out) = codes "spec" ∷ text ∷ out ∷ []
 words_of (sample n) = codes "sample" ∷ decimal n ∷ []
 
 -- a sample has 1 to 10,000 definitions
@@ -27,6 +31,8 @@ IsInRange (show bin) = Unit {0}
 IsInRange (compile text out) = Unit {0}
 IsInRange (assemble listing out) = Unit {0}
 IsInRange (axioms spec bin) = Unit {0}
+IsInRange (draft spec bin) = Unit {0}
+IsInRange (specify text out) = Unit {0}
 IsInRange (sample n) = (1 ≤ n) × (n ≤ 10000)
 
 -- the words ask for it
@@ -40,6 +46,8 @@ names_read (show bin) = bin ∷ []
 names_read (compile text out) = text ∷ []
 names_read (assemble listing out) = listing ∷ []
 names_read (axioms spec bin) = spec ∷ bin ∷ []
+names_read (draft spec bin) = spec ∷ bin ∷ []
+names_read (specify text out) = text ∷ []
 names_read (sample n) = []
 
 -- the name under which it puts a file, where it puts one
@@ -49,6 +57,8 @@ name_put (show bin) = None
 name_put (compile text out) = Some out
 name_put (assemble listing out) = Some out
 name_put (axioms spec bin) = None
+name_put (draft spec bin) = None
+name_put (specify text out) = Some out
 name_put (sample n) = None
 
 -- what stands under each name

@@ -1,15 +1,17 @@
 -- How the program answers (this project's own).
-use Rattle.std.specs.Prelude.{◌≡◌, ◌⊎◌, ◌++◌, ℕ, List, [], ◌∷◌, length, Option, Some, None}
+use Rattle.std.specs.Prelude.{◌≡◌, ◌⊎◌, ◌++◌, ℕ, Bool, true, false, List, [], ◌∷◌, length, Option, Some, None}
 use Rattle.mz_cmd.specs.declared.rule.Refusal.{Refusal}
 use Rattle.mz_match.specs.declared.verdict.Counts.{Counts}
 use Rattle.mz_match.specs.declared.verdict.Verdict.{Verdict}
 use Rattle.mz_match.specs.declared.verdict.Verdict.TheVariants as verdicts
-use Rattle.mz_match.specs.Verdict.{AcceptsWith, FirstRefusal, IsSound, line_of}
+use Rattle.mz_match.specs.Verdict.{Accepts, AcceptsWith, FirstRefusalBy, IsSound, line_of}
+use Rattle.mz_match.specs.Drafts.{DraftAccepts, IsDraftSound}
 use Rattle.mz_binary.specs.RefusalLine.{refusal_line}
 use Rattle.mz_show.specs.Listing.{IsListing, IsListedUpTo, IsListed}
 use Rattle.mz_sexpr.specs.declared.rule.TextRefusal.{TextRefusal}
 use Rattle.mz_type.specs.TextOf.{TextFault}
 use Rattle.mz_emit.specs.declared.rule.L.{L}
+use Rattle.mz_emit.specs.declared.rule.L.TheVariants.{Bytes}
 use Rattle.mz_emit.specs.Lines.{bytes_line, refusal_line as text_refusal_line, limit_line}
 use Rattle.mz_emit.specs.Limits.{limit, over}
 use Rattle.mz_emit.specs.Compiling.{CompilesTo, PassesLimit}
@@ -18,8 +20,12 @@ use Rattle.mz_asm.specs.Spoken.{bytes_line as assembled_line, refusal_line as li
 use Rattle.mz_asm.specs.Assembling.{IsBinaryOf, Breaks, IsTooLong}
 use Rattle.mz_axioms.specs.Lists.{TheoremSupport, AreSupports}
 use Rattle.mz_axioms.specs.Text.{IsTextOf}
+use Rattle.mz_axioms.specs.Gaps.{IsGapsTextOf}
 use Rattle.mz_sample.specs.Samples.{sample_specification, sample_text, sample_line}
-use Rattle.mz_tool.specs.Request.{Request, verify, show, compile, assemble, axioms, sample, Files, Hold, names_read}
+use Rattle.mz_tool.specs.Request.{Request, verify, show, compile, assemble, axioms, draft, specify, sample, Files, Hold, names_read}
+use Rattle.mz_wording.specs.Wording.{Unwritten, local_in, long_in, too_long, longest, IsWordedAs, IsUnwritten}
+use Rattle.mz_agreeing.specs.Laws.{DeclaresText}
+use Rattle.mz_prefix.specs.Told.{specified_line, local_line, long_line}
 use Rattle.mz_tool.specs.declared.status.Status.{Status}
 use Rattle.mz_tool.specs.declared.status.Status.TheVariants as statuses
 
@@ -29,9 +35,12 @@ use Rattle.mz_tool.specs.declared.status.Status.TheVariants as statuses
 abbrev pub IsVerified : List ℕ → List ℕ → List ℕ → Type 0
 IsVerified spec bin text = (counts : Counts) × AcceptsWith spec bin counts × (text ≡ line_of (verdicts.Accepted counts))
 
--- it is refused, by the one first refusal
+-- it is refused, by the one first refusal, with gaps or without
+abbrev pub IsRefutedBy : Bool → List ℕ → List ℕ → List ℕ → Type 0
+IsRefutedBy gaps spec bin text = (verdict : Verdict) × FirstRefusalBy gaps spec bin verdict × (text ≡ line_of verdict)
+
 abbrev pub IsRefuted : List ℕ → List ℕ → List ℕ → Type 0
-IsRefuted spec bin text = (verdict : Verdict) × FirstRefusal spec bin verdict × (text ≡ line_of verdict)
+IsRefuted spec bin text = IsRefutedBy false spec bin text
 
 -- the listing stops, and the refusal's line follows what was listed
 abbrev pub IsPartlyListed : List ℕ → List ℕ → Type 0
@@ -62,6 +71,32 @@ IsNotAssembled text line =
 -- it rests
 abbrev pub AreAxiomsTold : List ℕ → List ℕ → List ℕ → Type 0
 AreAxiomsTold spec bin text = (supports : List TheoremSupport) × AreSupports spec bin supports × IsTextOf spec supports text
+
+-- the binary, whose proofs may have gaps, is accepted against the specification, and the lines say how many of its theorems
+-- rest on a gap, and which: the public ones among the gapped theorems of the binary, in their order
+abbrev pub IsDraftTold : List ℕ → List ℕ → List ℕ → Type 0
+IsDraftTold spec bin text = (counts : Counts) × (places : List ℕ) × DraftAccepts spec bin counts places × IsGapsTextOf spec counts.theorems places text
+
+-- the bytes, which are put, are the specification of the text's public statements
+abbrev pub IsSpecifiedTo : List ℕ → Option (List ℕ) → List ℕ → Type 0
+IsSpecifiedTo text put line = (spec : List ℕ) × (put ≡ Some spec) × IsWordedAs longest text spec × (line ≡ specified_line (length spec))
+
+-- each specification of a text declares what agrees with its public statements, and what the text is compiled to is
+-- accepted against it
+abbrev pub AreItsSpecifications : List ℕ → Type 0
+AreItsSpecifications text = (spec : List ℕ) → IsWordedAs longest text spec → DeclaresText spec text × ((bin : List ℕ) → CompilesTo text bin → Accepts spec bin)
+
+-- the line of what stands against a specification
+abbrev pub unwritten_line : Unwritten → List ℕ
+unwritten_line (local_in statement) = local_line statement
+unwritten_line (long_in statement) = long_line statement
+unwritten_line (too_long count) = limit_line Bytes count
+
+-- the text has a first fault, or is well typed and something stands first against its specification
+abbrev pub IsNotSpecified : List ℕ → List ℕ → Type 0
+IsNotSpecified text line =
+    ((refusal : TextRefusal) × TextFault text refusal × (line ≡ text_refusal_line refusal))
+    ⊎ ((u : Unwritten) × IsUnwritten longest text u × (line ≡ unwritten_line u))
 
 -- a text is compiled, and the binary accepted against the specification
 abbrev pub IsUpheld : List ℕ → List ℕ → List ℕ → Type 0
@@ -95,6 +130,8 @@ IsYesOf (show bin_name) (bin ∷ []) put text = (put ≡ None) × IsListing bin 
 IsYesOf (compile text_name out_name) (stated ∷ []) put text = IsCompiledTo stated put text
 IsYesOf (assemble listing_name out_name) (listing ∷ []) put text = IsAssembledTo listing put text
 IsYesOf (axioms spec_name bin_name) (spec ∷ bin ∷ []) put text = (put ≡ None) × AreAxiomsTold spec bin text
+IsYesOf (draft spec_name bin_name) (spec ∷ bin ∷ []) put text = (put ≡ None) × IsDraftTold spec bin text
+IsYesOf (specify text_name out_name) (stated ∷ []) put text = IsSpecifiedTo stated put text
 IsYesOf (sample n) [] put text = (put ≡ None) × IsSampleUpheld n text
 IsYesOf request contents put text = ⊥
 
@@ -105,12 +142,16 @@ IsNoOf (show bin_name) (bin ∷ []) text = IsPartlyListed bin text
 IsNoOf (compile text_name out_name) (stated ∷ []) text = IsNotCompiled stated text
 IsNoOf (assemble listing_name out_name) (listing ∷ []) text = IsNotAssembled listing text
 IsNoOf (axioms spec_name bin_name) (spec ∷ bin ∷ []) text = IsRefuted spec bin text
+IsNoOf (draft spec_name bin_name) (spec ∷ bin ∷ []) text = IsRefutedBy true spec bin text
+IsNoOf (specify text_name out_name) (stated ∷ []) text = IsNotSpecified stated text
 IsNoOf (sample n) [] text = IsSampleFaulted n text
 IsNoOf request contents text = ⊥
 
 -- What is accepted is sound: each theorem of the specification ends a front of the binary's statements, which is a legal
 -- list and agrees with the specification up to the theorem; it has a closed derivation over the statements before it, and
 -- this cites only axioms that the specification declares before it. All of the binary's statements are legal and agree too.
+-- What is accepted with gaps agrees and is a legal draft, and each theorem that isn't gapped has a derivation without gaps,
+-- over the statements before it, that cites no gapped theorem.
 abbrev pub IsProvedOf : Request → List (List ℕ) → Type 0
 IsProvedOf (verify spec_name bin_name) (spec ∷ bin ∷ []) = IsSound spec bin
 IsProvedOf (verify spec_name bin_name) contents = ⊥
@@ -119,6 +160,10 @@ IsProvedOf (compile text_name out_name) contents = Unit {0}
 IsProvedOf (assemble listing_name out_name) contents = Unit {0}
 IsProvedOf (axioms spec_name bin_name) (spec ∷ bin ∷ []) = IsSound spec bin
 IsProvedOf (axioms spec_name bin_name) contents = ⊥
+IsProvedOf (draft spec_name bin_name) (spec ∷ bin ∷ []) = IsDraftSound spec bin
+IsProvedOf (draft spec_name bin_name) contents = ⊥
+IsProvedOf (specify text_name out_name) (stated ∷ []) = AreItsSpecifications stated
+IsProvedOf (specify text_name out_name) contents = ⊥
 IsProvedOf (sample n) contents = IsProvedByText (sample_specification n) (sample_text n)
 
 -- ---- the same over the folder's files
@@ -154,6 +199,8 @@ IsListedFor file (verify spec_name bin_name) text = ⊥
 IsListedFor file (compile text_name out_name) text = ⊥
 IsListedFor file (assemble listing_name out_name) text = ⊥
 IsListedFor file (axioms spec_name bin_name) text = ⊥
+IsListedFor file (draft spec_name bin_name) text = ⊥
+IsListedFor file (specify text_name out_name) text = ⊥
 IsListedFor file (sample n) text = ⊥
 IsListedFor file (show bin_name) text = (bin : List ℕ) × (file bin_name ≡ Some bin) × IsListed bin text
 
@@ -163,6 +210,8 @@ IsShow (show bin) = Unit {0}
 IsShow (compile text out) = ⊥
 IsShow (assemble listing out) = ⊥
 IsShow (axioms spec bin) = ⊥
+IsShow (draft spec bin) = ⊥
+IsShow (specify text out) = ⊥
 IsShow (sample n) = ⊥
 
 -- the statuses at which a file may have been put, or spoilt

@@ -20,6 +20,10 @@ pub enum Command<'a> {
     Assemble { listing: &'a str, out: &'a str },
     /// `axioms SPEC BIN`
     Axioms { spec: &'a str, bin: &'a str },
+    /// `draft SPEC BIN`
+    Draft { spec: &'a str, bin: &'a str },
+    /// `spec TEXT OUT`
+    Specify { text: &'a str, out: &'a str },
     /// `sample N`
     Sample { size: SampleSize },
 }
@@ -78,6 +82,14 @@ impl<'a> Command<'a> {
                 spec: first,
                 bin: second,
             }),
+            "draft" => Some(Command::Draft {
+                spec: first,
+                bin: second,
+            }),
+            "spec" => Some(Command::Specify {
+                text: first,
+                out: second,
+            }),
             _ => None,
         }
     }
@@ -92,6 +104,8 @@ impl<'a> Command<'a> {
             Command::Compile { text, .. } => Inputs::One(text),
             Command::Assemble { listing, .. } => Inputs::One(listing),
             Command::Axioms { spec, bin } => Inputs::Two(spec, bin),
+            Command::Draft { spec, bin } => Inputs::Two(spec, bin),
+            Command::Specify { text, .. } => Inputs::One(text),
             Command::Sample { .. } => Inputs::Nothing,
         }
     }
@@ -104,8 +118,11 @@ impl<'a> Command<'a> {
             Command::Verify { .. }
             | Command::Show { .. }
             | Command::Axioms { .. }
+            | Command::Draft { .. }
             | Command::Sample { .. } => Output::Nothing,
-            Command::Compile { out, .. } | Command::Assemble { out, .. } => Output::File(out),
+            Command::Compile { out, .. }
+            | Command::Assemble { out, .. }
+            | Command::Specify { out, .. } => Output::File(out),
         }
     }
 }

@@ -10,9 +10,11 @@ use crate::assemble::assemble;
 use crate::axioms::axioms;
 use crate::command::Command;
 use crate::compile::compile;
+use crate::draft::draft;
 use crate::inputs::Contents;
 use crate::output::Put;
 use crate::sample::sample;
+use crate::specify::specify;
 use crate::verify::verify;
 use std::alloc::Global;
 
@@ -44,6 +46,8 @@ pub fn outcome_of(alloc: Global, command: Command, contents: &Contents) -> Outco
         (Command::Compile { .. }, Contents::One(text)) => compile(alloc, text),
         (Command::Assemble { .. }, Contents::One(listing)) => assemble(alloc, listing),
         (Command::Axioms { .. }, Contents::Two(spec, bin)) => axioms(alloc, spec.as_slice(), bin),
+        (Command::Draft { .. }, Contents::Two(spec, bin)) => draft(alloc, spec.as_slice(), bin),
+        (Command::Specify { .. }, Contents::One(text)) => specify(alloc, text),
         (Command::Sample { size }, Contents::Nothing) => sample(alloc, size),
         _ => unreachable!(),
     }

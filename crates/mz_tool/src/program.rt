@@ -29,7 +29,8 @@ pub fn run<F: Folder, O: Sink>(
         × ((text : List ℕ) × IsNo (F.file folder.old) asked text × (O.told → O.written out.new ≡ O.written out.old ++ text)) }
 
     // What is accepted is proved: each theorem of the specification ends a legal front of the binary's statements, and
-    // rests on the specification's axioms before it alone.
+    // rests on the specification's axioms before it alone. With `draft` this is so of what rests on no gap: it is derived
+    // without gaps, and from no theorem that rests on one.
     ensures sound { F.told → (asked : Request) → Asks (map string_bytes words.now) asked → result ≡ Status.Done → IsProved (F.file folder.old) asked }
 
     // Where the files are there and nothing fails, the answer comes, or no memory was left.
@@ -130,6 +131,8 @@ pub fn answer<F: Folder, O: Sink>(
         | Command::Compile { .. }
         | Command::Assemble { .. }
         | Command::Axioms { .. }
+        | Command::Draft { .. }
+        | Command::Specify { .. }
         | Command::Sample { .. } => answer_whole(alloc, limit, command, folder, out),
     }
 }

@@ -14,6 +14,25 @@ pub const ONE_LISTING: &str = "sort 0 4\nend\n";
 
 const RESTS_ON: &str = "a1i: ax_1 ax_mp\n";
 
+const OPEN: &str = "draft: 1 of 1 theorems rest on a gap\ngap t\n";
+
+/// A theorem of a sort with one term.
+const OPEN_SPEC: &str = "provable sort wff; term p: wff; theorem t: $ p $;";
+
+/// Its binary, in which the proof is left open.
+const GAP: &[u8] = &[
+    0x4d, 0x4d, 0x30, 0x42, 1, 1, 0, 0, 1, 0, 0, 0, 1, 0, 0, 0, 0x30, 0, 0, 0, 0x38, 0, 0, 0, 0x50,
+    0, 0, 0, 0, 0, 0, 0, 0, 0, 0, 0, 0, 0, 0, 0, 4, 0, 0, 0, 0, 0, 0, 0, 0, 0, 0, 0, 0x40, 0, 0, 0,
+    0, 0, 0, 0, 0x48, 0, 0, 0, 0, 0, 0, 0, 0, 0, 0, 0, 0x30, 0, 0, 0, 0, 0, 0, 0, 0x44, 2, 0x45, 2,
+    0x46, 5, 0x10, 0x20, 0, 0,
+];
+
+const SPECIFYING: &str = "spec text out";
+
+const SPECIFIED: &str = "specified: 19 bytes\n";
+
+const MADE_SPEC: &str = "provable sort wff;\n";
+
 const SAMPLE_ONE: &str =
     "sample: 367 bytes of specification, 514 bytes of text\naccepted: 2 sorts, 2 terms, 3 axioms, 1 definitions, 2 theorems\n";
 
@@ -25,19 +44,22 @@ pub const RUNS: &[(&str, u8, u8, &str)] = &[
     ("compile text out", 3, 1, "compiled: 51 bytes\n"),
     ("assemble list out", 3, 1, "assembled: 51 bytes\n"),
     ("axioms claim proof", 6, 0, RESTS_ON),
+    ("draft open gap", 6, 0, OPEN),
+    (SPECIFYING, 3, 1, SPECIFIED),
     ("sample 1", 0, 0, SAMPLE_ONE),
 ];
 
-/// The smallest specification, proof text and listing, and a specification with a theorem.
+/// The smallest specification, proof text and listing, and two specifications with a theorem.
 const TEXTS: &[(&str, &str)] = &[
     ("spec", ONE_SPEC),
     ("text", SORT),
     ("list", ONE_LISTING),
     ("claim", IMP_SPEC),
+    ("open", OPEN_SPEC),
 ];
 
-/// The binaries of both specifications.
-const BINARIES: &[(&str, &[u8])] = &[("bin", ONE), ("proof", IMP)];
+/// The binaries of these specifications.
+const BINARIES: &[(&str, &[u8])] = &[("bin", ONE), ("proof", IMP), ("gap", GAP)];
 
 /// These files, with room for one that is put.
 pub fn smallest(alloc: Global) -> Result<MemFolder, AllocError> {
@@ -52,6 +74,14 @@ pub fn smallest(alloc: Global) -> Result<MemFolder, AllocError> {
     Ok(folder)
 }
 
+/// What a command puts that puts a file: the smallest binary, or the specification of the smallest text.
+fn made_by(line: &str) -> &[u8] {
+    if line == SPECIFYING {
+        return MADE_SPEC.as_bytes();
+    }
+    ONE
+}
+
 /// Asserts that the files are as they were, and whether one was put.
 pub fn assert_files(rt: &impl Abort, folder: &MemFolder, is_put: bool, what: &str) {
     for (name, text) in TEXTS {
@@ -63,7 +93,7 @@ pub fn assert_files(rt: &impl Abort, folder: &MemFolder, is_put: bool, what: &st
     for (name, bytes) in BINARIES {
         assert!(rt; folder.file(name) == Some(*bytes), "{name} for {what}");
     }
-    let put = if is_put { Some(ONE) } else { None };
+    let put = if is_put { Some(made_by(what)) } else { None };
     assert!(rt;
         folder.file("out") == put,
         "the file that is put for {what}"
@@ -196,8 +226,8 @@ fn ended_within(
 }
 
 /// How many bytes a file may have, and what is written where none is too long. The smallest specification
-/// has 18 bytes, the binary 51, the text 20 and the listing 13, the claim 228 and the
-/// proof 238; a sample is no file.
+/// has 18 bytes, the binary 51, the text 20 and the listing 13, the claim 228, the
+/// proof 238, the open claim 49 and the gap 90; a sample is no file.
 const LIMITS: &[(u32, &str, Option<&str>)] = &[
     (17, "verify spec bin", None),
     (18, "verify spec bin", None),
@@ -213,6 +243,12 @@ const LIMITS: &[(u32, &str, Option<&str>)] = &[
     (228, "axioms claim proof", None),
     (237, "axioms claim proof", None),
     (238, "axioms claim proof", Some(RESTS_ON)),
+    (48, "draft open gap", None),
+    (49, "draft open gap", None),
+    (89, "draft open gap", None),
+    (90, "draft open gap", Some(OPEN)),
+    (19, SPECIFYING, None),
+    (20, SPECIFYING, Some(SPECIFIED)),
     (0, "sample 1", Some(SAMPLE_ONE)),
 ];
 

@@ -23,4 +23,6 @@ mod samples;
 #[cfg(test)]
 mod slow;
 #[cfg(test)]
+mod specifying;
+#[cfg(test)]
 mod texts;

@@ -3,6 +3,7 @@ mod assembling;
 mod change;
 mod codes;
 mod cut;
+mod drafting;
 mod faults;
 pub mod files;
 mod hostile;
@@ -57,8 +58,20 @@ pub fn expect(
 /// The commands that say the same of a pair that is refused.
 const REFUSING: &[&str] = &["verify spec bin", "axioms spec bin"];
 
+const DRAFT: &str = "draft spec bin";
+
+/// What `draft` says where `verify` accepts: none of the theorems rests on a gap.
+fn without_gaps(alloc: Global, accepted: &str) -> Result<String, AllocError> {
+    let words = words_of(alloc, accepted)?;
+    let theorems = match words.get(words.len().wrapping_sub(2)) {
+        Some(word) => word.as_str(),
+        None => "",
+    };
+    format!(in alloc; "draft: 0 of {theorems} theorems rest on a gap\n")
+}
+
 /// Verifies a binary against a specification, and compares the line and the status. Where it is refused,
-/// `axioms` says the same.
+/// `axioms` says the same, and so does `draft`, but of a Sorry, which may stand in a draft.
 pub fn expect_verdict(
     rt: &(impl Abort + AllocGlobal),
     spec: &[u8],
@@ -69,12 +82,17 @@ pub fn expect_verdict(
     let text = format!(in rt.alloc(); "{line}\n")?;
     let text = text.as_bytes();
     if line.as_bytes().starts_with(b"accepted: ") {
-        return expect(rt, "verify spec bin", spec, bin, Status::Done, text, what);
+        expect(rt, "verify spec bin", spec, bin, Status::Done, text, what)?;
+        let told = without_gaps(rt.alloc(), line)?;
+        return expect(rt, DRAFT, spec, bin, Status::Done, told.as_bytes(), what);
     }
     for command in REFUSING {
         expect(rt, command, spec, bin, Status::Refused, text, what)?;
     }
-    Ok(())
+    if line.as_bytes().ends_with(b" sorry") {
+        return Ok(());
+    }
+    expect(rt, DRAFT, spec, bin, Status::Refused, text, what)
 }
 
 /// Verifies changes of one file against one specification.

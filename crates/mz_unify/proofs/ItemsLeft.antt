@@ -12,12 +12,12 @@ use Rattle.mz_cmd.specs.Reading.{first_command}
 use Rattle.mz_logic.specs.Tree.{Tree}
 use Rattle.mz_logic.specs.Signature.{Signature}
 use Rattle.mz_logic.specs.declared.binder.Binder.{Binder}
-use Rattle.mz_unify.specs.Steps.{◌>>=◌, ◌>>◌, need, want, at_place, Turn, over, goes_on, follow}
-use Rattle.mz_unify.specs.Streams.{of_definition, UnifyCommand, u_term, u_term_save, u_ref, u_dummy, u_hyp, u_end, command_in, unify_command}
-use Rattle.mz_unify.specs.Profile.{strict, Item, tree_parts}
-use Rattle.mz_unify.specs.Tests.{same_tree}
-use Rattle.mz_unify.specs.UnifyMachine.{at_end, in_definition, kind_of, UnifyState, top_target, operands_of, is_fresh, is_empty, unify_row, unify_turn_by, unify_turn, unify_from}
-use Rattle.mz_unify.proofs.Inverting.{from_need, taken-is, both-true}
+use Rattle.mz_unification.specs.Steps.{◌>>=◌, ◌>>◌, need, want, at_place, Turn, over, goes_on, follow}
+use Rattle.mz_unification.specs.Streams.{of_definition, UnifyCommand, u_term, u_term_save, u_ref, u_dummy, u_hyp, u_end, command_in, unify_command}
+use Rattle.mz_unification.specs.Profile.{strict, Item, tree_parts}
+use Rattle.mz_unification.specs.Tests.{same_tree}
+use Rattle.mz_unification.specs.UnifyMachine.{at_end, in_definition, kind_of, UnifyState, top_target, operands_of, is_fresh, is_empty, unify_row, unify_turn_by, unify_turn, unify_from}
+use Rattle.mz_unification.proofs.Inverting.{from_need, taken-is, both-true}
 
 module _ (sigs : List Signature) (ctx : List Binder) where
   abbrev turned : Turn (UnifyState Tree) → Result (Turn (UnifyState Tree)) K

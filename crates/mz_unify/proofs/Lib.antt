@@ -1,21 +1,3 @@
-pub mod Inverting
-pub mod Turning
-pub mod UnifyRuns
-pub mod Trees
-pub mod TestLaws
-pub mod Matching
-pub mod Citations
-pub mod Unfolding
-pub mod NoDummies
-pub mod Spelled
-pub mod OwnStream
-pub mod Below
-pub mod OneSpelling
-pub mod FreshVars
-pub mod Completing
-pub mod Exactness
-pub mod SomeText
-pub mod Exact
 pub mod StoredIds
 pub mod VariableWords
 pub mod RowValues
@@ -23,5 +5,3 @@ pub mod UnifyTurns
 pub mod Underway
 pub mod ItemsLeft
 pub mod RunsExact
-pub mod TwoOperands
-pub mod PlainRuns

@@ -11,14 +11,14 @@ use Rattle.mz_logic.specs.declared.binder.Binder.{Binder}
 use Rattle.mz_store.specs.Sharing.{Sharing, trees_of, head_of}
 use Rattle.mz_store.specs.Sharing.{operands_of as store_operands}
 use Rattle.mz_store.specs.declared.item.Id.{Id}
-use Rattle.mz_unify.specs.Streams.{u_term, u_term_save, u_ref, u_dummy, u_hyp, u_end}
-use Rattle.mz_unify.specs.Profile.{strict, Item, tree_parts}
-use Rattle.mz_unify.specs.Tests.{same_tree}
-use Rattle.mz_unify.specs.UnifyMachine.{UnifyMode, UnifyState, is_empty, operands_of, is_fresh, nothing_left, next_hypothesis, unify_row}
+use Rattle.mz_unification.specs.Streams.{u_term, u_term_save, u_ref, u_dummy, u_hyp, u_end}
+use Rattle.mz_unification.specs.Profile.{strict, Item, tree_parts}
+use Rattle.mz_unification.specs.Tests.{same_tree}
+use Rattle.mz_unification.specs.UnifyMachine.{UnifyMode, UnifyState, is_empty, operands_of, is_fresh, nothing_left, next_hypothesis, unify_row}
 use Rattle.mz_unify.specs.Stored.{stack_at}
 use Rattle.mz_unify.specs.Rows.{with_targets}
 use Rattle.mz_unify.proofs.StoredIds.{listed-trees, stack-operands}
-use Rattle.mz_unify.proofs.Trees.{same_tree-true, same_tree-refl}
+use Rattle.mz_unification.proofs.Trees.{same_tree-true, same_tree-refl}
 
 module _ (sigs : List Signature) (ctx : List Binder) (mode : UnifyMode) (st : UnifyState Tree) where
   -- ---- UTerm and UTermSave

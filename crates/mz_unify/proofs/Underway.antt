@@ -11,9 +11,9 @@ use Rattle.mz_logic.specs.Signature.{Signature}
 use Rattle.mz_store.specs.Sharing.{Sharing}
 use Rattle.mz_store.specs.declared.item.Id.{Id}
 use Rattle.mz_store.specs.declared.item.Item.{Item as Kept}
-use Rattle.mz_unify.specs.Streams.{UnifyCommand, IsEnd, unify_command}
-use Rattle.mz_unify.specs.Profile.{strict}
-use Rattle.mz_unify.specs.UnifyMachine.{UnifyMode as Mode, kind_of, UnifyState, unify_row, unify_from, unify_steps_from, unify, unify_steps}
+use Rattle.mz_unification.specs.Streams.{UnifyCommand, IsEnd, unify_command}
+use Rattle.mz_unification.specs.Profile.{strict}
+use Rattle.mz_unification.specs.UnifyMachine.{UnifyMode as Mode, kind_of, UnifyState, unify_row, unify_from, unify_steps_from, unify, unify_steps}
 use Rattle.mz_unify.specs.Stored.{mode_of, trees_at, items_at, matching_at, AreLeft, EndsWith, Says}
 use Rattle.mz_unify.specs.Rows.{command_of, StopsBy, TellsAny, state_at, stopped_at}
 use Rattle.mz_unify.specs.declared.unified.Unified.{Unified}
@@ -22,7 +22,7 @@ use Rattle.mz_unify.specs.declared.command.Command.{Command}
 use Rattle.mz_unify.specs.declared.command.Command.TheVariants.{Term, TermSave, Ref, Dummy, Hyp, End}
 use Rattle.mz_unify.specs.declared.command.Stop.{Stop}
 use Rattle.mz_unify.specs.declared.command.Stop.TheVariants.{Rule, Mem}
-use Rattle.mz_unify.proofs.Turning.{command-long}
+use Rattle.mz_unification.proofs.Turning.{command-long}
 use Rattle.mz_unify.proofs.UnifyTurns.{run_left, count_left, cut-run, cut-count, other-run, other-count, stopped-run, stopped-count, ended-run, ended-count, went-run, went-count}
 
 -- from here, at a place of the stream, what is left gives the whole

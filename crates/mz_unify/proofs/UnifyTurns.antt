@@ -8,13 +8,13 @@ use Rattle.mz_cmd.specs.Reading.{first_command}
 use Rattle.mz_logic.specs.Tree.{Tree}
 use Rattle.mz_logic.specs.Signature.{Signature}
 use Rattle.mz_logic.specs.declared.binder.Binder.{Binder}
-use Rattle.mz_unify.specs.Steps.{at_place, over, goes_on, follow, goes_to, if_read}
-use Rattle.mz_unify.specs.Streams.{UnifyCommand, u_end, IsEnd, unify_command}
-use Rattle.mz_unify.specs.Profile.{strict}
-use Rattle.mz_unify.specs.UnifyMachine.{UnifyMode, kind_of, UnifyState, unify_row, unify_turn_by, unify_turn, unify_from, unify_steps_from}
-use Rattle.mz_unify.proofs.Turning.{follow-same, goes_to-same, if_read-same, drop-less}
-use Rattle.mz_unify.proofs.UnifyRuns.{went-on, bound-never-ends, count-is-whole}
-use Rattle.mz_unify.proofs.Matching.{turn-goes}
+use Rattle.mz_unification.specs.Steps.{at_place, over, goes_on, follow, goes_to, if_read}
+use Rattle.mz_unification.specs.Streams.{UnifyCommand, u_end, IsEnd, unify_command}
+use Rattle.mz_unification.specs.Profile.{strict}
+use Rattle.mz_unification.specs.UnifyMachine.{UnifyMode, kind_of, UnifyState, unify_row, unify_turn_by, unify_turn, unify_from, unify_steps_from}
+use Rattle.mz_unification.proofs.Turning.{follow-same, goes_to-same, if_read-same, drop-less}
+use Rattle.mz_unification.proofs.UnifyRuns.{went-on, bound-never-ends, count-is-whole}
+use Rattle.mz_unification.proofs.Matching.{turn-goes}
 
 module _ (sigs : List Signature) (ctx : List Binder) (mode : UnifyMode) where
   -- what is left of a run, and of its count

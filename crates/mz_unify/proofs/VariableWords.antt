@@ -16,12 +16,12 @@ use Rattle.mz_store.specs.declared.item.DepsMode.{DepsMode}
 use Rattle.mz_store.specs.declared.item.DepsMode.TheVariants as of
 use Rattle.mz_unify.specs.Stored.{trees_at, IsVariable, AreVariables, TellsAllOf}
 use Rattle.mz_unify.specs.Rows.{InAnyV, TellsAny}
-use Rattle.mz_unify.specs.Profile.{strict}
+use Rattle.mz_unification.specs.Profile.{strict}
 use Rattle.mz_logic.specs.Sorts.{HasSort, IsBoundVar}
 use Rattle.mz_logic.specs.Legality.{sort_of}
-use Rattle.mz_unify.specs.Tests.{in_v, is_bound_var}
-use Rattle.mz_unify.specs.UnifyMachine.{within_any, is_fresh}
-use Rattle.mz_unify.proofs.TestLaws.{bound-is, is-bound, or-cases, or-left, or-right, in-v-true, v-in}
+use Rattle.mz_unification.specs.Tests.{in_v, is_bound_var}
+use Rattle.mz_unification.specs.UnifyMachine.{within_any, is_fresh}
+use Rattle.mz_unification.proofs.TestLaws.{bound-is, is-bound, or-cases, or-left, or-right, in-v-true, v-in}
 use Rattle.mz_unify.proofs.StoredIds.{trees-append}
 
 pub tells-none : (places : List ℕ) (P : ℕ → Type 0) → ((x : ℕ) → P x → ⊥) → Tells places 0 P

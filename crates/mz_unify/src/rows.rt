@@ -4,9 +4,9 @@ ghost use Rattle.mz_cmd.specs.declared.rule.K.{K};
 ghost use Rattle.mz_logic.specs.Tree.{Tree};
 ghost use Rattle.mz_logic.specs.Signature.{Signature};
 ghost use Rattle.mz_store.specs.Sharing.{IsIn, AreIn, tree_of, IsOver};
-ghost use Rattle.mz_unify.specs.Profile.{strict};
-ghost use Rattle.mz_unify.specs.Streams.{UnifyCommand, u_term, u_term_save, u_ref, u_dummy, u_hyp, u_end};
-ghost use Rattle.mz_unify.specs.UnifyMachine.{UnifyMode as Mode, UnifyState, unify_row, is_fresh, next_hypothesis, nothing_left};
+ghost use Rattle.mz_unification.specs.Profile.{strict};
+ghost use Rattle.mz_unification.specs.Streams.{UnifyCommand, u_term, u_term_save, u_ref, u_dummy, u_hyp, u_end};
+ghost use Rattle.mz_unification.specs.UnifyMachine.{UnifyMode as Mode, UnifyState, unify_row, is_fresh, next_hypothesis, nothing_left};
 ghost use Rattle.mz_unify.specs.Stored.{mode_of, trees_at, stack_at, items_at, AreItemsIn, AreLeft, TellsAllOf};
 ghost use Rattle.mz_unify.specs.Rows.{command_of, StopsBy, TellsAny, state_at, with_targets, IsRow};
 

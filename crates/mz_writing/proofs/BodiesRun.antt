@@ -12,13 +12,13 @@ use Rattle.mz_logic.specs.declared.binder.Binder.{Binder}
 use Rattle.mz_logic.proofs.Extend.{extends_append, extends_itself, sort_extends}
 use Rattle.mz_logic.proofs.Lists.{each_from_all}
 use Rattle.mz_logic.proofs.PlainLegality.{assertions_are_sorted, terms_are_sorted}
-use Rattle.mz_unify.specs.Profile.{strict}
-use Rattle.mz_unify.specs.Spells.{Text, trees_of}
-use Rattle.mz_unify.specs.Streams.{of_assertion, of_definition}
-use Rattle.mz_unify.proofs.Trees.{trees_of-listed}
-use Rattle.mz_machine.specs.Bodies.{Runs}
-use Rattle.mz_machine.specs.Lists.{kind_of, assertion_of, definition_of}
-use Rattle.mz_machine.specs.Tables.{Tables, Heading, is_definition, Declares}
+use Rattle.mz_unification.specs.Profile.{strict}
+use Rattle.mz_unification.specs.Spells.{Text, trees_of}
+use Rattle.mz_unification.specs.Streams.{of_assertion, of_definition}
+use Rattle.mz_unification.proofs.Trees.{trees_of-listed}
+use Rattle.mz_soundness.specs.Bodies.{Runs}
+use Rattle.mz_soundness.specs.Lists.{kind_of, assertion_of, definition_of}
+use Rattle.mz_soundness.specs.Tables.{Tables, Heading, is_definition, Declares}
 use Rattle.mz_steps.specs.Endings.{IsAsserted, IsEnding}
 use Rattle.mz_steps.specs.Laws.{DependOnFirst}
 use Rattle.mz_steps.specs.Sameness.{IsSameEnv, IsSameForm}

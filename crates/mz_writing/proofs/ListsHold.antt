@@ -18,9 +18,9 @@ use Rattle.mz_layout.specs.Normal.{Written, Parts, file_of}
 use Rattle.mz_layout.specs.Standing.{Fit, Stands, AreListed, body_place, next_place}
 use Rattle.mz_layout.proofs.PartsStand.{counts-said}
 use Rattle.mz_layout.proofs.StandingLaws.{stands-bytes}
-use Rattle.mz_machine.specs.FileRows.{taken_by, rows_taken, body_bytes}
-use Rattle.mz_machine.specs.Tables.{Declares}
-use Rattle.mz_machine.proofs.Declared.{pairs-long}
+use Rattle.mz_soundness.specs.FileRows.{taken_by, rows_taken, body_bytes}
+use Rattle.mz_soundness.specs.Tables.{Declares}
+use Rattle.mz_soundness.proofs.Declared.{pairs-long}
 use Rattle.mz_binary.specs.Chains.{IsGoodStatement, GoodTo, EndsAt}
 use Rattle.mz_binary.specs.Checking.{AllTaken, term_checks, thm_checks, kind_checks, checks_of}
 use Rattle.mz_binary.specs.Spelling.{IsKindOf, is_local_code}

@@ -20,16 +20,16 @@ use Rattle.mz_layout.specs.Tables.{TermRow as TermRecord, ThmRow as ThmRecord, s
 use Rattle.mz_layout.proofs.PartsStand.{SaysCounts, counts-said}
 use Rattle.mz_layout.proofs.TableLists.{slice_get-sorts}
 use Rattle.mz_layout.proofs.TablesRead.{mods-read, term-read, thm-read, term-stream, thm-stream}
-use Rattle.mz_unify.specs.Profile.{strict}
-use Rattle.mz_unify.specs.Spells.{Text, TermRow, ThmRow, SpellsTerm, SpellsThm}
-use Rattle.mz_unify.specs.Streams.{of_assertion, of_definition}
-use Rattle.mz_machine.specs.Bodies.{Runs, body_checks}
-use Rattle.mz_machine.specs.FileRows.{taken_by, stream_of, term_of_file, thm_of_file, rows_taken, body_bytes}
-use Rattle.mz_machine.specs.Lists.{assertion_of, definition_of}
-use Rattle.mz_machine.specs.RowWords.{IsResultWord, param_checks, word_checks}
-use Rattle.mz_machine.specs.Tables.{Tables, Heading, is_definition, Declares}
-use Rattle.mz_machine.proofs.Declared.{pairs-long}
-use Rattle.mz_machine.proofs.Outcomes.{bodies-checked}
+use Rattle.mz_unification.specs.Profile.{strict}
+use Rattle.mz_unification.specs.Spells.{Text, TermRow, ThmRow, SpellsTerm, SpellsThm}
+use Rattle.mz_unification.specs.Streams.{of_assertion, of_definition}
+use Rattle.mz_soundness.specs.Bodies.{Runs, body_checks}
+use Rattle.mz_soundness.specs.FileRows.{taken_by, stream_of, term_of_file, thm_of_file, rows_taken, body_bytes}
+use Rattle.mz_soundness.specs.Lists.{assertion_of, definition_of}
+use Rattle.mz_soundness.specs.RowWords.{IsResultWord, param_checks, word_checks}
+use Rattle.mz_soundness.specs.Tables.{Tables, Heading, is_definition, Declares}
+use Rattle.mz_soundness.proofs.Declared.{pairs-long}
+use Rattle.mz_soundness.proofs.Outcomes.{bodies-checked}
 use Rattle.mz_binary.specs.Checking.{MayStand, term_body_checks, sort_checks, term_checks, thm_checks}
 use Rattle.mz_binary.specs.Spelling.{SpellsRow}
 use Rattle.mz_steps.specs.Sameness.{IsSameTerm, IsSameForm, IsSameEnv}

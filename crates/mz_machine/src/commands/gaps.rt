@@ -3,10 +3,10 @@ ghost use Rattle.std.specs.Prelude.{ℕ, ◌≡◌, OnOk};
 ghost use Rattle.mz_cmd.specs.declared.code.ProofCode.TheVariants as code;
 ghost use Rattle.mz_logic.specs.Tree.{Tree};
 ghost use Rattle.mz_store.specs.Sharing.{IsOver};
-ghost use Rattle.mz_unify.specs.Profile.{draft};
+ghost use Rattle.mz_unification.specs.Profile.{draft};
 ghost use Rattle.mz_unify.specs.Stored.{items_at, AreItemsIn};
-ghost use Rattle.mz_machine.specs.Tables.{State};
-ghost use Rattle.mz_machine.specs.ProofMachine.{proof_row};
+ghost use Rattle.mz_soundness.specs.Tables.{State};
+ghost use Rattle.mz_soundness.specs.ProofMachine.{proof_row};
 ghost use Rattle.mz_machine.specs.Before.{tables_of, signatures_of};
 ghost use Rattle.mz_machine.specs.OverStore.{with_stack, GivesRule};
 

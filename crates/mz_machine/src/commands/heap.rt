@@ -5,11 +5,11 @@ ghost use Rattle.mz_logic.specs.Tree.{Tree};
 ghost use Rattle.mz_store.specs.Sharing.{IsIn, IsOver, tree_of};
 ghost use Rattle.mz_store.specs.declared.item.Item.TheVariants.{Conversion};
 ghost use Rattle.mz_store.specs.declared.item.Id.{Id};
-ghost use Rattle.mz_unify.specs.Profile.{strict, expr, proof, conversion};
+ghost use Rattle.mz_unification.specs.Profile.{strict, expr, proof, conversion};
 ghost use Rattle.mz_unify.specs.Stored.{items_at, item_at, AreItemsIn, IsItemIn};
-ghost use Rattle.mz_machine.specs.Tables.{Tables, State};
-ghost use Rattle.mz_machine.specs.Premises.{is_provable_sort, may_be_dummy_sort};
-ghost use Rattle.mz_machine.specs.ProofMachine.{proof_row, referred};
+ghost use Rattle.mz_soundness.specs.Tables.{Tables, State};
+ghost use Rattle.mz_soundness.specs.Premises.{is_provable_sort, may_be_dummy_sort};
+ghost use Rattle.mz_soundness.specs.ProofMachine.{proof_row, referred};
 ghost use Rattle.mz_machine.specs.Before.{tables_of, signatures_of};
 ghost use Rattle.mz_machine.specs.OverStore.{heap_at, with_stack, Gives, GivesRule, NeverWants, Grows};
 

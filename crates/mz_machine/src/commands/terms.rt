@@ -5,12 +5,12 @@ ghost use Rattle.mz_logic.specs.Tree.{Tree};
 ghost use Rattle.mz_layout.specs.Tables.{thm_row};
 ghost use Rattle.mz_store.specs.Sharing.{AreIn, IsIn, IsOver, tree_of};
 ghost use Rattle.mz_store.specs.declared.item.DepsMode.TheVariants.{All};
-ghost use Rattle.mz_unify.specs.Profile.{strict, expr, proof};
+ghost use Rattle.mz_unification.specs.Profile.{strict, expr, proof};
 ghost use Rattle.mz_unify.specs.Stored.{items_at, matching_at, AreItemsIn};
 ghost use Rattle.mz_unify.specs.declared.unified.UnifyMode.TheVariants.{Use};
-ghost use Rattle.mz_machine.specs.Tables.{State};
-ghost use Rattle.mz_machine.specs.ProofMachine.{proof_row, built, citation};
-ghost use Rattle.mz_machine.specs.Bodies.{row_steps};
+ghost use Rattle.mz_soundness.specs.Tables.{State};
+ghost use Rattle.mz_soundness.specs.ProofMachine.{proof_row, built, citation};
+ghost use Rattle.mz_soundness.specs.Bodies.{row_steps};
 ghost use Rattle.mz_machine.specs.Before.{tables_of, signatures_of};
 ghost use Rattle.mz_machine.specs.OverStore.{with_stack, Gives, UnlessMem, Grows};
 

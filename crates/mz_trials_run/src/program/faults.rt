@@ -28,6 +28,10 @@ const OTHER_WORDS: &[&str] = &[
     "axioms spec",
     "axioms spec bin bin",
     "Axioms spec bin",
+    "draft",
+    "draft spec",
+    "draft spec bin bin",
+    "Draft spec bin",
     "sample 1 1",
     "spec bin",
 ];
@@ -66,10 +70,13 @@ const MISSING: &[(&str, Status, u64)] = &[
     ("assemble other out", Status::ReadFault, 1),
     ("axioms other bin", Status::ReadFault, 1),
     ("axioms bin other", Status::ReadFault, 4),
+    ("draft other bin", Status::ReadFault, 1),
+    ("draft bin other", Status::ReadFault, 4),
     ("verify bin", Status::Usage, 0),
     ("compile bin", Status::Usage, 0),
     ("assemble bin", Status::Usage, 0),
     ("axioms bin", Status::Usage, 0),
+    ("draft bin", Status::Usage, 0),
 ];
 
 /// A file that is missing is the last one that is started; words of no command start none.
@@ -126,6 +133,7 @@ const COMMANDS: &[&str] = &[
     "compile text out",
     "assemble list out",
     "axioms spec bin",
+    "draft spec bin",
     "sample 1",
 ];
 

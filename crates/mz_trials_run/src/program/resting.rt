@@ -13,7 +13,7 @@ use std::test::Fail;
 /// are declared in this order and cited in the other, by way of the first local theorem; `t2` cites `t1`
 /// alone; `t3` cites a local theorem that doesn't use its hypothesis, which `t1` proves; `t4` cites `c` with
 /// ThmSave; and `t5` is its own hypothesis.
-const CHAIN: &[u8] = &[
+pub const CHAIN: &[u8] = &[
     0x4d, 0x4d, 0x30, 0x42, 1, 1, 0, 0, 3, 0, 0, 0, 0x0b, 0, 0, 0, 0x30, 0, 0, 0, 0x48, 0, 0, 0,
     0x10, 1, 0, 0, 0, 0, 0, 0, 0, 0, 0, 0, 0, 0, 0, 0, 4, 0, 0, 0, 0, 0, 0, 0, 0, 0, 0, 0, 0xa0, 0,
     0, 0, 0, 0, 0, 0, 0xa8, 0, 0, 0, 0, 0, 0, 0, 0xb0, 0, 0, 0, 0, 0, 0, 0, 0xb8, 0, 0, 0, 0, 0, 0,
@@ -31,7 +31,8 @@ const CHAIN: &[u8] = &[
     0x12, 0, 0,
 ];
 
-const CHAIN_SPEC: &str = "provable sort wff;
+/// What the chain proves.
+pub const CHAIN_SPEC: &str = "provable sort wff;
 term p: wff;
 term q: wff;
 term r: wff;

@@ -1,8 +1,8 @@
 use Rattle.std.proofs.Common.{refl}
 use Rattle.mz_layout.specs.Numbers.{number_at}
-use Rattle.mz_unify.specs.UnifyMachine.{unify_row, unify_from, unify, unify_steps_from}
-use Rattle.mz_machine.specs.ProofMachine.{built, citation, cited, unfolding_of, proof_row, ends_with, proof_end}
-use Rattle.mz_machine.specs.Bodies.{body_from, body_steps_from}
+use Rattle.mz_unification.specs.UnifyMachine.{unify_row, unify_from, unify, unify_steps_from}
+use Rattle.mz_soundness.specs.ProofMachine.{built, citation, cited, unfolding_of, proof_row, ends_with, proof_end}
+use Rattle.mz_soundness.specs.Bodies.{body_from, body_steps_from}
 use Rattle.mz_binary.specs.FileRun.{find_at, run_list, list_steps}
 use Rattle.mz_binary.proofs.examples.worked_files.Goals as goal
 

@@ -2,8 +2,8 @@ use Rattle.std.proofs.Common.{◌≡◌, ◌<◌, ◌∙◌, drop, true, false, 
 use Rattle.std.proofs.lemmas.Bool.{false≢true}
 use Rattle.std.proofs.lemmas.Result.{err_from_is_err_and}
 use Rattle.mz_layout.specs.Tables.{term_count, term_row}
-use Rattle.mz_machine.specs.Lists.{definition_of}
-use Rattle.mz_machine.specs.FileRows.{Taken, term_of_file, body_bytes}
+use Rattle.mz_soundness.specs.Lists.{definition_of}
+use Rattle.mz_soundness.specs.FileRows.{Taken, term_of_file, body_bytes}
 use Rattle.mz_machine.specs.Before.{taken_before}
 use Rattle.mz_binary.specs.FileRun.{has_body, stands_alone, after_kind}
 use Rattle.mz_binary.specs.Progress.{is_local_kind}

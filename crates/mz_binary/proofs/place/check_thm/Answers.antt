@@ -1,8 +1,8 @@
 use Rattle.std.proofs.Common.{◌<◌, ◌∙◌, Ok, ap, arith}
 use Rattle.std.proofs.lemmas.Result.{err_from_is_err_and}
 use Rattle.mz_layout.specs.Tables.{thm_count}
-use Rattle.mz_machine.specs.Lists.{assertion_of}
-use Rattle.mz_machine.specs.FileRows.{Taken, thm_of_file, body_bytes}
+use Rattle.mz_soundness.specs.Lists.{assertion_of}
+use Rattle.mz_soundness.specs.FileRows.{Taken, thm_of_file, body_bytes}
 use Rattle.mz_machine.specs.Before.{taken_before}
 use Rattle.mz_binary.specs.FileRun.{has_body, after_kind}
 use Rattle.mz_binary.specs.Progress.{is_axiom_kind}

@@ -6,7 +6,7 @@ use Rattle.mz_checks.proofs.InOrder.{all_hold-both, fails-after, fails-before}
 use Rattle.mz_cmd.specs.declared.rule.K.TheVariants.{Result}
 use Rattle.mz_layout.specs.Tables.{term_row}
 use Rattle.mz_layout.proofs.TableLists.{length-term_words}
-use Rattle.mz_machine.specs.RowWords.{first_sorts, param_checks, word_checks, IsResultWord}
+use Rattle.mz_soundness.specs.RowWords.{first_sorts, param_checks, word_checks, IsResultWord}
 use Rattle.mz_binary.proofs.words.check_term_words.Goals as goal
 
 pub returns-in_err-bound : goal.returns-in_err-bound

@@ -1,7 +1,7 @@
 use Rattle.std.proofs.Common.{◌*◌, arith, ap, take, refl, sym, ◌∙◌, subst, []}
 use Rattle.mz_logic.specs.Tree.{size}
-use Rattle.mz_machine.specs.Tables.{is_definition}
-use Rattle.mz_unify.specs.Profile.{expr}
+use Rattle.mz_soundness.specs.Tables.{is_definition}
+use Rattle.mz_unification.specs.Profile.{expr}
 use Rattle.mz_store.specs.Sharing.{tree_of}
 use Rattle.mz_bodies.specs.Going.{IsAfter}
 use Rattle.mz_bodies.specs.Owes.{to_do}

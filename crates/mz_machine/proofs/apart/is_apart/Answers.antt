@@ -5,7 +5,7 @@ use Rattle.mz_logic.specs.Words.{binders_of, word_bound, word_deps}
 use Rattle.mz_logic.specs.declared.word.Word.{Word}
 use Rattle.mz_unify.specs.Stored.{trees_at}
 use Rattle.mz_unify.proofs.StoredIds.{is-in-at, tree-at}
-use Rattle.mz_unify.proofs.Inverting.{some_is}
+use Rattle.mz_unification.proofs.Inverting.{some_is}
 use Rattle.mz_machine.specs.Before.{signatures_of}
 use Rattle.mz_machine.specs.OperandRows.{params_of}
 use Rattle.mz_machine.proofs.Apartness.{bound-fits, binder-at, decides-first, decides-end, decides-regular, decides-not, decides-bound, row-asked}

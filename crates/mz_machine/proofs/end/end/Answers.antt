@@ -2,13 +2,13 @@ use Rattle.std.proofs.Common.{◌≡◌, ◌∙◌, map, ap, sym, subst, refl}
 use Rattle.std.specs.List.{range_with_len}
 use Rattle.mz_logic.specs.Tree.{var}
 use Rattle.mz_store.specs.Sharing.{tree_of}
-use Rattle.mz_unify.specs.UnifyMachine.{unify, unify_steps}
+use Rattle.mz_unification.specs.UnifyMachine.{unify, unify_steps}
 use Rattle.mz_machine.specs.Before.{heading_by, tables_of, signatures_of}
-use Rattle.mz_machine.specs.ProofMachine.{last_item, ending}
-use Rattle.mz_machine.specs.Tables.{Kind}
+use Rattle.mz_soundness.specs.ProofMachine.{last_item, ending}
+use Rattle.mz_soundness.specs.Tables.{Kind}
 use Rattle.mz_machine.specs.OverStore.{kind_of, state_at}
 use Rattle.mz_machine.specs.Endings.{IsOwnRun}
-use Rattle.mz_unify.specs.Profile.{strict}
+use Rattle.mz_unification.specs.Profile.{strict}
 use Rattle.mz_machine.proofs.Ending.{kind-is, no-last-item, not-ending, is-ending, stopped-end, no-end-steps, end-steps, own-end, own-matching}
 use Rattle.mz_machine.proofs.Unfoldings.{no-more, unless-more}
 use Rattle.mz_machine.proofs.end.end.Goals as goal

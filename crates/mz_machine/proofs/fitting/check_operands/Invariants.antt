@@ -1,7 +1,7 @@
 use Rattle.std.proofs.Common.{◌≡◌, drop}
 use Rattle.mz_logic.specs.Words.{binders_of}
 use Rattle.mz_unify.specs.Stored.{trees_at}
-use Rattle.mz_machine.specs.Premises.{operands_fit}
+use Rattle.mz_soundness.specs.Premises.{operands_fit}
 use Rattle.mz_machine.specs.Before.{signatures_of}
 use Rattle.mz_machine.specs.OperandRows.{params_of}
 use Rattle.mz_machine.proofs.fitting.check_operands.Given as goal

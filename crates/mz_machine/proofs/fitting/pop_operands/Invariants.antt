@@ -1,7 +1,7 @@
 use Rattle.std.proofs.Common.{ℕ, ◌≡◌, [], ◌+◌, length}
 use Rattle.mz_store.specs.Sharing.{AreIn}
 use Rattle.mz_unify.specs.Stored.{items_at, stack_at, AreItemsIn}
-use Rattle.mz_machine.specs.Premises.{pop_exprs}
+use Rattle.mz_soundness.specs.Premises.{pop_exprs}
 use Rattle.mz_machine.proofs.fitting.pop_operands.Given as goal
 
 -- the rest of the operands is taken after those that were

@@ -4,10 +4,10 @@ use Rattle.mz_cmd.specs.declared.rule.K.{K}
 use Rattle.mz_mode.specs.Gaps.{gaps_of}
 use Rattle.mz_machine.specs.Before.{kind_at, tables_of}
 use Rattle.mz_machine.specs.OverStore.{code_of, kind_of, state_at, Gives}
-use Rattle.mz_machine.specs.Bodies.{BodyCommand, row_steps}
-use Rattle.mz_unify.specs.Profile.{strict}
+use Rattle.mz_soundness.specs.Bodies.{BodyCommand, row_steps}
+use Rattle.mz_unification.specs.Profile.{strict}
 use Rattle.mz_machine.specs.Steps.{TakesNone}
-use Rattle.mz_machine.specs.Tables.{Kind}
+use Rattle.mz_soundness.specs.Tables.{Kind}
 use Rattle.mz_machine.proofs.Machines.{one-here, tells-all}
 use Rattle.mz_machine.proofs.Unfoldings.{unless-more}
 use Rattle.mz_machine.proofs.GapRows.{stands-here, its-row, its-gap, its-steps, gap-steps, gives-as, counts-as}

@@ -4,7 +4,7 @@ use Rattle.std.proofs.lemmas.Bool.{false≢true}
 use Rattle.mz_cmd.specs.declared.code.UnifyCode.TheVariants as codes
 use Rattle.mz_logic.specs.Tree.{Tree}
 use Rattle.mz_logic.specs.View.{trees}
-use Rattle.mz_unify.specs.Spells.{trees_of}
+use Rattle.mz_unification.specs.Spells.{trees_of}
 use Rattle.mz_match.specs.Trees.{SameTrees}
 use Rattle.mz_match.specs.Streams.{step_at, Passes, Says}
 use Rattle.mz_match.proofs.PlainTrees.{said-passes, said-ends, next-hyp-same, all-left, left-answer, hyp-left, hyp-there}

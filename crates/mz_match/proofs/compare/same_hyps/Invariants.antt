@@ -2,7 +2,7 @@ use Rattle.std.proofs.Common.{◌≤◌, ℕ, List, length, take, reverse}
 use Rattle.std.specs.Prelude.{◌↔◌}
 use Rattle.mz_logic.specs.Tree.{Tree}
 use Rattle.mz_logic.specs.View.{trees}
-use Rattle.mz_unify.specs.Spells.{Marks, trees_of}
+use Rattle.mz_unification.specs.Spells.{Marks, trees_of}
 use Rattle.mz_match.specs.Trees.{SameTrees}
 use Rattle.mz_match.specs.Streams.{Passes, HypsAreSaid}
 use Rattle.mz_match.specs.Beside.{HypsSaidAt, IsPlainStream}

@@ -1,4 +1,4 @@
-use Rattle.mz_unify.specs.Profile.{plain}
+use Rattle.mz_unification.specs.Profile.{plain}
 use Rattle.mz_steps.proofs.Bytes.{body-from-run}
 use Rattle.mz_steps.proofs.WholeBodies.{bodies-run}
 use Rattle.mz_steps.proofs.laws.right_bodies_run.Goals as goal

@@ -1,7 +1,7 @@
 use Rattle.std.proofs.Common.{ap, [], ◌∷◌}
 use Rattle.mz_tool.specs.Asked.{request}
 use Rattle.mz_tool.specs.Inputs.{contents_of}
-use Rattle.mz_tool.specs.Request.{assemble, axioms}
+use Rattle.mz_tool.specs.Request.{assemble, axioms, draft, specify}
 use Rattle.mz_tool.proofs.Answered.{two-read, verify-yes, verify-no, verify-proved, verify-only_yes, verify-only_no, one-read, compile-yes, compile-no, compile-proved, compile-only_yes, compile-only_no, same-yes, same-no, same-proved, same-sound, same-only_yes, same-only_no}
 use Rattle.mz_tool.proofs.Sampled.{sample-yes, sample-no, sample-proved, sample-only_yes, sample-only_no}
 use Rattle.mz_tool.proofs.outcome.outcome_of.Goals as goal
@@ -86,6 +86,26 @@ pub returns-in-Assemble-One-clause-proved : goal.returns-in-Assemble-One-clause-
 returns-in-Assemble-One-clause-proved c = same-proved (request c.args.command) (assemble c.in-Assemble-One.listing-0.now c.in-Assemble-One.out-0.now) (contents_of c.args.contents.now) (c.deref-in-Assemble-One.result.now ∷ [])
     (ap request c.in-Assemble-One.is-0) (one-read (contents_of c.args.contents.now) c.in-Assemble-One.listing.items c.deref-in-Assemble-One.result.now (ap contents_of c.in-Assemble-One.is-1) c.deref-in-Assemble-One.ensures.value) c.assemble.result tt
 
+pub returns-in-Specify-One-clause-yes : goal.returns-in-Specify-One-clause-yes
+returns-in-Specify-One-clause-yes c = same-yes (request c.args.command) (specify c.in-Specify-One.text-0.now c.in-Specify-One.out-0.now) (contents_of c.args.contents.now) (c.deref-in-Specify-One.result.now ∷ [])
+    (ap request c.in-Specify-One.is-0) (one-read (contents_of c.args.contents.now) c.in-Specify-One.text.items c.deref-in-Specify-One.result.now (ap contents_of c.in-Specify-One.is-1) c.deref-in-Specify-One.ensures.value) c.specify.result c.specify.ensures.yes
+
+pub returns-in-Specify-One-clause-no : goal.returns-in-Specify-One-clause-no
+returns-in-Specify-One-clause-no c = same-no (request c.args.command) (specify c.in-Specify-One.text-0.now c.in-Specify-One.out-0.now) (contents_of c.args.contents.now) (c.deref-in-Specify-One.result.now ∷ [])
+    (ap request c.in-Specify-One.is-0) (one-read (contents_of c.args.contents.now) c.in-Specify-One.text.items c.deref-in-Specify-One.result.now (ap contents_of c.in-Specify-One.is-1) c.deref-in-Specify-One.ensures.value) c.specify.result c.specify.ensures.no
+
+pub returns-in-Specify-One-clause-only_yes : goal.returns-in-Specify-One-clause-only_yes
+returns-in-Specify-One-clause-only_yes c = same-only_yes (request c.args.command) (specify c.in-Specify-One.text-0.now c.in-Specify-One.out-0.now) (contents_of c.args.contents.now) (c.deref-in-Specify-One.result.now ∷ [])
+    (ap request c.in-Specify-One.is-0) (one-read (contents_of c.args.contents.now) c.in-Specify-One.text.items c.deref-in-Specify-One.result.now (ap contents_of c.in-Specify-One.is-1) c.deref-in-Specify-One.ensures.value) c.specify.result c.specify.ensures.only_yes
+
+pub returns-in-Specify-One-clause-only_no : goal.returns-in-Specify-One-clause-only_no
+returns-in-Specify-One-clause-only_no c = same-only_no (request c.args.command) (specify c.in-Specify-One.text-0.now c.in-Specify-One.out-0.now) (contents_of c.args.contents.now) (c.deref-in-Specify-One.result.now ∷ [])
+    (ap request c.in-Specify-One.is-0) (one-read (contents_of c.args.contents.now) c.in-Specify-One.text.items c.deref-in-Specify-One.result.now (ap contents_of c.in-Specify-One.is-1) c.deref-in-Specify-One.ensures.value) c.specify.result c.specify.ensures.only_no
+
+pub returns-in-Specify-One-clause-proved : goal.returns-in-Specify-One-clause-proved
+returns-in-Specify-One-clause-proved c = same-sound (request c.args.command) (specify c.in-Specify-One.text-0.now c.in-Specify-One.out-0.now) (contents_of c.args.contents.now) (c.deref-in-Specify-One.result.now ∷ [])
+    (ap request c.in-Specify-One.is-0) (one-read (contents_of c.args.contents.now) c.in-Specify-One.text.items c.deref-in-Specify-One.result.now (ap contents_of c.in-Specify-One.is-1) c.deref-in-Specify-One.ensures.value) c.specify.result c.specify.ensures.sound
+
 pub returns-in-Axioms-Two-clause-yes : goal.returns-in-Axioms-Two-clause-yes
 returns-in-Axioms-Two-clause-yes c = same-yes (request c.args.command) (axioms c.in-Axioms-Two.spec-0.now c.in-Axioms-Two.bin-0.now) (contents_of c.args.contents.now) (c.as_slice.result.now ∷ c.deref-in-Axioms-Two.result.now ∷ [])
     (ap request c.in-Axioms-Two.is-0) (two-read (contents_of c.args.contents.now) c.in-Axioms-Two.spec.items c.in-Axioms-Two.bin.items c.as_slice.result.now c.deref-in-Axioms-Two.result.now (ap contents_of c.in-Axioms-Two.is-1) c.as_slice.ensures.value c.deref-in-Axioms-Two.ensures.value) c.axioms.result c.axioms.ensures.yes
@@ -105,3 +125,23 @@ returns-in-Axioms-Two-clause-only_no c = same-only_no (request c.args.command) (
 pub returns-in-Axioms-Two-clause-proved : goal.returns-in-Axioms-Two-clause-proved
 returns-in-Axioms-Two-clause-proved c = same-sound (request c.args.command) (axioms c.in-Axioms-Two.spec-0.now c.in-Axioms-Two.bin-0.now) (contents_of c.args.contents.now) (c.as_slice.result.now ∷ c.deref-in-Axioms-Two.result.now ∷ [])
     (ap request c.in-Axioms-Two.is-0) (two-read (contents_of c.args.contents.now) c.in-Axioms-Two.spec.items c.in-Axioms-Two.bin.items c.as_slice.result.now c.deref-in-Axioms-Two.result.now (ap contents_of c.in-Axioms-Two.is-1) c.as_slice.ensures.value c.deref-in-Axioms-Two.ensures.value) c.axioms.result c.axioms.ensures.sound
+
+pub returns-in-Draft-Two-clause-yes : goal.returns-in-Draft-Two-clause-yes
+returns-in-Draft-Two-clause-yes c = same-yes (request c.args.command) (draft c.in-Draft-Two.spec-0.now c.in-Draft-Two.bin-0.now) (contents_of c.args.contents.now) (c.as_slice-in-Draft-Two.result.now ∷ c.deref-in-Draft-Two.result.now ∷ [])
+    (ap request c.in-Draft-Two.is-0) (two-read (contents_of c.args.contents.now) c.in-Draft-Two.spec.items c.in-Draft-Two.bin.items c.as_slice-in-Draft-Two.result.now c.deref-in-Draft-Two.result.now (ap contents_of c.in-Draft-Two.is-1) c.as_slice-in-Draft-Two.ensures.value c.deref-in-Draft-Two.ensures.value) c.draft.result c.draft.ensures.yes
+
+pub returns-in-Draft-Two-clause-no : goal.returns-in-Draft-Two-clause-no
+returns-in-Draft-Two-clause-no c = same-no (request c.args.command) (draft c.in-Draft-Two.spec-0.now c.in-Draft-Two.bin-0.now) (contents_of c.args.contents.now) (c.as_slice-in-Draft-Two.result.now ∷ c.deref-in-Draft-Two.result.now ∷ [])
+    (ap request c.in-Draft-Two.is-0) (two-read (contents_of c.args.contents.now) c.in-Draft-Two.spec.items c.in-Draft-Two.bin.items c.as_slice-in-Draft-Two.result.now c.deref-in-Draft-Two.result.now (ap contents_of c.in-Draft-Two.is-1) c.as_slice-in-Draft-Two.ensures.value c.deref-in-Draft-Two.ensures.value) c.draft.result c.draft.ensures.no
+
+pub returns-in-Draft-Two-clause-only_yes : goal.returns-in-Draft-Two-clause-only_yes
+returns-in-Draft-Two-clause-only_yes c = same-only_yes (request c.args.command) (draft c.in-Draft-Two.spec-0.now c.in-Draft-Two.bin-0.now) (contents_of c.args.contents.now) (c.as_slice-in-Draft-Two.result.now ∷ c.deref-in-Draft-Two.result.now ∷ [])
+    (ap request c.in-Draft-Two.is-0) (two-read (contents_of c.args.contents.now) c.in-Draft-Two.spec.items c.in-Draft-Two.bin.items c.as_slice-in-Draft-Two.result.now c.deref-in-Draft-Two.result.now (ap contents_of c.in-Draft-Two.is-1) c.as_slice-in-Draft-Two.ensures.value c.deref-in-Draft-Two.ensures.value) c.draft.result (λ put text is. c.draft.ensures.only_yes text is.1)
+
+pub returns-in-Draft-Two-clause-only_no : goal.returns-in-Draft-Two-clause-only_no
+returns-in-Draft-Two-clause-only_no c = same-only_no (request c.args.command) (draft c.in-Draft-Two.spec-0.now c.in-Draft-Two.bin-0.now) (contents_of c.args.contents.now) (c.as_slice-in-Draft-Two.result.now ∷ c.deref-in-Draft-Two.result.now ∷ [])
+    (ap request c.in-Draft-Two.is-0) (two-read (contents_of c.args.contents.now) c.in-Draft-Two.spec.items c.in-Draft-Two.bin.items c.as_slice-in-Draft-Two.result.now c.deref-in-Draft-Two.result.now (ap contents_of c.in-Draft-Two.is-1) c.as_slice-in-Draft-Two.ensures.value c.deref-in-Draft-Two.ensures.value) c.draft.result c.draft.ensures.only_no
+
+pub returns-in-Draft-Two-clause-proved : goal.returns-in-Draft-Two-clause-proved
+returns-in-Draft-Two-clause-proved c = same-sound (request c.args.command) (draft c.in-Draft-Two.spec-0.now c.in-Draft-Two.bin-0.now) (contents_of c.args.contents.now) (c.as_slice-in-Draft-Two.result.now ∷ c.deref-in-Draft-Two.result.now ∷ [])
+    (ap request c.in-Draft-Two.is-0) (two-read (contents_of c.args.contents.now) c.in-Draft-Two.spec.items c.in-Draft-Two.bin.items c.as_slice-in-Draft-Two.result.now c.deref-in-Draft-Two.result.now (ap contents_of c.in-Draft-Two.is-1) c.as_slice-in-Draft-Two.ensures.value c.deref-in-Draft-Two.ensures.value) c.draft.result c.draft.ensures.sound

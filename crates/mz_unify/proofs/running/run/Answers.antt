@@ -1,9 +1,9 @@
 use Rattle.std.proofs.Common.{◌∙◌, ◌+◌, ◌≤◌, length, drop, refl, sym, ap, subst, arith}
-use Rattle.mz_unify.specs.Streams.{IsEnd}
+use Rattle.mz_unification.specs.Streams.{IsEnd}
 use Rattle.mz_unify.specs.Stored.{mode_of, trees_at}
 use Rattle.mz_unify.specs.Rows.{command_of, TellsAny, state_at}
 use Rattle.mz_unify.proofs.Underway.{further, not-end, left-none, left-both, cut-whole, cut-many, other-whole, other-many, stopped-whole, stopped-many, ended-whole, ended-many, goes-on}
-use Rattle.mz_unify.proofs.Turning.{command-long}
+use Rattle.mz_unification.proofs.Turning.{command-long}
 use Rattle.mz_unify.proofs.running.run.Goals as goal
 
 pub commands-init : goal.commands-init

@@ -1,6 +1,6 @@
 use Rattle.std.proofs.Common.{◌+◌, ◌∙◌, ℕ, length, sym, ap}
 use Rattle.mz_mode.specs.Gaps.{gaps_of}
-use Rattle.mz_machine.specs.FileRows.{nothing_taken}
+use Rattle.mz_soundness.specs.FileRows.{nothing_taken}
 use Rattle.mz_binary.specs.FileRun.{list_steps}
 use Rattle.mz_binary.proofs.Counting.{steps-of-list}
 use Rattle.mz_binary.proofs.checker.Checker.new.Goals as goal

@@ -8,7 +8,7 @@ use Rattle.mz_binary.proofs.Passing.{IsPast, passes, reached, further, taken-pas
 use Rattle.mz_binary.proofs.Counting.{left-past, most-past, most-here}
 use Rattle.mz_binary.proofs.SortsSoFar.{taken}
 use Rattle.mz_binary.specs.FileRun.{RunsBody}
-use Rattle.mz_machine.specs.FileRows.{Taken}
+use Rattle.mz_soundness.specs.FileRows.{Taken}
 use Rattle.mz_binary.proofs.checker.Checker.past.Goals as goal
 
 abbrev after_of : goal.After-after_rows → Progress

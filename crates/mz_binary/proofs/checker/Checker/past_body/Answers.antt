@@ -2,7 +2,7 @@ use Rattle.std.proofs.Common.{◌≡◌, ◌≤◌, ◌+◌, ◌-◌, ◌*◌, �
 use Rattle.mz_cmd.specs.declared.statement.StmtAt.TheVariants as there
 use Rattle.mz_cmd.specs.Codes.{statement_byte}
 use Rattle.mz_cmd.specs.StatementList.{statement_at}
-use Rattle.mz_machine.specs.FileRows.{Taken, body_bytes}
+use Rattle.mz_soundness.specs.FileRows.{Taken, body_bytes}
 use Rattle.mz_machine.specs.Before.{MayRun, heading_of, taken_before}
 use Rattle.mz_binary.specs.FileRun.{after_kind}
 use Rattle.mz_binary.specs.Progress.{Progress, IsReached, kind_byte, next_row}

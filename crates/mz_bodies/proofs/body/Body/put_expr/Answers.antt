@@ -1,7 +1,7 @@
 use Rattle.std.proofs.Common.{ap, ◌*◌}
 use Rattle.mz_logic.specs.Tree.{size}
 use Rattle.mz_store.specs.Sharing.{tree_of}
-use Rattle.mz_unify.specs.Profile.{expr}
+use Rattle.mz_unification.specs.Profile.{expr}
 use Rattle.mz_bodies.specs.Owes.{to_do}
 use Rattle.mz_bodies.specs.Stages.{leaving}
 use Rattle.mz_bodies.proofs.Ends.{expr_owed}

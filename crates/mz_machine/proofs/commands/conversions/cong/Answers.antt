@@ -1,8 +1,8 @@
 use Rattle.std.proofs.Common.{◌∙◌, ap, sym}
 use Rattle.mz_unify.specs.Stored.{items_at}
 use Rattle.mz_unify.proofs.RowValues.{heads-differ, heads-same}
-use Rattle.mz_machine.specs.Premises.{pop_obligation}
-use Rattle.mz_machine.specs.ProofMachine.{sides}
+use Rattle.mz_soundness.specs.Premises.{pop_obligation}
+use Rattle.mz_soundness.specs.ProofMachine.{sides}
 use Rattle.mz_machine.proofs.Converting.{cong-variable, cong-other, cong-row, gives-stack, operand-trees}
 use Rattle.mz_machine.proofs.commands.conversions.cong.Goals as goal
 

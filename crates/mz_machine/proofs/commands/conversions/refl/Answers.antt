@@ -1,5 +1,5 @@
 use Rattle.std.proofs.Common.{◌∙◌, ap, sym, refl}
-use Rattle.mz_machine.specs.Premises.{pop_obligation}
+use Rattle.mz_soundness.specs.Premises.{pop_obligation}
 use Rattle.mz_machine.proofs.Converting.{refl-row, refl-other, true-false}
 use Rattle.mz_machine.proofs.commands.conversions.refl.Goals as goal
 

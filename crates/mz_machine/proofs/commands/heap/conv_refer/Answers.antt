@@ -2,7 +2,7 @@ use Rattle.std.proofs.Common.{◌∙◌, Some, refl, sym, ap, subst}
 use Rattle.std.specs.Prelude.{slice_get}
 use Rattle.std.proofs.lemmas.Result.{err_from_is_err_and}
 use Rattle.mz_store.specs.Sharing.{tree_of}
-use Rattle.mz_unify.specs.Profile.{conversion}
+use Rattle.mz_unification.specs.Profile.{conversion}
 use Rattle.mz_unify.specs.Stored.{item_at, IsItemIn}
 use Rattle.mz_machine.proofs.Popping.{item-in-at, item-at-heap, no-item-at-heap}
 use Rattle.mz_machine.proofs.RowResults.{conv-ref-none, conv-ref-other, conv-ref-row}

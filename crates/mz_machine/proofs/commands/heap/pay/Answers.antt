@@ -1,6 +1,6 @@
 use Rattle.std.proofs.Common.{◌≡◌, ◌∙◌, true, false, refl, sym, ap}
 use Rattle.mz_store.specs.Sharing.{tree_of}
-use Rattle.mz_machine.specs.Premises.{pop_obligation}
+use Rattle.mz_soundness.specs.Premises.{pop_obligation}
 use Rattle.mz_machine.proofs.RowResults.{pay-left, pay-right, pay-row}
 use Rattle.mz_machine.proofs.commands.heap.pay.Goals.{else-same-via-then-same+else-same-2, else-same-via-else-same}
 use Rattle.mz_machine.proofs.commands.heap.pay.Goals as goal

@@ -5,13 +5,13 @@ use Rattle.mz_logic.specs.Words.{binders_of}
 use Rattle.mz_layout.specs.Tables.{term_row}
 use Rattle.mz_store.specs.Sharing.{tree_of, CanTake}
 use Rattle.mz_store.specs.Sharing.{trees_of as trees_in}
-use Rattle.mz_unify.specs.Spells.{trees_of}
+use Rattle.mz_unification.specs.Spells.{trees_of}
 use Rattle.mz_unify.specs.Stored.{trees_at, items_at}
-use Rattle.mz_unify.specs.Profile.{strict}
-use Rattle.mz_machine.specs.ProofMachine.{built}
-use Rattle.mz_machine.specs.Premises.{pop_operands, operands_fit}
+use Rattle.mz_unification.specs.Profile.{strict}
+use Rattle.mz_soundness.specs.ProofMachine.{built}
+use Rattle.mz_soundness.specs.Premises.{pop_operands, operands_fit}
 use Rattle.mz_machine.specs.Before.{tables_of, signatures_of, words_before}
-use Rattle.mz_machine.specs.FileRows.{term_of_file}
+use Rattle.mz_soundness.specs.FileRows.{term_of_file}
 use Rattle.mz_machine.proofs.BeforeLaws.{term-before, no-term-before}
 use Rattle.mz_machine.proofs.Stopping.{stops-as}
 use Rattle.mz_machine.proofs.TermResults.{built-none, built-few, built-unfit, built-row, can-take, over-words, over-rows, items-kept, items-still, same-trees, takes-its-own}

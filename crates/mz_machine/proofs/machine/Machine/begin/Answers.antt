@@ -2,7 +2,7 @@ use Rattle.std.proofs.Common.{◌∙◌, refl, length, sym, ap, subst}
 use Rattle.mz_mode.specs.Gaps.{gaps_of}
 use Rattle.mz_logic.specs.Words.{binders_of, BitsRight}
 use Rattle.mz_store.specs.Bits.{bound_vars}
-use Rattle.mz_machine.specs.Tables.{signatures_in}
+use Rattle.mz_soundness.specs.Tables.{signatures_in}
 use Rattle.mz_machine.specs.Before.{kind_at, tables_before, heading_of}
 use Rattle.mz_machine.specs.OverStore.{mode_for}
 use Rattle.mz_machine.specs.Stepping.{first_items}

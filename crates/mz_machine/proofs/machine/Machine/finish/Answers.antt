@@ -6,17 +6,17 @@ use Rattle.mz_store.specs.Sharing.{IsOver, tree_of}
 use Rattle.mz_store.specs.declared.item.Id.{Id}
 use Rattle.mz_store.specs.declared.item.Item.{Item as Kept}
 use Rattle.mz_mode.specs.Gaps.{gaps_of}
-use Rattle.mz_unify.specs.Profile.{strict}
-use Rattle.mz_machine.specs.Tables.{Kind}
-use Rattle.mz_machine.specs.ProofMachine.{proof_end, ends_with}
-use Rattle.mz_machine.specs.Bodies.{match_steps}
+use Rattle.mz_unification.specs.Profile.{strict}
+use Rattle.mz_soundness.specs.Tables.{Kind}
+use Rattle.mz_soundness.specs.ProofMachine.{proof_end, ends_with}
+use Rattle.mz_soundness.specs.Bodies.{match_steps}
 use Rattle.mz_machine.specs.Before.{Before, kind_at, heading_by, heading_of, tables_before, tables_of, signatures_of}
 use Rattle.mz_machine.specs.OverStore.{kind_of, state_at}
 use Rattle.mz_machine.specs.Steps.{Underway, heading_for, tables_for, end_steps}
 use Rattle.mz_machine.specs.Stepping.{IsFinished}
 use Rattle.mz_machine.specs.declared.machine.Finished.TheVariants.{Body, Refused}
 use Rattle.mz_machine.proofs.GapRows.{ends-steps}
-use Rattle.mz_machine.proofs.PlainRows.{end-plain}
+use Rattle.mz_soundness.proofs.PlainRows.{end-plain}
 use Rattle.mz_machine.proofs.Dummies.{bound-more, context-longer}
 use Rattle.mz_machine.proofs.Machines.{before-is, same-four}
 use Rattle.mz_machine.proofs.Stopping.{stopped}

@@ -1,9 +1,9 @@
 use Rattle.std.proofs.Common.{◌≡◌, Ok, Err, refl, length, sym, subst}
 use Rattle.mz_cmd.specs.declared.rule.K.{K}
 use Rattle.mz_mode.specs.Gaps.{gaps_of}
-use Rattle.mz_unify.specs.Profile.{plain}
-use Rattle.mz_machine.specs.Tables.{Kind}
-use Rattle.mz_machine.specs.Bodies.{body_command}
+use Rattle.mz_unification.specs.Profile.{plain}
+use Rattle.mz_soundness.specs.Tables.{Kind}
+use Rattle.mz_soundness.specs.Bodies.{body_command}
 use Rattle.mz_machine.specs.Before.{Before, kind_at, tables_of, tables_before, signatures_of}
 use Rattle.mz_machine.specs.OverStore.{state_at, Grows}
 use Rattle.mz_machine.specs.Steps.{Underway, row_by}

@@ -6,7 +6,7 @@ use Rattle.mz_notation.proofs.table.Notations.add_term_name.Goals as goal
 
 pub invariant_of-self-2 : goal.invariant_of-self-2
 invariant_of-self-2 c =
-    let v : Table = record { delimiters = c.self.inside.delimiters; leading = c.self.inside.leading; infixes = c.self.inside.infixes; names = c.self.inside.names; coercions = c.self.inside.coercions.items } in
+    let v : Table = record { delimiters = c.self.inside.delimiters; leading = c.self.inside.leading; infixes = c.self.inside.infixes; names = c.self.inside.names; coercions = c.self.inside.coercions } in
     let n : TermName = record { name = c.args.name.now; term = c.args.term } in
     subst (λ (ns : List TermName). IsTable (record v { names = ns })) (sym c.in-Ok.ensures.ok)
     (name-is v n c.self.invariant c.requires.name

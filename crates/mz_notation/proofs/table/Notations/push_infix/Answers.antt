@@ -12,7 +12,7 @@ use Rattle.mz_notation.proofs.table.Notations.push_infix.Goals as goal
 
 pub returns-then-not-is_clear_with_infix : goal.returns-then-not-is_clear_with_infix
 returns-then-not-is_clear_with_infix c =
-    let v : Table = record { delimiters = c.self.inside.delimiters; leading = c.self.inside.leading; infixes = c.self.inside.infixes; names = c.self.inside.names; coercions = c.self.inside.coercions.items } in
+    let v : Table = record { delimiters = c.self.inside.delimiters; leading = c.self.inside.leading; infixes = c.self.inside.infixes; names = c.self.inside.names; coercions = c.self.inside.coercions } in
     let k = c.args.notation in (
       (λ made. let clear : IsClear v.leading (v.infixes ++ k ∷ []) = subst (λ (t : Table). IsClearTable (with_infix t k)) (sym c.self.view_is) made in
           true≢false (sym (c.is_clear_with_infix.ensures.1 (subst (λ xs. IsClear xs (c.as_slice-2.result.now ++ k ∷ [])) (sym c.as_slice.ensures) (subst (λ xs. IsClear v.leading (xs ++ k ∷ [])) (sym c.as_slice-2.ensures) clear))) ∙ c.if-not-is_clear_with_infix.true)),
@@ -21,7 +21,7 @@ returns-then-not-is_clear_with_infix c =
 
 pub invariant_of-self-2 : goal.invariant_of-self-2
 invariant_of-self-2 c =
-    let v : Table = record { delimiters = c.self.inside.delimiters; leading = c.self.inside.leading; infixes = c.self.inside.infixes; names = c.self.inside.names; coercions = c.self.inside.coercions.items } in
+    let v : Table = record { delimiters = c.self.inside.delimiters; leading = c.self.inside.leading; infixes = c.self.inside.infixes; names = c.self.inside.names; coercions = c.self.inside.coercions } in
     let k = c.args.notation in
     let clear : IsClear v.leading (v.infixes ++ k ∷ []) = subst (λ xs. IsClear xs (v.infixes ++ k ∷ [])) c.as_slice.ensures (subst (λ xs. IsClear c.as_slice.result.now (xs ++ k ∷ [])) c.as_slice-2.ensures (c.is_clear_with_infix.ensures.0 c.if-not-is_clear_with_infix.false)) in
     subst (λ (xs : List Notation). IsTable (record v { infixes = xs })) (sym c.in-Ok.ensures.ok)
@@ -29,7 +29,7 @@ invariant_of-self-2 c =
 
 pub returns : goal.returns
 returns c =
-    let v : Table = record { delimiters = c.self.inside.delimiters; leading = c.self.inside.leading; infixes = c.self.inside.infixes; names = c.self.inside.names; coercions = c.self.inside.coercions.items } in
+    let v : Table = record { delimiters = c.self.inside.delimiters; leading = c.self.inside.leading; infixes = c.self.inside.infixes; names = c.self.inside.names; coercions = c.self.inside.coercions } in
     let k = c.args.notation in
     let clear : IsClear v.leading (v.infixes ++ k ∷ []) = subst (λ xs. IsClear xs (v.infixes ++ k ∷ [])) c.as_slice.ensures (subst (λ xs. IsClear c.as_slice.result.now (xs ++ k ∷ [])) c.as_slice-2.ensures (c.is_clear_with_infix.ensures.0 c.if-not-is_clear_with_infix.false)) in
     pushed-infix v c.args.self.now c.self.view_is k c.push.new.self c.in-Ok.ensures.ok clear
@@ -39,7 +39,7 @@ push-requires-clause-headed c = (c.requires.joined.0, inr c.requires.joined.1)
 
 pub push-requires-clause-other : goal.push-requires-clause-other
 push-requires-clause-other c =
-    let v : Table = record { delimiters = c.self.inside.delimiters; leading = c.self.inside.leading; infixes = c.self.inside.infixes; names = c.self.inside.names; coercions = c.self.inside.coercions.items } in
+    let v : Table = record { delimiters = c.self.inside.delimiters; leading = c.self.inside.leading; infixes = c.self.inside.infixes; names = c.self.inside.names; coercions = c.self.inside.coercions } in
     let k = c.args.notation in
     let clear : IsClear v.leading (v.infixes ++ k ∷ []) = subst (λ xs. IsClear xs (v.infixes ++ k ∷ [])) c.as_slice.ensures (subst (λ xs. IsClear c.as_slice.result.now (xs ++ k ∷ [])) c.as_slice-2.ensures (c.is_clear_with_infix.ensures.0 c.if-not-is_clear_with_infix.false)) in
     joined-apart v.infixes k c.requires.joined c.self.invariant.joined (infix-other v.leading v.infixes k clear)

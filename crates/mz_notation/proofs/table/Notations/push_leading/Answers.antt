@@ -12,7 +12,7 @@ use Rattle.mz_notation.proofs.table.Notations.push_leading.Goals as goal
 
 pub returns-then-not-is_clear_with_leading : goal.returns-then-not-is_clear_with_leading
 returns-then-not-is_clear_with_leading c =
-    let v : Table = record { delimiters = c.self.inside.delimiters; leading = c.self.inside.leading; infixes = c.self.inside.infixes; names = c.self.inside.names; coercions = c.self.inside.coercions.items } in
+    let v : Table = record { delimiters = c.self.inside.delimiters; leading = c.self.inside.leading; infixes = c.self.inside.infixes; names = c.self.inside.names; coercions = c.self.inside.coercions } in
     let k = c.args.notation in (
       (λ made. let clear : IsClear (v.leading ++ k ∷ []) v.infixes = subst (λ (t : Table). IsClearTable (with_leading t k)) (sym c.self.view_is) made in
           true≢false (sym (c.is_clear_with_leading.ensures.1 (subst (λ xs. IsClear (xs ++ k ∷ []) c.as_slice-2.result.now) (sym c.as_slice.ensures) (subst (λ xs. IsClear (v.leading ++ k ∷ []) xs) (sym c.as_slice-2.ensures) clear))) ∙ c.if-not-is_clear_with_leading.true)),
@@ -21,7 +21,7 @@ returns-then-not-is_clear_with_leading c =
 
 pub invariant_of-self-2 : goal.invariant_of-self-2
 invariant_of-self-2 c =
-    let v : Table = record { delimiters = c.self.inside.delimiters; leading = c.self.inside.leading; infixes = c.self.inside.infixes; names = c.self.inside.names; coercions = c.self.inside.coercions.items } in
+    let v : Table = record { delimiters = c.self.inside.delimiters; leading = c.self.inside.leading; infixes = c.self.inside.infixes; names = c.self.inside.names; coercions = c.self.inside.coercions } in
     let k = c.args.notation in
     let clear : IsClear (v.leading ++ k ∷ []) v.infixes = subst (λ xs. IsClear (xs ++ k ∷ []) v.infixes) c.as_slice.ensures (subst (λ xs. IsClear (c.as_slice.result.now ++ k ∷ []) xs) c.as_slice-2.ensures (c.is_clear_with_leading.ensures.0 c.if-not-is_clear_with_leading.false)) in
     subst (λ (xs : List Notation). IsTable (record v { leading = xs })) (sym c.in-Ok.ensures.ok)
@@ -29,7 +29,7 @@ invariant_of-self-2 c =
 
 pub returns : goal.returns
 returns c =
-    let v : Table = record { delimiters = c.self.inside.delimiters; leading = c.self.inside.leading; infixes = c.self.inside.infixes; names = c.self.inside.names; coercions = c.self.inside.coercions.items } in
+    let v : Table = record { delimiters = c.self.inside.delimiters; leading = c.self.inside.leading; infixes = c.self.inside.infixes; names = c.self.inside.names; coercions = c.self.inside.coercions } in
     let k = c.args.notation in
     let clear : IsClear (v.leading ++ k ∷ []) v.infixes = subst (λ xs. IsClear (xs ++ k ∷ []) v.infixes) c.as_slice.ensures (subst (λ xs. IsClear (c.as_slice.result.now ++ k ∷ []) xs) c.as_slice-2.ensures (c.is_clear_with_leading.ensures.0 c.if-not-is_clear_with_leading.false)) in
     pushed-leading v c.args.self.now c.self.view_is k c.push.new.self c.in-Ok.ensures.ok clear
@@ -39,7 +39,7 @@ push-requires-clause-headed c = (c.requires.led.0, inl c.requires.led.1)
 
 pub push-requires-clause-other : goal.push-requires-clause-other
 push-requires-clause-other c =
-    let v : Table = record { delimiters = c.self.inside.delimiters; leading = c.self.inside.leading; infixes = c.self.inside.infixes; names = c.self.inside.names; coercions = c.self.inside.coercions.items } in
+    let v : Table = record { delimiters = c.self.inside.delimiters; leading = c.self.inside.leading; infixes = c.self.inside.infixes; names = c.self.inside.names; coercions = c.self.inside.coercions } in
     let k = c.args.notation in
     let clear : IsClear (v.leading ++ k ∷ []) v.infixes = subst (λ xs. IsClear (xs ++ k ∷ []) v.infixes) c.as_slice.ensures (subst (λ xs. IsClear (c.as_slice.result.now ++ k ∷ []) xs) c.as_slice-2.ensures (c.is_clear_with_leading.ensures.0 c.if-not-is_clear_with_leading.false)) in
     led-apart v.leading k c.requires.led c.self.invariant.led (leading-other v.leading v.infixes k clear)

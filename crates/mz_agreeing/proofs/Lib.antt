@@ -1,0 +1,10 @@
+pub mod Cases
+pub mod Naming
+pub mod Spoken
+pub mod Rows
+pub mod Agreeing
+pub mod Titles
+pub mod Printing
+pub mod Lines
+pub mod Room
+pub mod Declared

@@ -1,0 +1,27 @@
+-- What is printed of the theorems that rest on a gap (this project's own).
+use Rattle.std.specs.Prelude.{◌≡◌, ◌++◌, ℕ, List, length, codes, decimal, flat_map}
+use Rattle.mz_spec.specs.State.{Entry}
+use Rattle.mz_spec.specs.Spec.{SpecMakes}
+use Rattle.mz_match.specs.declared.verdict.Counts.{Counts}
+use Rattle.mz_match.specs.Drafts.{DraftAccepts}
+use Rattle.mz_axioms.specs.Text.{name_at}
+
+-- how many of the theorems do
+abbrev pub count_line : (gaps theorems : ℕ) → List ℕ
+count_line gaps theorems = codes "draft: " ++ decimal gaps ++ codes " of " ++ decimal theorems ++ codes " theorems rest on a gap\n"
+
+-- the name of one, by the place of its declaration
+abbrev pub gap_line : List ℕ → List Entry → ℕ → List ℕ
+gap_line text entries place = codes "gap " ++ name_at text entries place ++ codes "\n"
+
+-- a line for each
+abbrev pub gap_lines : List ℕ → List Entry → List ℕ → List ℕ
+gap_lines text entries places = flat_map (gap_line text entries) places
+
+-- the text of a specification's gapped theorems, which has so many theorems
+abbrev pub IsGapsTextOf : List ℕ → ℕ → List ℕ → List ℕ → Type 0
+IsGapsTextOf text theorems places lines = (entries : List Entry) × SpecMakes text entries × (lines ≡ count_line (length places) theorems ++ gap_lines text entries places)
+
+-- a binary is accepted with gaps against the specification, and its gapped theorems stand at these places
+abbrev pub AreGapsOf : List ℕ → List ℕ → Type 0
+AreGapsOf text places = (bin : List ℕ) × (counts : Counts) × DraftAccepts text bin counts places

@@ -1,0 +1,3 @@
+pub mod Coercions
+pub mod Firsts
+pub mod Answers

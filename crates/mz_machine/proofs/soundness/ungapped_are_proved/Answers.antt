@@ -1,5 +1,0 @@
-use Rattle.mz_machine.proofs.Ungapped.{ungapped-proved}
-use Rattle.mz_machine.proofs.soundness.ungapped_are_proved.Goals as goal
-
-pub returns : goal.returns
-returns c = ungapped-proved

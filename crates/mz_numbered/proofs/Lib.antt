@@ -1,0 +1,10 @@
+pub mod Going
+pub mod Embeds
+pub mod UnifyGoes
+pub mod RowsGo
+pub mod BodiesGo
+pub mod Equal
+pub mod ByTable
+pub mod ByAddress
+pub mod AskedAlone
+pub mod WholeSaves

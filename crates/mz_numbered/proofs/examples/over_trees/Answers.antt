@@ -1,0 +1,10 @@
+use Rattle.std.proofs.Common.{refl}
+use Rattle.mz_unification.specs.UnifyMachine.{unify_row, unify_from, unify}
+use Rattle.mz_soundness.specs.ProofMachine.{built, citation, cited, unfolding_of, proof_row, ends_with, proof_end}
+use Rattle.mz_soundness.specs.Bodies.{body_from}
+use Rattle.mz_numbered.specs.Making.{makes_from}
+use Rattle.mz_numbered.proofs.examples.over_trees.Goals as goal
+
+pub returns : goal.returns
+unfolding unify_row unify_from unify built citation cited unfolding_of proof_row ends_with proof_end body_from makes_from
+returns c = record { asked = (refl, refl, refl, refl, refl, refl, refl); made = (refl, refl) }

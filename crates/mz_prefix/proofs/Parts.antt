@@ -1,0 +1,128 @@
+-- What is written of a list, part by part: so far, with what is left, it is the whole.
+use Rattle.std.proofs.Common.{◌≡◌, ◌≤◌, ◌<◌, ◌+◌, ◌++◌, ◌∙◌, ℕ, suc, true, false, List, [], ◌∷◌, length, get_or, drop, map, refl, sym, ap, append_assoc, append-nil, add-one, arith}
+use Rattle.std.specs.Prelude.{codes}
+use Rattle.std.proofs.lemmas.List.{drop_more, drop_all}
+use Rattle.mz_logic.specs.Tree.{Tree, var, app, none, more}
+use Rattle.mz_logic.specs.View.{tree, trees}
+use Rattle.mz_logic.specs.declared.expr.Expr.{Expr}
+use Rattle.mz_logic.specs.declared.binder.Binder.{Binder}
+use Rattle.mz_grammar.specs.Statement.{opening_of, closing_of}
+use Rattle.mz_printing.specs.Words.{Word, written}
+use Rattle.mz_printing.specs.Lines.{Tokens, spaced, mark, spaced_mark, dep_words, type_words, binder_words, binders_words, hyp_words, hyps_words, math_word}
+use Rattle.mz_printing.specs.Prefix.{enclosed, operand_tokens}
+use Rattle.mz_prefix.specs.Measures.{has_operands}
+use Rattle.mz_readback.specs.Declared.{Vocabulary, formula_of, formulas_of, plain_type, plain_param, plain_dummy, plain_binders, plain_dummies}
+
+-- where the text of a list from its i-th part on is that part and the text of the rest
+module _ {A : Type 0} (text : ℕ → List A → List ℕ) (part : ℕ → A → List ℕ) (cut : (i : ℕ) (x : A) (xs : List A) → text i (x ∷ xs) ≡ part i x ++ text (i + 1) xs) where
+  pub part-added : (whole out new : List ℕ) (xs : List A) (i : ℕ) (x : A) → i < length xs → x ≡ get_or xs i x
+      → out ++ text i (drop i xs) ≡ whole → new ≡ out ++ part i x → new ++ text (i + 1) (drop (i + 1) xs) ≡ whole
+  part-added whole out new xs i x below is so_far added =
+      let here : text i (drop i xs) ≡ part i x ++ text (i + 1) (drop (i + 1) xs)
+      = ap (text i) (drop_more xs i x below) ∙ ap (λ y. text i (y ∷ drop (i + 1) xs)) (sym is) ∙ cut i x (drop (i + 1) xs) in
+      ap (λ o. o ++ text (i + 1) (drop (i + 1) xs)) added ∙ append_assoc out (part i x) (text (i + 1) (drop (i + 1) xs)) ∙ sym (ap (λ t. out ++ t) here) ∙ so_far
+
+  pub parts-end : (whole out : List ℕ) (xs : List A) (i : ℕ) → length xs ≤ i → text i [] ≡ [] → out ++ text i (drop i xs) ≡ whole → out ≡ whole
+  parts-end whole out xs i past nothing so_far =
+      sym (append-nil out) ∙ sym (ap (λ t. out ++ t) (ap (text i) (drop_all i xs past) ∙ nothing)) ∙ so_far
+
+-- ---- words
+
+pub written-append : (ws vs : List Word) → written (ws ++ vs) ≡ written ws ++ written vs
+written-append [] vs = refl
+written-append (w ∷ ws) vs = ap (λ t. w.gap ++ (w.text ++ t)) (written-append ws vs) ∙ ap (λ t. w.gap ++ t) (sym (append_assoc w.text (written ws) (written vs))) ∙ sym (append_assoc w.gap (w.text ++ written ws) (written vs))
+
+pub spaced-append : (ts us : Tokens) → spaced (ts ++ us) ≡ spaced ts ++ spaced us
+spaced-append [] us = refl
+spaced-append (t ∷ ts) us = ap (λ r. t ++ (32 ∷ r)) (spaced-append ts us) ∙ sym (append_assoc t (32 ∷ spaced ts) (spaced us))
+
+module _ (v : Vocabulary) where
+  -- dependencies
+  abbrev pub deps_text : ℕ → List ℕ → List ℕ
+  deps_text i xs = written (dep_words (map v.variable xs))
+
+  abbrev pub dep_text : ℕ → ℕ → List ℕ
+  dep_text i x = 32 ∷ v.variable x
+
+  pub deps-cut : (i x : ℕ) (xs : List ℕ) → deps_text i (x ∷ xs) ≡ dep_text i x ++ deps_text (i + 1) xs
+  deps-cut i x xs = refl
+
+  -- parameters
+  abbrev pub params_text : ℕ → List Binder → List ℕ
+  params_text i bs = written (binders_words (plain_binders v i bs []))
+
+  abbrev pub param_text : ℕ → Binder → List ℕ
+  param_text i b = written (binder_words (plain_param v i b))
+
+  pub params-cut : (i : ℕ) (b : Binder) (bs : List Binder) → params_text i (b ∷ bs) ≡ param_text i b ++ params_text (i + 1) bs
+  params-cut i b bs = rw add-one (written-append (binder_words (plain_param v i b)) (binders_words (plain_binders v (suc i) bs [])))
+
+  -- dummies behind so many parameters
+  abbrev pub dummies_text : ℕ → ℕ → List Binder → List ℕ
+  dummies_text first i ds = written (binders_words (plain_dummies v (first + i) ds))
+
+  abbrev pub dummy_text : ℕ → ℕ → Binder → List ℕ
+  dummy_text first i d = written (binder_words (plain_dummy v (first + i) d))
+
+  suc-add : (m n : ℕ) → suc (m + n) ≡ m + (n + 1)
+  suc-add m n = omega arith
+
+  pub dummies-cut : (first i : ℕ) (d : Binder) (ds : List Binder) → dummies_text first i (d ∷ ds) ≡ dummy_text first i d ++ dummies_text first (i + 1) ds
+  dummies-cut first i d ds =
+      written-append (binder_words (plain_dummy v (first + i) d)) (binders_words (plain_dummies v (suc (first + i)) ds))
+      ∙ ap (λ n. dummy_text first i d ++ written (binders_words (plain_dummies v n ds))) (suc-add first i)
+
+  -- hypotheses
+  abbrev pub hyps_text : ℕ → List Expr → List ℕ
+  hyps_text i es = written (hyps_words (formulas_of v (trees es)))
+
+  abbrev pub hyp_text : ℕ → Expr → List ℕ
+  hyp_text i e = written (hyp_words (formula_of v (tree e)))
+
+  pub hyps-cut : (i : ℕ) (e : Expr) (es : List Expr) → hyps_text i (e ∷ es) ≡ hyp_text i e ++ hyps_text (i + 1) es
+  hyps-cut i e es = written-append (hyp_words (formula_of v (tree e))) (hyps_words (formulas_of v (trees es)))
+
+  -- operands
+  abbrev pub operands_text : ℕ → List Expr → List ℕ
+  operands_text i es = spaced (operand_tokens v.term v.variable (trees es))
+
+  abbrev pub operand_text : ℕ → Expr → List ℕ
+  operand_text i e = spaced (enclosed v.term v.variable (tree e))
+
+  pub operands-cut : (i : ℕ) (e : Expr) (es : List Expr) → operands_text i (e ∷ es) ≡ operand_text i e ++ operands_text (i + 1) es
+  operands-cut i e es = spaced-append (enclosed v.term v.variable (tree e)) (operand_tokens v.term v.variable (trees es))
+
+-- ---- operands in parentheses
+
+module _ (v : Vocabulary) where
+  pub alone-is : (e : Tree) → has_operands e ≡ false → enclosed v.term v.variable e ≡ formula_of v e
+  alone-is (var x) has = refl
+  alone-is (app t none) has = refl
+  alone-is (app t (more e es)) has = absurd (let h : true ≡ false = has in cc)
+
+  pub enclosed-is : (e : Tree) → has_operands e ≡ true → spaced (enclosed v.term v.variable e) ≡ 40 ∷ (32 ∷ (spaced (formula_of v e) ++ (41 ∷ 32 ∷ [])))
+  enclosed-is (var x) has = absurd (let h : false ≡ true = has in cc)
+  enclosed-is (app t none) has = absurd (let h : false ≡ true = has in cc)
+  enclosed-is (app t (more e es)) has = ap (λ r. 40 ∷ (32 ∷ r)) (spaced-append (formula_of v (app t (more e es))) ((41 ∷ []) ∷ []))
+
+-- ---- parts of a line
+
+module _ (v : Vocabulary) where
+  pub param-is : (x : ℕ) (b : Binder) (o c : ℕ) → o ∷ [] ≡ opening_of b.bound → c ∷ [] ≡ closing_of b.bound
+      → written (binder_words (plain_param v x b)) ≡ 32 ∷ (o ∷ (v.variable x ++ (58 ∷ (written (type_words (plain_type v b.sort b.deps)) ++ (c ∷ [])))))
+  param-is x b o c opens closes =
+      let t = type_words (plain_type v b.sort b.deps) in
+      ap (λ w. 32 ∷ (w ++ (v.variable x ++ (58 ∷ written (t ++ mark (closing_of b.bound) ∷ []))))) (sym opens)
+      ∙ ap (λ w. 32 ∷ (o ∷ (v.variable x ++ (58 ∷ w)))) (written-append t (mark (closing_of b.bound) ∷ []) ∙ ap (λ w. written t ++ (w ++ [])) (sym closes))
+
+  pub dummy-is : (x : ℕ) (b : Binder)
+      → written (binder_words (plain_dummy v x b)) ≡ 32 ∷ (123 ∷ (46 ∷ (v.variable x ++ (58 ∷ (written (type_words (plain_type v b.sort [])) ++ (125 ∷ []))))))
+  dummy-is x b = ap (λ w. 32 ∷ (123 ∷ (46 ∷ (v.variable x ++ (58 ∷ w))))) (written-append (type_words (plain_type v b.sort [])) (mark (codes "}") ∷ []))
+
+pub hyp-is : (h : Tokens) → written (hyp_words h) ≡ written (math_word h ∷ []) ++ (32 ∷ 62 ∷ [])
+hyp-is h = written-append (math_word h ∷ []) (spaced_mark (codes ">") ∷ [])
+
+-- six parts, one after the other
+pub six-parts : (old a b c d e f name type : List ℕ) (o k : ℕ) → a ≡ old ++ 32 ∷ [] → b ≡ a ++ o ∷ [] → c ≡ b ++ name → d ≡ c ++ 58 ∷ [] → e ≡ d ++ type → f ≡ e ++ k ∷ []
+    → f ≡ old ++ (32 ∷ (o ∷ (name ++ (58 ∷ (type ++ (k ∷ []))))))
+six-parts old a b c d e f name type o k is-a is-b is-c is-d is-e is-f = is-f ∙ rw is-e (rw is-d (rw is-c (rw is-b (rw is-a (simp append_assoc)))))

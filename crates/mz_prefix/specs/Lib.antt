@@ -1,0 +1,5 @@
+pub mod Measures
+pub mod Names
+pub mod Writing
+pub mod SpecTexts
+pub mod Told

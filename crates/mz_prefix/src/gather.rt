@@ -1,0 +1,99 @@
+// The names of a text, gathered statement by statement.
+ghost use Rattle.std.specs.Prelude.{◌≡◌, ◌++◌, replicate, IfOk, OnOk};
+ghost use Rattle.mz_logic.specs.DeclView.{declaration};
+ghost use Rattle.mz_publics.specs.PublicPart.{mark_of};
+ghost use Rattle.mz_wording.specs.Wording;
+ghost use Rattle.mz_wording.specs.Wording.{sort_name, term_name};
+ghost use Rattle.mz_prefix.specs.Names.{AreNamesOf, texts};
+
+use crate::names::Names;
+use mz_logic::Decl;
+use mz_mmu::Text;
+use std::alloc::{AllocError, Global};
+
+/// With how many underscores the name begins.
+fn underscores(name: &[u8]) -> usize
+    ensures { result ≡ Wording.underscores name.now }
+{
+    let mut count: usize = 0;
+    for byte in name {
+        if *byte != b'_' {
+            return count;
+        }
+        count += 1;
+    }
+    count
+}
+
+/// The longest run of underscores with which a name of the text begins.
+fn longest_run(text: &Text) -> usize
+    ensures { result ≡ Wording.longest_run text.now.statements }
+{
+    let mut run: usize = 0;
+    for i in 0..text.len() {
+        run = run.max(underscores(text.name(i)));
+    }
+    run
+}
+
+/// Appends so many underscores.
+fn put_underscores(count: usize, out: &mut Vec<u8>) -> Result<(), AllocError>
+    ensures { OnOk result (out.new.items ≡ out.old.items ++ replicate count 95) }
+{
+    for i in 0..count {
+        out.push(b'_')?;
+    }
+    Ok(())
+}
+
+/// What stands before the number of a variable: with it no variable is named as anything else.
+fn variable_prefix(alloc: Global, text: &Text) -> Result<Vec<u8>, AllocError>
+    ensures { IfOk result (λ prefix. prefix.items ≡ Wording.variable_prefix text.now.statements) }
+{
+    let mut prefix: Vec<u8> = Vec::new(alloc);
+    prefix.push(b'_')?;
+    put_underscores(longest_run(text), &mut prefix)?;
+    prefix.push(b'v')?;
+    Ok(prefix)
+}
+
+impl<'a> Names<'a> {
+    /// The names of a text.
+    pub(crate) fn of(alloc: Global, text: &Text<'a>) -> Result<Names<'a>, AllocError>
+        ensures { IfOk result (λ names. AreNamesOf text.now.statements names) }
+    {
+        let prefix = variable_prefix(alloc, text)?;
+        let mut names = Names {
+            alloc,
+            sorts: Vec::new(alloc),
+            terms: Vec::new(alloc),
+            locals: Vec::new(alloc),
+            prefix,
+        };
+        for i in 0..text.len() {
+            names.add(text.name(i), text.is_local(i), text.decl(i))?;
+        }
+        Ok(names)
+    }
+
+    /// Adds the name of a declaration, which may be local.
+    fn add(&mut self, name: &'a [u8], is_local: bool, decl: &Decl) -> Result<(), AllocError>
+        ensures sorts { OnOk result (texts self.new.sorts.items ≡ texts self.old.sorts.items ++ sort_name (declaration decl.now) name.now) }
+        ensures terms { OnOk result (texts self.new.terms.items ≡ texts self.old.terms.items ++ term_name (declaration decl.now) name.now) }
+        ensures locals { OnOk result (self.new.locals.items ≡ self.old.locals.items ++ mark_of is_local (declaration decl.now)) }
+        ensures prefix { OnOk result (self.new.prefix ≡ self.old.prefix) }
+    {
+        match decl {
+            Decl::Sort(_) => {
+                self.sorts.push(name)?;
+                Ok(())
+            }
+            Decl::Term(_) => {
+                self.terms.push(name)?;
+                self.locals.push(is_local)?;
+                Ok(())
+            }
+            Decl::Thm(_) => Ok(()),
+        }
+    }
+}

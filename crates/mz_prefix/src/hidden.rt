@@ -1,0 +1,83 @@
+// What can't be written, or isn't.
+ghost use Rattle.std.specs.Prelude.{◌≡◌, ◌↔◌, IsTrue};
+ghost use Rattle.mz_logic.specs.DeclView.{declaration};
+ghost use Rattle.mz_logic.specs.View.{tree};
+ghost use Rattle.mz_publics.specs.PublicPart.{any_mentions_local, IsSayable, mentions_local};
+ghost use Rattle.mz_readback.specs.Declared.{AreShort, Vocabulary};
+ghost use Rattle.mz_wording.specs.Wording;
+ghost use Rattle.mz_wording.specs.Wording.{IsBrief};
+ghost use Rattle.mz_prefix.specs.Names.{spoken};
+
+use crate::measure::is_short;
+use crate::names::Names;
+use mz_logic::{Decl, Expr, Exprs};
+
+impl<'a> Names<'a> {
+    /// Whether a local term stands in the expression.
+    ///
+    /// It calls itself no deeper than an expression is nested, which is at most as deep as a text
+    /// may be.
+    #[cycle(mentions_local)]
+    fn mentions_local(&self, expr: &Expr) -> bool
+        ensures { result ≡ mentions_local self.now.locals.items (tree expr.now) }
+    {
+        match expr {
+            Expr::Var(_) => false,
+            Expr::App(t, es) => self.is_local(*t) || self.any_mentions_local(es),
+        }
+    }
+
+    /// Whether a local term stands in one of the expressions.
+    #[cycle(mentions_local)]
+    fn any_mentions_local(&self, es: &Exprs) -> bool
+        ensures { result ≡ any_mentions_local self.now.locals.items es.now }
+    {
+        for e in es.as_slice() {
+            if self.mentions_local(e) {
+                return true;
+            }
+        }
+        false
+    }
+
+    /// Whether a definition's body isn't written.
+    pub(crate) fn is_hidden(&self, body: &Expr) -> bool
+        ensures { result ≡ Wording.is_hidden self.now.locals.items (spoken self.now) (tree body.now) }
+    {
+        self.mentions_local(body) || !is_short(body)
+    }
+
+    /// Whether no claim of the declaration mentions a local term.
+    pub(crate) fn is_sayable(&self, decl: &Decl) -> bool
+        ensures { IsTrue result ↔ IsSayable self.now.locals.items (declaration decl.now) }
+    {
+        match decl {
+            Decl::Thm(thm) => {
+                !self.any_mentions_local(&thm.hyps) && !self.mentions_local(&thm.conclusion)
+            }
+            _ => true,
+        }
+    }
+}
+
+/// Whether the prefix form of each of the expressions is within the limits.
+fn are_short(es: &Exprs) -> bool
+    ensures { (v : Vocabulary) → IsTrue result ↔ AreShort v es.now }
+{
+    for e in es.as_slice() {
+        if !is_short(e) {
+            return false;
+        }
+    }
+    true
+}
+
+/// Whether that of each claim of the declaration is.
+pub(crate) fn is_brief(decl: &Decl) -> bool
+    ensures { (v : Vocabulary) → IsTrue result ↔ IsBrief v (declaration decl.now) }
+{
+    match decl {
+        Decl::Thm(thm) => are_short(&thm.hyps) && is_short(&thm.conclusion),
+        _ => true,
+    }
+}

@@ -1,0 +1,79 @@
+// The prefix form of expressions.
+//
+// What calls itself here goes no deeper than an expression is nested, which is at most as deep as a
+// text may be.
+ghost use Rattle.std.specs.Prelude.{◌≡◌, ◌++◌, OnOk, codes};
+ghost use Rattle.mz_logic.specs.View.{tree};
+ghost use Rattle.mz_printing.specs.Lines.{spaced};
+ghost use Rattle.mz_printing.specs.Prefix.{enclosed, operand_tokens};
+ghost use Rattle.mz_readback.specs.Declared.{formula_of};
+ghost use Rattle.mz_prefix.specs.Measures;
+ghost use Rattle.mz_prefix.specs.Names.{spoken};
+
+use crate::names::Names;
+use mz_logic::{Expr, Exprs};
+use std::alloc::AllocError;
+
+/// Whether it is a term over operands.
+pub(crate) fn has_operands(expr: &Expr) -> bool
+    ensures { result ≡ Measures.has_operands (tree expr.now) }
+{
+    match expr {
+        Expr::Var(_) => false,
+        Expr::App(_, es) => es.len() > 0,
+    }
+}
+
+/// Appends a token and a space.
+fn put_token(token: &[u8], out: &mut Vec<u8>) -> Result<(), AllocError>
+    ensures { OnOk result (out.new.items ≡ out.old.items ++ (token.now ++ codes " ")) }
+{
+    out.extend_from_slice(token)?;
+    out.push(b' ')?;
+    Ok(())
+}
+
+impl<'a> Names<'a> {
+    /// Appends the tokens of an expression, each with a space behind it.
+    #[cycle(put_expr)]
+    pub(crate) fn put_expr(&self, expr: &Expr, out: &mut Vec<u8>) -> Result<(), AllocError>
+        ensures { OnOk result (out.new.items ≡ out.old.items ++ spaced (formula_of (spoken self.now) (tree expr.now))) }
+    {
+        match expr {
+            Expr::Var(x) => {
+                self.put_variable(*x as usize, out)?;
+                out.push(b' ')?;
+                Ok(())
+            }
+            Expr::App(t, es) => {
+                put_token(self.term(*t), out)?;
+                self.put_operands(es, out)
+            }
+        }
+    }
+
+    /// The same of operands.
+    #[cycle(put_expr)]
+    fn put_operands(&self, es: &Exprs, out: &mut Vec<u8>) -> Result<(), AllocError>
+        ensures { OnOk result (out.new.items ≡ out.old.items ++ spaced (operand_tokens (spoken self.now).term (spoken self.now).variable es.now)) }
+    {
+        for e in es.as_slice() {
+            self.put_operand(e, out)?;
+        }
+        Ok(())
+    }
+
+    /// The same of an operand, in parentheses where it has operands itself.
+    #[cycle(put_expr)]
+    fn put_operand(&self, expr: &Expr, out: &mut Vec<u8>) -> Result<(), AllocError>
+        ensures { OnOk result (out.new.items ≡ out.old.items ++ spaced (enclosed (spoken self.now).term (spoken self.now).variable (tree expr.now))) }
+    {
+        if !has_operands(expr) {
+            return self.put_expr(expr, out);
+        }
+        put_token(b"(", out)?;
+        self.put_expr(expr, out)?;
+        put_token(b")", out)?;
+        Ok(())
+    }
+}

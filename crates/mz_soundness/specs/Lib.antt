@@ -1,0 +1,15 @@
+pub mod Tables
+pub mod FreeVars
+pub mod Premises
+pub mod ProofMachine
+pub mod Bodies
+pub mod Facts
+pub mod Laws
+pub mod Sound
+pub mod Lists
+pub mod Gapped
+pub mod Examples
+pub mod Cases
+pub mod RowWords
+pub mod FileRows
+pub mod WordsPass

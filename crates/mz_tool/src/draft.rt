@@ -1,0 +1,83 @@
+// The command `draft`.
+ghost use Rattle.std.specs.Prelude.{◌≡◌, ◌<◌, ◌⊎◌, ◌^◌, ℕ, List, None, length, true};
+ghost use Rattle.mz_match.specs.declared.verdict.Verdict.{Verdict as TheVerdict};
+ghost use Rattle.mz_match.specs.declared.verdict.Verdict.TheVariants as verdicts;
+ghost use Rattle.mz_match.specs.Drafts.{IsDraft, IsDraftSound, IsDraftSoundIfAccepted, verdict_of};
+ghost use Rattle.mz_match.specs.Verdict.{AcceptsWithBy, FirstRefusalBy};
+ghost use Rattle.mz_tool.specs.Run.{IsDraftTold, IsRefutedBy};
+ghost use Rattle.mz_tool.specs.Outcomes.{IfYes, IfNo, OnYes, OnNo};
+
+use crate::outcome::Outcome;
+use crate::output::Put;
+use mz_axioms::gaps_text;
+use mz_cmd::Steps;
+use mz_match::{Counts, Draft, Verdict, draft_bytes, verdict_line};
+use std::alloc::Global;
+use std::marker::Brand;
+use std::sync::ledger::{Blank, Ledger};
+
+/// Tells which theorems of a specification rest on a gap, where a binary whose proofs may have gaps is
+/// accepted against it.
+pub fn draft(alloc: Global, spec: &[u8], bin: &[u8]) -> Outcome
+    requires spec { length spec.now < 2 ^ 32 }
+    requires bin { length bin.now < 2 ^ 32 }
+    ensures yes { IfYes result (λ put text. (put ≡ None) × IsDraftTold spec.now bin.now text) }
+    ensures no { IfNo result (λ text. IsRefutedBy true spec.now bin.now text) }
+    ensures sound { OnYes result (IsDraftSound spec.now bin.now) }
+    ensures only_yes { (text : List ℕ) → IsDraftTold spec.now bin.now text → OnNo result ⊥ }
+    ensures only_no { (text : List ℕ) → IsRefutedBy true spec.now bin.now text → OnYes result ⊥ }
+{
+    match judge::<Brand>(alloc, Blank::new(1), spec, bin) {
+        Draft::Accepted(counts, gaps) => {
+            match gaps_text(alloc, spec, counts.theorems, gaps.places()) {
+                Ok(text) => Outcome::Yes {
+                    put: Put::Nothing,
+                    text,
+                },
+                Err(_) => Outcome::Mem,
+            }
+        }
+        Draft::Mem => Outcome::Mem,
+        refused => match verdict_line(alloc, &verdict_of(&refused)) {
+            Ok(text) => Outcome::No { text },
+            Err(_) => Outcome::Mem,
+        },
+    }
+}
+
+/// What is said, without the places of the gapped theorems.
+fn verdict_of(draft: &Draft) -> Verdict
+    ensures { result ≡ verdict_of draft.now }
+{
+    match draft {
+        Draft::Accepted(counts, _) => Verdict::Accepted(*counts),
+        Draft::Spec(refusal) => Verdict::Spec(*refusal),
+        Draft::Binary(refusal) => Verdict::Binary(*refusal),
+        Draft::Match {
+            declaration,
+            statement,
+            rule,
+        } => Verdict::Match {
+            declaration: *declaration,
+            statement: *statement,
+            rule: *rule,
+        },
+        Draft::Mem => Verdict::Mem,
+    }
+}
+
+/// What is said, the steps of the check counted in a ledger of their own.
+fn judge<L: Ledger>(alloc: Global, blank: Blank, spec: &[u8], bin: &[u8]) -> Draft
+    requires name { blank.name ≡ L.name }
+    requires parts { blank.parts ≡ L.parts }
+    requires some { 0 < blank.parts }
+    requires spec { length spec.now < 2 ^ 32 }
+    requires bin { length bin.now < 2 ^ 32 }
+    ensures draft { IsDraft spec.now bin.now result }
+    ensures sound { IsDraftSoundIfAccepted spec.now bin.now result }
+    ensures accepted { (counts : Counts) → AcceptsWithBy true spec.now bin.now counts → (verdict_of result ≡ verdicts.Accepted counts) ⊎ (verdict_of result ≡ verdicts.Mem) }
+    ensures refused { (verdict : TheVerdict) → FirstRefusalBy true spec.now bin.now verdict → (verdict_of result ≡ verdict) ⊎ (verdict_of result ≡ verdicts.Mem) }
+{
+    let mut steps = Steps::<L>::start(blank);
+    draft_bytes(alloc, spec, bin, &mut steps)
+}

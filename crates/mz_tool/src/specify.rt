@@ -1,0 +1,66 @@
+// The command `spec`.
+ghost use Rattle.std.specs.Prelude.{◌≡◌, ◌≤◌, ◌<◌, ◌^◌, IfOk, ℕ, List, Option, Some, length};
+ghost use Rattle.mz_tool.specs.Request.{longest};
+ghost use Rattle.mz_tool.specs.Run.{AreItsSpecifications, IsNotSpecified, IsSpecifiedTo};
+ghost use Rattle.mz_tool.specs.Outcomes.{IfYes, IfNo, OnYes, OnNo};
+ghost use Rattle.mz_tool.specs.Specified;
+
+use crate::outcome::Outcome;
+use crate::output::Put;
+use mz_agreeing::specifications_of_texts_declare;
+use mz_cmd::Mem;
+use mz_emit::{Compiled, L, compiled_line};
+use mz_prefix::{
+    SpecText, local_line, long_line, spec_of, specification_is_decided, specified_line,
+};
+use std::alloc::Global;
+
+/// The line that tells an answer other than want of memory.
+fn spec_line(alloc: Global, made: &SpecText) -> Result<Vec<u8>, Mem>
+    requires { made.now ≡ SpecText.Mem → ⊥ }
+    ensures { IfOk result (λ line. line.items ≡ Specified.spec_line made.now) }
+{
+    match made {
+        SpecText::Text(spec) => specified_line(alloc, spec.len()),
+        SpecText::Refused(refusal) => compiled_line(alloc, &Compiled::Refused(*refusal)),
+        SpecText::Local(statement) => local_line(alloc, *statement),
+        SpecText::Long(statement) => long_line(alloc, *statement),
+        SpecText::Limit { count } => {
+            let rule = L::Bytes;
+            let limit = Compiled::Limit {
+                rule,
+                count: *count,
+            };
+            compiled_line(alloc, &limit)
+        }
+        SpecText::Mem => Ok(Vec::new(alloc)),
+    }
+}
+
+/// Makes a specification for a proof text. The line is built before anything is put.
+pub fn specify(alloc: Global, text: &[u8]) -> Outcome
+    requires text { length text.now < 2 ^ 32 }
+    ensures yes { IfYes result (λ put line. IsSpecifiedTo text.now put line) }
+    ensures short { IfYes result (λ put line. (bytes : List ℕ) → put ≡ Some bytes → length bytes ≤ longest) }
+    ensures no { IfNo result (λ line. IsNotSpecified text.now line) }
+    ensures sound { OnYes result (AreItsSpecifications text.now) }
+    ensures only_yes { (put : Option (List ℕ)) (line : List ℕ) → IsSpecifiedTo text.now put line → OnNo result ⊥ }
+    ensures only_no { (line : List ℕ) → IsNotSpecified text.now line → OnYes result ⊥ }
+{
+    specification_is_decided();
+    specifications_of_texts_declare();
+    let made = spec_of(alloc, text);
+    if let SpecText::Mem = made {
+        return Outcome::Mem;
+    }
+    let Ok(line) = spec_line(alloc, &made) else {
+        return Outcome::Mem;
+    };
+    match made {
+        SpecText::Text(bytes) => Outcome::Yes {
+            put: Put::File(bytes),
+            text: line,
+        },
+        _ => Outcome::No { text: line },
+    }
+}

@@ -1,0 +1,154 @@
+// Specifications that are made for proof texts.
+use crate::runs::{compiled, expect_verdict, words_of};
+use crate::texts::{
+    ALL_VARIABLES, FOLD_TEXT, IMPLICATION, LET_TWICE, LOCAL_DEFINITION, LOCAL_IN_AXIOM, SAMPLE,
+};
+use mz_io::{MemFolder, MemSink};
+use mz_tool::{Status, run};
+use std::alloc::{AllocError, Global};
+use std::test::Fail;
+
+/// A room for each specification of these tests.
+const ROOM: u64 = 4096;
+
+/// How `spec` ends, the folder after it, and what was written.
+fn specified(alloc: Global, text: &[u8]) -> Result<(Status, MemFolder, MemSink), AllocError> {
+    let mut folder = MemFolder::new(alloc);
+    folder.add("text", text)?;
+    folder.room("out", ROOM)?;
+    let mut out = MemSink::new(alloc, 200)?;
+    let words = words_of(alloc, "spec text out")?;
+    let status = run(alloc, &words, &mut folder, &mut out);
+    Ok((status, folder, out))
+}
+
+/// Texts, and their specifications.
+const SPECIFIED: [(&str, &str); 4] = [
+    (
+        IMPLICATION,
+        "provable sort wff;
+term im (_v0: wff) (_v1: wff): wff;
+axiom ax_1 (_v0: wff) (_v1: wff): $ im _v0 ( im _v1 _v0 ) $;
+axiom ax_mp (_v0: wff) (_v1: wff): $ im _v0 _v1 $ > $ _v0 $ > $ _v1 $;
+theorem a1i (_v0: wff) (_v1: wff): $ _v0 $ > $ im _v1 _v0 $;
+",
+    ),
+    (
+        "(sort wff provable)
+(sort nat)
+(term all ((x nat) (p wff (x))) (wff ()))
+(axiom ax_v ((x nat) (p wff ())) (p) (all x p))
+",
+        "provable sort wff;
+sort nat;
+term all {_v0: nat} (_v1: wff _v0): wff;
+axiom ax_v {_v0: nat} (_v1: wff): $ _v1 $ > $ all _v0 _v1 $;
+",
+    ),
+    (
+        LOCAL_DEFINITION,
+        "provable sort wff;
+term not (_v0: wff): wff;
+term t (_v0: wff): wff;
+axiom x (_v0: wff): $ t _v0 $;
+",
+    ),
+    // names that begin with underscores, a body that mentions a local definition, and one with a dummy
+    (
+        "(sort __s provable)
+(sort nat)
+(term all ((x nat) (p __s (x))) (__s ()))
+(term _eq ((a nat ()) (b nat ())) (__s ()))
+(local def l ((a nat ())) (__s ()) () (_eq a a))
+(def d ((a nat ())) (__s ()) () (l a))
+(def e ((a nat ())) (__s ()) ((x nat)) (all x (_eq x a)))
+",
+        "provable sort __s;
+sort nat;
+term all {___v0: nat} (___v1: __s ___v0): __s;
+term _eq (___v0: nat) (___v1: nat): __s;
+def d (___v0: nat): __s;
+def e (___v0: nat) {.___v1: nat}: __s = $ all ___v1 ( _eq ___v1 ___v0 ) $;
+",
+    ),
+];
+
+/// Texts that have no specification, and what is written.
+const REFUSED: [(&str, &str); 3] = [
+    (
+        LOCAL_IN_AXIOM,
+        "refused: text statement 5: local definition\n",
+    ),
+    (
+        "(sort wff provable)
+(term not ((a wff ())) (wff ()))
+(local def nn ((a wff ())) (wff ()) () (not (not a)))
+(theorem fold ((a wff ())) ((h (not (not a)))) (nn a) () (:conv (nn a) (:unfold nn (a) () (not (not a))) h))
+",
+        "refused: text statement 4: local definition\n",
+    ),
+    (
+        ALL_VARIABLES,
+        "refused: text statement 5 at byte 191: U9 disjoint\n",
+    ),
+];
+
+/// Texts that are accepted beside their own specifications, and the line.
+const ACCEPTED: [(&str, &str); 4] = [
+    (
+        IMPLICATION,
+        "accepted: 1 sorts, 1 terms, 2 axioms, 0 definitions, 1 theorems",
+    ),
+    (
+        FOLD_TEXT,
+        "accepted: 1 sorts, 1 terms, 0 axioms, 1 definitions, 1 theorems",
+    ),
+    (
+        LET_TWICE,
+        "accepted: 1 sorts, 1 terms, 2 axioms, 0 definitions, 2 theorems",
+    ),
+    (
+        SAMPLE,
+        "accepted: 2 sorts, 2 terms, 3 axioms, 1 definitions, 2 theorems",
+    ),
+];
+
+#[test]
+fn texts_have_specifications(rt: HostRuntime) -> Result<(), Fail> {
+    let alloc = rt.alloc();
+    for (text, spec) in SPECIFIED {
+        let (status, folder, out) = specified(alloc, text.as_bytes())?;
+        assert!(rt; status == Status::Done, "the status for {spec}");
+        let line = format!(in alloc; "specified: {} bytes\n", spec.len())?;
+        assert!(rt; out.bytes() == line.as_bytes(), "the line for {spec}");
+        assert!(rt; folder.file("out") == Some(spec.as_bytes()), "{spec}");
+    }
+    Ok(())
+}
+
+#[test]
+fn some_texts_have_none(rt: HostRuntime) -> Result<(), Fail> {
+    let alloc = rt.alloc();
+    for (text, line) in REFUSED {
+        let (status, folder, out) = specified(alloc, text.as_bytes())?;
+        assert!(rt; status == Status::Refused, "the status for {line}");
+        assert!(rt; out.bytes() == line.as_bytes(), "{line}");
+        assert!(rt; folder.file("out").is_none(), "a file for {line}");
+    }
+    Ok(())
+}
+
+#[test]
+fn texts_are_accepted_beside_their_own(rt: HostRuntime) -> Result<(), Fail> {
+    let alloc = rt.alloc();
+    for (text, line) in ACCEPTED {
+        let (_, specs, _) = specified(alloc, text.as_bytes())?;
+        let (_, bins, _) = compiled(alloc, text.as_bytes())?;
+        let (Some(spec), Some(bin)) = (specs.file("out"), bins.file("out")) else {
+            assert!(rt; false, "no files for {line}");
+            return Ok(());
+        };
+        expect_verdict(&rt, spec, bin, line, text)?;
+    }
+    Ok(())
+}
