@@ -9,7 +9,7 @@ use std::alloc::{AllocError, Global};
 use std::test::Fail;
 
 /// A room for each specification of these tests.
-const ROOM: u64 = 4096;
+const ROOM: u64 = 20_000;
 
 /// How `spec` ends, the folder after it, and what was written.
 fn specified(alloc: Global, text: &[u8]) -> Result<(Status, MemFolder, MemSink), AllocError> {
@@ -150,5 +150,88 @@ fn texts_are_accepted_beside_their_own(rt: HostRuntime) -> Result<(), Fail> {
         };
         expect_verdict(&rt, spec, bin, line, text)?;
     }
+    Ok(())
+}
+
+/// A sort and two terms.
+const TERMS: &str = "(sort wff provable)
+(term not ((a wff ())) (wff ()))
+(term im ((a wff ()) (b wff ())) (wff ()))
+";
+
+const OF_TERMS: &str = "provable sort wff;
+term not (_v0: wff): wff;
+term im (_v0: wff) (_v1: wff): wff;
+";
+
+/// An implication of implications, ten deep, whose prefix form has 4,091 tokens.
+fn wide_expression(alloc: Global) -> Result<String, AllocError> {
+    let mut wide = "a".to_string(alloc)?;
+    for _ in 0..10 {
+        let mut both = "(im ".to_string(alloc)?;
+        both.push_str(&wide)?;
+        both.push_str(" ")?;
+        both.push_str(&wide)?;
+        both.push_str(")")?;
+        wide = both;
+    }
+    Ok(wide)
+}
+
+/// The terms, and a statement: what stands before the wide expression, and behind it.
+fn wide_text(alloc: Global, front: &str, rest: &str) -> Result<String, AllocError> {
+    let wide = wide_expression(alloc)?;
+    let mut text = TERMS.to_string(alloc)?;
+    text.push_str(front)?;
+    text.push_str(&wide)?;
+    text.push_str(rest)?;
+    Ok(text)
+}
+
+/// What stands before the wide expression and behind it, how `spec` ends, and the line; of a specification the
+/// line is long. A negation before the expression makes 4,094 tokens of it, and two make 4,097.
+const WIDE: [(&str, &str, Status, &str); 3] = [
+    ("(axiom x ((a wff ())) () (not ", "))", Status::Done, ""),
+    (
+        "(axiom x ((a wff ())) () (not (not ",
+        ")))",
+        Status::Refused,
+        "refused: text statement 4: depth\n",
+    ),
+    (
+        "(axiom x ((a wff ())) () (not (not ",
+        ")))
+(local def l ((a wff ())) (wff ()) () a)
+(axiom y ((a wff ())) () (l a))",
+        Status::Refused,
+        "refused: text statement 6: local definition\n",
+    ),
+];
+
+#[test]
+fn a_claim_has_so_many_tokens(rt: HostRuntime) -> Result<(), Fail> {
+    let alloc = rt.alloc();
+    for (front, rest, status, line) in WIDE {
+        let text = wide_text(alloc, front, rest)?;
+        let (ended, folder, out) = specified(alloc, text.as_bytes())?;
+        assert!(rt; ended == status, "the status for {front}");
+        let is_put = folder.file("out").is_some();
+        assert!(rt; is_put == line.is_empty(), "a file for {front}");
+        let is_told = line.is_empty() || out.bytes() == line.as_bytes();
+        assert!(rt; is_told, "{line}");
+    }
+    Ok(())
+}
+
+#[test]
+fn a_long_body_is_left_out(rt: HostRuntime) -> Result<(), Fail> {
+    let alloc = rt.alloc();
+    let front = "(def d ((a wff ())) (wff ()) () (not (not ";
+    let text = wide_text(alloc, front, ")))")?;
+    let (status, folder, _) = specified(alloc, text.as_bytes())?;
+    assert!(rt; status == Status::Done, "the status");
+    let mut spec = OF_TERMS.to_string(alloc)?;
+    spec.push_str("def d (_v0: wff): wff;\n")?;
+    assert!(rt; folder.file("out") == Some(spec.as_bytes()), "{spec}");
     Ok(())
 }
