@@ -5,10 +5,10 @@ use Rattle.mz_accepting.specs.Laws.{WrittenFilesAreAccepted}
 use Rattle.mz_accepting.proofs.Agreeing.{same-lists-agree}
 
 pub files-accepted : WrittenFilesAreAccepted
-files-accepted p text made fit legal written spec ds is-spec agrees = record {
+files-accepted gaps p text made fit legal written spec ds is-spec agrees = record {
   declared = ds;
   statements = made;
   is_spec = is-spec;
-  is_good = files-good p text made fit legal written;
-  agrees = same-lists-agree ds text made (written-same p text made written) agrees;
+  is_good = files-good gaps p text made fit legal written;
+  agrees = same-lists-agree ds text made (written-same gaps p text made written) agrees;
 }

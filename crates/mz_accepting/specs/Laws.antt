@@ -1,18 +1,18 @@
 -- What is promised of a written file beside a specification.
-use Rattle.std.specs.Prelude.{◌++◌, ℕ, List, length}
+use Rattle.std.specs.Prelude.{◌++◌, ℕ, Bool, List, length}
 use Rattle.std.specs.List.{range_with_len}
 use Rattle.mz_logic.specs.Tree.{Tree}
 use Rattle.mz_logic.specs.Signature.{Signature}
 use Rattle.mz_logic.specs.Declaration.{defined, Declaration}
 use Rattle.mz_logic.specs.Legality.{InRange, IsLegalEnv}
-use Rattle.mz_logic.specs.LegalLists.{Statement, Legal, declarations}
+use Rattle.mz_logic.specs.LegalLists.{Statement, LegalBy, allowed_with, declarations}
 use Rattle.mz_logic.specs.declared.binder.Binder.{Binder}
 use Rattle.mz_layout.specs.Normal.{Parts, file_of}
 use Rattle.mz_layout.specs.Standing.{Fit}
 use Rattle.mz_spec.specs.Spec.{SpecOf}
 use Rattle.mz_match.specs.Match.{publics, Agrees}
 use Rattle.mz_match.specs.Trees.{SameBody}
-use Rattle.mz_match.specs.Verdict.{Accepts}
+use Rattle.mz_match.specs.Verdict.{AcceptsBy}
 use Rattle.mz_steps.specs.Sameness.{IsSameForm}
 use Rattle.mz_steps.specs.SameLists.{IsSameList}
 use Rattle.mz_streams.specs.SpelledLists.{list_spelled}
@@ -38,7 +38,7 @@ SpelledListsAgree = (ds : List Declaration) (ss : List Statement) → IsLegalEnv
 -- ---- files
 
 -- a legal text that is written within the format's bounds is accepted against each specification with which its public
--- statements agree
+-- statements agree; with gaps as a draft, and else as it is
 abbrev pub WrittenFilesAreAccepted : Type 0
-WrittenFilesAreAccepted = (p : Parts) (text made : List Statement) → Fit p → Legal text → IsWrittenAs p text made
-    → (spec : List ℕ) (ds : List Declaration) → SpecOf spec ds → Agrees ds (publics text) → Accepts spec (file_of p)
+WrittenFilesAreAccepted = (gaps : Bool) (p : Parts) (text made : List Statement) → Fit p → LegalBy (allowed_with gaps) text → IsWrittenAs gaps p text made
+    → (spec : List ℕ) (ds : List Declaration) → SpecOf spec ds → Agrees ds (publics text) → AcceptsBy gaps spec (file_of p)

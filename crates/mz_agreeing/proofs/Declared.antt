@@ -64,7 +64,7 @@ module _ (all : List Statement) where
       let last : length (prefix_text all) ≤ limit = (all_hold-rest (long_checks (vocabulary_of all) 1 all) _ later).0 in
       all-wanted all hidden all 1 n (all_hold-first (local_checks (local_terms all) 1 all) _ holds) (all_hold-first (long_checks (vocabulary_of all) 1 all) _ later) (omega (arith, last, small))
 
-  declares : AreTitled no_names all → All IsWhole all → Legal (marked all) → AreWanted all hidden n all → SpecOf (prefix_text all) (public_part hidden (marked all))
+  declares : AreTitled (no_names false) all → All IsWhole all → Legal (marked all) → AreWanted all hidden n all → SpecOf (prefix_text all) (public_part hidden (marked all))
   declares titled whole legal are =
       let lines = same-lines all hidden n hides are legal in
       let spec = printed-declare (spoken all) n (named hidden (public_number (local_terms all)) all) variables (all-printable all hidden n hides short titled whole are legal) in
@@ -73,11 +73,11 @@ module _ (all : List Statement) where
 
 pub texts-declared : SpecificationsOfTextsDeclare
 texts-declared limit text spec small (ss, ((ns, read), legal), holds, is) =
-    let list = stated_is_legal ss legal in
+    let list = stated_is_legal false ss legal in
     let are = wanted ss limit small holds in
     record {
       declared = public_part (hidden ss) (marked ss);
-      is_spec = subst (λ (bytes : List ℕ). SpecOf bytes (public_part (hidden ss) (marked ss))) (sym is) (declares ss (all-titled no_names ns ss read.1) (are_whole no_names ns ss read.1) list are);
-      agrees = λ ts ((ms, other), _). subst (λ (us : List Statement). Agrees (public_part (hidden ss) (marked ss)) (publics (marked us))) (one_reading text ns ms ss ts read other).1
+      is_spec = subst (λ (bytes : List ℕ). SpecOf bytes (public_part (hidden ss) (marked ss))) (sym is) (declares ss (all-titled (no_names false) ns ss read.1) (are_whole (no_names false) ns ss read.1) list are);
+      agrees = λ ts ((ms, other), _). subst (λ (us : List Statement). Agrees (public_part (hidden ss) (marked ss)) (publics (marked us))) (one_reading false text ns ms ss ts read other).1
           (public-parts-agree (marked ss) (hidden ss) list (hides ss) (sayable ss ss are));
     }

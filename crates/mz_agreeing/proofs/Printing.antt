@@ -304,9 +304,9 @@ module _ (all : List Statement) (hidden : Tree → Bool) (n : ℕ) where
               (behind-public env env' names used s ss public b) titled.1 further wanted.1 legal.1,
         ))
 
-    pub all-printable : AreTitled no_names all → All IsWhole all → AreWanted all → Legal (marked all) → ArePrintable (spoken all) n [] [] (named hidden f all)
+    pub all-printable : AreTitled (no_names false) all → All IsWhole all → AreWanted all → Legal (marked all) → ArePrintable (spoken all) n [] [] (named hidden f all)
     all-printable titled whole wanted legal =
-        printable-after all [] [] no_names [] (record {
+        printable-after all [] [] (no_names false) [] (record {
           so_far = record { at = record { before = []; all = refl; place = refl }; sorts_many = refl; terms_many = refl; sorts_are = refl; terms_are = refl };
           beside = none-beside ls;
           low = λ k less. absurd (omega arith);

@@ -1,6 +1,6 @@
 -- What the specification that is written of a text declares (mm0.md, section on the grammar; the match and the naming are this
 -- project's own).
-use Rattle.std.specs.Prelude.{◌<◌, ◌^◌, ℕ, List}
+use Rattle.std.specs.Prelude.{◌<◌, ◌^◌, ℕ, false, List}
 use Rattle.mz_logic.specs.Declaration.{Declaration}
 use Rattle.mz_mmu.specs.Proof.{Statement}
 use Rattle.mz_type.specs.Meaning.{marked}
@@ -13,7 +13,7 @@ use Rattle.mz_wording.specs.Wording.{IsWordedAs}
 pub record DeclaresText (spec text : List ℕ) : Type 0 where
   pub declared : List Declaration
   pub is_spec : SpecOf spec declared
-  pub agrees : (ss : List Statement) → TextOf text ss → Agrees declared (publics (marked ss))
+  pub agrees : (ss : List Statement) → TextOf false text ss → Agrees declared (publics (marked ss))
 
 -- each specification that is written of a text declares it; with 64 bits for its length, there are names for all its variables
 abbrev pub SpecificationsOfTextsDeclare : Type 0

@@ -17,6 +17,7 @@ use Rattle.mz_bodies.specs.declared.cells.Cell.{Cell}
 use Rattle.mz_bodies.specs.declared.task.Task.{Task as Coded}
 use Rattle.mz_bodies.specs.Stages.{HasDummiesBehind, Begins}
 use Rattle.mz_bodies.proofs.Building.{nothing_built, none_of}
+use Rattle.mz_bodies.proofs.Using.{using_begun}
 use Rattle.mz_shared.proofs.Making.{grows_self}
 use Rattle.mz_shared.proofs.Owned.{variable_id}
 
@@ -77,7 +78,7 @@ module _ (env : List Declaration) (o : Job) (s : Sharing) (vars : List Id) (plac
   begun = record {
     commands = [];
     work = work_start o.params;
-    has_built = nothing_built env o.params s places;
+    has_built = nothing_built o.gaps env o.params s places;
     may_stand = tt;
     written = refl;
     assumed = ap (λ (k : ℕ). take k o.hyps) (sym begins.2);
@@ -91,6 +92,7 @@ module _ (env : List Declaration) (o : Job) (s : Sharing) (vars : List Id) (plac
     owes = sym begins.3;
     clear = tt;
     fresh = (tt, λ j one. absurd (none_of j one));
+    uses = λ u. using_begun u (o.uses u) (begins.4 u);
     short = omega arith;
   }
 

@@ -25,13 +25,13 @@ use Rattle.mz_bodies.proofs.Shortening.{one_or_rest}
 
 -- ---- one command more
 
-module _ (env : List Declaration) (ctx : List Binder) where
-  builds_last : (cs : List (ProofCode × ℕ)) (w mid : Work) (bs : List Tree) (c : ProofCode) (v : ℕ) (w' : Work) → Builds false env ctx w cs mid bs → Step false env ctx mid c v w'
-      → Builds false env ctx w (cs ++ (c, v) ∷ []) w' (bs ++ built c w')
+module _ (gaps : Bool) (env : List Declaration) (ctx : List Binder) where
+  builds_last : (cs : List (ProofCode × ℕ)) (w mid : Work) (bs : List Tree) (c : ProofCode) (v : ℕ) (w' : Work) → Builds gaps env ctx w cs mid bs → Step gaps env ctx mid c v w'
+      → Builds gaps env ctx w (cs ++ (c, v) ∷ []) w' (bs ++ built c w')
   builds_last [] w mid bs c v w' (is, empty) step = (
     w',
     [],
-    subst (λ (z : Work). Step false env ctx z c v w') is step,
+    subst (λ (z : Work). Step gaps env ctx z c v w') is step,
     (refl, refl),
     ap (λ (z : List Tree). z ++ built c w') empty ∙ sym (append-nil (built c w')),
   )
@@ -43,7 +43,7 @@ module _ (env : List Declaration) (ctx : List Binder) where
     ap (λ (z : List Tree). z ++ built c w') is ∙ append_assoc (built d.0 next) later (built c w'),
   )
 
-  pub builds_steps : (cs : List (ProofCode × ℕ)) (w w' : Work) (bs : List Tree) → Builds false env ctx w cs w' bs → Steps false env ctx w cs w'
+  pub builds_steps : (cs : List (ProofCode × ℕ)) (w w' : Work) (bs : List Tree) → Builds gaps env ctx w cs w' bs → Steps gaps env ctx w cs w'
   builds_steps [] w w' bs (is, empty) = is
   builds_steps (c ∷ cs) w w' bs (next, later, first, rest, is) = (next, first, builds_steps cs next w' later rest)
 
@@ -62,8 +62,8 @@ distinct_last bs e distinct new i j x i-at j-at = elim (last_or_before Tree bs e
 no_tree : (A : Type 0) (k : ℕ) (e : Tree) → slice_get [] k ≡ Some e → A
 no_tree A k e is = absurd (grind (arith, is))
 
-pub nothing_built : (env : List Declaration) (params : List Binder) (s : Sharing) (places : List (Option ℕ)) → HasBuilt env params s places [] (work_start params)
-nothing_built env params s places = record {
+pub nothing_built : (gaps : Bool) (env : List Declaration) (params : List Binder) (s : Sharing) (places : List (Option ℕ)) → HasBuilt gaps env params s places [] (work_start params)
+nothing_built gaps env params s places = record {
   trees = [];
   builds = (refl, refl);
   placed = λ k e at. no_tree (HasPlace s places e) k e at;
@@ -71,35 +71,35 @@ nothing_built env params s places = record {
   plain = tt;
 }
 
-module _ (env : List Declaration) (params : List Binder) (s : Sharing) (places places' : List (Option ℕ)) (cs : List (ProofCode × ℕ)) (w w' : Work) (c : ProofCode) (v : ℕ)
-    (keeps : (e : Tree) → HasPlace s places e → HasPlace s places' e) (plain : IsPlain (c, v)) (step : Step false env s.context w c v w') (h : HasBuilt env params s places cs w) where
+module _ (gaps : Bool) (env : List Declaration) (params : List Binder) (s : Sharing) (places places' : List (Option ℕ)) (cs : List (ProofCode × ℕ)) (w w' : Work) (c : ProofCode) (v : ℕ)
+    (keeps : (e : Tree) → HasPlace s places e → HasPlace s places' e) (plain : IsPlain (c, v)) (step : Step gaps env s.context w c v w') (h : HasBuilt gaps env params s places cs w) where
   -- a command that builds nothing
-  pub nothing_more : built c w' ≡ [] → HasBuilt env params s places' (cs ++ (c, v) ∷ []) w'
+  pub nothing_more : built c w' ≡ [] → HasBuilt gaps env params s places' (cs ++ (c, v) ∷ []) w'
   nothing_more empty = record {
     trees = h.trees;
-    builds = subst (Builds false env s.context (work_start params) (cs ++ (c, v) ∷ []) w') (ap (λ (z : List Tree). h.trees ++ z) empty ∙ append-nil h.trees)
-        (builds_last env s.context cs (work_start params) w h.trees c v w' h.builds step);
+    builds = subst (Builds gaps env s.context (work_start params) (cs ++ (c, v) ∷ []) w') (ap (λ (z : List Tree). h.trees ++ z) empty ∙ append-nil h.trees)
+        (builds_last gaps env s.context cs (work_start params) w h.trees c v w' h.builds step);
     placed = λ k e at. keeps e (h.placed k e at);
     distinct = h.distinct;
     plain = plain_last cs (c, v) h.plain plain;
   }
 
   -- a command that builds what had no place
-  pub one_more_built : (e : Tree) → built c w' ≡ e ∷ [] → (HasPlace s places e → ⊥) → HasPlace s places' e → HasBuilt env params s places' (cs ++ (c, v) ∷ []) w'
+  pub one_more_built : (e : Tree) → built c w' ≡ e ∷ [] → (HasPlace s places e → ⊥) → HasPlace s places' e → HasBuilt gaps env params s places' (cs ++ (c, v) ∷ []) w'
   one_more_built e one not has = record {
     trees = h.trees ++ e ∷ [];
-    builds = subst (Builds false env s.context (work_start params) (cs ++ (c, v) ∷ []) w') (ap (λ (z : List Tree). h.trees ++ z) one)
-        (builds_last env s.context cs (work_start params) w h.trees c v w' h.builds step);
+    builds = subst (Builds gaps env s.context (work_start params) (cs ++ (c, v) ∷ []) w') (ap (λ (z : List Tree). h.trees ++ z) one)
+        (builds_last gaps env s.context cs (work_start params) w h.trees c v w' h.builds step);
     placed = λ k x at. elim (last_or_before Tree h.trees e k x at) [ inl b ↦ keeps x (h.placed k x b) | inr (k-is, e-is) ↦ subst (HasPlace s places') e-is has ];
     distinct = distinct_last h.trees e h.distinct (λ k at. not (h.placed k e at));
     plain = plain_last cs (c, v) h.plain plain;
   }
 
-pub built_grown : (env : List Declaration) (params : List Binder) (s s' : Sharing) (gr : Grows s s') (places : List (Option ℕ)) (cs : List (ProofCode × ℕ)) (w : Work)
-    → HasBuilt env params s places cs w → HasBuilt env params s' places cs w
-built_grown env params s s' gr places cs w h = record {
+pub built_grown : (gaps : Bool) (env : List Declaration) (params : List Binder) (s s' : Sharing) (gr : Grows s s') (places : List (Option ℕ)) (cs : List (ProofCode × ℕ)) (w : Work)
+    → HasBuilt gaps env params s places cs w → HasBuilt gaps env params s' places cs w
+built_grown gaps env params s s' gr places cs w h = record {
   trees = h.trees;
-  builds = subst (λ (ctx : List Binder). Builds false env ctx (work_start params) cs w h.trees) (sym gr.0) h.builds;
+  builds = subst (λ (ctx : List Binder). Builds gaps env ctx (work_start params) cs w h.trees) (sym gr.0) h.builds;
   placed = λ k e at. (let q = h.placed k e at in (q.0, q.1, (in_grown s s' gr q.0 q.2.0, tree_grown s s' gr q.0 q.2.0 ∙ q.2.1), q.3));
   distinct = h.distinct;
   plain = h.plain;
@@ -185,8 +185,8 @@ parts_fresh s places i is us small none-yet (rising, new) = pushes_fresh s place
 
 -- ---- a store that grew
 
-module _ (env : List Declaration) (ctx : List Binder) (hyps : List Tree) (s s' : Sharing) (gr : Grows s s') (ps : List Part) where
-  make_in : (ts : List Task) (xs goal : List (Item Tree)) (j : ℕ) → Owes env ctx hyps s ps xs ts goal → is_one_of j (to_make ts) ≡ true → IsIn s j
+module _ (gaps : Bool) (env : List Declaration) (ctx : List Binder) (hyps : List Tree) (s s' : Sharing) (gr : Grows s s') (ps : List Part) where
+  make_in : (ts : List Task) (xs goal : List (Item Tree)) (j : ℕ) → Owes gaps env ctx hyps s ps xs ts goal → is_one_of j (to_make ts) ≡ true → IsIn s j
   make_in [] xs goal j h one = absurd (none_of j one)
   make_in (prove p chain ∷ ts) xs goal j (ys, turns, h) one = make_in ts ys goal j h one
   make_in (prove_all qs chain ∷ ts) xs goal j (ys, turns, h) one = make_in ts ys goal j h one
@@ -201,7 +201,7 @@ module _ (env : List Declaration) (ctx : List Binder) (hyps : List Tree) (s s' :
   smaller : (i j : ℕ) → IsIn s i → IsIn s j → size (tree_of s i) < size (tree_of s j) → size (tree_of s' i) < size (tree_of s' j)
   smaller i j i-in j-in lt = (let a = ap size (tree_grown s s' gr i i-in) in let b = ap size (tree_grown s s' gr j j-in) in omega (arith, lt, a, b))
 
-  under_grown : (t : Task) (xs ys : List (Item Tree)) (j : ℕ) → Turns env ctx hyps s ps t xs ys → IsIn s j → IsUnder s j t → IsUnder s' j t
+  under_grown : (t : Task) (xs ys : List (Item Tree)) (j : ℕ) → Turns gaps env ctx hyps s ps t xs ys → IsIn s j → IsUnder s j t → IsUnder s' j t
   under_grown (prove p chain) xs ys j turns j-in h = h
   under_grown (prove_all qs chain) xs ys j turns j-in h = h
   under_grown (cite T es) xs ys j turns j-in h = h
@@ -212,7 +212,7 @@ module _ (env : List Declaration) (ctx : List Binder) (hyps : List Tree) (s s' :
   under_grown (give code v) xs ys j turns j-in h = h
   under_grown (save d) xs ys j turns j-in h = h
 
-  pub rising_grown : (ts : List Task) (xs goal : List (Item Tree)) → Owes env ctx hyps s ps xs ts goal → IsRising s ts → IsRising s' ts
+  pub rising_grown : (ts : List Task) (xs goal : List (Item Tree)) → Owes gaps env ctx hyps s ps xs ts goal → IsRising s ts → IsRising s' ts
   rising_grown [] xs goal h rising = tt
   rising_grown (t ∷ ts) xs goal (ys, turns, h) (first, rising) =
       ((λ j one. under_grown t xs ys j turns (make_in ts ys goal j h one) (first j one)), rising_grown ts ys goal h rising)

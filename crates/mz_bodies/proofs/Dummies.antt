@@ -1,5 +1,5 @@
 -- A dummy that is made where it is first needed.
-use Rattle.std.specs.Prelude.{ℕ, ◌≡◌, ◌<◌, ◌≤◌, ◌+◌, ◌^◌, false, List, [], ◌∷◌, ◌++◌, length, slice_get, Contains, Option, Some, None}
+use Rattle.std.specs.Prelude.{ℕ, ◌≡◌, ◌<◌, ◌≤◌, ◌+◌, ◌^◌, List, [], ◌∷◌, ◌++◌, length, slice_get, Contains, Option, Some, None}
 use Rattle.std.proofs.Common.{zero, suc, refl, sym, ap, ◌∙◌, subst, arith, inl, inr}
 use Rattle.std.proofs.lemmas.List.{length-append}
 use Rattle.std.proofs.lemmas.List.Elements.{Contains-append_left, Contains-append_cases}
@@ -25,6 +25,7 @@ use Rattle.mz_bodies.specs.declared.cells.Cell.{Cell}
 use Rattle.mz_bodies.proofs.Building.{nothing_more, put_keeps, put_new}
 use Rattle.mz_bodies.proofs.Keeping.{places_put, cells_kept}
 use Rattle.mz_bodies.proofs.Shortening.{command_short}
+use Rattle.mz_bodies.proofs.Using.{using_last}
 use Rattle.mz_bodies.proofs.Standing.{may_last, may_rest}
 use Rattle.mz_bodies.proofs.Moves.{more_written, size_some}
 
@@ -55,7 +56,7 @@ module _ (env : List Declaration) (o : Job) (s : Sharing) (vars : List Id) (plac
       let b = g.there.dummies x h.0 h.1 (later x (λ lt. not_met (g.there.params_met x lt))) in
       let e : Tree = tree_of s i in
       let next : Work = record { met = g.work.met ++ x ∷ []; heap = g.work.heap ++ expr e ∷ []; stack = expr e ∷ g.work.stack; hyps = g.work.hyps } in
-      let step : Step false env s.context g.work code.Dummy sort next = (
+      let step : Step o.gaps env s.context g.work code.Dummy sort next = (
         x,
         h.1 ∙ ap (λ (c : Binder). Some c) (b.0 ∙ ap dummy_of h.2),
         subst (MayBeDummySort (sorts env)) h.2 b.1,
@@ -66,8 +67,8 @@ module _ (env : List Declaration) (o : Job) (s : Sharing) (vars : List Id) (plac
       record {
         commands = g.commands ++ (code.Dummy, sort) ∷ [];
         work = next;
-        has_built = nothing_more env o.params s places places' g.commands g.work next code.Dummy sort (put_keeps s places places' i len at others) tt step g.has_built refl;
-        may_stand = may_last o.kind g.commands code.Dummy sort g.may_stand (refl, small);
+        has_built = nothing_more o.gaps env o.params s places places' g.commands g.work next code.Dummy sort (put_keeps s places places' i len at others) tt step g.has_built refl;
+        may_stand = may_last o.gaps o.kind g.commands code.Dummy sort g.may_stand (refl, small);
         written = is ∙ more_written env o s vars places len hps cells (push i ∷ us) bs g code.Dummy sort;
         assumed = g.assumed;
         counted = g.counted;
@@ -85,12 +86,13 @@ module _ (env : List Declaration) (o : Job) (s : Sharing) (vars : List Id) (plac
           dummies = g.there.dummies;
           hypotheses = put.hypotheses;
         };
-        lets = cells_kept env s.context o.hyps cells g.work.heap (expr e) g.lets;
+        lets = cells_kept o.gaps env s.context o.hyps cells g.work.heap (expr e) g.lets;
         may_do = may_rest o (push i) us g.may_do;
         clear = g.clear.1;
         fresh = (g.fresh.0.1, put_new s places places' i len at others us g.fresh.0.0 g.fresh.1);
+        uses = λ u. using_last u (o.uses u) cells g.commands code.Dummy sort (push i ∷ us) us (g.uses u).comes.1 (g.uses u);
         short = (let h = g.short in let a = ap length is ∙ length-append bs (command_bytes (code.Dummy, sort)) in let b = command_short code.Dummy sort in let c = size_some (tree_of s i) in omega (arith, h, a, b, c));
-        owes = subst (λ (z : List (Item Tree)). Owes env s.context o.hyps s (parts cells) z us o.goal) g.owes.1.1 g.owes.2;
+        owes = subst (λ (z : List (Item Tree)). Owes o.gaps env s.context o.hyps s (parts cells) z us o.goal) g.owes.1.1 g.owes.2;
       }
     where
       none_some : (q : ℕ) → ◌≡◌ {A = Option ℕ} None (Some q) → ⊥

@@ -1,5 +1,5 @@
 -- The stages of a body: an expression, a hypothesis, a proof, and the end.
-use Rattle.std.specs.Prelude.{ℕ, ◌≡◌, ◌<◌, ◌≤◌, ◌+◌, ◌*◌, true, false, List, [], ◌∷◌, ◌++◌, length, take, get_or, slice_get, Option, Some, None}
+use Rattle.std.specs.Prelude.{Bool, ◌||◌, ℕ, ◌≡◌, ◌<◌, ◌≤◌, ◌+◌, ◌*◌, true, List, [], ◌∷◌, ◌++◌, length, take, get_or, slice_get, Option, Some, None}
 use Rattle.std.proofs.Common.{zero, suc, refl, sym, ap, ◌∙◌, subst, arith, inl, inr, append_assoc}
 use Rattle.std.proofs.lemmas.List.{length-append}
 use Rattle.mz_cmd.specs.declared.code.ProofCode.{ProofCode}
@@ -10,14 +10,14 @@ use Rattle.mz_logic.specs.Sorts.{HasProvable, AreProvable}
 use Rattle.mz_logic.specs.declared.binder.Binder.{Binder}
 use Rattle.mz_store.specs.Sharing.{Sharing, IsIn, AreIn, tree_of, trees_of}
 use Rattle.mz_store.specs.declared.item.Id.{Id}
-use Rattle.mz_unification.specs.Profile.{Item, expr, proof, strict}
+use Rattle.mz_unification.specs.Profile.{Item, expr, proof, plain}
 use Rattle.mz_soundness.specs.Bodies.{stands_in}
 use Rattle.mz_soundness.specs.Premises.{bound_count}
 use Rattle.mz_soundness.specs.Tables.{Kind}
 use Rattle.mz_mmu.specs.Proof.{Proof}
 use Rattle.mz_steps.specs.Works.{Work, work_start}
 use Rattle.mz_steps.specs.Steps.{Step, command_bytes}
-use Rattle.mz_steps.specs.SharedBodies.{Builds, IsSharedBody}
+use Rattle.mz_steps.specs.SharedBodies.{Builds}
 use Rattle.mz_steps.specs.Endings.{spelled_body}
 use Rattle.mz_steps.specs.Bodies.{last_item}
 use Rattle.mz_bodies.specs.Claims.{proved, IsSound}
@@ -28,7 +28,9 @@ use Rattle.mz_bodies.specs.Making.{IsFresh}
 use Rattle.mz_bodies.specs.Lengths.{IsClear}
 use Rattle.mz_bodies.specs.Weights.{proof_weight}
 use Rattle.mz_bodies.proofs.Shortening.{command_one}
-use Rattle.mz_bodies.specs.Stages.{job, Begins, Rests, leaving, assuming, Assumes, AssumesAll}
+use Rattle.mz_bodies.specs.Uses.{Use, uses, commands_use, IsBodyUsing}
+use Rattle.mz_bodies.specs.Using.{ComesTo}
+use Rattle.mz_bodies.specs.Stages.{job, Begins, Rests, leaving, to_use, spending, assuming, Assumes, AssumesAll}
 use Rattle.mz_bodies.specs.declared.body.Before.{Before}
 use Rattle.mz_bodies.specs.declared.body.Body.{Body}
 use Rattle.mz_bodies.specs.declared.cells.Cell.{Cell}
@@ -38,6 +40,7 @@ use Rattle.mz_bodies.proofs.Lists.{slice_last, last_or_before}
 use Rattle.mz_bodies.proofs.Keeping.{cells_kept}
 use Rattle.mz_bodies.proofs.Saving.{places_kept}
 use Rattle.mz_bodies.proofs.Standing.{may_last}
+use Rattle.mz_bodies.proofs.Using.{using_last}
 use Rattle.mz_bodies.proofs.Moves.{more_written, size_some}
 use Rattle.mz_bodies.proofs.Growing.{many_ids}
 
@@ -59,10 +62,11 @@ take_whole A (x ∷ xs) (suc k) is = ap (λ (zs : List A). x ∷ zs) (take_whole
 
 module _ (env : List Declaration) (o : Job) (s : Sharing) (vars : List Id) (places : List (Option ℕ)) (len : ℕ) (hps : List ℕ) (cells : List Cell) where
   -- other tasks, which lead to another stack
-  aimed : (x : Item Tree) (n : ℕ) (ts us : List Task) (bs : List ℕ) (g : IsGoing env o s vars places len hps cells ts bs)
-      → MayDo o us → Owes env s.context o.hyps s (parts cells) g.work.stack us (x ∷ []) → IsClear (parts cells) us → IsFresh s places us → still env s cells us ≤ still env s cells ts + n
-      → IsGoing env (leaving o x n) s vars places len hps cells us bs
-  aimed x n ts us bs g may owes clear fresh within = record {
+  aimed : (x : Item Tree) (n : ℕ) (f : Use → Bool) (ts us : List Task) (bs : List ℕ) (g : IsGoing env o s vars places len hps cells ts bs)
+      → MayDo o us → Owes o.gaps env s.context o.hyps s (parts cells) g.work.stack us (x ∷ []) → IsClear (parts cells) us → IsFresh s places us
+      → ((u : Use) → ComesTo u (f u) (parts cells) (commands_use u g.commands) us) → still env s cells us ≤ still env s cells ts + n
+      → IsGoing env (to_use (leaving o x n) f) s vars places len hps cells us bs
+  aimed x n f ts us bs g may owes clear fresh comes within = record {
     commands = g.commands;
     work = g.work;
     has_built = g.has_built;
@@ -79,49 +83,53 @@ module _ (env : List Declaration) (o : Job) (s : Sharing) (vars : List Id) (plac
     owes = owes;
     clear = clear;
     fresh = fresh;
+    uses = λ u. record { placed = (g.uses u).placed; comes = comes u };
     short = (let h = g.short in omega (arith, h, within));
   }
 
   empty : (ts : List Task) (bs : List ℕ) (g : IsGoing env o s vars places len hps cells ts bs) → ts ≡ [] → o.goal ≡ [] → g.work.stack ≡ []
-  empty ts bs g ts-is goal-is = (subst (λ (us : List Task). Owes env s.context o.hyps s (parts cells) g.work.stack us o.goal) ts-is g.owes) ∙ goal-is
+  empty ts bs g ts-is goal-is = (subst (λ (us : List Task). Owes o.gaps env s.context o.hyps s (parts cells) g.work.stack us o.goal) ts-is g.owes) ∙ goal-is
+
+  so_far : (ts : List Task) (bs : List ℕ) (g : IsGoing env o s vars places len hps cells ts bs) (u : Use) → ts ≡ [] → commands_use u g.commands ≡ o.uses u
+  so_far ts bs g u is = subst (ComesTo u (o.uses u) (parts cells) (commands_use u g.commands)) is (g.uses u).comes
 
   pub expr_owed : (i : ℕ) (ts ts' : List Task) (bs : List ℕ) → ts ≡ [] → ts' ≡ push i ∷ ts → o.goal ≡ [] → IsIn o.store i
       → IsGoing env o s vars places len hps cells ts bs → IsGoing env (leaving o (expr (tree_of o.store i)) (5 * size (tree_of o.store i))) s vars places len hps cells ts' bs
   expr_owed i ts ts' bs ts-is is goal-is inside g =
       subst (λ (us : List Task). IsGoing env (leaving o (expr (tree_of o.store i)) (5 * size (tree_of o.store i))) s vars places len hps cells us bs) (sym (is ∙ ap (λ (us : List Task). push i ∷ us) ts-is))
-      (aimed (expr (tree_of o.store i)) (5 * size (tree_of o.store i)) ts (push i ∷ []) bs g (inr (tt, tt)) (
+      (aimed (expr (tree_of o.store i)) (5 * size (tree_of o.store i)) o.uses ts (push i ∷ []) bs g (inr (tt, tt)) (
         expr (tree_of s i) ∷ g.work.stack,
         (in_grown o.store s g.grew i inside, refl),
         ap (λ (e : Tree). expr e ∷ g.work.stack) (tree_grown o.store s g.grew i inside) ∙ ap (λ (xs : List (Item Tree)). expr (tree_of o.store i) ∷ xs) (empty ts bs g ts-is goal-is),
       )
-      ((λ c b no. no), tt) (((λ j one. absurd (none_of j one)), tt), λ j one. absurd (none_of j one)) (let a = ap size (tree_grown o.store s g.grew i inside) in let b = ap (still env s cells) ts-is in omega (arith, a, b)))
+      ((λ c b no. no), tt) (((λ j one. absurd (none_of j one)), tt), λ j one. absurd (none_of j one)) (λ u. (tt, so_far ts bs g u ts-is)) (let a = ap size (tree_grown o.store s g.grew i inside) in let b = ap (still env s cells) ts-is in omega (arith, a, b)))
 
-  pub proof_owed : (p : Proof) (ts ts' : List Task) (bs : List ℕ) → ts ≡ [] → ts' ≡ prove p None ∷ ts → o.goal ≡ [] → MayProve o → IsSound env o.store.context o.hyps [] p
-      → IsGoing env o s vars places len hps cells ts bs → IsGoing env (leaving o (proof (proved env o.hyps [] p)) (6 * proof_weight env p)) s vars places len hps cells ts' bs
+  pub proof_owed : (p : Proof) (ts ts' : List Task) (bs : List ℕ) → ts ≡ [] → ts' ≡ prove p None ∷ ts → o.goal ≡ [] → MayProve o → IsSound o.gaps env o.store.context o.hyps [] p
+      → IsGoing env o s vars places len hps cells ts bs → IsGoing env (spending (leaving o (proof (proved env o.hyps [] p)) (6 * proof_weight env p)) p) s vars places len hps cells ts' bs
   proof_owed p ts ts' bs ts-is is goal-is may sound g =
-      subst (λ (us : List Task). IsGoing env (leaving o (proof (proved env o.hyps [] p)) (6 * proof_weight env p)) s vars places len hps cells us bs) (sym (is ∙ ap (λ (us : List Task). prove p None ∷ us) ts-is))
-      (aimed (proof (proved env o.hyps [] p)) (6 * proof_weight env p) ts (prove p None ∷ []) bs g (inl may) (
+      subst (λ (us : List Task). IsGoing env (spending (leaving o (proof (proved env o.hyps [] p)) (6 * proof_weight env p)) p) s vars places len hps cells us bs) (sym (is ∙ ap (λ (us : List Task). prove p None ∷ us) ts-is))
+      (aimed (proof (proved env o.hyps [] p)) (6 * proof_weight env p) (λ u. uses u [] p || o.uses u) ts (prove p None ∷ []) bs g (inl may) (
         proof (proved env o.hyps [] p) ∷ g.work.stack,
-        (tt, subst (λ (ctx : List Binder). IsSound env ctx o.hyps [] p) (sym g.grew.0) sound, refl),
+        (tt, subst (λ (ctx : List Binder). IsSound o.gaps env ctx o.hyps [] p) (sym g.grew.0) sound, refl),
         ap (λ (xs : List (Item Tree)). proof (proved env o.hyps [] p) ∷ xs) (empty ts bs g ts-is goal-is),
       )
-      ((λ c b no. no), tt) ((none_of, tt), λ j one. absurd (none_of j one)) (let b = ap (still env s cells) ts-is in omega (arith, b)))
+      ((λ c b no. no), tt) ((none_of, tt), λ j one. absurd (none_of j one)) (λ u. (tt, ap (λ (b : Bool). uses u [] p || b) (so_far ts bs g u ts-is))) (let b = ap (still env s cells) ts-is in omega (arith, b)))
 
   -- an expression that is left becomes a hypothesis
-  pub hyp_assumed : (e : Tree) (places' : List (Option ℕ)) (len' : ℕ) (hps' : List ℕ) (ts : List Task) (bs bs' : List ℕ) → ts ≡ [] → stands_in strict o.kind code.Hyp ≡ true
+  pub hyp_assumed : (e : Tree) (places' : List (Option ℕ)) (len' : ℕ) (hps' : List ℕ) (ts : List Task) (bs bs' : List ℕ) → ts ≡ [] → stands_in (plain o.gaps) o.kind code.Hyp ≡ true
       → slice_get o.hyps o.count ≡ Some e → HasProvable env o.store.context e → o.goal ≡ []
       → places' ≡ places → len' ≡ len + 1 → hps' ≡ hps ++ len ∷ [] → bs' ≡ bs ++ command_bytes (code.Hyp, 0)
       → IsGoing env (leaving o (expr e) (5 * size e)) s vars places len hps cells ts bs → IsGoing env (assuming o (o.count + 1) (6 * size e)) s vars places' len' hps' cells ts bs'
   hyp_assumed e places' len' hps' ts bs bs' ts-is stand at provable goal-is places-are len-is hps-are is g =
-      let stack-is : g.work.stack ≡ expr e ∷ [] = subst (λ (us : List Task). Owes env s.context o.hyps s (parts cells) g.work.stack us (expr e ∷ [])) ts-is g.owes in
+      let stack-is : g.work.stack ≡ expr e ∷ [] = subst (λ (us : List Task). Owes o.gaps env s.context o.hyps s (parts cells) g.work.stack us (expr e ∷ [])) ts-is g.owes in
       let next : Work = record { met = g.work.met; heap = g.work.heap ++ proof e ∷ []; stack = []; hyps = g.work.hyps ++ e ∷ [] } in
-      let step : Step false env s.context g.work code.Hyp 0 next = (e, [], stack-is, subst (λ (ctx : List Binder). HasProvable env ctx e) (sym g.grew.0) provable, refl) in
+      let step : Step o.gaps env s.context g.work code.Hyp 0 next = (e, [], stack-is, subst (λ (ctx : List Binder). HasProvable env ctx e) (sym g.grew.0) provable, refl) in
       let kept = places_kept env (length o.params) o.hyps s vars places hps g.work.met g.work.heap (proof e) g.there in
       record {
         commands = g.commands ++ (code.Hyp, 0) ∷ [];
         work = next;
-        has_built = nothing_more env o.params s places places' g.commands g.work next code.Hyp 0 (λ x h. subst (λ (z : List (Option ℕ)). HasPlace s z x) (sym places-are) h) refl step g.has_built refl;
-        may_stand = may_last o.kind g.commands code.Hyp 0 g.may_stand (stand, omega arith);
+        has_built = nothing_more o.gaps env o.params s places places' g.commands g.work next code.Hyp 0 (λ x h. subst (λ (z : List (Option ℕ)). HasPlace s z x) (sym places-are) h) refl step g.has_built refl;
+        may_stand = may_last o.gaps o.kind g.commands code.Hyp 0 g.may_stand (stand, omega arith);
         written = is ∙ more_written env (leaving o (expr e) (5 * size e)) s vars places len hps cells ts bs g code.Hyp 0;
         assumed = (let k-is : suc o.count ≡ o.count + 1 = omega arith in
             ap (λ (es : List Tree). es ++ e ∷ []) g.assumed ∙ sym (take_next Tree o.hyps o.count e at) ∙ ap (λ (k : ℕ). take k o.hyps) k-is);
@@ -140,11 +148,12 @@ module _ (env : List Declaration) (o : Job) (s : Sharing) (vars : List Id) (plac
                 | inr (k-is, p-is) ↦ (e, ap (slice_get o.hyps) (k-is ∙ g.counted) ∙ at, slice_last (Item Tree) g.work.heap (proof e) p (sym p-is ∙ sym g.long))
               ];
             });
-        lets = cells_kept env s.context o.hyps cells g.work.heap (proof e) g.lets;
+        lets = cells_kept o.gaps env s.context o.hyps cells g.work.heap (proof e) g.lets;
         may_do = inr (subst IsOfExpressions (sym ts-is) tt);
-        owes = subst (λ (us : List Task). Owes env s.context o.hyps s (parts cells) [] us o.goal) (sym ts-is) (sym goal-is);
+        owes = subst (λ (us : List Task). Owes o.gaps env s.context o.hyps s (parts cells) [] us o.goal) (sym ts-is) (sym goal-is);
         clear = g.clear;
         fresh = subst (IsFresh s places') (sym ts-is) (tt, λ j one. absurd (none_of j one));
+        uses = λ u. using_last u (o.uses u) cells g.commands code.Hyp 0 ts ts (g.uses u).comes (g.uses u);
         short = (let h = g.short in let a = ap length is ∙ length-append bs (command_bytes (code.Hyp, 0)) in let b = command_one code.Hyp in let c = size_some e in omega (arith, h, a, b, c));
       }
 
@@ -168,6 +177,7 @@ module _ (env : List Declaration) (o : Job) (s : Sharing) (vars : List Id) (plac
     owes = g.owes;
     clear = g.clear;
     fresh = g.fresh;
+    uses = g.uses;
     short = (let h = g.short in omega (arith, h));
   }
 
@@ -216,28 +226,31 @@ spelled_end [] = refl
 spelled_end (c ∷ cs) = ap (λ (z : List ℕ). command_bytes c ++ z) (spelled_end cs) ∙ sym (append_assoc (command_bytes c) (spelled cs) (0 ∷ []))
 
 module _ (env : List Declaration) (o : Job) (s : Sharing) (vars : List Id) (places : List (Option ℕ)) (len : ℕ) (hps : List ℕ) (cells : List Cell) where
+  -- it is a body, which uses what was to be used
   pub ended : (n : ℕ) (e : Tree) (dummies : List Binder) (ts : List Task) (bs bs' : List ℕ) → ts ≡ [] → o.store.context ≡ o.params ++ dummies → bound_count o.store.context ≤ 55
-      → o.count ≡ length o.hyps → bs' ≡ bs ++ 0 ∷ [] → IsGoing env (leaving o (last_item o.kind e) n) s vars places len hps cells ts bs → IsSharedBody env o.kind o.params dummies e o.hyps bs'
+      → o.count ≡ length o.hyps → bs' ≡ bs ++ 0 ∷ [] → IsGoing env (leaving o (last_item o.kind e) n) s vars places len hps cells ts bs → IsBodyUsing o.gaps env o.kind o.params dummies e o.hyps bs' o.uses
   ended n e dummies ts bs bs' ts-is ctx-is few count-is is g =
       let h = g.has_built in
-      let builds : Builds false env (o.params ++ dummies) (work_start o.params) g.commands g.work h.trees =
-      subst (λ (ctx : List Binder). Builds false env ctx (work_start o.params) g.commands g.work h.trees) (g.grew.0 ∙ ctx-is) h.builds in
-      record {
-        body = record {
-          few = subst (λ (ctx : List Binder). bound_count ctx ≤ 55) ctx-is few;
-          commands = g.commands;
-          work = g.work;
-          spelled = is ∙ ap (λ (z : List ℕ). z ++ 0 ∷ []) g.written ∙ sym (spelled_end g.commands);
-          may_stand = g.may_stand;
-          steps = builds_steps env (o.params ++ dummies) g.commands (work_start o.params) g.work h.trees builds;
-          stack = subst (λ (us : List Task). Owes env s.context o.hyps s (parts cells) g.work.stack us (last_item o.kind e ∷ [])) ts-is g.owes;
-          assumed = g.assumed ∙ take_whole Tree o.hyps o.count count-is;
-        };
-        built_are = h.trees;
-        builds = builds;
-        distinct = h.distinct;
-        plain = h.plain;
-      }
+      let builds : Builds o.gaps env (o.params ++ dummies) (work_start o.params) g.commands g.work h.trees =
+      subst (λ (ctx : List Binder). Builds o.gaps env ctx (work_start o.params) g.commands g.work h.trees) (g.grew.0 ∙ ctx-is) h.builds in (
+        record {
+          body = record {
+            few = subst (λ (ctx : List Binder). bound_count ctx ≤ 55) ctx-is few;
+            commands = g.commands;
+            work = g.work;
+            spelled = is ∙ ap (λ (z : List ℕ). z ++ 0 ∷ []) g.written ∙ sym (spelled_end g.commands);
+            may_stand = g.may_stand;
+            steps = builds_steps o.gaps env (o.params ++ dummies) g.commands (work_start o.params) g.work h.trees builds;
+            stack = subst (λ (us : List Task). Owes o.gaps env s.context o.hyps s (parts cells) g.work.stack us (last_item o.kind e ∷ [])) ts-is g.owes;
+            assumed = g.assumed ∙ take_whole Tree o.hyps o.count count-is;
+          };
+          built_are = h.trees;
+          builds = builds;
+          distinct = h.distinct;
+          plain = h.plain;
+        },
+        λ u. subst (ComesTo u (o.uses u) (parts cells) (commands_use u g.commands)) ts-is (g.uses u).comes,
+      )
 
   -- and it isn't longer than it may be
   pub ended_short : (ts : List Task) (bs bs' : List ℕ) → bs' ≡ bs ++ 0 ∷ [] → IsGoing env o s vars places len hps cells ts bs → length bs' ≤ o.budget + 1
@@ -248,17 +261,23 @@ take_long A xs zero le = refl
 take_long A [] (suc n) le = absurd (omega (arith, le))
 take_long A (x ∷ xs) (suc n) le = ap suc (take_long A xs n (omega (arith, le)))
 
--- over the first of the variables
-pub first_begins : (kind : Kind) (s : Sharing) (hyps : List Tree) (n : ℕ) → n ≤ length s.context → Begins (job kind (take n s.context) s hyps) s n
-first_begins kind s hyps n le = (take_long Binder s.context n le, refl, refl, refl)
+-- the same is used
+pub uses_as : (gaps : Bool) (env : List Declaration) (kind : Kind) (ps ds : List Binder) (e : Tree) (hyps : List Tree) (bs : List ℕ) (f f' : Use → Bool) → ((u : Use) → f u ≡ f' u)
+    → IsBodyUsing gaps env kind ps ds e hyps bs f → IsBodyUsing gaps env kind ps ds e hyps bs f'
+uses_as gaps env kind ps ds e hyps bs f f' same h = (h.0, λ u. h.1 u ∙ same u)
 
-pub body_as : (b b' : Before) (kind : Kind) (ps ds : List Binder) (e : Tree) (hyps : List Tree) (bs : List ℕ) → b' ≡ b → IsSharedBody b'.env.now kind ps ds e hyps bs → IsSharedBody b.env.now kind ps ds e hyps bs
-body_as b b' kind ps ds e hyps bs is h = subst (λ (z : Before). IsSharedBody z.env.now kind ps ds e hyps bs) is h
+-- over the first of the variables
+pub first_begins : (gaps : Bool) (kind : Kind) (s : Sharing) (hyps : List Tree) (n : ℕ) → n ≤ length s.context → Begins (job gaps kind (take n s.context) s hyps) s n
+first_begins gaps kind s hyps n le = (take_long Binder s.context n le, refl, refl, refl, λ u. refl)
+
+pub body_as : (gaps : Bool) (b b' : Before) (kind : Kind) (ps ds : List Binder) (e : Tree) (hyps : List Tree) (bs : List ℕ) (f : Use → Bool) → b' ≡ b
+    → IsBodyUsing gaps b'.env.now kind ps ds e hyps bs f → IsBodyUsing gaps b.env.now kind ps ds e hyps bs f
+body_as gaps b b' kind ps ds e hyps bs f is h = subst (λ (z : Before). IsBodyUsing gaps z.env.now kind ps ds e hyps bs f) is h
 
 -- the hypotheses are to be assumed
-pub assumes_all : (kind : Kind) (ps : List Binder) (s : Sharing) (is : List Id) (before : Before) (b : Body) → b.before ≡ before → Rests (job kind ps s (listed (trees_of s is))) b
-    → stands_in strict kind code.Hyp ≡ true → AreIn s is → AreProvable before.env.now s.context (trees_of s is) → AssumesAll (job kind ps s (listed (trees_of s is))) b is
-assumes_all kind ps s is before b same rests stand inside provable = record {
+pub assumes_all : (gaps : Bool) (kind : Kind) (ps : List Binder) (s : Sharing) (is : List Id) (before : Before) (b : Body) → b.before ≡ before → Rests (job gaps kind ps s (listed (trees_of s is))) b
+    → stands_in (plain gaps) kind code.Hyp ≡ true → AreIn s is → AreProvable before.env.now s.context (trees_of s is) → AssumesAll (job gaps kind ps s (listed (trees_of s is))) b is
+assumes_all gaps kind ps s is before b same rests stand inside provable = record {
   rests = rests;
   stand = stand;
   none_yet = refl;
@@ -270,5 +289,5 @@ assumes_all kind ps s is before b same rests stand inside provable = record {
 pub all_assumed : (s : Sharing) (is : List Id) → length is ≡ length (listed (trees_of s is))
 all_assumed s is = many_ids s is
 
-pub sound_as : (b b' : Before) (ctx : List Binder) (hyps : List Tree) (p : Proof) → b' ≡ b → IsSound b.env.now ctx hyps [] p → IsSound b'.env.now ctx hyps [] p
-sound_as b b' ctx hyps p is h = subst (λ (z : Before). IsSound z.env.now ctx hyps [] p) (sym is) h
+pub sound_as : (gaps : Bool) (b b' : Before) (ctx : List Binder) (hyps : List Tree) (p : Proof) → b' ≡ b → IsSound gaps b.env.now ctx hyps [] p → IsSound gaps b'.env.now ctx hyps [] p
+sound_as gaps b b' ctx hyps p is h = subst (λ (z : Before). IsSound gaps z.env.now ctx hyps [] p) (sym is) h

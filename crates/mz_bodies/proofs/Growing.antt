@@ -1,5 +1,5 @@
 -- A body whose store grew, and citations.
-use Rattle.std.specs.Prelude.{ℕ, ◌≡◌, ◌<◌, ◌+◌, ◌*◌, false, List, [], ◌∷◌, ◌++◌, length, map, reverse, slice_get, Option, Some}
+use Rattle.std.specs.Prelude.{Bool, ℕ, ◌≡◌, ◌<◌, ◌+◌, ◌*◌, List, [], ◌∷◌, ◌++◌, length, map, reverse, slice_get, Option, Some}
 use Rattle.std.proofs.Common.{suc, refl, sym, ap, ◌∙◌, subst, arith, inl}
 use Rattle.std.proofs.lemmas.Option.{get_or_from_slice_get}
 use Rattle.mz_cmd.specs.declared.code.ProofCode.TheVariants as code
@@ -15,7 +15,7 @@ use Rattle.mz_store.specs.declared.item.Id.{Id}
 use Rattle.mz_unification.specs.Profile.{Item, expr, proof, obligation}
 use Rattle.mz_unification.specs.Spells.{trees_of as listed_back}
 use Rattle.mz_unification.proofs.Trees.{trees_of-listed}
-use Rattle.mz_mmu.specs.Proof.{Proof, by_conv}
+use Rattle.mz_mmu.specs.Proof.{Proof, by_conv, by_gap}
 use Rattle.mz_steps.specs.Works.{Work}
 use Rattle.mz_steps.specs.Steps.{stacked, above, Step, IsCited}
 use Rattle.mz_shared.specs.Instances.{Grows, InReach}
@@ -27,6 +27,9 @@ use Rattle.mz_bodies.specs.Costs.{cost, pay_cost}
 use Rattle.mz_bodies.specs.Owes.{Task, prove, cite, push, pay, give, claims, let_costs, Owes, left}
 use Rattle.mz_bodies.specs.Pushing.{pushes}
 use Rattle.mz_bodies.specs.Going.{Job, CellsRight, IsGoing}
+use Rattle.mz_bodies.specs.Uses.{conv_uses, uses, commands_use}
+use Rattle.mz_bodies.specs.Using.{let_uses, ComesTo}
+use Rattle.mz_bodies.proofs.Using.{or_assoc, pushes_come}
 use Rattle.mz_bodies.specs.declared.cells.Cell.{Cell}
 use Rattle.mz_bodies.proofs.Building.{built_grown, rising_grown, pushes_fresh}
 use Rattle.mz_shared.proofs.Making.{in_grown, tree_grown, grows_on}
@@ -45,7 +48,7 @@ module _ (env : List Declaration) (o : Job) (s s' : Sharing) (gr : Grows s s') (
   grown ts bs shared g = record {
     commands = g.commands;
     work = g.work;
-    has_built = built_grown env o.params s s' gr places g.commands g.work g.has_built;
+    has_built = built_grown o.gaps env o.params s s' gr places g.commands g.work g.has_built;
     may_stand = g.may_stand;
     written = g.written;
     assumed = g.assumed;
@@ -60,22 +63,23 @@ module _ (env : List Declaration) (o : Job) (s s' : Sharing) (gr : Grows s s') (
       dummies = λ x b at. g.there.dummies x b (ap (λ (ctx : List Binder). slice_get ctx x) (sym gr.0) ∙ at);
       hypotheses = g.there.hypotheses;
     };
-    lets = subst (λ (ctx : List Binder). CellsRight env ctx o.hyps cells g.work.heap) (sym gr.0) g.lets;
+    lets = subst (λ (ctx : List Binder). CellsRight o.gaps env ctx o.hyps cells g.work.heap) (sym gr.0) g.lets;
     may_do = g.may_do;
     clear = g.clear;
-    fresh = (rising_grown env s.context o.hyps s s' gr (parts cells) ts g.work.stack o.goal g.owes g.fresh.0, g.fresh.1);
-    short = (let a = bytes_grown env s.context o.hyps s s' gr (parts cells) ts g.work.stack o.goal g.owes in let h = g.short in omega (arith, a, h));
-    owes = subst (λ (ctx : List Binder). Owes env ctx o.hyps s' (parts cells) g.work.stack ts o.goal) (sym gr.0)
-        (owes_grown env s.context o.hyps s s' gr (parts cells) ts g.work.stack o.goal g.owes);
+    fresh = (rising_grown o.gaps env s.context o.hyps s s' gr (parts cells) ts g.work.stack o.goal g.owes g.fresh.0, g.fresh.1);
+    uses = g.uses;
+    short = (let a = bytes_grown o.gaps env s.context o.hyps s s' gr (parts cells) ts g.work.stack o.goal g.owes in let h = g.short in omega (arith, a, h));
+    owes = subst (λ (ctx : List Binder). Owes o.gaps env ctx o.hyps s' (parts cells) g.work.stack ts o.goal) (sym gr.0)
+        (owes_grown o.gaps env s.context o.hyps s s' gr (parts cells) ts g.work.stack o.goal g.owes);
   }
 
   pub rest_cost : (t : Task) (us : List Task) (bs : List ℕ) → IsGoing env o s vars places len hps cells (t ∷ us) bs → left env s' (parts cells) us ≡ left env s (parts cells) us
-  rest_cost t us bs g = left_grown env s.context o.hyps s s' gr (parts cells) us g.owes.0 o.goal g.owes.2
+  rest_cost t us bs g = left_grown o.gaps env s.context o.hyps s s' gr (parts cells) us g.owes.0 o.goal g.owes.2
 
 -- the command of a citation
-thm_step : (env : List Declaration) (ctx : List Binder) (T : ℕ) (es : Trees) (hs : List Tree) (rest items : List (Item Tree)) (e : Tree) → IsCitable env ctx T es hs
-    → e ≡ instance es (conclusion_of env T) → items ≡ map proof (reverse hs) ++ rest → (w : Work) → w.stack ≡ expr e ∷ above (listed es) items → Step false env ctx w code.Thm T (stacked w (proof e ∷ rest))
-thm_step env ctx T es hs rest items e (a, at, fits, apart, hs-is, reach, sorted) e-is items-is w w-is =
+thm_step : (gaps : Bool) (env : List Declaration) (ctx : List Binder) (T : ℕ) (es : Trees) (hs : List Tree) (rest items : List (Item Tree)) (e : Tree) → IsCitable env ctx T es hs
+    → e ≡ instance es (conclusion_of env T) → items ≡ map proof (reverse hs) ++ rest → (w : Work) → w.stack ≡ expr e ∷ above (listed es) items → Step gaps env ctx w code.Thm T (stacked w (proof e ∷ rest))
+thm_step gaps env ctx T es hs rest items e (a, at, fits, apart, hs-is, reach, sorted) e-is items-is w w-is =
     let back = trees_of-listed es in
     let same : conclusion_of env T ≡ a.conclusion = ap (λ (b : Assertion). b.conclusion) (get_or_from_slice_get (assertions env) T a _ at) in
     let cited : IsCited env ctx w T e rest = (
@@ -105,16 +109,17 @@ module _ (env : List Declaration) (o : Job) (s s' : Sharing) (gr : Grows s s') (
       let e : Tree = tree_of s' i in
       at_last env o s' vars places len hps cells (pushes is ++ push i ∷ give code.Thm T ∷ us) ts' bs bs ts-is refl
       (replaced env o s' vars places len hps cells (cite T es ∷ us) (pushes is ++ push i ∷ give code.Thm T ∷ us) bs g (inl (proving o (cite T es) us (λ h. h) g.may_do))
-      (pushes_owe env s'.context o.hyps s' (parts cells) is xs (push i ∷ give code.Thm T ∷ us) o.goal inside (
+      (pushes_owe o.gaps env s'.context o.hyps s' (parts cells) is xs (push i ∷ give code.Thm T ∷ us) o.goal inside (
         expr e ∷ above (listed (trees_of s' is)) xs,
         (i-in, refl),
         (
           proof e ∷ g.owes.1.1,
-          ((tt, λ w. refl), λ w w-is. thm_step env s'.context T es g.owes.1.0 g.owes.1.1 xs e g.owes.1.2 i-is g.owes.1.3 w (w-is ∙ ap (λ (z : Trees). expr e ∷ above (listed z) xs) trees)),
-          subst (λ (z : List (Item Tree)). Owes env s'.context o.hyps s' (parts cells) z us o.goal) (g.owes.1.4 ∙ ap (λ (z : Tree). proof z ∷ g.owes.1.1) (sym i-is)) g.owes.2,
+          ((tt, λ w. refl), λ w w-is. thm_step o.gaps env s'.context T es g.owes.1.0 g.owes.1.1 xs e g.owes.1.2 i-is g.owes.1.3 w (w-is ∙ ap (λ (z : Trees). expr e ∷ above (listed z) xs) trees)),
+          subst (λ (z : List (Item Tree)). Owes o.gaps env s'.context o.hyps s' (parts cells) z us o.goal) (g.owes.1.4 ∙ ap (λ (z : Tree). proof z ∷ g.owes.1.1) (sym i-is)) g.owes.2,
         ),
       )) (pushes_clear (parts cells) is (push i ∷ give code.Thm T ∷ us) ((λ c b no. no), ((λ c b no. no), g.clear.1)))
       (pushes_fresh s' places is (push i ∷ give code.Thm T ∷ us) (λ j one. absurd (g.fresh.0.0 j one)) (((λ j one. absurd (g.fresh.0.0 j one)), (g.fresh.0.0, g.fresh.0.1)), g.fresh.1))
+      (λ u. pushes_come u (o.uses u) (parts cells) (commands_use u g.commands) is (push i ∷ give code.Thm T ∷ us) (tt, (tt, (g.uses u).comes.1)))
       (let a = pushes_bytes env s' is (push i ∷ give code.Thm T ∷ us) in let b = ap trees_size trees in let c = ap size i-is in let d = command_short code.Thm T in
       let f = ap (λ (cs : List ℕ). waits env cs (place_at cells) 0 (parts cells)) (pushes_begun is (push i ∷ give code.Thm T ∷ us)) in omega (arith, a, b, c, d, f)))
 
@@ -123,7 +128,7 @@ module _ (env : List Declaration) (o : Job) (s s' : Sharing) (gr : Grows s s') (
       → IsGoing env o s vars places len hps cells (cite T es ∷ us) bs
       → left env s' (parts cells) ts' < 2 + 2 * trees_size es + 2 * size (instance es (conclusion_of env T)) + left env s (parts cells) us
   cite_cost T es is i us ts' bs trees i-is ts-is g =
-      let a = ap (left env s' (parts cells)) ts-is ∙ pushes_cost env [] [] s' (parts cells) is (push i ∷ give code.Thm T ∷ us) in
+      let a = ap (left env s' (parts cells)) ts-is ∙ pushes_cost o.gaps env [] [] s' (parts cells) is (push i ∷ give code.Thm T ∷ us) in
       let b = ap trees_size trees in
       let c = ap size i-is in
       let d = rest_cost env o s s' gr vars places len hps cells (cite T es) us bs g in
@@ -147,11 +152,25 @@ module _ (env : List Declaration) (o : Job) (s s' : Sharing) (gr : Grows s s') (
           (
             obligation e f ∷ proof e ∷ xs,
             ((refl, λ w. refl), λ w w-is. (e, f, xs, w-is, refl)),
-            (proof e ∷ xs, (e, f, g.owes.1.1.0, refl), subst (λ (z : List (Item Tree)). Owes env s'.context o.hyps s' (parts cells) z us o.goal) g.owes.1.2 g.owes.2),
+            (proof e ∷ xs, (e, f, g.owes.1.1.0, refl), subst (λ (z : List (Item Tree)). Owes o.gaps env s'.context o.hyps s' (parts cells) z us o.goal) g.owes.1.2 g.owes.2),
           ),
         ),
       ) ((λ c b no. no), (g.clear.0, ((λ c b no. no), ((λ c b no. no), g.clear.1))))
       (((λ j one. absurd (g.fresh.0.0 j one)), (g.fresh.0.0, (g.fresh.0.0, (g.fresh.0.0, g.fresh.0.1)))), g.fresh.1)
+      (λ u. (
+        tt,
+        (
+          tt,
+          (
+            tt,
+            (
+              tt,
+              subst (λ (b : Bool). ComesTo u (o.uses u) (parts cells) b us)
+                  (or_assoc (conv_uses u c) (uses u (in_sight (let_uses u (parts cells)) chain) p) (commands_use u g.commands)) (g.uses u).comes.1,
+            ),
+          ),
+        ),
+      ))
       (let a = ap size i-is in let b = command_one code.Conv in omega (arith, a, b)))
 
   pub convert_cost : (e : Tree) (c : Conversion) (p : Proof) (chain : Option ℕ) (i : ℕ) (us ts' : List Task) (bs : List ℕ) → tree_of s' i ≡ e
@@ -162,6 +181,36 @@ module _ (env : List Declaration) (o : Job) (s s' : Sharing) (gr : Grows s s') (
       let a = ap (left env s' (parts cells)) ts-is in
       let b = ap size i-is in
       let d = rest_cost env o s s' gr vars places len hps cells (prove (by_conv e c p) chain) us bs g in
+      omega (arith, a, b, d)
+
+  -- a gap: the expression, and then it is proved
+  pub gap_done : (e : Tree) (chain : Option ℕ) (i : ℕ) (us ts' : List Task) (bs : List ℕ) → IsShared (signatures env) s' vars → Holds s' i e
+      → ts' ≡ push i ∷ give code.Sorry 0 ∷ us
+      → IsGoing env o s vars places len hps cells (prove (by_gap e) chain ∷ us) bs → IsGoing env o s' vars places len hps cells ts' bs
+  gap_done e chain i us ts' bs shared (i-in, i-is) ts-is g₀ =
+      let g = grown env o s s' gr vars places len hps cells (prove (by_gap e) chain ∷ us) bs shared g₀ in
+      let xs : List (Item Tree) = g.work.stack in
+      at_last env o s' vars places len hps cells (push i ∷ give code.Sorry 0 ∷ us) ts' bs bs ts-is refl
+      (replaced env o s' vars places len hps cells (prove (by_gap e) chain ∷ us) (push i ∷ give code.Sorry 0 ∷ us) bs g (inl (proving o (prove (by_gap e) chain) us (λ h. h) g.may_do)) (
+        expr e ∷ xs,
+        (i-in, ap (λ (z : Tree). expr z ∷ xs) (sym i-is)),
+        (
+          proof e ∷ xs,
+          ((refl, λ w. refl), λ w w-is. (g.owes.1.1.0, inl (e, xs, w-is, g.owes.1.1.1, refl))),
+          subst (λ (z : List (Item Tree)). Owes o.gaps env s'.context o.hyps s' (parts cells) z us o.goal) g.owes.1.2 g.owes.2,
+        ),
+      ) ((λ c b no. no), ((λ c b no. no), g.clear.1))
+      (((λ j one. absurd (g.fresh.0.0 j one)), (g.fresh.0.0, g.fresh.0.1)), g.fresh.1)
+      (λ u. (tt, (tt, (g.uses u).comes.1)))
+      (let a = ap size i-is in let b = command_one code.Sorry in omega (arith, a, b)))
+
+  pub gap_cost : (e : Tree) (chain : Option ℕ) (i : ℕ) (us ts' : List Task) (bs : List ℕ) → tree_of s' i ≡ e → ts' ≡ push i ∷ give code.Sorry 0 ∷ us
+      → IsGoing env o s vars places len hps cells (prove (by_gap e) chain ∷ us) bs
+      → left env s' (parts cells) ts' < 2 + 2 * size e + left env s (parts cells) us
+  gap_cost e chain i us ts' bs i-is ts-is g =
+      let a = ap (left env s' (parts cells)) ts-is in
+      let b = ap size i-is in
+      let d = rest_cost env o s s' gr vars places len hps cells (prove (by_gap e) chain) us bs g in
       omega (arith, a, b, d)
 
 -- the same variables, and the same signatures

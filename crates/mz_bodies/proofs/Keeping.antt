@@ -1,5 +1,5 @@
 -- One item more in the heap.
-use Rattle.std.specs.Prelude.{ℕ, ◌≡◌, ◌<◌, ◌+◌, ◌^◌, false, List, [], ◌∷◌, ◌++◌, length, Option, Some, None}
+use Rattle.std.specs.Prelude.{Bool, ℕ, ◌≡◌, ◌<◌, ◌+◌, ◌^◌, List, [], ◌∷◌, ◌++◌, length, Option, Some, None}
 use Rattle.std.proofs.Common.{refl, sym, ap, ◌∙◌, subst, arith, inl, inr}
 use Rattle.std.proofs.lemmas.List.{length-append}
 use Rattle.mz_cmd.specs.declared.code.ProofCode.TheVariants as code
@@ -23,6 +23,7 @@ use Rattle.mz_bodies.specs.declared.cells.Cell.{Cell}
 use Rattle.mz_bodies.proofs.Building.{one_more_built, put_keeps, put_new, no_place, next_new, rest_fresh}
 use Rattle.mz_bodies.proofs.Lists.{slice_last, same_or_not}
 use Rattle.mz_bodies.proofs.Shortening.{command_short}
+use Rattle.mz_bodies.proofs.Using.{using_last}
 use Rattle.mz_bodies.proofs.Standing.{may_last, may_rest}
 use Rattle.mz_bodies.proofs.Moves.{more_written}
 
@@ -33,9 +34,9 @@ some_is a b e = ap get_some e
     get_some None = 0
     get_some (Some x) = x
 
-pub cells_kept : (env : List Declaration) (ctx : List Binder) (hyps : List Tree) (cells : List Cell) (heap : List (Item Tree)) (y : Item Tree)
-    → CellsRight env ctx hyps cells heap → CellsRight env ctx hyps cells (heap ++ y ∷ [])
-cells_kept env ctx hyps cells heap y h = record {
+pub cells_kept : (gaps : Bool) (env : List Declaration) (ctx : List Binder) (hyps : List Tree) (cells : List Cell) (heap : List (Item Tree)) (y : Item Tree)
+    → CellsRight gaps env ctx hyps cells heap → CellsRight gaps env ctx hyps cells (heap ++ y ∷ [])
+cells_kept gaps env ctx hyps cells heap y h = record {
   linked = h.linked;
   sound = h.sound;
   placed = λ c p lt at. extends_append heap (y ∷ []) p _ (h.placed c p lt at);
@@ -81,13 +82,13 @@ module _ (env : List Declaration) (o : Job) (s : Sharing) (vars : List Id) (plac
       let rest : List (Item Tree) = g.owes.1.3 in
       let next : Work = kept (stacked g.work (expr e ∷ rest)) (expr e) in
       let sorted : Sorted (signatures env) s.context (app t (listed_back es)) = subst (Sorted (signatures env) s.context) (sym e-is) (sort_of s i, (g.shared.over i inside).0) in
-      let step : Step false env s.context g.work code.TermSave t next = (es, rest, (sorted, g.owes.1.4), ap (λ (z : Tree). kept (stacked g.work (expr z ∷ rest)) (expr z)) (sym e-is)) in
+      let step : Step o.gaps env s.context g.work code.TermSave t next = (es, rest, (sorted, g.owes.1.4), ap (λ (z : Tree). kept (stacked g.work (expr z ∷ rest)) (expr z)) (sym e-is)) in
       record {
         commands = g.commands ++ (code.TermSave, t) ∷ [];
         work = next;
-        has_built = one_more_built env o.params s places places' g.commands g.work next code.TermSave t (put_keeps s places places' i len at others) tt step g.has_built e refl
+        has_built = one_more_built o.gaps env o.params s places places' g.commands g.work next code.TermSave t (put_keeps s places places' i len at others) tt step g.has_built e refl
             (no_place s places i once inside (next_new places i us g.fresh.1)) (i, len, (inside, refl), at);
-        may_stand = may_last o.kind g.commands code.TermSave t g.may_stand (refl, small);
+        may_stand = may_last o.gaps o.kind g.commands code.TermSave t g.may_stand (refl, small);
         written = is ∙ more_written env o s vars places len hps cells (make i ∷ us) bs g code.TermSave t;
         assumed = g.assumed;
         counted = g.counted;
@@ -95,10 +96,11 @@ module _ (env : List Declaration) (o : Job) (s : Sharing) (vars : List Id) (plac
         grew = g.grew;
         shared = g.shared;
         there = places_put env (length o.params) o.hyps s vars places places' hps g.work.met g.work.heap i len at others g.long inside g.there;
-        lets = cells_kept env s.context o.hyps cells g.work.heap (expr e) g.lets;
+        lets = cells_kept o.gaps env s.context o.hyps cells g.work.heap (expr e) g.lets;
         may_do = may_rest o (make i) us g.may_do;
         clear = g.clear.1;
         fresh = (let rest = rest_fresh s places (make i) us g.fresh in (rest.0, put_new s places places' i len at others us g.fresh.0.0 rest.1));
+        uses = λ u. using_last u (o.uses u) cells g.commands code.TermSave t (make i ∷ us) us (g.uses u).comes.1 (g.uses u);
         short = (let h = g.short in let a = ap length is ∙ length-append bs (command_bytes (code.TermSave, t)) in let b = command_short code.TermSave t in omega (arith, h, a, b));
-        owes = subst (λ (z : List (Item Tree)). Owes env s.context o.hyps s (parts cells) z us o.goal) g.owes.1.5 g.owes.2;
+        owes = subst (λ (z : List (Item Tree)). Owes o.gaps env s.context o.hyps s (parts cells) z us o.goal) g.owes.1.5 g.owes.2;
       }

@@ -15,3 +15,4 @@ mod Beginning
 mod Ends
 pub mod Paying
 mod Shortening
+pub mod Using

@@ -1,6 +1,7 @@
 -- Lists: one place set, and the last one.
-use Rattle.std.specs.Prelude.{ℕ, ◌≡◌, ◌<◌, ◌⊎◌, List, [], ◌∷◌, ◌++◌, length, get_or, slice_get, map, Option, Some, None}
+use Rattle.std.specs.Prelude.{ℕ, ◌≡◌, ◌<◌, ◌-◌, ◌⊎◌, List, [], ◌∷◌, ◌++◌, length, take, drop, get_or, slice_get, map, Option, Some, None}
 use Rattle.std.proofs.Common.{zero, suc, refl, sym, ap, ◌∙◌, arith, slice_set, slice_index_or, inl, inr}
+use Rattle.std.proofs.Math.Seq.{take-length}
 
 pub set_map : (A B : Type 0) (g : A → B) (xs : List A) (i : ℕ) (x y : A) → i < length xs → x ≡ slice_index_or xs i x → g y ≡ g x → map g (slice_set xs i y) ≡ map g xs
 set_map A B g [] i x y lt is same = absurd (omega (arith, lt))
@@ -64,3 +65,7 @@ same_or_not zero zero = inl refl
 same_or_not zero (suc b) = inr (λ is. absurd (omega (arith, is)))
 same_or_not (suc a) zero = inr (λ is. absurd (omega (arith, is)))
 same_or_not (suc a) (suc b) = elim (same_or_not a b) [ inl is ↦ inl (ap suc is) | inr other ↦ inr (λ is. other (omega (arith, is))) ]
+
+-- what stands behind the first
+pub rest_whole : (A : Type 0) (y : A) (ys : List A) → take (length (y ∷ ys) - 1) (drop 1 (y ∷ ys)) ≡ ys
+rest_whole A y ys = (let e : length (y ∷ ys) - 1 ≡ length ys = omega arith in ap (λ (n : ℕ). take n ys) e ∙ take-length ys)

@@ -1,5 +1,5 @@
 -- A name, and what it stands for.
-use Rattle.std.specs.Prelude.{ℕ, ◌≡◌, ◌<◌, ◌≤◌, ◌+◌, ◌^◌, List, ◌∷◌, ◌++◌, length, Option, Some, None}
+use Rattle.std.specs.Prelude.{ℕ, Bool, false, ◌||◌, ◌≡◌, ◌<◌, ◌≤◌, ◌+◌, ◌^◌, List, ◌∷◌, ◌++◌, length, Option, Some, None}
 use Rattle.std.proofs.Common.{refl, sym, ap, ◌∙◌, subst, arith, inl}
 use Rattle.mz_cmd.specs.declared.code.ProofCode.TheVariants as code
 use Rattle.mz_logic.specs.Tree.{Tree, app, none}
@@ -15,12 +15,15 @@ use Rattle.mz_bodies.specs.Scopes.{in_sight}
 use Rattle.mz_bodies.specs.Owes.{Task, prove, save, claims, claim_of, let_costs, Owes, left}
 use Rattle.mz_bodies.specs.Sight.{Part, links, link_at, parts, part_at, place_at, InSight, IsThere}
 use Rattle.mz_bodies.specs.Going.{Job, IsGoing}
+use Rattle.mz_bodies.specs.Uses.{Use, uses, commands_use}
+use Rattle.mz_bodies.specs.Using.{part_uses, task_uses, ComesTo}
 use Rattle.mz_bodies.specs.declared.cells.Cell.{Cell}
 use Rattle.mz_bodies.proofs.Scoping.{long, named, outer_there, there_more, parts_long, links_long}
 use Rattle.mz_bodies.specs.Lengths.{begun, IsOutside}
 use Rattle.mz_bodies.proofs.Shortening.{waits_begun, begun_clear, not_begun, sight_outside}
 use Rattle.mz_bodies.proofs.Standing.{proving}
 use Rattle.mz_bodies.proofs.Moves.{at_last, replaced, referred}
+use Rattle.mz_bodies.proofs.Using.{or_within, or_left}
 
 module _ (env : List Declaration) (o : Job) (s : Sharing) (vars : List Id) (places : List (Option ℕ)) (len : ℕ) (hps : List ℕ) (cells : List Cell) (k c : ℕ) (us : List Task) (bs : List ℕ)
     (g : IsGoing env o s vars places len hps cells (prove (by_name k) (Some c) ∷ us) bs) where
@@ -46,10 +49,15 @@ module _ (env : List Declaration) (o : Job) (s : Sharing) (vars : List Id) (plac
     stands_for : proved env o.hyps (in_sight (claims env o.hyps (parts cells)) (Some c)) (by_name k) ≡ claim_of env o.hyps (parts cells) d
     stands_for = named Tree (proved env o.hyps) cells g.lets.linked c k d (app 0 none) inside sight
 
+    used_for : (u : Use) → task_uses u (parts cells) (prove (by_name k) (Some c)) ≡ part_uses u (parts cells) d
+    used_for u = named Bool (uses u) cells g.lets.linked c k d false inside sight
+
     pub name_placed : (p : ℕ) (bs' : List ℕ) → place_at cells d ≡ Some p → bs' ≡ bs ++ command_bytes (code.Ref, p) → p < 2 ^ 32 → IsGoing env o s vars places len hps cells us bs'
     name_placed p bs' at is small = at_last env o s vars places len hps cells us us (bs ++ command_bytes (code.Ref, p)) bs' refl is
         (referred env o s vars places len hps cells us bs (prove (by_name k) (Some c)) g p (claim_of env o.hyps (parts cells) d) (g.lets.placed d p d-in at)
-        (g.owes.1.2 ∙ ap (λ (e : Tree). proof e ∷ g.work.stack) stands_for) small refl (omega arith))
+        (g.owes.1.2 ∙ ap (λ (e : Tree). proof e ∷ g.work.stack) stands_for) small refl
+        (λ u. subst (λ (b : Bool). ComesTo u (o.uses u) (parts cells) b us)
+        (or_within (task_uses u (parts cells) (prove (by_name k) (Some c))) (commands_use u g.commands) (λ is. (g.uses u).placed d p at (sym (used_for u) ∙ is))) (g.uses u).comes.1) (omega arith))
 
     pub name_parts : (part : Part) (ts' : List Task) → place_at cells d ≡ None → part_at (parts cells) d ≡ part → ts' ≡ prove part.proof part.outer ∷ save d ∷ us → IsGoing env o s vars places len hps cells ts' bs
     name_parts part ts' none-yet part-is ts-is =
@@ -64,9 +72,10 @@ module _ (env : List Declaration) (o : Job) (s : Sharing) (vars : List Id) (plac
           (
             proof e ∷ g.work.stack,
             (omega (arith, l, d-in), g.work.stack, refl, refl),
-            subst (λ (z : List (Item Tree)). Owes env s.context o.hyps s (parts cells) z us o.goal) (g.owes.1.2 ∙ ap (λ (z : Tree). proof z ∷ g.work.stack) stands_for) g.owes.2,
+            subst (λ (z : List (Item Tree)). Owes o.gaps env s.context o.hyps s (parts cells) z us o.goal) (g.owes.1.2 ∙ ap (λ (z : Tree). proof z ∷ g.work.stack) stands_for) g.owes.2,
           ),
         ) (begun_clear (parts cells) outers c d us (omega (arith, l, d-in)) way g.clear.0 q.outer refl, ((λ e b no. no), g.clear.1)) ((g.fresh.0.0, (g.fresh.0.0, g.fresh.0.1)), g.fresh.1)
+        (λ u. (tt, (or_left (part_uses u (parts cells) d) (commands_use u g.commands), subst (λ (b : Bool). ComesTo u (o.uses u) (parts cells) (b || commands_use u g.commands) us) (used_for u) (g.uses u).comes.1)))
         (let a = waits_begun env (begun us) (place_at cells) 0 d d (parts cells) (omega arith) (omega (arith, l, d-in)) none-yet (not_begun (parts cells) (prove (by_name k) (Some c)) us d g.clear way) in omega (arith, a)))
 
     pub name_cost : (part : Part) (ts' : List Task) → part_at (parts cells) d ≡ part → ts' ≡ prove part.proof part.outer ∷ save d ∷ us

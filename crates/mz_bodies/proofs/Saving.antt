@@ -1,5 +1,5 @@
 -- A let's part that is saved, and a dummy that is made.
-use Rattle.std.specs.Prelude.{ℕ, ◌≡◌, ◌+◌, false, List, [], ◌∷◌, ◌++◌, length, slice_get, Option, Some}
+use Rattle.std.specs.Prelude.{Bool, ℕ, ◌≡◌, ◌+◌, List, [], ◌∷◌, ◌++◌, length, slice_get, Option, Some}
 use Rattle.std.proofs.Common.{refl, sym, ap, ◌∙◌, subst, arith, inl, inr}
 use Rattle.std.proofs.lemmas.List.{length-append}
 use Rattle.mz_cmd.specs.declared.code.ProofCode.TheVariants as code
@@ -17,6 +17,8 @@ use Rattle.mz_bodies.specs.Claims.{IsSound}
 use Rattle.mz_bodies.specs.Owes.{Task, save, claims, claim_of, Owes}
 use Rattle.mz_bodies.specs.Sight.{Part, links, parts, part_at, place_at, AreRight}
 use Rattle.mz_bodies.specs.Going.{Job, CellsRight, PlacesRight, HasPlace, IsGoing}
+use Rattle.mz_bodies.specs.Uses.{commands_use}
+use Rattle.mz_bodies.specs.Using.{IsUsing}
 use Rattle.mz_bodies.specs.Making.{IsFresh}
 use Rattle.mz_bodies.specs.declared.cells.Cell.{Cell}
 use Rattle.mz_bodies.proofs.Building.{nothing_more}
@@ -24,6 +26,7 @@ use Rattle.mz_bodies.proofs.Lists.{slice_last, same_or_not}
 use Rattle.mz_bodies.proofs.Keeping.{some_is}
 use Rattle.mz_bodies.specs.Lengths.{begun, waits, IsClear}
 use Rattle.mz_bodies.proofs.Shortening.{command_one, waits_saved}
+use Rattle.mz_bodies.proofs.Using.{uses_last, using_saved}
 use Rattle.mz_bodies.proofs.Standing.{may_last, may_rest}
 use Rattle.mz_bodies.proofs.Moves.{more_written}
 
@@ -37,13 +40,13 @@ places_kept env n hyps s vars places hps met heap y h = record {
   hypotheses = λ k p k-at. (let q = h.hypotheses k p k-at in (q.0, q.1, extends_append heap (y ∷ []) p _ q.2));
 }
 
-module _ (env : List Declaration) (ctx : List Binder) (hyps : List Tree) (cells cells' : List Cell) (heap : List (Item Tree)) (c len : ℕ)
+module _ (gaps : Bool) (env : List Declaration) (ctx : List Binder) (hyps : List Tree) (cells cells' : List Cell) (heap : List (Item Tree)) (c len : ℕ)
     (parts-are : parts cells' ≡ parts cells) (links-are : links cells' ≡ links cells) (many : length cells' ≡ length cells)
     (at : place_at cells' c ≡ Some len) (others : (d : ℕ) → (d ≡ c → ⊥) → place_at cells' d ≡ place_at cells d) (long : length heap ≡ len) where
-  pub cells_saved : CellsRight env ctx hyps cells heap → CellsRight env ctx hyps cells' (heap ++ proof (claim_of env hyps (parts cells) c) ∷ [])
+  pub cells_saved : CellsRight gaps env ctx hyps cells heap → CellsRight gaps env ctx hyps cells' (heap ++ proof (claim_of env hyps (parts cells) c) ∷ [])
   cells_saved h = record {
     linked = subst AreRight (sym links-are) h.linked;
-    sound = λ d lt. subst (λ (ps : List Part). IsSound env ctx hyps (in_sight (claims env hyps ps) (part_at ps d).outer) (part_at ps d).proof) (sym parts-are) (h.sound d (omega (arith, lt, many)));
+    sound = λ d lt. subst (λ (ps : List Part). IsSound gaps env ctx hyps (in_sight (claims env hyps ps) (part_at ps d).outer) (part_at ps d).proof) (sym parts-are) (h.sound d (omega (arith, lt, many)));
     placed = λ d p lt d-at. subst (λ (ps : List Part). slice_get (heap ++ proof (claim_of env hyps (parts cells) c) ∷ []) p ≡ Some (proof (claim_of env hyps ps d))) (sym parts-are)
         (elim (same_or_not d c) [
           | inl is ↦ (let p-is : len ≡ p = some_is len p (sym (ap (place_at cells') is ∙ at) ∙ d-at) in
@@ -61,12 +64,12 @@ module _ (env : List Declaration) (o : Job) (s : Sharing) (vars : List Id) (plac
   saved c cells' places' len' us bs bs' parts-are links-are many at others places-are len-is is g =
       let e : Tree = claim_of env o.hyps (parts cells) c in
       let next : Work = kept g.work (proof e) in
-      let step : Step false env s.context g.work code.Save 0 next = (proof e, g.owes.1.1, g.owes.1.2, refl, refl) in
+      let step : Step o.gaps env s.context g.work code.Save 0 next = (proof e, g.owes.1.1, g.owes.1.2, refl, refl) in
       record {
         commands = g.commands ++ (code.Save, 0) ∷ [];
         work = next;
-        has_built = nothing_more env o.params s places places' g.commands g.work next code.Save 0 (λ x h. subst (λ (z : List (Option ℕ)). HasPlace s z x) (sym places-are) h) refl step g.has_built refl;
-        may_stand = may_last o.kind g.commands code.Save 0 g.may_stand (refl, omega arith);
+        has_built = nothing_more o.gaps env o.params s places places' g.commands g.work next code.Save 0 (λ x h. subst (λ (z : List (Option ℕ)). HasPlace s z x) (sym places-are) h) refl step g.has_built refl;
+        may_stand = may_last o.gaps o.kind g.commands code.Save 0 g.may_stand (refl, omega arith);
         written = is ∙ more_written env o s vars places len hps cells (save c ∷ us) bs g code.Save 0;
         assumed = g.assumed;
         counted = g.counted;
@@ -75,13 +78,15 @@ module _ (env : List Declaration) (o : Job) (s : Sharing) (vars : List Id) (plac
         shared = g.shared;
         there = subst (λ (z : List (Option ℕ)). PlacesRight env (length o.params) o.hyps s vars z hps g.work.met next.heap) (sym places-are)
             (places_kept env (length o.params) o.hyps s vars places hps g.work.met g.work.heap (proof e) g.there);
-        lets = cells_saved env s.context o.hyps cells cells' g.work.heap c len parts-are links-are many at others g.long g.lets;
+        lets = cells_saved o.gaps env s.context o.hyps cells cells' g.work.heap c len parts-are links-are many at others g.long g.lets;
         may_do = may_rest o (save c) us g.may_do;
         clear = subst (λ (ps : List Part). IsClear ps us) (sym parts-are) g.clear.1;
         fresh = subst (λ (z : List (Option ℕ)). IsFresh s z us) (sym places-are) (g.fresh.0.1, g.fresh.1);
+        uses = λ u. subst (λ (b : Bool). IsUsing u (o.uses u) cells' b us) (sym (uses_last u g.commands code.Save 0))
+            (using_saved u (o.uses u) cells cells' (commands_use u g.commands) c us parts-are others (g.uses u));
         short = (let h = g.short in let a = ap length is ∙ length-append bs (command_bytes (code.Save, 0)) in let b = command_one code.Save in
             let w = waits_saved env (begun us) (place_at cells) (place_at cells') c len (parts cells) at others in
             let d = ap (waits env (begun us) (place_at cells') 0) parts-are in omega (arith, h, a, b, w, d));
-        owes = subst (λ (ps : List Part). Owes env s.context o.hyps s ps g.work.stack us o.goal) (sym parts-are)
-            (subst (λ (z : List (Item Tree)). Owes env s.context o.hyps s (parts cells) z us o.goal) g.owes.1.3 g.owes.2);
+        owes = subst (λ (ps : List Part). Owes o.gaps env s.context o.hyps s ps g.work.stack us o.goal) (sym parts-are)
+            (subst (λ (z : List (Item Tree)). Owes o.gaps env s.context o.hyps s (parts cells) z us o.goal) g.owes.1.3 g.owes.2);
       }

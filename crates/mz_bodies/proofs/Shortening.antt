@@ -41,8 +41,8 @@ command_one c = refl
 
 -- ---- a store that grew
 
-module _ (env : List Declaration) (ctx : List Binder) (hyps : List Tree) (s s' : Sharing) (g : Grows s s') (ps : List Part) where
-  task_grown : (t : Task) (xs ys : List (Item Tree)) → Turns env ctx hyps s ps t xs ys → task_bytes env s' t ≡ task_bytes env s t
+module _ (gaps : Bool) (env : List Declaration) (ctx : List Binder) (hyps : List Tree) (s s' : Sharing) (g : Grows s s') (ps : List Part) where
+  task_grown : (t : Task) (xs ys : List (Item Tree)) → Turns gaps env ctx hyps s ps t xs ys → task_bytes env s' t ≡ task_bytes env s t
   task_grown (prove p chain) xs ys h = refl
   task_grown (prove_all qs chain) xs ys h = refl
   task_grown (cite T es) xs ys h = refl
@@ -53,7 +53,7 @@ module _ (env : List Declaration) (ctx : List Binder) (hyps : List Tree) (s s' :
   task_grown (give c v) xs ys h = refl
   task_grown (save c) xs ys h = refl
 
-  pub bytes_grown : (ts : List Task) (xs goal : List (Item Tree)) → Owes env ctx hyps s ps xs ts goal → tasks_bytes env s' ts ≡ tasks_bytes env s ts
+  pub bytes_grown : (ts : List Task) (xs goal : List (Item Tree)) → Owes gaps env ctx hyps s ps xs ts goal → tasks_bytes env s' ts ≡ tasks_bytes env s ts
   bytes_grown [] xs goal h = refl
   bytes_grown (t ∷ ts) xs goal (ys, turns, h) = (let a = task_grown t xs ys turns in let b = bytes_grown ts ys goal h in omega (arith, a, b))
 
@@ -172,21 +172,21 @@ module _ (ps : List Part) (outers : (c : ℕ) → c < length ps → IsThere c (p
     seen_back None c there h = h
     seen_back (Some d) c there h = outside_back d c there h
 
-    sees_back : (env : List Declaration) (ctx : List Binder) (hyps : List Tree) (s : Sharing) (t : Task) (xs ys : List (Item Tree)) (c : ℕ) → Turns env ctx hyps s ps t xs ys → Sees (ps ++ p ∷ []) t c → Sees ps t c
-    sees_back env ctx hyps s (prove q chain) xs ys c h seen = seen_back chain c h.0 seen
-    sees_back env ctx hyps s (prove_all qs chain) xs ys c h seen = seen_back chain c h.0 seen
-    sees_back env ctx hyps s (cite T es) xs ys c h seen = seen
-    sees_back env ctx hyps s (push i) xs ys c h seen = seen
-    sees_back env ctx hyps s (make i) xs ys c h seen = seen
-    sees_back env ctx hyps s (pay d) xs ys c h seen = seen
-    sees_back env ctx hyps s (pay_all cs) xs ys c h seen = seen
-    sees_back env ctx hyps s (give code v) xs ys c h seen = seen
-    sees_back env ctx hyps s (save d) xs ys c h seen = seen
+    sees_back : (gaps : Bool) (env : List Declaration) (ctx : List Binder) (hyps : List Tree) (s : Sharing) (t : Task) (xs ys : List (Item Tree)) (c : ℕ) → Turns gaps env ctx hyps s ps t xs ys → Sees (ps ++ p ∷ []) t c → Sees ps t c
+    sees_back gaps env ctx hyps s (prove q chain) xs ys c h seen = seen_back chain c h.0 seen
+    sees_back gaps env ctx hyps s (prove_all qs chain) xs ys c h seen = seen_back chain c h.0 seen
+    sees_back gaps env ctx hyps s (cite T es) xs ys c h seen = seen
+    sees_back gaps env ctx hyps s (push i) xs ys c h seen = seen
+    sees_back gaps env ctx hyps s (make i) xs ys c h seen = seen
+    sees_back gaps env ctx hyps s (pay d) xs ys c h seen = seen
+    sees_back gaps env ctx hyps s (pay_all cs) xs ys c h seen = seen
+    sees_back gaps env ctx hyps s (give code v) xs ys c h seen = seen
+    sees_back gaps env ctx hyps s (save d) xs ys c h seen = seen
 
-    pub clear_opened : (env : List Declaration) (ctx : List Binder) (hyps : List Tree) (s : Sharing) (ts : List Task) (xs goal : List (Item Tree)) → Owes env ctx hyps s ps xs ts goal → IsClear ps ts → IsClear (ps ++ p ∷ []) ts
-    clear_opened env ctx hyps s [] xs goal h clear = tt
-    clear_opened env ctx hyps s (t ∷ ts) xs goal (ys, turns, h) (first, clear) =
-        ((λ c is seen. first c is (sees_back env ctx hyps s t xs ys c turns seen)), clear_opened env ctx hyps s ts ys goal h clear)
+    pub clear_opened : (gaps : Bool) (env : List Declaration) (ctx : List Binder) (hyps : List Tree) (s : Sharing) (ts : List Task) (xs goal : List (Item Tree)) → Owes gaps env ctx hyps s ps xs ts goal → IsClear ps ts → IsClear (ps ++ p ∷ []) ts
+    clear_opened gaps env ctx hyps s [] xs goal h clear = tt
+    clear_opened gaps env ctx hyps s (t ∷ ts) xs goal (ys, turns, h) (first, clear) =
+        ((λ c is seen. first c is (sees_back gaps env ctx hyps s t xs ys c turns seen)), clear_opened gaps env ctx hyps s ts ys goal h clear)
 
 pub one_or_rest : (d c : ℕ) (cs : List ℕ) → is_one_of c (d ∷ cs) ≡ true → (d ≡ c) ⊎ (is_one_of c cs ≡ true)
 one_or_rest d c cs is = elim (same_or_not d c) [
@@ -202,8 +202,8 @@ sight_outside cs c k d right lt (out c0 o k0 d0 e v) =
     farther c o d (outer_same cs c lt ∙ e) (sight_outside cs o k d right (let a = r.0 in omega (arith, a, lt)) v)
 
 -- a let that is begun is there
-module _ (env : List Declaration) (ctx : List Binder) (hyps : List Tree) (s : Sharing) (ps : List Part) where
-  pub begun_there : (ts : List Task) (xs goal : List (Item Tree)) (c : ℕ) → Owes env ctx hyps s ps xs ts goal → is_one_of c (begun ts) ≡ true → c < length ps
+module _ (gaps : Bool) (env : List Declaration) (ctx : List Binder) (hyps : List Tree) (s : Sharing) (ps : List Part) where
+  pub begun_there : (ts : List Task) (xs goal : List (Item Tree)) (c : ℕ) → Owes gaps env ctx hyps s ps xs ts goal → is_one_of c (begun ts) ≡ true → c < length ps
   begun_there [] xs goal c h is = absurd (grind (arith, is))
   begun_there (prove p chain ∷ ts) xs goal c (ys, turns, h) is = begun_there ts ys goal c h is
   begun_there (prove_all qs chain ∷ ts) xs goal c (ys, turns, h) is = begun_there ts ys goal c h is

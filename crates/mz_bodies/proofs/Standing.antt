@@ -1,10 +1,10 @@
 -- Which commands may stand in a body, and which tasks may be done.
-use Rattle.std.specs.Prelude.{ℕ, ◌≡◌, ◌<◌, ◌^◌, true, List, [], ◌∷◌, ◌++◌}
+use Rattle.std.specs.Prelude.{ℕ, Bool, ◌≡◌, ◌<◌, ◌^◌, true, List, [], ◌∷◌, ◌++◌}
 use Rattle.std.proofs.Common.{refl, sym, subst, inl, inr}
 use Rattle.mz_cmd.specs.declared.code.ProofCode.{ProofCode}
 use Rattle.mz_cmd.specs.declared.code.ProofCode.TheVariants as code
 use Rattle.mz_store.specs.declared.item.Id.{Id}
-use Rattle.mz_unification.specs.Profile.{strict}
+use Rattle.mz_unification.specs.Profile.{plain}
 use Rattle.mz_soundness.specs.Tables.{Kind, is_theorem}
 use Rattle.mz_soundness.specs.Bodies.{stands_in}
 use Rattle.mz_steps.specs.Endings.{MayStand}
@@ -13,32 +13,32 @@ use Rattle.mz_bodies.specs.Pushing.{pushes}
 use Rattle.mz_bodies.specs.Going.{Job, MayProve, MayDo}
 
 -- the command may stand in a body of this kind, and its operand takes four bytes at most
-abbrev pub MayBe : Kind → ProofCode → ℕ → Type 0
-MayBe kind c v = (stands_in strict kind c ≡ true) × (v < 2 ^ 32)
+abbrev pub MayBe : Bool → Kind → ProofCode → ℕ → Type 0
+MayBe gaps kind c v = (stands_in (plain gaps) kind c ≡ true) × (v < 2 ^ 32)
 
-pub may_last : (kind : Kind) (cs : List (ProofCode × ℕ)) (c : ProofCode) (v : ℕ) → MayStand strict kind cs → MayBe kind c v → MayStand strict kind (cs ++ (c, v) ∷ [])
-may_last kind [] c v may is = (is.0, is.1, tt)
-may_last kind (d ∷ cs) c v may is = (may.0, may.1, may_last kind cs c v may.2 is)
+pub may_last : (gaps : Bool) (kind : Kind) (cs : List (ProofCode × ℕ)) (c : ProofCode) (v : ℕ) → MayStand (plain gaps) kind cs → MayBe gaps kind c v → MayStand (plain gaps) kind (cs ++ (c, v) ∷ [])
+may_last gaps kind [] c v may is = (is.0, is.1, tt)
+may_last gaps kind (d ∷ cs) c v may is = (may.0, may.1, may_last gaps kind cs c v may.2 is)
 
 -- every command may stand in a theorem's body
-in_theorem : (c : ProofCode) → stands_in strict is_theorem c ≡ true
-in_theorem code.Term = refl
-in_theorem code.TermSave = refl
-in_theorem code.Ref = refl
-in_theorem code.Dummy = refl
-in_theorem code.Thm = refl
-in_theorem code.ThmSave = refl
-in_theorem code.Hyp = refl
-in_theorem code.Conv = refl
-in_theorem code.Refl = refl
-in_theorem code.Symm = refl
-in_theorem code.Cong = refl
-in_theorem code.Unfold = refl
-in_theorem code.ConvCut = refl
-in_theorem code.ConvRef = refl
-in_theorem code.ConvSave = refl
-in_theorem code.Save = refl
-in_theorem code.Sorry = refl
+in_theorem : (gaps : Bool) (c : ProofCode) → stands_in (plain gaps) is_theorem c ≡ true
+in_theorem gaps code.Term = refl
+in_theorem gaps code.TermSave = refl
+in_theorem gaps code.Ref = refl
+in_theorem gaps code.Dummy = refl
+in_theorem gaps code.Thm = refl
+in_theorem gaps code.ThmSave = refl
+in_theorem gaps code.Hyp = refl
+in_theorem gaps code.Conv = refl
+in_theorem gaps code.Refl = refl
+in_theorem gaps code.Symm = refl
+in_theorem gaps code.Cong = refl
+in_theorem gaps code.Unfold = refl
+in_theorem gaps code.ConvCut = refl
+in_theorem gaps code.ConvRef = refl
+in_theorem gaps code.ConvSave = refl
+in_theorem gaps code.Save = refl
+in_theorem gaps code.Sorry = refl
 
 -- ---- tasks
 
@@ -59,5 +59,5 @@ may_push o is i j us (inl may) = inl may
 may_push o is i j us (inr made) = inr (pushes_make is (make j ∷ us) (tt, made.1))
 
 -- a command of a proof
-pub may_be : (o : Job) (c : ProofCode) (v : ℕ) → MayProve o → v < 2 ^ 32 → MayBe o.kind c v
-may_be o c v may lt = (subst (λ (k : Kind). stands_in strict k c ≡ true) (sym may.0) (in_theorem c), lt)
+pub may_be : (o : Job) (c : ProofCode) (v : ℕ) → MayProve o → v < 2 ^ 32 → MayBe o.gaps o.kind c v
+may_be o c v may lt = (subst (λ (k : Kind). stands_in (plain o.gaps) k c ≡ true) (sym may.0) (in_theorem o.gaps c), lt)

@@ -1,5 +1,5 @@
 -- A body that is being written: what is made so far, and what is owed.
-use Rattle.std.specs.Prelude.{ℕ, ◌≡◌, ◌<◌, ◌≤◌, ◌+◌, ◌⊎◌, false, List, [], ◌∷◌, ◌++◌, length, map, take, slice_get, Contains, Option, Some}
+use Rattle.std.specs.Prelude.{ℕ, ◌≡◌, ◌<◌, ◌≤◌, ◌+◌, ◌⊎◌, Bool, List, [], ◌∷◌, ◌++◌, length, map, take, slice_get, Contains, Option, Some}
 use Rattle.mz_cmd.specs.declared.code.ProofCode.{ProofCode}
 use Rattle.mz_logic.specs.Tree.{Tree}
 use Rattle.mz_logic.specs.Declaration.{Declaration, sorts, signatures}
@@ -10,7 +10,7 @@ use Rattle.mz_logic.specs.declared.binder.Binder.{Binder}
 use Rattle.mz_store.specs.Sharing.{Sharing, IsIn, Holds, tree_of}
 use Rattle.mz_store.specs.declared.item.Id.{Id}
 use Rattle.mz_unification.specs.Spells.{dummy_of}
-use Rattle.mz_unification.specs.Profile.{Item, expr, proof, strict}
+use Rattle.mz_unification.specs.Profile.{Item, expr, proof, plain}
 use Rattle.mz_soundness.specs.Tables.{Kind, is_theorem}
 use Rattle.mz_steps.specs.Works.{Work, work_start}
 use Rattle.mz_steps.specs.SharedBodies.{Builds, AreDistinct, ArePlain}
@@ -26,25 +26,30 @@ use Rattle.mz_bodies.specs.Claims.{IsSound}
 use Rattle.mz_bodies.specs.Owes.{Task, IsOfExpressions, claims, claim_of, Owes, to_do, left}
 use Rattle.mz_bodies.specs.Lengths.{tasks_bytes, begun, waits, IsClear}
 use Rattle.mz_bodies.specs.Making.{IsFresh}
+use Rattle.mz_bodies.specs.Uses.{Use, commands_use}
+use Rattle.mz_bodies.specs.Using.{IsUsing}
 use Rattle.mz_bodies.specs.declared.cells.Cell.{Cell}
 use Rattle.mz_bodies.specs.declared.body.Before.{Before}
 use Rattle.mz_bodies.specs.declared.body.Body.{Body}
 
 -- what a body is to make: in a statement of this kind, over these parameters and the expressions that are
--- kept at first, from these hypotheses, of which so many are assumed, with so many bytes at the most, this stack
+-- kept at first, from these hypotheses, of which so many are assumed, with so many bytes at the most, this stack;
+-- gaps are let through or not, and this is what is to be used
 pub record Job : Type 0 where
+  pub gaps : Bool
   pub kind : Kind
   pub params : List Binder
   pub store : Sharing
   pub hyps : List Tree
   pub count : ℕ
   pub budget : ℕ
+  pub uses : Use → Bool
   pub goal : List (Item Tree)
 
 -- the lets' parts are sound, and where one has a place its proof stands there
-pub record CellsRight (env : List Declaration) (ctx : List Binder) (hyps : List Tree) (cells : List Cell) (heap : List (Item Tree)) : Type 0 where
+pub record CellsRight (gaps : Bool) (env : List Declaration) (ctx : List Binder) (hyps : List Tree) (cells : List Cell) (heap : List (Item Tree)) : Type 0 where
   pub linked : AreRight (links cells)
-  pub sound : (c : ℕ) → c < length cells → IsSound env ctx hyps (in_sight (claims env hyps (parts cells)) (part_at (parts cells) c).outer) (part_at (parts cells) c).proof
+  pub sound : (c : ℕ) → c < length cells → IsSound gaps env ctx hyps (in_sight (claims env hyps (parts cells)) (part_at (parts cells) c).outer) (part_at (parts cells) c).proof
   pub placed : (c p : ℕ) → c < length cells → place_at cells c ≡ Some p → slice_get heap p ≡ Some (proof (claim_of env hyps (parts cells) c))
 
 -- what stands where: expressions, variables that are met, and the hypotheses so far
@@ -61,9 +66,9 @@ abbrev pub HasPlace : Sharing → List (Option ℕ) → Tree → Type 0
 HasPlace s places e = (i : ℕ) × (p : ℕ) × Holds s i e × (place_of places i ≡ Some p)
 
 -- the commands make the work from the start; what they build has a place, and nothing is built twice
-pub record HasBuilt (env : List Declaration) (params : List Binder) (s : Sharing) (places : List (Option ℕ)) (commands : List (ProofCode × ℕ)) (work : Work) : Type 0 where
+pub record HasBuilt (gaps : Bool) (env : List Declaration) (params : List Binder) (s : Sharing) (places : List (Option ℕ)) (commands : List (ProofCode × ℕ)) (work : Work) : Type 0 where
   pub trees : List Tree
-  pub builds : Builds false env s.context (work_start params) commands work trees
+  pub builds : Builds gaps env s.context (work_start params) commands work trees
   pub placed : (k : ℕ) (e : Tree) → slice_get trees k ≡ Some e → HasPlace s places e
   pub distinct : AreDistinct trees
   pub plain : ArePlain commands
@@ -90,8 +95,8 @@ pub record IsGoing (env : List Declaration) (o : Job) (s : Sharing) (vars : List
     (tasks : List Task) (bytes : List ℕ) : Type 0 where
   pub commands : List (ProofCode × ℕ)
   pub work : Work
-  pub has_built : HasBuilt env o.params s places commands work
-  pub may_stand : MayStand strict o.kind commands
+  pub has_built : HasBuilt o.gaps env o.params s places commands work
+  pub may_stand : MayStand (plain o.gaps) o.kind commands
   pub written : bytes ≡ spelled commands
   pub assumed : work.hyps ≡ take o.count o.hyps
   pub counted : length hyp_places ≡ o.count
@@ -99,11 +104,12 @@ pub record IsGoing (env : List Declaration) (o : Job) (s : Sharing) (vars : List
   pub grew : Grows o.store s
   pub shared : IsShared (signatures env) s vars
   pub there : PlacesRight env (length o.params) o.hyps s vars places hyp_places work.met work.heap
-  pub lets : CellsRight env s.context o.hyps cells work.heap
+  pub lets : CellsRight o.gaps env s.context o.hyps cells work.heap
   pub may_do : MayDo o tasks
-  pub owes : Owes env s.context o.hyps s (parts cells) work.stack tasks o.goal
+  pub owes : Owes o.gaps env s.context o.hyps s (parts cells) work.stack tasks o.goal
   pub clear : IsClear (parts cells) tasks
   pub fresh : IsFresh s places tasks
+  pub uses : (u : Use) → IsUsing u (o.uses u) cells (commands_use u commands) tasks
   pub short : length bytes + still env s cells tasks ≤ o.budget
 
 -- the declarations before a statement, and their words

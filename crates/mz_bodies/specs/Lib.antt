@@ -2,7 +2,9 @@ pub mod Sight
 pub mod Scopes
 pub mod Claims
 pub mod Costs
+pub mod Uses
 pub mod Owes
+pub mod Using
 pub mod Pushing
 pub mod Going
 pub mod Stages

@@ -1,9 +1,9 @@
 -- What a list of tasks owes: each task takes one stack to the next.
-use Rattle.std.specs.Prelude.{ℕ, ◌≡◌, ◌<◌, ◌+◌, ◌*◌, ⊤, false, List, [], ◌∷◌, ◌++◌, length, map, reverse, Option, Some}
+use Rattle.std.specs.Prelude.{ℕ, ◌≡◌, ◌<◌, ◌+◌, ◌*◌, ⊤, Bool, List, [], ◌∷◌, ◌++◌, length, map, reverse, Option, Some}
 use Rattle.mz_cmd.specs.declared.code.ProofCode.{ProofCode}
 use Rattle.mz_logic.specs.Tree.{Tree, Trees, listed, instance, size, trees_size}
 use Rattle.mz_logic.specs.Declaration.{Declaration}
-use Rattle.mz_logic.specs.Conversions.{Conversion, Conversions, Between, AllBetween}
+use Rattle.mz_logic.specs.Conversions.{Conversion, Conversions}
 use Rattle.mz_logic.specs.declared.binder.Binder.{Binder}
 use Rattle.mz_store.specs.Sharing.{Sharing, IsIn, tree_of, head_of, operands_of}
 use Rattle.mz_unification.specs.Profile.{Item, expr, proof, obligation}
@@ -16,7 +16,7 @@ use Rattle.mz_steps.specs.Steps.{stacked, above, Step}
 use Rattle.mz_steps.specs.SharedBodies.{built, IsPlain}
 use Rattle.mz_bodies.specs.Sight.{Part, part_at, IsThere}
 use Rattle.mz_bodies.specs.Scopes.{in_sight, scopes}
-use Rattle.mz_bodies.specs.Claims.{proved, all_proved, conclusion_of, IsCitable, IsSound, AreSound}
+use Rattle.mz_bodies.specs.Claims.{proved, all_proved, conclusion_of, IsCitable, Goes, AllGo, IsSound, AreSound}
 use Rattle.mz_bodies.specs.Costs.{cost, costs, pay_cost, pay_costs}
 use Rattle.mz_bodies.specs.declared.task.Task.{Task as Coded}
 use Rattle.mz_bodies.specs.declared.task.Task.TheVariants as task
@@ -63,25 +63,25 @@ abbrev pub IsGiven : ProofCode → ℕ → Type 0
 IsGiven code value = IsPlain (code, value) × ((w : Work) → built code w ≡ [])
 
 -- the task takes the stack xs to the stack ys, under the expressions that are kept and the lets that are open
-abbrev pub Turns : List Declaration → List Binder → List Tree → Sharing → List Part → Task → List (Item Tree) → List (Item Tree) → Type 0
-Turns env ctx hyps s ps (prove p chain) xs ys = IsThere (length ps) chain × IsSound env ctx hyps (in_sight (claims env hyps ps) chain) p
+abbrev pub Turns : Bool → List Declaration → List Binder → List Tree → Sharing → List Part → Task → List (Item Tree) → List (Item Tree) → Type 0
+Turns gaps env ctx hyps s ps (prove p chain) xs ys = IsThere (length ps) chain × IsSound gaps env ctx hyps (in_sight (claims env hyps ps) chain) p
     × (ys ≡ proof (proved env hyps (in_sight (claims env hyps ps) chain) p) ∷ xs)
-Turns env ctx hyps s ps (prove_all qs chain) xs ys = IsThere (length ps) chain × AreSound env ctx hyps (in_sight (claims env hyps ps) chain) qs
+Turns gaps env ctx hyps s ps (prove_all qs chain) xs ys = IsThere (length ps) chain × AreSound gaps env ctx hyps (in_sight (claims env hyps ps) chain) qs
     × (ys ≡ map proof (reverse (all_proved env hyps (in_sight (claims env hyps ps) chain) qs)) ++ xs)
-Turns env ctx hyps s ps (cite T es) xs ys = (hs : List Tree) × (rest : List (Item Tree)) × IsCitable env ctx T es hs
+Turns gaps env ctx hyps s ps (cite T es) xs ys = (hs : List Tree) × (rest : List (Item Tree)) × IsCitable env ctx T es hs
     × (xs ≡ map proof (reverse hs) ++ rest) × (ys ≡ proof (instance es (conclusion_of env T)) ∷ rest)
-Turns env ctx hyps s ps (push i) xs ys = IsIn s i × (ys ≡ expr (tree_of s i) ∷ xs)
-Turns env ctx hyps s ps (make i) xs ys = IsIn s i × (t : ℕ) × (head_of (tree_of s i) ≡ Some t)
+Turns gaps env ctx hyps s ps (push i) xs ys = IsIn s i × (ys ≡ expr (tree_of s i) ∷ xs)
+Turns gaps env ctx hyps s ps (make i) xs ys = IsIn s i × (t : ℕ) × (head_of (tree_of s i) ≡ Some t)
     × (rest : List (Item Tree)) × (xs ≡ above (listed (operands_of (tree_of s i))) rest) × (ys ≡ expr (tree_of s i) ∷ rest)
-Turns env ctx hyps s ps (pay c) xs ys = (l : Tree) × (r : Tree) × Between env ctx c l r × (xs ≡ obligation l r ∷ ys)
-Turns env ctx hyps s ps (pay_all cs) xs ys = (ls : Trees) × (rs : Trees) × AllBetween env ctx cs ls rs × (xs ≡ sides (listed ls) (listed rs) ys)
-Turns env ctx hyps s ps (give code value) xs ys = IsGiven code value × ((w : Work) → w.stack ≡ xs → Step false env ctx w code value (stacked w ys))
-Turns env ctx hyps s ps (save c) xs ys = (c < length ps) × (rest : List (Item Tree)) × (xs ≡ proof (claim_of env hyps ps c) ∷ rest) × (ys ≡ xs)
+Turns gaps env ctx hyps s ps (pay c) xs ys = (l : Tree) × (r : Tree) × Goes gaps env ctx c l r × (xs ≡ obligation l r ∷ ys)
+Turns gaps env ctx hyps s ps (pay_all cs) xs ys = (ls : Trees) × (rs : Trees) × AllGo gaps env ctx cs ls rs × (xs ≡ sides (listed ls) (listed rs) ys)
+Turns gaps env ctx hyps s ps (give code value) xs ys = IsGiven code value × ((w : Work) → w.stack ≡ xs → Step gaps env ctx w code value (stacked w ys))
+Turns gaps env ctx hyps s ps (save c) xs ys = (c < length ps) × (rest : List (Item Tree)) × (xs ≡ proof (claim_of env hyps ps c) ∷ rest) × (ys ≡ xs)
 
 -- the tasks, one after another, take the stack to the goal
-abbrev pub Owes : List Declaration → List Binder → List Tree → Sharing → List Part → List (Item Tree) → List Task → List (Item Tree) → Type 0
-Owes env ctx hyps s ps xs [] goal = xs ≡ goal
-Owes env ctx hyps s ps xs (t ∷ ts) goal = (ys : List (Item Tree)) × Turns env ctx hyps s ps t xs ys × Owes env ctx hyps s ps ys ts goal
+abbrev pub Owes : Bool → List Declaration → List Binder → List Tree → Sharing → List Part → List (Item Tree) → List Task → List (Item Tree) → Type 0
+Owes gaps env ctx hyps s ps xs [] goal = xs ≡ goal
+Owes gaps env ctx hyps s ps xs (t ∷ ts) goal = (ys : List (Item Tree)) × Turns gaps env ctx hyps s ps t xs ys × Owes gaps env ctx hyps s ps ys ts goal
 
 -- a task that makes an expression
 abbrev pub MakesExpression : Task → Type 0

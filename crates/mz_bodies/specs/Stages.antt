@@ -1,5 +1,5 @@
 -- The stages of a body: its beginning, a hypothesis, an expression, a proof, and its end.
-use Rattle.std.specs.Prelude.{ℕ, ◌≡◌, ◌≤◌, ◌+◌, true, List, [], ◌∷◌, length, slice_get, Some}
+use Rattle.std.specs.Prelude.{ℕ, ◌≡◌, ◌≤◌, ◌+◌, Bool, true, false, ◌||◌, List, [], ◌∷◌, length, slice_get, Some}
 use Rattle.mz_cmd.specs.declared.code.ProofCode.TheVariants as code
 use Rattle.mz_logic.specs.Tree.{Tree, listed}
 use Rattle.mz_logic.specs.Declaration.{Declaration, sorts, signatures}
@@ -8,13 +8,14 @@ use Rattle.mz_logic.specs.Sorts.{HasProvable}
 use Rattle.mz_logic.specs.declared.binder.Binder.{Binder}
 use Rattle.mz_store.specs.Sharing.{Sharing, IsIn, AreIn, tree_of, trees_of}
 use Rattle.mz_store.specs.declared.item.Id.{Id}
-use Rattle.mz_unification.specs.Profile.{Item, strict}
+use Rattle.mz_unification.specs.Profile.{Item, plain}
 use Rattle.mz_unification.specs.Spells.{dummy_of}
 use Rattle.mz_soundness.specs.Bodies.{stands_in}
 use Rattle.mz_soundness.specs.Tables.{Kind}
 use Rattle.mz_mmu.specs.Proof.{Proof}
 use Rattle.mz_bodies.specs.Claims.{IsSound}
 use Rattle.mz_shared.specs.Variables.{IsShared}
+use Rattle.mz_bodies.specs.Uses.{Use, uses}
 use Rattle.mz_bodies.specs.Going.{Job, MayProve, Does}
 use Rattle.mz_bodies.specs.declared.body.Body.{Body}
 
@@ -25,13 +26,13 @@ pub record HasDummiesBehind (env : List Declaration) (n : ℕ) (s : Sharing) (va
   pub many : n ≤ length s.context
   pub dummies : (x : ℕ) (b : Binder) → slice_get s.context x ≡ Some b → n ≤ x → (b ≡ dummy_of b.sort) × MayBeDummySort (sorts env) b.sort
 
--- nothing is assumed, and nothing is to be left
-abbrev pub job : Kind → List Binder → Sharing → List Tree → Job
-job kind params s hyps = record { kind = kind; params = params; store = s; hyps = hyps; count = 0; budget = 0; goal = [] }
+-- nothing is assumed or used, and nothing is to be left
+abbrev pub job : Bool → Kind → List Binder → Sharing → List Tree → Job
+job gaps kind params s hyps = record { gaps = gaps; kind = kind; params = params; store = s; hyps = hyps; count = 0; budget = 0; uses = λ u. false; goal = [] }
 
 -- a job over these expressions and so many parameters, of which nothing is made yet
 abbrev pub Begins : Job → Sharing → ℕ → Type 0
-Begins o s n = (length o.params ≡ n) × (o.store ≡ s) × (o.count ≡ 0) × (o.goal ≡ [])
+Begins o s n = (length o.params ≡ n) × (o.store ≡ s) × (o.count ≡ 0) × (o.goal ≡ []) × ((u : Use) → o.uses u ≡ false)
 
 -- what was owed is made, and the stack is empty
 abbrev pub Rests : Job → Body → Type 0
@@ -40,6 +41,14 @@ Rests o b = Does o b [] × (b.tasks.items ≡ []) × (o.goal ≡ [])
 -- this is left on the stack, for so many bytes more
 abbrev pub leaving : Job → Item Tree → ℕ → Job
 leaving o x bytes = record o { goal = x ∷ []; budget = o.budget + bytes }
+
+-- this is to be used
+abbrev pub to_use : Job → (Use → Bool) → Job
+to_use o f = record o { uses = f }
+
+-- what a proof uses is to be used too
+abbrev pub spending : Job → Proof → Job
+spending o p = to_use o (λ u. uses u [] p || o.uses u)
 
 -- so many hypotheses are assumed, for so many bytes more
 abbrev pub assuming : Job → ℕ → ℕ → Job
@@ -51,13 +60,13 @@ Writes o b i = Rests o b × IsIn o.store i
 
 -- the i-th expression is to be the next hypothesis
 abbrev pub Assumes : Job → Body → ℕ → Type 0
-Assumes o b i = Writes o b i × (stands_in strict o.kind code.Hyp ≡ true)
+Assumes o b i = Writes o b i × (stands_in (plain o.gaps) o.kind code.Hyp ≡ true)
     × (slice_get o.hyps o.count ≡ Some (tree_of o.store i)) × HasProvable b.before.env.now o.store.context (tree_of o.store i)
 
 -- these are to be all the hypotheses
 pub record AssumesAll (o : Job) (b : Body) (is : List Id) : Type 0 where
   pub rests : Rests o b
-  pub stand : stands_in strict o.kind code.Hyp ≡ true
+  pub stand : stands_in (plain o.gaps) o.kind code.Hyp ≡ true
   pub none_yet : o.count ≡ 0
   pub inside : AreIn o.store is
   pub trees : o.hyps ≡ listed (trees_of o.store is)
@@ -65,4 +74,4 @@ pub record AssumesAll (o : Job) (b : Body) (is : List Id) : Type 0 where
 
 -- the proof is to be left
 abbrev pub Proves : Job → Body → Proof → Type 0
-Proves o b p = Rests o b × MayProve o × IsSound b.before.env.now o.store.context o.hyps [] p
+Proves o b p = Rests o b × MayProve o × IsSound o.gaps b.before.env.now o.store.context o.hyps [] p

@@ -3,12 +3,12 @@ use Rattle.std.specs.Prelude.{ℕ, ◌+◌, List}
 use Rattle.mz_logic.specs.Tree.{instance, followed_by, variables, size, trees_size}
 use Rattle.mz_logic.specs.Declaration.{Declaration}
 use Rattle.mz_logic.specs.Conversions.{Conversion, Conversions, refl_conv, sym_conv, cong_conv, unfold_conv, gap_conv, no_convs, more_convs}
-use Rattle.mz_mmu.specs.Proof.{Proof, Proofs, by_hyp, by_name, by_citation, by_conv, by_let, no_proofs, more_proofs}
+use Rattle.mz_mmu.specs.Proof.{Proof, Proofs, by_hyp, by_name, by_citation, by_conv, by_let, by_gap, no_proofs, more_proofs}
 use Rattle.mz_bodies.specs.Claims.{conclusion_of}
 use Rattle.mz_bodies.specs.Costs.{body_at}
 
 -- a reflexivity weighs 1; each other step 1 and its parts; an unfolding also its operands and the
--- instance of the body
+-- instance of the body, and a gap its sides
 abbrev mutual
   pub conv_weight : List Declaration → Conversion → ℕ
   conv_weight env (refl_conv e) = 1
@@ -22,7 +22,7 @@ abbrev mutual
   convs_weight env (more_convs c cs) = conv_weight env c + convs_weight env cs
 
 -- a name weighs 1; a citation its operands, the instance of the conclusion and its subproofs; a let its
--- parts, its first one once
+-- parts, its first one once; a gap its expression
 abbrev mutual
   pub proof_weight : List Declaration → Proof → ℕ
   proof_weight env (by_hyp i) = 1
@@ -30,6 +30,7 @@ abbrev mutual
   proof_weight env (by_citation T es ps) = 1 + trees_size es + size (instance es (conclusion_of env T)) + proofs_weight env ps
   proof_weight env (by_conv e c p) = 1 + size e + conv_weight env c + proof_weight env p
   proof_weight env (by_let p q) = 1 + proof_weight env p + proof_weight env q
+  proof_weight env (by_gap e) = 1 + size e
 
   pub proofs_weight : List Declaration → Proofs → ℕ
   proofs_weight env no_proofs = 0

@@ -1,9 +1,9 @@
 //! Bodies of statements.
-ghost use Rattle.std.specs.Prelude.{ℕ, ◌≡◌, ◌<◌, ◌^◌, ◌+◌, ◌*◌, ◌∷◌, [], ◌++◌, OnOk, IfOk, None, length};
+ghost use Rattle.std.specs.Prelude.{ℕ, ◌≡◌, ◌<◌, ◌^◌, ◌+◌, ◌*◌, ◌∷◌, [], ◌++◌, OnOk, IfOk, Option, None, length};
 ghost use Rattle.mz_logic.specs.Conversions.{unfold_conv};
 ghost use Rattle.mz_logic.specs.View.{tree};
 ghost use Rattle.mz_mmu.specs.ConvView.{conversion, conversions};
-ghost use Rattle.mz_mmu.specs.Proof.{by_name, by_conv, by_let};
+ghost use Rattle.mz_mmu.specs.Proof.{by_name, by_conv, by_let, by_gap};
 ghost use Rattle.mz_mmu.specs.ProofView.{proof_view, proofs_view};
 ghost use Rattle.mz_logic.specs.Tree.{size, trees_size};
 ghost use Rattle.mz_store.specs.Sharing.{head_of, tree_of, trees_of};
@@ -13,7 +13,7 @@ ghost use Rattle.mz_bodies.specs.Owes.{prove, prove_all, cite, push, make, pay, 
 ghost use Rattle.mz_shared.specs.Places.{place_of};
 ghost use Rattle.mz_bodies.specs.Pushing.{pushes};
 ghost use Rattle.mz_bodies.specs.Going.{Job, IsAfter, Does, steps_left};
-ghost use Rattle.mz_bodies.specs.Stages.{HasDummiesBehind, Begins, Rests, leaving, assuming, Writes, Assumes, AssumesAll, Proves};
+ghost use Rattle.mz_bodies.specs.Stages.{HasDummiesBehind, Begins, Rests, leaving, spending, assuming, Writes, Assumes, AssumesAll, Proves};
 ghost use Rattle.mz_bodies.specs.Claims.{proved};
 ghost use Rattle.mz_unification.specs.Profile.{expr, proof};
 
@@ -144,7 +144,7 @@ impl<'t> Body<'t> {
     pub fn put_proof(&mut self, stated: &'t Proof) -> Result<(), Mem>
         requires before { IsAfter self.old.before }
         requires can { (o : Job) × Proves o self.old (proof_view stated.now) }
-        ensures does { OnOk result ((o : Job) → Proves o self.old (proof_view stated.now) → Does (leaving o (proof (proved self.old.before.env.now o.hyps [] (proof_view stated.now))) (6 * proof_weight self.old.before.env.now (proof_view stated.now))) self.new []) }
+        ensures does { OnOk result ((o : Job) → Proves o self.old (proof_view stated.now) → Does (spending (leaving o (proof (proved self.old.before.env.now o.hyps [] (proof_view stated.now))) (6 * proof_weight self.old.before.env.now (proof_view stated.now))) (proof_view stated.now)) self.new []) }
         ensures done { OnOk result (self.new.tasks.items ≡ []) }
         ensures same { OnOk result (self.new.before ≡ self.old.before) }
     {
@@ -317,11 +317,15 @@ impl<'t> Body<'t> {
                 Ok(())
             }
             Proof::Conv(e, conv, part) => {
-                self.convert(e, conv, part.get(), chain)?;
+                self.convert(e, conv.get(), part.get(), chain)?;
                 Ok(())
             }
             Proof::Let(first, second) => {
                 self.bind(first.get(), second.get(), chain)?;
+                Ok(())
+            }
+            Proof::Gap(e) => {
+                self.leave_gap(e)?;
                 Ok(())
             }
         }
@@ -440,6 +444,20 @@ impl<'t> Body<'t> {
         Ok(())
     }
 
+    /// Pushes the expression, and lets it stand for a proof.
+    fn leave_gap(&mut self, e: &'t Expr) -> Result<(), Mem>
+        requires before { IsAfter self.old.before }
+        requires can { (chain : Option ℕ) × (o : Job) × Does o self.old (prove (by_gap (tree e.now)) chain ∷ []) }
+        ensures does { OnOk result ((chain : Option ℕ) (o : Job) → Does o self.old (prove (by_gap (tree e.now)) chain ∷ []) → Does o self.new []) }
+        ensures less { OnOk result ((chain : Option ℕ) → steps_left self.new [] < steps_left self.old (prove (by_gap (tree e.now)) chain ∷ [])) }
+        ensures same { OnOk result (self.new.before ≡ self.old.before) }
+    {
+        let id = self.shared.id(self.before.table, e)?;
+        add(&mut self.tasks, Task::Do(ProofCode::Sorry, 0))?;
+        add(&mut self.tasks, Task::Push(id))?;
+        Ok(())
+    }
+
     /// Pays an obligation up to those of the parts.
     fn pay(&mut self, conv: &'t Conv) -> Result<(), Mem>
         requires before { IsAfter self.old.before }
@@ -465,6 +483,10 @@ impl<'t> Body<'t> {
             }
             Conv::Unfold(term, es, vars, part) => {
                 self.unfold(*term, es, vars, part.get())?;
+                Ok(())
+            }
+            Conv::Gap(_, _) => {
+                put(&mut self.out, ProofCode::Sorry, 0)?;
                 Ok(())
             }
         }

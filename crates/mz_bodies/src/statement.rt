@@ -1,5 +1,5 @@
 //! The bodies of whole statements.
-ghost use Rattle.std.specs.Prelude.{ℕ, ◌≡◌, ◌≤◌, ◌+◌, ◌*◌, ◌++◌, [], IfOk, List, length};
+ghost use Rattle.std.specs.Prelude.{ℕ, Bool, ◌≡◌, ◌≤◌, ◌+◌, ◌*◌, ◌++◌, [], IfOk, List, length};
 ghost use Rattle.mz_logic.specs.Sorts.{AreProvable};
 ghost use Rattle.mz_logic.specs.Tree.{listed, size, trees_size};
 ghost use Rattle.mz_logic.specs.declared.binder.Binder.{Binder as BinderOf};
@@ -12,6 +12,7 @@ ghost use Rattle.mz_bodies.specs.Claims.{IsSound, proved};
 ghost use Rattle.mz_bodies.specs.Going.{IsAfter};
 ghost use Rattle.mz_bodies.specs.Stages.{HasDummiesBehind};
 ghost use Rattle.mz_bodies.specs.Weights.{proof_weight};
+ghost use Rattle.mz_bodies.specs.Uses.{uses, IsBodyUsing};
 
 use crate::body::{Before, Body};
 use mz_cmd::Mem;
@@ -38,8 +39,8 @@ pub fn definition_body(
     requires behind { HasDummiesBehind before.env.now params shared.store shared.variables.items }
     requires few { bound_count shared.store.context ≤ 55 }
     requires inside { IsIn shared.store body.0 }
-    ensures body { IfOk result (λ b. (ps ds : List BinderOf) → shared.store.context ≡ ps ++ ds → length ps ≡ params
-        → IsSharedBody before.entry.env.now is_definition ps ds (tree_of shared.store body.0) [] b.items) }
+    ensures body { IfOk result (λ b. (gaps : Bool) (ps ds : List BinderOf) → shared.store.context ≡ ps ++ ds → length ps ≡ params
+        → IsSharedBody gaps before.entry.env.now is_definition ps ds (tree_of shared.store body.0) [] b.items) }
     ensures short { IfOk result (λ b. length b.items ≤ 6 * size (tree_of shared.store body.0) + 1) }
 {
     let mut written = Body::new(alloc, before, shared, params)?;
@@ -67,8 +68,8 @@ pub fn axiom_body(
     requires inside { IsIn shared.store conclusion.0 }
     requires hyps { AreIn shared.store hyps.now }
     requires provable { AreProvable before.env.now shared.store.context (trees_of shared.store hyps.now) }
-    ensures body { IfOk result (λ b. (ps ds : List BinderOf) → shared.store.context ≡ ps ++ ds → length ps ≡ params
-        → IsSharedBody before.entry.env.now is_axiom ps ds (tree_of shared.store conclusion.0) (listed (trees_of shared.store hyps.now)) b.items) }
+    ensures body { IfOk result (λ b. (gaps : Bool) (ps ds : List BinderOf) → shared.store.context ≡ ps ++ ds → length ps ≡ params
+        → IsSharedBody gaps before.entry.env.now is_axiom ps ds (tree_of shared.store conclusion.0) (listed (trees_of shared.store hyps.now)) b.items) }
     ensures short { IfOk result (λ b. length b.items ≤ 6 * (trees_size (trees_of shared.store hyps.now) + size (tree_of shared.store conclusion.0)) + 1) }
 {
     let mut written = Body::new(alloc, before, shared, params)?;
@@ -78,7 +79,8 @@ pub fn axiom_body(
     Ok(bytes)
 }
 
-/// The body of a theorem: the commands that assume its hypotheses and make the proof's claim from them.
+/// The body of a theorem: the commands that assume its hypotheses and make the proof's claim from them. A gap is
+/// written as Sorry.
 ///
 /// # Errors
 ///
@@ -96,10 +98,15 @@ pub fn theorem_body(
     requires few { bound_count shared.store.context ≤ 55 }
     requires hyps { AreIn shared.store hyps.now }
     requires provable { AreProvable before.env.now shared.store.context (trees_of shared.store hyps.now) }
-    requires sound { IsSound before.env.now shared.store.context (listed (trees_of shared.store hyps.now)) [] (proof_view proof.now) }
-    ensures body { IfOk result (λ b. (ps ds : List BinderOf) → shared.store.context ≡ ps ++ ds → length ps ≡ params
-        → IsSharedBody before.entry.env.now is_theorem ps ds (proved before.entry.env.now (listed (trees_of shared.store hyps.now)) [] (proof_view proof.now))
+    requires sound { (gaps : Bool) × IsSound gaps before.env.now shared.store.context (listed (trees_of shared.store hyps.now)) [] (proof_view proof.now) }
+    ensures body { IfOk result (λ b. (gaps : Bool) → IsSound gaps before.entry.env.now shared.store.context (listed (trees_of shared.store hyps.now)) [] (proof_view proof.now)
+        → (ps ds : List BinderOf) → shared.store.context ≡ ps ++ ds → length ps ≡ params
+        → IsSharedBody gaps before.entry.env.now is_theorem ps ds (proved before.entry.env.now (listed (trees_of shared.store hyps.now)) [] (proof_view proof.now))
         (listed (trees_of shared.store hyps.now)) b.items) }
+    ensures uses { IfOk result (λ b. (gaps : Bool) → IsSound gaps before.entry.env.now shared.store.context (listed (trees_of shared.store hyps.now)) [] (proof_view proof.now)
+        → (ps ds : List BinderOf) → shared.store.context ≡ ps ++ ds → length ps ≡ params
+        → IsBodyUsing gaps before.entry.env.now is_theorem ps ds (proved before.entry.env.now (listed (trees_of shared.store hyps.now)) [] (proof_view proof.now))
+        (listed (trees_of shared.store hyps.now)) b.items (λ u. uses u [] (proof_view proof.now))) }
     ensures short { IfOk result (λ b. length b.items ≤ 6 * (trees_size (trees_of shared.store hyps.now) + proof_weight before.entry.env.now (proof_view proof.now)) + 1) }
 {
     let mut written = Body::new(alloc, before, shared, params)?;

@@ -93,7 +93,7 @@ start-too h = ap begun (own-are 0 h.params ∙ sym (own-too 0 h.params))
 
 from-table : (tables : Tables) (env env' : List Declaration) → Declares tables env' → IsSameEnv env env' → AreSharedRows tables.terms
     → (h : Heading) (dummies : List Binder) → IsSharedHeading (signatures_in tables) h → DependOnFirst (length h.params) (h.params ++ dummies)
-    → (e : Tree) (hyps : List Tree) (at : ℕ) (bytes : List ℕ) → IsSharedBody env h.kind h.params dummies e hyps bytes → Runs strict tables h at bytes → Runs portable tables h at bytes
+    → (e : Tree) (hyps : List Tree) (at : ℕ) (bytes : List ℕ) → IsSharedBody false env h.kind h.params dummies e hyps bytes → Runs strict tables h at bytes → Runs portable tables h at bytes
 from-table tables env env' declares same rows h dummies own first e hyps at bytes b (last, ran) =
     let ctx : List Binder = h.params ++ dummies in
     let Sigs : List Signature = signatures env in

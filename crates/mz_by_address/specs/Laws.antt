@@ -1,5 +1,5 @@
 -- What is promised of shared bodies, and of rows whose definitions' streams share.
-use Rattle.std.specs.Prelude.{◌≡◌, ℕ, Some, List, [], ◌∷◌, ◌++◌, length, map}
+use Rattle.std.specs.Prelude.{◌≡◌, ℕ, false, Some, List, [], ◌∷◌, ◌++◌, length, map}
 use Rattle.mz_logic.specs.Tree.{Tree, none, listed}
 use Rattle.mz_logic.specs.Signature.{Signature}
 use Rattle.mz_logic.specs.Declaration.{Assertion, Declaration, sorts, signatures}
@@ -23,12 +23,12 @@ use Rattle.mz_by_address.specs.SharedRows.{SharesBody, IsSharedRow, AreSharedRow
 
 -- ---- bodies
 
--- Over rows whose definitions' streams share, a body that is shared (`IsSharedBody`) runs by address: where it runs by
--- the published table, and where its steps have made what its row spells.
+-- Over rows whose definitions' streams share, a body that is shared and has no gaps (`IsSharedBody`) runs by address:
+-- where it runs by the published table, and where its steps have made what its row spells.
 abbrev pub SharedBodiesRunByAddress : Type 0
 SharedBodiesRunByAddress = (tables : Tables) (env env' : List Declaration) → Declares tables env' → IsSameEnv env env' → AreSharedRows tables.terms
     → (h : Heading) (dummies : List Binder) → IsSharedHeading (signatures_in tables) h → DependOnFirst (length h.params) (h.params ++ dummies)
-    → (e : Tree) (hyps : List Tree) (at : ℕ) (bytes : List ℕ) (b : IsSharedBody env h.kind h.params dummies e hyps bytes)
+    → (e : Tree) (hyps : List Tree) (at : ℕ) (bytes : List ℕ) (b : IsSharedBody false env h.kind h.params dummies e hyps bytes)
     → (Runs strict tables h at bytes → Runs portable tables h at bytes) × (Ends env (h.params ++ dummies) h b.body.work → Runs portable tables h at bytes)
 
 -- ---- statements
@@ -38,7 +38,7 @@ SharedBodiesRunByAddress = (tables : Tables) (env env' : List Declaration) → D
 abbrev pub AssertionsRunByAddress : Type 0
 AssertionsRunByAddress = (tables : Tables) (env env' : List Declaration) → Declares tables env' → IsSameEnv env env' → AreSharedRows tables.terms
     → (a : Assertion) (dummies : List Binder) (stream : List ℕ) (at : ℕ) (bytes : List ℕ) → AreParams (sorts env) a.params → Each dummies (λ _ b. b.deps ≡ [])
-    → IsSharedBody env (kind_of a.is_axiom) a.params dummies a.conclusion (listed a.hyps) bytes
+    → IsSharedBody false env (kind_of a.is_axiom) a.params dummies a.conclusion (listed a.hyps) bytes
     → Runs strict tables (assertion_of a.is_axiom (record { params = a.params; stream = stream })) at bytes
     → Runs portable tables (assertion_of a.is_axiom (record { params = a.params; stream = stream })) at bytes
 
@@ -46,7 +46,7 @@ AssertionsRunByAddress = (tables : Tables) (env env' : List Declaration) → Dec
 abbrev pub DefinitionsRunByAddress : Type 0
 DefinitionsRunByAddress = (tables : Tables) (env env' : List Declaration) → Declares tables env' → IsSameEnv env env' → AreSharedRows tables.terms
     → (signature : Signature) (dummies dummies' : List Binder) (e e' : Tree) (stream further : List ℕ) (at : ℕ) (bytes : List ℕ) → AreParams (sorts env) signature.params → Each dummies (λ _ b. b.deps ≡ [])
-    → IsSharedText of_definition (signatures env) signature.params stream none e' dummies' → IsSharedBody env is_definition signature.params dummies e [] bytes
+    → IsSharedText of_definition (signatures env) signature.params stream none e' dummies' → IsSharedBody false env is_definition signature.params dummies e [] bytes
     → (row : TermRow) → row ≡ record { signature = signature; stream = Some (stream ++ further) }
     → (Runs strict tables (definition_of row (stream ++ further)) at bytes → Runs portable tables (definition_of row (stream ++ further)) at bytes) × AreSharedRows (tables.terms ++ row ∷ [])
 

@@ -4,4 +4,4 @@
 
 mod laws;
 
-pub use laws::{stated_proofs_are_sound, weights_are_the_texts};
+pub use laws::{stated_proofs_are_sound, stated_proofs_use_what_they_mean, weights_are_the_texts};

@@ -1,5 +1,5 @@
 -- Each text can be compiled, or has one first fault, or passes one first limit.
-use Rattle.std.proofs.Common.{ℕ, ◌⊎◌, inl, inr, List, subst}
+use Rattle.std.proofs.Common.{ℕ, Bool, ◌⊎◌, inl, inr, List, subst}
 use Rattle.mz_mmu.specs.Proof.{Statement}
 use Rattle.mz_sexpr.specs.declared.rule.TextRefusal.{TextRefusal}
 use Rattle.mz_type.specs.TextOf.{TextOf, TextFault}
@@ -7,19 +7,19 @@ use Rattle.mz_type.specs.Weight.{Passed, Passes, IsWithinLimits}
 use Rattle.mz_type.specs.Laws.{EachIsLimited, IsTypedOrFaulty}
 use Rattle.mz_emit.specs.Compiling.{IsCompilable, PassesLimit, IsDecided}
 
-module _ (typed_or_faulty : (text : List ℕ) → IsTypedOrFaulty text) (each_is_limited : EachIsLimited) (text : List ℕ) where
-  limited : (ss : List Statement) → TextOf text ss → IsWithinLimits ss ⊎ ((p : Passed) × Passes ss p) → IsCompilable text ⊎ (((r : TextRefusal) × TextFault text r) ⊎ ((p : Passed) × PassesLimit text p))
+module _ (typed_or_faulty : (gaps : Bool) (text : List ℕ) → IsTypedOrFaulty gaps text) (each_is_limited : EachIsLimited) (gaps : Bool) (text : List ℕ) where
+  limited : (ss : List Statement) → TextOf gaps text ss → IsWithinLimits ss ⊎ ((p : Passed) × Passes ss p) → IsCompilable gaps text ⊎ (((r : TextRefusal) × TextFault gaps text r) ⊎ ((p : Passed) × PassesLimit gaps text p))
   limited ss typed (inl within) = inl (ss, typed, within)
   limited ss typed (inr (p, passes)) = inr (inr (p, (ss, typed, passes)))
 
-  typed : ((ss : List Statement) × TextOf text ss) ⊎ ((r : TextRefusal) × TextFault text r)
-      → IsCompilable text ⊎ (((r : TextRefusal) × TextFault text r) ⊎ ((p : Passed) × PassesLimit text p))
+  typed : ((ss : List Statement) × TextOf gaps text ss) ⊎ ((r : TextRefusal) × TextFault gaps text r)
+      → IsCompilable gaps text ⊎ (((r : TextRefusal) × TextFault gaps text r) ⊎ ((p : Passed) × PassesLimit gaps text p))
   typed (inl (ss, is)) = limited ss is (each_is_limited ss).one_of_both
   typed (inr fault) = inr (inl fault)
 
-  pub is_decided : IsDecided text
+  pub is_decided : IsDecided gaps text
   is_decided =
-      let one = typed_or_faulty text in
+      let one = typed_or_faulty gaps text in
       record {
         one_of_three = typed one.one_of_both;
         not_refused = λ r can fault. one.never_both can.0 r can.1 fault;

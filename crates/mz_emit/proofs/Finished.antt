@@ -1,24 +1,30 @@
 -- What is written of a whole text is its binary.
-use Rattle.std.proofs.Common.{ℕ, ◌≡◌, ◌≤◌, List, [], ◌∷◌, ◌++◌, length, length-append, refl, sym, subst, ap, arith}
+use Rattle.std.proofs.Common.{Bool, ℕ, ◌≡◌, ◌≤◌, List, [], ◌∷◌, ◌++◌, length, length-append, refl, sym, subst, ap, arith}
+use Rattle.std.specs.Prelude.{◌↔◌}
 use Rattle.mz_logic.specs.Declaration.{sorts}
-use Rattle.mz_logic.specs.LegalLists.{Legal}
+use Rattle.mz_logic.specs.LegalLists.{Statement as Marked, LegalBy, allowed_with}
 use Rattle.mz_logic.proofs.Extend.{sorts-append}
 use Rattle.mz_layout.specs.Normal.{Parts, file_of, file_length}
 use Rattle.mz_layout.specs.Standing.{Fit}
 use Rattle.mz_layout.proofs.LengthBound.{file-bound}
 use Rattle.mz_layout.proofs.PartsStand.{file-length}
+use Rattle.mz_binary.specs.Gapped.{GappedIn}
 use Rattle.mz_mmu.specs.Proof.{Statement}
 use Rattle.mz_type.specs.Meaning.{LegalAsStated, marked}
 use Rattle.mz_type.specs.TypedText.{declared}
 use Rattle.mz_type.specs.Weight.{sort_count, byte_bound, IsWithinLimits}
 use Rattle.mz_type.proofs.Texts.{stated_is_legal}
 use Rattle.mz_streams.specs.SpelledLists.{list_spelled}
+use Rattle.mz_writing.specs.Writing.{IsWrittenAs}
+use Rattle.mz_writing.proofs.BodiesWritten.{written-gapped}
 use Rattle.mz_writing.proofs.FilesHold.{files-good, files-spell}
 use Rattle.mz_writing.proofs.SameLists.{written-same}
 use Rattle.mz_accepting.proofs.Accepted.{files-accepted}
 use Rattle.mz_emit.specs.Compiling.{IsBinaryOf}
 use Rattle.mz_emit.specs.Emitting.{HasWritten}
+use Rattle.mz_emit.specs.Gapped.{proofs_of, IsGappedIn}
 use Rattle.mz_emit.proofs.Following.{short_enough}
+use Rattle.mz_emit.proofs.Gapped.{gapped_same}
 use Rattle.mz_emit.proofs.Lengths.{short_file}
 use Rattle.mz_emit.proofs.OneMore.{counted}
 
@@ -28,11 +34,27 @@ sorts_counted (s ∷ ss) =
     let both : sorts (s.decl ∷ declared ss) ≡ sorts (s.decl ∷ []) ++ sorts (declared ss) = sorts-append (s.decl ∷ []) (declared ss) in
     omega (arith, sorts_counted ss, ap length both, length-append (sorts (s.decl ∷ [])) (sorts (declared ss)))
 
-module _ (ss : List Statement) (p : Parts) (h : HasWritten ss p) (legal : LegalAsStated ss) (within : IsWithinLimits ss) where
+-- what is written within the format's bounds of legal statements, has their gapped theorems, and is short enough, is their
+-- binary
+pub binary_of : (gaps : Bool) (ss : List Statement) (p : Parts) (made : List Marked) → Fit p → LegalBy (allowed_with gaps) (marked ss) → IsWrittenAs gaps p (marked ss) made
+    → ((T : ℕ) → GappedIn (file_of p) made T ↔ IsGappedIn (proofs_of ss) T) → length (file_of p) ≤ byte_bound ss → IsBinaryOf gaps ss (file_of p)
+binary_of gaps ss p made fit legal says gapped short = record {
+  written = record { parts = p; made = made; fit = fit; says = says; file = refl; short = short };
+  good = record {
+    made = made;
+    spelled = files-spell gaps p (marked ss) made fit legal says;
+    same = written-same gaps p (marked ss) made says;
+    good = files-good gaps p (marked ss) made fit legal says;
+    gapped = gapped;
+  };
+  accepted = λ spec ds is_spec agrees. files-accepted gaps p (marked ss) made fit legal says spec ds is_spec agrees;
+}
+
+module _ (gaps : Bool) (ss : List Statement) (p : Parts) (h : HasWritten gaps ss p) (legal : LegalAsStated gaps ss) (within : IsWithinLimits ss) where
   pub few_sorts : length p.sorts ≤ 128
   few_sorts =
       let few : sort_count ss ≤ 128 = within.0 in
-      let same = (counted ss p h).no_sorts in
+      let same = (counted gaps ss p h).no_sorts in
       omega (arith, few, same, sorts_counted ss)
 
   bounded : file_length p ≤ byte_bound ss
@@ -41,17 +63,13 @@ module _ (ss : List Statement) (p : Parts) (h : HasWritten ss p) (legal : LegalA
   pub short : file_length p ≤ 4294967295
   short = omega (arith, bounded, short_enough ss within)
 
-  pub is_binary : (bytes : List ℕ) → bytes ≡ file_of p → Fit p → IsBinaryOf ss bytes
+  gapped_there : Fit p → (T : ℕ) → GappedIn (file_of p) (list_spelled (marked ss)) T ↔ IsGappedIn (proofs_of ss) T
+  gapped_there fit T =
+      let written = written-gapped gaps p (marked ss) (list_spelled (marked ss)) fit h.says T in
+      let same = gapped_same ss p.statements h.uses T in
+      (λ in_file. same.0 (written.0 in_file), λ in_text. written.1 (same.1 in_text))
+
+  pub is_binary : (bytes : List ℕ) → bytes ≡ file_of p → Fit p → IsBinaryOf gaps ss bytes
   is_binary bytes is fit =
-      let all : Legal (marked ss) = stated_is_legal ss legal in
-      let spelled = list_spelled (marked ss) in
-      subst (IsBinaryOf ss) (sym is) (record {
-        written = record { parts = p; made = spelled; fit = fit; says = h.says; file = refl; short = omega (arith, bounded, file-length p) };
-        good = record {
-          made = spelled;
-          spelled = files-spell p (marked ss) spelled fit all h.says;
-          same = written-same p (marked ss) spelled h.says;
-          good = files-good p (marked ss) spelled fit all h.says;
-        };
-        accepted = λ spec ds is_spec agrees. files-accepted p (marked ss) spelled fit all h.says spec ds is_spec agrees;
-      })
+      subst (IsBinaryOf gaps ss) (sym is)
+      (binary_of gaps ss p (list_spelled (marked ss)) fit (stated_is_legal gaps ss legal) h.says (gapped_there fit) (omega (arith, bounded, file-length p)))

@@ -4,9 +4,12 @@ mod Following
 mod Saying
 mod Lengths
 mod OneMore
+mod Using
 mod Speaking
 mod Weights
 mod Rows
+mod Gapped
 mod Finished
+mod Alike
 mod Looping
 mod Deciding

@@ -1,5 +1,5 @@
 -- One statement more is written, by the next row of its kind.
-use Rattle.std.proofs.Common.{ℕ, suc, if◌then◌else◌, length-append, ◌≡◌, ◌≤◌, ◌+◌, ◌*◌, false, ◌⊎◌, inl, List, [], ◌∷◌, ◌++◌, length, refl, sym, ap, subst, ◌∙◌, arith}
+use Rattle.std.proofs.Common.{ℕ, suc, Bool, if◌then◌else◌, length-append, ◌≡◌, ◌≤◌, ◌+◌, ◌*◌, false, ◌⊎◌, inl, List, [], ◌∷◌, ◌++◌, length, refl, sym, ap, subst, ◌∙◌, arith}
 use Rattle.std.specs.Prelude.{Some, None}
 use Rattle.mz_logic.specs.Tree.{Tree}
 use Rattle.mz_logic.specs.Signature.{Signature}
@@ -14,14 +14,17 @@ use Rattle.mz_binary.specs.Spelling.{HasKind, is_local_code}
 use Rattle.mz_mmu.specs.Proof.{Statement}
 use Rattle.mz_type.specs.Meaning.{marked}
 use Rattle.mz_type.specs.TypedText.{declared}
-use Rattle.mz_type.specs.Weight.{declaration_weight, stated_weight, statement_weight}
+use Rattle.mz_type.specs.Weight.{declaration_weight, statement_weight}
 use Rattle.mz_steps.specs.Sameness.{IsSameForm}
 use Rattle.mz_streams.specs.SpelledLists.{form_spelled, decl_spelled, statement_spelled, list_spelled}
 use Rattle.mz_writing.specs.Growing.{HasOneMore}
 use Rattle.mz_writing.specs.Writing.{SayParams, SaySignature, IsWrittenDeclaration, IsWrittenStatement, IsWrittenAssertion, HaveNoMore, IsWrittenAs}
 use Rattle.mz_writing.proofs.Growing.{writing-grows, rows-counted, appended-next}
 use Rattle.mz_emit.specs.Emitting.{with_sort, with_term, with_thm, SaysDefinition, SaysAssertion, cost_of, HasWritten}
+use Rattle.mz_emit.specs.Gapped.{StatementUses, SayTheirUses}
+use Rattle.mz_emit.proofs.Gapped.{uses_more}
 use Rattle.mz_emit.proofs.Lengths.{sort_more, term_more, thm_more, short_more}
+use Rattle.mz_emit.proofs.Weights.{stated_same}
 
 -- a statement with its mark alone
 abbrev pub mark : Statement → Marked
@@ -43,52 +46,56 @@ words_many : (i : ℕ) (places : List ℕ) (bs : List Binder) → length (words_
 words_many i places [] = refl
 words_many i places (b ∷ bs) = ap suc (words_many (suc i) (if b.bound then places ++ i ∷ [] else places) bs)
 
-module _ (ss : List Statement) (p : Parts) (h : HasWritten ss p) where
+module _ (gaps : Bool) (ss : List Statement) (p : Parts) (h : HasWritten gaps ss p) where
   pub counted : HaveNoMore p (declared ss)
-  counted = subst (HaveNoMore p) (marked_declared ss) (rows-counted p (marked ss) (list_spelled (marked ss)) h.says)
+  counted = subst (HaveNoMore p) (marked_declared ss) (rows-counted gaps p (marked ss) (list_spelled (marked ss)) h.says)
 
-  grown : (p' : Parts) (s : Statement) (w : Written) → HasOneMore p p' s.decl w
-      → IsWrittenStatement p' (declared ss) (mark s) (statement_spelled (mark s)) w
-      → cost_of p' ≤ cost_of p + 32 * statement_weight (declared ss) s → HasWritten (ss ++ s ∷ []) p'
-  grown p' s w more said cost = record {
+  grown : (p' : Parts) (s : Statement) (w : Written) → HasOneMore p p' s.decl w → p'.statements ≡ p.statements ++ w ∷ []
+      → StatementUses s.decl s.proof w.body
+      → IsWrittenStatement gaps p' (declared ss) (mark s) (statement_spelled (mark s)) w
+      → cost_of p' ≤ cost_of p + 32 * statement_weight (declared ss) s → HasWritten gaps (ss ++ s ∷ []) p'
+  grown p' s w more listed using said cost = record {
     says =
-        let there = subst (λ env. IsWrittenStatement p' env (mark s) (statement_spelled (mark s)) w) (sym (marked_declared ss)) said in
-        let all = writing-grows p p' (marked ss) (list_spelled (marked ss)) (mark s) (statement_spelled (mark s)) w h.says more there in
+        let there = subst (λ env. IsWrittenStatement gaps p' env (mark s) (statement_spelled (mark s)) w) (sym (marked_declared ss)) said in
+        let all = writing-grows gaps p p' (marked ss) (list_spelled (marked ss)) (mark s) (statement_spelled (mark s)) w h.says more there in
         let spelled : list_spelled (marked ss) ++ statement_spelled (mark s) ∷ [] ≡ list_spelled (marked (ss ++ s ∷ []))
         = sym (spelled_more (marked ss) (mark s)) ∙ ap list_spelled (sym (marked_more ss s)) in
-        subst (λ ts. IsWrittenAs p' ts (list_spelled (marked (ss ++ s ∷ [])))) (sym (marked_more ss s))
-        (subst (IsWrittenAs p' (marked ss ++ mark s ∷ [])) spelled all);
+        subst (λ ts. IsWrittenAs gaps p' ts (list_spelled (marked (ss ++ s ∷ [])))) (sym (marked_more ss s))
+        (subst (IsWrittenAs gaps p' (marked ss ++ mark s ∷ [])) spelled all);
+    uses = subst (SayTheirUses (ss ++ s ∷ [])) (sym listed) (uses_more ss p.statements s w h.uses using);
     short = short_more p p' ss s h.short cost;
   }
 
   module _ (s : Statement) where
     stated : (p' : Parts) (w : Written) → HasKind w.code (statement_spelled (mark s))
-        → IsWrittenDeclaration p' (declared ss) s.is_local s.decl (decl_spelled s.decl) w.body
-        → IsWrittenStatement p' (declared ss) (mark s) (statement_spelled (mark s)) w
+        → IsWrittenDeclaration gaps p' (declared ss) s.is_local s.decl (decl_spelled s.decl) w.body
+        → IsWrittenStatement gaps p' (declared ss) (mark s) (statement_spelled (mark s)) w
     stated p' w kind said = record { mark = refl; code = kind; declaration = said }
 
-    pub sort_next : (m : SortMods) → s.decl ≡ sort_decl m → s.is_local ≡ false → HasWritten (ss ++ s ∷ []) (with_sort p m.0)
+    pub sort_next : (m : SortMods) → s.decl ≡ sort_decl m → s.is_local ≡ false → HasWritten gaps (ss ++ s ∷ []) (with_sort p m.0)
     sort_next m e unmarked =
         let w : Written = record { code = 0x04; body = [] } in
         grown (with_sort p m.0) s w
-        (subst (λ d. HasOneMore p (with_sort p m.0) d w) (sym e) (m.0, refl))
+        (subst (λ d. HasOneMore p (with_sort p m.0) d w) (sym e) (m.0, refl)) refl
+        (subst (λ d. StatementUses d s.proof []) (sym e) tt)
         (stated (with_sort p m.0) w
         (subst (λ d. HasKind 0x04 (record { is_local = s.is_local; decl = decl_spelled d })) (sym e) (refl, unmarked))
-        (subst (λ d. IsWrittenDeclaration (with_sort p m.0) (declared ss) s.is_local d (decl_spelled d) []) (sym e)
+        (subst (λ d. IsWrittenDeclaration gaps (with_sort p m.0) (declared ss) s.is_local d (decl_spelled d) []) (sym e)
         (refl, (appended-next p (declared ss) counted).0 m.0, refl)))
         (omega (arith, sort_more p w m.0))
 
     pub plain_next : (sg : Signature) → s.decl ≡ term_decl (record { signature = sg; form = plain_form }) → s.is_local ≡ false
         → SaySignature (sorts (declared ss)) (words_of sg.params) (result_word sg.params sg.result) sg
-        → HasWritten (ss ++ s ∷ []) (with_term p (row_of_term (words_of sg.params) (result_word sg.params sg.result) None) (record { code = 0x05; body = [] }))
+        → HasWritten gaps (ss ++ s ∷ []) (with_term p (row_of_term (words_of sg.params) (result_word sg.params sg.result) None) (record { code = 0x05; body = [] }))
     plain_next sg e unmarked say =
         let w : Written = record { code = 0x05; body = [] } in
         let r : Row = row_of_term (words_of sg.params) (result_word sg.params sg.result) None in
         grown (with_term p r w) s w
-        (subst (λ d. HasOneMore p (with_term p r w) d w) (sym e) (r, refl))
+        (subst (λ d. HasOneMore p (with_term p r w) d w) (sym e) (r, refl)) refl
+        (subst (λ d. StatementUses d s.proof []) (sym e) tt)
         (stated (with_term p r w) w
         (subst (λ d. HasKind 0x05 (record { is_local = s.is_local; decl = decl_spelled d })) (sym e) (inl refl, unmarked))
-        (subst (λ d. IsWrittenDeclaration (with_term p r w) (declared ss) s.is_local d (decl_spelled d) []) (sym e)
+        (subst (λ d. IsWrittenDeclaration gaps (with_term p r w) (declared ss) s.is_local d (decl_spelled d) []) (sym e)
         ((refl, tt), (words_of sg.params, result_word sg.params sg.result, say, ((appended-next p (declared ss) counted).1 r, unmarked, refl)))))
         (omega (arith, term_more p w r, ap declaration_weight e, length-append (words_of sg.params) (result_word sg.params sg.result ∷ []), words_many 0 [] sg.params))
 
@@ -97,27 +104,28 @@ module _ (ss : List Statement) (p : Parts) (h : HasWritten ss p) where
         → SaySignature (sorts (declared ss)) (words_of sg.params) (result_word sg.params sg.result) sg
         → IsSameForm sg.params (defined dummies body) (form_spelled sg.params (defined dummies body))
         → SaysDefinition (declared ss) sg.params dummies body stream bytes
-        → HasWritten (ss ++ s ∷ []) (with_term p (row_of_term (words_of sg.params) (result_word sg.params sg.result) (Some stream)) (record { code = code; body = bytes }))
+        → HasWritten gaps (ss ++ s ∷ []) (with_term p (row_of_term (words_of sg.params) (result_word sg.params sg.result) (Some stream)) (record { code = code; body = bytes }))
     definition_next sg dummies body code stream bytes e kind say same says =
         let w : Written = record { code = code; body = bytes } in
         let r : Row = row_of_term (words_of sg.params) (result_word sg.params sg.result) (Some stream) in
         grown (with_term p r w) s w
-        (subst (λ d. HasOneMore p (with_term p r w) d w) (sym e) (r, refl))
+        (subst (λ d. HasOneMore p (with_term p r w) d w) (sym e) (r, refl)) refl
+        (subst (λ d. StatementUses d s.proof bytes) (sym e) tt)
         (stated (with_term p r w) w
         (subst (λ d. HasKind code (record { is_local = s.is_local; decl = decl_spelled d })) (sym e) kind)
-        (subst (λ d. IsWrittenDeclaration (with_term p r w) (declared ss) s.is_local d (decl_spelled d) bytes) (sym e)
-        ((refl, same), (words_of sg.params, result_word sg.params sg.result, say, (stream, (appended-next p (declared ss) counted).1 r, says.text, says.makes)))))
+        (subst (λ d. IsWrittenDeclaration gaps (with_term p r w) (declared ss) s.is_local d (decl_spelled d) bytes) (sym e)
+        ((refl, same), (words_of sg.params, result_word sg.params sg.result, say, (stream, (appended-next p (declared ss) counted).1 r, says.text, says.makes gaps)))))
         (omega (arith, term_more p w r, ap declaration_weight e, length-append (words_of sg.params) (result_word sg.params sg.result ∷ []), words_many 0 [] sg.params, says.short))
 
-    pub assertion_next : (a : Assertion) (dummies : List Binder) (weight code : ℕ) (stream bytes : List ℕ)
+    pub assertion_next : (a : Assertion) (dummies : List Binder) (code : ℕ) (stream bytes : List ℕ)
         → s.decl ≡ assertion_decl a → HasKind code (record { is_local = s.is_local; decl = assertion_decl a })
         → SayParams (sorts (declared ss)) (words_of a.params) a.params → Each dummies (λ _ b. b.deps ≡ [])
-        → SaysAssertion (declared ss) a dummies weight stream bytes → weight ≤ stated_weight (declared ss) s.proof
-        → HasWritten (ss ++ s ∷ []) (with_thm p (row_of_thm (words_of a.params) stream) (record { code = code; body = bytes }))
-    assertion_next a dummies weight code stream bytes e kind say free says light =
+        → SaysAssertion gaps (declared ss) a dummies s.proof stream bytes
+        → HasWritten gaps (ss ++ s ∷ []) (with_thm p (row_of_thm (words_of a.params) stream) (record { code = code; body = bytes }))
+    assertion_next a dummies code stream bytes e kind say free says =
         let w : Written = record { code = code; body = bytes } in
         let r : Row = row_of_thm (words_of a.params) stream in
-        let said : IsWrittenAssertion (with_thm p r w) (declared ss) a bytes = record {
+        let said : IsWrittenAssertion gaps (with_thm p r w) (declared ss) a bytes = record {
           words = words_of a.params;
           stream = stream;
           row = (appended-next p (declared ss) counted).2 r;
@@ -128,8 +136,9 @@ module _ (ss : List Statement) (p : Parts) (h : HasWritten ss p) where
           body = says.makes;
         } in
         grown (with_thm p r w) s w
-        (subst (λ d. HasOneMore p (with_thm p r w) d w) (sym e) (r, refl))
+        (subst (λ d. HasOneMore p (with_thm p r w) d w) (sym e) (r, refl)) refl
+        (subst (λ d. StatementUses d s.proof bytes) (sym e) says.uses)
         (stated (with_thm p r w) w
         (subst (λ d. HasKind code (record { is_local = s.is_local; decl = decl_spelled d })) (sym e) kind)
-        (subst (λ d. IsWrittenDeclaration (with_thm p r w) (declared ss) s.is_local d (decl_spelled d) bytes) (sym e) (refl, said)))
-        (omega (arith, thm_more p w r, ap declaration_weight e, words_many 0 [] a.params, says.short, light))
+        (subst (λ d. IsWrittenDeclaration gaps (with_thm p r w) (declared ss) s.is_local d (decl_spelled d) bytes) (sym e) (refl, said)))
+        (omega (arith, thm_more p w r, ap declaration_weight e, words_many 0 [] a.params, says.short, stated_same (declared ss) s.proof))

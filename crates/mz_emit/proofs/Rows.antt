@@ -1,5 +1,5 @@
 -- The rows of one statement more.
-use Rattle.std.proofs.Common.{ℕ, ◌≡◌, List, [], ◌∷◌, ◌++◌, ◌∙◌, ◌⊎◌, map, refl, sym, subst, ap, arith, append-nil}
+use Rattle.std.proofs.Common.{ℕ, ◌≡◌, Bool, List, [], ◌∷◌, ◌++◌, ◌∙◌, ◌⊎◌, map, take, refl, sym, subst, ap, append-nil}
 use Rattle.std.specs.Prelude.{Option, Some, None, option_map}
 use Rattle.std.specs.Borrow.{Bor}
 use Rattle.mz_logic.specs.Tree.{Tree, none, more}
@@ -14,18 +14,17 @@ use Rattle.mz_mmu.specs.Proof.{Proof, Statement}
 use Rattle.mz_mmu.specs.ProofView.{proof_view}
 use Rattle.mz_mmu.specs.declared.proof.Proof.{Proof as Coded}
 use Rattle.mz_type.specs.Answers.{stated}
-use Rattle.mz_type.specs.TypedText.{declared}
+use Rattle.mz_type.specs.TypedText.{statement_at, declared}
 use Rattle.mz_binary.specs.Spelling.{HasKind, is_local_code}
 use Rattle.mz_writing.proofs.WordsSay.{words-say-params}
 use Rattle.mz_logic.specs.Words.{signatures_of}
 use Rattle.mz_shared.specs.Rows.{words_of_row}
 use Rattle.mz_shared.specs.declared.table.Table.{Table}
 use Rattle.mz_claims.specs.Laws.{StatedProofsAreSound}
-use Rattle.mz_emit.specs.Emitting.{IsConcrete, MayFollow, with_sort, with_term, with_thm, term_row, thm_row, definition_code, assertion_code, SaysDefinition, SaysAssertion, IsProvedBy, body_weight, HasWritten, table_of, HasRows}
+use Rattle.mz_emit.specs.Emitting.{IsConcrete, MayFollow, with_sort, with_term, with_thm, term_row, thm_row, definition_code, assertion_code, SaysDefinition, SaysAssertion, IsProvedBy, HasWritten, table_of, HasRows, IsNext}
 use Rattle.mz_emit.specs.declared.emitter.Emitter.{Emitter}
 use Rattle.mz_emit.proofs.Saying.{definition_kind, term_words, same_form, thm_words, sort_unmarked, plain_unmarked, thm_kind, definition_can, assertion_can, proof_can, axiom_is}
 use Rattle.mz_emit.proofs.OneMore.{sort_next, plain_next, definition_next, assertion_next}
-use Rattle.mz_emit.proofs.Weights.{stated_same}
 
 pub declared_more : (ss : List Statement) (s : Statement) → declared (ss ++ s ∷ []) ≡ declared ss ++ s.decl ∷ []
 declared_more [] s = refl
@@ -52,18 +51,18 @@ pub stated_view : (o : Option (Bor Coded)) → option_map (λ p. proof_view p.no
 stated_view None = refl
 stated_view (Some p) = refl
 
-module _ (b : List Statement) (s : Statement) (follows : MayFollow b s) where
+module _ (gaps : Bool) (b : List Statement) (s : Statement) (follows : MayFollow gaps b s) where
   pub proved_by : StatedProofsAreSound → (a : Assertion) → s.decl ≡ assertion_decl a → (q : Option Proof) → s.proof ≡ q
-      → IsProvedBy (declared b) (a.params ++ s.dummies) a q
-  proved_by sound a is None some = axiom_is b s follows a is some
+      → IsProvedBy gaps (declared b) (a.params ++ s.dummies) a q
+  proved_by sound a is None some = axiom_is gaps b s follows a is some
   proved_by sound a is (Some p) some =
-      let can = proof_can b s follows a is p some in
-      let by = sound (declared b) follows.legal_env (a.params ++ s.dummies) a p can.1 can.2 in
+      let can = proof_can gaps b s follows a is p some in
+      let by = sound gaps (declared b) follows.legal_env (a.params ++ s.dummies) a p can.1 can.2 can.3 in
       (can.0, by.0, by.1)
 
-  module _ (e e' : Emitter) (rows : HasRows b e) where
-    next : HasWritten (b ++ s ∷ []) e'.writer → e'.table.sorts.items ≡ e.table.sorts.items ++ sorts (s.decl ∷ [])
-        → table_of e' ≡ table_of e ++ signatures (s.decl ∷ []) → HasRows (b ++ s ∷ []) e'
+  module _ (e e' : Emitter) (rows : HasRows gaps b e) where
+    next : HasWritten gaps (b ++ s ∷ []) e'.writer → e'.table.sorts.items ≡ e.table.sorts.items ++ sorts (s.decl ∷ [])
+        → table_of e' ≡ table_of e ++ signatures (s.decl ∷ []) → HasRows gaps (b ++ s ∷ []) e'
     next written more_sorts more_terms = record {
       written = written;
       sorts_are = more_sorts ∙ ap (λ xs. xs ++ sorts (s.decl ∷ [])) rows.sorts_are ∙ sym (sorts-append (declared b) (s.decl ∷ [])) ∙ ap sorts (sym (declared_more b s));
@@ -72,18 +71,18 @@ module _ (b : List Statement) (s : Statement) (follows : MayFollow b s) where
     }
 
     pub sort_rows : (m : SortMods) → s.decl ≡ sort_decl m → e'.writer ≡ with_sort e.writer m.0 → e'.table.sorts.items ≡ e.table.sorts.items ++ m ∷ []
-        → e'.table.terms.items ≡ e.table.terms.items → HasRows (b ++ s ∷ []) e'
+        → e'.table.terms.items ≡ e.table.terms.items → HasRows gaps (b ++ s ∷ []) e'
     sort_rows m is writer grew same =
-        next (subst (HasWritten (b ++ s ∷ [])) (sym writer) (sort_next b e.writer rows.written s m is (sort_unmarked b s follows m is)))
+        next (subst (HasWritten gaps (b ++ s ∷ [])) (sym writer) (sort_next gaps b e.writer rows.written s m is (sort_unmarked gaps b s follows m is)))
         (grew ∙ ap (λ d. e.table.sorts.items ++ sorts (d ∷ [])) (sym is))
         (ap (λ rs. signatures_of (map words_of_row rs)) same ∙ sym (append-nil (table_of e)) ∙ ap (λ d. table_of e ++ signatures (d ∷ [])) (sym is))
 
     pub plain_rows : (sg : Signature) → s.decl ≡ term_decl (record { signature = sg; form = plain_form })
         → e'.writer ≡ with_term e.writer (term_row sg None) (record { code = 0x05; body = [] }) → e'.table.sorts.items ≡ e.table.sorts.items
-        → table_of e' ≡ table_of e ++ sg ∷ [] → HasRows (b ++ s ∷ []) e'
+        → table_of e' ≡ table_of e ++ sg ∷ [] → HasRows gaps (b ++ s ∷ []) e'
     plain_rows sg is writer same grew =
-        next (subst (HasWritten (b ++ s ∷ [])) (sym writer)
-        (plain_next b e.writer rows.written s sg is (plain_unmarked b s follows sg is) (term_words b s follows sg plain_form is).say))
+        next (subst (HasWritten gaps (b ++ s ∷ [])) (sym writer)
+        (plain_next gaps b e.writer rows.written s sg is (plain_unmarked gaps b s follows sg is) (term_words gaps b s follows sg plain_form is).say))
         (same ∙ sym (append-nil e.table.sorts.items) ∙ ap (λ d. e.table.sorts.items ++ sorts (d ∷ [])) (sym is))
         (grew ∙ ap (λ d. table_of e ++ signatures (d ∷ [])) (sym is))
 
@@ -91,25 +90,32 @@ module _ (b : List Statement) (s : Statement) (follows : MayFollow b s) where
         → s.decl ≡ term_decl (record { signature = sg; form = defined dummies body }) → code ≡ definition_code s.is_local
         → SaysDefinition (declared b) sg.params dummies body stream bytes
         → e'.writer ≡ with_term e.writer (term_row sg (Some stream)) (record { code = code; body = bytes }) → e'.table.sorts.items ≡ e.table.sorts.items
-        → table_of e' ≡ table_of e ++ sg ∷ [] → HasRows (b ++ s ∷ []) e'
+        → table_of e' ≡ table_of e ++ sg ∷ [] → HasRows gaps (b ++ s ∷ []) e'
     definition_rows sg dummies body code stream bytes is code_is says writer same grew =
         let kind = subst (λ n. ((n ≡ 0x05) ⊎ (n ≡ 0x0D)) × (s.is_local ≡ is_local_code n)) (sym code_is) (definition_kind s.is_local) in
-        next (subst (HasWritten (b ++ s ∷ [])) (sym writer)
-        (definition_next b e.writer rows.written s sg dummies body code stream bytes is kind (term_words b s follows sg (defined dummies body) is).say
-        (same_form b s follows sg dummies body (definition_can b s follows sg dummies body is)) says))
+        next (subst (HasWritten gaps (b ++ s ∷ [])) (sym writer)
+        (definition_next gaps b e.writer rows.written s sg dummies body code stream bytes is kind (term_words gaps b s follows sg (defined dummies body) is).say
+        (same_form gaps b s follows sg dummies body (definition_can gaps b s follows sg dummies body is)) says))
         (same ∙ sym (append-nil e.table.sorts.items) ∙ ap (λ d. e.table.sorts.items ++ sorts (d ∷ [])) (sym is))
         (grew ∙ ap (λ d. table_of e ++ signatures (d ∷ [])) (sym is))
 
     pub assertion_rows : (a : Assertion) (code : ℕ) (stream bytes : List ℕ) → s.decl ≡ assertion_decl a → code ≡ assertion_code a.is_axiom s.is_local
-        → SaysAssertion (declared b) a s.dummies (body_weight (declared b) s.proof) stream bytes
-        → e'.writer ≡ with_thm e.writer (thm_row a stream) (record { code = code; body = bytes }) → e'.table ≡ e.table → HasRows (b ++ s ∷ []) e'
+        → SaysAssertion gaps (declared b) a s.dummies s.proof stream bytes
+        → e'.writer ≡ with_thm e.writer (thm_row a stream) (record { code = code; body = bytes }) → e'.table ≡ e.table → HasRows gaps (b ++ s ∷ []) e'
     assertion_rows a code stream bytes is code_is says writer same =
-        let kind = subst (λ n. HasKind n (record { is_local = s.is_local; decl = assertion_decl a })) (sym code_is) (thm_kind b s follows a is) in
-        let can = assertion_can b s follows a is in
-        next (subst (HasWritten (b ++ s ∷ [])) (sym writer)
-        (assertion_next b e.writer rows.written s a s.dummies (body_weight (declared b) s.proof) code stream bytes is kind
-        (words-say-params (sorts (declared b)) a.params (thm_words b s follows a is))
-        (λ i d at. (each_from_all IsDummy s.dummies can.ready.dummies_are i d at).1) says
-        (let e = stated_same (declared b) s.proof in omega (arith, e))))
+        let kind = subst (λ n. HasKind n (record { is_local = s.is_local; decl = assertion_decl a })) (sym code_is) (thm_kind gaps b s follows a is) in
+        let can = assertion_can gaps b s follows a is in
+        next (subst (HasWritten gaps (b ++ s ∷ [])) (sym writer)
+        (assertion_next gaps b e.writer rows.written s a s.dummies code stream bytes is kind
+        (words-say-params (sorts (declared b)) a.params (thm_words gaps b s follows a is))
+        (λ i d at. (each_from_all IsDummy s.dummies can.ready.dummies_are i d at).1) says))
         (ap (λ (t : Table). t.sorts.items) same ∙ sym (append-nil e.table.sorts.items) ∙ ap (λ d. e.table.sorts.items ++ sorts (d ∷ [])) (sym is))
         (ap (λ (t : Table). signatures_of (map words_of_row t.terms.items)) same ∙ sym (append-nil (table_of e)) ∙ ap (λ d. table_of e ++ signatures (d ∷ [])) (sym is))
+
+-- the i-th statement, an axiom or a theorem, is proved over what the emitter has declared
+pub proved_here : (ss : List Statement) (i : ℕ) (e : Emitter) (gaps : Bool) → IsNext gaps ss i e → StatedProofsAreSound → (a : Assertion) → (statement_at ss i).decl ≡ assertion_decl a
+    → (ds : List Binder) → (statement_at ss i).dummies ≡ ds → (q : Option Proof) → (statement_at ss i).proof ≡ q → IsProvedBy gaps e.env (a.params ++ ds) a q
+proved_here ss i e gaps next sound a is ds dummies q proof =
+    subst (λ (env : List Declaration). IsProvedBy gaps env (a.params ++ ds) a q) (sym next.before.env)
+    (subst (λ (xs : List Binder). IsProvedBy gaps (declared (take i ss)) (a.params ++ xs) a q) dummies
+    (proved_by gaps (take i ss) (statement_at ss i) next.follows sound a is q proof))

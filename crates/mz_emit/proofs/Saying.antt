@@ -18,6 +18,7 @@ use Rattle.mz_logic.specs.declared.binder.SortMods.{SortMods}
 use Rattle.mz_logic.proofs.Lists.{each_from_all}
 use Rattle.mz_logic.proofs.PlainLegality.{assertions_are_sorted, terms_are_sorted}
 use Rattle.mz_soundness.specs.Premises.{bound_count as bound_in}
+use Rattle.mz_mmu.specs.Gaps.{LeavesOnly, SomeLeavesOnly}
 use Rattle.mz_mmu.specs.Laws.{Ascends, HasNoProof, HasItsProof}
 use Rattle.mz_mmu.specs.Proof.{Statement, Proof}
 use Rattle.mz_type.specs.Meaning.{IsProofOf, IsProvedAsStated}
@@ -89,7 +90,7 @@ kinds a x is b h = kind_of_code a.is_axiom b h
 
 -- ---- what is ready
 
-module _ (before : List Statement) (s : Statement) (h : MayFollow before s) where
+module _ (gaps : Bool) (before : List Statement) (s : Statement) (h : MayFollow gaps before s) where
   env_short : length (declared before) ≤ 134217725
   env_short = omega (arith, few_declared [] before, h.light)
 
@@ -171,7 +172,7 @@ module _ (before : List Statement) (s : Statement) (h : MayFollow before s) wher
   some_dummies a p there are = record { there = there.1; may = λ i b at. (are i b at).1 }
 
   its_dummies : (a : Assertion) (b : Bool) → a.is_axiom ≡ b → MatchBool b (HasNoProof s) ((p : Proof) × (s.proof ≡ Some p)) → StatedProofThere (declared before) a s.dummies s.proof
-      → IsProvedAsStated (declared before) (assertion_decl a) s.dummies s.proof → HasDummies s.dummies
+      → IsProvedAsStated gaps (declared before) (assertion_decl a) s.dummies s.proof → HasDummies s.dummies
   its_dummies a true is bare there proved = no_dummies s.dummies bare.0
   its_dummies a false is (p, some) there proved =
       some_dummies a p (subst (StatedProofThere (declared before) a s.dummies) some there) (proved is).0
@@ -180,8 +181,8 @@ module _ (before : List Statement) (s : Statement) (h : MayFollow before s) wher
     its_there : DeclThere (declared before) (assertion_decl a) s.dummies s.proof
     its_there = subst (λ d. DeclThere (declared before) d s.dummies s.proof) is h.there.0
 
-    its_proof : IsProvedAsStated (declared before) (assertion_decl a) s.dummies s.proof
-    its_proof = subst (λ d. IsProvedAsStated (declared before) d s.dummies s.proof) is h.legal.2
+    its_proof : IsProvedAsStated gaps (declared before) (assertion_decl a) s.dummies s.proof
+    its_proof = subst (λ d. IsProvedAsStated gaps (declared before) d s.dummies s.proof) is h.legal.2
 
     pub has_dummies : HasDummies s.dummies
     has_dummies = its_dummies a a.is_axiom refl (subst (λ d. HasItsProof d s) is h.whole.has_proof) its_there.3 its_proof
@@ -199,13 +200,14 @@ module _ (before : List Statement) (s : Statement) (h : MayFollow before s) wher
           short = omega (arith, h.light, ap declaration_weight is, few_nodes a.hyps);
         }
 
-    pub proof_can : (p : Proof) → s.proof ≡ Some p → (a.is_axiom ≡ false) × IsProofOf (declared before) (a.params ++ s.dummies) a p
+    pub proof_can : (p : Proof) → s.proof ≡ Some p → (a.is_axiom ≡ false) × IsProofOf gaps (declared before) (a.params ++ s.dummies) a p
+        × LeavesOnly (gaps ≡ true) p
         × ProofThere (length (signatures (declared before))) (length (a.params ++ s.dummies)) (length (assertions (declared before))) (length (listed a.hyps)) 0 p
     proof_can p some =
         let there = subst (StatedProofThere (declared before) a s.dummies) some its_there.3 in
         let q = (its_proof there.0).1 in
         let same : q.0 ≡ p = let n : Some q.0 ≡ Some p = sym q.1 ∙ some in cc in
-        (there.0, subst (IsProofOf (declared before) (a.params ++ s.dummies) a) same q.2, there.2)
+        (there.0, subst (IsProofOf gaps (declared before) (a.params ++ s.dummies) a) same q.2, subst (SomeLeavesOnly (gaps ≡ true)) some h.has_gaps, there.2)
 
     pub axiom_is : s.proof ≡ None → a.is_axiom ≡ true
     axiom_is bare = subst (StatedProofThere (declared before) a s.dummies) bare its_there.3

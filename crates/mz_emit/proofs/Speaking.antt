@@ -35,9 +35,11 @@ use Rattle.mz_shared.specs.Variables.{IsShared}
 use Rattle.mz_shared.proofs.Making.{tree_grown}
 use Rattle.mz_shared.proofs.Owned.{reach_of_sort}
 use Rattle.mz_spell.specs.Params.{HasParams}
-use Rattle.mz_bodies.specs.Claims.{IsSound}
+use Rattle.mz_bodies.specs.Claims.{IsSound, proved}
 use Rattle.mz_bodies.specs.Stages.{HasDummiesBehind}
 use Rattle.mz_emit.proofs.Saying.{few_nodes}
+use Rattle.mz_emit.proofs.Using.{used_as_stated}
+use Rattle.mz_emit.specs.Gapped.{SaysItsUses}
 use Rattle.mz_emit.specs.Emitting.{AreReady, CanBeDefined, CanBeAsserted, SaysDefinition, SaysAssertion, IsProvedBy, IsSoundIfStated, body_weight, MakesBody}
 
 -- ---- counts of bound variables
@@ -98,7 +100,7 @@ held_after s s' i e grows (inside, holds) = tree_grown s s' grows i inside ∙ h
 -- ---- definitions
 
 pub definition_says : (env : List Declaration) (ps ds : List Binder) (e t : Tree) (stream bytes : List ℕ) → CanBeDefined env ps ds e → t ≡ e
-    → stream ≡ stream_of (definition_written ps ds t).commands → IsSharedBody env is_definition ps ds t [] bytes → length bytes ≤ 6 * size t + 1 → SaysDefinition env ps ds e stream bytes
+    → stream ≡ stream_of (definition_written ps ds t).commands → ((gaps : Bool) → IsSharedBody gaps env is_definition ps ds t [] bytes) → length bytes ≤ 6 * size t + 1 → SaysDefinition env ps ds e stream bytes
 definition_says env ps ds e t stream bytes can is spelled makes short = record {
   text =
       let short_ones = definitions-short (signatures env) ps ds e can.ready.small can.sorted can.short in
@@ -110,7 +112,7 @@ definition_says env ps ds e t stream bytes can is spelled makes short = record {
         spells = definitions-written (signatures env) ps ds e can.sorted short_ones;
         shares = definitions-shared (signatures env) ps ds e can.sorted short_ones;
       });
-  makes = subst (λ x. IsSharedBody env is_definition ps ds x [] bytes) is makes;
+  makes = λ gaps. subst (λ x. IsSharedBody gaps env is_definition ps ds x [] bytes) is (makes gaps);
   short =
       let stream_short = definitions-bounded (signatures env) ps ds e can.ready.small can.sorted in
       let same : length stream ≡ length (stream_of (definition_written ps ds e).commands) = ap length spelled ∙ ap (λ x. length (stream_of (definition_written ps ds x).commands)) is in
@@ -155,23 +157,33 @@ module _ (env : List Declaration) (a : Assertion) (ds : List Binder) (can : CanB
   hyps_provable ctx hs at is = subst (λ c. AreProvable env c hs) (sym at) (subst (AreProvable env (a.params ++ ds)) (sym is)
       (λ i e here. let p = can.hyps i e here in (p.0, longer env a.params ds e p.0 p.1, p.2)))
 
-  pub sound_there : (q : Option Proof) (ctx : List Binder) (hs : Trees) → ctx ≡ a.params ++ ds → hs ≡ a.hyps → IsProvedBy env (a.params ++ ds) a q
-      → IsSoundIfStated env ctx (listed hs) q
-  sound_there None ctx hs at is by = tt
-  sound_there (Some p) ctx hs at is by =
-      subst (λ c. IsSound env c (listed hs) [] p) (sym at) (subst (λ xs. IsSound env (a.params ++ ds) (listed xs) [] p) (sym is) by.1)
+  pub sound_there : (gaps : Bool) (q : Option Proof) (ctx : List Binder) (hs : Trees) → ctx ≡ a.params ++ ds → hs ≡ a.hyps → IsProvedBy gaps env (a.params ++ ds) a q
+      → IsSoundIfStated gaps env ctx (listed hs) q
+  sound_there gaps None ctx hs at is by = tt
+  sound_there gaps (Some p) ctx hs at is by =
+      subst (λ c. IsSound gaps env c (listed hs) [] p) (sym at) (subst (λ xs. IsSound gaps env (a.params ++ ds) (listed xs) [] p) (sym is) by.1)
 
-  made : (q : Option Proof) (bytes : List ℕ) → IsProvedBy env (a.params ++ ds) a q → MakesBody env q a.params ds a.conclusion (listed a.hyps) bytes
-      → IsSharedBody env (kind_of a.is_axiom) a.params ds a.conclusion (listed a.hyps) bytes
-  made None bytes by makes = subst (λ b. IsSharedBody env (kind_of b) a.params ds a.conclusion (listed a.hyps) bytes) (sym by) makes
-  made (Some p) bytes by makes =
-      subst (λ b. IsSharedBody env (kind_of b) a.params ds a.conclusion (listed a.hyps) bytes) (sym by.0)
-      (subst (λ e. IsSharedBody env is_theorem a.params ds e (listed a.hyps) bytes) by.2 makes)
+  made : (gaps : Bool) (q : Option Proof) (bytes : List ℕ) → IsProvedBy gaps env (a.params ++ ds) a q → MakesBody gaps env q a.params ds a.conclusion (listed a.hyps) bytes
+      → IsSharedBody gaps env (kind_of a.is_axiom) a.params ds a.conclusion (listed a.hyps) bytes
+  made gaps None bytes by makes = subst (λ b. IsSharedBody gaps env (kind_of b) a.params ds a.conclusion (listed a.hyps) bytes) (sym by) makes
+  made gaps (Some p) bytes by makes =
+      subst (λ b. IsSharedBody gaps env (kind_of b) a.params ds a.conclusion (listed a.hyps) bytes) (sym by.0)
+      (subst (λ e. IsSharedBody gaps env is_theorem a.params ds e (listed a.hyps) bytes) by.2 makes.0)
 
-  pub assertion_says : (q : Option Proof) (t : Tree) (hs : Trees) (stream bytes : List ℕ) → IsProvedBy env (a.params ++ ds) a q → t ≡ a.conclusion → hs ≡ a.hyps
-      → stream ≡ stream_of (assertion_written a.params hs t).commands → MakesBody env q a.params ds t (listed hs) bytes
-      → length bytes ≤ 6 * (trees_size hs + size t + body_weight env q) + 1 → SaysAssertion env a ds (body_weight env q) stream bytes
-  assertion_says q t hs stream bytes by t_is hs_is spelled makes short = record {
+  using : (gaps : Bool) (q : Option Proof) (bytes : List ℕ) → IsProvedBy gaps env (a.params ++ ds) a q → MakesBody gaps env q a.params ds a.conclusion (listed a.hyps) bytes
+      → SaysItsUses a.is_axiom q bytes
+  using gaps None bytes by makes = by
+  using gaps (Some p) bytes by makes = (by.0, used_as_stated gaps env is_theorem a.params ds (proved env (listed a.hyps) [] p) (listed a.hyps) bytes p makes)
+
+  made_there : (gaps : Bool) (q : Option Proof) (t : Tree) (hs : Trees) (bytes : List ℕ) → t ≡ a.conclusion → hs ≡ a.hyps → MakesBody gaps env q a.params ds t (listed hs) bytes
+      → MakesBody gaps env q a.params ds a.conclusion (listed a.hyps) bytes
+  made_there gaps q t hs bytes t_is hs_is makes =
+      subst (λ x. MakesBody gaps env q a.params ds x (listed a.hyps) bytes) t_is (subst (λ xs. MakesBody gaps env q a.params ds t (listed xs) bytes) hs_is makes)
+
+  pub assertion_says : (gaps : Bool) (q : Option Proof) (t : Tree) (hs : Trees) (stream bytes : List ℕ) → IsProvedBy gaps env (a.params ++ ds) a q → t ≡ a.conclusion → hs ≡ a.hyps
+      → stream ≡ stream_of (assertion_written a.params hs t).commands → MakesBody gaps env q a.params ds t (listed hs) bytes
+      → length bytes ≤ 6 * (trees_size hs + size t + body_weight env q) + 1 → SaysAssertion gaps env a ds q stream bytes
+  assertion_says gaps q t hs stream bytes by t_is hs_is spelled makes short = record {
     text =
         let sorted = all_sorted env a.params a.hyps can.hyps in
         let small = small_front (signatures env) a.params ds can.ready.small in
@@ -186,7 +198,8 @@ module _ (env : List Declaration) (a : Assertion) (ds : List Binder) (can : CanB
           spells = assertions-written (signatures env) a.params a.hyps a.conclusion sorted one short_ones;
           shares = assertions-shared (signatures env) a.params a.hyps a.conclusion sorted one short_ones;
         });
-    makes = made q bytes by (subst (λ x. MakesBody env q a.params ds x (listed a.hyps) bytes) t_is (subst (λ xs. MakesBody env q a.params ds t (listed xs) bytes) hs_is makes));
+    makes = made gaps q bytes by (made_there gaps q t hs bytes t_is hs_is makes);
+    uses = using gaps q bytes by (made_there gaps q t hs bytes t_is hs_is makes);
     short =
         let one : Sorted (signatures env) a.params a.conclusion = (can.conclusion.0, can.conclusion.1) in
         let stream_short = assertions-bounded (signatures env) a.params a.hyps a.conclusion (small_front (signatures env) a.params ds can.ready.small) (all_sorted env a.params a.hyps can.hyps) one in

@@ -3,7 +3,7 @@ use Rattle.std.proofs.Common.{◌≡◌, List, Option, Some, None, refl, ap, ari
 use Rattle.mz_logic.specs.Tree.{size, instance, followed_by, variables}
 use Rattle.mz_logic.specs.Declaration.{Form, plain_form, abstract_form, defined, Declaration}
 use Rattle.mz_logic.specs.Conversions.{Conversion, Conversions, refl_conv, sym_conv, cong_conv, unfold_conv, gap_conv, no_convs, more_convs}
-use Rattle.mz_mmu.specs.Proof.{Proof, Proofs, by_hyp, by_name, by_citation, by_conv, by_let, no_proofs, more_proofs}
+use Rattle.mz_mmu.specs.Proof.{Proof, Proofs, by_hyp, by_name, by_citation, by_conv, by_let, by_gap, no_proofs, more_proofs}
 use Rattle.mz_type.specs.Sides.{term_at, body_tree}
 use Rattle.mz_type.specs.Weight.{conv_weight, convs_weight, proof_weight, proofs_weight, stated_weight}
 use Rattle.mz_bodies.specs.Costs.{body_tree as body_written}
@@ -36,6 +36,7 @@ module _ (env : List Declaration) where
     proof_same (by_citation T es ps) = omega (arith, proofs_same ps)
     proof_same (by_conv e c p) = omega (arith, conv_same c, proof_same p)
     proof_same (by_let p q) = omega (arith, proof_same p, proof_same q)
+    proof_same (by_gap e) = refl
 
     proofs_same : (ps : Proofs) → proofs_written env ps ≡ proofs_weight env ps
     proofs_same no_proofs = refl

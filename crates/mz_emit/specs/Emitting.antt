@@ -17,9 +17,10 @@ use Rattle.mz_unification.specs.Streams.{of_assertion, of_definition}
 use Rattle.mz_soundness.specs.Lists.{kind_of}
 use Rattle.mz_soundness.specs.Premises.{bound_count as bound_in}
 use Rattle.mz_soundness.specs.Tables.{is_axiom, is_theorem, is_definition}
+use Rattle.mz_mmu.specs.Gaps.{HasGapsOnly}
 use Rattle.mz_mmu.specs.Laws.{IsWhole}
 use Rattle.mz_mmu.specs.Proof.{Proof, Statement}
-use Rattle.mz_type.specs.Meaning.{IsLegalAsStated, marked}
+use Rattle.mz_type.specs.Meaning.{IsLegalAsStated, LegalAsStated, marked}
 use Rattle.mz_type.specs.Names.{StatementThere}
 use Rattle.mz_type.specs.TypedText.{statement_at, declared}
 use Rattle.mz_type.specs.Weight.{params_of, parameter_count, bound_count, statement_weight, weight_of}
@@ -31,10 +32,16 @@ use Rattle.mz_streams.specs.Writing.{body_spelled, dummies_spelled}
 use Rattle.mz_writing.specs.Writing.{SaySignature, IsWrittenAs}
 use Rattle.mz_shared.specs.Rows.{words_of_row}
 use Rattle.mz_bodies.specs.Claims.{IsSound, proved}
+use Rattle.mz_bodies.specs.Uses.{uses, IsBodyUsing}
 use Rattle.mz_bodies.specs.Weights.{proof_weight}
+use Rattle.mz_emit.specs.Gapped.{SaysItsUses, SayTheirUses}
 use Rattle.mz_emit.specs.declared.emitter.Emitter.{Emitter}
 
 -- ---- what is asked of a statement
+
+-- the statements are legal as stated, with gaps only where these are let through
+abbrev pub IsLegalWith : Bool → List Statement → Type 0
+IsLegalWith gaps ss = LegalAsStated gaps ss × All (HasGapsOnly (gaps ≡ true)) ss
 
 -- a definition has its body
 abbrev pub IsConcrete : Form → Type 0
@@ -48,12 +55,13 @@ IsStated (sort_decl m) = m.0 < 16
 IsStated (term_decl d) = IsConcrete d.form
 IsStated (assertion_decl _) = ⊤
 
--- the statement may follow these, and no limit is passed by it
-pub record MayFollow (before : List Statement) (s : Statement) : Type 0 where
-  pub legal : IsLegalAsStated (declared before) s
+-- the statement may follow these, with gaps or without, and no limit is passed by it
+pub record MayFollow (gaps : Bool) (before : List Statement) (s : Statement) : Type 0 where
+  pub legal : IsLegalAsStated gaps (declared before) s
   pub legal_env : IsLegalEnv (declared before)
   pub there : StatementThere (declared before) s
   pub whole : IsWhole s
+  pub has_gaps : HasGapsOnly (gaps ≡ true) s
   pub stated : IsStated s.decl
   pub words : CanBeWords (sorts (declared before)) (params_of s.decl)
   pub few_params : parameter_count s ≤ 65535
@@ -119,47 +127,52 @@ assertion_code true is_local = 0x02
 assertion_code false true = 0x0E
 assertion_code false false = 0x06
 
--- the stream spells the definition, and the body makes it; both share what they build, and are in proportion to it
+-- the stream spells the definition, and the body makes it, in which no gap can stand; both share what they build, and
+-- are in proportion to it
 pub record SaysDefinition (env : List Declaration) (params dummies : List Binder) (e : Tree) (stream body : List ℕ) : Type 0 where
   pub text : IsSharedText of_definition (signatures env) params stream none (body_spelled params dummies e) (dummies_spelled params dummies e)
-  pub makes : IsSharedBody env is_definition params dummies e [] body
+  pub makes : (gaps : Bool) → IsSharedBody gaps env is_definition params dummies e [] body
   pub short : length stream + length body ≤ 11 * size e + 2
 
--- the same of an axiom, or of a theorem whose proof has this weight
-pub record SaysAssertion (env : List Declaration) (a : Assertion) (dummies : List Binder) (weight : ℕ) (stream body : List ℕ) : Type 0 where
-  pub text : IsSharedText of_assertion (signatures env) a.params stream a.hyps a.conclusion []
-  pub makes : IsSharedBody env (kind_of a.is_axiom) a.params dummies a.conclusion (listed a.hyps) body
-  pub short : length stream + length body ≤ 16 * (trees_size a.hyps + size a.conclusion + weight) + 2
-
 -- the stated proof, if there is one, is sound and proves the assertion, which else is an axiom
-abbrev pub IsProvedBy : List Declaration → List Binder → Assertion → Option Proof → Type 0
-IsProvedBy env ctx a None = a.is_axiom ≡ true
-IsProvedBy env ctx a (Some p) = (a.is_axiom ≡ false) × IsSound env ctx (listed a.hyps) [] p × (proved env (listed a.hyps) [] p ≡ a.conclusion)
+abbrev pub IsProvedBy : Bool → List Declaration → List Binder → Assertion → Option Proof → Type 0
+IsProvedBy gaps env ctx a None = a.is_axiom ≡ true
+IsProvedBy gaps env ctx a (Some p) = (a.is_axiom ≡ false) × IsSound gaps env ctx (listed a.hyps) [] p × (proved env (listed a.hyps) [] p ≡ a.conclusion)
 
 -- where there is a proof, it is sound
-abbrev pub IsSoundIfStated : List Declaration → List Binder → List Tree → Option Proof → Type 0
-IsSoundIfStated env ctx hyps None = ⊤
-IsSoundIfStated env ctx hyps (Some p) = IsSound env ctx hyps [] p
+abbrev pub IsSoundIfStated : Bool → List Declaration → List Binder → List Tree → Option Proof → Type 0
+IsSoundIfStated gaps env ctx hyps None = ⊤
+IsSoundIfStated gaps env ctx hyps (Some p) = IsSound gaps env ctx hyps [] p
 
 -- the weight of the proof, if there is one
 abbrev pub body_weight : List Declaration → Option Proof → ℕ
 body_weight env None = 0
 body_weight env (Some p) = proof_weight env p
 
--- the body makes what the proof proves, or else an axiom's conclusion, and builds no application twice
-abbrev pub MakesBody : List Declaration → Option Proof → List Binder → List Binder → Tree → List Tree → List ℕ → Type 0
-MakesBody env None params dummies e hyps bytes = IsSharedBody env is_axiom params dummies e hyps bytes
-MakesBody env (Some p) params dummies e hyps bytes = IsSharedBody env is_theorem params dummies (proved env hyps [] p) hyps bytes
+-- the body makes what the proof proves, and uses what it uses, or else makes an axiom's conclusion; it builds no
+-- application twice
+abbrev pub MakesBody : Bool → List Declaration → Option Proof → List Binder → List Binder → Tree → List Tree → List ℕ → Type 0
+MakesBody gaps env None params dummies e hyps bytes = IsSharedBody gaps env is_axiom params dummies e hyps bytes
+MakesBody gaps env (Some p) params dummies e hyps bytes = IsBodyUsing gaps env is_theorem params dummies (proved env hyps [] p) hyps bytes (λ u. uses u [] p)
 
--- ---- all that is written
+-- as of a definition the stream and the body of an axiom, or of a theorem with this proof, with gaps or without; the body
+-- uses what the proof does
+pub record SaysAssertion (gaps : Bool) (env : List Declaration) (a : Assertion) (dummies : List Binder) (stated : Option Proof) (stream body : List ℕ) : Type 0 where
+  pub text : IsSharedText of_assertion (signatures env) a.params stream a.hyps a.conclusion []
+  pub makes : IsSharedBody gaps env (kind_of a.is_axiom) a.params dummies a.conclusion (listed a.hyps) body
+  pub uses : SaysItsUses a.is_axiom stated body
+  pub short : length stream + length body ≤ 16 * (trees_size a.hyps + size a.conclusion + body_weight env stated) + 2
+
+-- ---- all that is written, with gaps or without
 
 -- what rows and statements cost
 abbrev pub cost_of : Parts → ℕ
 cost_of p = length p.sorts + rows_cost p.terms + rows_cost p.thms + statements_cost p.statements
 
--- the parts say these statements, in proportion to their weight
-pub record HasWritten (ss : List Statement) (p : Parts) : Type 0 where
-  pub says : IsWrittenAs p (marked ss) (list_spelled (marked ss))
+-- the parts say these statements, of whose theorems the bodies use what the proofs do, in proportion to their weight
+pub record HasWritten (gaps : Bool) (ss : List Statement) (p : Parts) : Type 0 where
+  pub says : IsWrittenAs gaps p (marked ss) (list_spelled (marked ss))
+  pub uses : SayTheirUses ss p.statements
   pub short : cost_of p ≤ 32 * weight_of ss
 
 -- the signatures of the terms so far
@@ -167,18 +180,30 @@ abbrev pub table_of : Emitter → List Signature
 table_of e = signatures_of (map words_of_row e.table.terms.items)
 
 -- they are written, and the table has their sorts and terms
-pub record HasRows (ss : List Statement) (e : Emitter) : Type 0 where
-  pub written : HasWritten ss e.writer
+pub record HasRows (gaps : Bool) (ss : List Statement) (e : Emitter) : Type 0 where
+  pub written : HasWritten gaps ss e.writer
   pub sorts_are : e.table.sorts.items ≡ sorts (declared ss)
   pub terms_are : table_of e ≡ signatures (declared ss)
 
 -- and what they declare stands before the next
-pub record HasEmitted (ss : List Statement) (e : Emitter) : Type 0 where
-  pub rows : HasRows ss e
+pub record HasEmitted (gaps : Bool) (ss : List Statement) (e : Emitter) : Type 0 where
+  pub rows : HasRows gaps ss e
   pub env : e.env ≡ declared ss
 
 -- the i-th statement is the next to be written
-pub record IsNext (ss : List Statement) (i : ℕ) (e : Emitter) : Type 0 where
+pub record IsNext (gaps : Bool) (ss : List Statement) (i : ℕ) (e : Emitter) : Type 0 where
   pub within : i < length ss
-  pub before : HasEmitted (take i ss) e
-  pub follows : MayFollow (take i ss) (statement_at ss i)
+  pub before : HasEmitted gaps (take i ss) e
+  pub follows : MayFollow gaps (take i ss) (statement_at ss i)
+
+-- in one of both modes
+abbrev pub CanBeNext : List Statement → ℕ → Emitter → Type 0
+CanBeNext ss i e = (gaps : Bool) × IsNext gaps ss i e
+
+-- in each mode in which it was the next, it is written
+abbrev pub WritesNext : List Statement → ℕ → Emitter → Emitter → Type 0
+WritesNext ss i e e' = (gaps : Bool) → IsNext gaps ss i e → HasRows gaps (take i ss ++ statement_at ss i ∷ []) e'
+
+-- and what it declares stands before the one after it
+abbrev pub EmitsNext : List Statement → ℕ → Emitter → Emitter → Type 0
+EmitsNext ss i e e' = (gaps : Bool) → IsNext gaps ss i e → HasEmitted gaps (take (i + 1) ss) e'

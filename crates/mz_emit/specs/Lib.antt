@@ -1,4 +1,5 @@
 pub mod Limits
 pub mod Lines
+pub mod Gapped
 pub mod Emitting
 pub mod Compiling

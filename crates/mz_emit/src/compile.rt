@@ -1,25 +1,27 @@
 // From a text to a binary.
-ghost use Rattle.std.specs.Prelude.{◌≡◌, ◌<◌, ◌^◌, IfOk, ℕ, List, length};
-ghost use Rattle.mz_type.specs.Meaning.{LegalAsStated};
+ghost use Rattle.std.specs.Prelude.{Bool, false, ◌<◌, ◌^◌, IfOk, ℕ, List, length};
+ghost use Rattle.mz_mode.specs.Gaps.{gaps_of};
+ghost use Rattle.mz_mmu.specs.Proof.{Statement};
 ghost use Rattle.mz_type.specs.TextOf.{TextOf};
 ghost use Rattle.mz_type.specs.Weight.{IsWithinLimits};
-ghost use Rattle.mz_emit.specs.Compiling.{IsBinaryOf, IsCompilation, IsDecided};
+ghost use Rattle.mz_emit.specs.Emitting.{IsLegalWith};
+ghost use Rattle.mz_emit.specs.Compiling.{IsBinaryOf, IsCompilation, IsDecided, ModesCompileAlike};
 
 use crate::compiled::Compiled;
 use crate::emitter::Emitter;
 use crate::limit::{Passed, limit_of};
 use mz_cmd::Mem;
-use mz_mmu::{Text, TextRead, read_text};
+use mz_mmu::{TextRead, read_text};
+use mz_mode::Mode;
 use mz_type::{
     Typed, TypedRead, check_text, limits_are_decided, statements_can_be_words, typed_or_faulty,
 };
 use std::alloc::Global;
 
-/// The binary of a well-typed text within the limits.
-fn emit(alloc: Global, text: &Text) -> Result<Vec<u8>, Mem>
-    requires legal { LegalAsStated text.now.statements }
-    requires within { IsWithinLimits text.now.statements }
-    ensures { IfOk result (λ bytes. IsBinaryOf text.now.statements bytes.items) }
+/// The binary of a well-typed text within the limits. It is one in each mode in which the text is legal as stated.
+fn emit(alloc: Global, text: &Typed) -> Result<Vec<u8>, Mem>
+    requires { IsWithinLimits text.now.statements }
+    ensures { IfOk result (λ bytes. (gaps : Bool) → IsLegalWith gaps text.now.statements → IsBinaryOf gaps text.now.statements bytes.items) }
 {
     statements_can_be_words();
     let mut emitter = Emitter::new(alloc);
@@ -30,33 +32,36 @@ fn emit(alloc: Global, text: &Text) -> Result<Vec<u8>, Mem>
     Ok(bytes)
 }
 
-/// Compiles a well-typed text.
+/// Compiles a well-typed text, in whichever mode its bytes are these statements.
 fn compile_typed(alloc: Global, typed: &Typed) -> Compiled
-    ensures { (bytes : List ℕ) → TextOf bytes typed.now.statements → IsCompilation bytes result }
+    ensures { (gaps : Bool) (bytes : List ℕ) → TextOf gaps bytes typed.now.statements → IsCompilation gaps bytes result }
 {
     if let Some(Passed { rule, count }) = limit_of(typed) {
         return Compiled::Limit { rule, count };
     }
-    match emit(alloc, typed.text()) {
+    match emit(alloc, typed) {
         Ok(bytes) => Compiled::Bytes(bytes),
         Err(_) => Compiled::Mem,
     }
 }
 
 /// Compiles a text of at most 4,294,967,295 bytes: the binary where the text is well typed and
-/// within the limits, else its first fault, or the first limit that it passes.
+/// within the limits, else its first fault, or the first limit that it passes. A draft may have gaps; one that is
+/// finished is compiled as a finished text.
 ///
 /// The binary's bodies build no application twice, and its streams none once all its dummies are met.
-pub fn compile_bytes(alloc: Global, text: &[u8]) -> Compiled
+pub fn compile_bytes(alloc: Global, text: &[u8], mode: Mode) -> Compiled
     requires { length text.now < 2 ^ 32 }
-    ensures { IsCompilation text.now result }
+    ensures answer { IsCompilation (gaps_of mode) text.now result }
+    ensures finished { (ss : List Statement) → TextOf false text.now ss → IsCompilation false text.now result }
 {
-    let text = match read_text(alloc, text) {
+    typed_or_faulty();
+    let text = match read_text(alloc, text, mode) {
         TextRead::Text(text) => text,
         TextRead::Refused(refusal) => return Compiled::Refused(refusal),
         TextRead::Mem => return Compiled::Mem,
     };
-    match check_text(alloc, &text) {
+    match check_text(alloc, text) {
         TypedRead::Typed(typed) => compile_typed(alloc, &typed),
         TypedRead::Refused(refusal) => Compiled::Refused(refusal),
         TypedRead::Mem => Compiled::Mem,
@@ -65,8 +70,15 @@ pub fn compile_bytes(alloc: Global, text: &[u8]) -> Compiled
 
 /// Each text can be compiled, or has exactly one first fault, or passes exactly one first limit.
 pub fn compilation_is_decided()
-    ensures { (text : List ℕ) → IsDecided text }
+    ensures { (gaps : Bool) (text : List ℕ) → IsDecided gaps text }
 {
     typed_or_faulty();
     limits_are_decided();
+}
+
+/// A text without gaps is compiled alike in both modes.
+pub fn modes_compile_alike()
+    ensures { (text : List ℕ) → ModesCompileAlike text }
+{
+    typed_or_faulty();
 }

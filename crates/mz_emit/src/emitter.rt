@@ -1,5 +1,5 @@
 // The statements of a text, one after another, as rows, streams and bodies of a binary.
-ghost use Rattle.std.specs.Prelude.{ℕ, List, ◌≡◌, ◌<◌, ◌≤◌, ◌+◌, ◌*◌, ◌++◌, ◌∷◌, [], ◌⊎◌, OnOk, IfOk, None, Some, Option, length, map, take, IsTrue};
+ghost use Rattle.std.specs.Prelude.{ℕ, Bool, List, ◌≡◌, ◌<◌, ◌≤◌, ◌+◌, ◌*◌, ◌++◌, ◌∷◌, [], ◌⊎◌, OnOk, IfOk, None, Some, Option, length, map, take, IsTrue};
 ghost use Rattle.mz_cmd.specs.Codes.{begins_statement};
 ghost use Rattle.mz_logic.specs.DeclView.{declaration, term_of, assertion_of, assertion_view, signature, form, is_axiom as is_axiom_form};
 ghost use Rattle.mz_logic.specs.Declaration.{Assertion, sort_decl, term_decl, assertion_decl, plain_form, defined, dummies_of, sorts, signatures};
@@ -25,18 +25,18 @@ ghost use Rattle.mz_soundness.specs.Premises.{bound_count as bound_in};
 ghost use Rattle.mz_shared.specs.Rows.{words_of_row};
 ghost use Rattle.mz_bodies.specs.Stages.{HasDummiesBehind};
 ghost use Rattle.mz_emit.specs.Emitting;
-ghost use Rattle.mz_emit.specs.Emitting.{IsNext, HasRows, MayFollow, CanBeDefined, CanBeAsserted, HasWords, table_of, term_row, thm_row, SaysDefinition, SaysAssertion, IsProvedBy, IsSoundIfStated, MakesBody, body_weight, HasEmitted, with_sort, with_term, with_thm};
+ghost use Rattle.mz_emit.specs.Emitting.{CanBeNext, WritesNext, EmitsNext, MayFollow, CanBeDefined, CanBeAsserted, HasWords, table_of, term_row, thm_row, SaysDefinition, SaysAssertion, IsProvedBy, IsSoundIfStated, MakesBody, body_weight, HasEmitted, with_sort, with_term, with_thm};
 
 use mz_bodies::{Before, axiom_body, definition_body, theorem_body};
 use mz_claims::stated_proofs_are_sound;
 use mz_cmd::{Mem, StatementCode};
 use mz_layout::LayoutWriter;
 use mz_logic::{Binder, Decl, Env, Expr, SortMods, TermDecl, ThmDecl, ThmForm};
-use mz_mmu::{Proof, Text};
+use mz_mmu::Proof;
 use mz_shared::{Shared, Table, Words};
 use mz_spell::{assertion_stream, definition_stream};
 use mz_store::Id;
-use mz_type::copy_of_decl;
+use mz_type::{Typed, copy_of_decl};
 use std::alloc::Global;
 
 /// The statements so far: their declarations, the words of these, and what is written of them.
@@ -87,7 +87,7 @@ fn assertion_code(form: ThmForm, is_local: bool) -> u8
 impl Emitter {
     /// No statements.
     pub(crate) fn new(alloc: Global) -> Emitter
-        ensures { HasEmitted [] result }
+        ensures { (gaps : Bool) → HasEmitted gaps [] result }
     {
         Emitter {
             alloc,
@@ -163,9 +163,11 @@ impl Emitter {
         requires legal { IsLegalEnv self.old.env }
         requires table { table_of self.old ≡ signatures self.old.env }
         requires can { CanBeAsserted self.old.env (assertion_view thm.now) dummies.now }
-        requires proved { IsProvedBy self.old.env ((assertion_view thm.now).params ++ dummies.now) (assertion_view thm.now) (stated proof) }
+        requires proved { (gaps : Bool) × IsProvedBy gaps self.old.env ((assertion_view thm.now).params ++ dummies.now) (assertion_view thm.now) (stated proof) }
         requires code { IsTrue (begins_statement code) }
-        ensures written { OnOk result ((stream : List ℕ) × (bytes : List ℕ) × SaysAssertion self.old.env (assertion_view thm.now) dummies.now (body_weight self.old.env (stated proof.entry)) stream bytes
+        ensures written { OnOk result ((stream : List ℕ) × (bytes : List ℕ)
+            × ((gaps : Bool) → IsProvedBy gaps self.old.env ((assertion_view thm.now).params ++ dummies.now) (assertion_view thm.now) (stated proof.entry)
+            → SaysAssertion gaps self.old.env (assertion_view thm.now) dummies.now (stated proof.entry) stream bytes)
             × (self.new.writer ≡ with_thm self.old.writer (thm_row (assertion_view thm.now) stream) (record { code = code; body = bytes }))) }
         ensures table { OnOk result (self.new.table ≡ self.old.table) }
         ensures env { OnOk result (self.new.env ≡ self.old.env) }
@@ -178,10 +180,10 @@ impl Emitter {
     }
 
     /// Writes the i-th statement, a sort.
-    fn write_sort(&mut self, text: &Text, i: u32, mods: SortMods) -> Result<(), Mem>
-        requires next { IsNext text.now.statements i self.old }
+    fn write_sort(&mut self, text: &Typed, i: u32, mods: SortMods) -> Result<(), Mem>
+        requires next { CanBeNext text.now.statements i self.old }
         requires decl { (statement_at text.now.statements i).decl ≡ sort_decl mods }
-        ensures rows { OnOk result (HasRows (take i text.now.statements ++ statement_at text.now.statements i ∷ []) self.new) }
+        ensures rows { OnOk result (WritesNext text.now.statements i self.old self.new) }
         ensures env { OnOk result (self.new.env ≡ self.old.env) }
     {
         self.sort(mods)?;
@@ -189,11 +191,11 @@ impl Emitter {
     }
 
     /// Writes the i-th statement, a plain term.
-    fn write_plain(&mut self, text: &Text, i: u32, term: &TermDecl) -> Result<(), Mem>
-        requires next { IsNext text.now.statements i self.old }
+    fn write_plain(&mut self, text: &Typed, i: u32, term: &TermDecl) -> Result<(), Mem>
+        requires next { CanBeNext text.now.statements i self.old }
         requires decl { (statement_at text.now.statements i).decl ≡ term_of term.now }
         requires plain { form term.now.form ≡ plain_form }
-        ensures rows { OnOk result (HasRows (take i text.now.statements ++ statement_at text.now.statements i ∷ []) self.new) }
+        ensures rows { OnOk result (WritesNext text.now.statements i self.old self.new) }
         ensures env { OnOk result (self.new.env ≡ self.old.env) }
     {
         self.plain(term)?;
@@ -203,15 +205,15 @@ impl Emitter {
     /// Writes the i-th statement, a definition.
     fn write_definition(
         &mut self,
-        text: &Text,
+        text: &Typed,
         i: u32,
         term: &TermDecl,
         body: &Expr,
     ) -> Result<(), Mem>
-        requires next { IsNext text.now.statements i self.old }
+        requires next { CanBeNext text.now.statements i self.old }
         requires decl { (statement_at text.now.statements i).decl ≡ term_of term.now }
         requires body { form term.now.form ≡ defined (dummies_of (form term.now.form)) (tree body.now) }
-        ensures rows { OnOk result (HasRows (take i text.now.statements ++ statement_at text.now.statements i ∷ []) self.new) }
+        ensures rows { OnOk result (WritesNext text.now.statements i self.old self.new) }
         ensures env { OnOk result (self.new.env ≡ self.old.env) }
     {
         let code = definition_code(text.is_local(i));
@@ -220,10 +222,10 @@ impl Emitter {
     }
 
     /// Writes the i-th statement, a term.
-    fn write_term(&mut self, text: &Text, i: u32, term: &TermDecl) -> Result<(), Mem>
-        requires next { IsNext text.now.statements i self.old }
+    fn write_term(&mut self, text: &Typed, i: u32, term: &TermDecl) -> Result<(), Mem>
+        requires next { CanBeNext text.now.statements i self.old }
         requires decl { (statement_at text.now.statements i).decl ≡ term_of term.now }
-        ensures rows { OnOk result (HasRows (take i text.now.statements ++ statement_at text.now.statements i ∷ []) self.new) }
+        ensures rows { OnOk result (WritesNext text.now.statements i self.old self.new) }
         ensures env { OnOk result (self.new.env ≡ self.old.env) }
     {
         match term.form.body() {
@@ -233,10 +235,10 @@ impl Emitter {
     }
 
     /// Writes the i-th statement, an axiom or a theorem.
-    fn write_thm(&mut self, text: &Text, i: u32, thm: &ThmDecl) -> Result<(), Mem>
-        requires next { IsNext text.now.statements i self.old }
+    fn write_thm(&mut self, text: &Typed, i: u32, thm: &ThmDecl) -> Result<(), Mem>
+        requires next { CanBeNext text.now.statements i self.old }
         requires decl { (statement_at text.now.statements i).decl ≡ assertion_of thm.now }
-        ensures rows { OnOk result (HasRows (take i text.now.statements ++ statement_at text.now.statements i ∷ []) self.new) }
+        ensures rows { OnOk result (WritesNext text.now.statements i self.old self.new) }
         ensures env { OnOk result (self.new.env ≡ self.old.env) }
     {
         stated_proofs_are_sound();
@@ -246,9 +248,9 @@ impl Emitter {
     }
 
     /// Writes the i-th statement.
-    fn write(&mut self, text: &Text, i: u32) -> Result<(), Mem>
-        requires { IsNext text.now.statements i self.old }
-        ensures rows { OnOk result (HasRows (take i text.now.statements ++ statement_at text.now.statements i ∷ []) self.new) }
+    fn write(&mut self, text: &Typed, i: u32) -> Result<(), Mem>
+        requires { CanBeNext text.now.statements i self.old }
+        ensures rows { OnOk result (WritesNext text.now.statements i self.old self.new) }
         ensures env { OnOk result (self.new.env ≡ self.old.env) }
     {
         match text.decl(i) {
@@ -259,9 +261,9 @@ impl Emitter {
     }
 
     /// Writes the i-th statement, and adds what it declares to what stands before the next.
-    pub(crate) fn statement(&mut self, text: &Text, i: u32) -> Result<(), Mem>
-        requires { IsNext text.now.statements i self.old }
-        ensures { OnOk result (HasEmitted (take (i + 1) text.now.statements) self.new) }
+    pub(crate) fn statement(&mut self, text: &Typed, i: u32) -> Result<(), Mem>
+        requires { CanBeNext text.now.statements i self.old }
+        ensures { OnOk result (EmitsNext text.now.statements i self.old self.new) }
     {
         self.write(text, i)?;
         let decl = copy_of_decl(self.alloc, text.decl(i))?;
@@ -269,12 +271,20 @@ impl Emitter {
         Ok(())
     }
 
+    /// What is written, without what it was made from.
+    fn into_writer(self) -> LayoutWriter
+        ensures { result ≡ self.writer }
+    {
+        self.writer
+    }
+
     /// The binary.
     pub(crate) fn finish(self) -> Result<Vec<u8>, Mem>
-        requires { (ss : List Statement) × HasEmitted ss self × LegalAsStated ss × IsWithinLimits ss }
-        ensures { IfOk result (λ bytes. (ss : List Statement) → HasEmitted ss self → LegalAsStated ss → IsWithinLimits ss → IsBinaryOf ss bytes.items) }
+        requires { (gaps : Bool) × (ss : List Statement) × HasEmitted gaps ss self × LegalAsStated gaps ss × IsWithinLimits ss }
+        ensures { IfOk result (λ bytes. (gaps : Bool) (ss : List Statement) → HasEmitted gaps ss self → LegalAsStated gaps ss → IsWithinLimits ss → IsBinaryOf gaps ss bytes.items) }
     {
-        let bytes = self.writer.finish()?;
+        let writer = self.into_writer();
+        let bytes = writer.finish()?;
         Ok(bytes)
     }
 
@@ -314,9 +324,10 @@ impl Emitter {
         requires inside { IsIn shared.store conclusion.0 }
         requires hyps { AreIn shared.store hyps.now }
         requires provable { AreProvable self.now.env shared.store.context (trees_of shared.store hyps.now) }
-        requires sound { IsSoundIfStated self.now.env shared.store.context (listed (trees_of shared.store hyps.now)) (stated proof) }
-        ensures body { IfOk result (λ b. (ps ds : List BinderOf) → shared.store.context ≡ ps ++ ds → length ps ≡ params
-            → MakesBody self.now.env (stated proof.entry) ps ds (tree_of shared.store conclusion.0) (listed (trees_of shared.store hyps.now)) b.items) }
+        requires sound { (gaps : Bool) × IsSoundIfStated gaps self.now.env shared.store.context (listed (trees_of shared.store hyps.now)) (stated proof) }
+        ensures body { IfOk result (λ b. (gaps : Bool) → IsSoundIfStated gaps self.now.env shared.store.context (listed (trees_of shared.store hyps.now)) (stated proof.entry)
+            → (ps ds : List BinderOf) → shared.store.context ≡ ps ++ ds → length ps ≡ params
+            → MakesBody gaps self.now.env (stated proof.entry) ps ds (tree_of shared.store conclusion.0) (listed (trees_of shared.store hyps.now)) b.items) }
         ensures short { IfOk result (λ b. length b.items
             ≤ 6 * (trees_size (trees_of shared.store hyps.now) + size (tree_of shared.store conclusion.0) + body_weight self.now.env (stated proof.entry)) + 1) }
     {
@@ -343,8 +354,9 @@ impl Emitter {
         requires right { BitsRight words.now.params.items }
         requires params { binders_of words.now.params.items ≡ (assertion_view thm.now).params }
         requires can { CanBeAsserted self.now.env (assertion_view thm.now) dummies.now }
-        requires proved { IsProvedBy self.now.env ((assertion_view thm.now).params ++ dummies.now) (assertion_view thm.now) (stated proof) }
-        ensures { IfOk result (λ e. SaysAssertion self.now.env (assertion_view thm.now) dummies.now (body_weight self.now.env (stated proof.entry)) e.stream.items e.body.items) }
+        requires proved { (gaps : Bool) × IsProvedBy gaps self.now.env ((assertion_view thm.now).params ++ dummies.now) (assertion_view thm.now) (stated proof) }
+        ensures { IfOk result (λ e. (gaps : Bool) → IsProvedBy gaps self.now.env ((assertion_view thm.now).params ++ dummies.now) (assertion_view thm.now) (stated proof.entry)
+            → SaysAssertion gaps self.now.env (assertion_view thm.now) dummies.now (stated proof.entry) e.stream.items e.body.items) }
     {
         let params = words.params.as_slice().len() as u32;
         let mut shared = Shared::new(self.alloc, &words.params, dummies)?;

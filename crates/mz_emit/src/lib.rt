@@ -9,7 +9,7 @@ mod limit;
 mod line;
 mod rule;
 
-pub use compile::{compilation_is_decided, compile_bytes};
+pub use compile::{compilation_is_decided, compile_bytes, modes_compile_alike};
 pub use compiled::Compiled;
 pub use line::compiled_line;
 pub use rule::L;

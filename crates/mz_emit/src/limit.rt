@@ -10,7 +10,6 @@ ghost use Rattle.mz_emit.specs.Limits.{passed, over};
 
 use crate::rule::L;
 use mz_logic::{Binder, Decl};
-use mz_mmu::Text;
 use mz_type::{Typed, weight};
 
 /// A limit that a text passes, and by which count.
@@ -75,7 +74,7 @@ fn sorts_in(decl: &Decl) -> u32
 }
 
 /// How many sorts the text declares.
-fn sort_count(text: &Text) -> u32
+fn sort_count(text: &Typed) -> u32
     ensures { result ≡ Weight.sort_count text.now.statements }
 {
     let mut n: u32 = 0;
@@ -86,7 +85,7 @@ fn sort_count(text: &Text) -> u32
 }
 
 /// How many parameters the i-th statement has.
-fn parameter_count(text: &Text, i: u32) -> usize
+fn parameter_count(text: &Typed, i: u32) -> usize
     requires { i < length text.now.statements }
     ensures { result ≡ Weight.parameter_count (statement_at text.now.statements i) }
 {
@@ -94,7 +93,7 @@ fn parameter_count(text: &Text, i: u32) -> usize
 }
 
 /// How many bound variables the i-th statement has, dummies included.
-fn bound_count(text: &Text, i: u32) -> u128
+fn bound_count(text: &Typed, i: u32) -> u128
     requires { i < length text.now.statements }
     ensures { result ≡ Weight.bound_count (statement_at text.now.statements i) }
 {
@@ -103,7 +102,7 @@ fn bound_count(text: &Text, i: u32) -> u128
 }
 
 /// The first number of parameters that is too great.
-fn many_parameters(text: &Text) -> Option<u128>
+fn many_parameters(text: &Typed) -> Option<u128>
     ensures { Answers (option_map (over Weight.parameter_limit) result) (each_within Weight.parameter_limit Weight.parameter_count 65535 text.now.statements) }
 {
     for i in 0..text.len() {
@@ -116,7 +115,7 @@ fn many_parameters(text: &Text) -> Option<u128>
 }
 
 /// The first number of bound variables that is too great.
-fn many_bound(text: &Text) -> Option<u128>
+fn many_bound(text: &Typed) -> Option<u128>
     ensures { Answers (option_map (over Weight.bound_limit) result) (each_within Weight.bound_limit Weight.bound_count 55 text.now.statements) }
 {
     for i in 0..text.len() {
@@ -140,21 +139,20 @@ fn most_bytes(weight: u128) -> u128
 pub(crate) fn limit_of(typed: &Typed) -> Option<Passed>
     ensures { Answers (option_map passed result) (limit_checks typed.now.statements) }
 {
-    let text = typed.text();
-    let sorts = sort_count(text);
+    let sorts = sort_count(typed);
     if sorts > MOST_SORTS {
         return Some(Passed {
             rule: L::Sorts,
             count: u128::from(sorts),
         });
     }
-    if let Some(count) = many_parameters(text) {
+    if let Some(count) = many_parameters(typed) {
         return Some(Passed {
             rule: L::Parameters,
             count,
         });
     }
-    if let Some(count) = many_bound(text) {
+    if let Some(count) = many_bound(typed) {
         return Some(Passed {
             rule: L::BoundVariables,
             count,

@@ -153,7 +153,10 @@ module _ (sc : Scope) where
         (λ _. are_decided-both (expr_list_asked sc es) (variable_list_asked sc.vars ys >> conv_asked sc n) (expr_list sc es)
         (λ _. are_decided-both (variable_list_asked sc.vars ys) (conv_asked sc n) (variable_list sc.vars ys) (λ _. conv n)))
     conv_by unfold_word at h (node t (node es (node ys (node n (node _ _))))) = no-decided
-    conv_by sorry_word at h ns = no-decided
+    conv_by sorry_word at h no_nodes = (true-decided sc.names.gaps, λ _. no-decided)
+    conv_by sorry_word at h (node l no_nodes) = (true-decided sc.names.gaps, λ _. no-decided)
+    conv_by sorry_word at h (node l (node r no_nodes)) = (true-decided sc.names.gaps, λ _. are_decided-both (expr_asked sc l) (expr_asked sc r) (expr sc l) (λ _. expr sc r))
+    conv_by sorry_word at h (node l (node r (node _ _))) = (true-decided sc.names.gaps, λ _. no-decided)
     conv_by conv_word at h ns = no-decided
     conv_by let_word at h ns = no-decided
     conv_by no_word at h no_nodes = known sc.names.terms h
@@ -192,7 +195,9 @@ module _ (sc : Scope) (hyps : List (List ℕ)) where
         are_decided-both (new_asked (hyps ++ lets) x) (proof_asked sc hyps lets q >> proof_asked sc hyps (lets ++ word x ∷ []) q') (new (hyps ++ lets) x)
         (λ _. are_decided-both (proof_asked sc hyps lets q) (proof_asked sc hyps (lets ++ word x ∷ []) q') (proof lets q) (λ _. proof (lets ++ word x ∷ []) q'))
     proof_by lets let_word at h (node x (node q (node q' (node _ _)))) = no-decided
-    proof_by lets sorry_word at h ns = no-decided
+    proof_by lets sorry_word at h no_nodes = (true-decided sc.names.gaps, λ _. no-decided)
+    proof_by lets sorry_word at h (node e no_nodes) = (true-decided sc.names.gaps, λ _. expr sc e)
+    proof_by lets sorry_word at h (node e (node _ _)) = (true-decided sc.names.gaps, λ _. no-decided)
     proof_by lets refl_word at h ns = no-decided
     proof_by lets sym_word at h ns = no-decided
     proof_by lets unfold_word at h ns = no-decided

@@ -1,15 +1,13 @@
 -- A list by the word with which it begins.
-use Rattle.std.proofs.Common.{◌≡◌, ℕ, List, Bool, true, false, Result, Ok, Err, IfOk, sym, refl, subst, inl}
+use Rattle.std.proofs.Common.{◌≡◌, ℕ, List, Bool, true, false, Result, Ok, Err, IfOk, sym, refl, subst}
 use Rattle.std.specs.Prelude.{IfErr, bytes_eq, codes, if◌then◌else◌}
 use Rattle.mz_sexpr.specs.Node.{Node, Nodes, list, node, place}
-use Rattle.mz_sexpr.specs.declared.rule.U.{U}
 use Rattle.mz_logic.specs.Conversions.{Conversion}
 use Rattle.mz_mmu.specs.declared.fault.Stop.{Stop}
-use Rattle.mz_mmu.specs.declared.fault.Stop.TheVariants.{Refused}
 use Rattle.mz_mmu.specs.Name.{Scope}
 use Rattle.mz_mmu.specs.Proof.{Proof}
 use Rattle.mz_mmu.specs.Proofs.{Keyword, conv_word, let_word, refl_word, sym_word, unfold_word, sorry_word, no_word, conv_keyword, conv_keyword_of, proof_keyword, proof_keyword_of, IsConv, IsConvBy, IsProof, IsProofBy}
-use Rattle.mz_mmu.specs.Order.{fault, open_asked, conv_asked, conv_asked_by, proof_asked, proof_asked_by}
+use Rattle.mz_mmu.specs.Order.{conv_asked, conv_asked_by, proof_asked, proof_asked_by}
 use Rattle.mz_mmu.specs.Stops.{Stops}
 
 pub if_ok : {A E : Type 0} (r : Result A E) (P Q : A → Type 0) → ((a : A) → P a → Q a) → IfOk r P → IfOk r Q
@@ -19,9 +17,6 @@ if_ok (Err e) P Q f h = tt
 pub if_err : {A E : Type 0} (r : Result A E) (P Q : E → Type 0) → ((e : E) → P e → Q e) → IfErr r P → IfErr r Q
 if_err (Ok a) P Q f h = tt
 if_err (Err e) P Q f h = f e h
-
-pub stops_open : (s : Stop) (at : ℕ) → s ≡ Refused (fault at U.Sorry) → Stops s (open_asked at)
-stops_open s at is = subst (λ x. Stops x (open_asked at)) (sym is) (inl (λ f. f, refl))
 
 module _ (sc : Scope) (m h : Node) (ns : Nodes) (k : Keyword) (shape : m ≡ list (place m) (node h ns)) (key : conv_keyword h ≡ k) where
   pub conv_by : (c : Conversion) → IsConvBy sc k h ns c → IsConv sc m c

@@ -5,13 +5,13 @@ use Rattle.mz_checks.specs.Checks.{Checks, ◌>>◌, AllHold}
 use Rattle.mz_checks.proofs.InOrder.{all_hold-first, all_hold-rest}
 use Rattle.mz_sexpr.specs.Node.{Node, Nodes, atom, list, no_nodes, node, word, parts}
 use Rattle.mz_logic.specs.Tree.{Tree, Trees, var, app, none, more}
-use Rattle.mz_logic.specs.Conversions.{Conversion, Conversions, refl_conv, sym_conv, cong_conv, unfold_conv, no_convs, more_convs}
+use Rattle.mz_logic.specs.Conversions.{Conversion, Conversions, refl_conv, sym_conv, cong_conv, unfold_conv, gap_conv, no_convs, more_convs}
 use Rattle.mz_logic.specs.declared.binder.Binder.{Binder}
 use Rattle.mz_logic.specs.declared.binder.ResultType.{ResultType}
 use Rattle.mz_mmu.specs.declared.fault.Fault.{Fault}
 use Rattle.mz_mmu.specs.Name.{Names, Scope, hidden, number_of, IsName, IsNew, IsKnown, HasNumber, IsNewName, IsParamName}
 use Rattle.mz_mmu.specs.Expressions.{IsVariable, IsConstant, IsExpr, AreExprs, IsExprList, AreVariables, IsVariableList, AreDeps, IsParam, IsDummy, AreBinders, AreParams, AreDummies, IsResult}
-use Rattle.mz_mmu.specs.Proof.{Proof, Proofs, by_hyp, by_name, by_citation, by_conv, by_let, no_proofs, more_proofs}
+use Rattle.mz_mmu.specs.Proof.{Proof, Proofs, by_hyp, by_name, by_citation, by_conv, by_let, by_gap, no_proofs, more_proofs}
 use Rattle.mz_mmu.specs.Proofs.{Keyword, conv_word, let_word, refl_word, sym_word, unfold_word, sorry_word, no_word, conv_keyword, proof_keyword, IsConv, IsConvBy, AreConvs, IsFact, IsProof, IsProofBy, AreProofs}
 use Rattle.mz_mmu.specs.Order.{known_asked, new_asked, param_name_asked, expr_asked, exprs_asked, expr_list_asked, variables_asked, variable_list_asked, param_asked, dummy_asked, names_of, first_word, binders_asked, params_asked, dummies_asked, result_asked, conv_asked, conv_asked_by, convs_asked, proof_asked, proof_asked_by, proofs_asked}
 use Rattle.mz_mmu.proofs.Ascending.{ascending_found}
@@ -186,7 +186,13 @@ module _ (sc : Scope) where
         let c = conv_found n (all_hold-rest Y C later) in
         (unfold_conv u.0 fs.0 zs.0 c.0, (u.0, fs.0, zs.0, c.0, u.1, fs.1, zs.1, c.1, refl))
     conv_found_by unfold_word at h (node t (node es (node ys (node n (node _ _))))) a = absurd a.0
-    conv_found_by sorry_word at h ns a = absurd a.0
+    conv_found_by sorry_word at h no_nodes a = absurd a.1.0
+    conv_found_by sorry_word at h (node l no_nodes) a = absurd a.1.0
+    conv_found_by sorry_word at h (node l (node r no_nodes)) (may, a) =
+        let f = expr_found sc l (all_hold-first (expr_asked sc l) (expr_asked sc r) a) in
+        let g = expr_found sc r (all_hold-rest (expr_asked sc l) (expr_asked sc r) a) in
+        (gap_conv f.0 g.0, (f.0, g.0, may, f.1, g.1, refl))
+    conv_found_by sorry_word at h (node l (node r (node _ _))) a = absurd a.1.0
     conv_found_by conv_word at h ns a = absurd a.0
     conv_found_by let_word at h ns a = absurd a.0
     conv_found_by no_word at h no_nodes a = let t = known_found sc.names.terms h a in (cong_conv t.0 no_convs, (t.0, t.1, refl))
@@ -246,7 +252,9 @@ module _ (sc : Scope) (hyps : List (List ℕ)) where
         let r' = proof_found (lets ++ word x ∷ []) q' (all_hold-rest P Q later) in
         (by_let r.0 r'.0, (word x, r.0, r'.0, new_found (hyps ++ lets) x (all_hold-first X (P >> Q) a), r.1, r'.1, refl))
     proof_found_by lets let_word at h (node x (node q (node q' (node _ _)))) a = absurd a.0
-    proof_found_by lets sorry_word at h ns a = absurd a.0
+    proof_found_by lets sorry_word at h no_nodes a = absurd a.1.0
+    proof_found_by lets sorry_word at h (node e no_nodes) (may, a) = let f = expr_found sc e a in (by_gap f.0, (f.0, may, f.1, refl))
+    proof_found_by lets sorry_word at h (node e (node _ _)) a = absurd a.1.0
     proof_found_by lets refl_word at h ns a = absurd a.0
     proof_found_by lets sym_word at h ns a = absurd a.0
     proof_found_by lets unfold_word at h ns a = absurd a.0

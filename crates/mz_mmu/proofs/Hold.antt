@@ -164,7 +164,11 @@ mutual
       (all_hold-both (expr_list_asked sc es) (variable_list_asked sc.vars ys >> conv_asked sc n) (expr_list_holds sc es fs e)
       (all_hold-both (variable_list_asked sc.vars ys) (conv_asked sc n) (variable_list_holds sc.vars ys zs v) (conv_holds sc n d r)))
   conv_holds_by sc unfold_word at h (node t (node es (node ys (node n (node _ _))))) c r = absurd r
-  conv_holds_by sc sorry_word at h ns c r = absurd r
+  conv_holds_by sc sorry_word at h no_nodes c r = absurd r
+  conv_holds_by sc sorry_word at h (node l no_nodes) c r = absurd r
+  conv_holds_by sc sorry_word at h (node l (node m no_nodes)) c (f, g, may, x, y, is) =
+      (may, all_hold-both (expr_asked sc l) (expr_asked sc m) (expr_holds sc l f x) (expr_holds sc m g y))
+  conv_holds_by sc sorry_word at h (node l (node m (node _ _))) c r = absurd r
   conv_holds_by sc conv_word at h ns c r = absurd r
   conv_holds_by sc let_word at h ns c r = absurd r
   conv_holds_by sc no_word at h no_nodes c (t, k, is) = known_holds sc.names.terms h t k
@@ -203,7 +207,9 @@ mutual
       (all_hold-both (proof_asked sc hyps lets q) (proof_asked sc hyps (lets ++ v ∷ []) q') (proof_holds sc hyps lets q s y)
       (proof_holds sc hyps (lets ++ v ∷ []) q' s' (subst (λ u. IsProof sc hyps (lets ++ u ∷ []) q' s') n.0 z)))
   proof_holds_by sc hyps lets let_word at h (node x (node q (node q' (node _ _)))) p r = absurd r
-  proof_holds_by sc hyps lets sorry_word at h ns p r = absurd r
+  proof_holds_by sc hyps lets sorry_word at h no_nodes p r = absurd r
+  proof_holds_by sc hyps lets sorry_word at h (node e no_nodes) p (f, may, x, is) = (may, expr_holds sc e f x)
+  proof_holds_by sc hyps lets sorry_word at h (node e (node _ _)) p r = absurd r
   proof_holds_by sc hyps lets refl_word at h ns p r = absurd r
   proof_holds_by sc hyps lets sym_word at h ns p r = absurd r
   proof_holds_by sc hyps lets unfold_word at h ns p r = absurd r

@@ -20,3 +20,4 @@ pub mod FoundStatements
 pub mod OneReading
 pub mod OneStatement
 pub mod Whole
+pub mod OnlyDrafts

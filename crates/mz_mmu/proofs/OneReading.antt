@@ -3,12 +3,12 @@ use Rattle.std.proofs.Common.{ℕ, ◌≡◌, ◌⊎◌, inl, inr, List, [], ◌
 use Rattle.std.specs.Prelude.{unwrap_or}
 use Rattle.mz_sexpr.specs.Node.{Node, Nodes, atom, list, no_nodes, node}
 use Rattle.mz_logic.specs.Tree.{Tree, Trees, var, app, none, more}
-use Rattle.mz_logic.specs.Conversions.{Conversion, Conversions, refl_conv, sym_conv, cong_conv, unfold_conv, no_convs, more_convs}
+use Rattle.mz_logic.specs.Conversions.{Conversion, Conversions, refl_conv, sym_conv, cong_conv, unfold_conv, gap_conv, no_convs, more_convs}
 use Rattle.mz_logic.specs.declared.binder.Binder.{Binder}
 use Rattle.mz_logic.specs.declared.binder.ResultType.{ResultType}
 use Rattle.mz_mmu.specs.Name.{Names, Scope, number_of, IsNew, HasNumber, IsNewName, IsParamName}
 use Rattle.mz_mmu.specs.Expressions.{IsVariable, IsConstant, IsExpr, AreExprs, IsExprList, AreVariables, IsVariableList, IsAscending, AreDeps, IsParam, IsDummy, AreBinders, AreParams, AreDummies, IsResult}
-use Rattle.mz_mmu.specs.Proof.{Proof, Proofs, by_hyp, by_name, by_citation, by_conv, by_let, more_proofs}
+use Rattle.mz_mmu.specs.Proof.{Proof, Proofs, by_hyp, by_name, by_citation, by_conv, by_let, by_gap, more_proofs}
 use Rattle.mz_mmu.specs.Proofs.{Keyword, conv_word, let_word, refl_word, sym_word, unfold_word, sorry_word, no_word, conv_keyword, proof_keyword, IsConv, IsConvBy, AreConvs, IsFact, IsProof, IsProofBy, AreProofs}
 use Rattle.mz_mmu.proofs.Ascending.{ascending_once}
 
@@ -144,7 +144,11 @@ module _ (sc : Scope) where
         is ∙ ap (λ x. unfold_conv x fs zs c') (number_once sc.names.terms t u u' h1 k1) ∙ ap (λ x. unfold_conv u' x zs c') (expr_list_once sc es fs fs' h2 k2)
         ∙ ap (λ x. unfold_conv u' fs' x c') (variable_list_once sc.vars ys zs zs' h3 k3) ∙ ap (unfold_conv u' fs' zs') (conv_once n c' d' h4 k4) ∙ sym is'
     conv_once_by unfold_word m (node t (node es (node ys (node n (node _ _))))) c d h k = absurd h
-    conv_once_by sorry_word m ns c d h k = absurd h
+    conv_once_by sorry_word m no_nodes c d h k = absurd h
+    conv_once_by sorry_word m (node l no_nodes) c d h k = absurd h
+    conv_once_by sorry_word m (node l (node r no_nodes)) c d (f, g, may, h1, h2, is) (f', g', may', k1, k2, is') =
+        is ∙ ap (λ x. gap_conv x g) (expr_once sc l f f' h1 k1) ∙ ap (gap_conv f') (expr_once sc r g g' h2 k2) ∙ sym is'
+    conv_once_by sorry_word m (node l (node r (node _ _))) c d h k = absurd h
     conv_once_by conv_word m ns c d h k = absurd h
     conv_once_by let_word m ns c d h k = absurd h
     conv_once_by no_word m no_nodes c d (t, h, is) (u, k, is') = is ∙ ap (λ x. cong_conv x no_convs) (number_once sc.names.terms m t u h k) ∙ sym is'
@@ -187,7 +191,9 @@ module _ (sc : Scope) (hyps : List (List ℕ)) where
         is ∙ ap (λ y. by_let y s) (proof_once lets n r r' h2 k2)
         ∙ ap (by_let r') (proof_once (lets ++ v ∷ []) n' s s' h3 (subst (λ u. IsProof sc hyps (lets ++ u ∷ []) n' s') (sym same) k3)) ∙ sym is'
     proof_once_by lets let_word m (node x (node n (node n' (node _ _)))) p q h k = absurd h
-    proof_once_by lets sorry_word m ns p q h k = absurd h
+    proof_once_by lets sorry_word m no_nodes p q h k = absurd h
+    proof_once_by lets sorry_word m (node e no_nodes) p q (f, may, h, is) (f', may', k, is') = is ∙ ap by_gap (expr_once sc e f f' h k) ∙ sym is'
+    proof_once_by lets sorry_word m (node e (node _ _)) p q h k = absurd h
     proof_once_by lets refl_word m ns p q h k = absurd h
     proof_once_by lets sym_word m ns p q h k = absurd h
     proof_once_by lets unfold_word m ns p q h k = absurd h

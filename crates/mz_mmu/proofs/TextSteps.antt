@@ -122,11 +122,11 @@ agrees_with names x (term_decl t) g = λ w h new.
 pub agrees_more : (names later : Names) (x : List ℕ) (d : Declaration) → later ≡ names_with names x d → Agrees names → Agrees later
 agrees_more names later x d after g = subst Agrees (sym after) (agrees_with names x d g)
 
-pub agrees_first : Agrees no_names
-agrees_first w h new = refl
+pub agrees_first : (gaps : Bool) → Agrees (no_names gaps)
+agrees_first gaps w h new = refl
 
-pub few_first : (n : ℕ) → AreFew no_names n
-few_first n = record { sorts = omega arith; terms = omega arith; constants = omega arith; assertions = omega arith }
+pub few_first : (gaps : Bool) (n : ℕ) → AreFew (no_names gaps) n
+few_first gaps n = record { sorts = omega arith; terms = omega arith; constants = omega arith; assertions = omega arith }
 
 pub few_enough : (names : Names) (n m : ℕ) → n ≤ m → AreFew names n → AreFew names m
 few_enough names n m le few = record { sorts = omega (arith, few.sorts); terms = omega (arith, few.terms); constants = omega (arith, few.constants); assertions = omega (arith, few.assertions) }

@@ -1,5 +1,7 @@
 -- How the code keeps the statements of a text.
-use Rattle.std.specs.Prelude.{ℕ, ◌≡◌, ◌<◌, ◌^◌, List, [], ◌∷◌, map, length}
+use Rattle.std.specs.Prelude.{ℕ, Bool, ◌≡◌, ◌<◌, ◌^◌, List, [], ◌∷◌, map, length}
+use Rattle.mz_mode.specs.Gaps.{gaps_of}
+use Rattle.mz_mode.specs.declared.mode.Mode.{Mode}
 use Rattle.mz_sexpr.specs.Node.{Nodes, no_nodes, node}
 use Rattle.mz_sexpr.specs.Number.{node_count, node_at}
 use Rattle.mz_mmu.specs.Proof.{Statement}
@@ -14,8 +16,8 @@ entry e = stated e.is_local e.declared
 abbrev pub root : Entry → ℕ
 root e = e.root
 
-abbrev pub forms : Nodes → List Entry → Forms
-forms nodes entries = record { nodes = nodes; statements = map entry entries }
+abbrev pub forms : Mode → Nodes → List Entry → Forms
+forms mode nodes entries = record { gaps = gaps_of mode; nodes = nodes; statements = map entry entries }
 
 -- the nodes' numbers are these
 abbrev pub AreNumbers : Nodes → Nodes → List ℕ → Type 0
@@ -23,7 +25,7 @@ AreNumbers all no_nodes ks = ks ≡ []
 AreNumbers all (node n ns) [] = ⊥
 AreNumbers all (node n ns) (k ∷ ks) = (k < node_count all) × (n ≡ node_at all k) × AreNumbers all ns ks
 
-pub record IsRooted (nodes : Nodes) (entries : List Entry) : Type 0 where
-  pub read : AreStatements no_names nodes (map entry entries)
+pub record IsRooted (gaps : Bool) (nodes : Nodes) (entries : List Entry) : Type 0 where
+  pub read : AreStatements (no_names gaps) nodes (map entry entries)
   pub roots : AreNumbers nodes nodes (map root entries)
   pub few : length entries < 2 ^ 32

@@ -1,34 +1,36 @@
 -- Laws on the statements of texts.
-use Rattle.std.specs.Prelude.{ℕ, ◌≡◌, ◌⊎◌, ⊤, true, List, [], All, Some, None, MatchBool}
+use Rattle.std.specs.Prelude.{ℕ, ◌≡◌, ◌⊎◌, ⊤, Bool, true, List, [], All, Some, None, MatchBool}
 use Rattle.std.specs.List.Sorted.{IsStrictlyIncreasing}
 use Rattle.mz_logic.specs.Declaration.{Declaration, sort_decl, term_decl, assertion_decl, dummies_of}
 use Rattle.mz_logic.specs.LegalLists.{MayBeLocal}
 use Rattle.mz_logic.specs.declared.binder.Binder.{Binder}
 use Rattle.mz_sexpr.specs.declared.rule.TextRefusal.{TextRefusal}
 use Rattle.mz_sexpr.specs.Node.{Nodes}
+use Rattle.mz_mmu.specs.Gaps.{HasGapsOnly}
 use Rattle.mz_mmu.specs.Proof.{Proof, Statement}
 use Rattle.mz_mmu.specs.Name.{Names}
 use Rattle.mz_mmu.specs.Statements.{AreStatements, Reads}
 use Rattle.mz_mmu.specs.Order.{Refuses}
 
--- a text that is read isn't refused, and no text is refused in two ways
-pub record IsReadOrRefusedOnce (text : List ℕ) : Type 0 where
-  pub never_both : (ns : Nodes) (ss : List Statement) (r : TextRefusal) → Reads text ns ss → Refuses text r → ⊥
-  pub one_refusal : (q r : TextRefusal) → Refuses text q → Refuses text r → q ≡ r
+-- a text that is read isn't refused, and no text is refused in two ways, where proofs may have gaps and
+-- where none may
+pub record IsReadOrRefusedOnce (gaps : Bool) (text : List ℕ) : Type 0 where
+  pub never_both : (ns : Nodes) (ss : List Statement) (r : TextRefusal) → Reads gaps text ns ss → Refuses gaps text r → ⊥
+  pub one_refusal : (q r : TextRefusal) → Refuses gaps text q → Refuses gaps text r → q ≡ r
 
 -- a text is no two lists of nodes, and its nodes no two lists of statements
-abbrev pub HasOneReading : List ℕ → Type 0
-HasOneReading text = (ns ms : Nodes) (ss ts : List Statement) → Reads text ns ss → Reads text ms ts → (ns ≡ ms) × (ss ≡ ts)
+abbrev pub HasOneReading : Bool → List ℕ → Type 0
+HasOneReading gaps text = (ns ms : Nodes) (ss ts : List Statement) → Reads gaps text ns ss → Reads gaps text ms ts → (ns ≡ ms) × (ss ≡ ts)
 
 -- over these names, too, nodes are no two lists of statements
 abbrev pub AreOneList : Names → Nodes → Type 0
 AreOneList names ns = (ss ts : List Statement) → AreStatements names ns ss → AreStatements names ns ts → ss ≡ ts
 
 -- a text has statements or a refusal, and never both or two refusals
-pub record IsReadOrRefused (text : List ℕ) : Type 0 where
-  pub one_of_both : ((ns : Nodes) × (ss : List Statement) × Reads text ns ss) ⊎ ((r : TextRefusal) × Refuses text r)
-  pub never_both : (ns : Nodes) (ss : List Statement) (r : TextRefusal) → Reads text ns ss → Refuses text r → ⊥
-  pub one_refusal : (q r : TextRefusal) → Refuses text q → Refuses text r → q ≡ r
+pub record IsReadOrRefused (gaps : Bool) (text : List ℕ) : Type 0 where
+  pub one_of_both : ((ns : Nodes) × (ss : List Statement) × Reads gaps text ns ss) ⊎ ((r : TextRefusal) × Refuses gaps text r)
+  pub never_both : (ns : Nodes) (ss : List Statement) (r : TextRefusal) → Reads gaps text ns ss → Refuses gaps text r → ⊥
+  pub one_refusal : (q r : TextRefusal) → Refuses gaps text q → Refuses gaps text r → q ≡ r
 
 -- ---- what each statement of a text has
 
@@ -58,3 +60,7 @@ pub record IsWhole (s : Statement) : Type 0 where
 
 abbrev pub AreWhole : Names → Nodes → Type 0
 AreWhole names ns = (ss : List Statement) → AreStatements names ns ss → All IsWhole ss
+
+-- where no proof may have a gap, none has one
+abbrev pub OnlyDraftsHaveGaps : Names → Nodes → Type 0
+OnlyDraftsHaveGaps names ns = (ss : List Statement) → AreStatements names ns ss → All (HasGapsOnly (names.gaps ≡ true)) ss

@@ -13,6 +13,7 @@ pub mod TextView
 pub mod EntryView
 pub mod TextRead
 pub mod TextStops
+pub mod Gaps
 pub mod Laws
 pub mod NamesMore
 pub mod ConvCode

@@ -59,8 +59,9 @@ IsParamName xs (list _ _) x = ⊥
 -- ---- what is declared
 
 -- the names of the statements before: those of sorts, of terms, of terms without parameters (with
--- nothing in the place of a term that has some), of axioms and theorems
+-- nothing in the place of a term that has some), of axioms and theorems; and whether proofs may have gaps
 pub record Names : Type 0 where
+  pub gaps : Bool
   pub sorts : List (List ℕ)
   pub terms : List (List ℕ)
   pub constants : List (List ℕ)

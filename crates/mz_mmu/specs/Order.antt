@@ -104,9 +104,18 @@ result_asked names vars n = never (place n) U.Form
 
 -- ---- conversions and proofs
 
--- an open part is refused, whatever it holds
-abbrev pub open_asked : ℕ → Checks Fault
-open_asked at = never at U.Sorry
+-- a gap is refused, whatever it holds, unless proofs may have gaps
+abbrev pub gap_asked : Scope → ℕ → Checks Fault
+gap_asked sc at = demand (fault at U.Sorry) (sc.names.gaps ≡ true)
+
+-- it holds one expression in the place of a proof, and two in that of a conversion
+abbrev pub one_expr_asked : Scope → ℕ → Nodes → Checks Fault
+one_expr_asked sc at (node e no_nodes) = expr_asked sc e
+one_expr_asked sc at _ = never at U.Form
+
+abbrev pub two_exprs_asked : Scope → ℕ → Nodes → Checks Fault
+two_exprs_asked sc at (node l (node r no_nodes)) = expr_asked sc l >> expr_asked sc r
+two_exprs_asked sc at _ = never at U.Form
 
 abbrev mutual
   pub conv_asked : Scope → Node → Checks Fault
@@ -119,7 +128,7 @@ abbrev mutual
   conv_asked_by sc sym_word at h (node n no_nodes) = conv_asked sc n
   conv_asked_by sc unfold_word at h (node t (node es (node ys (node n no_nodes)))) =
       known_asked sc.names.terms t >> expr_list_asked sc es >> variable_list_asked sc.vars ys >> conv_asked sc n
-  conv_asked_by sc sorry_word at h ns = open_asked at
+  conv_asked_by sc sorry_word at h ns = gap_asked sc at >> two_exprs_asked sc at ns
   conv_asked_by sc no_word at h no_nodes = known_asked sc.names.terms h
   conv_asked_by sc no_word at h (node n ns) = known_asked sc.names.terms h >> conv_asked sc n >> convs_asked sc ns
   conv_asked_by sc _ at h ns = never at U.Form
@@ -140,7 +149,7 @@ abbrev mutual
   proof_asked_by sc hyps lets conv_word at h (node e (node c (node q no_nodes))) = expr_asked sc e >> conv_asked sc c >> proof_asked sc hyps lets q
   proof_asked_by sc hyps lets let_word at h (node x (node q (node q' no_nodes))) =
       new_asked (hyps ++ lets) x >> proof_asked sc hyps lets q >> proof_asked sc hyps (lets ++ word x ∷ []) q'
-  proof_asked_by sc hyps lets sorry_word at h ns = open_asked at
+  proof_asked_by sc hyps lets sorry_word at h ns = gap_asked sc at >> one_expr_asked sc at ns
   proof_asked_by sc hyps lets no_word at h (node es ns) = known_asked sc.names.assertions h >> expr_list_asked sc es >> proofs_asked sc hyps lets ns
   proof_asked_by sc hyps lets _ at h ns = never at U.Form
 
@@ -236,5 +245,5 @@ statements_asked k names (node n ns) = retold (in_statement k) (statement_asked 
 
 -- the first of its bytes or parentheses that may not stand where it does, or, where there is none, of
 -- its forms and names
-abbrev pub Refuses : List ℕ → TextRefusal → Type 0
-Refuses text r = IsMisspelled text r ⊎ ((ns : Nodes) × Spells text ns × FailsFirst (statements_asked 1 no_names ns) r)
+abbrev pub Refuses : Bool → List ℕ → TextRefusal → Type 0
+Refuses gaps text r = IsMisspelled text r ⊎ ((ns : Nodes) × Spells text ns × FailsFirst (statements_asked 1 (no_names gaps) ns) r)

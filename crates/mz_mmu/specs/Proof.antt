@@ -7,7 +7,8 @@ use Rattle.mz_logic.specs.Conversions.{Conversion}
 use Rattle.mz_logic.specs.declared.binder.Binder.{Binder}
 
 -- a hypothesis; a visible let, counted from the outermost; a citation of an axiom or theorem; an
--- expression that converts to what is proved; and a let with the proof in which it is visible
+-- expression that converts to what is proved; a let with the proof in which it is visible; and a gap, in the
+-- place of a proof of the expression
 mutual
   pub data Proof : Type 0 where
     by_hyp : ℕ → Proof
@@ -15,6 +16,7 @@ mutual
     by_citation : ℕ → Trees → Proofs → Proof
     by_conv : Tree → Conversion → Proof → Proof
     by_let : Proof → Proof → Proof
+    by_gap : Tree → Proof
 
   pub data Proofs : Type 0 where
     no_proofs : Proofs

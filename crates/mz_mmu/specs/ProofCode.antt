@@ -6,7 +6,7 @@ use Rattle.mz_logic.specs.Tree.{Trees, app, none, more, operand}
 use Rattle.mz_logic.specs.TreeCode.{trees_code}
 use Rattle.mz_logic.specs.Conversions.{Conversion, refl_conv}
 use Rattle.mz_mmu.specs.ConvCode.{conv_code}
-use Rattle.mz_mmu.specs.Proof.{Proof, Proofs, by_hyp, by_name, by_citation, by_conv, by_let, no_proofs, more_proofs}
+use Rattle.mz_mmu.specs.Proof.{Proof, Proofs, by_hyp, by_name, by_citation, by_conv, by_let, by_gap, no_proofs, more_proofs}
 
 abbrev pub Mark : Type 0
 Mark = (ℕ × ℕ) × (Trees × Conversion)
@@ -21,6 +21,7 @@ abbrev mutual
   put_proof (by_citation T es ps) k = ((2, T), (es, no_conv)) ∷ put_proofs ps k
   put_proof (by_conv e c p) k = ((3, 0), (more e none, c)) ∷ put_proof p k
   put_proof (by_let p q) k = ((4, 0), (none, no_conv)) ∷ put_proof p (put_proof q k)
+  put_proof (by_gap e) k = ((7, 0), (more e none, no_conv)) ∷ k
 
   pub put_proofs : Proofs → List Mark → List Mark
   put_proofs no_proofs k = ((5, 0), (none, no_conv)) ∷ k
@@ -52,7 +53,8 @@ take_mark (suc (suc zero)) n es c st = on_top (λ ps. one_proof (by_citation n e
 take_mark (suc (suc (suc zero))) n es c st = on_top (λ ps. one_proof (by_conv (operand es 0) c (head_proof ps))) st
 take_mark (suc (suc (suc (suc zero)))) n es c st = let_top st
 take_mark (suc (suc (suc (suc (suc zero))))) n es c st = no_proofs ∷ st
-take_mark (suc (suc (suc (suc (suc (suc _)))))) n es c st = join_top st
+take_mark (suc (suc (suc (suc (suc (suc zero)))))) n es c st = join_top st
+take_mark (suc (suc (suc (suc (suc (suc (suc _))))))) n es c st = one_proof (by_gap (operand es 0)) ∷ st
 
 abbrev pub read_marks : List Mark → List Proofs
 read_marks [] = []
@@ -65,6 +67,7 @@ mutual
   read_put_proof (by_citation T es ps) k = ap (on_top (λ qs. one_proof (by_citation T es qs))) (read_put_proofs ps k)
   read_put_proof (by_conv e c p) k = ap (on_top (λ qs. one_proof (by_conv e c (head_proof qs)))) (read_put_proof p k)
   read_put_proof (by_let p q) k = ap let_top (read_put_proof p (put_proof q k)) ∙ ap (λ s. let_top (one_proof p ∷ s)) (read_put_proof q k)
+  read_put_proof (by_gap e) k = refl
 
   pub read_put_proofs : (ps : Proofs) (k : List Mark) → read_marks (put_proofs ps k) ≡ ps ∷ read_marks k
   read_put_proofs no_proofs k = refl
@@ -89,6 +92,7 @@ abbrev mutual
   proof_steps (by_citation T es ps) = 1 + proofs_steps ps
   proof_steps (by_conv e c p) = 1 + proof_steps p
   proof_steps (by_let p q) = 1 + proof_steps p + proof_steps q
+  proof_steps (by_gap e) = 1
 
   pub proofs_steps : Proofs → ℕ
   proofs_steps no_proofs = 0

@@ -4,7 +4,7 @@ use Rattle.std.proofs.Common.{arith}
 use Rattle.mz_mmu.specs.ProofCode.{proof_steps, proofs_steps}
 use Rattle.mz_mmu.specs.ProofView.{proof_view, proofs_view}
 use Rattle.mz_mmu.specs.declared.proof.Proof.{Proof}
-use Rattle.mz_mmu.specs.declared.proof.Proof.TheVariants.{Hyp, Name, Cite, Conv, Let}
+use Rattle.mz_mmu.specs.declared.proof.Proof.TheVariants.{Hyp, Name, Cite, Conv, Let, Gap}
 use Rattle.mz_mmu.specs.declared.proof.ProofBox.TheDeep.{deep-Proof}
 use denote.Param.Weighed.{most}
 
@@ -14,6 +14,7 @@ deep_le_steps (Name i) = omega arith
 deep_le_steps (Cite T es ps) = omega arith
 deep_le_steps (Conv e c p) = omega arith
 deep_le_steps (Let p q) = omega arith
+deep_le_steps (Gap e) = omega arith
 
 pub most_le_steps : (ps : List Proof) → max (most deep-Proof ps) 0 ≤ proofs_steps (proofs_view ps)
 most_le_steps [] = omega arith

@@ -1,13 +1,13 @@
 -- Which conversions and proofs nodes are (this project's own profile of their s-expression form).
-use Rattle.std.specs.Prelude.{ℕ, ◌≡◌, ◌⊎◌, List, [], ◌∷◌, ◌++◌, Some, codes, bytes_eq, if◌then◌else◌}
+use Rattle.std.specs.Prelude.{ℕ, ◌≡◌, ◌⊎◌, true, List, [], ◌∷◌, ◌++◌, Some, codes, bytes_eq, if◌then◌else◌}
 pub use Rattle.mz_mmu.specs.declared.keyword.Keyword.{Keyword}
 pub use Rattle.mz_mmu.specs.declared.keyword.Keyword.TheVariants.{Conv as conv_word, Let as let_word, Refl as refl_word, Sym as sym_word, Unfold as unfold_word, Sorry as sorry_word, Other as no_word}
 use Rattle.mz_sexpr.specs.Node.{Node, Nodes, atom, list, no_nodes, node, word}
 use Rattle.mz_logic.specs.Tree.{Tree, Trees}
-use Rattle.mz_logic.specs.Conversions.{Conversion, Conversions, refl_conv, sym_conv, cong_conv, unfold_conv, no_convs, more_convs}
+use Rattle.mz_logic.specs.Conversions.{Conversion, Conversions, refl_conv, sym_conv, cong_conv, unfold_conv, gap_conv, no_convs, more_convs}
 use Rattle.mz_mmu.specs.Name.{Scope, number_of, IsName, IsNew, HasNumber, IsNewName}
 use Rattle.mz_mmu.specs.Expressions.{IsExpr, IsExprList, IsVariableList}
-use Rattle.mz_mmu.specs.Proof.{Proof, Proofs, by_hyp, by_name, by_citation, by_conv, by_let, no_proofs, more_proofs}
+use Rattle.mz_mmu.specs.Proof.{Proof, Proofs, by_hyp, by_name, by_citation, by_conv, by_let, by_gap, no_proofs, more_proofs}
 
 -- ---- the literal words with which a list may begin; a list that begins with none of those that its
 -- place knows begins with a name
@@ -32,7 +32,8 @@ conv_keyword n = conv_keyword_of (word n)
 abbrev pub proof_keyword : Node → Keyword
 proof_keyword n = proof_keyword_of (word n)
 
--- ---- conversions: an atom or (:refl expr); (:sym conv); (t conv ..); (:unfold t (expr ..) (var ..) conv)
+-- ---- conversions: an atom or (:refl expr); (:sym conv); (t conv ..); (:unfold t (expr ..) (var ..) conv);
+-- and in a draft a gap, (:sorry expr expr)
 
 abbrev mutual
   pub IsConv : Scope → Node → Conversion → Type 0
@@ -47,6 +48,8 @@ abbrev mutual
       (u : ℕ) × (fs : Trees) × (zs : List ℕ) × (d : Conversion)
       × HasNumber sc.names.terms t u × IsExprList sc es fs × IsVariableList sc.vars ys zs × IsConv sc n d
       × (c ≡ unfold_conv u fs zs d)
+  IsConvBy sc sorry_word h (node l (node r no_nodes)) c = (f : Tree) × (g : Tree)
+      × (sc.names.gaps ≡ true) × IsExpr sc l f × IsExpr sc r g × (c ≡ gap_conv f g)
   IsConvBy sc no_word h no_nodes c = (t : ℕ) × HasNumber sc.names.terms h t × (c ≡ cong_conv t no_convs)
   IsConvBy sc no_word h (node n ns) c = (t : ℕ) × (d : Conversion) × (ds : Conversions)
       × HasNumber sc.names.terms h t × IsConv sc n d × AreConvs sc ns ds × (c ≡ cong_conv t (more_convs d ds))
@@ -56,7 +59,8 @@ abbrev mutual
   AreConvs sc no_nodes cs = cs ≡ no_convs
   AreConvs sc (node n ns) cs = (d : Conversion) × (ds : Conversions) × IsConv sc n d × AreConvs sc ns ds × (cs ≡ more_convs d ds)
 
--- ---- proofs: h; (T (expr ..) proof ..); (:conv expr conv proof); (:let h proof proof)
+-- ---- proofs: h; (T (expr ..) proof ..); (:conv expr conv proof); (:let h proof proof); and in a draft a gap,
+-- (:sorry expr)
 
 -- an atom is a hypothesis or a visible let; `hyps` are the names of the hypotheses, and `lets` those
 -- of the lets around, from the outermost
@@ -78,6 +82,7 @@ abbrev mutual
   IsProofBy sc hyps lets let_word h (node x (node q (node q' no_nodes))) p =
       (w : List ℕ) × (r : Proof) × (r' : Proof) × IsNewName (hyps ++ lets) x w × IsProof sc hyps lets q r × IsProof sc hyps (lets ++ w ∷ []) q' r'
       × (p ≡ by_let r r')
+  IsProofBy sc hyps lets sorry_word h (node e no_nodes) p = (f : Tree) × (sc.names.gaps ≡ true) × IsExpr sc e f × (p ≡ by_gap f)
   IsProofBy sc hyps lets no_word h (node es ns) p =
       (T : ℕ) × (fs : Trees) × (rs : Proofs) × HasNumber sc.names.assertions h T × IsExprList sc es fs × AreProofs sc hyps lets ns rs
       × (p ≡ by_citation T fs rs)

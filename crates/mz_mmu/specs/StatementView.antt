@@ -2,9 +2,8 @@
 use Rattle.std.specs.Prelude.{Bool, Option, Some, None}
 use Rattle.mz_logic.specs.DeclView.{declaration}
 use Rattle.mz_mmu.specs.Proof.{Proof as StatedProof, Statement}
-use Rattle.mz_mmu.specs.ProofView.{proof_view}
 use Rattle.mz_mmu.specs.Statements.{Modifiers}
-use Rattle.mz_mmu.specs.declared.proof.Proof.{Proof}
+use Rattle.mz_mmu.specs.declared.proof.ProofBox.{ProofBox}
 use Rattle.mz_mmu.specs.declared.statements.Modifiers.{Modifiers as Met}
 use Rattle.mz_mmu.specs.declared.statements.Declared.{Declared}
 
@@ -15,9 +14,9 @@ abbrev pub option_modifiers : Option Met → Option Modifiers
 option_modifiers None = None
 option_modifiers (Some m) = Some (modifiers m)
 
-abbrev pub option_proof : Option Proof → Option StatedProof
+abbrev pub option_proof : Option ProofBox → Option StatedProof
 option_proof None = None
-option_proof (Some p) = Some (proof_view p)
+option_proof (Some p) = Some p
 
 -- with this mark
 abbrev pub stated : Bool → Declared → Statement

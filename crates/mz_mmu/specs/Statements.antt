@@ -137,8 +137,8 @@ IsStatement names (list _ (node k ns)) s = IsMarked (is_local_word k) names k ns
 
 -- ---- all statements, each over the names of those before it
 
-abbrev pub no_names : Names
-no_names = record { sorts = []; terms = []; constants = []; assertions = [] }
+abbrev pub no_names : Bool → Names
+no_names gaps = record { gaps = gaps; sorts = []; terms = []; constants = []; assertions = [] }
 
 -- a term's name where it has no parameters, and nothing where it has some
 abbrev pub constant_name : List Binder → List ℕ → List ℕ
@@ -155,6 +155,6 @@ AreStatements names no_nodes ss = ss ≡ []
 AreStatements names (node n ns) ss = (s : Statement) × (rest : List Statement)
     × IsStatement names n s × AreStatements (names_with names s.name s.decl) ns rest × (ss ≡ s ∷ rest)
 
--- the text's nodes are these, and its statements these
-abbrev pub Reads : List ℕ → Nodes → List Statement → Type 0
-Reads text ns ss = Spells text ns × AreStatements no_names ns ss
+-- the text's nodes are these, and its statements these; proofs may have gaps, or none may
+abbrev pub Reads : Bool → List ℕ → Nodes → List Statement → Type 0
+Reads gaps text ns ss = Spells text ns × AreStatements (no_names gaps) ns ss

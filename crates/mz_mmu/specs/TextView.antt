@@ -1,4 +1,4 @@
--- What a text is seen as: its nodes and its statements.
+-- What a text is seen as: whether its proofs may have gaps, its nodes and its statements.
 use Rattle.std.specs.Prelude.{ℕ, Bool, false, List, ◌≡◌, ◌⊎◌, Option, Some, None, refl}
 use Rattle.std.specs.Coded.{Coded, code_by, coded×, coded⊎, coded_ℕ, coded_bool, coded_list}
 use Rattle.std.proofs.Common.{inl, inr}
@@ -11,6 +11,7 @@ use Rattle.mz_mmu.specs.Proof.{Proof, Statement}
 use Rattle.mz_mmu.specs.ProofCode.{proof_code}
 
 pub record Forms : Type 0 where
+  pub gaps : Bool
   pub nodes : Nodes
   pub statements : List Statement
 
@@ -38,5 +39,5 @@ statement_code = code_by ((Bool × List ℕ) × (Declaration × (List Binder × 
     (λ p. record { is_local = p.0.0; name = p.0.1; decl = p.1.0; dummies = p.1.1.0; proof = p.1.1.1 }) (λ _. refl)
 
 abbrev pub forms_code : Coded Forms
-forms_code = code_by (Nodes × List Statement) (coded× nodes_code (coded_list statement_code))
-    (λ f. (f.nodes, f.statements)) (λ p. record { nodes = p.0; statements = p.1 }) (λ _. refl)
+forms_code = code_by (Bool × (Nodes × List Statement)) (coded× coded_bool (coded× nodes_code (coded_list statement_code)))
+    (λ f. (f.gaps, (f.nodes, f.statements))) (λ p. record { gaps = p.0; nodes = p.1.0; statements = p.1.1 }) (λ _. refl)

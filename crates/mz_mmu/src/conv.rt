@@ -48,6 +48,8 @@ pub enum Conv {
     /// A definition, by its number, unfolds: operands for its parameters, variables for its dummies,
     /// and a conversion of the body.
     Unfold(u32, Exprs, Vars, ConvBox),
+    /// A gap, from the one expression to the other.
+    Gap(Expr, Expr),
 }
 
 /// A conversion in another one.

@@ -3,7 +3,7 @@ ghost use Rattle.mz_sexpr.specs.Node.{Node, place};
 ghost use Rattle.mz_sexpr.specs.Number.{node_count, node_at};
 ghost use Rattle.mz_mmu.specs.ConvView.{conversion};
 ghost use Rattle.mz_mmu.specs.Cursor.{nodes_from, IsThere};
-ghost use Rattle.mz_mmu.specs.Proofs.{IsConv, IsConvBy, AreConvs, refl_word, sym_word, unfold_word, no_word};
+ghost use Rattle.mz_mmu.specs.Proofs.{IsConv, IsConvBy, AreConvs, refl_word, sym_word, unfold_word, sorry_word, no_word};
 ghost use Rattle.mz_mmu.specs.Order.{conv_asked, conv_asked_by, convs_asked};
 ghost use Rattle.mz_mmu.specs.ScopeView.{scope};
 ghost use Rattle.mz_mmu.specs.Stops.{Stops};
@@ -36,7 +36,7 @@ impl<'r, 'a> Reader<'r, 'a> {
             Keyword::Refl => self.refl(sc, n, rest),
             Keyword::Sym => self.sym(sc, n, rest),
             Keyword::Unfold => self.unfold(sc, n, rest),
-            Keyword::Sorry => Err(self.wrong(n, U::Sorry)),
+            Keyword::Sorry => self.gap_conv(sc, n, rest),
             _ => self.cong(sc, head, rest),
         }
     }
@@ -88,6 +88,25 @@ impl<'r, 'a> Reader<'r, 'a> {
         let conv = self.conv(sc, part)?;
         let conv = ConvBox::new(self.alloc, conv)?;
         Ok(Conv::Unfold(term, operands, Vars::from_vec(vars), conv))
+    }
+
+    /// What is left of `(:sorry expr expr)`, which only a draft may have.
+    #[inline(never)]
+    fn gap_conv(&self, sc: &Scope<'_, 'a>, n: u32, rest: Option<u32>) -> Result<Conv, Stop>
+        requires within { n < node_count self.now.nodes.now }
+        requires there { IsThere self.now.nodes.now rest }
+        ensures read { IfOk result (λ c. (h : Node) → IsConvBy (scope sc.now) sorry_word h (nodes_from self.now.nodes.now rest) (conversion c)) }
+        ensures stops { IfErr result (λ stop. (h : Node) → Stops stop (conv_asked_by (scope sc.now) sorry_word (place (node_at self.now.nodes.now n)) h (nodes_from self.now.nodes.now rest))) }
+    {
+        if !sc.names.mode.allows_gaps() {
+            return Err(self.wrong(n, U::Sorry));
+        }
+        let Some((left, right)) = self.two(rest) else {
+            return Err(self.wrong(n, U::Form));
+        };
+        let left = self.expr(sc, left)?;
+        let right = self.expr(sc, right)?;
+        Ok(Conv::Gap(left, right))
     }
 
     /// `(t conv ..)`.

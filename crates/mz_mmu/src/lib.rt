@@ -20,6 +20,8 @@ mod text;
 
 pub use conv::{Conv, ConvBox, Convs, Vars};
 pub use fault::{Fault, Stop};
-pub use laws::{one_reading, read_or_refused, read_or_refused_once, statements_are_whole};
+pub use laws::{
+    one_reading, only_drafts_have_gaps, read_or_refused, read_or_refused_once, statements_are_whole,
+};
 pub use proof::{Proof, ProofBox, Proofs};
-pub use text::{Text, TextRead, read_text};
+pub use text::{Entry, Text, TextRead, read_text};

@@ -1,7 +1,7 @@
 ghost use Rattle.std.specs.Prelude.{◌≡◌, IfOk};
 ghost use Rattle.mz_mmu.specs.ProofView.{proof_view, proofs_view};
 
-use crate::conv::Conv;
+use crate::conv::ConvBox;
 use mz_logic::{Expr, Exprs};
 use std::alloc::{AllocError, Global};
 use std::marker::Model;
@@ -18,9 +18,11 @@ pub enum Proof {
     /// hypotheses.
     Cite(u32, Exprs, Proofs),
     /// An expression, which converts to what is proved.
-    Conv(Expr, Conv, ProofBox),
+    Conv(Expr, ConvBox, ProofBox),
     /// A let, and the proof in which it is visible.
     Let(ProofBox, ProofBox),
+    /// A gap, in the place of a proof of the expression.
+    Gap(Expr),
 }
 
 /// A proof in another one.

@@ -1,14 +1,15 @@
-ghost use Rattle.std.specs.Prelude.{◌≡◌, ◌<◌, ◌+◌, ◌^◌, ◌++◌, length, true, IfOk, IfErr, OnOk};
+ghost use Rattle.std.specs.Prelude.{ℕ, List, ◌≡◌, ◌<◌, ◌+◌, ◌^◌, ◌++◌, length, true, IfOk, IfErr, OnOk};
 ghost use Rattle.mz_sexpr.specs.Node.{Node, is_atom, place};
 ghost use Rattle.mz_sexpr.specs.Number.{node_count, node_at};
 ghost use Rattle.mz_mmu.specs.ProofView.{proof_view};
 ghost use Rattle.mz_mmu.specs.Cursor.{nodes_from, IsThere, node_size, nodes_size};
 ghost use Rattle.mz_mmu.specs.Name.{Scope as Visible, IsNewName};
-ghost use Rattle.mz_mmu.specs.Proofs.{IsProof, IsProofBy, AreProofs, conv_word, let_word, no_word};
+ghost use Rattle.mz_mmu.specs.Proofs.{IsProof, IsProofBy, AreProofs, conv_word, let_word, sorry_word, no_word};
 ghost use Rattle.mz_mmu.specs.Order.{proof_asked, proof_asked_by, proofs_asked, new_asked};
 ghost use Rattle.mz_mmu.specs.ScopeView.{scope};
 ghost use Rattle.mz_mmu.specs.Stops.{Stops};
 
+use crate::conv::ConvBox;
 use crate::fault::Stop;
 use crate::keyword::Keyword;
 use crate::proof::{Proof, ProofBox, Proofs};
@@ -74,7 +75,7 @@ impl<'r, 'a> Reader<'r, 'a> {
         match Keyword::of_proof(self.word(head)) {
             Keyword::Conv => self.conv_proof(sc, hyps, lets, n, rest),
             Keyword::Let => self.let_proof(sc, hyps, lets, n, rest),
-            Keyword::Sorry => Err(self.wrong(n, U::Sorry)),
+            Keyword::Sorry => self.gap(sc, n, rest),
             _ => self.citation(sc, hyps, lets, n, head, rest),
         }
     }
@@ -83,7 +84,7 @@ impl<'r, 'a> Reader<'r, 'a> {
     /// once a level.
     #[inline(never)]
     #[cycle(proof)]
-    fn boxed_proof(
+    pub fn boxed_proof(
         &self,
         sc: &Scope<'_, 'a>,
         hyps: &Space<'a>,
@@ -124,6 +125,7 @@ impl<'r, 'a> Reader<'r, 'a> {
         };
         let expr = self.expr(sc, expr)?;
         let conv = self.conv(sc, conv)?;
+        let conv = ConvBox::new(self.alloc, conv)?;
         let proof = self.boxed_proof(sc, hyps, lets, part)?;
         Ok(Proof::Conv(expr, conv, proof))
     }
@@ -155,6 +157,24 @@ impl<'r, 'a> Reader<'r, 'a> {
         let scope = self.boxed_proof(sc, hyps, lets, second)?;
         lets.pop();
         Ok(Proof::Let(proof, scope))
+    }
+
+    /// What is left of `(:sorry expr)`, which only a draft may have.
+    #[inline(never)]
+    fn gap(&self, sc: &Scope<'_, 'a>, n: u32, rest: Option<u32>) -> Result<Proof, Stop>
+        requires within { n < node_count self.now.nodes.now }
+        requires there { IsThere self.now.nodes.now rest }
+        ensures read { (hyps lets : List (List ℕ)) (h : Node) → IfOk result (λ p. IsProofBy (scope sc.now) hyps lets sorry_word h (nodes_from self.now.nodes.now rest) (proof_view p)) }
+        ensures stops { (hyps lets : List (List ℕ)) (h : Node) → IfErr result (λ stop. Stops stop (proof_asked_by (scope sc.now) hyps lets sorry_word (place (node_at self.now.nodes.now n)) h (nodes_from self.now.nodes.now rest))) }
+    {
+        if !sc.names.mode.allows_gaps() {
+            return Err(self.wrong(n, U::Sorry));
+        }
+        let Some(expr) = self.one(rest) else {
+            return Err(self.wrong(n, U::Form));
+        };
+        let expr = self.expr(sc, expr)?;
+        Ok(Proof::Gap(expr))
     }
 
     /// `(T (expr ..) proof ..)`.

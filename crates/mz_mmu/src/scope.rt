@@ -1,5 +1,6 @@
 ghost use Rattle.std.specs.Prelude.{◌≡◌, ◌^◌, ◌-◌, OnOk};
 ghost use Rattle.mz_logic.specs.DeclView.{declaration};
+ghost use Rattle.mz_mode.specs.Gaps.{gaps_of};
 ghost use Rattle.mz_mmu.specs.Name.{IsName, IsNew};
 ghost use Rattle.mz_mmu.specs.NamesMore.{IsUnused, AreFew, with_term};
 ghost use Rattle.mz_mmu.specs.Statements.{no_names, names_with};
@@ -7,11 +8,13 @@ ghost use Rattle.mz_mmu.specs.ScopeView.{names};
 
 use crate::space::Space;
 use mz_logic::Decl;
+use mz_mode::Mode;
 use std::alloc::{AllocError, Global};
 
-/// The names of the statements so far.
+/// The names of the statements so far, and whether proofs may have gaps.
 #[derive(Drop)]
 pub struct Names<'a> {
+    pub mode: Mode,
     pub sorts: Space<'a>,
     pub terms: Space<'a>,
     /// The terms without parameters; at the place of another one stands an empty word.
@@ -21,10 +24,12 @@ pub struct Names<'a> {
 
 impl<'a> Names<'a> {
     /// No names.
-    pub fn new(alloc: Global) -> Names<'a>
-        ensures { names result ≡ no_names }
+    pub fn new(alloc: Global, mode: Mode) -> Names<'a>
+        ensures none { names result ≡ no_names (gaps_of mode) }
+        ensures mode { result.mode ≡ mode }
     {
         Names {
+            mode,
             sorts: Space::new(alloc),
             terms: Space::new(alloc),
             constants: Space::new(alloc),

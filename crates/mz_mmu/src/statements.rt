@@ -4,7 +4,6 @@ ghost use Rattle.mz_sexpr.specs.Node.{place};
 ghost use Rattle.mz_sexpr.specs.Number.{node_count, node_at};
 ghost use Rattle.mz_mmu.specs.Expressions.{IsExpr};
 ghost use Rattle.mz_mmu.specs.Proofs.{IsProof};
-ghost use Rattle.mz_mmu.specs.ProofView.{proof_view};
 ghost use Rattle.mz_mmu.specs.Cursor.{nodes_from, IsThere, node_size, nodes_size};
 ghost use Rattle.mz_mmu.specs.Statements;
 ghost use Rattle.mz_mmu.specs.Statements.{scope_of, no_modifiers, with_modifier, modifier_bits, AreModifiers, IsHyp, AreNamedHyps, IsDeclared, IsLocal, IsStatement, sort_kind, term_kind, axiom_kind, def_kind, theorem_kind};
@@ -15,7 +14,7 @@ ghost use Rattle.mz_mmu.specs.Stops.{Stops};
 
 use crate::fault::Stop;
 use crate::keyword::{Kind, is};
-use crate::proof::Proof;
+use crate::proof::ProofBox;
 use crate::reader::Reader;
 use crate::scope::{Names, Scope};
 use crate::space::Space;
@@ -113,7 +112,7 @@ pub struct Declared<'a> {
     pub name: &'a [u8],
     pub decl: Decl,
     pub dummies: Binders,
-    pub proof: Option<Proof>,
+    pub proof: Option<ProofBox>,
 }
 
 impl<'r, 'a> Reader<'r, 'a> {
@@ -362,14 +361,14 @@ impl<'r, 'a> Reader<'r, 'a> {
         vars: &Space<'a>,
         labels: &Space<'a>,
         n: u32,
-    ) -> Result<Proof, Stop>
+    ) -> Result<ProofBox, Stop>
         requires within { n < node_count self.now.nodes.now }
         requires few { node_size (node_at self.now.nodes.now n) < 2 ^ 32 }
-        ensures read { IfOk result (λ p. IsProof (scope_of (names_view names.now) vars.now) labels.now [] (node_at self.now.nodes.now n) (proof_view p)) }
+        ensures read { IfOk result (IsProof (scope_of (names_view names.now) vars.now) labels.now [] (node_at self.now.nodes.now n)) }
         ensures stops { IfErr result (λ stop. Stops stop (proof_asked (scope_of (names_view names.now) vars.now) labels.now [] (node_at self.now.nodes.now n))) }
     {
         let mut lets = Space::new(self.alloc);
-        self.proof(&Scope { names, vars }, labels, &mut lets, n)
+        self.boxed_proof(&Scope { names, vars }, labels, &mut lets, n)
     }
 
     /// The same, with room for the names of its variables and of its hypotheses.

@@ -1,5 +1,6 @@
 ghost use Rattle.std.specs.Prelude.{◌≡◌, ◌<◌, ◌^◌, ◌-◌, ◌++◌, ◌∷◌, [], length, IfOk, IfErr, OnOk};
 ghost use Rattle.mz_logic.specs.DeclView.{declaration};
+ghost use Rattle.mz_mode.specs.Gaps.{gaps_of};
 ghost use Rattle.mz_mmu.specs.Name.{IsName};
 ghost use Rattle.mz_mmu.specs.NamesMore.{IsUnused, AreFew};
 ghost use Rattle.mz_mmu.specs.EntryView.{IsRooted};
@@ -16,21 +17,23 @@ use crate::reader::Reader;
 use crate::scope::Names;
 use crate::statements::Declared;
 use mz_logic::{Binders, Decl};
+use mz_mode::Mode;
 use mz_sexpr::{SexprRead, Sexprs, TextRefusal, read_sexprs};
 use std::alloc::{AllocError, Global};
 use std::marker::Model;
 
-/// A statement of a text, with its node and its mark.
+/// A statement of a text, with the number of its node and its mark.
 #[derive(Drop)]
-pub(crate) struct Entry<'a> {
-    pub(crate) root: u32,
-    pub(crate) is_local: bool,
-    pub(crate) declared: Declared<'a>,
+pub struct Entry<'a> {
+    pub root: u32,
+    pub is_local: bool,
+    pub declared: Declared<'a>,
 }
 
-/// A text: its nodes, and its statements with names resolved.
+/// A text: its nodes, and its statements with names resolved, whose proofs may have gaps in a draft.
 #[derive(Drop)]
 pub struct Text<'a> {
+    mode: Mode,
     nodes: Sexprs<'a>,
     entries: Vec<Entry<'a>>,
 }
@@ -43,10 +46,11 @@ impl<'a> Model for Text<'a> {
     ghost coded = { forms_code };
 
     ghost use Rattle.mz_mmu.specs.EntryView.{forms, IsRooted};
+    ghost use Rattle.mz_mode.specs.Gaps.{gaps_of};
 
-    ghost view = { λ a. forms a.nodes a.entries.items };
+    ghost view = { λ a. forms a.mode a.nodes a.entries.items };
 
-    ghost invariant = { λ a. IsRooted a.nodes a.entries.items };
+    ghost invariant = { λ a. IsRooted (gaps_of a.mode) a.nodes a.entries.items };
 }
 
 /// What reading a text answers.
@@ -106,10 +110,10 @@ fn read_all<'a>(
     entries: &mut Vec<Entry<'a>>,
 ) -> Result<(), TextStop>
     requires few { nodes_size nodes.now < 2 ^ 32 }
-    requires no_names { names_view names.old ≡ no_names }
+    requires no_names { names_view names.old ≡ no_names (gaps_of names.old.mode) }
     requires no_entries { entries.old.items ≡ [] }
-    ensures read { OnOk result (IsRooted nodes.now entries.new.items) }
-    ensures stops { IfErr result (λ stop. TextStops stop (statements_asked 1 no_names nodes.now)) }
+    ensures read { OnOk result (IsRooted (gaps_of names.old.mode) nodes.now entries.new.items) }
+    ensures stops { IfErr result (λ stop. TextStops stop (statements_asked 1 (no_names (gaps_of names.old.mode)) nodes.now)) }
 {
     let reader = Reader { alloc, nodes };
     let mut left = nodes.roots();
@@ -139,9 +143,9 @@ fn read_named<'a>(
     names: &mut Names<'a>,
 ) -> Result<Vec<Entry<'a>>, TextStop>
     requires few { nodes_size nodes.now < 2 ^ 32 }
-    requires no_names { names_view names.old ≡ no_names }
-    ensures read { IfOk result (λ entries. IsRooted nodes.now entries.items) }
-    ensures stops { IfErr result (λ stop. TextStops stop (statements_asked 1 no_names nodes.now)) }
+    requires no_names { names_view names.old ≡ no_names (gaps_of names.old.mode) }
+    ensures read { IfOk result (λ entries. IsRooted (gaps_of names.old.mode) nodes.now entries.items) }
+    ensures stops { IfErr result (λ stop. TextStops stop (statements_asked 1 (no_names (gaps_of names.old.mode)) nodes.now)) }
 {
     let mut entries: Vec<Entry<'a>> = Vec::new(alloc);
     read_all(alloc, nodes, names, &mut entries)?;
@@ -149,12 +153,16 @@ fn read_named<'a>(
 }
 
 /// The statements of a text's nodes.
-fn read_entries<'a>(alloc: Global, nodes: &Sexprs<'a>) -> Result<Vec<Entry<'a>>, TextStop>
+fn read_entries<'a>(
+    alloc: Global,
+    nodes: &Sexprs<'a>,
+    mode: Mode,
+) -> Result<Vec<Entry<'a>>, TextStop>
     requires { nodes_size nodes.now < 2 ^ 32 }
-    ensures read { IfOk result (λ entries. IsRooted nodes.now entries.items) }
-    ensures stops { IfErr result (λ stop. TextStops stop (statements_asked 1 no_names nodes.now)) }
+    ensures read { IfOk result (λ entries. IsRooted (gaps_of mode) nodes.now entries.items) }
+    ensures stops { IfErr result (λ stop. TextStops stop (statements_asked 1 (no_names (gaps_of mode)) nodes.now)) }
 {
-    read_named(alloc, nodes, &mut Names::new(alloc))
+    read_named(alloc, nodes, &mut Names::new(alloc, mode))
 }
 
 /// The answer where a text has no statements.
@@ -168,14 +176,18 @@ fn refused<'a>(stop: TextStop) -> TextRead<'a>
 }
 
 /// Reads a text: its statements, or the first of its bytes, parentheses, forms and names that is
-/// wrong. The text has at most 4,294,967,295 bytes.
-pub fn read_text<'a>(alloc: Global, text: &'a [u8]) -> TextRead<'a>
+/// wrong. The text has at most 4,294,967,295 bytes. Only in a draft may its proofs have gaps.
+pub fn read_text<'a>(alloc: Global, text: &'a [u8], mode: Mode) -> TextRead<'a>
     requires { length text.now < 2 ^ 32 }
-    ensures { IsReading text.now result }
+    ensures { IsReading (gaps_of mode) text.now result }
 {
     match read_sexprs(alloc, text) {
-        SexprRead::Nodes(nodes) => match read_entries(alloc, &nodes) {
-            Ok(entries) => TextRead::Text(Text { nodes, entries }),
+        SexprRead::Nodes(nodes) => match read_entries(alloc, &nodes, mode) {
+            Ok(entries) => TextRead::Text(Text {
+                mode,
+                nodes,
+                entries,
+            }),
             Err(stop) => refused(stop),
         },
         SexprRead::Refused(refusal) => TextRead::Refused(refusal),
@@ -184,17 +196,26 @@ pub fn read_text<'a>(alloc: Global, text: &'a [u8]) -> TextRead<'a>
 }
 
 impl<'a> Text<'a> {
-    ghost use Rattle.std.specs.Prelude.{◌≡◌, ◌<◌, length, option_map, slice_get, Some};
+    ghost use Rattle.std.specs.Prelude.{◌≡◌, ◌<◌, length, map, option_map, slice_get, Some};
     ghost use Rattle.mz_logic.specs.DeclView.{declaration};
     ghost use Rattle.mz_sexpr.specs.Number.{node_count, node_at};
+    ghost use Rattle.mz_mmu.specs.EntryView.{entry, IsRooted};
     ghost use Rattle.mz_mmu.specs.ProofView.{proof_view};
     ghost use Rattle.mz_mmu.specs.Statements.{no_names, AreStatements};
     ghost use Rattle.mz_mmu.specs.TextRead.{listed};
+    ghost use Rattle.mz_mode.specs.Gaps.{gaps_of};
+
+    /// Whether its proofs may have gaps.
+    pub fn mode(&self) -> Mode
+        ensures { gaps_of result ≡ self.now.gaps }
+    {
+        self.mode
+    }
 
     /// How many statements there are.
     pub fn len(&self) -> u32
         ensures many { result ≡ length self.now.statements }
-        ensures read { AreStatements no_names self.now.nodes self.now.statements }
+        ensures read { AreStatements (no_names self.now.gaps) self.now.nodes self.now.statements }
     {
         self.entries.len() as u32
     }
@@ -236,7 +257,19 @@ impl<'a> Text<'a> {
         requires { i < length self.now.statements }
         ensures { option_map (λ s. s.proof) (slice_get self.now.statements i) ≡ Some (option_map (λ p. proof_view p.now) result) }
     {
-        self.entries[i as usize].declared.proof.as_ref()
+        match &self.entries[i as usize].declared.proof {
+            None => None,
+            Some(proof) => Some(proof.get()),
+        }
+    }
+
+    /// The text's nodes, and its statements.
+    pub fn into_parts(self) -> (Sexprs<'a>, Vec<Entry<'a>>)
+        ensures nodes { result.0 ≡ self.entry.nodes }
+        ensures statements { map entry result.1.items ≡ self.entry.statements }
+        ensures rooted { IsRooted self.entry.gaps result.0 result.1.items }
+    {
+        (self.nodes, self.entries)
     }
 
     /// The text's nodes.

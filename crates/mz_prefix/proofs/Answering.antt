@@ -1,14 +1,18 @@
 -- Which answer comes.
-use Rattle.std.proofs.Common.{◌≡◌, ◌≤◌, ◌<◌, ◌∙◌, ℕ, List, length, ap, subst, inl, arith}
+use Rattle.std.proofs.Common.{false, ◌≡◌, ◌≤◌, ◌<◌, ◌∙◌, ℕ, List, length, ap, subst, inl, arith}
 use Rattle.mz_checks.specs.Checks.{AllHold, FailsFirst}
 use Rattle.mz_checks.proofs.InOrder.{fails-before, fails-after, all_hold-both}
 use Rattle.mz_mmu.specs.Proof.{Statement}
 use Rattle.mz_type.specs.TextOf.{TextOf}
-use Rattle.mz_wording.specs.Wording.{local_in, long_in, too_long, local_checks, long_checks, local_terms, vocabulary_of, prefix_text, IsWordedAs, IsUnwritten}
+use Rattle.mz_agreeing.specs.Laws.{SpecificationsOfTextsDeclare}
+use Rattle.mz_wording.specs.Wording.{longest, local_in, long_in, too_long, local_checks, long_checks, local_terms, vocabulary_of, prefix_text, IsWordedAs, IsUnwritten}
 use Rattle.mz_prefix.specs.declared.names.Names.{Names}
+use Rattle.mz_prefix.specs.declared.spec_text.SpecText.{SpecText}
+use Rattle.mz_prefix.specs.declared.spec_text.SpecText.TheVariants as answers
 use Rattle.mz_prefix.specs.Names.{AreNamesOf}
+use Rattle.mz_prefix.specs.SpecTexts.{IsWording, DeclaresItsText}
 
-module _ (limit : ℕ) (text : List ℕ) (ss : List Statement) (typed : TextOf text ss) (names : Names) (are : AreNamesOf ss names) where
+module _ (limit : ℕ) (text : List ℕ) (ss : List Statement) (typed : TextOf false text ss) (names : Names) (are : AreNamesOf ss names) where
   sayable : AllHold (local_checks names.locals.items 1 ss) → AllHold (local_checks (local_terms ss) 1 ss)
   sayable said = subst (λ ls. AllHold (local_checks ls 1 ss)) are.locals said
 
@@ -35,3 +39,12 @@ module _ (limit : ℕ) (text : List ℕ) (ss : List Statement) (typed : TextOf t
   worded said brief spec is n count few =
       let all : n ≡ length (prefix_text ss) = count ∙ ap length is in
       (ss, typed, all_hold-both (local_checks (local_terms ss) 1 ss) _ (sayable said) (all_hold-both (long_checks (vocabulary_of ss) 1 ss) _ brief (omega (arith, all, few), tt)), is)
+
+-- what is written declares the text, by the law
+pub declares : SpecificationsOfTextsDeclare → (text : List ℕ) (a : SpecText) → IsWording longest text a → DeclaresItsText text a
+declares law text (answers.Text bytes) worded = law longest text bytes.items (omega arith) worded
+declares law text (answers.Refused refusal) is = tt
+declares law text (answers.Local statement) is = tt
+declares law text (answers.Long statement) is = tt
+declares law text (answers.Limit count) is = tt
+declares law text answers.Mem is = tt

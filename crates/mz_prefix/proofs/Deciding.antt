@@ -61,20 +61,20 @@ wording-decided limit ss =
 
 -- ---- texts
 
-module _ (typed_or_faulty : (text : List ℕ) → IsTypedOrFaulty text) (limit : ℕ) (text : List ℕ) where
-  decided : (ss : List Statement) → TextOf text ss → AllHold (wording_checks limit ss) ⊎ ((u : Unwritten) × FailsFirst (wording_checks limit ss) u)
-      → HasWording limit text ⊎ (((r : TextRefusal) × TextFault text r) ⊎ ((u : Unwritten) × IsUnwritten limit text u))
+module _ (typed_or_faulty : (gaps : Bool) (text : List ℕ) → IsTypedOrFaulty gaps text) (limit : ℕ) (text : List ℕ) where
+  decided : (ss : List Statement) → TextOf false text ss → AllHold (wording_checks limit ss) ⊎ ((u : Unwritten) × FailsFirst (wording_checks limit ss) u)
+      → HasWording limit text ⊎ (((r : TextRefusal) × TextFault false text r) ⊎ ((u : Unwritten) × IsUnwritten limit text u))
   decided ss typed (inl all) = inl (ss, typed, all)
   decided ss typed (inr (u, fails)) = inr (inr (u, (ss, typed, fails)))
 
-  judged : ((ss : List Statement) × TextOf text ss) ⊎ ((r : TextRefusal) × TextFault text r)
-      → HasWording limit text ⊎ (((r : TextRefusal) × TextFault text r) ⊎ ((u : Unwritten) × IsUnwritten limit text u))
+  judged : ((ss : List Statement) × TextOf false text ss) ⊎ ((r : TextRefusal) × TextFault false text r)
+      → HasWording limit text ⊎ (((r : TextRefusal) × TextFault false text r) ⊎ ((u : Unwritten) × IsUnwritten limit text u))
   judged (inl (ss, is)) = decided ss is (all_hold-or_fails (wording_checks limit ss) (wording-decided limit ss))
   judged (inr fault) = inr (inl fault)
 
   pub is_decided : IsDecided limit text
   is_decided =
-      let one = typed_or_faulty text in
+      let one = typed_or_faulty false text in
       record {
         one_of_three = judged one.one_of_both;
         not_refused = λ r has fault. one.never_both has.0 r has.1 fault;

@@ -1,6 +1,6 @@
 -- The text of a line, part by part.
 use Rattle.std.specs.Prelude.{codes, ◌==◌, if◌then◌else◌}
-use Rattle.std.proofs.Common.{◌≡◌, ◌+◌, ◌/◌, ◌%◌, ◌++◌, ◌∙◌, ℕ, suc, Bool, true, false, List, [], ◌∷◌, length, refl, sym, ap, arith, append_assoc}
+use Rattle.std.proofs.Common.{◌≡◌, ◌/◌, ◌%◌, ◌++◌, ◌∙◌, ℕ, Bool, true, false, List, [], ◌∷◌, refl, sym, ap, append_assoc}
 use Rattle.mz_logic.specs.Tree.{Tree, Trees, var, app, none, more}
 use Rattle.mz_logic.specs.Signature.{Signature}
 use Rattle.mz_logic.specs.Declaration.{plain_form, abstract_form, defined, Assertion, sort_decl, term_decl, assertion_decl}
@@ -10,9 +10,9 @@ use Rattle.mz_grammar.specs.Statement.{keyword_of}
 use Rattle.mz_grammar.specs.declared.kind.Kind.{Kind}
 use Rattle.mz_grammar.specs.declared.kind.Kind.TheVariants.{Term, Assert, Definition}
 use Rattle.mz_printing.specs.Words.{Word, written}
-use Rattle.mz_printing.specs.Lines.{PlainBinder, PlainType, spaced_name, spaced_mark, math_word, binder_words, binders_words, type_words, head_words, colon_words, end_words, hyps_words, sort_words, line_text}
+use Rattle.mz_printing.specs.Lines.{PlainBinder, PlainType, spaced_name, spaced_mark, math_word, type_words, head_words, colon_words, end_words, hyps_words, sort_words, line_text}
 use Rattle.mz_publics.specs.PublicPart.{renamed, all_renamed}
-use Rattle.mz_readback.specs.Declared.{Vocabulary, plain_type, plain_param, plain_binders, plain_dummies, formula_of, formulas_of, kind_of, line_of_decl, term_line_of, modifiers_of}
+use Rattle.mz_readback.specs.Declared.{Vocabulary, plain_type, plain_binders, formula_of, formulas_of, kind_of, line_of_decl, term_line_of, modifiers_of}
 use Rattle.mz_wording.specs.Wording.{is_hidden}
 use Rattle.mz_prefix.specs.declared.names.Names.{Names}
 use Rattle.mz_prefix.specs.Names.{spoken}
@@ -83,52 +83,22 @@ bare-line kind name bs t =
     ap (λ w. w ++ codes "\n") (head-is kind name bs (colon_words ++ (type_words t ++ end_words)) ∙ ap (λ w. head_text (keyword_of kind) name bs ++ (58 ∷ w)) (written-append (type_words t) end_words))
     ∙ ended (head_text (keyword_of kind) name bs) (written (type_words t))
 
-no-more : (n : ℕ) → n ≡ n + 0
-no-more n = omega arith
-
-one-on : (m n : ℕ) → suc m + n ≡ m + suc n
-one-on m n = omega arith
-
-none-before : (n : ℕ) → 0 + n ≡ n
-none-before n = omega arith
-
-joined : (a b c d : List ℕ) → a ≡ b ++ c → d ++ a ≡ (d ++ b) ++ c
-joined a b c d is = ap (λ w. d ++ w) is ∙ sym (append_assoc d b c)
+ended-definition : (head types body : List ℕ) → (head ++ (58 ∷ (types ++ (32 ∷ 61 ∷ (body ++ (59 ∷ [])))))) ++ (10 ∷ []) ≡ head ++ (58 ∷ (types ++ (32 ∷ 61 ∷ (body ++ codes ";\n"))))
+ended-definition head types body = simp append_assoc
 
 module _ (v : Vocabulary) where
-  -- dummies stand behind the parameters
-  binders-split : (x : ℕ) (ps ds : List Binder)
-      → written (binders_words (plain_binders v x ps ds)) ≡ written (binders_words (plain_binders v x ps [])) ++ written (binders_words (plain_dummies v (x + length ps) ds))
-  binders-split x [] ds = ap (λ n. written (binders_words (plain_dummies v n ds))) (no-more x)
-  binders-split x (p ∷ ps) ds =
-      let param = binder_words (plain_param v x p) in
-      written-append param (binders_words (plain_binders v (suc x) ps ds))
-      ∙ joined _ (written (binders_words (plain_binders v (suc x) ps []))) (written (binders_words (plain_dummies v (suc x + length ps) ds))) (written param) (binders-split (suc x) ps ds)
-      ∙ ap (λ n. (written param ++ written (binders_words (plain_binders v (suc x) ps []))) ++ written (binders_words (plain_dummies v n ds))) (one-on x (length ps))
-      ∙ ap (λ w. w ++ written (binders_words (plain_dummies v (x + suc (length ps)) ds))) (sym (written-append param (binders_words (plain_binders v (suc x) ps []))))
-
-  all-binders : (ps ds : List Binder)
-      → written (binders_words (plain_binders v 0 ps ds)) ≡ written (binders_words (plain_binders v 0 ps [])) ++ written (binders_words (plain_dummies v (length ps) ds))
-  all-binders ps ds = binders-split 0 ps ds ∙ ap (λ n. written (binders_words (plain_binders v 0 ps [])) ++ written (binders_words (plain_dummies v n ds))) (none-before (length ps))
-
-  ended-definition : (keyword name ps ds types body : List ℕ)
-      → ((keyword ++ (32 ∷ (name ++ (ps ++ ds)))) ++ (58 ∷ (types ++ (32 ∷ 61 ∷ (body ++ (59 ∷ [])))))) ++ (10 ∷ [])
-      ≡ (keyword ++ (32 ∷ (name ++ ps))) ++ (ds ++ (58 ∷ (types ++ (32 ∷ 61 ∷ (body ++ codes ";\n")))))
-  ended-definition keyword name ps ds types body = simp append_assoc
-
   pub definition-line : (name : List ℕ) (sig : Signature) (ds : List Binder) (body : Tree)
       → line_text (term_line_of v name sig (defined ds body))
-      ≡ head_text (codes "def") name (plain_binders v 0 sig.params []) ++ (written (binders_words (plain_dummies v (length sig.params) ds))
-      ++ (58 ∷ (written (type_words (plain_type v sig.result.sort sig.result.deps)) ++ (32 ∷ 61 ∷ (written (math_word (formula_of v body) ∷ []) ++ codes ";\n")))))
+      ≡ head_text (codes "def") name (plain_binders v 0 sig.params ds)
+      ++ (58 ∷ (written (type_words (plain_type v sig.result.sort sig.result.deps)) ++ (32 ∷ 61 ∷ (written (math_word (formula_of v body) ∷ []) ++ codes ";\n"))))
   definition-line name sig ds body =
       let bs = plain_binders v 0 sig.params ds in
       let t = plain_type v sig.result.sort sig.result.deps in
       let f = formula_of v body in
       ap (λ w. w ++ codes "\n") (head-is Definition name bs (colon_words ++ (type_words t ++ (spaced_mark (codes "=") ∷ math_word f ∷ end_words)))
       ∙ ap (λ w. head_text (codes "def") name bs ++ (58 ∷ w)) (written-append (type_words t) (spaced_mark (codes "=") ∷ math_word f ∷ end_words)
-      ∙ ap (λ w. written (type_words t) ++ (32 ∷ 61 ∷ w)) (written-append (math_word f ∷ []) end_words))
-      ∙ ap (λ w. (codes "def" ++ (32 ∷ (name ++ w))) ++ (58 ∷ (written (type_words t) ++ (32 ∷ 61 ∷ (written (math_word f ∷ []) ++ (59 ∷ [])))))) (all-binders sig.params ds))
-      ∙ ended-definition (codes "def") name (written (binders_words (plain_binders v 0 sig.params []))) (written (binders_words (plain_dummies v (length sig.params) ds))) (written (type_words t)) (written (math_word f ∷ []))
+      ∙ ap (λ w. written (type_words t) ++ (32 ∷ 61 ∷ w)) (written-append (math_word f ∷ []) end_words)))
+      ∙ ended-definition (head_text (codes "def") name bs) (written (type_words t)) (written (math_word f ∷ []))
 
   -- ---- axioms and theorems
 
@@ -153,17 +123,20 @@ module _ (v : Vocabulary) where
 pub five-parts : (old a b c d e p s r k x : List ℕ) → a ≡ old ++ p → b ≡ a ++ s → c ≡ b ++ r → d ≡ c ++ k → e ≡ d ++ x → e ≡ old ++ (p ++ (s ++ (r ++ (k ++ x))))
 five-parts old a b c d e p s r k x is-a is-b is-c is-d is-e = is-e ∙ rw is-d (rw is-c (rw is-b (rw is-a (simp append_assoc))))
 
+pub six-pieces : (old a b c d e f p s r k x y : List ℕ) → a ≡ old ++ p → b ≡ a ++ s → c ≡ b ++ r → d ≡ c ++ k → e ≡ d ++ x → f ≡ e ++ y → f ≡ old ++ (p ++ (s ++ (r ++ (k ++ (x ++ y)))))
+six-pieces old a b c d e f p s r k x y is-a is-b is-c is-d is-e is-f = is-f ∙ rw is-e (rw is-d (rw is-c (rw is-b (rw is-a (simp append_assoc)))))
+
 module _ (v : Vocabulary) (name : List ℕ) where
-  pub definition-made : (sig : Signature) (ds : List Binder) (body : Tree) (ps : List Binder) (deps : List ℕ) → ps ≡ sig.params → deps ≡ sig.result.deps → (old a b c d e f g : List ℕ)
-      → a ≡ old ++ head_text (codes "def") name (plain_binders v 0 ps []) → b ≡ a ++ written (binders_words (plain_dummies v (length ps) ds)) → c ≡ b ++ codes ":"
-      → d ≡ c ++ written (type_words (plain_type v sig.result.sort deps)) → e ≡ d ++ codes " =" → f ≡ e ++ written (math_word (formula_of v body) ∷ []) → g ≡ f ++ codes ";\n"
-      → g ≡ old ++ line_text (term_line_of v name sig (defined ds body))
-  definition-made sig ds body ps deps are-ps are-deps old a b c d e f g is-a is-b is-c is-d is-e is-f is-g =
+  pub definition-made : (sig : Signature) (ds : List Binder) (body : Tree) (ps : List Binder) (deps : List ℕ) → ps ≡ sig.params → deps ≡ sig.result.deps → (old a b c d e f : List ℕ)
+      → a ≡ old ++ head_text (codes "def") name (plain_binders v 0 ps ds) → b ≡ a ++ codes ":"
+      → c ≡ b ++ written (type_words (plain_type v sig.result.sort deps)) → d ≡ c ++ codes " =" → e ≡ d ++ written (math_word (formula_of v body) ∷ []) → f ≡ e ++ codes ";\n"
+      → f ≡ old ++ line_text (term_line_of v name sig (defined ds body))
+  definition-made sig ds body ps deps are-ps are-deps old a b c d e f is-a is-b is-c is-d is-e is-f =
       let types : List ℕ → List ℕ = λ deps. written (type_words (plain_type v sig.result.sort deps)) in
-      let text : List Binder → List ℕ → List ℕ = λ ps deps. head_text (codes "def") name (plain_binders v 0 ps []) ++ (written (binders_words (plain_dummies v (length ps) ds))
-      ++ (58 ∷ (types deps ++ (32 ∷ 61 ∷ (written (math_word (formula_of v body) ∷ []) ++ codes ";\n"))))) in
-      seven-parts old a b c d e f g (head_text (codes "def") name (plain_binders v 0 ps [])) (written (binders_words (plain_dummies v (length ps) ds))) (codes ":")
-      (types deps) (codes " =") (written (math_word (formula_of v body) ∷ [])) (codes ";\n") is-a is-b is-c is-d is-e is-f is-g
+      let text : List Binder → List ℕ → List ℕ = λ ps deps. head_text (codes "def") name (plain_binders v 0 ps ds)
+      ++ (58 ∷ (types deps ++ (32 ∷ 61 ∷ (written (math_word (formula_of v body) ∷ []) ++ codes ";\n")))) in
+      six-pieces old a b c d e f (head_text (codes "def") name (plain_binders v 0 ps ds)) (codes ":")
+      (types deps) (codes " =") (written (math_word (formula_of v body) ∷ [])) (codes ";\n") is-a is-b is-c is-d is-e is-f
       ∙ ap (λ ps. old ++ text ps deps) are-ps ∙ ap (λ deps. old ++ text sig.params deps) are-deps ∙ ap (λ t. old ++ t) (sym (definition-line v name sig ds body))
 
   pub assertion-made : (a : Assertion) (keyword : List ℕ) (ps : List Binder) → keyword ≡ keyword_of (Assert (kind_of a.is_axiom)) → ps ≡ a.params → (old p q r s t : List ℕ)

@@ -126,3 +126,36 @@ hyp-is h = written-append (math_word h ∷ []) (spaced_mark (codes ">") ∷ [])
 pub six-parts : (old a b c d e f name type : List ℕ) (o k : ℕ) → a ≡ old ++ 32 ∷ [] → b ≡ a ++ o ∷ [] → c ≡ b ++ name → d ≡ c ++ 58 ∷ [] → e ≡ d ++ type → f ≡ e ++ k ∷ []
     → f ≡ old ++ (32 ∷ (o ∷ (name ++ (58 ∷ (type ++ (k ∷ []))))))
 six-parts old a b c d e f name type o k is-a is-b is-c is-d is-e is-f = is-f ∙ rw is-e (rw is-d (rw is-c (rw is-b (rw is-a (simp append_assoc)))))
+
+-- ---- binders
+
+pub both-parts : (old a b p q : List ℕ) → a ≡ old ++ p → b ≡ a ++ q → b ≡ old ++ (p ++ q)
+both-parts old a b p q is-a is-b = is-b ∙ ap (λ t. t ++ q) is-a ∙ append_assoc old p q
+
+no-more : (n : ℕ) → n ≡ n + 0
+no-more n = omega arith
+
+one-on : (m n : ℕ) → suc m + n ≡ m + suc n
+one-on m n = omega arith
+
+none-before : (n : ℕ) → 0 + n ≡ n
+none-before n = omega arith
+
+joined : (a b c d : List ℕ) → a ≡ b ++ c → d ++ a ≡ (d ++ b) ++ c
+joined a b c d is = ap (λ w. d ++ w) is ∙ sym (append_assoc d b c)
+
+module _ (v : Vocabulary) where
+  -- dummies stand behind the parameters
+  binders-split : (x : ℕ) (ps ds : List Binder)
+      → written (binders_words (plain_binders v x ps ds)) ≡ written (binders_words (plain_binders v x ps [])) ++ written (binders_words (plain_dummies v (x + length ps) ds))
+  binders-split x [] ds = ap (λ n. written (binders_words (plain_dummies v n ds))) (no-more x)
+  binders-split x (p ∷ ps) ds =
+      let param = binder_words (plain_param v x p) in
+      written-append param (binders_words (plain_binders v (suc x) ps ds))
+      ∙ joined _ (written (binders_words (plain_binders v (suc x) ps []))) (written (binders_words (plain_dummies v (suc x + length ps) ds))) (written param) (binders-split (suc x) ps ds)
+      ∙ ap (λ n. (written param ++ written (binders_words (plain_binders v (suc x) ps []))) ++ written (binders_words (plain_dummies v n ds))) (one-on x (length ps))
+      ∙ ap (λ w. w ++ written (binders_words (plain_dummies v (x + suc (length ps)) ds))) (sym (written-append param (binders_words (plain_binders v (suc x) ps []))))
+
+  pub binders-are : (ps ds : List Binder)
+      → written (binders_words (plain_binders v 0 ps ds)) ≡ written (binders_words (plain_binders v 0 ps [])) ++ written (binders_words (plain_dummies v (length ps) ds))
+  binders-are ps ds = binders-split 0 ps ds ∙ ap (λ n. written (binders_words (plain_binders v 0 ps [])) ++ written (binders_words (plain_dummies v n ds))) (none-before (length ps))

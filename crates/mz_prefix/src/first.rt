@@ -8,11 +8,11 @@ ghost use Rattle.mz_wording.specs.Wording.{IsBrief, local_checks, local_in, long
 
 use crate::hidden::is_brief;
 use crate::names::Names;
-use mz_mmu::Text;
+use mz_type::Typed;
 
 impl<'a> Names<'a> {
     /// Whether the i-th statement is local, or no claim of it mentions a local term.
-    fn can_say(&self, text: &Text, i: u32) -> bool
+    fn can_say(&self, text: &Typed, i: u32) -> bool
         requires { i < length text.now.statements }
         ensures { IsTrue result ↔ ((statement_at text.now.statements i).is_local ≡ false → IsSayable self.now.locals.items (statement_at text.now.statements i).decl) }
     {
@@ -20,7 +20,7 @@ impl<'a> Names<'a> {
     }
 
     /// The number of the first public statement of which a claim mentions a local term.
-    pub(crate) fn first_local(&self, text: &Text) -> Option<u32>
+    pub(crate) fn first_local(&self, text: &Typed) -> Option<u32>
         ensures { Answers (option_map local_in result) (local_checks self.now.locals.items 1 text.now.statements) }
     {
         for i in 0..text.len() {
@@ -33,7 +33,7 @@ impl<'a> Names<'a> {
 }
 
 /// Whether the i-th statement is local, or each claim of it is within the limits.
-fn is_brief_at(text: &Text, i: u32) -> bool
+fn is_brief_at(text: &Typed, i: u32) -> bool
     requires { i < length text.now.statements }
     ensures { (v : Vocabulary) → IsTrue result ↔ ((statement_at text.now.statements i).is_local ≡ false → IsBrief v (statement_at text.now.statements i).decl) }
 {
@@ -41,7 +41,7 @@ fn is_brief_at(text: &Text, i: u32) -> bool
 }
 
 /// The number of the first public statement of which a claim isn't within the limits.
-pub(crate) fn first_long(text: &Text) -> Option<u32>
+pub(crate) fn first_long(text: &Typed) -> Option<u32>
     ensures { (v : Vocabulary) → Answers (option_map long_in result) (long_checks v 1 text.now.statements) }
 {
     for i in 0..text.len() {

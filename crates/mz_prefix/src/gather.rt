@@ -8,7 +8,7 @@ ghost use Rattle.mz_prefix.specs.Names.{AreNamesOf, texts};
 
 use crate::names::Names;
 use mz_logic::Decl;
-use mz_mmu::Text;
+use mz_type::Typed;
 use std::alloc::{AllocError, Global};
 
 /// With how many underscores the name begins.
@@ -26,7 +26,7 @@ fn underscores(name: &[u8]) -> usize
 }
 
 /// The longest run of underscores with which a name of the text begins.
-fn longest_run(text: &Text) -> usize
+fn longest_run(text: &Typed) -> usize
     ensures { result ≡ Wording.longest_run text.now.statements }
 {
     let mut run: usize = 0;
@@ -47,7 +47,7 @@ fn put_underscores(count: usize, out: &mut Vec<u8>) -> Result<(), AllocError>
 }
 
 /// What stands before the number of a variable: with it no variable is named as anything else.
-fn variable_prefix(alloc: Global, text: &Text) -> Result<Vec<u8>, AllocError>
+fn variable_prefix(alloc: Global, text: &Typed) -> Result<Vec<u8>, AllocError>
     ensures { IfOk result (λ prefix. prefix.items ≡ Wording.variable_prefix text.now.statements) }
 {
     let mut prefix: Vec<u8> = Vec::new(alloc);
@@ -59,7 +59,7 @@ fn variable_prefix(alloc: Global, text: &Text) -> Result<Vec<u8>, AllocError>
 
 impl<'a> Names<'a> {
     /// The names of a text.
-    pub(crate) fn of(alloc: Global, text: &Text<'a>) -> Result<Names<'a>, AllocError>
+    pub(crate) fn of(alloc: Global, text: &Typed<'a>) -> Result<Names<'a>, AllocError>
         ensures { IfOk result (λ names. AreNamesOf text.now.statements names) }
     {
         let prefix = variable_prefix(alloc, text)?;

@@ -51,20 +51,21 @@ fn keyword(form: ThmForm) -> &'static [u8]
 }
 
 impl<'a> Names<'a> {
-    /// Appends a keyword, the name and the parameters.
+    /// Appends a keyword, the name, the parameters and the dummies.
     fn put_head(
         &self,
         keyword: &[u8],
         name: &[u8],
         params: &[Binder],
+        dummies: &[Binder],
         out: &mut Vec<u8>,
     ) -> Result<(), AllocError>
-        ensures { OnOk result (out.new.items ≡ out.old.items ++ head_text keyword.now name.now (plain_binders (spoken self.now) 0 params.now [])) }
+        ensures { OnOk result (out.new.items ≡ out.old.items ++ head_text keyword.now name.now (plain_binders (spoken self.now) 0 params.now dummies.now)) }
     {
         put(keyword, out)?;
         out.push(b' ')?;
         put(name, out)?;
-        self.put_params(params, out)?;
+        self.put_binders(params, dummies, out)?;
         Ok(())
     }
 
@@ -78,7 +79,7 @@ impl<'a> Names<'a> {
     ) -> Result<(), AllocError>
         ensures { OnOk result (out.new.items ≡ out.old.items ++ bare_text (spoken self.now) keyword.now name.now (signature term.now)) }
     {
-        self.put_head(keyword, name, term.params.as_slice(), out)?;
+        self.put_head(keyword, name, term.params.as_slice(), &[], out)?;
         put(b":", out)?;
         self.put_type(term.result.sort, term.result.deps.as_slice(), out)?;
         put(b";\n", out)?;
@@ -96,9 +97,7 @@ impl<'a> Names<'a> {
     ) -> Result<(), AllocError>
         ensures { OnOk result (out.new.items ≡ out.old.items ++ line_text (term_line_of (spoken self.now) name.now (signature term.now) (defined dummies.now (tree body.now)))) }
     {
-        let params = term.params.as_slice();
-        self.put_head(b"def", name, params, out)?;
-        self.put_dummies(params.len(), dummies, out)?;
+        self.put_head(b"def", name, term.params.as_slice(), dummies, out)?;
         put(b":", out)?;
         self.put_type(term.result.sort, term.result.deps.as_slice(), out)?;
         put(b" =", out)?;
@@ -128,7 +127,7 @@ impl<'a> Names<'a> {
     fn put_thm(&self, name: &[u8], thm: &ThmDecl, out: &mut Vec<u8>) -> Result<(), AllocError>
         ensures { OnOk result (out.new.items ≡ out.old.items ++ line_text (line_of_decl (spoken self.now) name.now (assertion_of thm.now))) }
     {
-        self.put_head(keyword(thm.form), name, thm.params.as_slice(), out)?;
+        self.put_head(keyword(thm.form), name, thm.params.as_slice(), &[], out)?;
         put(b":", out)?;
         self.put_hyps(&thm.hyps, out)?;
         self.put_formula(&thm.conclusion, out)?;

@@ -1,15 +1,18 @@
 // From a text to a specification.
-ghost use Rattle.std.specs.Prelude.{◌≡◌, ◌<◌, ◌^◌, ◌++◌, IfOk, OnOk, ℕ, List, length};
+ghost use Rattle.std.specs.Prelude.{◌≡◌, false, ◌<◌, ◌^◌, ◌++◌, IfOk, OnOk, ℕ, List, length};
+ghost use Rattle.mz_checks.specs.Checks.{AllHold};
 ghost use Rattle.mz_type.specs.TextOf.{TextOf};
 ghost use Rattle.mz_type.specs.TypedText.{statement_at};
-ghost use Rattle.mz_wording.specs.Wording.{longest, prefix_text};
+ghost use Rattle.mz_wording.specs.Wording.{local_checks, long_checks, longest, prefix_text, vocabulary_of};
 ghost use Rattle.mz_prefix.specs.Names.{AreNamesOf};
-ghost use Rattle.mz_prefix.specs.SpecTexts.{IsDecided, IsWording};
+ghost use Rattle.mz_prefix.specs.SpecTexts.{DeclaresItsText, IsDecided, IsWording};
 ghost use Rattle.mz_prefix.specs.Writing.{statement_text};
 
 use crate::first::first_long;
 use crate::names::Names;
-use mz_mmu::{Text, TextRead, read_text};
+use mz_agreeing::specifications_of_texts_declare;
+use mz_mmu::{TextRead, read_text};
+use mz_mode::Mode;
 use mz_sexpr::TextRefusal;
 use mz_type::{Typed, TypedRead, check_text, typed_or_faulty};
 use std::alloc::{AllocError, Global};
@@ -38,7 +41,7 @@ const LONGEST: u128 = 4_294_967_295;
 
 impl<'a> Names<'a> {
     /// Appends the line of the i-th statement, if that is public.
-    fn put_statement(&self, text: &Text, i: u32, out: &mut Vec<u8>) -> Result<(), AllocError>
+    fn put_statement(&self, text: &Typed, i: u32, out: &mut Vec<u8>) -> Result<(), AllocError>
         requires { i < length text.now.statements }
         ensures { OnOk result (out.new.items ≡ out.old.items ++ statement_text self.now (statement_at text.now.statements i)) }
     {
@@ -49,7 +52,7 @@ impl<'a> Names<'a> {
     }
 
     /// The specification, however long.
-    fn write(&self, text: &Text) -> Result<Vec<u8>, AllocError>
+    fn write(&self, text: &Typed) -> Result<Vec<u8>, AllocError>
         requires { AreNamesOf text.now.statements self.now }
         ensures { IfOk result (λ spec. spec.items ≡ prefix_text text.now.statements) }
     {
@@ -59,30 +62,37 @@ impl<'a> Names<'a> {
         }
         Ok(spec)
     }
+
+    /// The specification, where only its length can stand against it.
+    fn write_within(&self, text: &Typed, most: u128) -> SpecText
+        requires { AreNamesOf text.now.statements self.now }
+        ensures { (bytes : List ℕ) → TextOf false bytes text.now.statements → AllHold (local_checks self.now.locals.items 1 text.now.statements)
+            → AllHold (long_checks (vocabulary_of text.now.statements) 1 text.now.statements) → IsWording most bytes result }
+    {
+        let Ok(spec) = self.write(text) else {
+            return SpecText::Mem;
+        };
+        let count = spec.len() as u128;
+        if count > most {
+            return SpecText::Limit { count };
+        }
+        SpecText::Text(spec)
+    }
 }
 
-/// The answer for a well-typed text whose specification may have at most so many bytes.
-fn answer(alloc: Global, typed: &Typed, most: u128) -> SpecText
-    ensures { (bytes : List ℕ) → TextOf bytes typed.now.statements → IsWording most bytes result }
+/// The answer for a well-typed text whose specification may have at most so many bytes. That a claim
+/// mentions a local term comes before that one is too long, in whatever statements.
+fn answer(alloc: Global, text: &Typed, most: u128) -> SpecText
+    ensures { (bytes : List ℕ) → TextOf false bytes text.now.statements → IsWording most bytes result }
 {
-    let text = typed.text();
     let Ok(names) = Names::of(alloc, text) else {
         return SpecText::Mem;
     };
-    if let Some(statement) = names.first_local(text) {
-        return SpecText::Local(statement);
+    match (names.first_local(text), first_long(text)) {
+        (Some(statement), _) => SpecText::Local(statement),
+        (None, Some(statement)) => SpecText::Long(statement),
+        (None, None) => names.write_within(text, most),
     }
-    if let Some(statement) = first_long(text) {
-        return SpecText::Long(statement);
-    }
-    let Ok(spec) = names.write(text) else {
-        return SpecText::Mem;
-    };
-    let count = spec.len() as u128;
-    if count > most {
-        return SpecText::Limit { count };
-    }
-    SpecText::Text(spec)
 }
 
 /// The specification of a text of at most 4,294,967,295 bytes, of at most so many.
@@ -90,12 +100,12 @@ fn spec_within(alloc: Global, text: &[u8], most: u128) -> SpecText
     requires { length text.now < 2 ^ 32 }
     ensures { IsWording most text.now result }
 {
-    let text = match read_text(alloc, text) {
+    let text = match read_text(alloc, text, Mode::Strict) {
         TextRead::Text(text) => text,
         TextRead::Refused(refusal) => return SpecText::Refused(refusal),
         TextRead::Mem => return SpecText::Mem,
     };
-    match check_text(alloc, &text) {
+    match check_text(alloc, text) {
         TypedRead::Typed(typed) => answer(alloc, &typed, most),
         TypedRead::Refused(refusal) => SpecText::Refused(refusal),
         TypedRead::Mem => SpecText::Mem,
@@ -104,11 +114,13 @@ fn spec_within(alloc: Global, text: &[u8], most: u128) -> SpecText
 
 /// Makes a specification of a text of at most 4,294,967,295 bytes: its public statements in prefix
 /// form, one a line, where the text is well typed; else its first fault, or what stands first
-/// against a specification.
+/// against a specification. What it declares agrees with the text's public statements.
 pub fn spec_of(alloc: Global, text: &[u8]) -> SpecText
     requires { length text.now < 2 ^ 32 }
-    ensures { IsWording longest text.now result }
+    ensures answer { IsWording longest text.now result }
+    ensures declares { DeclaresItsText text.now result }
 {
+    specifications_of_texts_declare();
     spec_within(alloc, text, LONGEST)
 }
 

@@ -85,7 +85,7 @@ impl<'a> Names<'a> {
     }
 
     /// Appends parameters, the first of which is variable 0.
-    pub(crate) fn put_params(&self, params: &[Binder], out: &mut Vec<u8>) -> Result<(), AllocError>
+    fn put_params(&self, params: &[Binder], out: &mut Vec<u8>) -> Result<(), AllocError>
         ensures { OnOk result (out.new.items ≡ out.old.items ++ written (binders_words (plain_binders (spoken self.now) 0 params.now []))) }
     {
         for x in 0..params.len() {
@@ -95,7 +95,7 @@ impl<'a> Names<'a> {
     }
 
     /// Appends dummies, the first of which is the variable of this number.
-    pub(crate) fn put_dummies(
+    fn put_dummies(
         &self,
         first: usize,
         dummies: &[Binder],
@@ -107,6 +107,20 @@ impl<'a> Names<'a> {
         for i in 0..dummies.len() {
             self.put_dummy(first + i, &dummies[i], out)?;
         }
+        Ok(())
+    }
+
+    /// Appends parameters, and dummies behind them.
+    pub(crate) fn put_binders(
+        &self,
+        params: &[Binder],
+        dummies: &[Binder],
+        out: &mut Vec<u8>,
+    ) -> Result<(), AllocError>
+        ensures { OnOk result (out.new.items ≡ out.old.items ++ written (binders_words (plain_binders (spoken self.now) 0 params.now dummies.now))) }
+    {
+        self.put_params(params, out)?;
+        self.put_dummies(params.len(), dummies, out)?;
         Ok(())
     }
 

@@ -1,6 +1,6 @@
 -- Bodies that build no application twice, and write each command in one way (this project's own promise; the commands
 -- are the .mmb format's).
-use Rattle.std.specs.Prelude.{◌≡◌, ℕ, ⊤, Bool, false, List, [], ◌∷◌, ◌++◌, slice_get, Some}
+use Rattle.std.specs.Prelude.{◌≡◌, ℕ, ⊤, Bool, List, [], ◌∷◌, ◌++◌, slice_get, Some}
 use Rattle.mz_cmd.specs.declared.code.ProofCode.{ProofCode}
 use Rattle.mz_cmd.specs.declared.code.ProofCode.TheVariants as code
 use Rattle.mz_logic.specs.Tree.{Tree}
@@ -82,9 +82,9 @@ ArePlain (c ∷ cs) = IsPlain c × ArePlain cs
 
 -- it makes what it is to make (`IsBody`), and builds no application twice; each Unfold has its middle item, as each
 -- step of that command has
-pub record IsSharedBody (env : List Declaration) (kind : Kind) (params dummies : List Binder) (e : Tree) (hyps : List Tree) (bytes : List ℕ) : Type 0 where
-  pub body : IsBody env kind params dummies e hyps bytes
+pub record IsSharedBody (gaps : Bool) (env : List Declaration) (kind : Kind) (params dummies : List Binder) (e : Tree) (hyps : List Tree) (bytes : List ℕ) : Type 0 where
+  pub body : IsBody gaps env kind params dummies e hyps bytes
   pub built_are : List Tree
-  pub builds : Builds false env (params ++ dummies) (work_start params) body.commands body.work built_are
+  pub builds : Builds gaps env (params ++ dummies) (work_start params) body.commands body.work built_are
   pub distinct : AreDistinct built_are
   pub plain : ArePlain body.commands

@@ -1,5 +1,5 @@
 -- What is answered over the contents of files is the answer over the folder.
-use Rattle.std.proofs.Common.{◌≡◌, ◌∙◌, ◌⊎◌, ◌≤◌, ℕ, List, [], ◌∷◌, length, Option, Some, None, sym, subst, inl, inr, refl, true, arith}
+use Rattle.std.proofs.Common.{false, Bool, ◌≡◌, ◌∙◌, ◌⊎◌, ◌≤◌, ℕ, List, [], ◌∷◌, length, Option, Some, None, sym, subst, inl, inr, refl, true, arith}
 use Rattle.mz_match.specs.declared.verdict.Counts.{Counts}
 use Rattle.mz_match.specs.declared.verdict.Verdict.{Verdict}
 use Rattle.mz_match.specs.declared.verdict.Verdict.TheVariants as verdicts
@@ -9,6 +9,8 @@ use Rattle.std.specs.List.{list_any}
 use Rattle.std.proofs.lemmas.Bool.{or_cases, or_left, or_right, and_parts, and_from, le-leb, leb-true}
 use Rattle.mz_io.specs.Outside.{SameFiles, Rooms, HasRoom, serves}
 use Rattle.mz_checks.proofs.InOrder.{all_hold-rest}
+use Rattle.mz_mmu.specs.Proof.{Statement}
+use Rattle.mz_type.specs.TextOf.{TextOf}
 use Rattle.mz_type.specs.Weight.{byte_bound, each_within, bound_limit, bound_count, parameter_limit, parameter_count}
 use Rattle.mz_emit.specs.declared.compiled.Compiled.{Compiled}
 use Rattle.mz_emit.specs.declared.compiled.Compiled.TheVariants as answers
@@ -130,8 +132,8 @@ module _ (r : Request) (xs : List (List ℕ)) (a b spec bin : List ℕ) (asked :
 -- ---- the outcome of `compile`
 
 -- a binary is no longer than a file that is read
-pub short-binary : (text bin : List ℕ) → CompilesTo text bin → length bin ≤ longest
-short-binary text bin (ss, typed, within, binary) =
+pub short-binary : (gaps : Bool) (text bin : List ℕ) → CompilesTo gaps text bin → length bin ≤ longest
+short-binary gaps text bin (ss, typed, within, binary) =
     let bytes : byte_bound ss ≤ 4294967295 =
     (all_hold-rest (each_within bound_limit bound_count 55 ss) _ (all_hold-rest (each_within parameter_limit parameter_count 65535 ss) _ within.1)).0 in
     let most : length bin ≤ byte_bound ss = binary.written.short in
@@ -140,62 +142,67 @@ short-binary text bin (ss, typed, within, binary) =
 pub put-bytes : (xs ys : List ℕ) → Some xs ≡ Some ys → xs ≡ ys
 put-bytes xs ys e = cc
 
-compilable : (text bin : List ℕ) → CompilesTo text bin → IsCompilable text
-compilable text bin (ss, typed, within, binary) = (ss, typed, within)
+compilable : (gaps : Bool) (text bin : List ℕ) → CompilesTo gaps text bin → IsCompilable gaps text
+compilable gaps text bin (ss, typed, within, binary) = (ss, typed, within)
 
-module _ (text : List ℕ) (decided : IsDecided text) where
-  pub is-not-compiled : (c : Compiled) (line : List ℕ) → IsCompilation text c → ((bytes : _) → c ≡ answers.Bytes bytes → ⊥) → (c ≡ answers.Mem → ⊥) → line ≡ line_of_compiled c → IsNotCompiled text line
+-- a text that is typed as a finished one is compiled as one, too
+pub as-finished : (text : List ℕ) (c : Compiled) (bytes : _) → c ≡ answers.Bytes bytes → ((ss : List Statement) → TextOf false text ss → IsCompilation false text c)
+    → IsCompilable false text → CompilesTo false text bytes.items
+as-finished text c bytes is finished (ss, typed, within) = subst (IsCompilation false text) is (finished ss typed)
+
+module _ (gaps : Bool) (text : List ℕ) (decided : IsDecided gaps text) where
+  pub is-not-compiled : (c : Compiled) (line : List ℕ) → IsCompilation gaps text c → ((bytes : _) → c ≡ answers.Bytes bytes → ⊥) → (c ≡ answers.Mem → ⊥) → line ≡ line_of_compiled c → IsNotCompiled gaps text line
   is-not-compiled (answers.Bytes bytes) line is other some same = absurd (other bytes refl)
   is-not-compiled (answers.Refused refusal) line is other some same = inl (refusal, is, same)
   is-not-compiled (answers.Limit rule count) line is other some same = inr (rule, count, is, same)
   is-not-compiled answers.Mem line is other some same = absurd (some refl)
 
   -- where the text is compiled, it isn't refused
-  pub compiled-alone : (c : Compiled) → IsCompilation text c → ((bytes : _) → c ≡ answers.Bytes bytes → ⊥) → (c ≡ answers.Mem → ⊥)
-      → (put : Option (List ℕ)) (line : List ℕ) → IsCompiledTo text put line → ⊥
-  compiled-alone (answers.Bytes bytes) is other some put line (bin, puts, compiles, same) = other bytes refl
-  compiled-alone (answers.Refused refusal) is other some put line (bin, puts, compiles, same) = decided.not_refused refusal (compilable text bin compiles) is
-  compiled-alone (answers.Limit rule count) is other some put line (bin, puts, compiles, same) = decided.not_limited (over (limit rule) count) (compilable text bin compiles) is
-  compiled-alone answers.Mem is other some put line (bin, puts, compiles, same) = some refl
+  pub compiled-alone : (c : Compiled) → IsCompilation gaps text c → ((bytes : _) → c ≡ answers.Bytes bytes → ⊥) → (c ≡ answers.Mem → ⊥)
+      → (put : Option (List ℕ)) (line : List ℕ) → IsCompiledTo gaps text put line → ⊥
+  compiled-alone (answers.Bytes bytes) is other some put line (bin, puts, compiles, finished, same) = other bytes refl
+  compiled-alone (answers.Refused refusal) is other some put line (bin, puts, compiles, finished, same) = decided.not_refused refusal (compilable gaps text bin compiles) is
+  compiled-alone (answers.Limit rule count) is other some put line (bin, puts, compiles, finished, same) = decided.not_limited (over (limit rule) count) (compilable gaps text bin compiles) is
+  compiled-alone answers.Mem is other some put line (bin, puts, compiles, finished, same) = some refl
 
   -- where it is refused, it isn't compiled
-  pub not-compiled-alone : (bin : List ℕ) → CompilesTo text bin → (line : List ℕ) → IsNotCompiled text line → ⊥
-  not-compiled-alone bin compiles line (inl (refusal, fault, same)) = decided.not_refused refusal (compilable text bin compiles) fault
-  not-compiled-alone bin compiles line (inr (rule, count, over, same)) = decided.not_limited _ (compilable text bin compiles) over
+  pub not-compiled-alone : (bin : List ℕ) → CompilesTo gaps text bin → (line : List ℕ) → IsNotCompiled gaps text line → ⊥
+  not-compiled-alone bin compiles line (inl (refusal, fault, same)) = decided.not_refused refusal (compilable gaps text bin compiles) fault
+  not-compiled-alone bin compiles line (inr (rule, count, over, same)) = decided.not_limited _ (compilable gaps text bin compiles) over
 
 -- the answer over one text is that of the request
-module _ (r : Request) (xs : List (List ℕ)) (a b text : List ℕ) (asked : r ≡ compile a b) (read : xs ≡ text ∷ []) where
-  pub compile-yes : (o : Outcome) → IfYes o (λ put line. IsCompiledTo text put line) → IfYes o (λ put line. IsYesOf r xs put line)
+module _ (r : Request) (xs : List (List ℕ)) (g : Bool) (a b text : List ℕ) (asked : r ≡ compile g a b) (read : xs ≡ text ∷ []) where
+  pub compile-yes : (o : Outcome) → IfYes o (λ put line. IsCompiledTo g text put line) → IfYes o (λ put line. IsYesOf r xs put line)
   compile-yes o is =
       let P : Request → Type 0 = λ q. IfYes o (λ put line. IsYesOf q xs put line) in
-      let Q : List (List ℕ) → Type 0 = λ ys. IfYes o (λ put line. IsYesOf (compile a b) ys put line) in
+      let Q : List (List ℕ) → Type 0 = λ ys. IfYes o (λ put line. IsYesOf (compile g a b) ys put line) in
       subst P (sym asked) (subst Q (sym read) is)
 
-  pub compile-no : (o : Outcome) → IfNo o (λ line. IsNotCompiled text line) → IfNo o (λ line. IsNoOf r xs line)
+  pub compile-no : (o : Outcome) → IfNo o (λ line. IsNotCompiled g text line) → IfNo o (λ line. IsNoOf r xs line)
   compile-no o is =
       let P : Request → Type 0 = λ q. IfNo o (λ line. IsNoOf q xs line) in
-      let Q : List (List ℕ) → Type 0 = λ ys. IfNo o (λ line. IsNoOf (compile a b) ys line) in
+      let Q : List (List ℕ) → Type 0 = λ ys. IfNo o (λ line. IsNoOf (compile g a b) ys line) in
       subst P (sym asked) (subst Q (sym read) is)
 
   pub compile-proved : (o : Outcome) → OnYes o (IsProvedOf r xs)
   compile-proved o =
       let P : Request → Type 0 = λ q. OnYes o (IsProvedOf q xs) in
       subst P (sym asked) (anything o) where
-        anything : (o : Outcome) → OnYes o (IsProvedOf (compile a b) xs)
+        anything : (o : Outcome) → OnYes o (IsProvedOf (compile g a b) xs)
         anything (outcomes.Yes put line) = tt
         anything (outcomes.No line) = tt
         anything outcomes.Mem = tt
 
-  pub compile-only_yes : (o : Outcome) → ((put : Option (List ℕ)) (line : List ℕ) → IsCompiledTo text put line → OnNo o ⊥) → (put : Option (List ℕ)) (line : List ℕ) → IsYesOf r xs put line → OnNo o ⊥
+  pub compile-only_yes : (o : Outcome) → ((put : Option (List ℕ)) (line : List ℕ) → IsCompiledTo g text put line → OnNo o ⊥) → (put : Option (List ℕ)) (line : List ℕ) → IsYesOf r xs put line → OnNo o ⊥
   compile-only_yes o none put line is =
       let P : Request → Type 0 = λ q. IsYesOf q xs put line in
-      let Q : List (List ℕ) → Type 0 = λ ys. IsYesOf (compile a b) ys put line in
+      let Q : List (List ℕ) → Type 0 = λ ys. IsYesOf (compile g a b) ys put line in
       none put line (subst Q read (subst P asked is))
 
-  pub compile-only_no : (o : Outcome) → ((line : List ℕ) → IsNotCompiled text line → OnYes o ⊥) → (line : List ℕ) → IsNoOf r xs line → OnYes o ⊥
+  pub compile-only_no : (o : Outcome) → ((line : List ℕ) → IsNotCompiled g text line → OnYes o ⊥) → (line : List ℕ) → IsNoOf r xs line → OnYes o ⊥
   compile-only_no o none line is =
       let P : Request → Type 0 = λ q. IsNoOf q xs line in
-      let Q : List (List ℕ) → Type 0 = λ ys. IsNoOf (compile a b) ys line in
+      let Q : List (List ℕ) → Type 0 = λ ys. IsNoOf (compile g a b) ys line in
       none line (subst Q read (subst P asked is))
 
 -- ---- an answer to one request over some contents is one to the same request over the same contents

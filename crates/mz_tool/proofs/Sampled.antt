@@ -18,7 +18,7 @@ use Rattle.mz_tool.proofs.Answered.{put-bytes, not-compiled-alone}
 use Rattle.mz_tool.proofs.StatedLists.{stated-agree}
 
 -- a text that is compiled is accepted or not whatever binary it is compiled to
-accepted-once : (spec text bin bin' : List ℕ) → IsTypedOrFaulty text → CompilesTo text bin → CompilesTo text bin' → Accepts spec bin → Accepts spec bin'
+accepted-once : (spec text bin bin' : List ℕ) → IsTypedOrFaulty false text → CompilesTo false text bin → CompilesTo false text bin' → Accepts spec bin → Accepts spec bin'
 accepted-once spec text bin bin' one (ss, typed, within, binary) (ss', typed', within', binary') accepts =
     let same : ss ≡ ss' = one.one_list ss ss' typed typed' in
     let made = one-list bin accepts.statements binary.good.made (good-spelled false bin accepts.statements accepts.is_good) binary.good.spelled in
@@ -27,12 +27,12 @@ accepted-once spec text bin bin' one (ss, typed, within, binary) (ss', typed', w
     binary'.accepted spec accepts.declared accepts.is_spec (subst (λ (xs : _). Agrees accepts.declared (publics (marked xs))) same stated)
 
 -- the text's binary is the one that is put
-pub compiled-put : (text : List ℕ) (put : Option (List ℕ)) (line bin : List ℕ) → IsCompiledTo text put line → put ≡ Some bin → CompilesTo text bin
-compiled-put text put line bin (made, puts, compiles, same) is = subst (CompilesTo text) (put-bytes made bin (sym puts ∙ is)) compiles
+pub compiled-put : (text : List ℕ) (put : Option (List ℕ)) (line bin : List ℕ) → IsCompiledTo false text put line → put ≡ Some bin → CompilesTo false text bin
+compiled-put text put line bin (made, puts, compiles, finished, same) is = subst (CompilesTo false text) (put-bytes made bin (sym puts ∙ is)) compiles
 
-module _ (spec text : List ℕ) (one : IsTypedOrFaulty text) (decided : IsDecided text) where
+module _ (spec text : List ℕ) (one : IsTypedOrFaulty false text) (decided : IsDecided false text) where
   not-both : (line line' : List ℕ) → IsUpheld spec text line → IsFaulted spec text line' → ⊥
-  not-both line line' (bin, compiles, verified) (inl not) = not-compiled-alone text decided bin compiles line' not
+  not-both line line' (bin, compiles, verified) (inl not) = not-compiled-alone false text decided bin compiles line' not
   not-both line line' (bin, compiles, (counts, (accepts, is), same)) (inr (bin', compiles', (verdict, refused, same'))) =
       let accepts' = accepted-once spec text bin bin' one compiles compiles' accepts in
       accepted-excludes spec bin' (counts_of accepts'.declared) verdict (accepts', refl) refused
@@ -48,7 +48,7 @@ module _ (spec text : List ℕ) (one : IsTypedOrFaulty text) (decided : IsDecide
   upheld-only_no outcomes.Mem is line faulted = tt
 
 -- a binary of the text is verified
-module _ (spec text bin : List ℕ) (compiles : CompilesTo text bin) where
+module _ (spec text bin : List ℕ) (compiles : CompilesTo false text bin) where
   pub verified-yes : (o : Outcome) → IfYes o (λ put line. (put ≡ None) × IsVerified spec bin line) → IfYes o (λ put line. (put ≡ None) × IsUpheld spec text line)
   verified-yes (outcomes.Yes put line) (none, verified) = (none, (bin, compiles, verified))
   verified-yes (outcomes.No line) is = tt
@@ -71,7 +71,7 @@ module _ (spec text : List ℕ) where
   not-yes (outcomes.No line) P not = tt
   not-yes outcomes.Mem P not = tt
 
-  pub faulted-no : (o : Outcome) → IfNo o (λ line. IsNotCompiled text line) → IfNo o (λ line. IsFaulted spec text line)
+  pub faulted-no : (o : Outcome) → IfNo o (λ line. IsNotCompiled false text line) → IfNo o (λ line. IsFaulted spec text line)
   faulted-no (outcomes.Yes put line) is = tt
   faulted-no (outcomes.No line) is = inl is
   faulted-no outcomes.Mem is = tt

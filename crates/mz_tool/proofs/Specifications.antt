@@ -1,5 +1,5 @@
 -- What comes of a text: it has a specification, or a first fault, or something stands first against a specification.
-use Rattle.std.proofs.Common.{◌≡◌, ◌≤◌, ◌∙◌, ℕ, List, Option, length, ap, inl, inr, refl, arith}
+use Rattle.std.proofs.Common.{false, ◌≡◌, ◌≤◌, ◌∙◌, ℕ, List, Option, length, ap, subst, inl, inr, refl, arith}
 use Rattle.mz_checks.proofs.InOrder.{all_hold-rest}
 use Rattle.mz_wording.specs.Wording.{longest, local_in, long_in, too_long, local_checks, long_checks, local_terms, vocabulary_of, prefix_text, IsWordedAs}
 use Rattle.mz_prefix.specs.declared.spec_text.SpecText.{SpecText}
@@ -7,7 +7,7 @@ use Rattle.mz_prefix.specs.declared.spec_text.SpecText.TheVariants as answers
 use Rattle.mz_prefix.specs.SpecTexts.{IsWording, IsDecided}
 use Rattle.mz_match.specs.Verdict.{Accepts}
 use Rattle.mz_emit.specs.Compiling.{CompilesTo}
-use Rattle.mz_agreeing.specs.Laws.{DeclaresText, SpecificationsOfTextsDeclare}
+use Rattle.mz_agreeing.specs.Laws.{DeclaresText}
 use Rattle.mz_tool.specs.Run.{IsSpecifiedTo, IsNotSpecified, AreItsSpecifications}
 use Rattle.mz_tool.specs.Specified.{spec_line}
 
@@ -18,12 +18,13 @@ short-specification text spec (ss, typed, all, is) =
     let same : length spec ≡ length (prefix_text ss) = ap length is in
     omega (arith, few, same)
 
-accepted-by : (text spec bin : List ℕ) → DeclaresText spec text → CompilesTo text bin → Accepts spec bin
+accepted-by : (text spec bin : List ℕ) → DeclaresText spec text → CompilesTo false text bin → Accepts spec bin
 accepted-by text spec bin d (ss, is_text, within, binary) = binary.accepted spec d.declared d.is_spec (d.agrees ss is_text)
 
-pub its-specifications : SpecificationsOfTextsDeclare → (text : List ℕ) → AreItsSpecifications text
-its-specifications law text spec worded =
-    let d : DeclaresText spec text = law longest text spec (omega arith) worded in
+-- a text has no specification but the one that is written, so what this one declares each declares
+pub its-specifications : (text made : List ℕ) → IsDecided longest text → IsWordedAs longest text made → DeclaresText made text → AreItsSpecifications text
+its-specifications text made decided is declares spec worded =
+    let d : DeclaresText spec text = subst (λ s. DeclaresText s text) (decided.one_wording made spec is worded) declares in
     (d, λ bin compiled. accepted-by text spec bin d compiled)
 
 module _ (text : List ℕ) (decided : IsDecided longest text) where

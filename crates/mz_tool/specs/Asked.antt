@@ -1,4 +1,5 @@
 -- The request that a command stands for.
+use Rattle.mz_mode.specs.Gaps.{gaps_of}
 use Rattle.mz_tool.specs.Request.{Request, verify, show, compile, assemble, axioms, draft, specify, sample}
 use Rattle.mz_tool.specs.declared.command.Command.{Command}
 use Rattle.mz_tool.specs.declared.command.Command.TheVariants.{Verify, Show, Compile, Assemble, Axioms, Draft, Specify, Sample}
@@ -6,7 +7,7 @@ use Rattle.mz_tool.specs.declared.command.Command.TheVariants.{Verify, Show, Com
 abbrev pub request : Command → Request
 request (Verify spec bin) = verify spec.now bin.now
 request (Show bin) = show bin.now
-request (Compile text out) = compile text.now out.now
+request (Compile mode text out) = compile (gaps_of mode) text.now out.now
 request (Assemble listing out) = assemble listing.now out.now
 request (Axioms spec bin) = axioms spec.now bin.now
 request (Draft spec bin) = draft spec.now bin.now

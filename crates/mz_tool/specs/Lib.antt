@@ -6,3 +6,4 @@ pub mod Run
 pub mod Specified
 pub mod Asked
 pub mod Reported
+pub mod Ending

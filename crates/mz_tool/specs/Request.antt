@@ -1,23 +1,28 @@
 -- What the words given to the program ask for (this project's own).
-use Rattle.std.specs.Prelude.{◌≡◌, ◌≤◌, ℕ, ⊤, List, [], ◌∷◌, length, Option, Some, None, codes, decimal, Any}
+use Rattle.std.specs.Prelude.{◌≡◌, ◌≤◌, ℕ, ⊤, Bool, true, false, List, [], ◌∷◌, length, Option, Some, None, codes, decimal, Any}
 use Rattle.mz_io.specs.Read.{IsLonger}
 use Rattle.mz_io.specs.Outside.{SameFiles, SameOthers}
 
--- a command of the program, with the names of its files; or with how many definitions a sample has
+-- a command of the program, with the names of its files; or with how many definitions a sample has. A text is compiled
+-- with gaps let through, as a draft, or without
 pub data Request : Type 0 where
   verify : (spec bin : List ℕ) → Request
   show : (bin : List ℕ) → Request
-  compile : (text out : List ℕ) → Request
+  compile : (gaps : Bool) (text out : List ℕ) → Request
   assemble : (listing out : List ℕ) → Request
   axioms : (spec bin : List ℕ) → Request
   draft : (spec bin : List ℕ) → Request
   specify : (text out : List ℕ) → Request
   sample : (n : ℕ) → Request
 
+abbrev pub compile_word : Bool → List ℕ
+compile_word false = codes "compile"
+compile_word true = codes "compile_draft"
+
 abbrev pub words_of : Request → List (List ℕ)
 words_of (verify spec bin) = codes "verify" ∷ spec ∷ bin ∷ []
 words_of (show bin) = codes "show" ∷ bin ∷ []
-words_of (compile text out) = codes "compile" ∷ text ∷ out ∷ []
+words_of (compile gaps text out) = compile_word gaps ∷ text ∷ out ∷ []
 words_of (assemble listing out) = codes "assemble" ∷ listing ∷ out ∷ []
 words_of (axioms spec bin) = codes "axioms" ∷ spec ∷ bin ∷ []
 words_of (draft spec bin) = codes "draft" ∷ spec ∷ bin ∷ []
@@ -28,7 +33,7 @@ words_of (sample n) = codes "sample" ∷ decimal n ∷ []
 abbrev pub IsInRange : Request → Type 0
 IsInRange (verify spec bin) = Unit {0}
 IsInRange (show bin) = Unit {0}
-IsInRange (compile text out) = Unit {0}
+IsInRange (compile gaps text out) = Unit {0}
 IsInRange (assemble listing out) = Unit {0}
 IsInRange (axioms spec bin) = Unit {0}
 IsInRange (draft spec bin) = Unit {0}
@@ -43,7 +48,7 @@ Asks words request = (words ≡ words_of request) × IsInRange request
 abbrev pub names_read : Request → List (List ℕ)
 names_read (verify spec bin) = spec ∷ bin ∷ []
 names_read (show bin) = bin ∷ []
-names_read (compile text out) = text ∷ []
+names_read (compile gaps text out) = text ∷ []
 names_read (assemble listing out) = listing ∷ []
 names_read (axioms spec bin) = spec ∷ bin ∷ []
 names_read (draft spec bin) = spec ∷ bin ∷ []
@@ -54,7 +59,7 @@ names_read (sample n) = []
 abbrev pub name_put : Request → Option (List ℕ)
 name_put (verify spec bin) = None
 name_put (show bin) = None
-name_put (compile text out) = Some out
+name_put (compile gaps text out) = Some out
 name_put (assemble listing out) = Some out
 name_put (axioms spec bin) = None
 name_put (draft spec bin) = None

@@ -14,7 +14,7 @@ use Rattle.mz_emit.specs.declared.rule.L.{L}
 use Rattle.mz_emit.specs.declared.rule.L.TheVariants.{Bytes}
 use Rattle.mz_emit.specs.Lines.{bytes_line, refusal_line as text_refusal_line, limit_line}
 use Rattle.mz_emit.specs.Limits.{limit, over}
-use Rattle.mz_emit.specs.Compiling.{CompilesTo, PassesLimit}
+use Rattle.mz_emit.specs.Compiling.{IsCompilable, CompilesTo, PassesLimit}
 use Rattle.mz_asm.specs.declared.rule.A.{A}
 use Rattle.mz_asm.specs.Spoken.{bytes_line as assembled_line, refusal_line as listing_refusal_line, limit_line as length_line}
 use Rattle.mz_asm.specs.Assembling.{IsBinaryOf, Breaks, IsTooLong}
@@ -46,16 +46,17 @@ IsRefuted spec bin text = IsRefutedBy false spec bin text
 abbrev pub IsPartlyListed : List ℕ → List ℕ → Type 0
 IsPartlyListed bin text = (listed : List ℕ) × (refusal : Refusal) × IsListedUpTo bin listed refusal × (text ≡ listed ++ refusal_line refusal)
 
--- the text is compiled to the bytes, which are put: they are accepted against each specification with which its public
--- statements agree
-abbrev pub IsCompiledTo : List ℕ → Option (List ℕ) → List ℕ → Type 0
-IsCompiledTo text put line = (bin : List ℕ) × (put ≡ Some bin) × CompilesTo text bin × (line ≡ bytes_line (length bin))
+-- the text, where gaps are let through a draft, is compiled to the bytes, which are put: they are accepted against each
+-- specification with which its public statements agree, of a draft as a draft; a finished text's are so without gaps
+abbrev pub IsCompiledTo : Bool → List ℕ → Option (List ℕ) → List ℕ → Type 0
+IsCompiledTo gaps text put line = (bin : List ℕ) × (put ≡ Some bin) × CompilesTo gaps text bin × (IsCompilable false text → CompilesTo false text bin)
+    × (line ≡ bytes_line (length bin))
 
 -- it has a first fault, or is well typed and passes a limit first
-abbrev pub IsNotCompiled : List ℕ → List ℕ → Type 0
-IsNotCompiled text line =
-    ((refusal : TextRefusal) × TextFault text refusal × (line ≡ text_refusal_line refusal))
-    ⊎ ((rule : L) × (count : ℕ) × PassesLimit text (over (limit rule) count) × (line ≡ limit_line rule count))
+abbrev pub IsNotCompiled : Bool → List ℕ → List ℕ → Type 0
+IsNotCompiled gaps text line =
+    ((refusal : TextRefusal) × TextFault gaps text refusal × (line ≡ text_refusal_line refusal))
+    ⊎ ((rule : L) × (count : ℕ) × PassesLimit gaps text (over (limit rule) count) × (line ≡ limit_line rule count))
 
 -- the text is a listing, and the bytes, which are put, are the binary of the statements that it says
 abbrev pub IsAssembledTo : List ℕ → Option (List ℕ) → List ℕ → Type 0
@@ -84,7 +85,7 @@ IsSpecifiedTo text put line = (spec : List ℕ) × (put ≡ Some spec) × IsWord
 -- each specification of a text declares what agrees with its public statements, and what the text is compiled to is
 -- accepted against it
 abbrev pub AreItsSpecifications : List ℕ → Type 0
-AreItsSpecifications text = (spec : List ℕ) → IsWordedAs longest text spec → DeclaresText spec text × ((bin : List ℕ) → CompilesTo text bin → Accepts spec bin)
+AreItsSpecifications text = (spec : List ℕ) → IsWordedAs longest text spec → DeclaresText spec text × ((bin : List ℕ) → CompilesTo false text bin → Accepts spec bin)
 
 -- the line of what stands against a specification
 abbrev pub unwritten_line : Unwritten → List ℕ
@@ -95,20 +96,20 @@ unwritten_line (too_long count) = limit_line Bytes count
 -- the text has a first fault, or is well typed and something stands first against its specification
 abbrev pub IsNotSpecified : List ℕ → List ℕ → Type 0
 IsNotSpecified text line =
-    ((refusal : TextRefusal) × TextFault text refusal × (line ≡ text_refusal_line refusal))
+    ((refusal : TextRefusal) × TextFault false text refusal × (line ≡ text_refusal_line refusal))
     ⊎ ((u : Unwritten) × IsUnwritten longest text u × (line ≡ unwritten_line u))
 
 -- a text is compiled, and the binary accepted against the specification
 abbrev pub IsUpheld : List ℕ → List ℕ → List ℕ → Type 0
-IsUpheld spec text line = (bin : List ℕ) × CompilesTo text bin × IsVerified spec bin line
+IsUpheld spec text line = (bin : List ℕ) × CompilesTo false text bin × IsVerified spec bin line
 
 -- it isn't compiled, or the binary is refused
 abbrev pub IsFaulted : List ℕ → List ℕ → List ℕ → Type 0
-IsFaulted spec text line = IsNotCompiled text line ⊎ ((bin : List ℕ) × CompilesTo text bin × IsRefuted spec bin line)
+IsFaulted spec text line = IsNotCompiled false text line ⊎ ((bin : List ℕ) × CompilesTo false text bin × IsRefuted spec bin line)
 
 -- each theorem of the specification is proved by a binary of the text
 abbrev pub IsProvedByText : List ℕ → List ℕ → Type 0
-IsProvedByText spec text = (bin : List ℕ) × CompilesTo text bin × IsSound spec bin
+IsProvedByText spec text = (bin : List ℕ) × CompilesTo false text bin × IsSound spec bin
 
 -- the line that tells how long a sample's specification and its text are
 abbrev pub sizes_line : ℕ → List ℕ
@@ -127,7 +128,7 @@ IsSampleFaulted n text = (line : List ℕ) × IsFaulted (sample_specification n)
 abbrev pub IsYesOf : Request → List (List ℕ) → Option (List ℕ) → List ℕ → Type 0
 IsYesOf (verify spec_name bin_name) (spec ∷ bin ∷ []) put text = (put ≡ None) × IsVerified spec bin text
 IsYesOf (show bin_name) (bin ∷ []) put text = (put ≡ None) × IsListing bin text
-IsYesOf (compile text_name out_name) (stated ∷ []) put text = IsCompiledTo stated put text
+IsYesOf (compile gaps text_name out_name) (stated ∷ []) put text = IsCompiledTo gaps stated put text
 IsYesOf (assemble listing_name out_name) (listing ∷ []) put text = IsAssembledTo listing put text
 IsYesOf (axioms spec_name bin_name) (spec ∷ bin ∷ []) put text = (put ≡ None) × AreAxiomsTold spec bin text
 IsYesOf (draft spec_name bin_name) (spec ∷ bin ∷ []) put text = (put ≡ None) × IsDraftTold spec bin text
@@ -139,7 +140,7 @@ IsYesOf request contents put text = ⊥
 abbrev pub IsNoOf : Request → List (List ℕ) → List ℕ → Type 0
 IsNoOf (verify spec_name bin_name) (spec ∷ bin ∷ []) text = IsRefuted spec bin text
 IsNoOf (show bin_name) (bin ∷ []) text = IsPartlyListed bin text
-IsNoOf (compile text_name out_name) (stated ∷ []) text = IsNotCompiled stated text
+IsNoOf (compile gaps text_name out_name) (stated ∷ []) text = IsNotCompiled gaps stated text
 IsNoOf (assemble listing_name out_name) (listing ∷ []) text = IsNotAssembled listing text
 IsNoOf (axioms spec_name bin_name) (spec ∷ bin ∷ []) text = IsRefuted spec bin text
 IsNoOf (draft spec_name bin_name) (spec ∷ bin ∷ []) text = IsRefutedBy true spec bin text
@@ -156,7 +157,7 @@ abbrev pub IsProvedOf : Request → List (List ℕ) → Type 0
 IsProvedOf (verify spec_name bin_name) (spec ∷ bin ∷ []) = IsSound spec bin
 IsProvedOf (verify spec_name bin_name) contents = ⊥
 IsProvedOf (show bin_name) contents = Unit {0}
-IsProvedOf (compile text_name out_name) contents = Unit {0}
+IsProvedOf (compile gaps text_name out_name) contents = Unit {0}
 IsProvedOf (assemble listing_name out_name) contents = Unit {0}
 IsProvedOf (axioms spec_name bin_name) (spec ∷ bin ∷ []) = IsSound spec bin
 IsProvedOf (axioms spec_name bin_name) contents = ⊥
@@ -196,7 +197,7 @@ IsQuiet statuses.Memory = ⊥
 -- there before want of memory
 abbrev pub IsListedFor : Files → Request → List ℕ → Type 0
 IsListedFor file (verify spec_name bin_name) text = ⊥
-IsListedFor file (compile text_name out_name) text = ⊥
+IsListedFor file (compile gaps text_name out_name) text = ⊥
 IsListedFor file (assemble listing_name out_name) text = ⊥
 IsListedFor file (axioms spec_name bin_name) text = ⊥
 IsListedFor file (draft spec_name bin_name) text = ⊥
@@ -207,7 +208,7 @@ IsListedFor file (show bin_name) text = (bin : List ℕ) × (file bin_name ≡ S
 abbrev pub IsShow : Request → Type 0
 IsShow (verify spec bin) = ⊥
 IsShow (show bin) = Unit {0}
-IsShow (compile text out) = ⊥
+IsShow (compile gaps text out) = ⊥
 IsShow (assemble listing out) = ⊥
 IsShow (axioms spec bin) = ⊥
 IsShow (draft spec bin) = ⊥

@@ -6,26 +6,50 @@ ghost use Rattle.mz_tool.specs.Inputs.{names_of, name_of};
 use crate::inputs::Inputs;
 use crate::output::Output;
 use crate::size::SampleSize;
+use mz_mode::Mode;
 
 /// A command of the program, with the names of its files, or the size of its sample.
 #[derive(Clone, Copy)]
 pub enum Command<'a> {
     /// `verify SPEC BIN`
-    Verify { spec: &'a str, bin: &'a str },
+    Verify {
+        spec: &'a str,
+        bin: &'a str,
+    },
     /// `show BIN`
-    Show { bin: &'a str },
-    /// `compile TEXT OUT`
-    Compile { text: &'a str, out: &'a str },
+    Show {
+        bin: &'a str,
+    },
+    /// `compile TEXT OUT`, and `compile_draft TEXT OUT` for a draft
+    Compile {
+        mode: Mode,
+        text: &'a str,
+        out: &'a str,
+    },
     /// `assemble LIST OUT`
-    Assemble { listing: &'a str, out: &'a str },
+    Assemble {
+        listing: &'a str,
+        out: &'a str,
+    },
     /// `axioms SPEC BIN`
-    Axioms { spec: &'a str, bin: &'a str },
+    Axioms {
+        spec: &'a str,
+        bin: &'a str,
+    },
     /// `draft SPEC BIN`
-    Draft { spec: &'a str, bin: &'a str },
+    Draft {
+        spec: &'a str,
+        bin: &'a str,
+    },
     /// `spec TEXT OUT`
-    Specify { text: &'a str, out: &'a str },
+    Specify {
+        text: &'a str,
+        out: &'a str,
+    },
     /// `sample N`
-    Sample { size: SampleSize },
+    Sample {
+        size: SampleSize,
+    },
 }
 
 impl<'a> Command<'a> {
@@ -71,6 +95,12 @@ impl<'a> Command<'a> {
                 bin: second,
             }),
             "compile" => Some(Command::Compile {
+                mode: Mode::Strict,
+                text: first,
+                out: second,
+            }),
+            "compile_draft" => Some(Command::Compile {
+                mode: Mode::Draft,
                 text: first,
                 out: second,
             }),

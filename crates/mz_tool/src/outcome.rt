@@ -43,7 +43,7 @@ pub fn outcome_of(alloc: Global, command: Command, contents: &Contents) -> Outco
 {
     match (command, contents) {
         (Command::Verify { .. }, Contents::Two(spec, bin)) => verify(alloc, spec, bin),
-        (Command::Compile { .. }, Contents::One(text)) => compile(alloc, text),
+        (Command::Compile { mode, .. }, Contents::One(text)) => compile(alloc, text, mode),
         (Command::Assemble { .. }, Contents::One(listing)) => assemble(alloc, listing),
         (Command::Axioms { .. }, Contents::Two(spec, bin)) => axioms(alloc, spec.as_slice(), bin),
         (Command::Draft { .. }, Contents::Two(spec, bin)) => draft(alloc, spec.as_slice(), bin),

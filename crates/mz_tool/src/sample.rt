@@ -10,6 +10,7 @@ use crate::output::Put;
 use crate::size::SampleSize;
 use crate::verify::verify;
 use mz_emit::compilation_is_decided;
+use mz_mode::Mode;
 use mz_sample::{sample_line, sample_specification, sample_text};
 use mz_type::typed_or_faulty;
 use std::alloc::Global;
@@ -47,7 +48,7 @@ fn upheld(alloc: Global, specification: &[u8], text: &[u8]) -> Outcome
 {
     compilation_is_decided();
     typed_or_faulty();
-    match compile(alloc, text) {
+    match compile(alloc, text, Mode::Strict) {
         Outcome::Yes { put, .. } => match put {
             Put::File(bin) => verify(alloc, specification, &bin),
             Put::Nothing => unreachable!(),

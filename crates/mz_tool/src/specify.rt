@@ -7,7 +7,6 @@ ghost use Rattle.mz_tool.specs.Specified;
 
 use crate::outcome::Outcome;
 use crate::output::Put;
-use mz_agreeing::specifications_of_texts_declare;
 use mz_cmd::Mem;
 use mz_emit::{Compiled, L, compiled_line};
 use mz_prefix::{
@@ -48,7 +47,6 @@ pub fn specify(alloc: Global, text: &[u8]) -> Outcome
     ensures only_no { (line : List ℕ) → IsNotSpecified text.now line → OnYes result ⊥ }
 {
     specification_is_decided();
-    specifications_of_texts_declare();
     let made = spec_of(alloc, text);
     if let SpecText::Mem = made {
         return Outcome::Mem;

@@ -1,4 +1,7 @@
 // How a run of the program ends.
+ghost use Rattle.std.specs.Prelude.{◌≡◌, option_map};
+ghost use Rattle.mz_tool.specs.Ending.{number_of, told_name};
+
 /// The bytes of the longest file that is read.
 pub const LONGEST: u64 = 4_294_967_295;
 
@@ -25,7 +28,9 @@ pub enum Status {
 
 impl Status {
     /// The exit status of the process.
-    pub fn number(self) -> u8 {
+    pub fn number(self) -> u8
+        ensures { result ≡ number_of self }
+    {
         match self {
             Status::Done => 0,
             Status::Refused => 1,
@@ -39,7 +44,9 @@ impl Status {
     }
 
     /// What is told on standard error, where anything is.
-    pub fn name(self) -> Option<&'static str> {
+    pub fn name(self) -> Option<&'static str>
+        ensures { option_map (λ name. name.now) result ≡ told_name self }
+    {
         match self {
             Status::Done | Status::Refused => None,
             Status::Usage => Some("Usage"),

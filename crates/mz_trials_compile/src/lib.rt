@@ -26,3 +26,5 @@ mod slow;
 mod specifying;
 #[cfg(test)]
 mod texts;
+#[cfg(test)]
+mod unfinished;

@@ -19,11 +19,21 @@ const ROOM: u64 = 4096;
 
 /// How compiling a text ends, the folder after it, and what was written.
 pub fn compiled(alloc: Global, text: &[u8]) -> Result<(Status, MemFolder, MemSink), AllocError> {
+    compiled_as(alloc, "compile", text)
+}
+
+/// The same with `compile_draft` or `compile`.
+pub fn compiled_as(
+    alloc: Global,
+    command: &str,
+    text: &[u8],
+) -> Result<(Status, MemFolder, MemSink), AllocError> {
     let mut folder = MemFolder::new(alloc);
     folder.add("text", text)?;
     folder.room("out", ROOM)?;
     let mut out = MemSink::new(alloc, 200)?;
-    let words = words_of(alloc, "compile text out")?;
+    let line = format!(in alloc; "{command} text out")?;
+    let words = words_of(alloc, line.as_str())?;
     let status = run(alloc, &words, &mut folder, &mut out);
     Ok((status, folder, out))
 }

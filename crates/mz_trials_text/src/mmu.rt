@@ -2,6 +2,7 @@ ghost use Rattle.std.specs.Prelude.{◌<◌, ◌^◌, length};
 
 use mz_logic::{Binder, Decl, Expr, Exprs, TermForm};
 use mz_mmu::{Conv, Convs, Proof, Proofs, Text, TextRead, read_text};
+use mz_mode::Mode;
 use std::alloc::{AllocError, Global};
 use std::test::Fail;
 
@@ -50,7 +51,7 @@ impl Page {
         self.word(b")")
     }
 
-    /// `=e`, `~c`, `c0(..)`, `u0(..)[..]c`.
+    /// `=e`, `~c`, `c0(..)`, `u0(..)[..]c`, `?l r`.
     #[cycle(conv)]
     fn conv(&mut self, conv: &Conv, limit: u32) -> Result<(), AllocError> {
         if limit == 0 {
@@ -75,6 +76,12 @@ impl Page {
                 self.places(ys.as_slice())?;
                 self.conv(c.get(), limit - 1)
             }
+            Conv::Gap(l, r) => {
+                self.word(b"?")?;
+                self.expr(l, 100)?;
+                self.word(b" ")?;
+                self.expr(r, 100)
+            }
         }
     }
 
@@ -90,7 +97,7 @@ impl Page {
         self.word(b")")
     }
 
-    /// `h0`, `n0`, `T0(..){..}`, `:e c p`, `!p.q`.
+    /// `h0`, `n0`, `T0(..){..}`, `:e c p`, `!p.q`, `?e`.
     #[cycle(proof)]
     fn proof(&mut self, proof: &Proof, limit: u32) -> Result<(), AllocError> {
         if limit == 0 {
@@ -108,7 +115,7 @@ impl Page {
                 self.word(b":")?;
                 self.expr(e, 100)?;
                 self.word(b" ")?;
-                self.conv(c, 100)?;
+                self.conv(c.get(), 100)?;
                 self.word(b" ")?;
                 self.proof(p.get(), limit - 1)
             }
@@ -117,6 +124,10 @@ impl Page {
                 self.proof(p.get(), limit - 1)?;
                 self.word(b".")?;
                 self.proof(q.get(), limit - 1)
+            }
+            Proof::Gap(e) => {
+                self.word(b"?")?;
+                self.expr(e, 100)
             }
         }
     }
@@ -201,10 +212,10 @@ impl Page {
 }
 
 /// The statements of a text, or its refusal.
-fn description(alloc: Global, text: &[u8]) -> Result<Vec<u8>, AllocError>
+fn description(alloc: Global, text: &[u8], mode: Mode) -> Result<Vec<u8>, AllocError>
     requires { length text.now < 2 ^ 32 }
 {
-    match read_text(alloc, text) {
+    match read_text(alloc, text, mode) {
         TextRead::Text(text) => {
             let mut page = Page {
                 alloc,
@@ -225,7 +236,7 @@ fn description(alloc: Global, text: &[u8]) -> Result<Vec<u8>, AllocError>
 
 /// A text of the sorts `s` and `w`, the terms `c` without parameters, `f` with one and `g` with two,
 /// an axiom `A`, and then `more`; its description without these.
-fn told(alloc: Global, more: &[u8]) -> Result<Vec<u8>, AllocError>
+fn told(alloc: Global, more: &[u8], mode: Mode) -> Result<Vec<u8>, AllocError>
     requires { length more.now < 10000 }
 {
     let mut text: Vec<u8> = Vec::new(alloc);
@@ -234,7 +245,7 @@ fn told(alloc: Global, more: &[u8]) -> Result<Vec<u8>, AllocError>
     text.extend_from_slice(b"(axiom A ((a s ())) (a) a)")?;
     text.extend_from_slice(more)?;
     if text.len() < 20000 {
-        description(alloc, &text)
+        description(alloc, &text, mode)
     } else {
         Err(AllocError)
     }
@@ -341,7 +352,7 @@ fn forms(rt: HostRuntime) -> Result<(), Fail> {
     let alloc = rt.alloc();
     for (text, expected) in FORMS {
         assert!(rt; text.len() < 10000);
-        let found = told(alloc, text.as_bytes())?;
+        let found = told(alloc, text.as_bytes(), Mode::Strict)?;
         assert!(rt; found.ends_with(expected.as_bytes()), "{text}");
     }
     Ok(())
@@ -450,7 +461,7 @@ fn wrong_forms(rt: HostRuntime) -> Result<(), Fail> {
     let alloc = rt.alloc();
     for (text, at) in WRONG_FORMS {
         assert!(rt; text.len() < 10000);
-        let found = told(alloc, text.as_bytes())?;
+        let found = told(alloc, text.as_bytes(), Mode::Strict)?;
         let expected = format!(in alloc; "statement 7 at byte {at}: U3 form")?;
         assert_eq!(rt; found.as_slice(), expected.as_bytes(), "{text}");
     }
@@ -546,9 +557,14 @@ const NAMES: &[(&str, &str)] = &[
     ),
     // what is open
     ("(theorem t () () c () (:sorry))", "141: U15 sorry"),
+    ("(theorem t () () c () (:sorry c))", "141: U15 sorry"),
     ("(theorem t () () c () (:sorry 1 (())))", "141: U15 sorry"),
     (
         "(theorem t () () c () (:conv c (:sorry) (A (c))))",
+        "150: U15 sorry",
+    ),
+    (
+        "(theorem t () () c () (:conv c (:sorry c c) (A (c))))",
         "150: U15 sorry",
     ),
     // from left to right
@@ -570,9 +586,60 @@ fn names(rt: HostRuntime) -> Result<(), Fail> {
     let alloc = rt.alloc();
     for (text, place) in NAMES {
         assert!(rt; text.len() < 10000);
-        let found = told(alloc, text.as_bytes())?;
+        let found = told(alloc, text.as_bytes(), Mode::Strict)?;
         let expected = format!(in alloc; "statement 7 at byte {place}")?;
         assert_eq!(rt; found.as_slice(), expected.as_bytes(), "{text}");
+    }
+    Ok(())
+}
+
+/// What a draft reads where a finished text is refused, and what it still refuses.
+const DRAFTS: &[(&str, &str)] = &[
+    (
+        "(theorem t () () c () (:sorry c))",
+        "119 t thm ()()t0() ()?t0(); ",
+    ),
+    (
+        "(theorem t () () c () (A (c) (:sorry c)))",
+        "119 t thm ()()t0() ()T0(t0()){?t0()}; ",
+    ),
+    (
+        "(theorem t () () c () (:conv c (:sorry c (f c)) (:sorry (f c))))",
+        "119 t thm ()()t0() ():t0() ?t0() t1(t0()) ?t1(t0()); ",
+    ),
+    (
+        "(theorem t () () c () (:sorry))",
+        "statement 7 at byte 141: U3 form",
+    ),
+    (
+        "(theorem t () () c () (:sorry 1 (())))",
+        "statement 7 at byte 141: U3 form",
+    ),
+    (
+        "(theorem t () () c () (:sorry x))",
+        "statement 7 at byte 149: U5 unknown name",
+    ),
+    (
+        "(theorem t () () c () (:conv c (:sorry c) (A (c))))",
+        "statement 7 at byte 150: U3 form",
+    ),
+    (
+        "(theorem t () () c () (:conv c (:sorry c x) (A (c))))",
+        "statement 7 at byte 160: U5 unknown name",
+    ),
+    (
+        "(axiom B () () (:sorry c))",
+        "statement 7 at byte 135: U3 form",
+    ),
+];
+
+#[test]
+fn drafts(rt: HostRuntime) -> Result<(), Fail> {
+    let alloc = rt.alloc();
+    for (text, expected) in DRAFTS {
+        assert!(rt; text.len() < 10000);
+        let found = told(alloc, text.as_bytes(), Mode::Draft)?;
+        assert!(rt; found.as_slice().ends_with(expected.as_bytes()), "{text}");
     }
     Ok(())
 }
@@ -611,7 +678,7 @@ fn statements_in_order(rt: HostRuntime) -> Result<(), Fail> {
     let alloc = rt.alloc();
     for (text, expected) in STATEMENTS_IN_ORDER {
         assert!(rt; text.len() < 100);
-        let found = description(alloc, text.as_bytes())?;
+        let found = description(alloc, text.as_bytes(), Mode::Strict)?;
         assert_eq!(rt; found.as_slice(), expected.as_bytes(), "{text}");
     }
     Ok(())

@@ -1,6 +1,7 @@
 ghost use Rattle.std.specs.Prelude.{◌<◌, ◌^◌, length};
 
 use mz_mmu::{Text, TextRead, read_text};
+use mz_mode::Mode;
 use mz_sexpr::TextRefusal;
 use mz_type::{TypedRead, check_text, weight};
 use std::alloc::{AllocError, Global};
@@ -12,14 +13,10 @@ fn refusal(alloc: Global, r: TextRefusal) -> Result<Vec<u8>, AllocError> {
 }
 
 /// How many statements a well-typed text has and what it weighs, or its refusal.
-fn typed_answer(alloc: Global, text: &Text) -> Result<Vec<u8>, AllocError> {
+fn typed_answer(alloc: Global, text: Text) -> Result<Vec<u8>, AllocError> {
     match check_text(alloc, text) {
         TypedRead::Typed(typed) => {
-            let line = format!(in alloc;
-                "{} statements weigh {}",
-                typed.text().len(),
-                weight(&typed)
-            )?;
+            let line = format!(in alloc; "{} statements weigh {}", typed.len(), weight(&typed))?;
             Ok(line.into_bytes())
         }
         TypedRead::Refused(r) => refusal(alloc, r),
@@ -28,11 +25,11 @@ fn typed_answer(alloc: Global, text: &Text) -> Result<Vec<u8>, AllocError> {
 }
 
 /// The same of the bytes of a text.
-fn answer(alloc: Global, text: &[u8]) -> Result<Vec<u8>, AllocError>
+fn answer(alloc: Global, text: &[u8], mode: Mode) -> Result<Vec<u8>, AllocError>
     requires { length text.now < 2 ^ 32 }
 {
-    match read_text(alloc, text) {
-        TextRead::Text(text) => typed_answer(alloc, &text),
+    match read_text(alloc, text, mode) {
+        TextRead::Text(text) => typed_answer(alloc, text),
         TextRead::Refused(r) => refusal(alloc, r),
         TextRead::Mem => Err(AllocError),
     }
@@ -47,14 +44,14 @@ const BEFORE: &[u8] = b"(sort s)(sort w provable)(sort p pure)(sort t strict)(so
     (axiom C ((a s ()) (b s ())) ((is a) (is b)) (eq a b))";
 
 /// The answer to those and `more`.
-fn told(alloc: Global, more: &[u8]) -> Result<Vec<u8>, AllocError>
+fn told(alloc: Global, more: &[u8], mode: Mode) -> Result<Vec<u8>, AllocError>
     requires { length more.now < 10000 }
 {
     let mut text: Vec<u8> = Vec::new(alloc);
     text.extend_from_slice(BEFORE)?;
     text.extend_from_slice(more)?;
     if text.len() < 20000 {
-        answer(alloc, &text)
+        answer(alloc, &text, mode)
     } else {
         Err(AllocError)
     }
@@ -285,9 +282,63 @@ fn is_refused(alloc: Global, row: &(&str, &str)) -> Result<bool, AllocError> {
     if row.0.len() >= 10000 {
         return Ok(false);
     }
-    let found = told(alloc, row.0.as_bytes())?;
+    let found = told(alloc, row.0.as_bytes(), Mode::Strict)?;
     let expected = format!(in alloc; "statement 16 at byte {}", row.1)?;
     Ok(found.as_slice() == expected.as_bytes())
+}
+
+/// What is added to those statements in a draft, and the answer.
+const GAPS: &[(&str, &str)] = &[
+    (
+        "(theorem h () () (is c) () (:sorry (is c)))",
+        "16 statements weigh 58",
+    ),
+    (
+        "(theorem h () () (is c) () (:conv (is c) (:sorry (is c) (eq c c)) (:sorry (eq c c))))",
+        "16 statements weigh 68",
+    ),
+    // a gap's expression, and then its sort
+    (
+        "(theorem h () () (is c) () (:sorry (is)))",
+        "statement 16 at byte 468: U6 arity",
+    ),
+    (
+        "(theorem h () () (is c) () (:sorry c))",
+        "statement 16 at byte 468: U13 declaration",
+    ),
+    // the sides of a gap from left to right, and then their sorts
+    (
+        "(theorem h () () (is c) () (:conv (is c) (:sorry (is) (is)) (:sorry (is c))))",
+        "statement 16 at byte 482: U6 arity",
+    ),
+    (
+        "(theorem h () () (is c) () (:conv (is c) (:sorry (is c) c) (:sorry (is c))))",
+        "statement 16 at byte 489: U7 sort",
+    ),
+    // what it stands for a proof of, and goes between
+    (
+        "(theorem h () () (is c) () (:sorry (eq c c)))",
+        "statement 16 at byte 450: U11 conclusion differs",
+    ),
+    (
+        "(theorem h () () (is c) () (:conv (is c) (:sorry (eq c c) (is c)) (:sorry (is c))))",
+        "statement 16 at byte 460: U12 conversion differs",
+    ),
+    (
+        "(theorem h () () (is c) () (:conv (is c) (is (:sorry c (is c))) (A (c))))",
+        "statement 16 at byte 488: U7 sort",
+    ),
+];
+
+#[test]
+fn gaps(rt: HostRuntime) -> Result<(), Fail> {
+    let alloc = rt.alloc();
+    for (more, expected) in GAPS {
+        assert!(rt; more.len() < 10000);
+        let found = told(alloc, more.as_bytes(), Mode::Draft)?;
+        assert_eq!(rt; found.as_slice(), expected.as_bytes(), "{more}");
+    }
+    Ok(())
 }
 
 #[test]
@@ -382,7 +433,7 @@ fn is_answered(alloc: Global, row: &(&str, &str, &str)) -> Result<bool, AllocErr
     if text.len() >= 10000 {
         return Ok(false);
     }
-    let found = answer(alloc, &text)?;
+    let found = answer(alloc, &text, Mode::Strict)?;
     Ok(found.as_slice() == row.2.as_bytes())
 }
 
@@ -487,7 +538,7 @@ fn is_nest_answered(alloc: Global, nest: &Nest) -> Result<bool, AllocError> {
     if text.len() >= 100000 {
         return Ok(false);
     }
-    let found = answer(alloc, &text)?;
+    let found = answer(alloc, &text, Mode::Strict)?;
     Ok(found.as_slice() == nest.answer.as_bytes())
 }
 

@@ -9,14 +9,14 @@ use Rattle.mz_logic.specs.Tree.{Tree, Trees, app, none, more, listed, instance, 
 use Rattle.mz_logic.specs.Signature.{Signature}
 use Rattle.mz_logic.specs.Declaration.{Form, plain_form, abstract_form, defined, Term, Declaration, sort_decl, term_decl, assertion_decl, dummies_of, terms, signatures}
 use Rattle.mz_logic.specs.Sorts.{HasSort, Fits, IsSorted}
-use Rattle.mz_logic.specs.Legality.{signature_at}
+use Rattle.mz_logic.specs.Legality.{signature_at, sort_of}
 use Rattle.mz_logic.specs.Conversions.{Conversion, Conversions, refl_conv, sym_conv, cong_conv, unfold_conv, gap_conv, no_convs, more_convs, AreFresh, Between, AllBetween}
 use Rattle.mz_logic.specs.declared.binder.Binder.{Binder}
 use Rattle.mz_logic.proofs.Rules.{sort_is, signature_is, many_of_fits}
 use Rattle.mz_logic.proofs.Sound.{signature_of_term}
 use Rattle.mz_type.specs.Parts.{part, is_list}
 use Rattle.mz_type.specs.Sides.{left, right, lefts, rights, term_at, is_defined, body_tree}
-use Rattle.mz_type.specs.Rules.{exprs_rules, operand_rules, conv_rules, convs_rules, unfold_rules, side_rules, variable_rules, conv_count, AreNew, refl_node}
+use Rattle.mz_type.specs.Rules.{expr_rules, exprs_rules, operand_rules, conv_rules, convs_rules, unfold_rules, side_rules, variable_rules, conv_count, AreNew, refl_node}
 use Rattle.mz_type.specs.Names.{ConvThere, ConvsThere}
 use Rattle.mz_type.proofs.ExprRules.{sort_by_checks, fits_by_checks, checks_by_sort, checks_by_fits, operands_by_fits}
 
@@ -89,7 +89,13 @@ module _ (env : List Declaration) (ctx : List Binder) where
             subst (λ l. Between env ctx c l (right c)) last.1.0 h,
           ),
         )
-    between_by_checks (gap_conv l r) n there all = absurd there
+    between_by_checks (gap_conv l r) n (there, there') all =
+        let A = expr_rules sigs ctx l (part (parts n) 1) in
+        let B = expr_rules sigs ctx r (part (parts n) 2) in
+        let on = all_hold-rest A _ all in
+        let h = sort_by_checks sigs ctx l (part (parts n) 1) there (all_hold-first A _ all) in
+        let k = sort_by_checks sigs ctx r (part (parts n) 2) there' (all_hold-first B _ on) in
+        ((_, h), (_, k), refl, refl, (sort_of sigs ctx l, h, subst (HasSort sigs ctx r) (sym (all_hold-rest B _ on).0) k))
 
     pub all_by_checks : (cs : Conversions) (ns : Nodes) → ConvsThere (length sigs) (length ctx) cs → AllHold (convs_rules env ctx cs ns) → AllBetween env ctx cs (lefts cs) (rights cs)
     all_by_checks no_convs ns there all = tt
@@ -182,7 +188,12 @@ module _ (env : List Declaration) (ctx : List Binder) where
         (all_hold-both (conv_rules env ctx c (part (parts n) 4)) _ (checks_by_between c (part (parts n) 4) _ r h)
         (subst (λ x. AllHold (unfold_rules sigs ctx x es ys (left c) n)) (sym (get_or_from_slice_get (terms env) t d _ at))
         (unfold_by_fresh d ds body es ys (left c) n form fits fresh (sym (sides_are c _ r h).0))))
-    checks_by_between (gap_conv a b) n l r h = tt
+    checks_by_between (gap_conv a b) n l r (_, _, is, is', (s, h, k)) =
+        let here = subst (λ x. HasSort sigs ctx x s) is h in
+        let there = subst (λ x. HasSort sigs ctx x s) is' k in
+        all_hold-both (expr_rules sigs ctx a (part (parts n) 1)) _ (checks_by_sort sigs ctx a (part (parts n) 1) s here)
+        (all_hold-both (expr_rules sigs ctx b (part (parts n) 2)) _ (checks_by_sort sigs ctx b (part (parts n) 2) s there)
+        (sort_is sigs ctx a s here ∙ sym (sort_is sigs ctx b s there), tt))
 
     pub all_checks_by_between : (cs : Conversions) (ns : Nodes) (ls rs : Trees) → AllBetween env ctx cs ls rs → AllHold (convs_rules env ctx cs ns)
     all_checks_by_between no_convs ns ls rs h = tt

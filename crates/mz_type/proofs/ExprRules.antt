@@ -1,4 +1,4 @@
--- The rules of an expression hold exactly where it has a sort.
+-- The rules of an expression hold exactly where it has a sort, and those of a claim where this is provable.
 use Rattle.std.proofs.Common.{ℕ, ◌≡◌, List, [], ◌∷◌, length, refl, sym, subst, arith}
 use Rattle.std.proofs.lemmas.Option.{slice_get-get_or}
 use Rattle.mz_checks.specs.Checks.{AllHold, demand, ◌>>◌}
@@ -8,12 +8,14 @@ use Rattle.mz_sexpr.specs.declared.rule.U.{U}
 use Rattle.mz_checks.proofs.InOrder.{all_hold-first, all_hold-rest, all_hold-both}
 use Rattle.mz_logic.specs.Tree.{Tree, Trees, var, app, none, more, listed}
 use Rattle.mz_logic.specs.Signature.{Signature}
-use Rattle.mz_logic.specs.Sorts.{HasSort, Fits}
+use Rattle.mz_logic.specs.Declaration.{Declaration, sorts, signatures}
+use Rattle.mz_logic.specs.Modifiers.{MayBeClaimSort}
+use Rattle.mz_logic.specs.Sorts.{HasSort, Fits, HasProvable}
 use Rattle.mz_logic.specs.Legality.{binder_at, signature_at, sort_of}
 use Rattle.mz_logic.specs.declared.binder.Binder.{Binder}
 use Rattle.mz_logic.proofs.Rules.{sort_is, signature_is, many_of_fits}
 use Rattle.mz_mmu.specs.Order.{fault}
-use Rattle.mz_type.specs.Rules.{expr_rules, exprs_rules, operand_rules}
+use Rattle.mz_type.specs.Rules.{expr_rules, exprs_rules, operand_rules, claim_rules}
 use Rattle.mz_type.specs.Names.{ExprThere, ExprsThere}
 
 module _ (sigs : List Signature) (ctx : List Binder) where
@@ -61,3 +63,16 @@ module _ (sigs : List Signature) (ctx : List Binder) where
     operands_by_fits none ns ps fits = tt
     operands_by_fits (more e es) ns [] fits = tt
     operands_by_fits (more e es) ns (p ∷ ps) (h, bd, fits) = (sort_is sigs ctx e p.sort h, (bd, operands_by_fits es (rest ns) ps fits))
+
+-- ---- hypotheses, conclusions and gaps
+
+module _ (env : List Declaration) (ctx : List Binder) where
+  pub claim_from : (e : Tree) (n : Node) → ExprThere (length (signatures env)) (length ctx) e → AllHold (claim_rules env ctx e n) → HasProvable env ctx e
+  claim_from e n there all =
+      let A = expr_rules (signatures env) ctx e n in
+      (sort_of (signatures env) ctx e, sort_by_checks (signatures env) ctx e n there (all_hold-first A _ all), (all_hold-rest A _ all).0)
+
+  pub claim_to : (e : Tree) (n : Node) → HasProvable env ctx e → AllHold (claim_rules env ctx e n)
+  claim_to e n (s, h, provable) =
+      all_hold-both (expr_rules (signatures env) ctx e n) _ (checks_by_sort (signatures env) ctx e n s h)
+      (subst (MayBeClaimSort (sorts env)) (sym (sort_is (signatures env) ctx e s h)) provable, tt)

@@ -2,6 +2,7 @@ pub mod ExprRules
 pub mod ConvRules
 pub mod ProofRules
 pub mod GapFree
+pub mod BothModes
 pub mod StatementRules
 pub mod NamesRead
 pub mod StatementsRead
@@ -17,6 +18,7 @@ pub mod ConvSteps
 pub mod ProofSteps
 pub mod StatementSteps
 pub mod Limits
+mod StatedSteps
 mod TypedSteps
 mod Weighing
 mod WeightBound

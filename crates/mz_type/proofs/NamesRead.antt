@@ -83,7 +83,10 @@ module _ (sc : Scope) (many : length sc.names.constants ≡ length sc.names.term
         subst (ConvThere ts vs) (sym is) (number_there sc.names.terms h t has, (conv_there n d g, convs_there ns ds gs))
     conv_there_by conv_word h ns c g = absurd g
     conv_there_by let_word h ns c g = absurd g
-    conv_there_by sorry_word h ns c g = absurd g
+    conv_there_by sorry_word h no_nodes c g = absurd g
+    conv_there_by sorry_word h (node l no_nodes) c g = absurd g
+    conv_there_by sorry_word h (node l (node r no_nodes)) c (e, f, _, g, k, is) = subst (ConvThere ts vs) (sym is) (expr_there l e g, expr_there r f k)
+    conv_there_by sorry_word h (node l (node r (node _ _))) c g = absurd g
 
     pub convs_there : (ns : Nodes) (cs : Conversions) → AreConvs sc ns cs → ConvsThere ts vs cs
     convs_there no_nodes cs is = subst (ConvsThere ts vs) (sym is) tt
@@ -130,7 +133,9 @@ module _ (sc : Scope) (many : length sc.names.constants ≡ length sc.names.term
       proof_there_by lets refl_word h ns p g = absurd g
       proof_there_by lets sym_word h ns p g = absurd g
       proof_there_by lets unfold_word h ns p g = absurd g
-      proof_there_by lets sorry_word h ns p g = absurd g
+      proof_there_by lets sorry_word h no_nodes p g = absurd g
+      proof_there_by lets sorry_word h (node e no_nodes) p (f, _, g, is) = subst (Fits lets) (sym is) (expr_there e f g)
+      proof_there_by lets sorry_word h (node e (node _ _)) p g = absurd g
 
       pub proofs_there : (lets : List (List ℕ)) (ns : Nodes) (ps : Proofs) → AreProofs sc hyps lets ns ps → AllFit lets ps
       proofs_there lets no_nodes ps is = subst (AllFit lets) (sym is) tt

@@ -8,17 +8,18 @@ use Rattle.mz_checks.proofs.InOrder.{all_hold-first, all_hold-rest, all_hold-bot
 use Rattle.mz_logic.specs.Tree.{Tree, Trees, none, more, listed, operand, instance, instances}
 use Rattle.mz_logic.specs.Declaration.{Declaration, assertions, signatures}
 use Rattle.mz_logic.specs.Conversions.{Between}
+use Rattle.mz_logic.specs.Sorts.{HasProvable}
 use Rattle.mz_logic.specs.Derivations.{Derivation, Derivations, hypothesis, cite, convert, gap, no_derivs, more_derivs, Derives, AllDerive}
 use Rattle.mz_logic.specs.declared.binder.Binder.{Binder}
 use Rattle.mz_logic.proofs.Instance.{one_at}
 use Rattle.mz_logic.proofs.Rules.{many_of_fits}
-use Rattle.mz_mmu.specs.Proof.{Proof, Proofs, by_hyp, by_name, by_citation, by_conv, by_let, no_proofs, more_proofs}
+use Rattle.mz_mmu.specs.Proof.{Proof, Proofs, by_hyp, by_name, by_citation, by_conv, by_let, by_gap, no_proofs, more_proofs}
 use Rattle.mz_type.specs.Parts.{part, after}
 use Rattle.mz_type.specs.Sides.{right, assertion_at, with_fact, proved, all_proved}
 use Rattle.mz_type.specs.Rules.{expr_rules, exprs_rules, operand_rules, conv_rules, proof_rules, proofs_rules, citation_rules, subproof_rules}
 use Rattle.mz_type.specs.Meaning.{derivation_at, then_deriv, derivation, derivations, LetsDerive, AllLetsDerive}
 use Rattle.mz_type.specs.Names.{ProofThere, ProofsThere}
-use Rattle.mz_type.proofs.ExprRules.{fits_by_checks, checks_by_sort, checks_by_fits, operands_by_fits}
+use Rattle.mz_type.proofs.ExprRules.{claim_from, claim_to, fits_by_checks, checks_by_sort, checks_by_fits, operands_by_fits}
 use Rattle.mz_type.proofs.ConvRules.{between_by_checks, checks_by_between, sides_are, sorted_sides}
 
 listed_operand : (es : Trees) (i : ℕ) → i < length (listed es) → slice_get (listed es) i ≡ Some (operand es i)
@@ -120,6 +121,7 @@ module _ (env : List Declaration) (ctx : List Binder) (hyps : Trees) where
         (subst (λ m. ProofThere (length (signatures env)) (length ctx) (length (assertions env)) (length (listed hyps)) m q) (sym (length_with lets e)) inner)
         (all_hold-rest A _ all) in
         (k.0, (j.1, (e, j.0), k.1))
+    derives_by_checks (by_gap e) ds lets n h there all = ((refl, claim_from env ctx e (part (parts n) 1) there all), tt)
 
     pub all_derive_by_checks : (ps : Proofs) (ds : Derivations) (lets : Trees) (ns : Nodes) → LetsHold ds lets → AreThere lets ps → AllHold (proofs_rules env ctx hyps lets ps ns)
         → EachDerives ps ds lets × AllLetsDerive env ctx hyps ds ps
@@ -179,6 +181,7 @@ module _ (env : List Declaration) (ctx : List Binder) (hyps : Trees) where
         (subst (λ m. ProofThere (length (signatures env)) (length ctx) (length (assertions env)) (length (listed hyps)) m q) (sym (length_with lets g)) inner)
         d m in
         (all_hold-both A _ j.0 k.0, k.1)
+    checks_by_derives (by_gap f) ds lets n e h there (is, provable) l = (claim_to env ctx f (part (parts n) 1) (subst (HasProvable env ctx) is provable), sym is)
 
     pub all_checks_by_derives : (ps : Proofs) (ds : Derivations) (lets : Trees) (ns : Nodes) (hs : Trees) → LetsHold ds lets → AreThere lets ps
         → AllDerive env ctx hyps (derivations ds ps) hs → AllLetsDerive env ctx hyps ds ps

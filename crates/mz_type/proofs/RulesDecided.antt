@@ -20,7 +20,7 @@ use Rattle.mz_logic.proofs.Lists.{each_from_all}
 use Rattle.mz_logic.proofs.Rules.{range_of_sort}
 use Rattle.mz_logic.proofs.Scoped.{DepsInside}
 use Rattle.mz_mmu.specs.Order.{in_statement}
-use Rattle.mz_mmu.specs.Proof.{Proof, Proofs, by_hyp, by_name, by_citation, by_conv, by_let, no_proofs, more_proofs, Statement}
+use Rattle.mz_mmu.specs.Proof.{Proof, Proofs, by_hyp, by_name, by_citation, by_conv, by_let, by_gap, no_proofs, more_proofs, Statement}
 use Rattle.mz_type.specs.Parts.{is_list, after, part, declared_parts}
 use Rattle.mz_type.specs.Sides.{left, right, assertion_at, term_at, is_defined, body_tree, with_fact, proved, all_proved}
 use Rattle.mz_type.specs.Rules.{operand_rules, expr_rules, exprs_rules, conv_count, side_rules, variable_rules, refl_node, unfold_rules, conv_rules, convs_rules, subproof_rules, citation_rules, proof_rules, proofs_rules, param_rules, dummy_rules, claim_rules, hyp_node, claims_rules, body_rules, assertion_rules, theorem_rules, decl_rules, statement_rules, rules_from}
@@ -77,6 +77,10 @@ module _ (sigs : List Signature) (ctx : List Binder) where
   )
 
 module _ (env : List Declaration) (ctx : List Binder) where
+  claim : (e : Tree) (n : Node) → AreDecided (claim_rules env ctx e n)
+  claim e n =
+      are_decided-both (expr_rules (signatures env) ctx e n) _ (expr (signatures env) ctx e n) (λ _. (claim_sort-decided (sorts env) (sort_of (signatures env) ctx e), λ _. tt))
+
   mutual
     conv : (c : Conversion) (n : Node) → AreDecided (conv_rules env ctx c n)
     conv (refl_conv e) n = expr (signatures env) ctx e (refl_node (is_list n) n)
@@ -90,7 +94,10 @@ module _ (env : List Declaration) (ctx : List Binder) where
     conv (unfold_conv t es ys c) n =
         are_decided-both (exprs_rules (signatures env) ctx es (parts (part (parts n) 2))) _ (exprs (signatures env) ctx es (parts (part (parts n) 2)))
         (λ _. are_decided-both (conv_rules env ctx c (part (parts n) 4)) _ (conv c (part (parts n) 4)) (λ _. unfold_decided (signatures env) ctx (term_at env t) es ys (left c) n))
-    conv (gap_conv l r) n = tt
+    conv (gap_conv l r) n =
+        are_decided-both (expr_rules (signatures env) ctx l (part (parts n) 1)) _ (expr (signatures env) ctx l (part (parts n) 1))
+        (λ _. are_decided-both (expr_rules (signatures env) ctx r (part (parts n) 2)) _ (expr (signatures env) ctx r (part (parts n) 2))
+        (λ _. (cases_eq (sort_of (signatures env) ctx l) (sort_of (signatures env) ctx r), λ _. tt)))
 
     convs : (cs : Conversions) (ns : Nodes) → AreDecided (convs_rules env ctx cs ns)
     convs no_convs ns = tt
@@ -124,6 +131,7 @@ module _ (env : List Declaration) (ctx : List Binder) where
       proof lets (by_let p q) n =
           are_decided-both (proof_rules env ctx hyps lets p (part (parts n) 2)) _ (proof lets p (part (parts n) 2))
           (λ _. proof (with_fact lets (proved env hyps lets p)) q (part (parts n) 3))
+      proof lets (by_gap e) n = claim e (part (parts n) 1)
 
       proofs : (lets : Trees) (ps : Proofs) (ns : Nodes) → AreDecided (proofs_rules env ctx hyps lets ps ns)
       proofs lets no_proofs ns = tt
@@ -140,14 +148,10 @@ module _ (env : List Declaration) where
   dummies_decided [] ns = tt
   dummies_decided (b ∷ bs) ns = (dummy_sort-decided (sorts env) b.sort, λ _. dummies_decided bs (rest ns))
 
-  claim : (ctx : List Binder) (e : Tree) (n : Node) → AreDecided (claim_rules env ctx e n)
-  claim ctx e n =
-      are_decided-both (expr_rules (signatures env) ctx e n) _ (expr (signatures env) ctx e n) (λ _. (claim_sort-decided (sorts env) (sort_of (signatures env) ctx e), λ _. tt))
-
   claims : (ctx : List Binder) (ax : Bool) (es : Trees) (ns : Nodes) → AreDecided (claims_rules env ctx ax es ns)
   claims ctx ax none ns = tt
   claims ctx ax (more e es) ns =
-      are_decided-both (claim_rules env ctx e (hyp_node ax (first ns))) _ (claim ctx e (hyp_node ax (first ns))) (λ _. claims ctx ax es (rest ns))
+      are_decided-both (claim_rules env ctx e (hyp_node ax (first ns))) _ (claim env ctx e (hyp_node ax (first ns))) (λ _. claims ctx ax es (rest ns))
 
   none_in : (x : ℕ) (xs : List ℕ) → xs ≡ [] → Contains xs x → ⊥
   none_in x xs is has = go (subst (λ ys. Contains ys x) is has)
@@ -201,7 +205,7 @@ module _ (env : List Declaration) where
       are_decided-both (assertion_rules env a ps) _
       (are_decided-both (param_rules env a.params 0 a.params (parts (part ps 2))) _ (params_decided a.params 0 a.params (parts (part ps 2)))
       (λ _. are_decided-both (claims_rules env a.params a.is_axiom a.hyps (parts (part ps 3))) _ (claims a.params a.is_axiom a.hyps (parts (part ps 3)))
-      (λ _. claim a.params a.conclusion (part ps 4))))
+      (λ _. claim env a.params a.conclusion (part ps 4))))
       (λ _. theorem a ds p ps)
 
 -- ---- all statements

@@ -1,16 +1,16 @@
 -- The rules of a statement hold exactly where it is legal by its proof.
-use Rattle.std.proofs.Common.{ℕ, zero, suc, ◌≡◌, ◌+◌, true≢false, List, [], ◌∷◌, ◌++◌, slice_get, length, All, Contains, Option, Some, None, refl, sym, ◌∙◌, subst, arith, add-zero, add-suc, suc-add}
+use Rattle.std.proofs.Common.{ℕ, zero, suc, ◌≡◌, ◌+◌, Bool, true, true≢false, List, [], ◌∷◌, ◌++◌, slice_get, length, All, Contains, Option, Some, None, refl, sym, ◌∙◌, subst, arith, add-zero, add-suc, suc-add}
 use Rattle.mz_checks.specs.Checks.{AllHold}
 use Rattle.mz_checks.proofs.InOrder.{all_hold-first, all_hold-rest, all_hold-both}
 use Rattle.mz_sexpr.specs.Node.{Node, Nodes, parts}
 use Rattle.mz_sexpr.specs.Number.{first, rest}
-use Rattle.mz_logic.specs.Tree.{Tree, Trees, none, more, listed}
+use Rattle.mz_logic.specs.Tree.{Trees, none, more}
 use Rattle.mz_logic.specs.Signature.{Signature}
-use Rattle.mz_logic.specs.Declaration.{Form, plain_form, abstract_form, defined, Assertion, Declaration, sort_decl, term_decl, assertion_decl, dummies_of, body_of, sorts, signatures, assertions}
-use Rattle.mz_logic.specs.Modifiers.{MayBeClaimSort, MayBeDummySort}
+use Rattle.mz_logic.specs.Declaration.{Form, plain_form, abstract_form, defined, Assertion, Declaration, sort_decl, term_decl, assertion_decl, dummies_of, body_of, sorts, signatures}
+use Rattle.mz_logic.specs.Modifiers.{MayBeDummySort}
 use Rattle.mz_logic.specs.Sorts.{HasSort, HasProvable, AreProvable}
 use Rattle.mz_logic.specs.Variables.{InFV}
-use Rattle.mz_logic.specs.Legality.{sort_of, EachTree, IsParam, AreParams, IsDummy, IsLegalDecl}
+use Rattle.mz_logic.specs.Legality.{EachTree, IsParam, AreParams, IsDummy, IsLegalDecl}
 use Rattle.mz_logic.specs.LegalLists.{AreDummies}
 use Rattle.mz_logic.specs.Derivations.{Derives, no_derivs}
 use Rattle.mz_logic.specs.declared.binder.Binder.{Binder}
@@ -19,13 +19,14 @@ use Rattle.mz_logic.proofs.Rules.{sort_is}
 use Rattle.mz_logic.proofs.Lists.{each_from_all, all_from_each}
 use Rattle.mz_logic.proofs.EightRules.{legal_by_rules}
 use Rattle.mz_logic.proofs.PlainLegality.{terms_are_sorted, assertions_are_sorted}
+use Rattle.mz_mmu.specs.Gaps.{SomeLeavesOnly, HasGapsOnly}
 use Rattle.mz_mmu.specs.Proof.{Proof, Statement}
 use Rattle.mz_type.specs.Parts.{part, declared_parts}
 use Rattle.mz_type.specs.Rules.{expr_rules, param_rules, dummy_rules, claim_rules, claims_rules, hyp_node, body_rules, assertion_rules, theorem_rules, decl_rules, proof_rules, statement_rules}
 use Rattle.mz_type.specs.Meaning.{derivation, IsProofOf, IsProvedAsStated, IsLegalAsStated}
 use Rattle.mz_type.specs.Names.{ExprsThere, DummiesThere, StatedProofThere, DeclThere, StatementThere}
-use Rattle.mz_type.proofs.ExprRules.{sort_by_checks, checks_by_sort}
-use Rattle.mz_type.proofs.GapFree.{proof_free}
+use Rattle.mz_type.proofs.ExprRules.{sort_by_checks, checks_by_sort, claim_from, claim_to}
+use Rattle.mz_type.proofs.GapFree.{allowed}
 use Rattle.mz_type.proofs.ProofRules.{derives_by_checks, checks_by_derives}
 
 -- ---- binders
@@ -85,25 +86,17 @@ module _ (env : List Declaration) (ctx : List Binder) where
   abbrev sigs : List Signature
   sigs = signatures env
 
-  claim_from : (e : Tree) (n : Node) → ExprsThere (length sigs) (length ctx) (more e none) → AllHold (claim_rules env ctx e n) → HasProvable env ctx e
-  claim_from e n (there, _) all =
-      (sort_of sigs ctx e, sort_by_checks sigs ctx e n there (all_hold-first (expr_rules sigs ctx e n) _ all), (all_hold-rest (expr_rules sigs ctx e n) _ all).0)
-
   claims_from : (ax : _) (es : Trees) (ns : Nodes) → ExprsThere (length sigs) (length ctx) es → AllHold (claims_rules env ctx ax es ns) → AreProvable env ctx es
   claims_from ax none ns there all i e at = absurd (none_some at)
   claims_from ax (more d es) ns (there, inner) all zero e at =
-      subst (HasProvable env ctx) (one_at refl at) (claim_from d (hyp_node ax (first ns)) (there, tt) (all_hold-first (claim_rules env ctx d (hyp_node ax (first ns))) _ all))
+      subst (HasProvable env ctx) (one_at refl at) (claim_from env ctx d (hyp_node ax (first ns)) there (all_hold-first (claim_rules env ctx d (hyp_node ax (first ns))) _ all))
   claims_from ax (more d es) ns (there, inner) all (suc i) e at =
       claims_from ax es (rest ns) inner (all_hold-rest (claim_rules env ctx d (hyp_node ax (first ns))) _ all) i e at
-
-  claim_to : (e : Tree) (n : Node) → HasProvable env ctx e → AllHold (claim_rules env ctx e n)
-  claim_to e n (s, h, provable) =
-      all_hold-both (expr_rules sigs ctx e n) _ (checks_by_sort sigs ctx e n s h) (subst (MayBeClaimSort (sorts env)) (sym (sort_is sigs ctx e s h)) provable, tt)
 
   claims_to : (ax : _) (es : Trees) (ns : Nodes) → AreProvable env ctx es → AllHold (claims_rules env ctx ax es ns)
   claims_to ax none ns h = tt
   claims_to ax (more e es) ns h =
-      all_hold-both (claim_rules env ctx e (hyp_node ax (first ns))) _ (claim_to e (hyp_node ax (first ns)) (h zero e refl)) (claims_to ax es (rest ns) (λ i d at. h (suc i) d at))
+      all_hold-both (claim_rules env ctx e (hyp_node ax (first ns))) _ (claim_to env ctx e (hyp_node ax (first ns)) (h zero e refl)) (claims_to ax es (rest ns) (λ i d at. h (suc i) d at))
 
 -- ---- terms
 
@@ -143,81 +136,91 @@ module _ (env : List Declaration) (sig : Signature) where
 
 -- ---- proofs of theorems
 
-module _ (env : List Declaration) (a : Assertion) where
-  proof_from : (ds : List Binder) (p : Option Proof) (ps : Nodes) → StatedProofThere env a ds p → AllHold (theorem_rules env a ds p ps) → IsProvedAsStated env (assertion_decl a) ds p
-  proof_from ds None ps there all thm = absurd (true≢false (sym there ∙ thm))
-  proof_from ds (Some p) ps (thm, dummies, there) all thm' =
+module _ (gaps : Bool) (env : List Declaration) (a : Assertion) where
+  proof_from : (ds : List Binder) (p : Option Proof) (ps : Nodes) → StatedProofThere env a ds p → SomeLeavesOnly (gaps ≡ true) p → AllHold (theorem_rules env a ds p ps) → IsProvedAsStated gaps env (assertion_decl a) ds p
+  proof_from ds None ps there leaves all thm = absurd (true≢false (sym there ∙ thm))
+  proof_from ds (Some p) ps (thm, dummies, there) leaves all thm' =
       let A = dummy_rules env ds (parts (part ps 5)) in
       let B = proof_rules env (a.params ++ ds) a.hyps none p (part ps 6) in
       let on = all_hold-rest A _ all in
       let own = all_hold-rest B _ on in
       let k = derives_by_checks env (a.params ++ ds) a.hyps p no_derivs none (part ps 6) tt there (all_hold-first B _ on) in (
         are_dummies env ds (parts (part ps 5)) dummies (all_hold-first A _ all),
-        (p, refl, (subst (Derives env (a.params ++ ds) a.hyps (derivation no_derivs p)) own.0 k.0, k.1, proof_free (length (signatures env)) (length (a.params ++ ds)) (length (assertions env)) (length (listed a.hyps)) 0 p no_derivs tt there)),
+        (p, refl, (subst (Derives env (a.params ++ ds) a.hyps (derivation no_derivs p)) own.0 k.0, k.1, allowed gaps env p leaves)),
       )
 
-  proof_to : (ds : List Binder) (p : Option Proof) (ps : Nodes) → StatedProofThere env a ds p → IsProvedAsStated env (assertion_decl a) ds p → AllHold (theorem_rules env a ds p ps)
+  proof_to : (ds : List Binder) (p : Option Proof) (ps : Nodes) → StatedProofThere env a ds p → IsProvedAsStated gaps env (assertion_decl a) ds p → AllHold (theorem_rules env a ds p ps)
   proof_to ds None ps there h = tt
   proof_to ds (Some p) ps (thm, dummies, there) h = go (h thm)
     where
-      go : AreDummies (sorts env) ds × ((q : Proof) × (Some p ≡ Some q) × IsProofOf env (a.params ++ ds) a q) → AllHold (theorem_rules env a ds (Some p) ps)
+      go : AreDummies (sorts env) ds × ((q : Proof) × (Some p ≡ Some q) × IsProofOf gaps env (a.params ++ ds) a q) → AllHold (theorem_rules env a ds (Some p) ps)
       go (right, (q, is, proof)) =
           let same : q ≡ p = (let e : Some p ≡ Some q = is in cc) in
-          let mine : IsProofOf env (a.params ++ ds) a p = subst (IsProofOf env (a.params ++ ds) a) same proof in
+          let mine : IsProofOf gaps env (a.params ++ ds) a p = subst (IsProofOf gaps env (a.params ++ ds) a) same proof in
           let k = checks_by_derives env (a.params ++ ds) a.hyps p no_derivs none (part ps 6) a.conclusion tt there mine.0 mine.1 in
           all_hold-both (dummy_rules env ds (parts (part ps 5))) _ (dummy_rules_hold env ds (parts (part ps 5)) right)
           (all_hold-both (proof_rules env (a.params ++ ds) a.hyps none p (part ps 6)) _ k.0 (k.1, tt))
 
 -- ---- statements
 
-legal_by_checks : (env : List Declaration) (d : Declaration) (ds : List Binder) (p : Option Proof) (ps : Nodes) → DeclThere env d ds p
-    → AllHold (decl_rules env d ds p ps) → IsLegalDecl env d × IsProvedAsStated env d ds p
-legal_by_checks env (sort_decl m) ds p ps there all = (legal_by_rules env (sort_decl m) tt tt tt tt tt tt tt tt, tt)
+legal_by_checks : (env : List Declaration) (d : Declaration) (ds : List Binder) (p : Option Proof) (ps : Nodes) → DeclThere env d ds p → AllHold (decl_rules env d ds p ps) → IsLegalDecl env d
+legal_by_checks env (sort_decl m) ds p ps there all = legal_by_rules env (sort_decl m) tt tt tt tt tt tt tt tt
 legal_by_checks env (term_decl d) ds p ps (sorts_there, dummies_there, body_there) all =
     let A = param_rules env d.signature.params 0 d.signature.params (parts (part ps 2)) in
     let own = all_hold-rest A _ all in
-    let body = body_from env d.signature d.form ps dummies_there body_there own.1 in (
-      (terms_are_sorted env d).1 (
-        sorts_there,
-        are_params env d.signature.params (parts (part ps 2)) (all_hold-first A _ all),
-        all_dummies env (dummies_of d.form) body.0,
-        own.0.0,
-        own.0.1,
-        body.1,
-      ),
-      tt,
+    let body = body_from env d.signature d.form ps dummies_there body_there own.1 in
+    (terms_are_sorted env d).1 (
+      sorts_there,
+      are_params env d.signature.params (parts (part ps 2)) (all_hold-first A _ all),
+      all_dummies env (dummies_of d.form) body.0,
+      own.0.0,
+      own.0.1,
+      body.1,
     )
 legal_by_checks env (assertion_decl a) ds p ps (sorts_there, hyps_there, concl_there, proof_there) all =
     let A = param_rules env a.params 0 a.params (parts (part ps 2)) in
     let B = claims_rules env a.params a.is_axiom a.hyps (parts (part ps 3)) in
     let front = all_hold-first (assertion_rules env a ps) _ all in
-    let on = all_hold-rest A _ front in (
-      (assertions_are_sorted env a).1 (
-        sorts_there,
-        are_params env a.params (parts (part ps 2)) (all_hold-first A _ front),
-        claims_from env a.params a.is_axiom a.hyps (parts (part ps 3)) hyps_there (all_hold-first B _ on),
-        claim_from env a.params a.conclusion (part ps 4) (concl_there, tt) (all_hold-rest B _ on),
-      ),
-      proof_from env a ds p ps proof_there (all_hold-rest (assertion_rules env a ps) _ all),
+    let on = all_hold-rest A _ front in
+    (assertions_are_sorted env a).1 (
+      sorts_there,
+      are_params env a.params (parts (part ps 2)) (all_hold-first A _ front),
+      claims_from env a.params a.is_axiom a.hyps (parts (part ps 3)) hyps_there (all_hold-first B _ on),
+      claim_from env a.params a.conclusion (part ps 4) concl_there (all_hold-rest B _ on),
     )
 
-checks_by_legal : (env : List Declaration) (d : Declaration) (ds : List Binder) (p : Option Proof) (ps : Nodes) → DeclThere env d ds p
-    → IsLegalDecl env d → IsProvedAsStated env d ds p → AllHold (decl_rules env d ds p ps)
-checks_by_legal env (sort_decl m) ds p ps there legal proof = tt
-checks_by_legal env (term_decl d) ds p ps there legal proof =
+proved_by_checks : (gaps : Bool) (env : List Declaration) (d : Declaration) (ds : List Binder) (p : Option Proof) (ps : Nodes) → DeclThere env d ds p → SomeLeavesOnly (gaps ≡ true) p
+    → AllHold (decl_rules env d ds p ps) → IsProvedAsStated gaps env d ds p
+proved_by_checks gaps env (sort_decl m) ds p ps there leaves all = tt
+proved_by_checks gaps env (term_decl d) ds p ps there leaves all = tt
+proved_by_checks gaps env (assertion_decl a) ds p ps (_, _, _, proof_there) leaves all =
+    proof_from gaps env a ds p ps proof_there leaves (all_hold-rest (assertion_rules env a ps) _ all)
+
+checks_by_legal : (gaps : Bool) (env : List Declaration) (d : Declaration) (ds : List Binder) (p : Option Proof) (ps : Nodes) → DeclThere env d ds p
+    → IsLegalDecl env d → IsProvedAsStated gaps env d ds p → AllHold (decl_rules env d ds p ps)
+checks_by_legal gaps env (sort_decl m) ds p ps there legal proof = tt
+checks_by_legal gaps env (term_decl d) ds p ps there legal proof =
     let h = (terms_are_sorted env d).0 legal in
     all_hold-both (param_rules env d.signature.params 0 d.signature.params (parts (part ps 2))) _ (param_rules_hold env d.signature.params (parts (part ps 2)) h.1)
     ((h.3, h.4), body_to env d.signature d.form ps (each_dummy env (dummies_of d.form) h.2, h.5))
-checks_by_legal env (assertion_decl a) ds p ps (_, _, _, proof_there) legal proof =
+checks_by_legal gaps env (assertion_decl a) ds p ps (_, _, _, proof_there) legal proof =
     let h = (assertions_are_sorted env a).0 legal in
     all_hold-both (assertion_rules env a ps) _
     (all_hold-both (param_rules env a.params 0 a.params (parts (part ps 2))) _ (param_rules_hold env a.params (parts (part ps 2)) h.1)
     (all_hold-both (claims_rules env a.params a.is_axiom a.hyps (parts (part ps 3))) _ (claims_to env a.params a.is_axiom a.hyps (parts (part ps 3)) h.2)
     (claim_to env a.params a.conclusion (part ps 4) h.3)))
-    (proof_to env a ds p ps proof_there proof)
+    (proof_to gaps env a ds p ps proof_there proof)
 
-pub legal_statement : (env : List Declaration) (s : Statement) (n : Node) → StatementThere env s → AllHold (statement_rules env s n) → IsLegalAsStated env s
-legal_statement env s n there all = let h = legal_by_checks env s.decl s.dummies s.proof (declared_parts n) there.0 all in (h.0, there.1, h.1)
+pub legal_decl : (env : List Declaration) (s : Statement) (n : Node) → StatementThere env s → AllHold (statement_rules env s n) → IsLegalDecl env s.decl
+legal_decl env s n there all = legal_by_checks env s.decl s.dummies s.proof (declared_parts n) there.0 all
 
-pub rules_of_legal : (env : List Declaration) (s : Statement) (n : Node) → StatementThere env s → IsLegalAsStated env s → AllHold (statement_rules env s n)
-rules_of_legal env s n there (legal, _, proof) = checks_by_legal env s.decl s.dummies s.proof (declared_parts n) there.0 legal proof
+pub legal_statement : (gaps : Bool) (env : List Declaration) (s : Statement) (n : Node) → StatementThere env s → HasGapsOnly (gaps ≡ true) s → AllHold (statement_rules env s n)
+    → IsLegalAsStated gaps env s
+legal_statement gaps env s n there leaves all = (
+  legal_decl env s n there all,
+  there.1,
+  proved_by_checks gaps env s.decl s.dummies s.proof (declared_parts n) there.0 leaves all,
+)
+
+pub rules_of_legal : (gaps : Bool) (env : List Declaration) (s : Statement) (n : Node) → StatementThere env s → IsLegalAsStated gaps env s → AllHold (statement_rules env s n)
+rules_of_legal gaps env s n there (legal, _, proof) = checks_by_legal gaps env s.decl s.dummies s.proof (declared_parts n) there.0 legal proof

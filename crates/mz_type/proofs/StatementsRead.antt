@@ -272,5 +272,5 @@ statements_after names env (node n ns) ss m (s, rest, h, hs, is) =
     subst (StatementsThere env) (sym is)
     (statement_there names env m n s h, statements_after (names_with names s.name s.decl) (env ++ s.decl ∷ []) ns rest (names_grow names env s.name s.decl m) hs)
 
-pub statements_there : (ns : Nodes) (ss : List Statement) → AreStatements no_names ns ss → StatementsThere [] ss
-statements_there ns ss h = statements_after no_names [] ns ss (record { sorts_many = refl; terms_many = refl; constants_many = refl; assertions_many = refl }) h
+pub statements_there : (gaps : Bool) (ns : Nodes) (ss : List Statement) → AreStatements (no_names gaps) ns ss → StatementsThere [] ss
+statements_there gaps ns ss h = statements_after (no_names gaps) [] ns ss (record { sorts_many = refl; terms_many = refl; constants_many = refl; assertions_many = refl }) h

@@ -75,7 +75,10 @@ module _ (sc : Scope) where
     conv_written_by no_word h (node n ns) c (t, d, ds, _, g, gs, is) = omega (arith, ap conv_size is, conv_written n d g, convs_written ns ds gs)
     conv_written_by conv_word h ns c g = absurd g
     conv_written_by let_word h ns c g = absurd g
-    conv_written_by sorry_word h ns c g = absurd g
+    conv_written_by sorry_word h no_nodes c g = absurd g
+    conv_written_by sorry_word h (node l no_nodes) c g = absurd g
+    conv_written_by sorry_word h (node l (node r no_nodes)) c (e, f, _, g, k, is) = omega (arith, ap conv_size is, expr_written l e g, expr_written r f k)
+    conv_written_by sorry_word h (node l (node r (node _ _))) c g = absurd g
 
     convs_written : (ns : Nodes) (cs : Conversions) → AreConvs sc ns cs → convs_size cs ≤ nodes_size ns
     convs_written no_nodes cs is = omega (arith, ap convs_size is)
@@ -113,7 +116,9 @@ module _ (sc : Scope) where
       proof_written_by lets refl_word h ns p g = absurd g
       proof_written_by lets sym_word h ns p g = absurd g
       proof_written_by lets unfold_word h ns p g = absurd g
-      proof_written_by lets sorry_word h ns p g = absurd g
+      proof_written_by lets sorry_word h no_nodes p g = absurd g
+      proof_written_by lets sorry_word h (node e no_nodes) p (f, _, g, is) = omega (arith, ap proof_size is, expr_written e f g)
+      proof_written_by lets sorry_word h (node e (node _ _)) p g = absurd g
 
       proofs_written : (lets : List (List ℕ)) (ns : Nodes) (ps : Proofs) → AreProofs sc hyps lets ns ps → proofs_size ps ≤ nodes_size ns
       proofs_written lets no_nodes ps is = omega (arith, ap proofs_size is)
@@ -251,6 +256,6 @@ mutual
   count_is no_nodes = refl
   count_is (node n ns) = omega (arith, length-append (tails_within n) (tails ns), count_within n, count_is ns)
 
-pub few_weigh : (ns : Nodes) (ss : List Statement) → AreStatements no_names ns ss → node_count ns < 2 ^ 32 → weight_of ss < 2 ^ 64
-few_weigh ns ss read few =
-    square_bound (text_size ss) (weight_of ss) (omega (arith, text_written no_names ns ss read, count_is ns, few)) (weight_bound ss)
+pub few_weigh : (gaps : Bool) (ns : Nodes) (ss : List Statement) → AreStatements (no_names gaps) ns ss → node_count ns < 2 ^ 32 → weight_of ss < 2 ^ 64
+few_weigh gaps ns ss read few =
+    square_bound (text_size ss) (weight_of ss) (omega (arith, text_written (no_names gaps) ns ss read, count_is ns, few)) (weight_bound ss)

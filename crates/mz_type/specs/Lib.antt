@@ -8,6 +8,7 @@ pub mod Laws
 pub mod Claims
 pub mod Answers
 pub mod Weight
+pub mod StatedView
 pub mod TypedText
 pub mod Typing
 pub mod Sizes

@@ -7,7 +7,7 @@ use Rattle.mz_logic.specs.LegalLists.{MayBeLocal}
 use Rattle.mz_logic.specs.Laws.{SortsThere}
 use Rattle.mz_logic.specs.declared.binder.Binder.{Binder}
 use Rattle.mz_logic.specs.Conversions.{Conversion, Conversions, refl_conv, sym_conv, cong_conv, unfold_conv, gap_conv, no_convs, more_convs}
-use Rattle.mz_mmu.specs.Proof.{Proof, Proofs, by_hyp, by_name, by_citation, by_conv, by_let, no_proofs, more_proofs, Statement}
+use Rattle.mz_mmu.specs.Proof.{Proof, Proofs, by_hyp, by_name, by_citation, by_conv, by_let, by_gap, no_proofs, more_proofs, Statement}
 
 -- of `ts` terms and `n` variables
 abbrev mutual
@@ -25,7 +25,7 @@ abbrev mutual
   ConvThere ts n (sym_conv c) = ConvThere ts n c
   ConvThere ts n (cong_conv t cs) = (t < ts) × ConvsThere ts n cs
   ConvThere ts n (unfold_conv t es ys c) = (t < ts) × ExprsThere ts n es × ConvThere ts n c
-  ConvThere ts n (gap_conv l r) = ⊥
+  ConvThere ts n (gap_conv l r) = ExprThere ts n l × ExprThere ts n r
 
   pub ConvsThere : ℕ → ℕ → Conversions → Type 0
   ConvsThere ts n no_convs = ⊤
@@ -39,6 +39,7 @@ abbrev mutual
   ProofThere ts n ths hs ls (by_citation T es ps) = (T < ths) × ExprsThere ts n es × ProofsThere ts n ths hs ls ps
   ProofThere ts n ths hs ls (by_conv e c p) = ExprThere ts n e × ConvThere ts n c × ProofThere ts n ths hs ls p
   ProofThere ts n ths hs ls (by_let p q) = ProofThere ts n ths hs ls p × ProofThere ts n ths hs (suc ls) q
+  ProofThere ts n ths hs ls (by_gap e) = ExprThere ts n e
 
   pub ProofsThere : ℕ → ℕ → ℕ → ℕ → ℕ → Proofs → Type 0
   ProofsThere ts n ths hs ls no_proofs = ⊤

@@ -18,7 +18,7 @@ use Rattle.mz_logic.specs.Conversions.{Conversion, Conversions, refl_conv, sym_c
 use Rattle.mz_logic.specs.declared.binder.Binder.{Binder}
 use Rattle.mz_mmu.specs.declared.fault.Fault.{Fault}
 use Rattle.mz_mmu.specs.Order.{fault, in_statement}
-use Rattle.mz_mmu.specs.Proof.{Proof, Proofs, by_hyp, by_name, by_citation, by_conv, by_let, no_proofs, more_proofs, Statement}
+use Rattle.mz_mmu.specs.Proof.{Proof, Proofs, by_hyp, by_name, by_citation, by_conv, by_let, by_gap, no_proofs, more_proofs, Statement}
 use Rattle.mz_type.specs.Parts.{is_list, after, part, declared_parts}
 use Rattle.mz_type.specs.Sides.{left, right, assertion_at, term_at, is_defined, body_tree, with_fact, proved, all_proved}
 
@@ -46,6 +46,14 @@ abbrev mutual
   pub exprs_rules : List Signature → List Binder → Trees → Nodes → Checks Fault
   exprs_rules sigs ctx none ns = nothing
   exprs_rules sigs ctx (more e es) ns = expr_rules sigs ctx e (first ns) >> exprs_rules sigs ctx es (rest ns)
+
+-- an expression of this sort
+abbrev pub sorted_rules : List Signature → List Binder → ℕ → Tree → Node → Checks Fault
+sorted_rules sigs ctx s e n = expr_rules sigs ctx e n >> demand (fault (place n) U.Sort) (s ≡ sort_of sigs ctx e)
+
+-- an expression whose sort is provable
+abbrev pub claim_rules : List Declaration → List Binder → Tree → Node → Checks Fault
+claim_rules env ctx e n = expr_rules (signatures env) ctx e n >> demand (fault (place n) U.Declaration) (IsClaim env ctx e)
 
 -- ---- conversions
 
@@ -102,7 +110,9 @@ abbrev mutual
       exprs_rules (signatures env) ctx es (parts (part (parts n) 2))
       >> conv_rules env ctx c (part (parts n) 4)
       >> unfold_rules (signatures env) ctx (term_at env t) es ys (left c) n
-  conv_rules env ctx (gap_conv l r) n = nothing
+  conv_rules env ctx (gap_conv l r) n =
+      expr_rules (signatures env) ctx l (part (parts n) 1)
+      >> sorted_rules (signatures env) ctx (sort_of (signatures env) ctx l) r (part (parts n) 2)
 
   pub convs_rules : List Declaration → List Binder → Conversions → Nodes → Checks Fault
   convs_rules env ctx no_convs ns = nothing
@@ -140,6 +150,7 @@ abbrev mutual
   proof_rules env ctx hyps lets (by_let p q) n =
       proof_rules env ctx hyps lets p (part (parts n) 2)
       >> proof_rules env ctx hyps (with_fact lets (proved env hyps lets p)) q (part (parts n) 3)
+  proof_rules env ctx hyps lets (by_gap e) n = claim_rules env ctx e (part (parts n) 1)
 
   pub proofs_rules : List Declaration → List Binder → Trees → Trees → Proofs → Nodes → Checks Fault
   proofs_rules env ctx hyps lets no_proofs ns = nothing
@@ -155,9 +166,6 @@ param_rules env params i (b ∷ bs) ns =
 abbrev pub dummy_rules : List Declaration → List Binder → Nodes → Checks Fault
 dummy_rules env [] ns = nothing
 dummy_rules env (b ∷ bs) ns = demand (fault (place (first ns)) U.DummySort) (MayBeDummySort (sorts env) b.sort) >> dummy_rules env bs (rest ns)
-
-abbrev pub claim_rules : List Declaration → List Binder → Tree → Node → Checks Fault
-claim_rules env ctx e n = expr_rules (signatures env) ctx e n >> demand (fault (place n) U.Declaration) (IsClaim env ctx e)
 
 -- a hypothesis of an axiom is an expression, one of a theorem has a name before it
 abbrev pub hyp_node : Bool → Node → Node

@@ -4,7 +4,7 @@ use Rattle.std.specs.Prelude.{ℕ, Bool, true, false, List, [], get_or}
 use Rattle.mz_logic.specs.Tree.{Tree, Trees, app, none, more, operand, instance, followed_by}
 use Rattle.mz_logic.specs.Declaration.{Form, plain_form, abstract_form, defined, Term, Assertion, Declaration, terms, assertions}
 use Rattle.mz_logic.specs.Conversions.{Conversion, Conversions, refl_conv, sym_conv, cong_conv, unfold_conv, gap_conv, no_convs, more_convs}
-use Rattle.mz_mmu.specs.Proof.{Proof, Proofs, by_hyp, by_name, by_citation, by_conv, by_let, no_proofs, more_proofs}
+use Rattle.mz_mmu.specs.Proof.{Proof, Proofs, by_hyp, by_name, by_citation, by_conv, by_let, by_gap, no_proofs, more_proofs}
 
 abbrev mutual
   pub left : Conversion → Tree
@@ -56,6 +56,7 @@ proved env hyps lets (by_name i) = operand lets i
 proved env hyps lets (by_citation T es ps) = instance es (assertion_at env T).conclusion
 proved env hyps lets (by_conv e c p) = e
 proved env hyps lets (by_let p q) = proved env hyps (with_fact lets (proved env hyps lets p)) q
+proved env hyps lets (by_gap e) = e
 
 -- what each proves
 abbrev pub all_proved : List Declaration → Trees → Trees → Proofs → Trees

@@ -2,7 +2,7 @@
 use Rattle.std.specs.Prelude.{ℕ, ◌+◌, List, [], ◌∷◌, length, Option, Some, None}
 use Rattle.mz_logic.specs.Tree.{size, trees_size}
 use Rattle.mz_logic.specs.Conversions.{Conversion, Conversions, refl_conv, sym_conv, cong_conv, unfold_conv, gap_conv, no_convs, more_convs}
-use Rattle.mz_mmu.specs.Proof.{Proof, Proofs, by_hyp, by_name, by_citation, by_conv, by_let, no_proofs, more_proofs, Statement}
+use Rattle.mz_mmu.specs.Proof.{Proof, Proofs, by_hyp, by_name, by_citation, by_conv, by_let, by_gap, no_proofs, more_proofs, Statement}
 use Rattle.mz_type.specs.Weight.{declaration_weight}
 
 abbrev mutual
@@ -24,6 +24,7 @@ abbrev mutual
   proof_size (by_citation T es ps) = 1 + trees_size es + proofs_size ps
   proof_size (by_conv e c p) = 1 + size e + conv_size c + proof_size p
   proof_size (by_let p q) = 1 + proof_size p + proof_size q
+  proof_size (by_gap e) = 1 + size e
 
   pub proofs_size : Proofs → ℕ
   proofs_size no_proofs = 0

@@ -14,18 +14,17 @@ use Rattle.mz_type.specs.declared.typed.TextStop.TheVariants as text_stop
 use Rattle.mz_type.specs.declared.typed.TypedRead.{TypedRead}
 use Rattle.mz_type.specs.declared.typed.TypedRead.TheVariants as read
 
--- the text itself, whose statements are legal by the stated proofs; or the first type rule that
--- doesn't hold
+-- the text's statements, which are legal by the stated proofs; or the first type rule that doesn't hold
 abbrev pub IsTyping : Forms → TypedRead → Type 0
-IsTyping text (read.Typed t) = (t ≡ text) × LegalAsStated text.statements
+IsTyping text (read.Typed t) = (t.gaps ≡ text.gaps) × (t.statements ≡ text.statements) × LegalAsStated text.gaps text.statements
 IsTyping text (read.Refused r) = FailsFirst (text_rules text.nodes text.statements) r
 IsTyping text read.Mem = ⊤
 
 -- the same of the bytes from which the text was read: they are a well-typed text, or this is their
 -- first fault
 abbrev pub IsTypingOf : List ℕ → Forms → TypedRead → Type 0
-IsTypingOf bytes text (read.Typed t) = TextOf bytes text.statements
-IsTypingOf bytes text (read.Refused r) = TextFault bytes r
+IsTypingOf bytes text (read.Typed t) = TextOf text.gaps bytes text.statements
+IsTypingOf bytes text (read.Refused r) = TextFault text.gaps bytes r
 IsTypingOf bytes text read.Mem = ⊤
 
 -- why a text isn't typed: the first of these that doesn't hold, or want of memory

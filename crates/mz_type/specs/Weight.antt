@@ -6,13 +6,13 @@ use Rattle.mz_logic.specs.Tree.{instance, followed_by, variables, size, trees_si
 use Rattle.mz_logic.specs.Declaration.{Declaration, sort_decl, term_decl, assertion_decl, dummies_of, body_of, sorts}
 use Rattle.mz_logic.specs.Conversions.{Conversion, Conversions, refl_conv, sym_conv, cong_conv, unfold_conv, gap_conv, no_convs, more_convs}
 use Rattle.mz_logic.specs.declared.binder.Binder.{Binder}
-use Rattle.mz_mmu.specs.Proof.{Proof, Proofs, by_hyp, by_name, by_citation, by_conv, by_let, no_proofs, more_proofs, Statement}
+use Rattle.mz_mmu.specs.Proof.{Proof, Proofs, by_hyp, by_name, by_citation, by_conv, by_let, by_gap, no_proofs, more_proofs, Statement}
 use Rattle.mz_type.specs.Sides.{assertion_at, term_at, body_tree}
 
 -- ---- the weight: what is written, and of each citation and unfolding the instance that it stands for
 
 -- a reflexivity weighs 1; each other step 1 and its parts; an unfolding also its operands and the
--- instance of the body
+-- instance of the body, and a gap its sides
 abbrev mutual
   pub conv_weight : List Declaration → Conversion → ℕ
   conv_weight env (refl_conv e) = 1
@@ -27,7 +27,7 @@ abbrev mutual
   convs_weight env (more_convs c cs) = conv_weight env c + convs_weight env cs
 
 -- a name weighs 1; a citation its operands, the instance of the conclusion and its subproofs; a let
--- its parts, its first one once
+-- its parts, its first one once; a gap its expression
 abbrev mutual
   pub proof_weight : List Declaration → Proof → ℕ
   proof_weight env (by_hyp i) = 1
@@ -35,6 +35,7 @@ abbrev mutual
   proof_weight env (by_citation T es ps) = 1 + trees_size es + size (instance es (assertion_at env T).conclusion) + proofs_weight env ps
   proof_weight env (by_conv e c p) = 1 + size e + conv_weight env c + proof_weight env p
   proof_weight env (by_let p q) = 1 + proof_weight env p + proof_weight env q
+  proof_weight env (by_gap e) = 1 + size e
 
   pub proofs_weight : List Declaration → Proofs → ℕ
   proofs_weight env no_proofs = 0

@@ -131,6 +131,12 @@ pub(crate) fn is_side(conv: &Conv, right: bool, claim: Claim) -> bool
             }
             same_claim(Claim::App(*t, es.as_slice(), Put::Nothing), claim)
         }
+        Conv::Gap(l, r) => {
+            if right {
+                return same_claim(Claim::of(r), claim);
+            }
+            same_claim(Claim::of(l), claim)
+        }
     }
 }
 

@@ -2,7 +2,7 @@ ghost use Rattle.std.specs.Prelude.{◌≡◌, ◌↔◌, ⊤, Bool, true, false
 ghost use Rattle.mz_checks.specs.Checks.{Judges, AllHold};
 ghost use Rattle.mz_sexpr.specs.Number.{first};
 ghost use Rattle.mz_sexpr.specs.Node.{parts};
-ghost use Rattle.mz_logic.specs.Conversions.{cong_conv, unfold_conv, IsBoundOf};
+ghost use Rattle.mz_logic.specs.Conversions.{cong_conv, unfold_conv, gap_conv, IsBoundOf};
 ghost use Rattle.mz_logic.specs.Declaration.{signatures};
 ghost use Rattle.mz_logic.specs.DeclView.{term_view};
 ghost use Rattle.mz_logic.specs.Legality;
@@ -16,7 +16,7 @@ ghost use Rattle.mz_type.specs.Answers.{Judged, told};
 ghost use Rattle.mz_type.specs.Names.{ConvThere, ConvsThere, ExprsThere};
 ghost use Rattle.mz_type.specs.Parts.{part, is_list};
 ghost use Rattle.mz_type.specs.Rules;
-ghost use Rattle.mz_type.specs.Rules.{conv_rules, convs_rules, side_rules, own_side_rules, variable_rules, unfold_rules, exprs_rules, AreNew};
+ghost use Rattle.mz_type.specs.Rules.{conv_rules, convs_rules, side_rules, own_side_rules, variable_rules, unfold_rules, exprs_rules, sorted_rules, AreNew};
 ghost use Rattle.mz_type.specs.Sides.{side, left};
 
 use crate::claim::{Claim, is_side};
@@ -52,6 +52,13 @@ fn sort_of_side(env: &Env, ctx: &Context, conv: &Conv, right: bool) -> u32
                 sort_of_term(env, *t)
             }
         }
+        Conv::Gap(l, r) => {
+            if right {
+                sort_of(env, ctx, r)
+            } else {
+                sort_of(env, ctx, l)
+            }
+        }
     }
 }
 
@@ -64,6 +71,13 @@ fn is_bound_side(ctx: &Context, conv: &Conv, right: bool) -> bool
         Conv::Sym(conv) => is_bound_side(ctx, conv.get(), !right),
         Conv::Cong(_, _) => false,
         Conv::Unfold(_, _, _, conv) => right && is_bound_side(ctx, conv.get(), right),
+        Conv::Gap(l, r) => {
+            if right {
+                is_bound_var(ctx, r)
+            } else {
+                is_bound_var(ctx, l)
+            }
+        }
     }
 }
 
@@ -201,6 +215,38 @@ fn refl_node<'n, 'a>(nodes: &Cursor<'n, 'a>) -> Cursor<'n, 'a>
     }
 }
 
+/// The rules of an expression, at the first node, and whether it has this sort.
+fn check_of_sort(
+    env: &Env,
+    ctx: &Context,
+    sort: u32,
+    expr: &Expr,
+    nodes: &Cursor,
+) -> Result<(), Fault>
+    ensures { Judges result (sorted_rules (signatures env.now) ctx.now sort (tree expr.now) (first nodes.now)) }
+{
+    check_expr(env, ctx, expr, nodes)?;
+    if sort == sort_of(env, ctx, expr) {
+        Ok(())
+    } else {
+        Err(nodes.fault(U::Sort))
+    }
+}
+
+/// The rules of a gap between two expressions, at the first node: both have one sort.
+fn check_gap_sides(
+    env: &Env,
+    ctx: &Context,
+    left: &Expr,
+    right: &Expr,
+    nodes: &Cursor,
+) -> Result<(), Fault>
+    ensures { Judges result (conv_rules env.now ctx.now (gap_conv (tree left.now) (tree right.now)) (first nodes.now)) }
+{
+    check_expr(env, ctx, left, &nodes.part(1))?;
+    check_of_sort(env, ctx, sort_of(env, ctx, left), right, &nodes.part(2))
+}
+
 /// What the type rules of conversions and proofs are tried over.
 #[derive(Clone, Copy)]
 pub(crate) struct Checker<'t, 'c> {
@@ -223,6 +269,7 @@ impl<'t, 'c> Checker<'t, 'c> {
             Conv::Sym(conv) => self.check_conv(conv.get(), &nodes.part(1)),
             Conv::Cong(t, convs) => self.check_cong(*t, convs, nodes),
             Conv::Unfold(t, es, vars, conv) => self.check_unfold(*t, es, vars, conv.get(), nodes),
+            Conv::Gap(l, r) => refuse(check_gap_sides(self.env, self.ctx, l, r, nodes)),
         }
     }
 

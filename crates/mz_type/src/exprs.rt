@@ -1,12 +1,12 @@
-ghost use Rattle.std.specs.Prelude.{◌≡◌, IsTrue, drop};
+ghost use Rattle.std.specs.Prelude.{◌≡◌, ◌↔◌, IsTrue, drop};
 ghost use Rattle.mz_checks.specs.Checks.{Judges};
 ghost use Rattle.mz_sexpr.specs.Number.{first};
 ghost use Rattle.mz_logic.specs.Declaration.{signatures};
 ghost use Rattle.mz_logic.specs.Legality;
-ghost use Rattle.mz_logic.specs.Legality.{signature_at, binder_at};
+ghost use Rattle.mz_logic.specs.Legality.{signature_at, binder_at, IsClaim};
 ghost use Rattle.mz_logic.specs.Tree.{app};
 ghost use Rattle.mz_logic.specs.View.{tree};
-ghost use Rattle.mz_type.specs.Rules.{expr_rules, exprs_rules, operand_rules, own_operand_rules};
+ghost use Rattle.mz_type.specs.Rules.{expr_rules, exprs_rules, operand_rules, own_operand_rules, claim_rules};
 
 use crate::cursor::Cursor;
 use mz_logic::{Binder, Context, Env, Expr, Exprs, is_bound_var};
@@ -128,4 +128,31 @@ fn check_operand(
         return Err(nodes.fault(U::Bound));
     }
     Ok(())
+}
+
+/// Is the sort of the expression provable?
+fn is_claim(env: &Env, ctx: &Context, expr: &Expr) -> bool
+    ensures { IsTrue result ↔ IsClaim env.now ctx.now (tree expr.now) }
+{
+    match env.mods(sort_of(env, ctx, expr)) {
+        None => false,
+        Some(mods) => mods.is_provable(),
+    }
+}
+
+/// The rules of an expression whose sort is provable, at the first node.
+pub(crate) fn check_claim(
+    env: &Env,
+    ctx: &Context,
+    expr: &Expr,
+    nodes: &Cursor,
+) -> Result<(), Fault>
+    ensures { Judges result (claim_rules env.now ctx.now (tree expr.now) (first nodes.now)) }
+{
+    check_expr(env, ctx, expr, nodes)?;
+    if is_claim(env, ctx, expr) {
+        Ok(())
+    } else {
+        Err(nodes.fault(U::Declaration))
+    }
 }

@@ -18,8 +18,8 @@ mod weigh;
 
 pub use copies::copy_of_decl;
 pub use laws::{
-    limits_are_decided, rules_are_the_meaning, statements_can_be_words, typed_or_faulty,
-    typed_or_refused,
+    limits_are_decided, modes_agree, rules_are_the_meaning, statements_can_be_words,
+    typed_or_faulty, typed_or_refused,
 };
 pub use typed::{Typed, TypedRead, check_text};
 pub use weigh::weight;

@@ -13,13 +13,13 @@ ghost use Rattle.mz_type.specs.Answers.{Judged, IsProved, AreProved};
 ghost use Rattle.mz_type.specs.Claims.{claim_tree, claim_trees};
 ghost use Rattle.mz_type.specs.Names.{ProofThere, ProofsThere, ConvThere, ExprThere, ExprsThere};
 ghost use Rattle.mz_type.specs.Parts.{part};
-ghost use Rattle.mz_type.specs.Rules.{proof_rules, proofs_rules, citation_rules, subproof_rules, exprs_rules};
+ghost use Rattle.mz_type.specs.Rules.{proof_rules, proofs_rules, citation_rules, subproof_rules, exprs_rules, claim_rules};
 ghost use Rattle.mz_type.specs.Sides.{left, right, proved, all_proved, with_fact};
 
 use crate::claim::{Claim, is_side, same_claim};
 use crate::convs::{Checker, refuse};
 use crate::cursor::Cursor;
-use crate::exprs::{check_expr, check_exprs, check_operands};
+use crate::exprs::{check_claim, check_expr, check_exprs, check_operands};
 use mz_logic::{Expr, Exprs, ThmDecl, are_apart};
 use mz_mmu::{Conv, Proof, Proofs, Stop};
 use mz_sexpr::U;
@@ -86,6 +86,14 @@ impl<'t, 'c> Checker<'t, 'c> {
         Ok(Claim::instance(&thm.conclusion, es))
     }
 
+    /// The rules of a gap, at the first node, and what it stands for a proof of.
+    fn check_gap(&self, e: &'t Expr, nodes: &Cursor) -> Result<Claim<'t>, Stop>
+        ensures { IsProved result (claim_rules self.now.env.now self.now.ctx.now (tree e.now) (part (parts (first nodes.now)) 1)) (tree e.now) }
+    {
+        refuse(check_claim(self.env, self.ctx, e, &nodes.part(1)))?;
+        Ok(Claim::of(e))
+    }
+
     /// The rules of a proof, at the first node, and what it proves. The lets are what the visible
     /// ones prove, the outermost first; they are the same afterwards.
     #[cycle(check_proof)]
@@ -110,11 +118,12 @@ impl<'t, 'c> Checker<'t, 'c> {
                 self.check_citation(hyps, lets, *number, es, proofs, nodes)
             }
             Proof::Conv(e, conv, proof) => {
-                self.check_conversion(hyps, lets, e, conv, proof.get(), nodes)
+                self.check_conversion(hyps, lets, e, conv.get(), proof.get(), nodes)
             }
             Proof::Let(first, second) => {
                 self.check_let(hyps, lets, first.get(), second.get(), nodes)
             }
+            Proof::Gap(e) => self.check_gap(e, nodes),
         }
     }
 

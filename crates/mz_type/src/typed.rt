@@ -1,57 +1,71 @@
-ghost use Rattle.std.specs.Prelude.{◌≡◌, ◌<◌, ◌^◌, ◌∷◌, [], ◌++◌, IfOk, IfErr, OnOk, ℕ, List, length};
+ghost use Rattle.std.specs.Prelude.{◌≡◌, ◌<◌, ◌^◌, ◌∷◌, [], ◌++◌, IfOk, IfErr, OnOk, ℕ, List, length, map};
 ghost use Rattle.mz_sexpr.specs.Node.{parts};
 ghost use Rattle.mz_sexpr.specs.Number.{first};
-ghost use Rattle.mz_logic.specs.Declaration.{Declaration};
+ghost use Rattle.mz_mode.specs.Gaps.{gaps_of};
+ghost use Rattle.mz_mmu.specs.EntryView.{entry as statement, IsRooted};
+ghost use Rattle.mz_mmu.specs.StatementView.{option_proof};
 ghost use Rattle.mz_mmu.specs.Statements.{is_local_word, Reads};
-ghost use Rattle.mz_type.specs.Answers.{Judged};
+ghost use Rattle.mz_type.specs.Answers.{Judged, stated};
 ghost use Rattle.mz_type.specs.Meaning.{LegalAsStated};
 ghost use Rattle.mz_type.specs.Names.{StatementThere};
 ghost use Rattle.mz_type.specs.Parts;
 ghost use Rattle.mz_type.specs.Rules.{statement_rules, text_rules};
-ghost use Rattle.mz_type.specs.TypedText.{statement_at, IsTypedText};
-ghost use Rattle.mz_type.specs.Weight.{declaration_weight, weight_of};
+ghost use Rattle.mz_type.specs.StatedView.{statements_of};
 ghost use Rattle.mz_type.specs.Typing.{IsTyping, IsTypingOf, TextStops, IsStopped, IsRefusal};
+ghost use Rattle.mz_type.specs.Weight.{declaration_weight};
 
-use crate::copies::copy_of_decl;
 use crate::cursor::Cursor;
 use crate::shapes::Shaped;
 use crate::statements::check_decl;
 use crate::weigh::statement_weight;
-use mz_logic::Env;
-use mz_mmu::{Fault, Stop, Text};
-use mz_sexpr::TextRefusal;
+use mz_logic::{Binders, Decl, Env};
+use mz_mmu::{Entry, Fault, Proof, ProofBox, Stop, Text};
+use mz_mode::Mode;
+use mz_sexpr::{Sexprs, TextRefusal};
 use std::alloc::Global;
 use std::marker::Model;
 
-/// A well-typed text.
+/// What a statement says beside its declaration.
 #[derive(Drop)]
-pub struct Typed<'t, 'a> {
-    pub(crate) text: &'t Text<'a>,
-    // what its statements weigh
+pub(crate) struct Beside<'a> {
+    pub(crate) is_local: bool,
+    pub(crate) name: &'a [u8],
+    pub(crate) dummies: Binders,
+    pub(crate) proof: Option<ProofBox>,
+}
+
+/// A well-typed text: its statements alone, since no later fault is told at a node.
+#[derive(Drop)]
+pub struct Typed<'a> {
+    pub(crate) mode: Mode,
+    // what they declare
+    pub(crate) env: Env,
+    // what each says beside it
+    pub(crate) beside: Vec<Beside<'a>>,
+    // what they weigh
     pub(crate) weight: u128,
 }
 
-impl<'t, 'a> Model for Typed<'t, 'a> {
-    ghost use Rattle.mz_mmu.specs.TextView.{Forms, forms_code};
+impl<'a> Model for Typed<'a> {
+    ghost use Rattle.mz_type.specs.StatedView.{Stated, stated_code};
 
-    ghost Value = { Forms };
+    ghost Value = { Stated };
 
-    ghost coded = { forms_code };
+    ghost coded = { stated_code };
 
-    ghost use Rattle.std.specs.Prelude.{◌≡◌, ◌<◌, ◌^◌, ◌^◌};
-    ghost use Rattle.mz_type.specs.TypedText.{declared, IsTypedText};
-    ghost use Rattle.mz_type.specs.Weight.{weight_of};
+    ghost use Rattle.mz_mode.specs.Gaps.{gaps_of};
+    ghost use Rattle.mz_type.specs.StatedView.{statements_of, IsTyped};
 
-    ghost view = { λ a. a.text.now };
+    ghost view = { λ a. record { gaps = gaps_of a.mode; statements = statements_of a.env a.beside.items } };
 
-    ghost invariant = { λ a. IsTypedText a.text.now (declared a.text.now.statements) × (a.weight ≡ weight_of a.text.now.statements) × (a.weight < 2 ^ 64) };
+    ghost invariant = { λ a. IsTyped (gaps_of a.mode) a.env a.beside.items a.weight };
 }
 
 /// What checking the type rules of a text answers.
 #[derive(Drop)]
-pub enum TypedRead<'t, 'a> {
+pub enum TypedRead<'a> {
     /// The text is well typed.
-    Typed(Typed<'t, 'a>),
+    Typed(Typed<'a>),
     /// The first type rule that it breaks.
     Refused(TextRefusal),
     /// No memory was left.
@@ -91,76 +105,94 @@ fn declared_parts<'n, 'a>(nodes: &Cursor<'n, 'a>, is_local: bool) -> Cursor<'n, 
     }
 }
 
-/// The rules of the i-th statement, whose node is the first, over those before it.
-fn check_statement(
-    alloc: Global,
-    env: &Env,
-    text: &Text,
-    i: u32,
-    nodes: &Cursor,
-) -> Result<(), Stop>
-    requires within { i < length text.now.statements }
-    requires there { StatementThere env.now (statement_at text.now.statements i) }
-    requires marked { is_local_word (first (parts (first nodes.now))) ≡ (statement_at text.now.statements i).is_local }
-    ensures { Judged result (statement_rules env.now (statement_at text.now.statements i) (first nodes.now)) }
+/// The rules of a statement, whose node is the first, over those before it.
+fn check_statement(alloc: Global, env: &Env, entry: &Entry, nodes: &Cursor) -> Result<(), Stop>
+    requires there { StatementThere env.now (statement entry.now) }
+    requires marked { is_local_word (first (parts (first nodes.now))) ≡ entry.now.is_local }
+    ensures { Judged result (statement_rules env.now (statement entry.now) (first nodes.now)) }
 {
-    let parts = declared_parts(nodes, text.is_local(i));
+    let parts = declared_parts(nodes, entry.is_local);
     check_decl(
         alloc,
         env,
-        text.decl(i),
-        text.dummies(i).as_slice(),
-        text.proof(i),
+        &entry.declared.decl,
+        entry.declared.dummies.as_slice(),
+        proof_in(&entry.declared.proof),
         &parts,
     )
 }
 
-/// The same, and what the statement declares is added to what stands before the next.
-fn declare_statement(
+/// The same; what the statement declares is added to what stands before the next, and what it says
+/// beside that to what others say.
+fn declare_statement<'a>(
     alloc: Global,
     env: &mut Shaped,
-    text: &Text,
-    i: u32,
+    beside: &mut Vec<Beside<'a>>,
+    entry: Entry<'a>,
     nodes: &Cursor,
 ) -> Result<(), Stop>
-    requires within { i < length text.now.statements }
-    requires there { StatementThere env.old (statement_at text.now.statements i) }
-    requires marked { is_local_word (first (parts (first nodes.now))) ≡ (statement_at text.now.statements i).is_local }
+    requires there { StatementThere env.old (statement entry) }
+    requires marked { is_local_word (first (parts (first nodes.now))) ≡ entry.is_local }
     requires room { length env.old < 4294967295 }
-    requires small { declaration_weight (statement_at text.now.statements i).decl < 2 ^ 64 }
-    ensures judged { Judged result (statement_rules env.old (statement_at text.now.statements i) (first nodes.now)) }
-    ensures more { OnOk result (env.new ≡ env.old ++ (statement_at text.now.statements i).decl ∷ []) }
+    requires small { declaration_weight (statement entry).decl < 2 ^ 64 }
+    requires many { length env.old ≡ length beside.old.items }
+    ensures judged { Judged result (statement_rules env.old (statement entry.entry) (first nodes.now)) }
+    ensures more { OnOk result (env.new ≡ env.old ++ (statement entry.entry).decl ∷ []) }
+    ensures many { OnOk result (length env.new ≡ length beside.new.items) }
+    ensures told { OnOk result (statements_of env.new beside.new.items ≡ statements_of env.old beside.old.items ++ statement entry.entry ∷ []) }
 {
-    check_statement(alloc, env.env(), text, i, nodes)?;
-    let decl = copy_of_decl(alloc, text.decl(i))?;
-    env.push(alloc, decl)?;
+    check_statement(alloc, env.env(), &entry, nodes)?;
+    let declared = entry.declared;
+    env.push(alloc, declared.decl)?;
+    beside.push(Beside {
+        is_local: entry.is_local,
+        name: declared.name,
+        dummies: declared.dummies,
+        proof: declared.proof,
+    })?;
     Ok(())
 }
 
-/// What the statements of a text declare, and what they weigh, where all of its type rules hold.
-fn check_statements(alloc: Global, text: &Text) -> Result<(Env, u128), TextStop>
-    ensures typed { IfOk result (λ made. IsTypedText text.now made.0) }
-    ensures weight { IfOk result (λ made. made.1 ≡ weight_of text.now.statements) }
-    ensures small { IfOk result (λ made. made.1 < 2 ^ 64) }
-    ensures stops { IfErr result (λ stop. TextStops stop (text_rules text.now.nodes text.now.statements)) }
+/// The statements, and what they weigh, where all of their type rules hold.
+fn check_statements<'a>(
+    alloc: Global,
+    mode: Mode,
+    nodes: &Sexprs,
+    entries: Vec<Entry<'a>>,
+) -> Result<Typed<'a>, TextStop>
+    requires { IsRooted (gaps_of mode) nodes.now entries.items }
+    ensures mode { IfOk result (λ typed. typed.gaps ≡ gaps_of mode) }
+    ensures typed { IfOk result (λ typed. typed.statements ≡ map statement entries.entry.items) }
+    ensures legal { IfOk result (λ typed. LegalAsStated typed.gaps typed.statements) }
+    ensures stops { IfErr result (λ stop. TextStops stop (text_rules nodes.now (map statement entries.entry.items))) }
 {
     // the number of nodes is one of 32 bits: no sum of weights overflows
-    let _nodes = text.sexprs().count();
+    let _nodes = nodes.count();
+    let Ok(mut beside) = Vec::with_capacity(alloc, entries.len()) else {
+        return Err(TextStop::Mem);
+    };
     let mut env = Shaped::new(alloc);
     let mut weight: u128 = 0;
-    let mut left = Cursor::top(text.sexprs());
-    for i in 0..text.len() {
-        weight += statement_weight(&env, text, i);
-        if let Err(stop) = declare_statement(alloc, &mut env, text, i, &left) {
-            return Err(in_statement(i + 1, stop));
+    let mut number: u32 = 0;
+    let mut left = Cursor::top(nodes);
+    for entry in entries {
+        number += 1;
+        weight += statement_weight(&env, &entry);
+        if let Err(stop) = declare_statement(alloc, &mut env, &mut beside, entry, &left) {
+            return Err(in_statement(number, stop));
         }
         left = left.rest();
     }
-    Ok((env.into_env(), weight))
+    Ok(Typed {
+        mode,
+        env: env.into_env(),
+        beside,
+        weight,
+    })
 }
 
 /// The answer where a text isn't typed.
-fn refused<'t, 'a>(stop: TextStop) -> TypedRead<'t, 'a>
+fn refused<'a>(stop: TextStop) -> TypedRead<'a>
     ensures { IsRefusal stop result }
 {
     match stop {
@@ -171,26 +203,84 @@ fn refused<'t, 'a>(stop: TextStop) -> TypedRead<'t, 'a>
 
 /// Checks the type rules of a text, statement by statement: the text is well typed, or breaks one of
 /// them first.
-pub fn check_text<'t, 'a>(alloc: Global, text: &'t Text<'a>) -> TypedRead<'t, 'a>
-    ensures answer { IsTyping text.now result }
-    ensures bytes { (bytes : List ℕ) → Reads bytes text.now.nodes text.now.statements → IsTypingOf bytes text.now result }
+pub fn check_text<'a>(alloc: Global, text: Text<'a>) -> TypedRead<'a>
+    ensures answer { IsTyping text.entry result }
+    ensures bytes { (bytes : List ℕ) → Reads text.entry.gaps bytes text.entry.nodes text.entry.statements → IsTypingOf bytes text.entry result }
 {
-    let made = match check_statements(alloc, text) {
-        Ok(made) => made,
-        Err(stop) => return refused(stop),
-    };
-    TypedRead::Typed(Typed {
-        text,
-        weight: made.1,
-    })
+    let mode = text.mode();
+    let (nodes, entries) = text.into_parts();
+    match check_statements(alloc, mode, &nodes, entries) {
+        Ok(typed) => TypedRead::Typed(typed),
+        Err(stop) => refused(stop),
+    }
 }
 
-impl<'t, 'a> Typed<'t, 'a> {
-    /// The text.
-    pub fn text(&self) -> &'t Text<'a>
-        ensures text { result.now ≡ self.now }
-        ensures legal { LegalAsStated self.now.statements }
+impl<'a> Typed<'a> {
+    ghost use Rattle.std.specs.Prelude.{◌≡◌, ◌<◌, length, option_map, slice_get, Some};
+    ghost use Rattle.mz_logic.specs.DeclView.{declaration};
+    ghost use Rattle.mz_mmu.specs.ProofView.{proof_view};
+    ghost use Rattle.mz_type.specs.Meaning.{LegalAsStated};
+    ghost use Rattle.mz_type.specs.StatedView.{AreRead};
+
+    /// How many statements there are.
+    pub fn len(&self) -> u32
+        ensures many { result ≡ length self.now.statements }
+        ensures read { AreRead self.now.gaps self.now.statements }
+        ensures legal { LegalAsStated self.now.gaps self.now.statements }
     {
-        self.text
+        self.env.len() as u32
+    }
+
+    /// The i-th statement's name, from 0.
+    pub fn name(&self, i: u32) -> &'a [u8]
+        requires { i < length self.now.statements }
+        ensures { option_map (λ s. s.name) (slice_get self.now.statements i) ≡ Some result.now }
+    {
+        self.beside[i as usize].name
+    }
+
+    /// Whether it is marked local.
+    pub fn is_local(&self, i: u32) -> bool
+        requires { i < length self.now.statements }
+        ensures { option_map (λ s. s.is_local) (slice_get self.now.statements i) ≡ Some result }
+    {
+        self.beside[i as usize].is_local
+    }
+
+    /// What it declares.
+    pub fn decl(&self, i: u32) -> &Decl
+        requires { i < length self.now.statements }
+        ensures { option_map (λ s. s.decl) (slice_get self.now.statements i) ≡ Some (declaration result.now) }
+    {
+        match self.env.get(i as usize) {
+            Some(decl) => decl,
+            None => unreachable!(),
+        }
+    }
+
+    /// A theorem's dummies; a definition's stand in its declaration.
+    pub fn dummies(&self, i: u32) -> &Binders
+        requires { i < length self.now.statements }
+        ensures { option_map (λ s. s.dummies) (slice_get self.now.statements i) ≡ Some result.now }
+    {
+        &self.beside[i as usize].dummies
+    }
+
+    /// A theorem's proof; nothing else has one.
+    pub fn proof(&self, i: u32) -> Option<&Proof>
+        requires { i < length self.now.statements }
+        ensures { option_map (λ s. s.proof) (slice_get self.now.statements i) ≡ Some (option_map (λ p. proof_view p.now) result) }
+    {
+        proof_in(&self.beside[i as usize].proof)
+    }
+}
+
+/// The proof in the box, if there is one.
+pub(crate) fn proof_in(proof: &Option<ProofBox>) -> Option<&Proof>
+    ensures { stated result ≡ option_proof proof.now }
+{
+    match proof {
+        None => None,
+        Some(proof) => Some(proof.get()),
     }
 }

@@ -1,21 +1,21 @@
 //! The weight of a well-typed text.
-ghost use Rattle.std.specs.Prelude.{◌≡◌, ◌<◌, ◌^◌, ◌+◌, length};
+ghost use Rattle.std.specs.Prelude.{◌≡◌, ◌<◌, ◌^◌, ◌+◌};
 ghost use Rattle.mz_logic.specs.DeclView.{declaration, term_of, assertion_of};
 ghost use Rattle.mz_logic.specs.Tree.{var, size, trees_size, instance, instances, followed_by, variables};
 ghost use Rattle.mz_logic.specs.View.{tree};
 ghost use Rattle.mz_mmu.specs.ConvView.{conversion};
+ghost use Rattle.mz_mmu.specs.EntryView.{entry as statement};
 ghost use Rattle.mz_mmu.specs.ProofView.{proof_view};
 ghost use Rattle.mz_type.specs.Answers.{stated};
 ghost use Rattle.mz_type.specs.Sides;
-ghost use Rattle.mz_type.specs.TypedText.{statement_at};
 ghost use Rattle.mz_type.specs.Weight;
 ghost use Rattle.mz_type.specs.Weight.{weight_of};
 
 use crate::shapes::Shaped;
 use crate::sizes::{size_of, sizes_of};
-use crate::typed::Typed;
+use crate::typed::{Typed, proof_in};
 use mz_logic::{Decl, TermDecl, ThmDecl};
-use mz_mmu::{Conv, Convs, Proof, Proofs, Text};
+use mz_mmu::{Conv, Convs, Entry, Proof, Proofs};
 
 /// The weight of a conversion.
 #[cycle(conv_weight)]
@@ -31,6 +31,7 @@ fn conv_weight(env: &Shaped, conv: &Conv) -> u128
         Conv::Unfold(t, es, _, part) => {
             1 + env.body_weight(*t, es) + conv_weight(env, part.get())
         }
+        Conv::Gap(left, right) => 1 + size_of(left) + size_of(right),
     }
 }
 
@@ -60,11 +61,12 @@ fn proof_weight(env: &Shaped, proof: &Proof) -> u128
             1 + env.conclusion_weight(*number, es) + proofs_weight(env, proofs)
         }
         Proof::Conv(e, conv, part) => {
-            1 + size_of(e) + conv_weight(env, conv) + proof_weight(env, part.get())
+            1 + size_of(e) + conv_weight(env, conv.get()) + proof_weight(env, part.get())
         }
         Proof::Let(first, second) => {
             1 + proof_weight(env, first.get()) + proof_weight(env, second.get())
         }
+        Proof::Gap(e) => 1 + size_of(e),
     }
 }
 
@@ -124,15 +126,14 @@ fn stated_weight(env: &Shaped, proof: Option<&Proof>) -> u128
     }
 }
 
-/// The weight of the i-th statement, over those before it.
-pub(crate) fn statement_weight(env: &Shaped, text: &Text, i: u32) -> u128
-    requires within { i < length text.now.statements }
-    requires small { Weight.statement_weight env.now (statement_at text.now.statements i) < 2 ^ 128 }
-    ensures { result ≡ Weight.statement_weight env.now (statement_at text.now.statements i) }
+/// The weight of a statement, over those before it.
+pub(crate) fn statement_weight(env: &Shaped, entry: &Entry) -> u128
+    requires { Weight.statement_weight env.now (statement entry.now) < 2 ^ 128 }
+    ensures { result ≡ Weight.statement_weight env.now (statement entry.now) }
 {
-    1 + declaration_weight(text.decl(i))
-        + text.dummies(i).len() as u128
-        + stated_weight(env, text.proof(i))
+    1 + declaration_weight(&entry.declared.decl)
+        + entry.declared.dummies.len() as u128
+        + stated_weight(env, proof_in(&entry.declared.proof))
 }
 
 /// The weight of a text.

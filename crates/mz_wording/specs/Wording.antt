@@ -120,8 +120,8 @@ longest = 4294967295
 
 -- the text is well typed, nothing stands against a specification of at most so many bytes, and this is it
 abbrev pub IsWordedAs : ℕ → List ℕ → List ℕ → Type 0
-IsWordedAs limit text spec = (ss : List Statement) × TextOf text ss × AllHold (wording_checks limit ss) × (spec ≡ prefix_text ss)
+IsWordedAs limit text spec = (ss : List Statement) × TextOf false text ss × AllHold (wording_checks limit ss) × (spec ≡ prefix_text ss)
 
 -- the text is well typed, and this stands first against it
 abbrev pub IsUnwritten : ℕ → List ℕ → Unwritten → Type 0
-IsUnwritten limit text u = (ss : List Statement) × TextOf text ss × FailsFirst (wording_checks limit ss) u
+IsUnwritten limit text u = (ss : List Statement) × TextOf false text ss × FailsFirst (wording_checks limit ss) u

@@ -12,7 +12,7 @@ use Rattle.mz_logic.specs.declared.binder.Binder.{Binder}
 use Rattle.mz_logic.proofs.Extend.{extends_append, extends_itself, sort_extends}
 use Rattle.mz_logic.proofs.Lists.{each_from_all}
 use Rattle.mz_logic.proofs.PlainLegality.{assertions_are_sorted, terms_are_sorted}
-use Rattle.mz_unification.specs.Profile.{strict}
+use Rattle.mz_unification.specs.Profile.{plain}
 use Rattle.mz_unification.specs.Spells.{Text, trees_of}
 use Rattle.mz_unification.specs.Streams.{of_assertion, of_definition}
 use Rattle.mz_unification.proofs.Trees.{trees_of-listed}
@@ -36,15 +36,15 @@ bound-below : (params : List Binder) (deps : List ℕ) → All (IsBoundAt params
 bound-below params deps all x (k, below, is) =
     let (b, here, _) = subst (IsBoundAt params) is (all k x below) in slice_get_within params x b here
 
-module _ (tables : Tables) (env env' : List Declaration) (declares : Declares tables env') (same : IsSameEnv env env') (at : ℕ) (bytes : List ℕ) where
-  runs-by : (h : Heading) (dummies : List Binder) (e : Tree) (hyps : List Tree) → DependOnFirst (length h.params) (h.params ++ dummies) → (b : IsBody env h.kind h.params dummies e hyps bytes) → IsEnding env (h.params ++ dummies) h b.work h.kind e
-      → Runs strict tables h at bytes
+module _ (gaps : Bool) (tables : Tables) (env env' : List Declaration) (declares : Declares tables env') (same : IsSameEnv env env') (at : ℕ) (bytes : List ℕ) where
+  runs-by : (h : Heading) (dummies : List Binder) (e : Tree) (hyps : List Tree) → DependOnFirst (length h.params) (h.params ++ dummies) → (b : IsBody gaps env h.kind h.params dummies e hyps bytes) → IsEnding env (h.params ++ dummies) h b.work h.kind e
+      → Runs (plain gaps) tables h at bytes
   runs-by h dummies e hyps first b ends =
-      subst (Runs strict tables h at) (sym b.spelled) (bodies-run false tables env env' declares same h dummies first b.few at b.commands b.work b.may_stand b.steps (e, ends))
+      subst (Runs (plain gaps) tables h at) (sym b.spelled) (bodies-run gaps tables env env' declares same h dummies first b.few at b.commands b.work b.may_stand b.steps (e, ends))
 
   pub assertion-runs : (a : Assertion) (stream : List ℕ) (dummies : List Binder) → IsLegalDecl env (assertion_decl a) → Each dummies (λ _ b. b.deps ≡ [])
-      → Text of_assertion (signatures env) a.params stream a.hyps a.conclusion [] → IsBody env (kind_of a.is_axiom) a.params dummies a.conclusion (listed a.hyps) bytes
-      → Runs strict tables (assertion_of a.is_axiom (record { params = a.params; stream = stream })) at bytes
+      → Text of_assertion (signatures env) a.params stream a.hyps a.conclusion [] → IsBody gaps env (kind_of a.is_axiom) a.params dummies a.conclusion (listed a.hyps) bytes
+      → Runs (plain gaps) tables (assertion_of a.is_axiom (record { params = a.params; stream = stream })) at bytes
   assertion-runs a stream dummies legal plain-ones text b =
       let (_, params, _, (s, has, claim)) = (assertions_are_sorted env a).0 legal in
       let ctx : List Binder = a.params ++ dummies in
@@ -56,7 +56,7 @@ module _ (tables : Tables) (env env' : List Declaration) (declares : Declares ta
 
   pub definition-runs : (signature : Signature) (stream : List ℕ) (dummies dummies' : List Binder) (e e' : Tree) → IsLegalDecl env (term_decl (record { signature = signature; form = defined dummies e }))
       → IsSameForm signature.params (defined dummies e) (defined dummies' e') → Text of_definition (signatures env) signature.params stream none e' dummies'
-      → IsBody env is_definition signature.params dummies e [] bytes → Runs strict tables (definition_of (record { signature = signature; stream = Some stream }) stream) at bytes
+      → IsBody gaps env is_definition signature.params dummies e [] bytes → Runs (plain gaps) tables (definition_of (record { signature = signature; stream = Some stream }) stream) at bytes
   definition-runs signature stream dummies dummies' e e' legal (ys, fresh, e-is, _) text b =
       let (_, params, are-dummies, _, deps, ((has, free), _)) = (terms_are_sorted env (record { signature = signature; form = defined dummies e })).0 legal in
       let h : Heading = definition_of (record { signature = signature; stream = Some stream }) stream in

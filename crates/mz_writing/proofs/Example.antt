@@ -23,17 +23,20 @@ use Rattle.mz_unification.specs.Streams.{StreamKind, of_assertion, of_definition
 use Rattle.mz_unification.specs.Spells.{Marks, with_dummy, at_first, dummy_of}
 use Rattle.mz_unification.specs.Profile.{expr, proof}
 use Rattle.mz_soundness.specs.Tables.{is_axiom, is_theorem, is_definition}
+use Rattle.mz_machine.specs.BodyAnswers.{HasGap}
+use Rattle.mz_binary.specs.Gapped.{leaves_gap}
 use Rattle.mz_steps.specs.Steps.{Step}
 use Rattle.mz_steps.specs.Works.{Work, work_start}
 use Rattle.mz_logic.specs.Sorts.{HasSort}
 use Rattle.mz_soundness.specs.RowWords.{AreParamWords}
 use Rattle.mz_steps.specs.Sameness.{IsInside, IsSameForm}
-use Rattle.mz_writing.specs.Example.{constant, two_bound, constructor, truth, pair, a_term, holds, text, made, result_word, bound_words, parts, ExampleIsWritten}
+use Rattle.mz_writing.specs.Example.{constant, two_bound, constructor, truth, pair, a_term, holds, text, made, result_word, bound_words, parts_by, ExampleIsWritten, DraftIsWritten}
 use Rattle.mz_steps.specs.SharedBodies.{AreDistinct, IsSharedBody}
 use Rattle.mz_streams.specs.SharedTexts.{IsSharedText}
 use Rattle.mz_streams.specs.Writing.{stream_of, AreShort}
 use Rattle.mz_streams.specs.Sharing.{Built, BuildsText, BuildsWholeOnce}
 use Rattle.mz_streams.proofs.Forgetting.{building-spells}
+use Rattle.mz_writing.proofs.Drafts.{body-too}
 use Rattle.mz_writing.specs.Writing.{IsWrittenAssertion, SayParams, SaySignature, IsWrittenAs}
 
 -- ---- legal
@@ -193,13 +196,13 @@ thm-room stream = record { few_params = omega arith; count = refl; words = none-
 abbrev Known : Written → Type 0
 Known w = IsTrue (begins_statement w.code)
 
-fit : Fit parts
-fit = record {
+fit : (command : ℕ) → Fit (parts_by command)
+fit command = record {
   room = record {
-    mods = all-of (λ (m : ℕ). m < 16) parts.sorts (omega arith, tt);
-    terms = all-of (HasRoom 1) parts.terms (term-room 0 [], (constructor-room, (term-room 128 (0x30 ∷ 0x00 ∷ []), (term-room 128 (0x70 ∷ 0x01 ∷ 0x33 ∷ 0x33 ∷ 0x00 ∷ []), tt))));
-    thms = all-of (HasRoom 0) parts.thms (thm-room (0x30 ∷ 0x00 ∷ []), (thm-room (0x30 ∷ 0x00 ∷ []), tt));
-    codes = all-of Known parts.statements (refl, (refl, (refl, (refl, (refl, (refl, (refl, tt)))))));
+    mods = all-of (λ (m : ℕ). m < 16) (parts_by command).sorts (omega arith, tt);
+    terms = all-of (HasRoom 1) (parts_by command).terms (term-room 0 [], (constructor-room, (term-room 128 (0x30 ∷ 0x00 ∷ []), (term-room 128 (0x70 ∷ 0x01 ∷ 0x33 ∷ 0x33 ∷ 0x00 ∷ []), tt))));
+    thms = all-of (HasRoom 0) (parts_by command).thms (thm-room (0x30 ∷ 0x00 ∷ []), (thm-room (0x30 ∷ 0x00 ∷ []), tt));
+    codes = all-of Known (parts_by command).statements (refl, (refl, (refl, (refl, (refl, (refl, (refl, tt)))))));
   };
   few_sorts = omega arith;
   short = omega arith;
@@ -334,7 +337,7 @@ makes env at = ([], [], (((0, (constant, at, refl, tt))), refl), refl)
 one-distinct : (e : Tree) → AreDistinct (e ∷ [])
 one-distinct e i j f at at' = (only e i f at).0 ∙ sym (only e j f at').0
 
-definition-body : IsSharedBody after-terms is_definition [] [] truth [] (0x10 ∷ 0x00 ∷ [])
+definition-body : IsSharedBody false after-terms is_definition [] [] truth [] (0x10 ∷ 0x00 ∷ [])
 definition-body = record {
   body = record {
     few = omega arith;
@@ -375,7 +378,7 @@ meets-second = (0, refl, may-dummy, (λ has. not-met has), refl)
 makes-pair : Step false after-definition two_bound two-met code.Term 1 pair-made
 makes-pair = (var 1 ∷ var 0 ∷ [], [], ((0, pair-sorted (constant ∷ constructor ∷ constant ∷ []) refl), refl), refl)
 
-second-body : IsSharedBody after-definition is_definition [] two_bound (pair 1 0) [] (0x13 ∷ 0x13 ∷ 0x50 ∷ 0x01 ∷ 0x00 ∷ [])
+second-body : IsSharedBody false after-definition is_definition [] two_bound (pair 1 0) [] (0x13 ∷ 0x13 ∷ 0x50 ∷ 0x01 ∷ 0x00 ∷ [])
 second-body = record {
   body = record {
     few = omega arith;
@@ -393,7 +396,7 @@ second-body = record {
   plain = (tt, (tt, (tt, tt)));
 }
 
-axiom-body : IsSharedBody after-definitions is_axiom [] [] truth [] (0x10 ∷ 0x00 ∷ [])
+axiom-body : IsSharedBody false after-definitions is_axiom [] [] truth [] (0x10 ∷ 0x00 ∷ [])
 axiom-body = record {
   body = record {
     few = omega arith;
@@ -418,7 +421,7 @@ truth-proved = record { met = []; heap = []; stack = proof truth ∷ []; hyps = 
 cites-axiom : Step false after-axiom [] first-made code.Thm 0 truth-proved
 cites-axiom = (truth, [], (record { is_axiom = true; params = []; hyps = none; conclusion = truth }, [], [], refl, tt, (λ i j x p q at. absurd cc), ([], refl, refl, refl), refl), refl)
 
-theorem-body : IsSharedBody after-axiom is_theorem [] [] truth [] (0x10 ∷ 0x14 ∷ 0x00 ∷ [])
+theorem-body : IsSharedBody false after-axiom is_theorem [] [] truth [] (0x10 ∷ 0x14 ∷ 0x00 ∷ [])
 theorem-body = record {
   body = record {
     few = omega arith;
@@ -451,61 +454,101 @@ turned = (1 ∷ 0 ∷ [], ((dummy_of 0, refl, refl, refl), (λ h. h), (λ has. o
     other (zero, below, is) = let zero-one : ◌≡◌ {A = ℕ} 0 1 = is in omega arith
     other (suc k, below, is) = omega arith
 
-axiom-written : IsWrittenAssertion parts after-definitions (record { is_axiom = true; params = []; hyps = none; conclusion = truth }) (0x10 ∷ 0x00 ∷ [])
-axiom-written = record {
-  words = [];
-  stream = 0x30 ∷ 0x00 ∷ [];
-  row = refl;
-  say = say-nothing one_sort;
-  text = truth-text of_assertion (signatures after-definitions) refl;
-  dummies = [];
-  are_dummies = no-params _;
-  body = axiom-body;
-}
+-- with these bodies, of which the theorem's has the command behind the term
+module _ (gaps : Bool) (command : ℕ) (first : IsSharedBody gaps after-terms is_definition [] [] truth [] (0x10 ∷ 0x00 ∷ []))
+    (second : IsSharedBody gaps after-definition is_definition [] two_bound (pair 1 0) [] (0x13 ∷ 0x13 ∷ 0x50 ∷ 0x01 ∷ 0x00 ∷ []))
+    (third : IsSharedBody gaps after-definitions is_axiom [] [] truth [] (0x10 ∷ 0x00 ∷ [])) (last : IsSharedBody gaps after-axiom is_theorem [] [] truth [] (0x10 ∷ command ∷ 0x00 ∷ [])) where
+  axiom-written : IsWrittenAssertion gaps (parts_by command) after-definitions (record { is_axiom = true; params = []; hyps = none; conclusion = truth }) (0x10 ∷ 0x00 ∷ [])
+  axiom-written = record {
+    words = [];
+    stream = 0x30 ∷ 0x00 ∷ [];
+    row = refl;
+    say = say-nothing one_sort;
+    text = truth-text of_assertion (signatures after-definitions) refl;
+    dummies = [];
+    are_dummies = no-params _;
+    body = third;
+  }
 
-theorem-written : IsWrittenAssertion parts after-axiom (record { is_axiom = false; params = []; hyps = none; conclusion = truth }) (0x10 ∷ 0x14 ∷ 0x00 ∷ [])
-theorem-written = record {
-  words = [];
-  stream = 0x30 ∷ 0x00 ∷ [];
-  row = refl;
-  say = say-nothing one_sort;
-  text = truth-text of_assertion (signatures after-axiom) refl;
-  dummies = [];
-  are_dummies = no-params _;
-  body = theorem-body;
-}
+  theorem-written : IsWrittenAssertion gaps (parts_by command) after-axiom (record { is_axiom = false; params = []; hyps = none; conclusion = truth }) (0x10 ∷ command ∷ 0x00 ∷ [])
+  theorem-written = record {
+    words = [];
+    stream = 0x30 ∷ 0x00 ∷ [];
+    row = refl;
+    say = say-nothing one_sort;
+    text = truth-text of_assertion (signatures after-axiom) refl;
+    dummies = [];
+    are_dummies = no-params _;
+    body = last;
+  }
 
-written : IsWrittenAs parts text made
-written = (
-  record { mark = refl; code = (refl, refl); declaration = (refl, refl, refl) },
-  (
-    record { mark = refl; code = (inl refl, refl); declaration = ((refl, tt), ([], result_word, say-constant, (refl, refl, refl))) },
+  written : IsWrittenAs gaps (parts_by command) text made
+  written = (
+    record { mark = refl; code = (refl, refl); declaration = (refl, refl, refl) },
     (
-      record { mark = refl; code = (inl refl, refl); declaration = ((refl, tt), (bound_words, result_word, say-constructor, (refl, refl, refl))) },
+      record { mark = refl; code = (inl refl, refl); declaration = ((refl, tt), ([], result_word, say-constant, (refl, refl, refl))) },
       (
-        record {
-          mark = refl;
-          code = (inr refl, refl);
-          declaration = ((refl, ([], tt, refl, λ y occurs. absurd occurs)), ([], result_word, say-constant, (0x30 ∷ 0x00 ∷ [], refl, truth-text of_definition (signatures after-terms) refl, definition-body)));
-        },
+        record { mark = refl; code = (inl refl, refl); declaration = ((refl, tt), (bound_words, result_word, say-constructor, (refl, refl, refl))) },
         (
           record {
             mark = refl;
             code = (inr refl, refl);
-            declaration = ((refl, turned), ([], result_word, say-constant, (0x70 ∷ 0x01 ∷ 0x33 ∷ 0x33 ∷ 0x00 ∷ [], refl, pair-text (signatures after-definition) refl, second-body)));
+            declaration = ((refl, ([], tt, refl, λ y occurs. absurd occurs)), ([], result_word, say-constant, (0x30 ∷ 0x00 ∷ [], refl, truth-text of_definition (signatures after-terms) refl, first)));
           },
           (
-            record { mark = refl; code = (refl, refl); declaration = (refl, axiom-written) },
+            record {
+              mark = refl;
+              code = (inr refl, refl);
+              declaration = ((refl, turned), ([], result_word, say-constant, (0x70 ∷ 0x01 ∷ 0x33 ∷ 0x33 ∷ 0x00 ∷ [], refl, pair-text (signatures after-definition) refl, second)));
+            },
             (
-              record { mark = refl; code = (inr refl, refl); declaration = (refl, theorem-written) },
-              record { no_sorts = refl; no_terms = refl; no_thms = refl },
+              record { mark = refl; code = (refl, refl); declaration = (refl, axiom-written) },
+              (
+                record { mark = refl; code = (inr refl, refl); declaration = (refl, theorem-written) },
+                record { no_sorts = refl; no_terms = refl; no_thms = refl },
+              ),
             ),
           ),
         ),
       ),
     ),
-  ),
-)
+  )
 
 pub example-written : ExampleIsWritten
-example-written = (fit, legal, written)
+example-written = (fit 0x14, legal, written false 0x14 definition-body second-body axiom-body theorem-body)
+
+-- ---- with a gap
+
+leaves-gap : Step true after-axiom [] first-made code.Sorry 0 truth-proved
+leaves-gap = (refl, inl (truth, [], refl, (0, (constant, refl, refl, tt), may-claim), refl))
+
+gap-body : IsSharedBody true after-axiom is_theorem [] [] truth [] (0x10 ∷ 0x20 ∷ 0x00 ∷ [])
+gap-body = record {
+  body = record {
+    few = omega arith;
+    commands = (code.Term, 0) ∷ (code.Sorry, 0) ∷ [];
+    work = truth-proved;
+    spelled = refl;
+    may_stand = (refl, omega arith, (refl, omega arith, tt));
+    steps = (first-made, makes after-axiom refl, (truth-proved, leaves-gap, refl));
+    stack = refl;
+    assumed = refl;
+  };
+  built_are = truth ∷ [];
+  builds = (first-made, [], makes after-axiom refl, (truth-proved, [], leaves-gap, (refl, refl), refl), refl);
+  distinct = one-distinct truth;
+  plain = (tt, (refl, tt));
+}
+
+gap-there : HasGap (0x10 ∷ 0x20 ∷ 0x00 ∷ [])
+gap-there = (record { code = 0x10; value = 0; len = 1 }, refl, inr (record { code = 0x20; value = 0; len = 1 }, refl, inl refl))
+
+pub draft-written : DraftIsWritten
+draft-written = (
+  fit 0x20,
+  written true 0x20 (body-too after-terms is_definition [] [] truth [] (0x10 ∷ 0x00 ∷ []) definition-body)
+      (body-too after-definition is_definition [] two_bound (pair 1 0) [] (0x13 ∷ 0x13 ∷ 0x50 ∷ 0x01 ∷ 0x00 ∷ []) second-body)
+      (body-too after-definitions is_axiom [] [] truth [] (0x10 ∷ 0x00 ∷ []) axiom-body)
+      gap-body,
+  leaves_gap 1 (0x10 ∷ 0x20 ∷ 0x00 ∷ []) refl gap-there,
+)

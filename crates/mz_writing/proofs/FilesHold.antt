@@ -1,5 +1,5 @@
 -- A file whose parts say a legal text is good.
-use Rattle.std.proofs.Common.{false, [], refl, sym, subst}
+use Rattle.std.proofs.Common.{[], refl, sym, subst}
 use Rattle.mz_layout.specs.Normal.{file_of}
 use Rattle.mz_layout.specs.Standing.{AreListed}
 use Rattle.mz_layout.specs.Tables.{list_at}
@@ -13,13 +13,13 @@ use Rattle.mz_writing.specs.Laws.{WrittenFilesAreGood, WrittenFilesSpell, Writte
 use Rattle.mz_writing.proofs.ListsHold.{rest-good}
 
 pub files-good : WrittenFilesAreGood
-files-good p text made fit legal written =
+files-good gaps p text made fit legal written =
     let listed : AreListed (file_of p) (list_at (file_of p)) p.statements = subst (λ at. AreListed (file_of p) at p.statements) (sym (counts-said p fit.short).list_at) (all-listed p fit) in
-    let r = rest-good p fit [] [] (list_at (file_of p)) text made p.statements written legal listed same-at-first tt (record { sorts_are = refl; terms_are = tt; thms_are = tt }) in
+    let r = rest-good gaps p fit [] [] (list_at (file_of p)) text made p.statements written legal listed same-at-first tt (record { sorts_are = refl; terms_are = tt; thms_are = tt }) in
     record { layout = layout-holds p fit; env = r.last; to = r.to; statements = r.statements; ends = r.ends }
 
 pub files-spell : WrittenFilesSpell
-files-spell p text made fit legal written = good-spelled false (file_of p) made (files-good p text made fit legal written)
+files-spell gaps p text made fit legal written = good-spelled gaps (file_of p) made (files-good gaps p text made fit legal written)
 
 pub made-legal : WrittenListsAreLegal
-made-legal p text made fit legal written = good-legal false (file_of p) made (files-good p text made fit legal written)
+made-legal gaps p text made fit legal written = good-legal gaps (file_of p) made (files-good gaps p text made fit legal written)

@@ -7,3 +7,6 @@ pub mod SameLists
 pub mod Growing
 pub mod Example
 pub mod WordsSay
+pub mod Gaps
+pub mod BodiesWritten
+pub mod Drafts

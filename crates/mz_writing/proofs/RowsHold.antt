@@ -20,7 +20,7 @@ use Rattle.mz_layout.specs.Tables.{TermRow as TermRecord, ThmRow as ThmRecord, s
 use Rattle.mz_layout.proofs.PartsStand.{SaysCounts, counts-said}
 use Rattle.mz_layout.proofs.TableLists.{slice_get-sorts}
 use Rattle.mz_layout.proofs.TablesRead.{mods-read, term-read, thm-read, term-stream, thm-stream}
-use Rattle.mz_unification.specs.Profile.{strict}
+use Rattle.mz_unification.specs.Profile.{plain}
 use Rattle.mz_unification.specs.Spells.{Text, TermRow, ThmRow, SpellsTerm, SpellsThm}
 use Rattle.mz_unification.specs.Streams.{of_assertion, of_definition}
 use Rattle.mz_soundness.specs.Bodies.{Runs, body_checks}
@@ -44,8 +44,8 @@ may-stand : (l b : Bool) → b ≡ true → MayStand l b
 may-stand true b is = is
 may-stand false b is = tt
 
-holds-of : (tables : Tables) (h : Heading) (at : ℕ) (bytes : List ℕ) → Runs strict tables h at bytes → AllHold (body_checks strict tables h at bytes)
-holds-of tables h at bytes runs = (bodies-checked strict tables h at bytes).0.1 runs
+holds-of : (gaps : Bool) (tables : Tables) (h : Heading) (at : ℕ) (bytes : List ℕ) → Runs (plain gaps) tables h at bytes → AllHold (body_checks (plain gaps) tables h at bytes)
+holds-of gaps tables h at bytes runs = (bodies-checked (plain gaps) tables h at bytes).0.1 runs
 
 -- a term's row as it is read of its record, and an assertion's
 abbrev term_by : List ℕ → TermRecord → TermRow
@@ -59,7 +59,7 @@ pub record IsGoodRow (file : List ℕ) (env : List Declaration) (d : Declaration
   pub row : SpellsRow file env d
   pub holds : AllHold checks
 
-module _ (p : Parts) (fit : Fit p) (env env' : List Declaration) (same : IsSameEnv env env') (declares : Declares (rows_taken (file_of p) (taken_by env')) env')
+module _ (gaps : Bool) (p : Parts) (fit : Fit p) (env env' : List Declaration) (same : IsSameEnv env env') (declares : Declares (rows_taken (file_of p) (taken_by env')) env')
     (at body next : ℕ) (bytes : List ℕ) (bytes-are : body_bytes (file_of p) body next ≡ bytes) where
   abbrev file : List ℕ
   file = file_of p
@@ -102,25 +102,25 @@ module _ (p : Parts) (fit : Fit p) (env env' : List Declaration) (same : IsSameE
     is-below unify e = let within : length (terms env') < length p.terms = slice_get_within p.terms (length (terms env')) (row_of_term ws result unify) e in omega (arith, counts.terms)
 
     pub plain-good : slice_get p.terms (length (terms env)) ≡ Some (row_of_term ws result None) → is_local ≡ false → bytes ≡ []
-        → IsGoodRow file env' (term_decl (record { signature = signature; form = plain_form })) (term_checks false file (taken_by env') at body next is_local)
+        → IsGoodRow file env' (term_decl (record { signature = signature; form = plain_form })) (term_checks gaps file (taken_by env') at body next is_local)
     plain-good e mark empty =
         let n : ℕ = length (terms env') in
         let here = get-row None e in
         let below = is-below None here in
         let row-is : term_row file n ≡ written_term ws result None (term_place p n) = term-read p fit n ws result None here in
         let row : term_of_file file n ≡ record { signature = signature; stream = None } = ap (term_by file) row-is ∙ ap (λ (z : Signature). record { signature = z; stream = None }) say.said in
-        let ends : AllHold (term_body_checks false file (taken_by env') at body next (term_of_file file n).stream) =
-        subst (λ (r : TermRow). AllHold (term_body_checks false file (taken_by env') at body next r.stream)) (sym row) (inl (bytes-are ∙ empty), tt) in
+        let ends : AllHold (term_body_checks gaps file (taken_by env') at body next (term_of_file file n).stream) =
+        subst (λ (r : TermRow). AllHold (term_body_checks gaps file (taken_by env') at body next r.stream)) (sym row) (inl (bytes-are ∙ empty), tt) in
         record {
           row = (below, subst (λ (r : TermRow). SpellsTerm (signatures env') r (record { signature = signature; form = plain_form })) (sym row) (refl, tt));
-          holds = subst (λ (l : Bool). AllHold (term_checks false file (taken_by env') at body next l)) (sym mark)
-              (below, (tt, all_hold-both (word_checks (sorts env') (term_row file n)) (term_body_checks false file (taken_by env') at body next (term_of_file file n).stream) (words (term_row file n) None (term_place p n) row-is) ends));
+          holds = subst (λ (l : Bool). AllHold (term_checks gaps file (taken_by env') at body next l)) (sym mark)
+              (below, (tt, all_hold-both (word_checks (sorts env') (term_row file n)) (term_body_checks gaps file (taken_by env') at body next (term_of_file file n).stream) (words (term_row file n) None (term_place p n) row-is) ends));
         }
 
     pub definition-good : (stream : List ℕ) (dummies dummies' : List Binder) (e e' : Tree) → slice_get p.terms (length (terms env)) ≡ Some (row_of_term ws result (Some stream))
         → IsLegalDecl env (term_decl (record { signature = signature; form = defined dummies e })) → IsSameForm signature.params (defined dummies e) (defined dummies' e')
-        → SpellsBefore of_definition (signatures env) signature.params stream none e' dummies' → IsBody env is_definition signature.params dummies e [] bytes
-        → IsGoodRow file env' (term_decl (record { signature = signature; form = defined dummies' e' })) (term_checks false file (taken_by env') at body next is_local)
+        → SpellsBefore of_definition (signatures env) signature.params stream none e' dummies' → IsBody gaps env is_definition signature.params dummies e [] bytes
+        → IsGoodRow file env' (term_decl (record { signature = signature; form = defined dummies' e' })) (term_checks gaps file (taken_by env') at body next is_local)
     definition-good stream dummies dummies' e e' get legal same-form spells b =
         let n : ℕ = length (terms env') in
         let here = get-row (Some stream) get in
@@ -130,13 +130,13 @@ module _ (p : Parts) (fit : Fit p) (env env' : List Declaration) (same : IsSameE
         let bytes' : List ℕ = stream ++ stands.rest in
         let row : term_of_file file n ≡ record { signature = signature; stream = Some bytes' } =
         ap (term_by file) row-is ∙ ap (λ (z : Signature). record { signature = z; stream = Some (drop (term_place p n + 8 * (length ws + 1)) file) }) say.said ∙ ap (λ (z : List ℕ). record { signature = signature; stream = Some z }) stands.from_there in
-        let runs : Runs strict tables (definition_of (record { signature = signature; stream = Some bytes' }) bytes') body (body_bytes file body next) =
-        subst (Runs strict tables (definition_of (record { signature = signature; stream = Some bytes' }) bytes') body) (sym bytes-are)
-        (definition-runs tables env env' declares same body bytes signature bytes' dummies dummies' e e' legal same-form (spells stands.rest) b) in
-        let ends : AllHold (term_body_checks false file (taken_by env') at body next (term_of_file file n).stream) =
-        subst (λ (o : Option (List ℕ)). AllHold (term_body_checks false file (taken_by env') at body next o)) (sym (ap (λ (r : TermRow). r.stream) row))
-        (subst (λ (r : TermRow). AllHold (body_checks strict tables (definition_of r bytes') body (body_bytes file body next))) (sym row)
-        (holds-of tables (definition_of (record { signature = signature; stream = Some bytes' }) bytes') body (body_bytes file body next) runs)) in
+        let runs : Runs (plain gaps) tables (definition_of (record { signature = signature; stream = Some bytes' }) bytes') body (body_bytes file body next) =
+        subst (Runs (plain gaps) tables (definition_of (record { signature = signature; stream = Some bytes' }) bytes') body) (sym bytes-are)
+        (definition-runs gaps tables env env' declares same body bytes signature bytes' dummies dummies' e e' legal same-form (spells stands.rest) b) in
+        let ends : AllHold (term_body_checks gaps file (taken_by env') at body next (term_of_file file n).stream) =
+        subst (λ (o : Option (List ℕ)). AllHold (term_body_checks gaps file (taken_by env') at body next o)) (sym (ap (λ (r : TermRow). r.stream) row))
+        (subst (λ (r : TermRow). AllHold (body_checks (plain gaps) tables (definition_of r bytes') body (body_bytes file body next))) (sym row)
+        (holds-of gaps tables (definition_of (record { signature = signature; stream = Some bytes' }) bytes') body (body_bytes file body next) runs)) in
         let text : Text of_definition (signatures env') signature.params bytes' none e' dummies' = subst (λ (z : List Signature). Text of_definition z signature.params bytes' none e' dummies') sigs (spells stands.rest) in
         record {
           row = (below, subst (λ (r : TermRow). SpellsTerm (signatures env') r (record { signature = signature; form = defined dummies' e' })) (sym row) (refl, text));
@@ -144,14 +144,14 @@ module _ (p : Parts) (fit : Fit p) (env env' : List Declaration) (same : IsSameE
             below,
             (
               may-stand is_local (term_row file n).words.has_body (ap (λ (r : TermRecord). r.words.has_body) row-is),
-              all_hold-both (word_checks (sorts env') (term_row file n)) (term_body_checks false file (taken_by env') at body next (term_of_file file n).stream) (words (term_row file n) (Some stream) (term_place p n) row-is) ends,
+              all_hold-both (word_checks (sorts env') (term_row file n)) (term_body_checks gaps file (taken_by env') at body next (term_of_file file n).stream) (words (term_row file n) (Some stream) (term_place p n) row-is) ends,
             ),
           );
         }
 
   -- ---- axioms and theorems
 
-  pub assertion-good : (a : Assertion) → IsLegalDecl env (assertion_decl a) → IsWrittenAssertion p env a bytes → IsGoodRow file env' (assertion_decl a) (thm_checks false file (taken_by env') at body next a.is_axiom)
+  pub assertion-good : (a : Assertion) → IsLegalDecl env (assertion_decl a) → IsWrittenAssertion gaps p env a bytes → IsGoodRow file env' (assertion_decl a) (thm_checks gaps file (taken_by env') at body next a.is_axiom)
   assertion-good a legal w =
       let n : ℕ = length (assertions env') in
       let here : slice_get p.thms n ≡ Some (row_of_thm w.words w.stream) = subst (λ (z : List Assertion). slice_get p.thms (length z) ≡ Some (row_of_thm w.words w.stream)) same.assertions_are w.row in
@@ -162,15 +162,15 @@ module _ (p : Parts) (fit : Fit p) (env env' : List Declaration) (same : IsSameE
       let row : thm_of_file file n ≡ record { params = a.params; stream = bytes' } =
       ap (thm_by file) row-is ∙ ap (λ (z : List Binder). record { params = z; stream = drop (thm_place p n + 8 * length w.words) file }) w.say.said ∙ ap (λ (z : List ℕ). record { params = a.params; stream = z }) stands.from_there in
       let h : Heading = assertion_of a.is_axiom (record { params = a.params; stream = bytes' }) in
-      let runs : Runs strict tables h body (body_bytes file body next) =
-      subst (Runs strict tables h body) (sym bytes-are) (assertion-runs tables env env' declares same body bytes a bytes' w.dummies legal w.are_dummies (w.text.spells stands.rest) w.body.body) in
+      let runs : Runs (plain gaps) tables h body (body_bytes file body next) =
+      subst (Runs (plain gaps) tables h body) (sym bytes-are) (assertion-runs gaps tables env env' declares same body bytes a bytes' w.dummies legal w.are_dummies (w.text.spells stands.rest) w.body.body) in
       let words : AllHold (param_checks (sorts env') (thm_row file n).words_at (thm_row file n).params) =
       subst (λ (r : ThmRecord). AllHold (param_checks (sorts env') r.words_at r.params)) (sym row-is)
       (params-hold (sorts env') (thm_place p n) w.words (subst (λ (ss : List SortMods). SayParams ss w.words a.params) same.sorts_are w.say).right) in
-      let ends : AllHold (body_checks strict tables (assertion_of a.is_axiom (thm_of_file file n)) body (body_bytes file body next)) =
-      subst (λ (r : ThmRow). AllHold (body_checks strict tables (assertion_of a.is_axiom r) body (body_bytes file body next))) (sym row) (holds-of tables h body (body_bytes file body next) runs) in
+      let ends : AllHold (body_checks (plain gaps) tables (assertion_of a.is_axiom (thm_of_file file n)) body (body_bytes file body next)) =
+      subst (λ (r : ThmRow). AllHold (body_checks (plain gaps) tables (assertion_of a.is_axiom r) body (body_bytes file body next))) (sym row) (holds-of gaps tables h body (body_bytes file body next) runs) in
       let text : Text of_assertion (signatures env') a.params bytes' a.hyps a.conclusion [] = subst (λ (z : List Signature). Text of_assertion z a.params bytes' a.hyps a.conclusion []) sigs (w.text.spells stands.rest) in
       record {
         row = (below, subst (λ (r : ThmRow). SpellsThm (signatures env') r a) (sym row) (refl, text));
-        holds = (below, all_hold-both (param_checks (sorts env') (thm_row file n).words_at (thm_row file n).params) (body_checks strict tables (assertion_of a.is_axiom (thm_of_file file n)) body (body_bytes file body next)) words ends);
+        holds = (below, all_hold-both (param_checks (sorts env') (thm_row file n).words_at (thm_row file n).params) (body_checks (plain gaps) tables (assertion_of a.is_axiom (thm_of_file file n)) body (body_bytes file body next)) words ends);
       }

@@ -7,24 +7,24 @@ use Rattle.mz_steps.specs.SameLists.{IsSameDeclaration, IsSameList}
 use Rattle.mz_writing.specs.Laws.{WrittenListsAreSame}
 use Rattle.mz_writing.specs.Writing.{IsWrittenDeclaration, AreWritten}
 
-same-declaration : (p : Parts) (env : List Declaration) (is_local : Bool) (d d' : Declaration) (bytes : List ℕ) → IsWrittenDeclaration p env is_local d d' bytes → IsSameDeclaration d d'
-same-declaration p env is_local (sort_decl m) (sort_decl m') bytes w = w.0
-same-declaration p env is_local (sort_decl m) (term_decl d') bytes w = w
-same-declaration p env is_local (sort_decl m) (assertion_decl a') bytes w = w
-same-declaration p env is_local (term_decl d) (sort_decl m') bytes w = w
-same-declaration p env is_local (term_decl d) (term_decl d') bytes w = w.0
-same-declaration p env is_local (term_decl d) (assertion_decl a') bytes w = w
-same-declaration p env is_local (assertion_decl a) (sort_decl m') bytes w = w
-same-declaration p env is_local (assertion_decl a) (term_decl d') bytes w = w
-same-declaration p env is_local (assertion_decl a) (assertion_decl a') bytes w = w.0
+same-declaration : (gaps : Bool) (p : Parts) (env : List Declaration) (is_local : Bool) (d d' : Declaration) (bytes : List ℕ) → IsWrittenDeclaration gaps p env is_local d d' bytes → IsSameDeclaration d d'
+same-declaration gaps p env is_local (sort_decl m) (sort_decl m') bytes w = w.0
+same-declaration gaps p env is_local (sort_decl m) (term_decl d') bytes w = w
+same-declaration gaps p env is_local (sort_decl m) (assertion_decl a') bytes w = w
+same-declaration gaps p env is_local (term_decl d) (sort_decl m') bytes w = w
+same-declaration gaps p env is_local (term_decl d) (term_decl d') bytes w = w.0
+same-declaration gaps p env is_local (term_decl d) (assertion_decl a') bytes w = w
+same-declaration gaps p env is_local (assertion_decl a) (sort_decl m') bytes w = w
+same-declaration gaps p env is_local (assertion_decl a) (term_decl d') bytes w = w
+same-declaration gaps p env is_local (assertion_decl a) (assertion_decl a') bytes w = w.0
 
-same-lists : (p : Parts) (env : List Declaration) (ts ss : List Statement) (ws : List Written) → AreWritten p env ts ss ws → IsSameList ts ss
-same-lists p env [] [] ws written = tt
-same-lists p env [] (s ∷ ss) ws written = absurd written
-same-lists p env (t ∷ ts) [] ws written = absurd written
-same-lists p env (t ∷ ts) (s ∷ ss) [] written = absurd written
-same-lists p env (t ∷ ts) (s ∷ ss) (w ∷ ws) (written, all) =
-    ((written.mark, same-declaration p env s.is_local t.decl s.decl w.body written.declaration), same-lists p (env ++ t.decl ∷ []) ts ss ws all)
+same-lists : (gaps : Bool) (p : Parts) (env : List Declaration) (ts ss : List Statement) (ws : List Written) → AreWritten gaps p env ts ss ws → IsSameList ts ss
+same-lists gaps p env [] [] ws written = tt
+same-lists gaps p env [] (s ∷ ss) ws written = absurd written
+same-lists gaps p env (t ∷ ts) [] ws written = absurd written
+same-lists gaps p env (t ∷ ts) (s ∷ ss) [] written = absurd written
+same-lists gaps p env (t ∷ ts) (s ∷ ss) (w ∷ ws) (written, all) =
+    ((written.mark, same-declaration gaps p env s.is_local t.decl s.decl w.body written.declaration), same-lists gaps p (env ++ t.decl ∷ []) ts ss ws all)
 
 pub written-same : WrittenListsAreSame
-written-same p text made written = same-lists p [] text made p.statements written
+written-same gaps p text made written = same-lists gaps p [] text made p.statements written

@@ -2,4 +2,5 @@ pub mod Writing
 pub mod WordsSay
 pub mod Laws
 pub mod Growing
+pub mod Gaps
 pub mod Example

@@ -36,25 +36,25 @@ pub record SaySignature (ss : List SortMods) (ws : List Word) (result : Word) (s
   pub bits : word_deps result < 2 ^ bound_count ws
   pub said : signature_of (record { params = ws; result = result; has_body = false }) ≡ signature
 
--- ---- statements
+-- ---- statements; the proofs of theorems may have gaps, or not
 
 -- A plain term's row has no stream, and its body is empty. A definition's stream spells the made body, and its body
 -- makes the text's; both share what they build.
-abbrev pub IsWrittenForm : Parts → List Declaration → Bool → Signature → List Word → Word → Form → Form → List ℕ → Type 0
-IsWrittenForm p env is_local signature ws result plain_form plain_form bytes =
+abbrev pub IsWrittenForm : Bool → Parts → List Declaration → Bool → Signature → List Word → Word → Form → Form → List ℕ → Type 0
+IsWrittenForm gaps p env is_local signature ws result plain_form plain_form bytes =
     (slice_get p.terms (length (terms env)) ≡ Some (row_of_term ws result None)) × (is_local ≡ false) × (bytes ≡ [])
-IsWrittenForm p env is_local signature ws result (defined dummies e) (defined dummies' e') bytes =
+IsWrittenForm gaps p env is_local signature ws result (defined dummies e) (defined dummies' e') bytes =
     (stream : List ℕ) × (slice_get p.terms (length (terms env)) ≡ Some (row_of_term ws result (Some stream)))
     × IsSharedText of_definition (signatures env) signature.params stream none e' dummies'
-    × IsSharedBody env is_definition signature.params dummies e [] bytes
-IsWrittenForm p env is_local signature ws result form form' bytes = ⊥
+    × IsSharedBody gaps env is_definition signature.params dummies e [] bytes
+IsWrittenForm gaps p env is_local signature ws result form form' bytes = ⊥
 
-abbrev pub IsWrittenTerm : Parts → List Declaration → Bool → Term → Term → List ℕ → Type 0
-IsWrittenTerm p env is_local d d' bytes =
-    IsSameTerm d d' × ((ws : List Word) × (result : Word) × SaySignature (sorts env) ws result d.signature × IsWrittenForm p env is_local d.signature ws result d.form d'.form bytes)
+abbrev pub IsWrittenTerm : Bool → Parts → List Declaration → Bool → Term → Term → List ℕ → Type 0
+IsWrittenTerm gaps p env is_local d d' bytes =
+    IsSameTerm d d' × ((ws : List Word) × (result : Word) × SaySignature (sorts env) ws result d.signature × IsWrittenForm gaps p env is_local d.signature ws result d.form d'.form bytes)
 
 -- An assertion's stream spells its conclusion and hypotheses, and its body makes them; both share what they build.
-pub record IsWrittenAssertion (p : Parts) (env : List Declaration) (a : Assertion) (bytes : List ℕ) : Type 0 where
+pub record IsWrittenAssertion (gaps : Bool) (p : Parts) (env : List Declaration) (a : Assertion) (bytes : List ℕ) : Type 0 where
   pub words : List Word
   pub stream : List ℕ
   pub row : slice_get p.thms (length (assertions env)) ≡ Some (row_of_thm words stream)
@@ -62,21 +62,21 @@ pub record IsWrittenAssertion (p : Parts) (env : List Declaration) (a : Assertio
   pub text : IsSharedText of_assertion (signatures env) a.params stream a.hyps a.conclusion []
   pub dummies : List Binder
   pub are_dummies : Each dummies (λ _ b. b.deps ≡ [])
-  pub body : IsSharedBody env (kind_of a.is_axiom) a.params dummies a.conclusion (listed a.hyps) bytes
+  pub body : IsSharedBody gaps env (kind_of a.is_axiom) a.params dummies a.conclusion (listed a.hyps) bytes
 
 -- after the text's env, the next row and these bytes say the text's declaration; the made one is the same but for the
 -- dummies of a definition's body, which are numbered as the stream meets them
-abbrev pub IsWrittenDeclaration : Parts → List Declaration → Bool → Declaration → Declaration → List ℕ → Type 0
-IsWrittenDeclaration p env is_local (sort_decl m) (sort_decl m') bytes = (m ≡ m') × (slice_get p.sorts (length (sorts env)) ≡ Some m.0) × (bytes ≡ [])
-IsWrittenDeclaration p env is_local (term_decl d) (term_decl d') bytes = IsWrittenTerm p env is_local d d' bytes
-IsWrittenDeclaration p env is_local (assertion_decl a) (assertion_decl a') bytes = (a ≡ a') × IsWrittenAssertion p env a bytes
-IsWrittenDeclaration p env is_local d d' bytes = ⊥
+abbrev pub IsWrittenDeclaration : Bool → Parts → List Declaration → Bool → Declaration → Declaration → List ℕ → Type 0
+IsWrittenDeclaration gaps p env is_local (sort_decl m) (sort_decl m') bytes = (m ≡ m') × (slice_get p.sorts (length (sorts env)) ≡ Some m.0) × (bytes ≡ [])
+IsWrittenDeclaration gaps p env is_local (term_decl d) (term_decl d') bytes = IsWrittenTerm gaps p env is_local d d' bytes
+IsWrittenDeclaration gaps p env is_local (assertion_decl a) (assertion_decl a') bytes = (a ≡ a') × IsWrittenAssertion gaps p env a bytes
+IsWrittenDeclaration gaps p env is_local d d' bytes = ⊥
 
 -- the text's statement and the made one have one mark, which the code says with the kind
-pub record IsWrittenStatement (p : Parts) (env : List Declaration) (t s : Statement) (w : Written) : Type 0 where
+pub record IsWrittenStatement (gaps : Bool) (p : Parts) (env : List Declaration) (t s : Statement) (w : Written) : Type 0 where
   pub mark : t.is_local ≡ s.is_local
   pub code : HasKind w.code s
-  pub declaration : IsWrittenDeclaration p env s.is_local t.decl s.decl w.body
+  pub declaration : IsWrittenDeclaration gaps p env s.is_local t.decl s.decl w.body
 
 -- ---- all of them
 
@@ -87,11 +87,11 @@ pub record HaveNoMore (p : Parts) (env : List Declaration) : Type 0 where
   pub no_thms : length (assertions env) ≡ length p.thms
 
 -- after the text's env, its statements ts and the made ones ss are those of the list, one by one, and no rows are left
-abbrev pub AreWritten : Parts → List Declaration → List Statement → List Statement → List Written → Type 0
-AreWritten p env [] [] [] = HaveNoMore p env
-AreWritten p env (t ∷ ts) (s ∷ ss) (w ∷ ws) = IsWrittenStatement p env t s w × AreWritten p (env ++ t.decl ∷ []) ts ss ws
-AreWritten p env ts ss ws = ⊥
+abbrev pub AreWritten : Bool → Parts → List Declaration → List Statement → List Statement → List Written → Type 0
+AreWritten gaps p env [] [] [] = HaveNoMore p env
+AreWritten gaps p env (t ∷ ts) (s ∷ ss) (w ∷ ws) = IsWrittenStatement gaps p env t s w × AreWritten gaps p (env ++ t.decl ∷ []) ts ss ws
+AreWritten gaps p env ts ss ws = ⊥
 
 -- the parts say the text, whose statements are `text`; those of the binary are `made`
-abbrev pub IsWrittenAs : Parts → List Statement → List Statement → Type 0
-IsWrittenAs p text made = AreWritten p [] text made p.statements
+abbrev pub IsWrittenAs : Bool → Parts → List Statement → List Statement → Type 0
+IsWrittenAs gaps p text made = AreWritten gaps p [] text made p.statements

@@ -8,5 +8,6 @@
 mod laws;
 
 pub use laws::{
-    example_is_written, words_say_what_is_written, writing_grows, written_files_are_good,
+    bodies_are_written, bodies_say_their_gaps, example_is_written, finished_is_draft,
+    words_say_what_is_written, writing_grows, written_files_are_good,
 };

@@ -1,4 +1,4 @@
-use Rattle.std.proofs.Common.{◌*◌, arith, ap, length, take, refl, sym, ◌∙◌, subst}
+use Rattle.std.proofs.Common.{false, ◌*◌, arith, ap, length, take, refl, sym, ◌∙◌, subst}
 use Rattle.mz_logic.specs.Tree.{listed, size, trees_size}
 use Rattle.mz_unification.specs.Profile.{expr}
 use Rattle.mz_soundness.specs.Tables.{is_axiom}
@@ -17,9 +17,9 @@ put_hyps-requires-clause-can c =
     let s = c.args.shared.store in
     let ps = take c.args.params s.context in
     let hyps = listed (trees_of s c.args.hyps.now) in (
-      job is_axiom ps s hyps,
-      assumes_all is_axiom ps s c.args.hyps.now c.args.before c.in_ok-written.written c.in_ok-written.ensures.before
-          (c.in_ok-written.ensures.begins (job is_axiom ps s hyps) (first_begins is_axiom s hyps c.args.params c.requires.behind.many)) refl c.requires.hyps c.requires.provable,
+      job false is_axiom ps s hyps,
+      assumes_all false is_axiom ps s c.args.hyps.now c.args.before c.in_ok-written.written c.in_ok-written.ensures.before
+          (c.in_ok-written.ensures.begins (job false is_axiom ps s hyps) (first_begins false is_axiom s hyps c.args.params c.requires.behind.many)) refl c.requires.hyps c.requires.provable,
     )
 
 pub put_expr-requires-clause-before : goal.put_expr-requires-clause-before
@@ -30,30 +30,30 @@ put_expr-requires-clause-can c =
     let s = c.args.shared.store in
     let ps = take c.args.params s.context in
     let hyps = listed (trees_of s c.args.hyps.now) in (
-      assuming (job is_axiom ps s hyps) (length c.args.hyps.now) (6 * trees_size (trees_of s c.args.hyps.now)),
+      assuming (job false is_axiom ps s hyps) (length c.args.hyps.now) (6 * trees_size (trees_of s c.args.hyps.now)),
       (
-        c.in_ok-put_hyps.ensures.does (job is_axiom ps s hyps)
-            (assumes_all is_axiom ps s c.args.hyps.now c.args.before c.in_ok-written.written c.in_ok-written.ensures.before
-            (c.in_ok-written.ensures.begins (job is_axiom ps s hyps) (first_begins is_axiom s hyps c.args.params c.requires.behind.many)) refl c.requires.hyps c.requires.provable),
+        c.in_ok-put_hyps.ensures.does (job false is_axiom ps s hyps)
+            (assumes_all false is_axiom ps s c.args.hyps.now c.args.before c.in_ok-written.written c.in_ok-written.ensures.before
+            (c.in_ok-written.ensures.begins (job false is_axiom ps s hyps) (first_begins false is_axiom s hyps c.args.params c.requires.behind.many)) refl c.requires.hyps c.requires.provable),
         c.requires.inside,
       ),
     )
 
 pub returns-clause-body : goal.returns-clause-body
-returns-clause-body c = λ ps ds is long.
+returns-clause-body c = λ gaps ps ds is long.
     let s = c.args.shared.store in
     let hyps = listed (trees_of s c.args.hyps.now) in
-    let o = job is_axiom ps s hyps in
+    let o = job gaps is_axiom ps s hyps in
     let b = c.put_expr.new.self in
-    body_as c.args.before b.before is_axiom ps ds (tree_of s c.args.conclusion.0) hyps _ (c.in_ok-put_expr.ensures.same ∙ c.in_ok-put_hyps.ensures.same ∙ c.in_ok-written.ensures.before)
+    (body_as gaps c.args.before b.before is_axiom ps ds (tree_of s c.args.conclusion.0) hyps _ (λ u. false) (c.in_ok-put_expr.ensures.same ∙ c.in_ok-put_hyps.ensures.same ∙ c.in_ok-written.ensures.before)
     (ended b.before.env.now (assuming o (length c.args.hyps.now) (6 * trees_size (trees_of s c.args.hyps.now))) b.shared.store b.shared.variables.items b.heap.places.items b.heap.len b.hyps.items b.cells.cells.items (5 * size (tree_of s c.args.conclusion.0)) (tree_of s c.args.conclusion.0) ds (to_do b.tasks.items) b.out.items _
     (ap to_do c.in_ok-put_expr.ensures.done) is c.requires.few (all_assumed s c.args.hyps.now) c.in_ok-bytes.ensures
     (c.in_ok-put_expr.ensures.does (assuming o (length c.args.hyps.now) (6 * trees_size (trees_of s c.args.hyps.now))) (
       c.in_ok-put_hyps.ensures.does o
-          (assumes_all is_axiom ps s c.args.hyps.now c.args.before c.in_ok-written.written c.in_ok-written.ensures.before
-          (c.in_ok-written.ensures.begins o (long, refl, refl, refl)) refl c.requires.hyps c.requires.provable),
+          (assumes_all gaps is_axiom ps s c.args.hyps.now c.args.before c.in_ok-written.written c.in_ok-written.ensures.before
+          (c.in_ok-written.ensures.begins o (long, refl, refl, refl, λ u. refl)) refl c.requires.hyps c.requires.provable),
       c.requires.inside,
-    )))
+    )))).0
 
 pub returns-clause-short : goal.returns-clause-short
 returns-clause-short c =
@@ -61,15 +61,15 @@ returns-clause-short c =
     let e = tree_of s c.args.conclusion.0 in
     let hyps = listed (trees_of s c.args.hyps.now) in
     let ps = take c.args.params s.context in
-    let o = job is_axiom ps s hyps in
+    let o = job false is_axiom ps s hyps in
     let n = 6 * trees_size (trees_of s c.args.hyps.now) in
     let b = c.put_expr.new.self in
     let short = ended_short b.before.env.now (leaving (assuming o (length c.args.hyps.now) n) (expr e) (5 * size e)) b.shared.store b.shared.variables.items b.heap.places.items b.heap.len b.hyps.items b.cells.cells.items
     (to_do b.tasks.items) b.out.items c.in_ok-bytes.bytes.items c.in_ok-bytes.ensures
     (c.in_ok-put_expr.ensures.does (assuming o (length c.args.hyps.now) n) (
       c.in_ok-put_hyps.ensures.does o
-          (assumes_all is_axiom ps s c.args.hyps.now c.args.before c.in_ok-written.written c.in_ok-written.ensures.before
-          (c.in_ok-written.ensures.begins o (first_begins is_axiom s hyps c.args.params c.requires.behind.many)) refl c.requires.hyps c.requires.provable),
+          (assumes_all false is_axiom ps s c.args.hyps.now c.args.before c.in_ok-written.written c.in_ok-written.ensures.before
+          (c.in_ok-written.ensures.begins o (first_begins false is_axiom s hyps c.args.params c.requires.behind.many)) refl c.requires.hyps c.requires.provable),
       c.requires.inside,
     )) in
     omega (arith, short)

@@ -1,4 +1,4 @@
-use Rattle.std.proofs.Common.{◌*◌, arith, ap, take, refl, sym, ◌∙◌, subst, []}
+use Rattle.std.proofs.Common.{false, ◌*◌, arith, ap, take, refl, sym, ◌∙◌, subst, []}
 use Rattle.mz_logic.specs.Tree.{size}
 use Rattle.mz_soundness.specs.Tables.{is_definition}
 use Rattle.mz_unification.specs.Profile.{expr}
@@ -14,23 +14,23 @@ put_expr-requires-clause-before c = subst IsAfter (sym c.in_ok-written.ensures.b
 
 pub put_expr-requires-clause-can : goal.put_expr-requires-clause-can
 put_expr-requires-clause-can c =
-    let o = job is_definition (take c.args.params c.args.shared.store.context) c.args.shared.store [] in
-    (o, (c.in_ok-written.ensures.begins o (first_begins is_definition c.args.shared.store [] c.args.params c.requires.behind.many), c.requires.inside))
+    let o = job false is_definition (take c.args.params c.args.shared.store.context) c.args.shared.store [] in
+    (o, (c.in_ok-written.ensures.begins o (first_begins false is_definition c.args.shared.store [] c.args.params c.requires.behind.many), c.requires.inside))
 
 pub returns-clause-body : goal.returns-clause-body
-returns-clause-body c = λ ps ds is long.
-    let o = job is_definition ps c.args.shared.store [] in
+returns-clause-body c = λ gaps ps ds is long.
+    let o = job gaps is_definition ps c.args.shared.store [] in
     let b = c.put_expr.new.self in
-    body_as c.args.before b.before is_definition ps ds (tree_of c.args.shared.store c.args.body.0) [] _ (c.in_ok-put_expr.ensures.same ∙ c.in_ok-written.ensures.before)
+    (body_as gaps c.args.before b.before is_definition ps ds (tree_of c.args.shared.store c.args.body.0) [] _ (λ u. false) (c.in_ok-put_expr.ensures.same ∙ c.in_ok-written.ensures.before)
     (ended b.before.env.now o b.shared.store b.shared.variables.items b.heap.places.items b.heap.len b.hyps.items b.cells.cells.items (5 * size (tree_of c.args.shared.store c.args.body.0)) (tree_of c.args.shared.store c.args.body.0) ds (to_do b.tasks.items) b.out.items _
     (ap to_do c.in_ok-put_expr.ensures.done) is c.requires.few refl c.in_ok-bytes.ensures
-    (c.in_ok-put_expr.ensures.does o (c.in_ok-written.ensures.begins o (long, refl, refl, refl), c.requires.inside)))
+    (c.in_ok-put_expr.ensures.does o (c.in_ok-written.ensures.begins o (long, refl, refl, refl, λ u. refl), c.requires.inside)))).0
 
 pub returns-clause-short : goal.returns-clause-short
 returns-clause-short c =
     let e = tree_of c.args.shared.store c.args.body.0 in
-    let o = job is_definition (take c.args.params c.args.shared.store.context) c.args.shared.store [] in
+    let o = job false is_definition (take c.args.params c.args.shared.store.context) c.args.shared.store [] in
     let b = c.put_expr.new.self in
     let short = ended_short b.before.env.now (leaving o (expr e) (5 * size e)) b.shared.store b.shared.variables.items b.heap.places.items b.heap.len b.hyps.items b.cells.cells.items (to_do b.tasks.items) b.out.items c.in_ok-bytes.bytes.items
-    c.in_ok-bytes.ensures (c.in_ok-put_expr.ensures.does o (c.in_ok-written.ensures.begins o (first_begins is_definition c.args.shared.store [] c.args.params c.requires.behind.many), c.requires.inside)) in
+    c.in_ok-bytes.ensures (c.in_ok-put_expr.ensures.does o (c.in_ok-written.ensures.begins o (first_begins false is_definition c.args.shared.store [] c.args.params c.requires.behind.many), c.requires.inside)) in
     omega (arith, short)

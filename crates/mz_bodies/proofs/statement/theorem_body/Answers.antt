@@ -1,17 +1,18 @@
-use Rattle.std.proofs.Common.{◌*◌, arith, ap, length, take, refl, sym, ◌∙◌, subst, []}
+use Rattle.std.proofs.Common.{false, ◌||◌, ◌*◌, arith, ap, length, take, refl, sym, ◌∙◌, subst, []}
 use Rattle.mz_logic.specs.Tree.{listed, trees_size}
 use Rattle.mz_unification.specs.Profile.{proof}
 use Rattle.mz_soundness.specs.Tables.{is_theorem}
 use Rattle.mz_mmu.specs.ProofView.{proof_view}
-use Rattle.mz_steps.specs.SharedBodies.{IsSharedBody}
 use Rattle.mz_store.specs.Sharing.{trees_of}
 use Rattle.mz_bodies.specs.Claims.{proved}
 use Rattle.mz_bodies.specs.Going.{IsAfter}
 use Rattle.mz_bodies.specs.Owes.{to_do}
-use Rattle.mz_bodies.specs.Stages.{job, leaving, assuming}
+use Rattle.mz_bodies.specs.Stages.{job, leaving, spending, assuming}
+use Rattle.mz_bodies.specs.Uses.{uses, IsBodyUsing}
 use Rattle.mz_bodies.specs.Weights.{proof_weight}
 use Rattle.mz_bodies.specs.declared.body.Before.{Before}
-use Rattle.mz_bodies.proofs.Ends.{ended, ended_short, first_begins, body_as, assumes_all, all_assumed, sound_as}
+use Rattle.mz_bodies.proofs.Ends.{ended, ended_short, first_begins, body_as, uses_as, assumes_all, all_assumed, sound_as}
+use Rattle.mz_bodies.proofs.Using.{or_none}
 use Rattle.mz_bodies.proofs.statement.theorem_body.Goals as goal
 
 pub put_hyps-requires-clause-before : goal.put_hyps-requires-clause-before
@@ -22,9 +23,9 @@ put_hyps-requires-clause-can c =
     let s = c.args.shared.store in
     let ps = take c.args.params s.context in
     let hyps = listed (trees_of s c.args.hyps.now) in (
-      job is_theorem ps s hyps,
-      assumes_all is_theorem ps s c.args.hyps.now c.args.before c.in_ok-written.written c.in_ok-written.ensures.before
-          (c.in_ok-written.ensures.begins (job is_theorem ps s hyps) (first_begins is_theorem s hyps c.args.params c.requires.behind.many)) refl c.requires.hyps c.requires.provable,
+      job c.requires.sound.0 is_theorem ps s hyps,
+      assumes_all c.requires.sound.0 is_theorem ps s c.args.hyps.now c.args.before c.in_ok-written.written c.in_ok-written.ensures.before
+          (c.in_ok-written.ensures.begins (job c.requires.sound.0 is_theorem ps s hyps) (first_begins c.requires.sound.0 is_theorem s hyps c.args.params c.requires.behind.many)) refl c.requires.hyps c.requires.provable,
     )
 
 pub put_proof-requires-clause-before : goal.put_proof-requires-clause-before
@@ -35,36 +36,42 @@ put_proof-requires-clause-can c =
     let s = c.args.shared.store in
     let ps = take c.args.params s.context in
     let hyps = listed (trees_of s c.args.hyps.now) in (
-      assuming (job is_theorem ps s hyps) (length c.args.hyps.now) (6 * trees_size (trees_of s c.args.hyps.now)),
+      assuming (job c.requires.sound.0 is_theorem ps s hyps) (length c.args.hyps.now) (6 * trees_size (trees_of s c.args.hyps.now)),
       (
-        c.in_ok-put_hyps.ensures.does (job is_theorem ps s hyps)
-            (assumes_all is_theorem ps s c.args.hyps.now c.args.before c.in_ok-written.written c.in_ok-written.ensures.before
-            (c.in_ok-written.ensures.begins (job is_theorem ps s hyps) (first_begins is_theorem s hyps c.args.params c.requires.behind.many)) refl c.requires.hyps c.requires.provable),
+        c.in_ok-put_hyps.ensures.does (job c.requires.sound.0 is_theorem ps s hyps)
+            (assumes_all c.requires.sound.0 is_theorem ps s c.args.hyps.now c.args.before c.in_ok-written.written c.in_ok-written.ensures.before
+            (c.in_ok-written.ensures.begins (job c.requires.sound.0 is_theorem ps s hyps) (first_begins c.requires.sound.0 is_theorem s hyps c.args.params c.requires.behind.many)) refl c.requires.hyps c.requires.provable),
         (refl, all_assumed s c.args.hyps.now),
-        sound_as c.args.before c.put_hyps.new.self.before s.context hyps (proof_view c.args.proof.now) (c.in_ok-put_hyps.ensures.same ∙ c.in_ok-written.ensures.before) c.requires.sound,
+        sound_as c.requires.sound.0 c.args.before c.put_hyps.new.self.before s.context hyps (proof_view c.args.proof.now) (c.in_ok-put_hyps.ensures.same ∙ c.in_ok-written.ensures.before) c.requires.sound.1,
       ),
     )
 
-pub returns-clause-body : goal.returns-clause-body
-returns-clause-body c = λ ps ds is long.
+pub returns-clause-uses : goal.returns-clause-uses
+returns-clause-uses c = λ gaps sound ps ds is long.
     let s = c.args.shared.store in
     let hyps = listed (trees_of s c.args.hyps.now) in
-    let o = job is_theorem ps s hyps in
+    let o = job gaps is_theorem ps s hyps in
     let b = c.put_proof.new.self in
     let p = proof_view c.args.proof.now in
     let same = c.in_ok-put_hyps.ensures.same ∙ c.in_ok-written.ensures.before in
-    subst (λ (z : Before). IsSharedBody c.args.before.env.now is_theorem ps ds (proved z.env.now hyps [] p) hyps c.in_ok-bytes.bytes.items) same
-    (body_as c.args.before b.before is_theorem ps ds (proved c.put_hyps.new.self.before.env.now hyps [] p) hyps _ (c.in_ok-put_proof.ensures.same ∙ same)
-    (ended b.before.env.now (assuming o (length c.args.hyps.now) (6 * trees_size (trees_of s c.args.hyps.now))) b.shared.store b.shared.variables.items b.heap.places.items b.heap.len b.hyps.items b.cells.cells.items (6 * proof_weight c.put_hyps.new.self.before.env.now p)
-    (proved c.put_hyps.new.self.before.env.now hyps [] p) ds (to_do b.tasks.items) b.out.items _
+    let e = proved c.put_hyps.new.self.before.env.now hyps [] p in
+    let k = assuming o (length c.args.hyps.now) (6 * trees_size (trees_of s c.args.hyps.now)) in
+    subst (λ (z : Before). IsBodyUsing gaps c.args.before.env.now is_theorem ps ds (proved z.env.now hyps [] p) hyps c.in_ok-bytes.bytes.items (λ u. uses u [] p)) same
+    (body_as gaps c.args.before b.before is_theorem ps ds e hyps _ (λ u. uses u [] p) (c.in_ok-put_proof.ensures.same ∙ same)
+    (uses_as gaps b.before.env.now is_theorem ps ds e hyps _ (λ u. uses u [] p || false) (λ u. uses u [] p) (λ u. or_none (uses u [] p))
+    (ended b.before.env.now (spending k p) b.shared.store b.shared.variables.items b.heap.places.items b.heap.len b.hyps.items b.cells.cells.items (6 * proof_weight c.put_hyps.new.self.before.env.now p)
+    e ds (to_do b.tasks.items) b.out.items _
     (ap to_do c.in_ok-put_proof.ensures.done) is c.requires.few (all_assumed s c.args.hyps.now) c.in_ok-bytes.ensures
-    (c.in_ok-put_proof.ensures.does (assuming o (length c.args.hyps.now) (6 * trees_size (trees_of s c.args.hyps.now))) (
+    (c.in_ok-put_proof.ensures.does k (
       c.in_ok-put_hyps.ensures.does o
-          (assumes_all is_theorem ps s c.args.hyps.now c.args.before c.in_ok-written.written c.in_ok-written.ensures.before
-          (c.in_ok-written.ensures.begins o (long, refl, refl, refl)) refl c.requires.hyps c.requires.provable),
+          (assumes_all gaps is_theorem ps s c.args.hyps.now c.args.before c.in_ok-written.written c.in_ok-written.ensures.before
+          (c.in_ok-written.ensures.begins o (long, refl, refl, refl, λ u. refl)) refl c.requires.hyps c.requires.provable),
       (refl, all_assumed s c.args.hyps.now),
-      sound_as c.args.before c.put_hyps.new.self.before s.context hyps p same c.requires.sound,
-    ))))
+      sound_as gaps c.args.before c.put_hyps.new.self.before s.context hyps p same sound,
+    )))))
+
+pub returns-clause-body : goal.returns-clause-body
+returns-clause-body c = λ gaps sound ps ds is long. (returns-clause-uses c gaps sound ps ds is long).0
 
 pub returns-clause-short : goal.returns-clause-short
 returns-clause-short c =
@@ -72,19 +79,19 @@ returns-clause-short c =
     let p = proof_view c.args.proof.now in
     let hyps = listed (trees_of s c.args.hyps.now) in
     let ps = take c.args.params s.context in
-    let o = job is_theorem ps s hyps in
+    let o = job c.requires.sound.0 is_theorem ps s hyps in
     let n = 6 * trees_size (trees_of s c.args.hyps.now) in
     let b = c.put_proof.new.self in
     let env = c.put_hyps.new.self.before.env.now in
     let same = c.in_ok-put_hyps.ensures.same ∙ c.in_ok-written.ensures.before in
-    let short = ended_short b.before.env.now (leaving (assuming o (length c.args.hyps.now) n) (proof (proved env hyps [] p)) (6 * proof_weight env p)) b.shared.store b.shared.variables.items b.heap.places.items b.heap.len b.hyps.items b.cells.cells.items
+    let short = ended_short b.before.env.now (spending (leaving (assuming o (length c.args.hyps.now) n) (proof (proved env hyps [] p)) (6 * proof_weight env p)) p) b.shared.store b.shared.variables.items b.heap.places.items b.heap.len b.hyps.items b.cells.cells.items
     (to_do b.tasks.items) b.out.items c.in_ok-bytes.bytes.items c.in_ok-bytes.ensures
     (c.in_ok-put_proof.ensures.does (assuming o (length c.args.hyps.now) n) (
       c.in_ok-put_hyps.ensures.does o
-          (assumes_all is_theorem ps s c.args.hyps.now c.args.before c.in_ok-written.written c.in_ok-written.ensures.before
-          (c.in_ok-written.ensures.begins o (first_begins is_theorem s hyps c.args.params c.requires.behind.many)) refl c.requires.hyps c.requires.provable),
+          (assumes_all c.requires.sound.0 is_theorem ps s c.args.hyps.now c.args.before c.in_ok-written.written c.in_ok-written.ensures.before
+          (c.in_ok-written.ensures.begins o (first_begins c.requires.sound.0 is_theorem s hyps c.args.params c.requires.behind.many)) refl c.requires.hyps c.requires.provable),
       (refl, all_assumed s c.args.hyps.now),
-      sound_as c.args.before c.put_hyps.new.self.before s.context hyps p same c.requires.sound,
+      sound_as c.requires.sound.0 c.args.before c.put_hyps.new.self.before s.context hyps p same c.requires.sound.1,
     )) in
     let weight-is = ap (λ (z : Before). proof_weight z.env.now p) same in
     omega (arith, short, weight-is)

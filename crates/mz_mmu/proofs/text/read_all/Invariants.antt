@@ -1,5 +1,6 @@
 use Rattle.std.proofs.Common.{ℕ, suc, ◌+◌, ◌<◌, ◌^◌, List, ◌++◌, length, map}
 use Rattle.mz_checks.proofs.InOrder.{Decides}
+use Rattle.mz_mode.specs.Gaps.{gaps_of}
 use Rattle.mz_mmu.specs.Cursor.{nodes_from, IsThere, nodes_size}
 use Rattle.mz_mmu.specs.EntryView.{entry, root, AreNumbers}
 use Rattle.mz_mmu.specs.NamesMore.{AreFew}
@@ -19,7 +20,7 @@ invariant-loop-left l = record {
   few : length l.entries.items + nodes_size (nodes_from l.nodes l.left) < 2 ^ 32;
   counts : AreFew (names l.names) (length l.entries.items);
   agrees : Agrees (names l.names);
-  read : (ss : List Statement) → AreStatements (names l.names) (nodes_from l.nodes l.left) ss → AreStatements no_names l.nodes (map entry l.entries.items ++ ss);
+  read : (ss : List Statement) → AreStatements (names l.names) (nodes_from l.nodes l.left) ss → AreStatements (no_names (gaps_of l.fn.names.mode)) l.nodes (map entry l.entries.items ++ ss);
   roots : (ks : List ℕ) → AreNumbers l.nodes (nodes_from l.nodes l.left) ks → AreNumbers l.nodes l.nodes (map root l.entries.items ++ ks);
-  asked : Decides (statements_asked (suc (length l.entries.items)) (names l.names) (nodes_from l.nodes l.left)) (statements_asked 1 no_names l.nodes);
+  asked : Decides (statements_asked (suc (length l.entries.items)) (names l.names) (nodes_from l.nodes l.left)) (statements_asked 1 (no_names (gaps_of l.fn.names.mode)) l.nodes);
 }

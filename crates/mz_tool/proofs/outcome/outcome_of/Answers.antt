@@ -1,4 +1,5 @@
 use Rattle.std.proofs.Common.{ap, [], ◌∷◌}
+use Rattle.mz_mode.specs.Gaps.{gaps_of}
 use Rattle.mz_tool.specs.Asked.{request}
 use Rattle.mz_tool.specs.Inputs.{contents_of}
 use Rattle.mz_tool.specs.Request.{assemble, axioms, draft, specify}
@@ -27,23 +28,23 @@ returns-in-Verify-Two-clause-only_no c = verify-only_no (request c.args.command)
     (ap request c.in-Verify-Two.is-0) (two-read (contents_of c.args.contents.now) c.in-Verify-Two.spec.items c.in-Verify-Two.bin.items c.deref.result.now c.deref-in-Verify-Two.result.now (ap contents_of c.in-Verify-Two.is-1) c.deref.ensures.value c.deref-in-Verify-Two.ensures.value) c.verify.result c.verify.ensures.only_no
 
 pub returns-in-Compile-One-clause-yes : goal.returns-in-Compile-One-clause-yes
-returns-in-Compile-One-clause-yes c = compile-yes (request c.args.command) (contents_of c.args.contents.now) c.in-Compile-One.text-0.now c.in-Compile-One.out-0.now c.deref-in-Compile-One.result.now
+returns-in-Compile-One-clause-yes c = compile-yes (request c.args.command) (contents_of c.args.contents.now) (gaps_of c.in-Compile-One.mode) c.in-Compile-One.text-0.now c.in-Compile-One.out-0.now c.deref-in-Compile-One.result.now
     (ap request c.in-Compile-One.is-0) (one-read (contents_of c.args.contents.now) c.in-Compile-One.text.items c.deref-in-Compile-One.result.now (ap contents_of c.in-Compile-One.is-1) c.deref-in-Compile-One.ensures.value) c.compile.result c.compile.ensures.yes
 
 pub returns-in-Compile-One-clause-no : goal.returns-in-Compile-One-clause-no
-returns-in-Compile-One-clause-no c = compile-no (request c.args.command) (contents_of c.args.contents.now) c.in-Compile-One.text-0.now c.in-Compile-One.out-0.now c.deref-in-Compile-One.result.now
+returns-in-Compile-One-clause-no c = compile-no (request c.args.command) (contents_of c.args.contents.now) (gaps_of c.in-Compile-One.mode) c.in-Compile-One.text-0.now c.in-Compile-One.out-0.now c.deref-in-Compile-One.result.now
     (ap request c.in-Compile-One.is-0) (one-read (contents_of c.args.contents.now) c.in-Compile-One.text.items c.deref-in-Compile-One.result.now (ap contents_of c.in-Compile-One.is-1) c.deref-in-Compile-One.ensures.value) c.compile.result c.compile.ensures.no
 
 pub returns-in-Compile-One-clause-only_yes : goal.returns-in-Compile-One-clause-only_yes
-returns-in-Compile-One-clause-only_yes c = compile-only_yes (request c.args.command) (contents_of c.args.contents.now) c.in-Compile-One.text-0.now c.in-Compile-One.out-0.now c.deref-in-Compile-One.result.now
+returns-in-Compile-One-clause-only_yes c = compile-only_yes (request c.args.command) (contents_of c.args.contents.now) (gaps_of c.in-Compile-One.mode) c.in-Compile-One.text-0.now c.in-Compile-One.out-0.now c.deref-in-Compile-One.result.now
     (ap request c.in-Compile-One.is-0) (one-read (contents_of c.args.contents.now) c.in-Compile-One.text.items c.deref-in-Compile-One.result.now (ap contents_of c.in-Compile-One.is-1) c.deref-in-Compile-One.ensures.value) c.compile.result c.compile.ensures.only_yes
 
 pub returns-in-Compile-One-clause-only_no : goal.returns-in-Compile-One-clause-only_no
-returns-in-Compile-One-clause-only_no c = compile-only_no (request c.args.command) (contents_of c.args.contents.now) c.in-Compile-One.text-0.now c.in-Compile-One.out-0.now c.deref-in-Compile-One.result.now
+returns-in-Compile-One-clause-only_no c = compile-only_no (request c.args.command) (contents_of c.args.contents.now) (gaps_of c.in-Compile-One.mode) c.in-Compile-One.text-0.now c.in-Compile-One.out-0.now c.deref-in-Compile-One.result.now
     (ap request c.in-Compile-One.is-0) (one-read (contents_of c.args.contents.now) c.in-Compile-One.text.items c.deref-in-Compile-One.result.now (ap contents_of c.in-Compile-One.is-1) c.deref-in-Compile-One.ensures.value) c.compile.result c.compile.ensures.only_no
 
 pub returns-in-Compile-One-clause-proved : goal.returns-in-Compile-One-clause-proved
-returns-in-Compile-One-clause-proved c = compile-proved (request c.args.command) (contents_of c.args.contents.now) c.in-Compile-One.text-0.now c.in-Compile-One.out-0.now c.deref-in-Compile-One.result.now
+returns-in-Compile-One-clause-proved c = compile-proved (request c.args.command) (contents_of c.args.contents.now) (gaps_of c.in-Compile-One.mode) c.in-Compile-One.text-0.now c.in-Compile-One.out-0.now c.deref-in-Compile-One.result.now
     (ap request c.in-Compile-One.is-0) (one-read (contents_of c.args.contents.now) c.in-Compile-One.text.items c.deref-in-Compile-One.result.now (ap contents_of c.in-Compile-One.is-1) c.deref-in-Compile-One.ensures.value) c.compile.result
 
 pub returns-in-Sample-Nothing-clause-yes : goal.returns-in-Sample-Nothing-clause-yes

@@ -1,4 +1,4 @@
-use Rattle.std.proofs.Common.{ap, sym, subst}
+use Rattle.std.proofs.Common.{false, ap, sym, subst}
 use Rattle.mz_emit.specs.Compiling.{CompilesTo}
 use Rattle.mz_tool.specs.Inputs.{bytes_of}
 use Rattle.mz_tool.proofs.Sampled.{compiled-put, upheld-only_yes, upheld-only_no, verified-yes, verified-no, verified-proved, not-yes, faulted-no}
@@ -6,15 +6,15 @@ use Rattle.mz_tool.proofs.sample.upheld.Goals as goal
 
 pub returns-in-File : goal.returns-in-File
 returns-in-File c =
-    let compiles = subst (CompilesTo c.args.text.now) (sym c.deref.ensures.value) (compiled-put c.args.text.now (bytes_of c.in-Yes.put) c.in-Yes.text.items c.in-File.bin.items c.in-Yes.ensures.yes (ap bytes_of c.in-File.is)) in
+    let compiles = subst (CompilesTo false c.args.text.now) (sym c.deref.ensures.value) (compiled-put c.args.text.now (bytes_of c.in-Yes.put) c.in-Yes.text.items c.in-File.bin.items c.in-Yes.ensures.yes (ap bytes_of c.in-File.is)) in
     let yes = verified-yes c.args.specification.now c.args.text.now c.deref.result.now compiles c.verify.result c.verify.ensures.yes in
     let no = verified-no c.args.specification.now c.args.text.now c.deref.result.now compiles c.verify.result c.verify.ensures.no in
     record {
       yes = yes;
       no = no;
       proved = verified-proved c.args.specification.now c.args.text.now c.deref.result.now compiles c.verify.result c.verify.ensures.sound;
-      only_yes = upheld-only_yes c.args.specification.now c.args.text.now (c.typed_or_faulty.ensures c.args.text.now) (c.compilation_is_decided.ensures c.args.text.now) c.verify.result no;
-      only_no = upheld-only_no c.args.specification.now c.args.text.now (c.typed_or_faulty.ensures c.args.text.now) (c.compilation_is_decided.ensures c.args.text.now) c.verify.result yes;
+      only_yes = upheld-only_yes c.args.specification.now c.args.text.now (c.typed_or_faulty.ensures false c.args.text.now) (c.compilation_is_decided.ensures false c.args.text.now) c.verify.result no;
+      only_no = upheld-only_no c.args.specification.now c.args.text.now (c.typed_or_faulty.ensures false c.args.text.now) (c.compilation_is_decided.ensures false c.args.text.now) c.verify.result yes;
     }
 
 pub returns-in_default : goal.returns-in_default
@@ -24,6 +24,6 @@ returns-in_default c =
       yes = not-yes c.args.specification.now c.args.text.now c.compile.result _ c.in_default.not-Yes;
       no = no;
       proved = not-yes c.args.specification.now c.args.text.now c.compile.result _ c.in_default.not-Yes;
-      only_yes = upheld-only_yes c.args.specification.now c.args.text.now (c.typed_or_faulty.ensures c.args.text.now) (c.compilation_is_decided.ensures c.args.text.now) c.compile.result no;
+      only_yes = upheld-only_yes c.args.specification.now c.args.text.now (c.typed_or_faulty.ensures false c.args.text.now) (c.compilation_is_decided.ensures false c.args.text.now) c.compile.result no;
       only_no = λ line faulted. not-yes c.args.specification.now c.args.text.now c.compile.result _ c.in_default.not-Yes;
     }

@@ -1,4 +1,4 @@
-use Rattle.std.proofs.Common.{◌++◌, ℕ, Contains, length, true≢false, refl, sym, ap, ◌∙◌, subst, inl, inr}
+use Rattle.std.proofs.Common.{◌++◌, ℕ, Contains, true≢false, refl, sym, ap, ◌∙◌, subst, inl, inr}
 use Rattle.mz_checks.specs.Checks.{AllHold, FailsFirst}
 use Rattle.mz_checks.proofs.InOrder.{fails-before, fails-after, all_hold-both}
 use Rattle.mz_sexpr.specs.Node.{parts, place}

@@ -1,110 +1,95 @@
-use Rattle.std.proofs.Common.{◌+◌, ◌≤◌, suc, length, arith, add-one, sym, ap, ◌∙◌, subst, [], ◌++◌, drop}
-use Rattle.std.specs.Prelude.{◌<◌}
-use Rattle.mz_checks.proofs.InOrder.{Decides, decides-whole}
+use Rattle.std.proofs.Common.{◌≡◌, ◌∷◌, [], ◌++◌, ◌+◌, ◌<◌, ◌^◌, List, length, map, suc, refl, sym, ap, ◌∙◌, subst, append_assoc, append-nil, length-append, add-one, arith}
+use Rattle.std.proofs.lemmas.List.{map-append}
+use Rattle.std.specs.Vec.Iter.{into_iter_items}
+use Rattle.mz_mode.specs.Gaps.{gaps_of}
 use Rattle.mz_sexpr.specs.Number.{node_count}
-use Rattle.mz_mmu.specs.Statements.{no_names}
-use Rattle.mz_type.specs.Names.{StatementsThere}
-use Rattle.mz_type.specs.Rules.{rules_from, text_rules}
-use Rattle.mz_type.specs.TypedText.{declared, statement_at}
-use Rattle.mz_type.specs.Weight.{weight_after}
-use Rattle.mz_type.proofs.StatementsRead.{statements_there}
-use Rattle.mz_type.proofs.Texts.{rules_are_the_meaning}
-use Rattle.mz_type.proofs.TypedSteps.{AreMarked, marks_are, there_cut, marked_cut, weight_cut, makes_more, rules_step, rules_stop, all_rules, makes_all, length_more}
-use Rattle.mz_type.proofs.Written.{few_weigh}
+use Rattle.mz_mmu.specs.EntryView.{entry}
+use Rattle.mz_type.specs.Rules.{text_rules}
+use Rattle.mz_type.specs.StatedView.{IsTyped}
+use Rattle.mz_type.proofs.StatedSteps.{begins, lighter, goes_on, all_typed}
+use Rattle.mz_type.proofs.TypedSteps.{rules_stop}
 use Rattle.mz_type.proofs.typed.check_statements.Goals as goal
 
-pub loop-i-init : goal.loop-i-init
-loop-i-init c =
-    let ss = c.args.text.now.statements in
-    let ns = c.args.text.now.nodes in
-    let top = c.top-left.ensures ∙ c.sexprs-2.ensures in
+nothing_left : {X : Type 0} (xs : List X) → length xs ≡ 0 → xs ≡ []
+nothing_left [] h = refl
+nothing_left (x ∷ xs) h = absurd (omega (arith, h))
+
+pub loop-entry-init : goal.loop-entry-init
+loop-entry-init c =
+    let gives = c.into_iter-entry-iterator.ensures.into_iter_gives in
+    let many = ap length gives.0 in
     record {
-      many = ap length c.new-env.ensures;
-      there = subst (λ e. StatementsThere e ss) (sym c.new-env.ensures) (statements_there ns ss c.len-i-end.ensures.read);
-      marked = subst (λ m. AreMarked m ss) (sym top) (marks_are no_names ns ss c.len-i-end.ensures.read);
-      makes = ap (λ e. e ++ declared ss) c.new-env.ensures;
-      asked = subst (λ e. Decides (rules_from 1 e ss c.top-left.result) (text_rules ns ss)) (sym c.new-env.ensures)
-          (subst (λ m. Decides (rules_from 1 [] ss m) (text_rules ns ss)) (sym top) (decides-whole (text_rules ns ss)));
-      weighs = let all = ap (λ e. weight_after e ss) c.new-env.ensures in omega (arith, all);
+      split = gives.0;
+      lens = omega (arith, many, gives.1, c.args.entries.ok);
+      number = refl;
+      far = begins (gaps_of c.args.mode) c.args.nodes.now (map entry c.args.entries.items) c.requires.read (map entry (into_iter_items c.into_iter-entry-iterator.result)) c.new-env.result c.in-Ok.beside.items c.top-left.result
+          (ap (map entry) gives.0) c.new-env.ensures c.in-Ok.ensures.items c.top-left.ensures;
     }
 
-pub statement_weight-weight-requires-clause-small : goal.statement_weight-weight-requires-clause-small
-statement_weight-weight-requires-clause-small c =
-    let ss = c.args.text.now.statements in
-    let i = c.loop-i.i in
-    let cut = weight_cut ss i (omega (arith, c.len-i-end.ensures.many, c.loop-i-test.true)) c.loop-i.env in
-    let small = few_weigh c.args.text.now.nodes ss c.len-i-end.ensures.read (omega (arith, c.count-nodes.ensures, ap node_count c.sexprs.ensures, c.count-nodes.type_inv)) in
-    omega (arith, cut, small, c.loop-i.invariant.weighs)
+pub statement_weight-weight-requires : goal.statement_weight-weight-requires
+statement_weight-weight-requires c =
+    let at = c.loop-entry in
+    let few : node_count c.args.nodes.now < 2 ^ 32 = omega (arith, c.count-nodes.ensures, c.count-nodes.type_inv) in
+    let light = lighter (gaps_of c.args.mode) c.args.nodes.now (map entry c.args.entries.items) c.requires.read (map entry at.yielded) (map entry (into_iter_items at.entry-iterator)) at.env at.beside.items at.number at.weight at.left
+    at.invariant.far (entry c.in-Some.entry) (map entry (into_iter_items c.next.new.self)) (ap (map entry) c.in-Some.ensures.steps.0) few in
+    omega (arith, light)
 
 pub overflow_add-weight : goal.overflow_add-weight
 overflow_add-weight c =
-    let ss = c.args.text.now.statements in
-    let i = c.loop-i.i in
-    let cut = weight_cut ss i (omega (arith, c.len-i-end.ensures.many, c.loop-i-test.true)) c.loop-i.env in
-    let small = few_weigh c.args.text.now.nodes ss c.len-i-end.ensures.read (omega (arith, c.count-nodes.ensures, ap node_count c.sexprs.ensures, c.count-nodes.type_inv)) in
-    omega (arith, cut, small, c.loop-i.invariant.weighs, c.statement_weight-weight.ensures)
+    let at = c.loop-entry in
+    let few : node_count c.args.nodes.now < 2 ^ 32 = omega (arith, c.count-nodes.ensures, c.count-nodes.type_inv) in
+    let light = lighter (gaps_of c.args.mode) c.args.nodes.now (map entry c.args.entries.items) c.requires.read (map entry at.yielded) (map entry (into_iter_items at.entry-iterator)) at.env at.beside.items at.number at.weight at.left
+    at.invariant.far (entry c.in-Some.entry) (map entry (into_iter_items c.next.new.self)) (ap (map entry) c.in-Some.ensures.steps.0) few in
+    omega (arith, light, c.statement_weight-weight.ensures)
 
 pub declare_statement-requires-clause-small : goal.declare_statement-requires-clause-small
 declare_statement-requires-clause-small c =
-    let ss = c.args.text.now.statements in
-    let i = c.loop-i.i in
-    let cut = weight_cut ss i (omega (arith, c.len-i-end.ensures.many, c.loop-i-test.true)) c.loop-i.env in
-    let small = few_weigh c.args.text.now.nodes ss c.len-i-end.ensures.read (omega (arith, c.count-nodes.ensures, ap node_count c.sexprs.ensures, c.count-nodes.type_inv)) in
-    omega (arith, cut, small, c.loop-i.invariant.weighs)
-
-pub declare_statement-requires-clause-there : goal.declare_statement-requires-clause-there
-declare_statement-requires-clause-there c =
-    (there_cut c.args.text.now.statements c.loop-i.i (omega (arith, c.len-i-end.ensures.many, c.loop-i-test.true)) c.loop-i.env c.loop-i.invariant.there).0
-
-pub declare_statement-requires-clause-marked : goal.declare_statement-requires-clause-marked
-declare_statement-requires-clause-marked c =
-    (marked_cut c.args.text.now.statements c.loop-i.i (omega (arith, c.len-i-end.ensures.many, c.loop-i-test.true)) c.loop-i.left c.loop-i.invariant.marked).0
-
-pub declare_statement-requires-clause-room : goal.declare_statement-requires-clause-room
-declare_statement-requires-clause-room c = omega (arith, c.loop-i.invariant.many, c.loop-i-test.true, c.len-i-end.type_inv)
+    let at = c.loop-entry in
+    let few : node_count c.args.nodes.now < 2 ^ 32 = omega (arith, c.count-nodes.ensures, c.count-nodes.type_inv) in
+    let light = lighter (gaps_of c.args.mode) c.args.nodes.now (map entry c.args.entries.items) c.requires.read (map entry at.yielded) (map entry (into_iter_items at.entry-iterator)) at.env at.beside.items at.number at.weight at.left
+    at.invariant.far (entry c.in-Some.entry) (map entry (into_iter_items c.next.new.self)) (ap (map entry) c.in-Some.ensures.steps.0) few in
+    omega (arith, light)
 
 pub returns-in-Err-clause-stops : goal.returns-in-Err-clause-stops
 returns-in-Err-clause-stops c =
-    let ss = c.args.text.now.statements in
-    let i = c.loop-i.i in
-    rules_stop ss i (omega (arith, c.len-i-end.ensures.many, c.loop-i-test.true)) (suc i) (i + 1) c.loop-i.env c.loop-i.left (text_rules c.args.text.now.nodes ss) c.in-Err.stop c.in_statement.result
-    (add-one i) c.in_statement.ensures c.in-Err.ensures.judged c.loop-i.invariant.asked
+    let at = c.loop-entry in
+    rules_stop (map entry (into_iter_items at.entry-iterator)) (map entry (into_iter_items c.next.new.self)) (entry c.in-Some.entry) (ap (map entry) c.in-Some.ensures.steps.0)
+    (suc at.number) (at.number + 1) at.env at.left (text_rules c.args.nodes.now (map entry c.args.entries.items)) c.in-Err.stop c.in_statement.result
+    (add-one at.number) c.in_statement.ensures c.in-Err.ensures.judged at.invariant.far.asked
 
-pub loop-i-preserved : goal.loop-i-preserved
-loop-i-preserved c =
-    let ss = c.args.text.now.statements in
-    let i = c.loop-i.i in
-    let env = c.loop-i.env in
-    let later = c.declare_statement.new.env in
-    let left = c.loop-i.left in
-    let whole = text_rules c.args.text.now.nodes ss in
-    let below : i < length ss = omega (arith, c.len-i-end.ensures.many, c.loop-i-test.true) in
-    let more = c.in_default.ensures.more in
+pub loop-entry-preserved : goal.loop-entry-preserved
+loop-entry-preserved c =
+    let at = c.loop-entry in
+    let x = c.in-Some.entry in
+    let steps = c.in-Some.ensures.steps.0 in
+    let short = ap length steps in
+    let longer = length-append at.yielded (x ∷ []) in
     record {
-      many = length_more env later (statement_at ss i).decl i more c.loop-i.invariant.many;
-      there = subst (λ e. StatementsThere e (drop (i + 1) ss)) (sym more) (there_cut ss i below env c.loop-i.invariant.there).1;
-      marked = subst (λ m. AreMarked m (drop (i + 1) ss)) (sym c.rest-left.ensures) (marked_cut ss i below left c.loop-i.invariant.marked).1;
-      makes = makes_more ss i below env later more c.loop-i.invariant.makes;
-      asked = subst (λ k. Decides (rules_from (suc k) later (drop (i + 1) ss) c.rest-left.result) whole) (sym (add-one i))
-          (rules_step ss i below (suc i) env later left c.rest-left.result whole more c.rest-left.ensures c.in_default.ensures.judged c.loop-i.invariant.asked);
-      weighs = omega (arith, weight_cut ss i below env, ap (λ e. weight_after e (drop (i + 1) ss)) more, c.statement_weight-weight.ensures, c.loop-i.invariant.weighs);
+      split = append_assoc at.yielded (x ∷ []) (into_iter_items c.next.new.self) ∙ ap (λ xs. at.yielded ++ xs) (sym steps) ∙ at.invariant.split;
+      lens = omega (arith, short, c.in-Some.ensures.steps.1, at.invariant.lens);
+      number = omega (arith, longer, at.invariant.number);
+      far = goes_on (gaps_of c.args.mode) c.args.nodes.now (map entry c.args.entries.items) c.requires.read (map entry at.yielded) (map entry (into_iter_items at.entry-iterator)) at.env at.beside.items at.number at.weight at.left
+          at.invariant.far (entry x) (map entry (into_iter_items c.next.new.self)) (ap (map entry) steps)
+          (map entry (at.yielded ++ x ∷ [])) c.declare_statement.new.env c.declare_statement.new.beside.items (at.number + 1) (at.weight + c.statement_weight-weight.result) c.rest-left.result
+          (map-append entry at.yielded (x ∷ [])) c.in_default-declare_statement.ensures.more c.in_default-declare_statement.ensures.many c.in_default-declare_statement.ensures.told
+          (add-one at.number) (ap (λ k. at.weight + k) c.statement_weight-weight.ensures) c.rest-left.ensures c.in_default-declare_statement.ensures.judged;
     }
 
-pub returns-clause-typed : goal.returns-clause-typed
-returns-clause-typed c =
-    let ss = c.args.text.now.statements in
-    let ns = c.args.text.now.nodes in
-    let i = c.loop-i.i in
-    let end : length ss ≤ i = omega (arith, c.len-i-end.ensures.many, c.loop-i-test.false) in
-    record {
-      read = c.len-i-end.ensures.read;
-      legal = (rules_are_the_meaning ns ss c.len-i-end.ensures.read).0 (all_rules (suc i) ss i c.loop-i.env c.loop-i.left (text_rules ns ss) end c.loop-i.invariant.asked);
-      makes = c.into_env.ensures ∙ makes_all ss i c.loop-i.env end c.loop-i.invariant.makes;
-      few = omega (arith, c.count-nodes.ensures, ap node_count c.sexprs.ensures, c.count-nodes.type_inv);
-    }
+-- all are typed at the end
+typed : (c : goal.After-into_env) → IsTyped (gaps_of c.args.mode) c.into_env.result c.loop-entry.beside.items c.loop-entry.weight
+typed c =
+    let at = c.loop-entry in
+    let few : node_count c.args.nodes.now < 2 ^ 32 = omega (arith, c.count-nodes.ensures, c.count-nodes.type_inv) in
+    let none = c.in-None.ensures.steps in
+    let empty : into_iter_items at.entry-iterator ≡ [] = nothing_left (into_iter_items at.entry-iterator) (sym at.invariant.lens ∙ none.0) in
+    let all : at.yielded ≡ c.args.entries.items = sym (append-nil at.yielded) ∙ ap (λ xs. at.yielded ++ xs) (sym empty) ∙ at.invariant.split in
+    let many = ap length all in
+    subst (λ e. IsTyped (gaps_of c.args.mode) e at.beside.items at.weight) (sym c.into_env.ensures)
+    (all_typed (gaps_of c.args.mode) c.args.nodes.now (map entry c.args.entries.items) c.requires.read (map entry at.yielded) (map entry (into_iter_items at.entry-iterator)) at.env at.beside.items at.number at.weight at.left
+    at.invariant.far (ap (map entry) empty) (ap (map entry) all) (omega (arith, at.invariant.far.counted, at.invariant.number, many, c.requires.few)) few)
 
-pub returns-clause-small : goal.returns-clause-small
-returns-clause-small c =
-    let ss = c.args.text.now.statements in
-    let small = few_weigh c.args.text.now.nodes ss c.len-i-end.ensures.read (omega (arith, c.count-nodes.ensures, ap node_count c.sexprs.ensures, c.count-nodes.type_inv)) in
-    omega (arith, small, c.loop-i.invariant.weighs)
+pub invariant_of-result : goal.invariant_of-result
+invariant_of-result c = typed c
+
+pub returns-clause-legal : goal.returns-clause-legal
+returns-clause-legal c = (typed c).legal

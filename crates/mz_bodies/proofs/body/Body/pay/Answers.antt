@@ -2,7 +2,7 @@ use Rattle.std.proofs.Common.{ap, ◌∙◌, subst, ◌∷◌, []}
 use Rattle.mz_mmu.specs.ConvView.{conversion}
 use Rattle.mz_bodies.specs.Owes.{pay, pay_all, to_do}
 use Rattle.mz_bodies.specs.Going.{Does}
-use Rattle.mz_bodies.proofs.Paying.{refl_paid, sym_paid, cong_paid}
+use Rattle.mz_bodies.proofs.Paying.{refl_paid, sym_paid, cong_paid, gap_paid}
 use Rattle.mz_bodies.proofs.body.Body.pay.Goals as goal
 
 pub returns-in_ok-put-in-Refl-clause-does : goal.returns-in_ok-put-in-Refl-clause-does
@@ -20,3 +20,7 @@ returns-in_ok-put-in-Cong-clause-does c = λ o d. cong_paid _ o _ _ _ _ _ _ (to_
     (c.in_ok-add-in-Cong.ensures ∙ ap (λ z. pay_all z ∷ to_do c.args.self.now.tasks.items) c.as_slice.ensures)
     c.in_ok-put-in-Cong.ensures.bytes
     (subst (λ z. Does o c.args.self.now (pay z ∷ [])) (ap conversion c.in-Cong.is) d)
+
+pub returns-in_ok-put-in-Gap-clause-does : goal.returns-in_ok-put-in-Gap-clause-does
+returns-in_ok-put-in-Gap-clause-does c = λ o d. gap_paid _ o _ _ _ _ _ _ _ _ _ _ _ c.in_ok-put-in-Gap.ensures.bytes
+    (subst (λ z. Does o c.args.self.now (pay z ∷ [])) (ap conversion c.in-Gap.is) d)

@@ -4,7 +4,7 @@ use Rattle.mz_mmu.specs.ProofView.{proof_view}
 use Rattle.mz_unification.specs.Profile.{proof}
 use Rattle.mz_bodies.specs.Claims.{proved}
 use Rattle.mz_bodies.specs.Owes.{to_do}
-use Rattle.mz_bodies.specs.Stages.{leaving}
+use Rattle.mz_bodies.specs.Stages.{leaving, spending}
 use Rattle.mz_bodies.proofs.Ends.{proof_owed}
 use Rattle.mz_bodies.proofs.body.Body.put_proof.Goals as goal
 
@@ -12,10 +12,10 @@ pub run-requires-clause-can : goal.run-requires-clause-can
 run-requires-clause-can c =
     let o = c.requires.can.0 in
     let w = c.requires.can.1 in (
-      leaving o (proof (proved c.args.self.now.before.env.now o.hyps [] (proof_view c.args.stated.now))) (6 * proof_weight c.args.self.now.before.env.now (proof_view c.args.stated.now)),
+      spending (leaving o (proof (proved c.args.self.now.before.env.now o.hyps [] (proof_view c.args.stated.now))) (6 * proof_weight c.args.self.now.before.env.now (proof_view c.args.stated.now))) (proof_view c.args.stated.now),
       proof_owed c.args.self.now.before.env.now o c.args.self.now.shared.store _ _ _ _ _ (proof_view c.args.stated.now) (to_do c.args.self.now.tasks.items) _ _ (ap to_do w.0.1) c.in_ok-add.ensures w.0.2 w.1 w.2 w.0.0,
     )
 
 pub returns-clause-does : goal.returns-clause-does
-returns-clause-does c = λ o w. c.in_ok-run.ensures.does (leaving o (proof (proved c.args.self.now.before.env.now o.hyps [] (proof_view c.args.stated.now))) (6 * proof_weight c.args.self.now.before.env.now (proof_view c.args.stated.now)))
+returns-clause-does c = λ o w. c.in_ok-run.ensures.does (spending (leaving o (proof (proved c.args.self.now.before.env.now o.hyps [] (proof_view c.args.stated.now))) (6 * proof_weight c.args.self.now.before.env.now (proof_view c.args.stated.now))) (proof_view c.args.stated.now))
     (proof_owed c.args.self.now.before.env.now o c.args.self.now.shared.store _ _ _ _ _ (proof_view c.args.stated.now) (to_do c.args.self.now.tasks.items) _ _ (ap to_do w.0.1) c.in_ok-add.ensures w.0.2 w.1 w.2 w.0.0)

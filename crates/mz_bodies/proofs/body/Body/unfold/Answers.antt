@@ -15,14 +15,14 @@ use Rattle.mz_bodies.proofs.body.Body.unfold.Goals as goal
 
 pub ids-requires-clause-sorted : goal.ids-requires-clause-sorted
 ids-requires-clause-sorted c =
-    subst (λ (sigs : List Signature). AreSorted sigs c.args.self.now.shared.store.context c.args.es.now) (sym c.requires.before.1) (fits_sorted _ _ c.args.es.now _ c.requires.can.1.owes.1.2.3.4)
+    subst (λ (sigs : List Signature). AreSorted sigs c.args.self.now.shared.store.context c.args.es.now) (sym c.requires.before.1) (fits_sorted _ _ c.args.es.now _ c.requires.can.1.owes.1.2.0.3.4)
 
 pub app-requires-clause-sorted : goal.app-requires-clause-sorted
 app-requires-clause-sorted c =
     let can = c.requires.can.1.owes.1 in
     sorted_as _ _ c.args.self.now.shared.store.context _ (app c.args.number c.args.es.now) _ c.requires.before.1 c.in_ok-operands.ensures.grows.0
     (ap (app c.args.number) (ap (trees_of c.ids.new.self.store) c.deref.ensures.value ∙ c.in_ok-operands.ensures.trees))
-    (left_sorted c.args.self.now.before.env.now c.args.self.now.shared.store.context c.args.number c.args.es.now c.args.vars.now (conversion c.args.part.now) can.0 can.1 can.2)
+    (left_sorted c.args.self.now.before.env.now c.args.self.now.shared.store.context c.args.number c.args.es.now c.args.vars.now (conversion c.args.part.now) can.0 can.1 can.2.0)
 
 pub push_variables-requires-clause-ids : goal.push_variables-requires-clause-ids
 push_variables-requires-clause-ids c = are_in_grown c.ids.new.self.store c.app.new.self.store c.in_ok-left.ensures.grows c.in_ok-operands.operands.items c.in_ok-operands.ensures.ids
@@ -30,14 +30,14 @@ push_variables-requires-clause-ids c = are_in_grown c.ids.new.self.store c.app.n
 pub push_variables-requires-clause-there : goal.push_variables-requires-clause-there
 push_variables-requires-clause-there c = λ k d lt.
     subst (λ (n : ℕ). slice_index_or c.args.vars.now k d < n) (ap length (sym (c.in_ok-left.ensures.grows.0 ∙ c.in_ok-operands.ensures.grows.0)))
-    (fresh_below c.args.self.now.shared.store.context c.args.es.now c.args.vars.now _ c.requires.can.1.owes.1.2.3.5 k d lt)
+    (fresh_below c.args.self.now.shared.store.context c.args.es.now c.args.vars.now _ c.requires.can.1.owes.1.2.0.3.5 k d lt)
 
 pub instance-requires-clause-there : goal.instance-requires-clause-there
 instance-requires-clause-there c =
     let can = c.requires.can.1.owes.1 in
     let env = c.args.self.now.before.env.now in
     subst (InReach (length c.deref-2.result.now)) (body_found env c.args.number (term_view c.in-Some.term.now) (tree c.in-Some-body.body.now) c.in-Some.ensures.term c.in-Some-body.ensures)
-    (unfold_reach env c.args.self.now.shared.store.context c.args.number c.args.es.now c.args.vars.now (conversion c.args.part.now) can.0 can.1 (length c.deref-2.result.now) c.requires.before.0 can.2
+    (unfold_reach env c.args.self.now.shared.store.context c.args.number c.args.es.now c.args.vars.now (conversion c.args.part.now) can.0 can.1 (length c.deref-2.result.now) c.requires.before.0 can.2.0
     (ap length c.deref-2.ensures.value ∙ c.in_ok-push_variables.ensures.many
     ∙ ap (λ (n : ℕ). n + length c.args.vars.now) (many_ids c.ids.new.self.store c.in_ok-operands.operands.items ∙ ap (λ es. length (listed es)) c.in_ok-operands.ensures.trees)))
 
@@ -51,7 +51,7 @@ instance-requires-clause-sorted c =
     (trees_grown c.ids.new.self.store c.app.new.self.store c.in_ok-left.ensures.grows c.in_ok-operands.operands.items c.in_ok-operands.ensures.ids ∙ c.in_ok-operands.ensures.trees))
     ∙ ap (instance (followed_by c.args.es.now (variables c.args.vars.now)))
     (sym (body_found env c.args.number (term_view c.in-Some.term.now) (tree c.in-Some-body.body.now) c.in-Some.ensures.term c.in-Some-body.ensures)))
-    (unfolded_sorted env c.args.self.now.shared.store.context c.args.number c.args.es.now c.args.vars.now (conversion c.args.part.now) can.0 can.1 can.2)
+    (unfolded_sorted env c.args.self.now.shared.store.context c.args.number c.args.es.now c.args.vars.now (conversion c.args.part.now) can.0 can.1 can.2.0)
 
 pub returns-clause-does : goal.returns-clause-does
 returns-clause-does c = λ o d.

@@ -82,19 +82,21 @@ pub assertion_body-requires-clause-sound : goal.assertion_body-requires-clause-s
 assertion_body-requires-clause-sound c =
     let is = c.in_ok-hyps.ensures.grows.0 ∙ c.in_ok-conclusion.ensures.grows.0 ∙ c.in_ok-shared.ensures.context ∙ ap (λ (ws : List Word). binders_of ws ++ c.args.dummies.now) c.deref.ensures.value ∙ ap (λ ps. ps ++ c.args.dummies.now) c.requires.params in
     let hyps = ap (trees_of c.ids.new.self.store) c.deref-3.ensures.value ∙ c.in_ok-hyps.ensures.trees in
-    sound_there c.args.self.now.env (assertion_view c.args.thm.now) c.args.dummies.now c.requires.can (stated c.args.proof) c.ids.new.self.store.context (trees_of c.ids.new.self.store c.deref-3.result.now) is hyps c.requires.proved
+    (c.requires.proved.0, sound_there c.args.self.now.env (assertion_view c.args.thm.now) c.args.dummies.now c.requires.can c.requires.proved.0 (stated c.args.proof) c.ids.new.self.store.context (trees_of c.ids.new.self.store c.deref-3.result.now) is hyps c.requires.proved.1)
 
 pub returns : goal.returns
-returns c =
+returns c = λ gaps by.
     let is = c.in_ok-hyps.ensures.grows.0 ∙ c.in_ok-conclusion.ensures.grows.0 ∙ c.in_ok-shared.ensures.context ∙ ap (λ (ws : List Word). binders_of ws ++ c.args.dummies.now) c.deref.ensures.value ∙ ap (λ ps. ps ++ c.args.dummies.now) c.requires.params in
     let many = sym (ap length c.requires.params) ∙ binders_many c.args.words.now.params.items ∙ ap length (sym c.as_slice.ensures.value) in
     let conclusion = held_after c.id.new.self.store c.ids.new.self.store c.in_ok-conclusion.conclusion.0 (tree c.args.thm.now.conclusion) c.in_ok-hyps.ensures.grows c.in_ok-conclusion.ensures.holds in
     let hyps2 = ap (trees_of c.ids.new.self.store) c.deref-2.ensures.value ∙ c.in_ok-hyps.ensures.trees in
     let same : c.deref-3.result.now ≡ c.deref-2.result.now = c.deref-3.ensures.value ∙ sym c.deref-2.ensures.value in
     let stream = c.in_ok-stream.ensures (assertion_view c.args.thm.now).params c.args.dummies.now is many in
-    let body = c.in_ok-body.ensures.body (assertion_view c.args.thm.now).params c.args.dummies.now is many in
-    assertion_says c.args.self.now.env (assertion_view c.args.thm.now) c.args.dummies.now c.requires.can (stated c.args.proof) (tree_of c.ids.new.self.store c.in_ok-conclusion.conclusion.0) (trees_of c.ids.new.self.store c.deref-2.result.now)
-    c.in_ok-stream.stream.items c.in_ok-body.body.items c.requires.proved conclusion hyps2 stream
-    (subst (λ (ids : List Id). MakesBody c.args.self.now.env (stated c.args.proof) (assertion_view c.args.thm.now).params c.args.dummies.now (tree_of c.ids.new.self.store c.in_ok-conclusion.conclusion.0) (listed (trees_of c.ids.new.self.store ids)) c.in_ok-body.body.items) same body)
+    let hyps3 = ap (trees_of c.ids.new.self.store) c.deref-3.ensures.value ∙ c.in_ok-hyps.ensures.trees in
+    let sound = sound_there c.args.self.now.env (assertion_view c.args.thm.now) c.args.dummies.now c.requires.can gaps (stated c.args.proof) c.ids.new.self.store.context (trees_of c.ids.new.self.store c.deref-3.result.now) is hyps3 by in
+    let body = c.in_ok-body.ensures.body gaps sound (assertion_view c.args.thm.now).params c.args.dummies.now is many in
+    assertion_says c.args.self.now.env (assertion_view c.args.thm.now) c.args.dummies.now c.requires.can gaps (stated c.args.proof) (tree_of c.ids.new.self.store c.in_ok-conclusion.conclusion.0) (trees_of c.ids.new.self.store c.deref-2.result.now)
+    c.in_ok-stream.stream.items c.in_ok-body.body.items by conclusion hyps2 stream
+    (subst (λ (ids : List Id). MakesBody gaps c.args.self.now.env (stated c.args.proof) (assertion_view c.args.thm.now).params c.args.dummies.now (tree_of c.ids.new.self.store c.in_ok-conclusion.conclusion.0) (listed (trees_of c.ids.new.self.store ids)) c.in_ok-body.body.items) same body)
     (subst (λ (ids : List Id). length c.in_ok-body.body.items
     ≤ 6 * (trees_size (trees_of c.ids.new.self.store ids) + size (tree_of c.ids.new.self.store c.in_ok-conclusion.conclusion.0) + body_weight c.args.self.now.env (stated c.args.proof)) + 1) same c.in_ok-body.ensures.short)

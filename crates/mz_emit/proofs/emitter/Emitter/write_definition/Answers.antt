@@ -13,28 +13,28 @@ use Rattle.mz_emit.proofs.emitter.Emitter.write_definition.Goals as goal
 pub definition-requires-clause-words : goal.definition-requires-clause-words
 definition-requires-clause-words c =
     let ss = c.args.text.now.statements in
-    (_, term_words (take c.args.i ss) (statement_at ss c.args.i) c.requires.next.follows (signature c.args.term.now) (form c.args.term.now.form) c.requires.decl)
+    (_, term_words c.requires.next.0 (take c.args.i ss) (statement_at ss c.args.i) c.requires.next.1.follows (signature c.args.term.now) (form c.args.term.now.form) c.requires.decl)
 
 pub definition-requires-clause-legal : goal.definition-requires-clause-legal
-definition-requires-clause-legal c = subst IsLegalEnv (sym c.requires.next.before.env) c.requires.next.follows.legal_env
+definition-requires-clause-legal c = subst IsLegalEnv (sym c.requires.next.1.before.env) c.requires.next.1.follows.legal_env
 
 pub definition-requires-clause-table : goal.definition-requires-clause-table
-definition-requires-clause-table c = c.requires.next.before.rows.terms_are ∙ ap signatures (sym c.requires.next.before.env)
+definition-requires-clause-table c = c.requires.next.1.before.rows.terms_are ∙ ap signatures (sym c.requires.next.1.before.env)
 
 pub definition-requires-clause-can : goal.definition-requires-clause-can
 definition-requires-clause-can c =
     let ss = c.args.text.now.statements in
     let is = c.requires.decl ∙ ap (λ f. term_decl (record { signature = signature c.args.term.now; form = f })) c.requires.body in
-    subst (λ (env : List Declaration). CanBeDefined env (signature c.args.term.now).params (dummies_of (form c.args.term.now.form)) (tree c.args.body.now)) (sym c.requires.next.before.env)
-    (definition_can (take c.args.i ss) (statement_at ss c.args.i) c.requires.next.follows (signature c.args.term.now) (dummies_of (form c.args.term.now.form)) (tree c.args.body.now) is)
+    subst (λ (env : List Declaration). CanBeDefined env (signature c.args.term.now).params (dummies_of (form c.args.term.now.form)) (tree c.args.body.now)) (sym c.requires.next.1.before.env)
+    (definition_can c.requires.next.0 (take c.args.i ss) (statement_at ss c.args.i) c.requires.next.1.follows (signature c.args.term.now) (dummies_of (form c.args.term.now.form)) (tree c.args.body.now) is)
 
 pub returns-clause-rows : goal.returns-clause-rows
-returns-clause-rows c =
+returns-clause-rows c = λ gaps next.
     let ss = c.args.text.now.statements in
     let is = c.requires.decl ∙ ap (λ f. term_decl (record { signature = signature c.args.term.now; form = f })) c.requires.body in
     let (stream, bytes, says, writer) = c.in_ok-definition.ensures.written in
     let code_is = c.definition_code-code.ensures.code ∙ ap definition_code (sym (told_of (λ s. s.is_local) ss c.args.i c.is_local.result c.is_local.ensures)) in
-    definition_rows (take c.args.i ss) (statement_at ss c.args.i) c.requires.next.follows c.args.self.now c.definition.new.self c.requires.next.before.rows (signature c.args.term.now)
+    definition_rows gaps (take c.args.i ss) (statement_at ss c.args.i) next.follows c.args.self.now c.definition.new.self next.before.rows (signature c.args.term.now)
     (dummies_of (form c.args.term.now.form)) (tree c.args.body.now) c.definition_code-code.result stream bytes is code_is
-    (subst (λ (env : List Declaration). SaysDefinition env (signature c.args.term.now).params (dummies_of (form c.args.term.now.form)) (tree c.args.body.now) stream bytes) c.requires.next.before.env says)
+    (subst (λ (env : List Declaration). SaysDefinition env (signature c.args.term.now).params (dummies_of (form c.args.term.now.form)) (tree c.args.body.now) stream bytes) next.before.env says)
     writer c.in_ok-definition.ensures.sorts c.in_ok-definition.ensures.terms

@@ -12,7 +12,7 @@ use Rattle.mz_mmu.specs.Stops.{Stops}
 use Rattle.mz_mmu.proofs.Cursors.{opened, stepped, stands_there}
 use Rattle.mz_mmu.proofs.Hold.{known_holds, expr_list_holds, variable_list_holds}
 use Rattle.mz_mmu.proofs.ConvLists.{convs_then_none, convs_read_more, convs_asked_more}
-use Rattle.mz_mmu.proofs.Dispatch.{if_ok, if_err, stops_open, conv_by, conv_stops_by, conv_other}
+use Rattle.mz_mmu.proofs.Dispatch.{if_ok, if_err, conv_by, conv_stops_by, conv_other}
 use Rattle.mz_mmu.proofs.Stopping.{failed, stops_before, stops_after, stops_whole}
 use Rattle.mz_mmu.proofs.reader.Reader.+conv.Goals as goal
 
@@ -82,6 +82,17 @@ conv-returns-in-Unfold-clause-stops t c =
     let key = sym (c.of_conv.ensures ∙ ap conv_keyword_of c.word.ensures) ∙ c.in-Unfold.is in
     if_err c.unfold.result (λ s. (h : Node) → Stops s (conv_asked_by sc unfold_word (place m) h ns)) (λ s. Stops s (conv_asked sc m)) (λ s r. conv_stops_by sc m h ns unfold_word shape key s (r h)) c.unfold.ensures.stops
 
+pub conv-returns-in-Sorry-clause-read : goal.conv-returns-in-Sorry-clause-read
+conv-returns-in-Sorry-clause-read t c =
+    let all = c.args.self.now.nodes.now in
+    let sc = scope c.args.sc.now in
+    let m = node_at all c.args.n in
+    let h = node_at all c.in-Some.head in
+    let ns = nodes_from all c.next-rest.result in
+    let shape = opened all m c.in-Some.head c.next-rest.result (sym c.is_atom.ensures ∙ c.if-is_atom.false) c.in-Some.ensures.1 c.next-rest.ensures in
+    let key = sym (c.of_conv.ensures ∙ ap conv_keyword_of c.word.ensures) ∙ c.in-Sorry.is in
+    if_ok c.gap_conv.result (λ d. (h : Node) → IsConvBy sc sorry_word h ns (conversion d)) (λ d. IsConv sc m (conversion d)) (λ d r. conv_by sc m h ns sorry_word shape key (conversion d) (r h)) c.gap_conv.ensures.read
+
 pub conv-returns-in-Sorry-clause-stops : goal.conv-returns-in-Sorry-clause-stops
 conv-returns-in-Sorry-clause-stops t c =
     let all = c.args.self.now.nodes.now in
@@ -91,7 +102,7 @@ conv-returns-in-Sorry-clause-stops t c =
     let ns = nodes_from all c.next-rest.result in
     let shape = opened all m c.in-Some.head c.next-rest.result (sym c.is_atom.ensures ∙ c.if-is_atom.false) c.in-Some.ensures.1 c.next-rest.ensures in
     let key = sym (c.of_conv.ensures ∙ ap conv_keyword_of c.word.ensures) ∙ c.in-Sorry.is in
-    conv_stops_by sc m h ns sorry_word shape key c.wrong-in-Sorry.result (stops_open c.wrong-in-Sorry.result (place m) c.wrong-in-Sorry.ensures)
+    if_err c.gap_conv.result (λ s. (h : Node) → Stops s (conv_asked_by sc sorry_word (place m) h ns)) (λ s. Stops s (conv_asked sc m)) (λ s r. conv_stops_by sc m h ns sorry_word shape key s (r h)) c.gap_conv.ensures.stops
 
 pub conv-returns-in_default-of_conv-clause-read : goal.conv-returns-in_default-of_conv-clause-read
 conv-returns-in_default-of_conv-clause-read t c =

@@ -15,7 +15,7 @@ use Rattle.mz_mmu.specs.Stops.{Stops}
 use Rattle.mz_mmu.proofs.Cursors.{opened, stepped, stands_there}
 use Rattle.mz_mmu.proofs.Hold.{known_holds, new_holds, new_name_is, new_name_word, new_parts, expr_holds, conv_holds, expr_list_holds, proof_holds}
 use Rattle.mz_mmu.proofs.ProofLists.{proofs_then_none, proofs_read_more, proofs_asked_more}
-use Rattle.mz_mmu.proofs.Dispatch.{if_ok, if_err, stops_open, proof_by, proof_stops_by, proof_other}
+use Rattle.mz_mmu.proofs.Dispatch.{if_ok, if_err, proof_by, proof_stops_by, proof_other}
 use Rattle.mz_mmu.proofs.Stopping.{failed, stops_before, stops_after, stops_whole}
 use Rattle.mz_mmu.proofs.reader.Reader.+proof.Goals as goal
 
@@ -71,6 +71,19 @@ proof-returns-in-Let-clause-stops t c =
     let key = sym (c.of_proof.ensures ∙ ap proof_keyword_of c.word.ensures) ∙ c.in-Let.is in
     if_err c.let_proof.result (λ s. (h : Node) → Stops s (proof_asked_by sc hyps lets let_word (place m) h ns)) (λ s. Stops s (proof_asked sc hyps lets m)) (λ s r. proof_stops_by sc hyps lets m h ns let_word shape key s (r h)) c.let_proof.ensures.stops
 
+pub proof-returns-in-Sorry-clause-read : goal.proof-returns-in-Sorry-clause-read
+proof-returns-in-Sorry-clause-read t c =
+    let all = c.args.self.now.nodes.now in
+    let sc = scope c.args.sc.now in
+    let hyps = c.args.hyps.now in
+    let lets = c.args.lets.now in
+    let m = node_at all c.args.n in
+    let h = node_at all c.in-Some.head in
+    let ns = nodes_from all c.next-rest.result in
+    let shape = opened all m c.in-Some.head c.next-rest.result (sym c.is_atom.ensures ∙ c.if-is_atom.false) c.in-Some.ensures.1 c.next-rest.ensures in
+    let key = sym (c.of_proof.ensures ∙ ap proof_keyword_of c.word.ensures) ∙ c.in-Sorry.is in
+    if_ok c.gap.result (λ p. IsProofBy sc hyps lets sorry_word h ns (proof_view p)) (λ p. IsProof sc hyps lets m (proof_view p)) (λ p r. proof_by sc hyps lets m h ns sorry_word shape key (proof_view p) r) (c.gap.ensures.read hyps lets h)
+
 pub proof-returns-in-Sorry-clause-stops : goal.proof-returns-in-Sorry-clause-stops
 proof-returns-in-Sorry-clause-stops t c =
     let all = c.args.self.now.nodes.now in
@@ -82,7 +95,7 @@ proof-returns-in-Sorry-clause-stops t c =
     let ns = nodes_from all c.next-rest.result in
     let shape = opened all m c.in-Some.head c.next-rest.result (sym c.is_atom.ensures ∙ c.if-is_atom.false) c.in-Some.ensures.1 c.next-rest.ensures in
     let key = sym (c.of_proof.ensures ∙ ap proof_keyword_of c.word.ensures) ∙ c.in-Sorry.is in
-    proof_stops_by sc hyps lets m h ns sorry_word shape key c.wrong-in-Sorry.result (stops_open c.wrong-in-Sorry.result (place m) c.wrong-in-Sorry.ensures)
+    if_err c.gap.result (λ s. Stops s (proof_asked_by sc hyps lets sorry_word (place m) h ns)) (λ s. Stops s (proof_asked sc hyps lets m)) (λ s r. proof_stops_by sc hyps lets m h ns sorry_word shape key s r) (c.gap.ensures.stops hyps lets h)
 
 pub proof-returns-in_default-of_proof-clause-read : goal.proof-returns-in_default-of_proof-clause-read
 proof-returns-in_default-of_proof-clause-read t c =

@@ -266,4 +266,6 @@ check_proof-returns-in-Conv-clause-proved t c =
     let lets = claim_trees c.args.lets.now.items in
     let n = first c.args.nodes.now in
     subst (λ x. IsProved c.check_conversion.result (proof_rules env ctx hyps lets (proof_view x) n) (proved env hyps lets (proof_view x))) (sym c.in-Conv.is)
-    (subst (λ q. IsProved c.check_conversion.result (proof_rules env ctx hyps lets (by_conv (tree c.in-Conv.e) (conversion c.in-Conv.conv) q) n) (tree c.in-Conv.e)) c.get-in-Conv.ensures c.check_conversion.ensures.proved)
+    (subst (λ q. IsProved c.check_conversion.result (proof_rules env ctx hyps lets (by_conv (tree c.in-Conv.e) c.in-Conv.conv q) n) (tree c.in-Conv.e)) c.get-in-Conv-2.ensures
+    (subst (λ z. IsProved c.check_conversion.result (proof_rules env ctx hyps lets (by_conv (tree c.in-Conv.e) z (proof_view c.get-in-Conv-2.result.now)) n) (tree c.in-Conv.e)) c.get-in-Conv.ensures
+    c.check_conversion.ensures.proved))

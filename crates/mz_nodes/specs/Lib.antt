@@ -1,0 +1,5 @@
+pub mod Numbering
+pub mod Entering
+pub mod ExprCode
+pub mod Codes
+pub mod Kept

@@ -1,0 +1,127 @@
+-- The END of a body over nodes: the row's own stream, and what it is run on.
+use Rattle.std.proofs.Common.{◌≡◌, ◌≤◌, ◌+◌, ℕ, zero, suc, List, [], ◌∷◌, ◌++◌, length, map, take, Some, Result, Ok, Err, slice_get, refl, sym, ap, ◌∙◌, arith}
+use Rattle.std.specs.Prelude.{reverse}
+use Rattle.std.specs.List.{range_with_len}
+use Rattle.std.proofs.lemmas.List.{map-append, reverse-append}
+use Rattle.mz_cmd.specs.declared.rule.K.{K}
+use Rattle.mz_logic.specs.declared.binder.Binder.{Binder}
+use Rattle.mz_nodes.specs.Numbering.{Numbering, expr_of}
+use Rattle.mz_store.specs.declared.item.Id.{Id}
+use Rattle.mz_store.specs.declared.item.Item.{Item as Kept}
+use Rattle.mz_store.specs.declared.item.Item.TheVariants.{Proof}
+use Rattle.mz_numbered.specs.Numbered.{Numbered, a_variable, portable}
+use Rattle.mz_unification.specs.Profile.{Item, proof}
+use Rattle.mz_unification.specs.UnifyMachine.{Matching, unify, unify_steps}
+use Rattle.mz_punify.specs.Stored.{item_at, items_at, exprs_at, matching_at}
+use Rattle.mz_punify.proofs.StoredIds.{exprs-append}
+use Rattle.mz_soundness.specs.Tables.{Tables, State, Kind, is_axiom, is_theorem, is_definition, Heading, signatures_in}
+use Rattle.mz_soundness.specs.ProofMachine.{last_item, as_proofs, own_variables, ending, ends_with, proof_end}
+use Rattle.mz_soundness.specs.Bodies.{match_steps}
+use Rattle.mz_machine.specs.Before.{heading_by}
+use Rattle.mz_pmachine.specs.OverNodes.{Gives}
+use Rattle.mz_machine.specs.Endings.{mode_at}
+use Rattle.mz_pmachine.specs.Endings.{items_of, ended, IsOwnRun}
+use Rattle.mz_punify.specs.declared.command.Stop.{Stop}
+use Rattle.mz_punify.specs.declared.command.Stop.TheVariants.{Rule, Mem}
+
+-- ---- the first variables
+
+range-next : (a n : ℕ) → range_with_len a (suc n) ≡ range_with_len a n ++ (a + n) ∷ []
+range-next a zero = ap (λ (x : ℕ). x ∷ []) (omega arith)
+range-next a (suc n) = ap (λ (xs : List ℕ). a ∷ xs) (range-next (a + 1) n ∙ ap (λ (x : ℕ). range_with_len (a + 1) n ++ x ∷ []) (omega arith))
+
+zero-more : (n : ℕ) → 0 + n ≡ n
+zero-more n = omega arith
+
+next-is : (i : ℕ) → suc i ≡ i + 1
+next-is i = omega arith
+
+pub variables-next : (s : Numbering) (ids : List Id) (i : Id) (n : ℕ) → exprs_at s ids ≡ map a_variable (range_with_len 0 n) → expr_of s i.0 ≡ a_variable n
+    → exprs_at s (ids ++ i ∷ []) ≡ map a_variable (range_with_len 0 (n + 1))
+variables-next s ids i n are is =
+    exprs-append s ids (i ∷ []) ∙ (ap (λ (ts : List Numbered). ts ++ expr_of s i.0 ∷ []) are ∙ (ap (λ (t : Numbered). map a_variable (range_with_len 0 n) ++ t ∷ []) is
+    ∙ sym (ap (map a_variable) (range-next 0 n ∙ ap (λ (x : ℕ). range_with_len 0 n ++ x ∷ []) (zero-more n)) ∙ map-append a_variable (range_with_len 0 n) (n ∷ [])) ∙ ap (λ (m : ℕ). map a_variable (range_with_len 0 m)) (next-is n)))
+
+pub own-are : (i : ℕ) (ps : List Binder) → own_variables portable i ps ≡ map a_variable (range_with_len i (length ps))
+own-are i [] = refl
+own-are i (p ∷ ps) = ap (λ (ts : List Numbered). a_variable i ∷ ts) (own-are (suc i) ps ∙ ap (λ (j : ℕ). map a_variable (range_with_len j (length ps))) (next-is i))
+
+-- ---- hypotheses as proofs
+
+kept-reverse : (hyps : List Id) → reverse (map Proof hyps) ≡ map Proof (reverse hyps)
+kept-reverse [] = refl
+kept-reverse (h ∷ hs) =
+    reverse-append (Proof h ∷ []) (map Proof hs) ∙ (ap (λ (xs : List Kept). xs ++ Proof h ∷ []) (kept-reverse hs)
+    ∙ sym (ap (map Proof) (reverse-append (h ∷ []) hs) ∙ map-append Proof (reverse hs) (h ∷ [])))
+
+trees-reverse : (s : Numbering) (hyps : List Id) → reverse (exprs_at s hyps) ≡ exprs_at s (reverse hyps)
+trees-reverse s [] = refl
+trees-reverse s (h ∷ hs) =
+    reverse-append (expr_of s h.0 ∷ []) (exprs_at s hs) ∙ (ap (λ (xs : List Numbered). xs ++ expr_of s h.0 ∷ []) (trees-reverse s hs)
+    ∙ sym (ap (exprs_at s) (reverse-append (h ∷ []) hs) ∙ exprs-append s (reverse hs) (h ∷ [])))
+
+items-are : (s : Numbering) (ids : List Id) → map (item_at s) (map Proof ids) ≡ map proof (exprs_at s ids)
+items-are s [] = refl
+items-are s (i ∷ is) = ap (λ (xs : List (Item Numbered)). proof (expr_of s i.0) ∷ xs) (items-are s is)
+
+pub proofs-are : (s : Numbering) (hyps : List Id) → items_at s (map Proof hyps) ≡ as_proofs (exprs_at s hyps)
+proofs-are s hyps = ap (map (item_at s)) (kept-reverse hyps) ∙ (items-are s (reverse hyps) ∙ ap (map proof) (sym (trees-reverse s hyps)))
+
+shift : (k : ℕ) → suc (k + 1) ≡ suc k + 1
+shift k = omega arith
+
+pub taken-next : (hyps : List Id) (k : ℕ) (h : Id) → slice_get hyps k ≡ Some h → map Proof (take k hyps) ++ Proof h ∷ [] ≡ map Proof (take (k + 1) hyps)
+taken-next [] k h at = absurd cc
+taken-next (x ∷ xs) zero h at = let same : x ≡ h = cc in rw same refl
+taken-next (x ∷ xs) (suc k) h at = ap (λ (ys : List Kept). Proof x ∷ ys) (taken-next xs k h at) ∙ ap (λ (m : ℕ). map Proof (take m (x ∷ xs))) (shift k)
+
+pub taken-all : (hyps : List Id) (k : ℕ) → length hyps ≤ k → map Proof (take k hyps) ≡ map Proof hyps
+taken-all [] zero le = refl
+taken-all [] (suc k) le = refl
+taken-all (x ∷ xs) zero le = absurd (omega (arith, le))
+taken-all (x ∷ xs) (suc k) le = ap (λ (ys : List Kept). Proof x ∷ ys) (taken-all xs k (omega (arith, le)))
+
+-- ---- the row's own stream
+
+pub own-matching : (h : Heading) (st : State Numbered) (kind : Kind) (s : Numbering) (stream : List ℕ) (operands : List Id) (target : Id) (proofs : List Kept)
+    → stream ≡ h.stream → exprs_at s operands ≡ map a_variable (range_with_len 0 (length h.params)) → items_at s proofs ≡ items_of kind st.hyps
+    → matching_at s (mode_at kind) stream operands target proofs ≡ ended h st kind (expr_of s target.0)
+own-matching h st is_axiom s stream operands target proofs a b c = rw (a, b, c, own-are 0 h.params) refl
+own-matching h st is_theorem s stream operands target proofs a b c = rw (a, b, c, own-are 0 h.params) refl
+own-matching h st is_definition s stream operands target proofs a b c = rw (a, b, c, own-are 0 h.params) refl
+
+module _ (tables : Tables) (h : Heading) (st : State Numbered) where
+  pub no-last-item : (d : K) → last_item h.kind st.stack ≡ Err d → ends_with portable tables h st ≡ Err d
+  unfolding ends_with
+  no-last-item d e = rw e refl
+
+  pub not-ending : (e : Numbered) (d : K) → last_item h.kind st.stack ≡ Ok e → ending portable tables h st h.kind e ≡ Err d → ends_with portable tables h st ≡ Err d
+  unfolding ends_with
+  not-ending e d is stopped = rw (is, stopped) refl
+
+  pub is-ending : (e : Numbered) (m : Matching Numbered) → last_item h.kind st.stack ≡ Ok e → ending portable tables h st h.kind e ≡ Ok m → ends_with portable tables h st ≡ Ok m
+  unfolding ends_with
+  is-ending e m is ends = rw (is, ends) refl
+
+  pub stopped-end : (d : K) → ends_with portable tables h st ≡ Err d → proof_end portable tables h st ≡ Err d
+  unfolding proof_end
+  stopped-end d e = rw e refl
+
+  pub no-end-steps : (d : K) → ends_with portable tables h st ≡ Err d → match_steps portable tables st (ends_with portable tables h st) ≡ 0
+  no-end-steps d e = rw e refl
+
+  pub end-steps : (m : Matching Numbered) → ends_with portable tables h st ≡ Ok m → match_steps portable tables st (ends_with portable tables h st) ≡ unify_steps portable (signatures_in tables) st.ctx m
+  end-steps m e = rw e refl
+
+  pub own-end : {A : Type 0} (m : Matching Numbered) (result : Result A Stop) → ends_with portable tables h st ≡ Ok m → IsOwnRun (unify portable (signatures_in tables) st.ctx m) result
+      → Gives (proof_end portable tables h st) result (λ _. st)
+  unfolding proof_end
+  own-end m (Ok x) e (u, is) = rw (e, is) refl
+  own-end m (Err (Rule d)) e (at, is) = rw (e, is) refl
+  own-end m (Err Mem) e run = tt
+
+-- a row's heading has its kind
+pub kind-is : (file : List ℕ) (row : ℕ) (kind : Kind) → (heading_by file row kind).kind ≡ kind
+kind-is file row is_axiom = refl
+kind-is file row is_theorem = refl
+kind-is file row is_definition = refl

@@ -1,0 +1,17 @@
+mod Codes
+mod Popping
+mod Converting
+mod Unfoldings
+mod Citing
+mod RowResults
+mod TakenOperands
+mod FittingOperands
+mod Apartness
+mod TermResults
+mod Stopping
+mod FreeWords
+mod Ending
+mod BodyUnderway
+mod BodyRunning
+mod Machines
+mod Beginning

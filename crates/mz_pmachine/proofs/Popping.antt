@@ -1,0 +1,59 @@
+-- Items taken from a stack, and put on it.
+use Rattle.std.proofs.Common.{◌≡◌, ℕ, zero, suc, List, [], ◌∷◌, ◌++◌, Some, None, length, refl, ap, ◌∙◌, subst, arith}
+use Rattle.std.specs.Prelude.{slice_get, ◌-◌}
+use Rattle.std.specs.Option.{option_map}
+use Rattle.std.proofs.lemmas.Option.{slice_get-map}
+use Rattle.std.proofs.lemmas.List.{map-append}
+use Rattle.mz_numbered.specs.Numbered.{Numbered}
+use Rattle.mz_nodes.specs.Numbering.{Numbering}
+use Rattle.mz_store.specs.declared.item.Item.{Item as Kept}
+use Rattle.mz_unification.specs.Profile.{Item}
+use Rattle.mz_punify.specs.Stored.{item_at, items_at, IsItemIn, AreItemsIn}
+use Rattle.mz_punify.proofs.StoredIds.{items-in-left, items-in-right, items-push}
+use Rattle.mz_pmachine.specs.OverNodes.{heap_at}
+
+pub popped : (s : Numbering) (old new : List Kept) (x : Kept) → old ≡ new ++ x ∷ [] → AreItemsIn s old → IsItemIn s x × AreItemsIn s new
+popped s old new x is h =
+    let both : AreItemsIn s (new ++ x ∷ []) = subst (AreItemsIn s) is h in
+    ((items-in-right s new (x ∷ []) both).0, items-in-left s new (x ∷ []) both)
+
+-- ---- the top
+
+one-less : (n : ℕ) → suc (suc n) - 1 ≡ suc (suc n - 1)
+one-less n = omega arith
+
+-- the last of a list
+pub last-splits : {A : Type 0} (xs : List A) (x : A) → slice_get xs (length xs - 1) ≡ Some x → (front : List A) × (xs ≡ front ++ x ∷ [])
+last-splits [] x h = absurd cc
+last-splits (y ∷ []) x h = let same : y ≡ x = cc in ([], rw same refl)
+last-splits (y ∷ z ∷ zs) x h =
+    let (front, is) = last-splits (z ∷ zs) x (subst (λ n. slice_get (y ∷ z ∷ zs) n ≡ Some x) (one-less (length zs)) h) in
+    (y ∷ front, ap (λ ws. y ∷ ws) is)
+
+pub no-last : {A : Type 0} (xs : List A) → slice_get xs (length xs - 1) ≡ None → xs ≡ []
+no-last [] h = refl
+no-last (y ∷ []) h = absurd cc
+no-last (y ∷ z ∷ zs) h =
+    let none : z ∷ zs ≡ [] = no-last (z ∷ zs) (subst (λ n. slice_get (y ∷ z ∷ zs) n ≡ None) (one-less (length zs)) h) in
+    absurd cc
+
+module _ (s : Numbering) where
+  pub top-is : (xs : List Kept) (x : Kept) → slice_get xs (length xs - 1) ≡ Some x → (rest : List (Item Numbered)) × (items_at s xs ≡ item_at s x ∷ rest)
+  top-is xs x h = let (front, is) = last-splits xs x h in (items_at s front, ap (items_at s) is ∙ items-push s front x)
+
+  pub no-top : (xs : List Kept) → slice_get xs (length xs - 1) ≡ None → items_at s xs ≡ []
+  no-top xs h = ap (items_at s) (no-last xs h)
+
+  pub item-in-at : (xs : List Kept) (k : ℕ) (x : Kept) → AreItemsIn s xs → slice_get xs k ≡ Some x → IsItemIn s x
+  item-in-at [] k x h at = absurd cc
+  item-in-at (y ∷ ys) zero x h at = let same : y ≡ x = cc in rw (← same) h.0
+  item-in-at (y ∷ ys) (suc k) x h at = item-in-at ys k x h.1 at
+
+  pub item-at-heap : (xs : List Kept) (k : ℕ) (x : Kept) → slice_get xs k ≡ Some x → slice_get (heap_at s xs) k ≡ Some (item_at s x)
+  item-at-heap xs k x at = slice_get-map (item_at s) xs k ∙ ap (option_map (item_at s)) at
+
+  pub no-item-at-heap : (xs : List Kept) (k : ℕ) → slice_get xs k ≡ None → slice_get (heap_at s xs) k ≡ None
+  no-item-at-heap xs k at = slice_get-map (item_at s) xs k ∙ ap (option_map (item_at s)) at
+
+  pub heap-push : (xs : List Kept) (x : Kept) → heap_at s (xs ++ x ∷ []) ≡ heap_at s xs ++ item_at s x ∷ []
+  heap-push xs x = map-append (item_at s) xs (x ∷ [])

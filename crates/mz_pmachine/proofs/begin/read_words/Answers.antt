@@ -1,0 +1,14 @@
+use Rattle.std.proofs.Common.{◌∙◌, ◌++◌, ◌∷◌, [], List, ap, arith}
+use Rattle.mz_logic.specs.declared.word.Word.{Word}
+use Rattle.mz_pmachine.specs.OverNodes.{kind_of}
+use Rattle.mz_machine.specs.Stepping.{own_words}
+use Rattle.mz_machine.proofs.Beginning.{take-next, take-all}
+use Rattle.mz_pmachine.proofs.begin.read_words.Goals as goal
+
+pub params-preserved : goal.params-preserved
+params-preserved c =
+    c.in-Ok.ensures.items ∙ ap (λ (ws : List Word). ws ++ c.own_word.result ∷ []) c.params.invariant
+    ∙ take-next (own_words c.args.earlier.now.file c.args.row (kind_of c.args.kind)) c.params.j c.own_word.result c.own_word.ensures
+
+pub returns : goal.returns
+returns c = c.params.invariant ∙ take-all (own_words c.args.earlier.now.file c.args.row (kind_of c.args.kind)) c.params.j (omega (arith, c.own_count-count.ensures, c.params-test.false))

@@ -1,0 +1,38 @@
+use Rattle.std.proofs.Common.{◌<◌, ◌≤◌, length, refl, sym, ◌∙◌, arith, add-one}
+use Rattle.std.proofs.lemmas.Option.{slice_get-get_or}
+use Rattle.std.proofs.lemmas.Result.{err_from_is_err_and}
+use Rattle.mz_punify.proofs.StoredIds.{is-in-at}
+use Rattle.mz_machine.specs.Before.{signatures_of}
+use Rattle.mz_pmachine.specs.OperandRows.{params_of}
+use Rattle.mz_pmachine.proofs.FittingOperands.{fit-step, fit-end}
+use Rattle.mz_pmachine.proofs.fitting.check_operands.Goals as goal
+
+pub operands-init : goal.operands-init
+operands-init c = refl
+
+pub check_operand-requires : goal.check_operand-requires
+check_operand-requires c =
+    is-in-at c.args.nodes.now c.args.operands.now c.operands.j _ c.requires.ids
+    (slice_get-get_or _ _ _ (let e : c.operands.j < length c.args.operands.now = omega (arith, c.requires.many, c.arity_of-j-end.ensures, c.operands-test.true) in e))
+
+pub returns-in_err-check_operand : goal.returns-in_err-check_operand
+returns-in_err-check_operand c =
+    let p = err_from_is_err_and c.from_residual.result c.from_residual.ensures.1 in
+    let here : c.operands.j < length c.args.operands.now = omega (arith, c.requires.many, c.arity_of-j-end.ensures, c.operands-test.true) in
+    rw (p.1, p.2)
+    (sym c.operands.invariant
+    ∙ fit-step (signatures_of c.args.earlier.now) c.args.nodes.now c.args.operands.now (params_of c.args.earlier.now.file c.args.row) c.operands.j _ c.word_of.result _
+    (slice_get-get_or _ _ _ here) c.word_of.ensures (λ q s b. c.in_err-check_operand.ensures (signatures_of c.args.earlier.now) q c.requires.over s b))
+
+pub operands-preserved : goal.operands-preserved
+operands-preserved c =
+    let here : c.operands.j < length c.args.operands.now = omega (arith, c.requires.many, c.arity_of-j-end.ensures, c.operands-test.true) in
+    rw (add-one c.operands.j)
+    (sym (fit-step (signatures_of c.args.earlier.now) c.args.nodes.now c.args.operands.now (params_of c.args.earlier.now.file c.args.row) c.operands.j _ c.word_of.result _
+    (slice_get-get_or _ _ _ here) c.word_of.ensures (λ q s b. c.in_ok-check_operand.ensures (signatures_of c.args.earlier.now) q c.requires.over s b)) ∙ c.operands.invariant)
+
+pub returns : goal.returns
+returns c =
+    let past : length c.args.operands.now ≤ c.operands.j = omega (arith, c.requires.many, c.arity_of-j-end.ensures, c.operands-test.false) in
+    sym c.operands.invariant
+    ∙ fit-end (signatures_of c.args.earlier.now) c.args.nodes.now c.args.operands.now _ c.operands.j past

@@ -1,0 +1,7 @@
+pub mod OverNodes
+pub mod Steps
+pub mod BodyAnswers
+pub mod OperandRows
+pub mod Endings
+pub mod Stepping
+pub mod UnderwayCode

@@ -1,0 +1,119 @@
+-- The proof machine over nodes: expressions are ids, and a state is that of the expressions, numbers and all.
+use Rattle.std.specs.Prelude.{◌≡◌, ℕ, ◌<◌, ◌^◌, List, ◌++◌, length, map, All as Every, MatchResult, Result, Ok, Err}
+use Rattle.mz_cmd.specs.declared.rule.K.{K}
+use Rattle.mz_cmd.specs.declared.code.ProofCode.{ProofCode}
+use Rattle.mz_cmd.specs.declared.code.ProofCode.TheVariants as code
+use Rattle.mz_logic.specs.Signature.{Signature}
+use Rattle.mz_logic.specs.Legality.{IsDummy}
+use Rattle.mz_logic.specs.declared.binder.Binder.{Binder}
+use Rattle.mz_store.specs.declared.item.Id.{Id}
+use Rattle.mz_store.specs.declared.item.Item.{Item as Kept}
+use Rattle.mz_unification.specs.Steps.{◌>>=◌}
+use Rattle.mz_unification.specs.Profile.{Item}
+use Rattle.mz_soundness.specs.Tables.{State, Kind, is_axiom, is_theorem, is_definition, signatures_in}
+use Rattle.mz_soundness.specs.Premises.{pop_expr, pop_sides}
+use Rattle.mz_machine.specs.Before.{kind_at, heading_of, MayRun, tables_before}
+use Rattle.mz_machine.specs.OverStore.{mode_for, IsContextOf}
+use Rattle.mz_machine.specs.declared.earlier.Rows.{Rows}
+use Rattle.mz_numbered.specs.Numbered.{Numbered, a_variable, portable}
+use Rattle.mz_nodes.specs.Numbering.{Numbering, expr_of, IsIn, AreIn, IsOver, KeepsIds}
+use Rattle.mz_punify.specs.Stored.{exprs_at, item_at, items_at, AreItemsIn}
+use Rattle.mz_punify.specs.Rows.{StopsBy}
+use Rattle.mz_punify.specs.declared.command.Stop.{Stop}
+use Rattle.mz_pmachine.specs.declared.command.BodyKind.{BodyKind}
+use Rattle.mz_pmachine.specs.declared.command.BodyKind.TheVariants as kind
+use Rattle.mz_pmachine.specs.declared.command.Making.{Making}
+use Rattle.mz_pmachine.specs.declared.command.Making.TheVariants as making
+use Rattle.mz_pmachine.specs.declared.command.Keeping.{Keeping}
+use Rattle.mz_pmachine.specs.declared.command.Keeping.TheVariants as keeping
+use Rattle.mz_pmachine.specs.declared.command.Converting.{Converting}
+use Rattle.mz_pmachine.specs.declared.command.Converting.TheVariants as converting
+use Rattle.mz_pmachine.specs.declared.command.Command.{Command}
+use Rattle.mz_pmachine.specs.declared.command.Command.TheVariants.{Makes, Keeps, Converts}
+
+-- ---- states
+
+-- the items of the heap, in order
+abbrev pub heap_at : Numbering → List Kept → List (Item Numbered)
+heap_at s xs = map (item_at s) xs
+
+-- the state; the top of the stack is its last item
+abbrev pub state_at : Numbering → (heap stack : List Kept) → List Id → State Numbered
+state_at s heap stack hyps = record { ctx = s.context; heap = heap_at s heap; stack = items_at s stack; hyps = exprs_at s hyps }
+
+-- the state with another stack
+abbrev pub with_stack : State Numbered → List (Item Numbered) → State Numbered
+with_stack st xs = record st { stack = xs }
+
+-- what an unfolding takes: what is unfolded to, the sides of the obligation, and the items below
+abbrev pub pop_unfolding : List (Item Numbered) → Result (Numbered × Numbered × Numbered × List (Item Numbered)) K
+pop_unfolding xs = pop_expr xs >>= λ e. (pop_sides portable e.1 >>= λ o. Ok (e.0, o.0, o.1, o.2))
+
+-- ---- kinds and commands
+
+abbrev pub kind_of : BodyKind → Kind
+kind_of kind.Axiom = is_axiom
+kind_of kind.Definition = is_definition
+kind_of kind.Theorem = is_theorem
+
+abbrev pub code_of_making : Making → ProofCode
+code_of_making making.Term = code.Term
+code_of_making making.TermSave = code.TermSave
+code_of_making making.Thm = code.Thm
+code_of_making making.ThmSave = code.ThmSave
+
+abbrev pub code_of_keeping : Keeping → ProofCode
+code_of_keeping keeping.Ref = code.Ref
+code_of_keeping keeping.Dummy = code.Dummy
+code_of_keeping keeping.Hyp = code.Hyp
+code_of_keeping keeping.Save = code.Save
+
+abbrev pub code_of_converting : Converting → ProofCode
+code_of_converting converting.Conv = code.Conv
+code_of_converting converting.Refl = code.Refl
+code_of_converting converting.Symm = code.Symm
+code_of_converting converting.Cong = code.Cong
+code_of_converting converting.Unfold = code.Unfold
+code_of_converting converting.ConvCut = code.ConvCut
+code_of_converting converting.ConvSave = code.ConvSave
+code_of_converting converting.Sorry = code.Sorry
+
+abbrev pub code_of : Command → ProofCode
+code_of (Makes c) = code_of_making c
+code_of (Keeps c) = code_of_keeping c
+code_of (Converts c) = code_of_converting c
+
+-- ---- answers
+
+-- what goes through gives what is computed, and what a rule stops is refused by it
+abbrev pub Gives : {A B : Type 0} → Result B K → Result A Stop → (A → B) → Type 0
+Gives r result value = MatchResult result (λ x. r ≡ Ok (value x)) (λ stop. StopsBy stop (λ k. r ≡ Err k))
+
+-- it isn't want of memory, and this holds; or it is
+abbrev pub UnlessMem : {A : Type 0} → Result A Stop → Type 0 → Type 0
+UnlessMem result P = MatchResult result (λ _. P) (λ stop. StopsBy stop (λ _. P))
+
+-- ---- the nodes under a command
+
+-- the ids are kept, with at most one more; what is kept with each is right as before, and new variables are dummies
+pub record Grows (sigs : List Signature) (s s' : Numbering) : Type 0 where
+  pub keeps : KeepsIds s s'
+  pub over : IsOver sigs s'
+  pub mode : s'.mode ≡ s.mode
+  pub context : (more : List Binder) × (s'.context ≡ s.context ++ more) × Every IsDummy more
+
+-- the ids below n are variables, the i-th the variable i
+abbrev pub AreFirst : Numbering → ℕ → Type 0
+AreFirst s n = (i : ℕ) → i < n → IsIn s i × (expr_of s i ≡ a_variable i)
+
+-- what holds of a machine between two commands
+pub record IsUnderway (file : List ℕ) (kind row : ℕ) (before : Rows) (s : Numbering) (heap stack : List Kept) (hyps : List Id) : Type 0 where
+  pub may_run : MayRun file kind row before
+  pub over : IsOver (signatures_in (tables_before file before)) s
+  pub mode : s.mode ≡ mode_for (kind_at kind)
+  pub context : IsContextOf (heading_of file kind row).params s.context
+  pub params : AreFirst s (length (heading_of file kind row).params)
+  pub heap_in : AreItemsIn s heap
+  pub stack_in : AreItemsIn s stack
+  pub hyps_in : AreIn s hyps
+  pub few_hyps : length hyps < 2 ^ 32

@@ -1,0 +1,67 @@
+-- What a machine answers to a command, and to the END.
+use Rattle.std.specs.Prelude.{◌≡◌, ℕ, ⊤, ◌+◌, ◌≤◌, List, Ok, Err}
+use Rattle.mz_cmd.specs.declared.command.Cmd.{Cmd}
+use Rattle.mz_soundness.specs.Tables.{State}
+use Rattle.mz_soundness.specs.ProofMachine.{proof_end}
+use Rattle.mz_soundness.specs.Bodies.{body_start}
+use Rattle.mz_machine.specs.Before.{heading_of}
+use Rattle.mz_machine.specs.declared.earlier.Rows.{Rows}
+use Rattle.mz_machine.specs.declared.body.BodyChecked.{BodyChecked}
+use Rattle.mz_machine.specs.declared.body.BodyChecked.TheVariants.{Good, Refused, Mem}
+use Rattle.mz_numbered.specs.Numbered.{Numbered, portable}
+use Rattle.mz_pmachine.specs.Steps.{Underway, tables_for, heading_for, row_of}
+use Rattle.mz_pmachine.specs.BodyAnswers.{CountsOf}
+use Rattle.mz_pmachine.specs.declared.machine.Stepped.{Stepped}
+use Rattle.mz_pmachine.specs.declared.machine.Stepped.TheVariants as stepped
+use Rattle.mz_pmachine.specs.declared.machine.Finished.{Finished}
+use Rattle.mz_pmachine.specs.declared.machine.Finished.TheVariants as finished
+
+-- the machine before the first command
+pub record IsBegun (file : List ℕ) (kind row : ℕ) (before : Rows) (u : Underway) : Type 0 where
+  pub file_is : u.file ≡ file
+  pub kind_is : u.kind ≡ kind
+  pub row_is : u.row ≡ row
+  pub before_is : u.before ≡ before
+  pub state : u.state ≡ body_start portable (heading_of file kind row)
+  pub next : u.next ≡ 0
+
+-- ---- a command
+
+-- the same body; a number above the place of the command is above all that made an expression
+pub record GoesOn (u : Underway) (at : ℕ) (after : Underway) : Type 0 where
+  pub file : after.file ≡ u.file
+  pub kind : after.kind ≡ u.kind
+  pub row : after.row ≡ u.row
+  pub before : after.before ≡ u.before
+  pub next : after.next ≤ at + 1
+
+-- what the command at a place leads to; want of memory says nothing
+abbrev pub IsStepped : Underway → Cmd → ℕ → Stepped → Type 0
+IsStepped u c at (stepped.Machine after) = (row_of (tables_for u) (heading_for u) at u.state c ≡ Ok after.state) × GoesOn u at after
+IsStepped u c at (stepped.Refused rule) = row_of (tables_for u) (heading_for u) at u.state c ≡ Err rule
+IsStepped u c at stepped.Mem = ⊤
+
+-- it isn't want of memory, and this holds; or it is
+abbrev pub UnlessMem : Stepped → Type 0 → Type 0
+UnlessMem (stepped.Machine after) P = P
+UnlessMem (stepped.Refused rule) P = P
+UnlessMem stepped.Mem P = ⊤
+
+-- ---- the END
+
+-- what the END leads to; want of memory says nothing
+abbrev pub IsFinished : Underway → Finished → Type 0
+IsFinished u (finished.Body end) = (last : State Numbered) × (proof_end portable (tables_for u) (heading_for u) u.state ≡ Ok last) × CountsOf (heading_for u) last end
+IsFinished u (finished.Refused rule) = proof_end portable (tables_for u) (heading_for u) u.state ≡ Err rule
+IsFinished u finished.Mem = ⊤
+
+abbrev pub UnlessEndMem : Finished → Type 0 → Type 0
+UnlessEndMem (finished.Body end) P = P
+UnlessEndMem (finished.Refused rule) P = P
+UnlessEndMem finished.Mem P = ⊤
+
+-- what the END at a place makes of the body
+abbrev pub ended_at : ℕ → Finished → BodyChecked
+ended_at at (finished.Body end) = Good end
+ended_at at (finished.Refused rule) = Refused at rule
+ended_at at finished.Mem = Mem

@@ -1,0 +1,51 @@
+-- A machine that takes commands one by one.
+use Rattle.std.specs.Prelude.{ℕ, suc, List, Option, Some, None, Result, Err}
+use Rattle.mz_cmd.specs.declared.rule.K.{K}
+use Rattle.mz_cmd.specs.declared.rule.K.TheVariants as k
+use Rattle.mz_cmd.specs.declared.command.Cmd.{Cmd}
+use Rattle.mz_soundness.specs.Tables.{Tables, State, Heading}
+use Rattle.mz_soundness.specs.ProofMachine.{proof_row, ends_with}
+use Rattle.mz_soundness.specs.Bodies.{BodyCommand, ends, proves, body_command, row_steps, match_steps}
+use Rattle.mz_machine.specs.Before.{heading_of, tables_before}
+use Rattle.mz_machine.specs.declared.earlier.Rows.{Rows}
+use Rattle.mz_numbered.specs.Numbered.{Numbered, portable}
+
+-- a machine between two commands: the file, the statement whose body runs with the rows before it, the state, and a
+-- number above those of all commands that have made an expression
+pub record Underway : Type 0 where
+  pub file : List ℕ
+  pub kind : ℕ
+  pub row : ℕ
+  pub before : Rows
+  pub state : State Numbered
+  pub next : ℕ
+
+abbrev pub tables_for : Underway → Tables
+tables_for u = tables_before u.file u.before
+
+abbrev pub heading_for : Underway → Heading
+heading_for u = heading_of u.file u.kind u.row
+
+-- ---- one command
+
+-- the row of a command other than END; one that is not of this body has none
+abbrev pub row_by : Tables → ℕ → State Numbered → Option BodyCommand → Result (State Numbered) K
+row_by tables at st None = Err k.Command
+row_by tables at st (Some ends) = Err k.Command
+row_by tables at st (Some (proves c value)) = proof_row portable tables at c value st
+
+abbrev pub row_of : Tables → Heading → ℕ → State Numbered → Cmd → Result (State Numbered) K
+row_of tables h at st c = row_by tables at st (body_command portable h.kind c.code c.value)
+
+-- it and the unify commands that it executes
+abbrev pub steps_by : Tables → State Numbered → Option BodyCommand → ℕ
+steps_by tables st None = 1
+steps_by tables st (Some ends) = 1
+steps_by tables st (Some (proves c value)) = suc (row_steps portable tables c value st)
+
+abbrev pub steps_for : Tables → Heading → State Numbered → Cmd → ℕ
+steps_for tables h st c = steps_by tables st (body_command portable h.kind c.code c.value)
+
+-- the END, and the commands of the row's own stream that it executes
+abbrev pub end_steps : Tables → Heading → State Numbered → ℕ
+end_steps tables h st = suc (match_steps portable tables st (ends_with portable tables h st))

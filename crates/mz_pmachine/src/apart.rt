@@ -1,0 +1,84 @@
+//! Operands that are apart: none holds the variable of a bound parameter, but of its own and of those
+//! on which its parameter depends.
+ghost use Rattle.std.specs.Prelude.{◌≡◌, ◌<◌, ◌%◌, ◌==◌, ◌||◌, ◌&&◌, true, List, Ok, Some, length, not, nat_lt, slice_get, if◌then◌else◌};
+ghost use Rattle.mz_logic.specs.Tree.{Tree};
+ghost use Rattle.mz_logic.specs.Signature.{Signature};
+ghost use Rattle.mz_logic.specs.Words.{binders_of, word_bound, word_deps};
+ghost use Rattle.mz_logic.specs.declared.binder.Binder.{Binder};
+ghost use Rattle.mz_nodes.specs.Numbering.{IsIn, AreIn, IsOver, tree_of};
+ghost use Rattle.mz_punify.specs.Stored.{trees_at};
+ghost use Rattle.mz_unification.specs.Tests.{is_bound_var, var_within};
+ghost use Rattle.mz_soundness.specs.Premises.{operands_fit, apart_from, are_apart};
+ghost use Rattle.mz_machine.specs.Before.{signatures_of};
+ghost use Rattle.mz_pmachine.specs.OperandRows.{IsBefore, params_of};
+
+use crate::earlier::{Earlier, Row};
+use mz_logic::Word;
+use mz_nodes::Nodes;
+use mz_store::Id;
+
+/// Whether each two operands of a row are apart, whichever of them comes first. They fit.
+pub(crate) fn are_apart(earlier: &Earlier, row: Row, nodes: &Nodes, operands: &[Id]) -> bool
+    requires row { IsBefore earlier.now row }
+    requires over { IsOver (signatures_of earlier.now) nodes.now }
+    requires ids { AreIn nodes.now operands.now }
+    requires many { length operands.now ≡ length (params_of earlier.now.file row) }
+    requires fit { operands_fit (signatures_of earlier.now) nodes.now.context (trees_at nodes.now operands.now) (binders_of (params_of earlier.now.file row)) ≡ Ok tt }
+    ensures { result ≡ are_apart nodes.now.context (trees_at nodes.now operands.now) (binders_of (params_of earlier.now.file row)) }
+{
+    'operands: for i in 0..earlier.arity_of(row) {
+        if !is_apart(earlier, row, nodes, operands, i) {
+            return false;
+        }
+    }
+    true
+}
+
+/// Whether the operand at a place is apart from all others.
+fn is_apart(earlier: &Earlier, row: Row, nodes: &Nodes, operands: &[Id], i: u32) -> bool
+    requires row { IsBefore earlier.now row }
+    requires over { IsOver (signatures_of earlier.now) nodes.now }
+    requires ids { AreIn nodes.now operands.now }
+    requires many { length operands.now ≡ length (params_of earlier.now.file row) }
+    requires fit { operands_fit (signatures_of earlier.now) nodes.now.context (trees_at nodes.now operands.now) (binders_of (params_of earlier.now.file row)) ≡ Ok tt }
+    requires place { i < length (params_of earlier.now.file row) }
+    ensures { (e : Tree) (p : Binder) → slice_get (trees_at nodes.now operands.now) i ≡ Some e → slice_get (binders_of (params_of earlier.now.file row)) i ≡ Some p → result ≡ apart_from nodes.now.context i p.deps e 0 (trees_at nodes.now operands.now) (binders_of (params_of earlier.now.file row)) }
+{
+    let id = operands[i as usize];
+    let word = earlier.word_of(row, i);
+    let mut bits = dependencies(word);
+    'others: for j in 0..earlier.arity_of(row) {
+        if earlier.word_of(row, j).bound() {
+            let exempt = may_meet(i, j, bits);
+            if !stands_beside(nodes, id, operands[j as usize], exempt) {
+                return false;
+            }
+            bits /= 2;
+        }
+    }
+    true
+}
+
+/// The bits of the bound parameters on which a parameter depends, none of a bound one.
+fn dependencies(word: Word) -> u64
+    ensures { result ≡ (if word_bound word then 0 else word_deps word) }
+{
+    if word.bound() { 0 } else { word.deps() }
+}
+
+/// Whether the i-th operand may hold the variable of the j-th: it is the same one, or the i-th parameter
+/// depends on the j-th, which comes before it and whose bit is the lowest.
+fn may_meet(i: u32, j: u32, bits: u64) -> bool
+    ensures { result ≡ (i == j || (nat_lt j i && bits % 2 == 1)) }
+{
+    i == j || (j < i && bits % 2 == 1)
+}
+
+/// Whether an operand may stand beside a bound variable: it doesn't hold that, or is exempt.
+fn stands_beside(nodes: &Nodes, id: Id, bound: Id, exempt: bool) -> bool
+    requires id { IsIn nodes.now id.0 }
+    requires bound { IsIn nodes.now bound.0 }
+    ensures { (sigs : List Signature) → IsOver sigs nodes.now → is_bound_var nodes.now.context (tree_of nodes.now bound.0) ≡ true → result ≡ (exempt || not (var_within nodes.now.context (tree_of nodes.now bound.0) (tree_of nodes.now id.0))) }
+{
+    exempt || nodes.vars(id) & nodes.vars(bound) == 0
+}

@@ -1,0 +1,100 @@
+//! A whole body, read in place.
+ghost use Rattle.std.specs.Prelude.{◌≡◌, ◌≤◌, ◌<◌, ◌^◌, ◌+◌, ◌-◌, ◌*◌, false, length};
+ghost use Rattle.mz_numbered.specs.Numbered.{portable};
+ghost use Rattle.mz_soundness.specs.Bodies.{body_run, body_steps, body_from, body_steps_from};
+ghost use Rattle.mz_pmachine.specs.Steps.{heading_for, tables_for};
+ghost use Rattle.mz_soundness.specs.FileRows.{body_bytes};
+ghost use Rattle.mz_machine.specs.Before.{MayRun, heading_of, tables_before};
+ghost use Rattle.mz_machine.specs.BodyAnswers.{UnlessMem};
+ghost use Rattle.mz_pmachine.specs.BodyAnswers.{IsBodyRun};
+ghost use Rattle.mz_pmachine.specs.Stepping.{ended_at};
+
+use crate::machine::{Finished, Machine, Stepped};
+use mz_cmd::{END, K, Steps, cmd_at};
+use mz_layout::Mmb;
+use mz_machine::{BodyChecked, Rows};
+use std::alloc::Global;
+use std::sync::ledger::Ledger;
+
+/// Runs the body of a statement as a verifier does that compares addresses; its bytes are those from
+/// the first place of `body` up to the second. The statement has this kind, 02 for an axiom, 05 for a
+/// definition and 06 for a theorem; `row` is the next row of its table, and `before` counts the rows
+/// that were declared before.
+///
+/// The words of the row and of those before it are right. A step is counted for each command that is
+/// executed, of the body and of the streams that it runs, up to the END or the one that is refused;
+/// never more than one for each byte of the body and of a stream at each.
+pub fn check_portable<L: Ledger>(
+    alloc: Global,
+    mmb: &Mmb,
+    kind: u8,
+    row: u32,
+    before: Rows,
+    body: (u32, u32),
+    steps: &mut Steps<L>,
+) -> BodyChecked
+    requires may_run { MayRun mmb.now kind row before }
+    requires order { body.0 ≤ body.1 }
+    requires within { body.1 ≤ length mmb.now }
+    ensures run { IsBodyRun (heading_of mmb.now kind row) (body_run portable (tables_before mmb.now before) (heading_of mmb.now kind row) body.0 (body_bytes mmb.now body.0 body.1)) result }
+    ensures most { steps.new ≤ steps.old + (body.1 - body.0) * (length mmb.now + 1) }
+    ensures steps { UnlessMem result (steps.new ≡ steps.old + body_steps portable (tables_before mmb.now before) (heading_of mmb.now kind row) body.0 (body_bytes mmb.now body.0 body.1)) }
+{
+    let Ok(machine) = Machine::begin(alloc, mmb, kind, row, before) else {
+        return BodyChecked::Mem;
+    };
+    let bytes = &mmb.file()[body.0 as usize..body.1 as usize];
+    run(machine, bytes, body.0, steps)
+}
+
+/// Runs the commands of a body, whose first byte stands at a place of the file.
+fn run<L: Ledger>(start: Machine, bytes: &[u8], from: u32, steps: &mut Steps<L>) -> BodyChecked
+    requires within { from + length bytes.now < 2 ^ 32 }
+    requires first { start.next ≡ 0 }
+    ensures run { IsBodyRun (heading_for start.entry) (body_from portable (tables_for start.entry) (heading_for start.entry) (length bytes.now) from bytes.now start.entry.state) result }
+    ensures steps { UnlessMem result (steps.new ≡ steps.old + body_steps_from portable (tables_for start.entry) (heading_for start.entry) (length bytes.now) from bytes.now start.entry.state) }
+    ensures most { steps.new ≤ steps.old + length bytes.now * (length start.entry.file + 1) }
+{
+    let mut machine = start;
+    let mut at = 0;
+    'commands: loop {
+        let Ok(cmd) = cmd_at(bytes, at) else {
+            return BodyChecked::Refused {
+                at: from + at,
+                rule: K::Command,
+            };
+        };
+        let next = at + u32::from(cmd.len);
+        if cmd.code == END {
+            if next as usize != bytes.len() {
+                return BodyChecked::Refused {
+                    at: from + at,
+                    rule: K::StatementLength,
+                };
+            }
+            return ended(from + at, machine.finish(steps));
+        }
+        match machine.step(from + at, cmd, steps) {
+            Stepped::Machine(after) => machine = after,
+            Stepped::Refused(rule) => {
+                return BodyChecked::Refused {
+                    at: from + at,
+                    rule,
+                };
+            }
+            Stepped::Mem => return BodyChecked::Mem,
+        }
+        at = next;
+    }
+}
+
+/// What the END at a place makes of the body.
+fn ended(at: u32, finished: Finished) -> BodyChecked
+    ensures { result ≡ ended_at at finished }
+{
+    match finished {
+        Finished::Body(end) => BodyChecked::Good(end),
+        Finished::Refused(rule) => BodyChecked::Refused { at, rule },
+        Finished::Mem => BodyChecked::Mem,
+    }
+}

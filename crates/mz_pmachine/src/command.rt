@@ -1,0 +1,125 @@
+//! The commands of a body.
+ghost use Rattle.std.specs.Prelude.{ℕ, ◌≡◌, IfSome, IfNone, Some, None};
+ghost use Rattle.mz_cmd.specs.declared.code.ProofCode.TheVariants.{ConvRef};
+ghost use Rattle.mz_soundness.specs.Bodies.{stands_in, body_command, proves};
+ghost use Rattle.mz_machine.specs.Before.{kind_at};
+ghost use Rattle.mz_pmachine.specs.OverNodes.{kind_of, code_of};
+ghost use Rattle.mz_numbered.specs.Numbered.{portable};
+
+use mz_cmd::ProofCode;
+
+/// The kind of a statement whose body runs.
+#[derive(Clone, Copy, Debug, PartialEq, Eq)]
+pub(crate) enum BodyKind {
+    Axiom,
+    Definition,
+    Theorem,
+}
+
+/// A command that makes an expression or a proof.
+#[derive(Clone, Copy, Debug, PartialEq, Eq)]
+pub(crate) enum Making {
+    Term,
+    TermSave,
+    Thm,
+    ThmSave,
+}
+
+/// A command over the heap.
+#[derive(Clone, Copy, Debug, PartialEq, Eq)]
+pub(crate) enum Keeping {
+    Ref,
+    Dummy,
+    Hyp,
+    Save,
+}
+
+/// A command on conversions, and the gap.
+#[derive(Clone, Copy, Debug, PartialEq, Eq)]
+pub(crate) enum Converting {
+    Conv,
+    Refl,
+    Symm,
+    Cong,
+    Unfold,
+    ConvCut,
+    ConvSave,
+    Sorry,
+}
+
+/// A command of a body other than END; its operand stands beside it.
+#[derive(Clone, Copy, Debug, PartialEq, Eq)]
+pub(crate) enum Command {
+    Makes(Making),
+    Keeps(Keeping),
+    Converts(Converting),
+}
+
+/// The kind of a statement with this code: 02 an axiom, 05 a definition, 06 a theorem.
+pub(crate) fn kind_by(code: u8) -> BodyKind
+    ensures { kind_of result ≡ kind_at code }
+{
+    match code {
+        0x05 => BodyKind::Definition,
+        0x02 => BodyKind::Axiom,
+        _ => BodyKind::Theorem,
+    }
+}
+
+/// Whether the command stands in such bodies.
+fn stands_in(kind: BodyKind, command: Command) -> bool
+    ensures { result ≡ stands_in portable (kind_of kind) (code_of command) }
+{
+    match command {
+        Command::Makes(Making::Term | Making::TermSave) => true,
+        Command::Keeps(Keeping::Hyp) => matches!(kind, BodyKind::Axiom | BodyKind::Theorem),
+        Command::Keeps(Keeping::Ref | Keeping::Dummy | Keeping::Save) => true,
+        Command::Makes(Making::Thm | Making::ThmSave) => matches!(kind, BodyKind::Theorem),
+        Command::Converts(_) => matches!(kind, BodyKind::Theorem),
+    }
+}
+
+/// The command with the code. A reference to a conversion by a command of its own is none.
+fn command_of(code: ProofCode) -> Option<Command>
+    ensures some { IfSome result (λ c. code_of c ≡ code) }
+    ensures none { IfNone result (code ≡ ConvRef) }
+{
+    match code {
+        ProofCode::Term => Some(Command::Makes(Making::Term)),
+        ProofCode::TermSave => Some(Command::Makes(Making::TermSave)),
+        ProofCode::Thm => Some(Command::Makes(Making::Thm)),
+        ProofCode::ThmSave => Some(Command::Makes(Making::ThmSave)),
+        ProofCode::Ref => Some(Command::Keeps(Keeping::Ref)),
+        ProofCode::ConvRef => None,
+        ProofCode::Dummy => Some(Command::Keeps(Keeping::Dummy)),
+        ProofCode::Hyp => Some(Command::Keeps(Keeping::Hyp)),
+        ProofCode::Save => Some(Command::Keeps(Keeping::Save)),
+        ProofCode::Conv => Some(Command::Converts(Converting::Conv)),
+        ProofCode::Refl => Some(Command::Converts(Converting::Refl)),
+        ProofCode::Symm => Some(Command::Converts(Converting::Symm)),
+        ProofCode::Cong => Some(Command::Converts(Converting::Cong)),
+        ProofCode::Unfold => Some(Command::Converts(Converting::Unfold)),
+        ProofCode::ConvCut => Some(Command::Converts(Converting::ConvCut)),
+        ProofCode::ConvSave => Some(Command::Converts(Converting::ConvSave)),
+        ProofCode::Sorry => Some(Command::Converts(Converting::Sorry)),
+    }
+}
+
+/// The command with a code other than END's, if it is one of such bodies.
+#[tactic(auto, using(crate::proofs::Codes::no_conv_ref))]
+pub(crate) fn decoded(kind: BodyKind, code: u8) -> Option<Command>
+    requires { code ≡ 0 → ⊥ }
+    ensures some { IfSome result (λ c. (value : ℕ) → body_command portable (kind_of kind) code value ≡ Some (proves (code_of c) value)) }
+    ensures none { IfNone result ((value : ℕ) → body_command portable (kind_of kind) code value ≡ None) }
+{
+    let Ok(proof) = ProofCode::try_from(code) else {
+        return None;
+    };
+    let Some(command) = command_of(proof) else {
+        return None;
+    };
+    if !stands_in(kind, command) {
+        return None;
+    }
+    Some(command)
+}

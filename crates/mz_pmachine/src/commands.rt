@@ -1,0 +1,236 @@
+//! What each command does: its premises in order, and what it leaves.
+pub(crate) mod conversions;
+pub(crate) mod heap;
+pub(crate) mod terms;
+
+ghost use Rattle.std.specs.Prelude.{ℕ, ◌≡◌, ◌<◌, ◌≤◌, ◌+◌, ◌++◌, ◌∷◌, ◌^◌, [], ⊤, List, OnOk, IsTrue, MatchResult, length};
+ghost use Rattle.mz_nodes.specs.Numbering.{AreIn, IsOver};
+ghost use Rattle.mz_store.specs.declared.item.Id.{Id};
+ghost use Rattle.mz_store.specs.declared.item.Item.TheVariants.{Proof};
+ghost use Rattle.mz_punify.specs.Stored.{AreItemsIn};
+ghost use Rattle.mz_soundness.specs.ProofMachine.{proof_row};
+ghost use Rattle.mz_soundness.specs.Bodies.{row_steps};
+ghost use Rattle.mz_machine.specs.Before.{tables_of, signatures_of};
+ghost use Rattle.mz_pmachine.specs.OverNodes.{state_at, code_of, code_of_making, code_of_keeping, code_of_converting, Gives, UnlessMem, Grows};
+ghost use Rattle.mz_punify.specs.Rows.{StopsBy};
+ghost use Rattle.mz_numbered.specs.Numbered.{portable};
+
+use crate::command::{Command, Converting, Keeping, Making};
+use crate::earlier::Earlier;
+use crate::stack::{push, push_id};
+use conversions::{cong, conv, conv_cut, conv_save, refl, symm, unfold};
+use heap::{dummy, hyp, refer, save};
+use mz_cmd::{K, Steps};
+use mz_nodes::Nodes;
+use mz_punify::Stop;
+use mz_store::{Id, Item};
+use std::alloc::Global;
+use std::sync::ledger::Ledger;
+use terms::{term, thm};
+
+/// Executes a command that makes an expression or a proof.
+fn make<L: Ledger>(
+    alloc: Global,
+    earlier: &Earlier,
+    at: u32,
+    command: Making,
+    value: u32,
+    nodes: &mut Nodes,
+    heap: &mut Vec<Item>,
+    stack: &mut Vec<Item>,
+    steps: &mut Steps<L>,
+) -> Result<(), Stop>
+    requires number { nodes.old.next ≤ at }
+    requires over { IsOver (signatures_of earlier.now) nodes.old }
+    requires heap { AreItemsIn nodes.old heap.old.items }
+    requires stack { AreItemsIn nodes.old stack.old.items }
+    ensures grows { OnOk result (Grows (signatures_of earlier.now) nodes.old nodes.new) }
+    ensures ids { OnOk result (AreItemsIn nodes.new heap.new.items × AreItemsIn nodes.new stack.new.items) }
+    ensures next { OnOk result (nodes.new.next ≤ at + 1) }
+    ensures row { (hyps : List Id) → AreIn nodes.old hyps → Gives (proof_row portable (tables_of earlier.now) at (code_of_making command) value (state_at nodes.old heap.old.items stack.old.items hyps)) result (λ _. state_at nodes.new heap.new.items stack.new.items hyps) }
+    ensures steps { (hyps : List Id) → UnlessMem result (steps.new ≡ steps.old + row_steps portable (tables_of earlier.now) (code_of_making command) value (state_at nodes.old heap.old.items stack.old.items hyps)) }
+    ensures most { steps.new ≤ steps.old + length earlier.now.file }
+{
+    match command {
+        Making::Term => {
+            term(alloc, earlier, at, value, nodes, stack)?;
+            Ok(())
+        }
+        Making::TermSave => {
+            let made = term(alloc, earlier, at, value, nodes, stack)?;
+            push(heap, Item::Expr(made))?;
+            Ok(())
+        }
+        Making::Thm => {
+            thm(alloc, earlier, value, nodes, stack, steps)?;
+            Ok(())
+        }
+        Making::ThmSave => {
+            let proved = thm(alloc, earlier, value, nodes, stack, steps)?;
+            push(heap, Item::Proof(proved))?;
+            Ok(())
+        }
+    }
+}
+
+/// Executes a command over the heap.
+fn keep(
+    earlier: &Earlier,
+    command: Keeping,
+    value: u32,
+    nodes: &mut Nodes,
+    heap: &mut Vec<Item>,
+    stack: &mut Vec<Item>,
+    hyps: &mut Vec<Id>,
+) -> Result<(), Stop>
+    requires over { IsOver (signatures_of earlier.now) nodes.old }
+    requires heap { AreItemsIn nodes.old heap.old.items }
+    requires stack { AreItemsIn nodes.old stack.old.items }
+    requires hyps { AreIn nodes.old hyps.old.items }
+    requires few { length hyps.old.items < 2 ^ 32 }
+    ensures grows { OnOk result (Grows (signatures_of earlier.now) nodes.old nodes.new) }
+    ensures ids { OnOk result (AreItemsIn nodes.new heap.new.items × AreItemsIn nodes.new stack.new.items × AreIn nodes.new hyps.new.items) }
+    ensures few { OnOk result (length hyps.new.items < 2 ^ 32) }
+    ensures next { OnOk result (nodes.new.next ≡ nodes.old.next) }
+    ensures row { (at : ℕ) → Gives (proof_row portable (tables_of earlier.now) at (code_of_keeping command) value (state_at nodes.old heap.old.items stack.old.items hyps.old.items)) result (λ _. state_at nodes.new heap.new.items stack.new.items hyps.new.items) }
+{
+    match command {
+        Keeping::Ref => {
+            refer(nodes, value, heap, stack)?;
+            Ok(())
+        }
+        Keeping::Dummy => {
+            let made = dummy(earlier, value, nodes)?;
+            push(heap, Item::Expr(made))?;
+            push(stack, Item::Expr(made))?;
+            Ok(())
+        }
+        Keeping::Hyp => match hyp(earlier, nodes, stack) {
+            Ok(claim) => {
+                assume(claim, heap, hyps)?;
+                Ok(())
+            }
+            Err(rule) => Err(Stop::Rule(rule)),
+        },
+        Keeping::Save => match save(nodes, stack) {
+            Ok(item) => {
+                push(heap, item)?;
+                Ok(())
+            }
+            Err(rule) => Err(Stop::Rule(rule)),
+        },
+    }
+}
+
+/// Keeps a hypothesis, and a proof of it in the heap. There is no place for 2^32 hypotheses.
+fn assume(claim: Id, heap: &mut Vec<Item>, hyps: &mut Vec<Id>) -> Result<(), Stop>
+    requires few { length hyps.old.items < 2 ^ 32 }
+    ensures heap { OnOk result (heap.new.items ≡ heap.old.items ++ Proof claim ∷ []) }
+    ensures hyps { OnOk result (hyps.new.items ≡ hyps.old.items ++ claim ∷ []) }
+    ensures few { OnOk result (length hyps.new.items < 2 ^ 32) }
+    ensures err { MatchResult result (λ _. ⊤) (λ stop. StopsBy stop (λ _. ⊥)) }
+{
+    if hyps.len() >= u32::MAX as usize {
+        return Err(Stop::Mem);
+    }
+    push(heap, Item::Proof(claim))?;
+    push_id(hyps, claim)?;
+    Ok(())
+}
+
+/// Executes a command on conversions. A gap is refused.
+fn convert<L: Ledger>(
+    alloc: Global,
+    earlier: &Earlier,
+    command: Converting,
+    nodes: &Nodes,
+    heap: &mut Vec<Item>,
+    stack: &mut Vec<Item>,
+    steps: &mut Steps<L>,
+) -> Result<(), Stop>
+    requires over { IsOver (signatures_of earlier.now) nodes.now }
+    requires heap { AreItemsIn nodes.now heap.old.items }
+    requires stack { AreItemsIn nodes.now stack.old.items }
+    ensures ids { OnOk result (AreItemsIn nodes.now heap.new.items × AreItemsIn nodes.now stack.new.items) }
+    ensures row { (at value : ℕ) (hyps : List Id) → Gives (proof_row portable (tables_of earlier.now) at (code_of_converting command) value (state_at nodes.now heap.old.items stack.old.items hyps)) result (λ _. state_at nodes.now heap.new.items stack.new.items hyps) }
+    ensures steps { (value : ℕ) (hyps : List Id) → UnlessMem result (steps.new ≡ steps.old + row_steps portable (tables_of earlier.now) (code_of_converting command) value (state_at nodes.now heap.old.items stack.old.items hyps)) }
+    ensures most { steps.new ≤ steps.old + length earlier.now.file }
+{
+    match command {
+        Converting::Conv => match conv(nodes, stack) {
+            Ok(()) => Ok(()),
+            Err(rule) => Err(Stop::Rule(rule)),
+        },
+        Converting::Refl => match refl(nodes, stack) {
+            Ok(()) => Ok(()),
+            Err(rule) => Err(Stop::Rule(rule)),
+        },
+        Converting::Symm => match symm(nodes, stack) {
+            Ok(()) => Ok(()),
+            Err(rule) => Err(Stop::Rule(rule)),
+        },
+        Converting::Cong => {
+            cong(nodes, stack)?;
+            Ok(())
+        }
+        Converting::Unfold => {
+            unfold(earlier, nodes, stack, steps)?;
+            Ok(())
+        }
+        Converting::ConvCut => {
+            conv_cut(nodes, stack)?;
+            Ok(())
+        }
+        Converting::ConvSave => match conv_save(nodes, stack) {
+            Ok(item) => {
+                push(heap, item)?;
+                Ok(())
+            }
+            Err(rule) => Err(Stop::Rule(rule)),
+        },
+        Converting::Sorry => Err(Stop::Rule(K::Sorry)),
+    }
+}
+
+/// Executes the command at a place.
+pub(crate) fn execute<L: Ledger>(
+    alloc: Global,
+    earlier: &Earlier,
+    at: u32,
+    command: Command,
+    value: u32,
+    nodes: &mut Nodes,
+    heap: &mut Vec<Item>,
+    stack: &mut Vec<Item>,
+    hyps: &mut Vec<Id>,
+    steps: &mut Steps<L>,
+) -> Result<(), Stop>
+    requires number { nodes.old.next ≤ at }
+    requires over { IsOver (signatures_of earlier.now) nodes.old }
+    requires heap { AreItemsIn nodes.old heap.old.items }
+    requires stack { AreItemsIn nodes.old stack.old.items }
+    requires hyps { AreIn nodes.old hyps.old.items }
+    requires few { length hyps.old.items < 2 ^ 32 }
+    ensures grows { OnOk result (Grows (signatures_of earlier.now) nodes.old nodes.new) }
+    ensures ids { OnOk result (AreItemsIn nodes.new heap.new.items × AreItemsIn nodes.new stack.new.items × AreIn nodes.new hyps.new.items) }
+    ensures few { OnOk result (length hyps.new.items < 2 ^ 32) }
+    ensures next { OnOk result (nodes.new.next ≤ at + 1) }
+    ensures row { Gives (proof_row portable (tables_of earlier.now) at (code_of command) value (state_at nodes.old heap.old.items stack.old.items hyps.old.items)) result (λ _. state_at nodes.new heap.new.items stack.new.items hyps.new.items) }
+    ensures steps { UnlessMem result (steps.new ≡ steps.old + row_steps portable (tables_of earlier.now) (code_of command) value (state_at nodes.old heap.old.items stack.old.items hyps.old.items)) }
+    ensures most { steps.new ≤ steps.old + length earlier.now.file }
+{
+    match command {
+        Command::Makes(making) => {
+            make(alloc, earlier, at, making, value, nodes, heap, stack, steps)?;
+            Ok(())
+        }
+        Command::Keeps(keeping) => {
+            keep(earlier, keeping, value, nodes, heap, stack, hyps)?;
+            Ok(())
+        }
+        Command::Converts(converting) => {
+            convert(alloc, earlier, converting, nodes, heap, stack, steps)?;
+            Ok(())
+        }
+    }
+}

@@ -1,0 +1,285 @@
+//! The END of a body: the one item that is left, and the row's own stream on it.
+ghost use Rattle.std.specs.Prelude.{◌≡◌, ◌≤◌, ◌<◌, ◌^◌, ◌+◌, ◌∷◌, [], List, IfOk, IfSome, length, map};
+ghost use Rattle.std.specs.List.{range_with_len};
+ghost use Rattle.mz_layout.specs.Tables.{term_row};
+ghost use Rattle.mz_nodes.specs.Numbering.{AreIn, IsIn, IsOver, expr_of, tree_of};
+ghost use Rattle.mz_store.specs.declared.item.Item.{Item as Kept};
+ghost use Rattle.mz_store.specs.declared.item.DepsMode.TheVariants.{Free};
+ghost use Rattle.mz_unification.specs.UnifyMachine.{unify, unify_steps};
+ghost use Rattle.mz_punify.specs.Stored.{items_at, item_at, exprs_at, matching_at, AreItemsIn, IsItemIn};
+ghost use Rattle.mz_soundness.specs.Tables.{State, is_axiom, is_definition};
+ghost use Rattle.mz_soundness.specs.FreeVars.{free_within};
+ghost use Rattle.mz_soundness.specs.ProofMachine.{proof_end, ends_with, ending, last_item, as_proofs};
+ghost use Rattle.mz_soundness.specs.Bodies.{match_steps};
+ghost use Rattle.mz_machine.specs.Before.{tables_of, signatures_of, heading_by, IsNextRow};
+ghost use Rattle.mz_machine.specs.OverStore.{mode_for, IsContextOf, GivesRule};
+ghost use Rattle.mz_pmachine.specs.OverNodes.{state_at, kind_of, AreFirst, Gives, UnlessMem};
+ghost use Rattle.mz_machine.specs.Endings.{mode_at};
+ghost use Rattle.mz_pmachine.specs.Endings.{ended, items_of, IsOwnRun};
+ghost use Rattle.mz_numbered.specs.Numbered.{Numbered, a_variable, portable};
+
+use crate::command::BodyKind;
+use crate::commands::heap::is_provable;
+use crate::earlier::Earlier;
+use mz_cmd::{K, Steps};
+use mz_logic::Word;
+use mz_nodes::Nodes;
+use mz_punify::{Stop, unify};
+use mz_store::{Id, Item};
+use mz_unify::{Unified, UnifyMode};
+use std::alloc::Global;
+use std::sync::ledger::Ledger;
+
+/// Ends the body of the next row of its kind: the stack is one item, for a theorem a proof and else
+/// an expression, and what the row's own stream spells.
+pub(crate) fn end<L: Ledger>(
+    alloc: Global,
+    earlier: &Earlier,
+    kind: BodyKind,
+    row: u32,
+    nodes: &Nodes,
+    stack: &[Item],
+    hyps: &[Id],
+    steps: &mut Steps<L>,
+) -> Result<(), Stop>
+    requires row { IsNextRow earlier.now.file earlier.now.rows row (kind_of kind) }
+    requires over { IsOver (signatures_of earlier.now) nodes.now }
+    requires mode { nodes.now.mode ≡ mode_for (kind_of kind) }
+    requires context { IsContextOf (heading_by earlier.now.file row (kind_of kind)).params nodes.now.context }
+    requires params { AreFirst nodes.now (length (heading_by earlier.now.file row (kind_of kind)).params) }
+    requires stack { AreItemsIn nodes.now stack.now }
+    requires hyps { AreIn nodes.now hyps.now }
+    ensures row { (heap : List Kept) → Gives (proof_end portable (tables_of earlier.now) (heading_by earlier.now.file row (kind_of kind)) (state_at nodes.now heap stack.now hyps.now)) result (λ _. state_at nodes.now heap stack.now hyps.now) }
+    ensures most { steps.new ≤ steps.old + length earlier.now.file }
+    ensures steps { (heap : List Kept) → UnlessMem result (steps.new ≡ steps.old + match_steps portable (tables_of earlier.now) (state_at nodes.now heap stack.now hyps.now) (ends_with portable (tables_of earlier.now) (heading_by earlier.now.file row (kind_of kind)) (state_at nodes.now heap stack.now hyps.now))) }
+{
+    let target = match last_item(kind, nodes, stack) {
+        Ok(target) => target,
+        Err(rule) => return Err(Stop::Rule(rule)),
+    };
+    if let Err(rule) = check_target(earlier, kind, row, nodes, target) {
+        return Err(Stop::Rule(rule));
+    }
+    let Some(operands) = first_ids(alloc, nodes, own_arity(earlier, kind, row)) else {
+        return Err(Stop::Mem);
+    };
+    let Some(proofs) = own_proofs(alloc, kind, nodes, hyps) else {
+        return Err(Stop::Mem);
+    };
+    let stream = own_stream(earlier, kind, row);
+    run_own(
+        earlier, kind, stream, operands, target, proofs, nodes, steps,
+    )
+}
+
+/// How many parameters the next row of the kind has.
+#[tactic(auto, using(mz_machine::proofs::BeforeLaws::binders_many))]
+fn own_arity(earlier: &Earlier, kind: BodyKind, row: u32) -> u32
+    requires { IsNextRow earlier.now.file earlier.now.rows row (kind_of kind) }
+    ensures { result ≡ length (heading_by earlier.now.file row (kind_of kind)).params }
+{
+    match kind {
+        BodyKind::Axiom => earlier.own_thm_arity(row),
+        BodyKind::Theorem => earlier.own_thm_arity(row),
+        BodyKind::Definition => earlier.own_term_arity(row),
+    }
+}
+
+/// The unify stream of the next row of the kind, from its first byte to the file's end.
+fn own_stream<'a>(earlier: &Earlier<'a>, kind: BodyKind, row: u32) -> &'a [u8]
+    requires { IsNextRow earlier.now.file earlier.now.rows row (kind_of kind) }
+    ensures stream { result.now ≡ (heading_by earlier.now.file row (kind_of kind)).stream }
+    ensures fits { length result.now < 2 ^ 32 }
+    ensures within { length result.now ≤ length earlier.now.file }
+{
+    match kind {
+        BodyKind::Axiom => earlier.own_thm_stream(row),
+        BodyKind::Theorem => earlier.own_thm_stream(row),
+        BodyKind::Definition => earlier.own_term_stream(row),
+    }
+}
+
+/// Runs the row's own stream: at an assertion's end its hypotheses are taken too.
+fn run_own<L: Ledger>(
+    earlier: &Earlier,
+    kind: BodyKind,
+    stream: &[u8],
+    operands: Vec<Id>,
+    target: Id,
+    proofs: Vec<Item>,
+    nodes: &Nodes,
+    steps: &mut Steps<L>,
+) -> Result<(), Stop>
+    requires stream { length stream.now < 2 ^ 32 }
+    requires over { IsOver (signatures_of earlier.now) nodes.now }
+    requires operands { AreIn nodes.now operands.items }
+    requires target { IsIn nodes.now target.0 }
+    requires proofs { AreItemsIn nodes.now proofs.items }
+    ensures run { IsOwnRun (unify portable (signatures_of earlier.now) nodes.now.context (matching_at nodes.now (mode_at (kind_of kind)) stream.now operands.items target proofs.items)) result }
+    ensures steps { UnlessMem result (steps.new ≡ steps.old + unify_steps portable (signatures_of earlier.now) nodes.now.context (matching_at nodes.now (mode_at (kind_of kind)) stream.now operands.items target proofs.items)) }
+    ensures most { steps.new ≤ steps.old + length stream.now }
+{
+    let mut operands = operands;
+    let mut proofs = proofs;
+    let mode = mode_of(kind);
+    match unify(
+        earlier,
+        stream,
+        mode,
+        &mut operands,
+        target,
+        &mut proofs,
+        nodes,
+        steps,
+    ) {
+        Unified::Done { .. } => Ok(()),
+        Unified::Refused { rule, .. } => Err(Stop::Rule(rule)),
+        Unified::Mem => Err(Stop::Mem),
+    }
+}
+
+fn mode_of(kind: BodyKind) -> UnifyMode
+    ensures { result ≡ mode_at (kind_of kind) }
+{
+    match kind {
+        BodyKind::Axiom | BodyKind::Theorem => UnifyMode::Final,
+        BodyKind::Definition => UnifyMode::Body,
+    }
+}
+
+/// The one item that is left: for a theorem a proof, else an expression.
+fn last_item(kind: BodyKind, nodes: &Nodes, stack: &[Item]) -> Result<Id, K>
+    requires { AreItemsIn nodes.now stack.now }
+    ensures ids { IfOk result (λ id. IsIn nodes.now id.0) }
+    ensures last { GivesRule (last_item (kind_of kind) (items_at nodes.now stack.now)) result (λ id. expr_of nodes.now id.0) }
+{
+    match stack {
+        [item] => only_item(kind, nodes, *item),
+        _ => Err(K::FinalStack),
+    }
+}
+
+/// What the item that is left proves or is.
+fn only_item(kind: BodyKind, nodes: &Nodes, item: Item) -> Result<Id, K>
+    requires { IsItemIn nodes.now item }
+    ensures ids { IfOk result (λ id. IsIn nodes.now id.0) }
+    ensures last { GivesRule (last_item (kind_of kind) (item_at nodes.now item ∷ [])) result (λ id. expr_of nodes.now id.0) }
+{
+    match (kind, item) {
+        (BodyKind::Theorem, Item::Proof(id)) => Ok(id),
+        (BodyKind::Axiom, Item::Expr(id)) => Ok(id),
+        (BodyKind::Definition, Item::Expr(id)) => Ok(id),
+        _ => Err(K::FinalStack),
+    }
+}
+
+/// What is asked of the expression before the row's own stream runs on it.
+fn check_target(
+    earlier: &Earlier,
+    kind: BodyKind,
+    row: u32,
+    nodes: &Nodes,
+    target: Id,
+) -> Result<(), K>
+    requires row { IsNextRow earlier.now.file earlier.now.rows row (kind_of kind) }
+    requires over { IsOver (signatures_of earlier.now) nodes.now }
+    requires mode { nodes.now.mode ≡ mode_for (kind_of kind) }
+    requires context { IsContextOf (heading_by earlier.now.file row (kind_of kind)).params nodes.now.context }
+    requires target { IsIn nodes.now target.0 }
+    ensures { (st : State Numbered) → st.ctx ≡ nodes.now.context → GivesRule (ending portable (tables_of earlier.now) (heading_by earlier.now.file row (kind_of kind)) st (kind_of kind) (expr_of nodes.now target.0)) result (λ _. ended (heading_by earlier.now.file row (kind_of kind)) st (kind_of kind) (expr_of nodes.now target.0)) }
+{
+    match kind {
+        BodyKind::Theorem => Ok(()),
+        BodyKind::Axiom => check_claim(earlier, row, nodes, target),
+        BodyKind::Definition => check_body(earlier, row, nodes, target),
+    }
+}
+
+/// An axiom's expression has a provable sort.
+fn check_claim(earlier: &Earlier, row: u32, nodes: &Nodes, target: Id) -> Result<(), K>
+    requires over { IsOver (signatures_of earlier.now) nodes.now }
+    requires target { IsIn nodes.now target.0 }
+    ensures { (st : State Numbered) → st.ctx ≡ nodes.now.context → GivesRule (ending portable (tables_of earlier.now) (heading_by earlier.now.file row is_axiom) st is_axiom (expr_of nodes.now target.0)) result (λ _. ended (heading_by earlier.now.file row is_axiom) st is_axiom (expr_of nodes.now target.0)) }
+{
+    if is_provable(earlier, nodes.sort_of(target)) {
+        Ok(())
+    } else {
+        Err(K::NotProvable)
+    }
+}
+
+/// A definition's body has the result's sort, and no free variables but those on which the result
+/// depends.
+fn check_body(earlier: &Earlier, row: u32, nodes: &Nodes, target: Id) -> Result<(), K>
+    requires row { IsNextRow earlier.now.file earlier.now.rows row is_definition }
+    requires over { IsOver (signatures_of earlier.now) nodes.now }
+    requires mode { nodes.now.mode ≡ Free }
+    requires context { IsContextOf (heading_by earlier.now.file row is_definition).params nodes.now.context }
+    requires target { IsIn nodes.now target.0 }
+    ensures { (st : State Numbered) → st.ctx ≡ nodes.now.context → GivesRule (ending portable (tables_of earlier.now) (heading_by earlier.now.file row is_definition) st is_definition (expr_of nodes.now target.0)) result (λ _. ended (heading_by earlier.now.file row is_definition) st is_definition (expr_of nodes.now target.0)) }
+{
+    let result = earlier.own_result(row);
+    if nodes.sort_of(target) != result.sort() {
+        return Err(K::DefinitionSort);
+    }
+    if !are_free_within(earlier, row, nodes, target, result) {
+        return Err(K::DefinitionDependencies);
+    }
+    Ok(())
+}
+
+/// Whether the expression has no free variables but those whose bits the result's word has.
+fn are_free_within(earlier: &Earlier, row: u32, nodes: &Nodes, target: Id, word: Word) -> bool
+    requires row { IsNextRow earlier.now.file earlier.now.rows row is_definition }
+    requires over { IsOver (signatures_of earlier.now) nodes.now }
+    requires mode { nodes.now.mode ≡ Free }
+    requires context { IsContextOf (heading_by earlier.now.file row is_definition).params nodes.now.context }
+    requires target { IsIn nodes.now target.0 }
+    requires word { word ≡ (term_row earlier.now.file row).words.result }
+    ensures { result ≡ free_within (signatures_of earlier.now) nodes.now.context (heading_by earlier.now.file row is_definition).result.deps (tree_of nodes.now target.0) (length nodes.now.context) }
+{
+    let told = nodes.deps(target);
+    told & word.deps() == told
+}
+
+/// The ids of the row's parameters, which are the first; none where memory is wanting.
+fn first_ids(alloc: Global, nodes: &Nodes, count: u32) -> Option<Vec<Id>>
+    requires { AreFirst nodes.now count }
+    ensures exprs { IfSome result (λ ids. exprs_at nodes.now ids.items ≡ map a_variable (range_with_len 0 count)) }
+    ensures ids { IfSome result (λ ids. AreIn nodes.now ids.items) }
+{
+    let mut ids = Vec::new(alloc);
+    'params: for i in 0..count {
+        let Ok(()) = ids.push(Id(u64::from(i))) else {
+            return None;
+        };
+    }
+    Some(ids)
+}
+
+/// The hypotheses as proofs, of which a definition has none; none where memory is wanting.
+fn own_proofs(alloc: Global, kind: BodyKind, nodes: &Nodes, hyps: &[Id]) -> Option<Vec<Item>>
+    requires { AreIn nodes.now hyps.now }
+    ensures items { IfSome result (λ items. items_at nodes.now items.items ≡ items_of (kind_of kind) (exprs_at nodes.now hyps.now)) }
+    ensures ids { IfSome result (λ items. AreItemsIn nodes.now items.items) }
+{
+    match kind {
+        BodyKind::Definition => Some(Vec::new(alloc)),
+        BodyKind::Axiom | BodyKind::Theorem => proofs_of(alloc, nodes, hyps),
+    }
+}
+
+/// The hypotheses as proofs.
+fn proofs_of(alloc: Global, nodes: &Nodes, hyps: &[Id]) -> Option<Vec<Item>>
+    requires { AreIn nodes.now hyps.now }
+    ensures items { IfSome result (λ items. items_at nodes.now items.items ≡ as_proofs (exprs_at nodes.now hyps.now)) }
+    ensures ids { IfSome result (λ items. AreItemsIn nodes.now items.items) }
+{
+    let mut items = Vec::new(alloc);
+    'hyps: for hyp in hyps {
+        let Ok(()) = items.push(Item::Proof(*hyp)) else {
+            return None;
+        };
+    }
+    Some(items)
+}

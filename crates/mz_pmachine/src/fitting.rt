@@ -1,0 +1,80 @@
+//! The operands of a row: taken from the stack, and compared with its parameters.
+ghost use Rattle.std.specs.Prelude.{ℕ, ◌≡◌, List, [], ◌∷◌, IfOk, length};
+ghost use Rattle.mz_logic.specs.Signature.{Signature};
+ghost use Rattle.mz_logic.specs.Words.{binders_of, word_bound, word_sort};
+ghost use Rattle.mz_logic.specs.declared.binder.Binder.{Binder};
+ghost use Rattle.mz_nodes.specs.Numbering.{IsIn, AreIn, IsOver, tree_of};
+ghost use Rattle.mz_punify.specs.Stored.{items_at, exprs_at, trees_at, AreItemsIn};
+ghost use Rattle.mz_soundness.specs.Premises.{pop_operands, operands_fit};
+ghost use Rattle.mz_machine.specs.Before.{signatures_of};
+ghost use Rattle.mz_pmachine.specs.OperandRows.{IsBefore, params_of};
+ghost use Rattle.mz_machine.specs.OverStore.{GivesRule};
+ghost use Rattle.mz_pmachine.specs.OverNodes.{Gives};
+
+use crate::earlier::{Earlier, Row};
+use crate::stack::{pop_expr, push_id};
+use mz_cmd::K;
+use mz_logic::Word;
+use mz_nodes::Nodes;
+use mz_punify::Stop;
+use mz_store::{Id, Item};
+use std::alloc::Global;
+
+/// Takes so many expressions from the stack, of which the last is on top.
+pub(crate) fn pop_operands(
+    alloc: Global,
+    nodes: &Nodes,
+    count: u32,
+    stack: &mut Vec<Item>,
+) -> Result<Vec<Id>, Stop>
+    requires { AreItemsIn nodes.now stack.old.items }
+    ensures ids { IfOk result (λ es. AreIn nodes.now es.items × AreItemsIn nodes.now stack.new.items) }
+    ensures many { IfOk result (λ es. length es.items ≡ count) }
+    ensures taken { Gives (pop_operands count (items_at nodes.now stack.old.items)) result (λ es. (exprs_at nodes.now es.items, items_at nodes.now stack.new.items)) }
+{
+    if stack.len() < count as usize {
+        return Err(Stop::Rule(K::Underflow));
+    }
+    let mut taken = Vec::new(alloc);
+    'operands: for i in 0..count {
+        match pop_expr(nodes, stack) {
+            Ok(id) => push_id(&mut taken, id)?,
+            Err(rule) => return Err(Stop::Rule(rule)),
+        }
+    }
+    taken.reverse();
+    Ok(taken)
+}
+
+/// Whether an operand has its parameter's sort, and for a bound parameter is a bound variable.
+fn check_operand(nodes: &Nodes, word: Word, id: Id) -> Result<(), K>
+    requires { IsIn nodes.now id.0 }
+    ensures { (sigs : List Signature) (p : Binder) → IsOver sigs nodes.now → p.sort ≡ word_sort word → p.bound ≡ word_bound word → GivesRule (operands_fit sigs nodes.now.context (tree_of nodes.now id.0 ∷ []) (p ∷ [])) result (λ _. tt) }
+{
+    if nodes.sort_of(id) != word.sort() {
+        return Err(K::OperandSort);
+    }
+    if word.bound() && !nodes.is_bound(id) {
+        return Err(K::OperandBound);
+    }
+    Ok(())
+}
+
+/// Whether each operand fits its parameter.
+pub(crate) fn check_operands(
+    earlier: &Earlier,
+    row: Row,
+    nodes: &Nodes,
+    operands: &[Id],
+) -> Result<(), K>
+    requires row { IsBefore earlier.now row }
+    requires over { IsOver (signatures_of earlier.now) nodes.now }
+    requires ids { AreIn nodes.now operands.now }
+    requires many { length operands.now ≡ length (params_of earlier.now.file row) }
+    ensures { GivesRule (operands_fit (signatures_of earlier.now) nodes.now.context (trees_at nodes.now operands.now) (binders_of (params_of earlier.now.file row))) result (λ _. tt) }
+{
+    'operands: for j in 0..earlier.arity_of(row) {
+        check_operand(nodes, earlier.word_of(row, j), operands[j as usize])?;
+    }
+    Ok(())
+}

@@ -1,0 +1,18 @@
+//! The proof machine of verifiers that compare addresses, as it runs over the nodes of a body.
+//!
+//! What the machine is, is said in `mz_soundness`, over the profile `portable` of `mz_numbered`;
+//! `specs/OverNodes.antt` says how the running machine stands for the one that is defined there.
+#![tactic(auto)]
+
+mod apart;
+mod begin;
+mod body;
+mod command;
+mod commands;
+mod earlier;
+mod end;
+mod fitting;
+mod machine;
+mod stack;
+
+pub use body::check_portable;

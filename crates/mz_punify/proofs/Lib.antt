@@ -1,0 +1,5 @@
+pub mod StoredIds
+mod VariableWords
+pub mod RowValues
+mod UnifyTurns
+mod Underway

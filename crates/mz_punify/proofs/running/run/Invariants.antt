@@ -1,0 +1,23 @@
+use Rattle.std.proofs.Common.{◌≡◌, ℕ, ◌+◌, ◌-◌, ◌≤◌, List, length}
+use Rattle.mz_logic.specs.Signature.{Signature}
+use Rattle.mz_nodes.specs.Numbering.{AreIn, IsOver}
+use Rattle.mz_unify.specs.Stored.{mode_of, AreLeft}
+use Rattle.mz_punify.specs.Stored.{exprs_at, AreItemsIn}
+use Rattle.mz_punify.specs.Rows.{state_at}
+use Rattle.mz_punify.proofs.Underway.{IsUnderway}
+use Rattle.mz_punify.proofs.running.run.Given as goal
+
+abbrev pub invariant-commands : goal.invariant-commands
+invariant-commands g l = record {
+  in_range : l.at ≤ length l.stream;
+  heap : AreIn l.nodes l.heap.items;
+  targets : AreIn l.nodes l.targets.items;
+  hyps : AreItemsIn l.nodes l.hyps.items;
+  ticked : l.steps ≤ l.fn.steps + l.at;
+  held : l.held ≡ length l.fn.hyps.items;
+  left : (taken : ℕ) × (taken ≤ l.at) × AreLeft l.fn.hyps.items l.hyps.items taken;
+  underway : (sigs : List Signature) → IsOver sigs l.nodes → IsUnderway l.nodes (mode_of l.mode) l.stream sigs (state_at l.nodes l.fn.heap.items (exprs_at l.nodes l.fn.heap.items) l.fn.start.items l.fn.hyps.items) l.fn.steps l.at l.apart l.heap.items l.targets.items l.hyps.items l.steps;
+}
+
+abbrev pub decreases-commands : goal.decreases-commands
+decreases-commands g l = length l.stream - l.at
