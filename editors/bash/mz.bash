@@ -13,9 +13,9 @@ _mz() {
     local word=${COMP_WORDS[COMP_CWORD]} IFS=$'\n'
     COMPREPLY=()
     case $COMP_CWORD:${COMP_WORDS[1]} in
-        1:*) COMPREPLY=($(compgen -W $'verify\ncompile\ncompile_draft\nspec\nshow\nassemble\naxioms\ndraft\nsample' -- "$word")) ;;
-        2:verify | 2:axioms | 2:draft) _mz_files "$word" mm0 ;;
-        3:verify | 3:axioms | 3:draft | 2:show) _mz_files "$word" mmb ;;
+        1:*) COMPREPLY=($(compgen -W $'verify\ncompile\ncompile_draft\nspec\nshow\nassemble\naxioms\ndraft\nportable\nsample' -- "$word")) ;;
+        2:verify | 2:axioms | 2:draft | 2:portable) _mz_files "$word" mm0 ;;
+        3:verify | 3:axioms | 3:draft | 3:portable | 2:show) _mz_files "$word" mmb ;;
         2:compile | 2:compile_draft | 2:spec) _mz_files "$word" mmu ;;
         3:spec) _mz_files "$word" mm0 ;;
         3:compile | 3:compile_draft | 3:assemble) _mz_files "$word" mmb ;;

@@ -17,6 +17,7 @@ use Rattle.mz_steps.specs.Sameness.{IsSameForm}
 use Rattle.mz_steps.specs.SameLists.{IsSameList}
 use Rattle.mz_streams.specs.SpelledLists.{list_spelled}
 use Rattle.mz_writing.specs.Writing.{IsWrittenAs}
+use Rattle.mz_binary.specs.Standards.{by_table}
 
 -- ---- lists that are the same
 
@@ -41,4 +42,4 @@ SpelledListsAgree = (ds : List Declaration) (ss : List Statement) → IsLegalEnv
 -- statements agree; with gaps as a draft, and else as it is
 abbrev pub WrittenFilesAreAccepted : Type 0
 WrittenFilesAreAccepted = (gaps : Bool) (p : Parts) (text made : List Statement) → Fit p → LegalBy (allowed_with gaps) text → IsWrittenAs gaps p text made
-    → (spec : List ℕ) (ds : List Declaration) → SpecOf spec ds → Agrees ds (publics text) → AcceptsBy gaps spec (file_of p)
+    → (spec : List ℕ) (ds : List Declaration) → SpecOf spec ds → Agrees ds (publics text) → AcceptsBy (by_table gaps) spec (file_of p)

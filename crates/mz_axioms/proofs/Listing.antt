@@ -26,6 +26,7 @@ use Rattle.mz_axioms.proofs.Supporting.{support-axiom, one-kind, kind-within}
 use Rattle.mz_axioms.proofs.Placing.{IsPlaceOf, place-of, numbers-grow, declared-at, publics-count, listed_number, listed_numbers, theorems-listed}
 use Rattle.mz_axioms.proofs.Resting.{rest-on-supports}
 use Rattle.mz_axioms.proofs.Telling.{rows-many}
+use Rattle.mz_binary.specs.Standards.{strict_standard}
 
 -- ---- lists
 
@@ -101,7 +102,7 @@ listed-is p true y is-x is-y is = absurd (let e : (not true && not y) ≡ true =
 listed-is p false true is-x is-y is = absurd (let e : (not false && not true) ≡ true = ap (λ z. not z && not true) (sym is-x) ∙ ap (λ z. not p.is_axiom && not z) (sym is-y) ∙ is in cc)
 listed-is p false false is-x is-y is = (refl, refl)
 
-module _ (file : List ℕ) (ds : List Declaration) (ss : List Statement) (rows : List Row) (good : Good false file ss) (agrees : Agrees ds (publics ss)) (told : TellsAll file ss rows) where
+module _ (file : List ℕ) (ds : List Declaration) (ss : List Statement) (rows : List Row) (good : Good strict_standard file ss) (agrees : Agrees ds (publics ss)) (told : TellsAll file ss rows) where
   place-there : (T : ℕ) (r : Row) → slice_get rows T ≡ Some r → slice_get (places_from 0 ss) T ≡ Some r.place
   place-there T r at = subst (λ (ps : List Place). slice_get ps T ≡ Some r.place) told.places (get-map (λ (x : Row). x.place) rows T r at)
 
@@ -125,7 +126,7 @@ module _ (file : List ℕ) (ds : List Declaration) (ss : List Statement) (rows :
       }
 
   legal : Legal ss
-  legal = good-legal false file ss good
+  legal = good-legal strict_standard file ss good
 
   -- an axiom's row
   pub record IsAxiomRow (A : ℕ) : Type 0 where
@@ -225,10 +226,10 @@ module _ (file : List ℕ) (ds : List Declaration) (ss : List Statement) (rows :
       one T r at false is = All-nil (IsSupportOf file ds ss)
 
 -- of a pair that is accepted
-pub are-supports : (spec bin : List ℕ) (accepts : Accepts spec bin) (ss : List Statement) → Good false bin ss → (rows : List Row) → TellsAll bin ss rows → (lists : List TheoremSupport) → lists ≡ supports_of rows
+pub are-supports : (spec bin : List ℕ) (accepts : Accepts spec bin) (ss : List Statement) → Good strict_standard bin ss → (rows : List Row) → TellsAll bin ss rows → (lists : List TheoremSupport) → lists ≡ supports_of rows
     → AreSupports spec bin lists
 are-supports spec bin accepts ss good rows told lists is =
-    let same : ss ≡ accepts.statements = one-list bin ss accepts.statements (good-spelled false bin ss good) (good-spelled false bin accepts.statements accepts.is_good) in
+    let same : ss ≡ accepts.statements = one-list bin ss accepts.statements (good-spelled strict_standard bin ss good) (good-spelled strict_standard bin accepts.statements accepts.is_good) in
     let tells = subst (λ (xs : List Statement). TellsAll bin xs rows) same told in
     subst (AreSupports spec bin) (sym is) (record {
       accepts = accepts;

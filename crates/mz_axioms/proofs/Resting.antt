@@ -22,6 +22,7 @@ use Rattle.mz_binary.specs.Gapped.{AssertionBody, body_there, place_after, body_
 use Rattle.mz_axioms.specs.Supports.{Cites, IsKind, InSupport, within_support}
 use Rattle.mz_axioms.proofs.Citing.{cited-within}
 use Rattle.mz_axioms.proofs.Supporting.{support-step}
+use Rattle.mz_binary.specs.Standards.{strict_standard}
 
 pub at-seam : (done : List AssertionBody) (body : AssertionBody) (tail : List AssertionBody) (n : ℕ) → length done ≡ n → slice_get (done ++ body ∷ tail) n ≡ Some body
 at-seam [] body tail zero is = refl
@@ -79,13 +80,13 @@ module _ (file : List ℕ) where
 
     -- along the list
     cite-chain : (before : List Statement) (env : List Declaration) (from : ℕ) (ss : List Statement) (env' : List Declaration) (to : ℕ) (done : List AssertionBody)
-        → GoodTo false file [] (list_at file) before env from → GoodTo false file env from ss env' to → LegalAfter gap_free env ss → length done ≡ length (assertions env)
+        → GoodTo strict_standard file [] (list_at file) before env from → GoodTo strict_standard file env from ss env' to → LegalAfter gap_free env ss → length done ≡ length (assertions env)
         → bodies ≡ done ++ bodies_from file from ss → LegalAfter (by_number (Cites bodies)) env ss
     cite-chain before env from [] env' to done prefix chain legal many whole = tt
     cite-chain before env from (s ∷ ss) env' to done prefix (next, good, rest) ((legal, mark, _), laws) many whole = (
       (legal, mark, by-decl s.decl refl),
       cite-chain (before ++ s ∷ []) (env ++ s.decl ∷ []) next ss env' to (done ++ body_of file from s.decl)
-          (chain-more (IsGoodStatement false file) [] (list_at file) before env from s next prefix good) rest laws (many-more done env from s.decl many) again,
+          (chain-more (IsGoodStatement strict_standard file) [] (list_at file) before env from s next prefix good) rest laws (many-more done env from s.decl many) again,
     )
       where
         again : bodies ≡ (done ++ body_of file from s.decl) ++ bodies_from file next ss
@@ -101,7 +102,7 @@ module _ (file : List ℕ) where
             let here : bodies ≡ done ++ body ∷ tail = whole ∙ ap (λ (x : Declaration). done ++ (body_of file from x ++ tail)) is in
             let there : slice_get bodies (length (assertions env)) ≡ Some body = ap (λ rs. slice_get rs (length (assertions env))) here ∙ at-seam done body tail (length (assertions env)) many in
             by-body env a (body_bytes file good.spelled.body next) body there (ap (body_there file) good.spelled.stands)
-            (cite-as-bodies false file before env from s next good.spelled.code good.spelled.body a prefix good good.spelled.stands is is_theorem)
+            (cite-as-bodies strict_standard file before env from s next good.spelled.code good.spelled.body a prefix good good.spelled.stands is is_theorem)
 
 are-supports : (file : List ℕ) (ss : List Statement) → AreSupports (declarations ss) (Cites (bodies_of file ss)) (InSupport (bodies_of file ss))
 are-supports file ss = record {
@@ -112,12 +113,12 @@ are-supports file ss = record {
     kind : (U : ℕ) (a : Assertion) → slice_get (assertions (declarations ss)) U ≡ Some a → (k : Bool) → a.is_axiom ≡ k → IsKind (bodies_of file ss) k U
     kind U a at k is = subst (λ j. IsKind (bodies_of file ss) j U) is (kinds-from file (list_at file) ss a U at)
 
-by-supports : (file : List ℕ) (ss : List Statement) → Good false file ss → LegalBy (on_support (InSupport (bodies_of file ss))) ss
+by-supports : (file : List ℕ) (ss : List Statement) → Good strict_standard file ss → LegalBy (on_support (InSupport (bodies_of file ss))) ss
 by-supports file ss good =
     legal_by_supports ss (Cites (bodies_of file ss)) (InSupport (bodies_of file ss)) (are-supports file ss)
-    (cite-chain file (bodies_of file ss) [] [] (list_at file) ss good.env good.to [] (refl, refl) good.statements (good-legal false file ss good) refl refl)
+    (cite-chain file (bodies_of file ss) [] [] (list_at file) ss good.env good.to [] (refl, refl) good.statements (good-legal strict_standard file ss good) refl refl)
 
-pub rest-on-supports : (file : List ℕ) (ss : List Statement) → Good false file ss → (before after : List Statement) (s : Statement) (a : Assertion) → ss ≡ before ++ s ∷ after
+pub rest-on-supports : (file : List ℕ) (ss : List Statement) → Good strict_standard file ss → (before after : List Statement) (s : Statement) (a : Assertion) → ss ≡ before ++ s ∷ after
     → s.decl ≡ assertion_decl a → a.is_axiom ≡ false → IsProvedBy (within_support (bodies_of file ss) (length (assertions (declarations before)))) (declarations before) a
 rest-on-supports file ss good before after s a is is_a is_theorem =
     let supported = on_support (InSupport (bodies_of file ss)) in

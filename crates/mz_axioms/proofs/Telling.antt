@@ -30,6 +30,7 @@ use Rattle.mz_axioms.proofs.Increasing.{get-within, get-contained, increasing-fe
 use Rattle.mz_axioms.proofs.Placing.{places-more, publics-more, places-many, by-code}
 use Rattle.mz_axioms.proofs.Resting.{at-seam}
 use Rattle.mz_axioms.proofs.Supporting.{support-step, support-inverts, comes-on, comes-low, one-kind}
+use Rattle.mz_binary.specs.Standards.{strict_standard}
 
 -- ---- answers
 
@@ -201,7 +202,7 @@ module _ (file : List ℕ) where
       one-more at (term_decl _) xs ds e = e
       one-more at (assertion_decl a) xs ds e = ap (λ n. suc n) e
 
-  bodies-more : (env : List Declaration) (from : ℕ) (ss : List Statement) (env' : List Declaration) (to : ℕ) (s : Statement) → GoodTo false file env from ss env' to
+  bodies-more : (env : List Declaration) (from : ℕ) (ss : List Statement) (env' : List Declaration) (to : ℕ) (s : Statement) → GoodTo strict_standard file env from ss env' to
       → bodies_from file from (ss ++ s ∷ []) ≡ bodies_from file from ss ++ body_of file to s.decl
   bodies-more env from [] env' to s chain = append-nil (body_of file from s.decl) ∙ ap (λ n. body_of file n s.decl) (sym chain.1)
   bodies-more env from (t ∷ ts) env' to s (next, good, chain) =
@@ -254,19 +255,19 @@ module _ (file : List ℕ) where
 
   pub record Walked (at : ℕ) (rows : List Row) (publics : ℕ) : Type 0 where
     pub whole : List Statement
-    pub good : Good false file whole
+    pub good : Good strict_standard file whole
     pub before : List Statement
     pub after : List Statement
     pub env : List Declaration
     pub all : whole ≡ before ++ after
-    pub gone : GoodTo false file [] (list_at file) before env at
-    pub left : GoodTo false file env at after good.env good.to
+    pub gone : GoodTo strict_standard file [] (list_at file) before env at
+    pub left : GoodTo strict_standard file env at after good.env good.to
     pub tells : TellsAll file before rows
     pub publics_are : publics ≡ publics_past 0 before
     pub publics_low : publics ≤ at
     pub rows_low : length rows ≤ at
 
-  pub walked-first : (ss : List Statement) → Good false file ss → Walked (list_at file) [] 0
+  pub walked-first : (ss : List Statement) → Good strict_standard file ss → Walked (list_at file) [] 0
   walked-first ss good = record {
     whole = ss;
     good = good;
@@ -294,7 +295,7 @@ module _ (file : List ℕ) where
       → IsNoted (place_by publics (statement_code code)) (body_bytes file body next) old new → Walked next new (past_public publics (is_local_code code))
   walked-more at code body next old new publics w stands noted = go w.after w.left w.all
     where
-      go : (after : List Statement) → GoodTo false file w.env at after w.good.env w.good.to → w.whole ≡ w.before ++ after → Walked next new (past_public publics (is_local_code code))
+      go : (after : List Statement) → GoodTo strict_standard file w.env at after w.good.env w.good.to → w.whole ≡ w.before ++ after → Walked next new (past_public publics (is_local_code code))
       go [] (_, end) all =
           absurd (let e : Ok (Head code body next) ≡ Ok End = sym stands ∙ ap (statement_at file) (sym end) ∙ w.good.ends.ends in cc)
       go (s ∷ ss) (next', good, rest) all =
@@ -314,9 +315,9 @@ module _ (file : List ℕ) where
             after = ss;
             env = w.env ++ s.decl ∷ [];
             all = all ∙ sym (append_assoc w.before (s ∷ []) ss);
-            gone = subst (GoodTo false file [] (list_at file) (w.before ++ s ∷ []) (w.env ++ s.decl ∷ [])) next-is
-                (chain-more (IsGoodStatement false file) [] (list_at file) w.before w.env at s next' w.gone good);
-            left = subst (λ (n : ℕ). GoodTo false file (w.env ++ s.decl ∷ []) n ss w.good.env w.good.to) next-is rest;
+            gone = subst (GoodTo strict_standard file [] (list_at file) (w.before ++ s ∷ []) (w.env ++ s.decl ∷ [])) next-is
+                (chain-more (IsGoodStatement strict_standard file) [] (list_at file) w.before w.env at s next' w.gone good);
+            left = subst (λ (n : ℕ). GoodTo strict_standard file (w.env ++ s.decl ∷ []) n ss w.good.env w.good.to) next-is rest;
             tells = record {
               places = told.0 ∙ sym (places-more 0 w.before s);
               each = λ U row has. subst (λ (bs : List AssertionBody). Tells bs U row) (sym (bodies-more [] (list_at file) w.before w.env at s w.gone)) (told.1 U row has);
@@ -329,7 +330,7 @@ module _ (file : List ℕ) where
   pub walked-last : (at : ℕ) (rows : List Row) (publics : ℕ) → Walked at rows publics → ((code body next : ℕ) → statement_at file at ≡ Ok (Head code body next) → ⊥) → TellsFile file rows
   walked-last at rows publics w no_head = go w.after w.left w.all
     where
-      go : (after : List Statement) → GoodTo false file w.env at after w.good.env w.good.to → w.whole ≡ w.before ++ after → TellsFile file rows
+      go : (after : List Statement) → GoodTo strict_standard file w.env at after w.good.env w.good.to → w.whole ≡ w.before ++ after → TellsFile file rows
       go [] left all = (w.whole, w.good, subst (λ (ss : List Statement). TellsAll file ss rows) (sym (all ∙ append-nil w.before)) w.tells)
       go (s ∷ ss) (next, good, rest) all = absurd (no_head good.spelled.code good.spelled.body next good.spelled.stands)
 

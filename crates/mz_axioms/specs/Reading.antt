@@ -5,6 +5,7 @@ use Rattle.mz_match.specs.Verdict.{FirstRefusal, Ticks}
 use Rattle.mz_axioms.specs.Lists.{AreSupports}
 use Rattle.mz_axioms.specs.declared.axioms.AxiomsRead.{AxiomsRead}
 use Rattle.mz_axioms.specs.declared.axioms.AxiomsRead.TheVariants as read
+use Rattle.mz_binary.specs.Standards.{strict_standard}
 
 -- the supports of an accepted pair, or its first refusal
 abbrev pub IsAxiomsRead : List ℕ → List ℕ → AxiomsRead → Type 0
@@ -14,7 +15,7 @@ IsAxiomsRead spec bin read.Mem = ⊤
 
 -- the commands executed are those of verification
 abbrev pub TicksAs : List ℕ → (old new : ℕ) → AxiomsRead → Type 0
-TicksAs bin old new (read.Lists lists) = new ≡ old + file_steps false bin
+TicksAs bin old new (read.Lists lists) = new ≡ old + file_steps strict_standard bin
 TicksAs bin old new (read.Refused verdict) = Ticks bin old new verdict
 TicksAs bin old new read.Mem = ⊤
 

@@ -11,6 +11,7 @@ use Rattle.mz_axioms.specs.Places.{places_from, is_listed}
 use Rattle.mz_axioms.specs.Lists.{TheoremSupport}
 use Rattle.mz_axioms.specs.declared.rows.Place.{Place}
 use Rattle.mz_axioms.specs.declared.rows.Row.{Row}
+use Rattle.mz_binary.specs.Standards.{strict_standard}
 
 -- a citation of the U-th comes to axiom A: it is A, or a theorem in whose support A is
 abbrev pub ComesTo : List AssertionBody → ℕ → ℕ → Type 0
@@ -28,10 +29,10 @@ pub record TellsAll (file : List ℕ) (ss : List Statement) (rows : List Row) : 
 
 -- a binary that is good, with its statements
 abbrev pub IsGood : List ℕ → Type 0
-IsGood file = (ss : List Statement) × Good false file ss
+IsGood file = (ss : List Statement) × Good strict_standard file ss
 
 abbrev pub TellsFile : List ℕ → List Row → Type 0
-TellsFile file rows = (ss : List Statement) × Good false file ss × TellsAll file ss rows
+TellsFile file rows = (ss : List Statement) × Good strict_standard file ss × TellsAll file ss rows
 
 -- the axioms of each row are among the rows
 abbrev pub AreWithin : List Row → Type 0

@@ -1,5 +1,5 @@
 -- The commands executed in what is left of a list.
-use Rattle.std.proofs.Common.{◌≡◌, ◌<◌, ◌≤◌, ◌+◌, ◌∙◌, ℕ, suc, List, length, Result, Ok, Err, refl, sym, ap, arith, mul-suc, ◌-◌, ◌*◌, Bool}
+use Rattle.std.proofs.Common.{◌≡◌, ◌<◌, ◌≤◌, ◌+◌, ◌∙◌, ℕ, suc, List, length, Result, Ok, Err, refl, sym, ap, arith, mul-suc, ◌-◌, ◌*◌}
 use Rattle.mz_checks.specs.Checks.{FailsFirst, Judges}
 use Rattle.mz_checks.proofs.CheckLaws.{all_hold-excludes}
 use Rattle.mz_cmd.specs.declared.rule.K.{K}
@@ -15,6 +15,7 @@ use Rattle.mz_binary.specs.Judging.{IfTold}
 use Rattle.mz_binary.proofs.PlacesJudged.{layout-judged}
 use Rattle.mz_binary.proofs.FileSteps.{times-grow, add-times}
 use Rattle.mz_binary.proofs.ListBounds.{bound-never-ends}
+use Rattle.mz_binary.specs.declared.standard.Standard.{Standard}
 
 -- of any answer, and so of one that is told
 pub if-told : (r : Next) (P : Type 0) → P → IfTold r P
@@ -27,56 +28,56 @@ module _ (p : Progress) where
   abbrev t : Taken
   t = taken_before p.file p.rows
 
-  left-is : steps_left p ≡ next_steps p + follow_steps (run_place p.gaps p.file t p.at) (λ after to. list_steps p.gaps p.file (length p.file) after to)
+  left-is : steps_left p ≡ next_steps p + follow_steps (run_place p.standard p.file t p.at) (λ after to. list_steps p.standard p.file (length p.file) after to)
   unfolding list_steps
-  left-is = let one : length p.file + 1 ≡ suc (length p.file) = omega arith in ap (λ (n : ℕ). list_steps p.gaps p.file n t p.at) one
+  left-is = let one : length p.file + 1 ≡ suc (length p.file) = omega arith in ap (λ (n : ℕ). list_steps p.standard p.file n t p.at) one
 
-  follow-is : (r : Result Onward (ℕ × K)) → run_place p.gaps p.file t p.at ≡ r → steps_left p ≡ next_steps p + follow_steps r (λ after to. list_steps p.gaps p.file (length p.file) after to)
-  follow-is r e = left-is ∙ ap (λ (x : Result Onward (ℕ × K)). next_steps p + follow_steps x (λ after to. list_steps p.gaps p.file (length p.file) after to)) e
+  follow-is : (r : Result Onward (ℕ × K)) → run_place p.standard p.file t p.at ≡ r → steps_left p ≡ next_steps p + follow_steps r (λ after to. list_steps p.standard p.file (length p.file) after to)
+  follow-is r e = left-is ∙ ap (λ (x : Result Onward (ℕ × K)). next_steps p + follow_steps x (λ after to. list_steps p.standard p.file (length p.file) after to)) e
 
-  pub left-at-fault : (f : ℕ × K) → run_place p.gaps p.file t p.at ≡ Err f → steps_left p ≡ next_steps p
+  pub left-at-fault : (f : ℕ × K) → run_place p.standard p.file t p.at ≡ Err f → steps_left p ≡ next_steps p
   left-at-fault f e = follow-is (Err f) e ∙ omega arith
 
-  pub left-at-end : run_place p.gaps p.file t p.at ≡ Ok ended → steps_left p ≡ next_steps p
+  pub left-at-end : run_place p.standard p.file t p.at ≡ Ok ended → steps_left p ≡ next_steps p
   left-at-end e = follow-is (Ok ended) e ∙ omega arith
 
-  pub left-past : (after : Progress) (to : ℕ) (taken : Taken) → run_place p.gaps p.file t p.at ≡ Ok (onward taken to) → taken ≡ taken_before after.file after.rows → to ≡ after.at → after.file ≡ p.file → after.gaps ≡ p.gaps
+  pub left-past : (after : Progress) (to : ℕ) (taken : Taken) → run_place p.standard p.file t p.at ≡ Ok (onward taken to) → taken ≡ taken_before after.file after.rows → to ≡ after.at → after.file ≡ p.file → after.standard ≡ p.standard
       → p.at < after.at → after.at ≤ length p.file → steps_left p ≡ next_steps p + steps_left after
   left-past after to taken e rows place same mode further within =
       let files : length after.file ≡ length p.file = ap length same in
-      let bounds : list_steps p.gaps p.file (length p.file) taken to ≡ list_steps p.gaps p.file (length p.file + 1) taken to =
-      (bound-never-ends p.gaps p.file (length p.file) (length p.file + 1) 0 taken to (omega (arith, place)) (omega (arith, place))).1 in
+      let bounds : list_steps p.standard p.file (length p.file) taken to ≡ list_steps p.standard p.file (length p.file + 1) taken to =
+      (bound-never-ends p.standard p.file (length p.file) (length p.file + 1) 0 taken to (omega (arith, place)) (omega (arith, place))).1 in
       follow-is (Ok (onward taken to)) e
       ∙ ap (λ (n : ℕ). next_steps p + n)
-      (bounds ∙ ap (λ (x : Taken). list_steps p.gaps p.file (length p.file + 1) x to) rows ∙ ap (λ (n : ℕ). list_steps p.gaps p.file (length p.file + 1) (taken_before after.file after.rows) n) place
-      ∙ sym (ap (λ (g : Bool). list_steps g after.file (length after.file + 1) (taken_before after.file after.rows) after.at) mode
-      ∙ ap (λ (f : List ℕ). list_steps p.gaps f (length f + 1) (taken_before after.file after.rows) after.at) same))
+      (bounds ∙ ap (λ (x : Taken). list_steps p.standard p.file (length p.file + 1) x to) rows ∙ ap (λ (n : ℕ). list_steps p.standard p.file (length p.file + 1) (taken_before after.file after.rows) n) place
+      ∙ sym (ap (λ (g : Standard). list_steps g after.file (length after.file + 1) (taken_before after.file after.rows) after.at) mode
+      ∙ ap (λ (f : List ℕ). list_steps p.standard f (length f + 1) (taken_before after.file after.rows) after.at) same))
 
   -- without a body nothing is executed
   pub none-alone : (taken : Taken) (to : ℕ) → find_at p.file t p.at ≡ Ok (stands_alone taken to) → next_steps p ≡ 0
-  none-alone taken to e = ap (found_steps p.gaps p.file t) e
+  none-alone taken to e = ap (found_steps p.standard p.file t) e
 
   pub none-at-end : find_at p.file t p.at ≡ Ok list_ends → next_steps p ≡ 0
-  none-at-end e = ap (found_steps p.gaps p.file t) e
+  none-at-end e = ap (found_steps p.standard p.file t) e
 
   pub none-at-fault : (f : ℕ × K) → find_at p.file t p.at ≡ Err f → next_steps p ≡ 0
-  none-at-fault f e = ap (found_steps p.gaps p.file t) e
+  none-at-fault f e = ap (found_steps p.standard p.file t) e
 
 -- ---- the whole file
 
 -- where header and tables are in order, the commands of the list
-pub steps-of-list : (gaps : Bool) (file : List ℕ) → Layout file → file_steps gaps file ≡ list_steps gaps file (length file + 1) nothing_taken (list_at file)
-steps-of-list gaps file layout = go (test_layout file) (layout-judged file)
+pub steps-of-list : (standard : Standard) (file : List ℕ) → Layout file → file_steps standard file ≡ list_steps standard file (length file + 1) nothing_taken (list_at file)
+steps-of-list standard file layout = go (test_layout file) (layout-judged file)
   where
-    go : (r : Passing) → Judges r (layout_checks file) → steps_after r (list_steps gaps file (length file + 1) nothing_taken (list_at file)) ≡ list_steps gaps file (length file + 1) nothing_taken (list_at file)
+    go : (r : Passing) → Judges r (layout_checks file) → steps_after r (list_steps standard file (length file + 1) nothing_taken (list_at file)) ≡ list_steps standard file (length file + 1) nothing_taken (list_at file)
     go (Ok x) j = refl
     go (Err f) j = absurd (all_hold-excludes (layout_checks file) f layout j)
 
 -- and none where they aren't
-pub no-steps : (gaps : Bool) (file : List ℕ) (f : ℕ × K) → FailsFirst (layout_checks file) f → file_steps gaps file ≡ 0
-no-steps gaps file f fails = go (test_layout file) (layout-judged file)
+pub no-steps : (standard : Standard) (file : List ℕ) (f : ℕ × K) → FailsFirst (layout_checks file) f → file_steps standard file ≡ 0
+no-steps standard file f fails = go (test_layout file) (layout-judged file)
   where
-    go : (r : Passing) → Judges r (layout_checks file) → steps_after r (list_steps gaps file (length file + 1) nothing_taken (list_at file)) ≡ 0
+    go : (r : Passing) → Judges r (layout_checks file) → steps_after r (list_steps standard file (length file + 1) nothing_taken (list_at file)) ≡ 0
     go (Ok x) j = absurd (all_hold-excludes (layout_checks file) f j fails)
     go (Err g) j = refl
 

@@ -1,5 +1,5 @@
 -- The words of the rows before a statement were right in their turn.
-use Rattle.std.proofs.Common.{◌≡◌, ◌⊎◌, ◌<◌, ◌≤◌, ◌+◌, ℕ, List, [], ◌∷◌, ◌++◌, length, refl, sym, subst, inl, inr, arith, Bool}
+use Rattle.std.proofs.Common.{◌≡◌, ◌⊎◌, ◌<◌, ◌≤◌, ◌+◌, ℕ, List, [], ◌∷◌, ◌++◌, length, refl, sym, subst, inl, inr, arith}
 use Rattle.std.proofs.lemmas.Bool.{cases_eq}
 use Rattle.mz_checks.specs.Checks.{AllHold}
 use Rattle.mz_logic.specs.Declaration.{Declaration, sort_decl, term_decl, assertion_decl, sorts, terms, assertions}
@@ -12,6 +12,7 @@ use Rattle.mz_binary.specs.Chains.{GoodTo}
 use Rattle.mz_binary.proofs.Declared.{sorts-many, terms-many, assertions-many}
 use Rattle.mz_binary.proofs.SortsSoFar.{HasSorts, sorts-more}
 use Rattle.mz_binary.proofs.RowLaws.{HasRightRow, right-row}
+use Rattle.mz_binary.specs.declared.standard.Standard.{Standard}
 
 -- each row's words are right where some of these sorts are declared
 pub record WereRight (file : List ℕ) (many_sorts many_terms many_thms : ℕ) : Type 0 where
@@ -55,10 +56,10 @@ module _ (file : List ℕ) (env : List Declaration) (so_far : HasSorts file env)
         ];
       }
 
-chain-right : (gaps : Bool) (file : List ℕ) (env : List Declaration) (from : ℕ) (ss : List Statement) (env' : List Declaration) (to : ℕ) → GoodTo gaps file env from ss env' to → HasSorts file env → WereRightIn file env → WereRightIn file env'
-chain-right gaps file env from [] env' to chain sorts-are before = subst (WereRightIn file) (sym chain.0) before
-chain-right gaps file env from (s ∷ ss) env' to (next, good, rest) sorts-are before =
-    chain-right gaps file (env ++ s.decl ∷ []) next ss env' to rest (sorts-more file env s.decl sorts-are good.spelled.row) (one-more file env sorts-are before s.decl (right-row gaps file env from s next good))
+chain-right : (standard : Standard) (file : List ℕ) (env : List Declaration) (from : ℕ) (ss : List Statement) (env' : List Declaration) (to : ℕ) → GoodTo standard file env from ss env' to → HasSorts file env → WereRightIn file env → WereRightIn file env'
+chain-right standard file env from [] env' to chain sorts-are before = subst (WereRightIn file) (sym chain.0) before
+chain-right standard file env from (s ∷ ss) env' to (next, good, rest) sorts-are before =
+    chain-right standard file (env ++ s.decl ∷ []) next ss env' to rest (sorts-more file env s.decl sorts-are good.spelled.row) (one-more file env sorts-are before s.decl (right-row standard file env from s next good))
 
-pub were-right : (gaps : Bool) (file : List ℕ) (from : ℕ) (ss : List Statement) (env : List Declaration) (to : ℕ) → GoodTo gaps file [] from ss env to → WereRight file (length (sorts env)) (length (terms env)) (length (assertions env))
-were-right gaps file from ss env to chain = chain-right gaps file [] from ss env to chain refl (record { of_terms = λ t below. absurd (omega arith); of_thms = λ i below. absurd (omega arith) })
+pub were-right : (standard : Standard) (file : List ℕ) (from : ℕ) (ss : List Statement) (env : List Declaration) (to : ℕ) → GoodTo standard file [] from ss env to → WereRight file (length (sorts env)) (length (terms env)) (length (assertions env))
+were-right standard file from ss env to chain = chain-right standard file [] from ss env to chain refl (record { of_terms = λ t below. absurd (omega arith); of_thms = λ i below. absurd (omega arith) })

@@ -12,7 +12,6 @@ use Rattle.mz_logic.specs.declared.binder.SortMods.{SortMods}
 use Rattle.mz_logic.specs.declared.word.Word.{Word}
 use Rattle.mz_logic.proofs.WordsAsParams.{words_say_results}
 use Rattle.mz_layout.specs.Tables.{TermRow as TermRecord, mods_of, term_row, thm_row}
-use Rattle.mz_unification.specs.Profile.{plain}
 use Rattle.mz_soundness.specs.Tables.{Tables, Heading}
 use Rattle.mz_soundness.specs.Bodies.{Runs, body_checks}
 use Rattle.mz_soundness.specs.Sound.{AreRowParams, IsRowResult}
@@ -22,6 +21,10 @@ use Rattle.mz_soundness.specs.RowWords.{param_check, param_checks, word_checks, 
 use Rattle.mz_soundness.specs.FileRows.{Taken, stream_of, term_of_file, thm_of_file, rows_taken, body_bytes}
 use Rattle.mz_binary.specs.Checking.{term_body_checks, term_checks, thm_checks, kind_checks}
 use Rattle.mz_soundness.proofs.RightWords.{right-words}
+use Rattle.mz_binary.specs.declared.standard.Standard.{Standard}
+use Rattle.mz_binary.specs.Standards.{lets_gaps, profile_of}
+use Rattle.mz_binary.proofs.ByTable.{runs-by-table}
+use Rattle.mz_unification.specs.Profile.{plain}
 
 -- the body of a statement
 abbrev pub body_of : List ℕ → ℕ → ℕ → Body
@@ -58,32 +61,32 @@ module _ (ss : List SortMods) (row : TermRecord) (all : AllHold (word_checks ss 
 
 -- ---- bodies
 
-runs-of : (gaps : Bool) (tables : Tables) (h : Heading) (at : ℕ) (bytes : List ℕ) → AllHold (body_checks (plain gaps) tables h at bytes) → Runs (plain gaps) tables h at bytes
-runs-of gaps tables h at bytes all = (bodies-checked (plain gaps) tables h at bytes).0.0 all
+runs-of : (standard : Standard) (tables : Tables) (h : Heading) (at : ℕ) (bytes : List ℕ) → AllHold (body_checks (profile_of standard) tables h at bytes) → Runs (plain (lets_gaps standard)) tables h at bytes
+runs-of standard tables h at bytes all = runs-by-table standard tables h at bytes ((bodies-checked (profile_of standard) tables h at bytes).0.0 all)
 
-module _ (gaps : Bool) (file : List ℕ) (taken : Taken) (at body next : ℕ) where
-  body-good : (is_local b : Bool) (stream : List ℕ) → AllHold (term_body_checks gaps file taken at body next (cond b (Some stream) None)) → MatchBool is_local (b ≡ true) ⊤
-      → BodyIsGood gaps (rows_taken file taken) is_local (term_of_file file taken.terms) (body_of file body next) (cond b (Some stream) None)
-  body-good is_local true stream all mark = runs-of gaps (rows_taken file taken) (definition_of (term_of_file file taken.terms) stream) body (body_bytes file body next) all
+module _ (standard : Standard) (file : List ℕ) (taken : Taken) (at body next : ℕ) where
+  body-good : (is_local b : Bool) (stream : List ℕ) → AllHold (term_body_checks standard file taken at body next (cond b (Some stream) None)) → MatchBool is_local (b ≡ true) ⊤
+      → BodyIsGood (lets_gaps standard) (rows_taken file taken) is_local (term_of_file file taken.terms) (body_of file body next) (cond b (Some stream) None)
+  body-good is_local true stream all mark = runs-of standard (rows_taken file taken) (definition_of (term_of_file file taken.terms) stream) body (body_bytes file body next) all
   body-good true false stream all mark = absurd (let bad : false ≡ true = mark in cc)
   body-good false false stream all mark = refl
 
-  term-good : (is_local : Bool) → AllHold (term_checks gaps file taken at body next is_local) → IsGoodEntry gaps (rows_taken file taken) (a_term is_local (term_of_file file taken.terms) (body_of file body next))
+  term-good : (is_local : Bool) → AllHold (term_checks standard file taken at body next is_local) → IsGoodEntry (lets_gaps standard) (rows_taken file taken) (a_term is_local (term_of_file file taken.terms) (body_of file body next))
   term-good is_local (_, (mark, all)) =
       let row : TermRecord = term_row file taken.terms in
-      let words = all_hold-first (word_checks taken.sorts row) (term_body_checks gaps file taken at body next (stream_of file row)) all in
-      let run = all_hold-rest (word_checks taken.sorts row) (term_body_checks gaps file taken at body next (stream_of file row)) all in
+      let words = all_hold-first (word_checks taken.sorts row) (term_body_checks standard file taken at body next (stream_of file row)) all in
+      let run = all_hold-rest (word_checks taken.sorts row) (term_body_checks standard file taken at body next (stream_of file row)) all in
       (term-params taken.sorts row words, term-result taken.sorts row words, body-good is_local row.words.has_body (drop row.stream_at file) run mark)
 
-  thm-good : (is_local without_proof : Bool) → (is_local ≡ true → without_proof ≡ false) → AllHold (thm_checks gaps file taken at body next without_proof)
-      → IsGoodEntry gaps (rows_taken file taken) (an_assertion is_local without_proof (thm_of_file file taken.thms) (body_of file body next))
+  thm-good : (is_local without_proof : Bool) → (is_local ≡ true → without_proof ≡ false) → AllHold (thm_checks standard file taken at body next without_proof)
+      → IsGoodEntry (lets_gaps standard) (rows_taken file taken) (an_assertion is_local without_proof (thm_of_file file taken.thms) (body_of file body next))
   thm-good is_local without_proof mark (_, all) =
       let row = thm_row file taken.thms in
-      let run : Checks (ℕ × K) = body_checks (plain gaps) (rows_taken file taken) (assertion_of without_proof (thm_of_file file taken.thms)) body (body_bytes file body next) in
+      let run : Checks (ℕ × K) = body_checks (profile_of standard) (rows_taken file taken) (assertion_of without_proof (thm_of_file file taken.thms)) body (body_bytes file body next) in
       let words = all_hold-first (param_checks taken.sorts row.words_at row.params) run all in
-      (mark, row-params taken.sorts row.words_at row.params words, runs-of gaps (rows_taken file taken) (assertion_of without_proof (thm_of_file file taken.thms)) body (body_bytes file body next) (all_hold-rest (param_checks taken.sorts row.words_at row.params) run all))
+      (mark, row-params taken.sorts row.words_at row.params words, runs-of standard (rows_taken file taken) (assertion_of without_proof (thm_of_file file taken.thms)) body (body_bytes file body next) (all_hold-rest (param_checks taken.sorts row.words_at row.params) run all))
 
-  pub entry-good : (k : StatementCode) → AllHold (kind_checks gaps file taken at body next (Some k)) → IsGoodEntry gaps (rows_taken file taken) (entry_of file taken body next k)
+  pub entry-good : (k : StatementCode) → AllHold (kind_checks standard file taken at body next (Some k)) → IsGoodEntry (lets_gaps standard) (rows_taken file taken) (entry_of file taken body next k)
   entry-good codes.Sort all = tt
   entry-good codes.Term all = term-good false all
   entry-good codes.LocalDefinition all = term-good true all

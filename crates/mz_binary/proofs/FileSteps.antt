@@ -14,7 +14,6 @@ use Rattle.mz_cmd.specs.Codes.{statement_code}
 use Rattle.mz_cmd.specs.StatementList.{statement_at}
 use Rattle.mz_layout.specs.Tables.{TermRow as TermRecord, list_at, sort_count, term_count, thm_count, term_row, thm_row}
 use Rattle.mz_unification.specs.Steps.{◌>>=◌, ◌>>◌ as ◌then◌}
-use Rattle.mz_unification.specs.Profile.{plain}
 use Rattle.mz_unification.specs.Spells.{TermRow, ThmRow}
 use Rattle.mz_soundness.specs.Tables.{Heading}
 use Rattle.mz_soundness.specs.Bodies.{body_run, body_steps, body_start}
@@ -25,6 +24,8 @@ use Rattle.mz_soundness.specs.FileRows.{Taken, nothing_taken, stream_of, term_of
 use Rattle.mz_binary.specs.FileRun.{Passing, test, test_params, test_words, is_empty_body, with_sort, with_term, with_thm, all_taken, may_stand, Found, list_ends, stands_alone, has_body, onward, if_runs, run_found, find_sort, find_term_body, find_term, find_thm, find_kind, find_of, find_at, test_layout, found_steps, follow_steps, list_steps, steps_after}
 use Rattle.mz_binary.specs.WholeLaws.{StepsOfAFile}
 use Rattle.mz_binary.proofs.Heads.{head-at}
+use Rattle.mz_binary.specs.declared.standard.Standard.{Standard}
+use Rattle.mz_binary.specs.Standards.{profile_of}
 
 pub times-grow : (b m k : ℕ) → b ≤ m → b * k ≤ m * k
 times-grow zero m k le = omega arith
@@ -112,10 +113,10 @@ module _ (file : List ℕ) (body next : ℕ) where
 -- ---- a place
 
 -- the commands executed at a place and after it
-abbrev Steps : Bool → List ℕ → Taken → (Taken → ℕ → ℕ) → Result Found (ℕ × K) → ℕ
-Steps gaps file taken rest r = found_steps gaps file taken r + follow_steps (r >>= run_found gaps file taken) rest
+abbrev Steps : Standard → List ℕ → Taken → (Taken → ℕ → ℕ) → Result Found (ℕ × K) → ℕ
+Steps standard file taken rest r = found_steps standard file taken r + follow_steps (r >>= run_found standard file taken) rest
 
-module _ (gaps : Bool) (file : List ℕ) (taken : Taken) (rest : Taken → ℕ → ℕ)
+module _ (standard : Standard) (file : List ℕ) (taken : Taken) (rest : Taken → ℕ → ℕ)
     (rest-le : (after : Taken) (to : ℕ) → to ≤ length file → rest after to ≤ (length file - to) * (length file + 1)) where
   abbrev n : ℕ
   n = length file
@@ -130,47 +131,47 @@ module _ (gaps : Bool) (file : List ℕ) (taken : Taken) (rest : Taken → ℕ �
   if-le (Ok x) after to bound le = le
   if-le (Err f) after to bound le = omega arith
 
-  found-le : (at body next : ℕ) (r : Result Found (ℕ × K)) → at ≤ body → body ≤ next → next ≤ n → Within file body next r → Steps gaps file taken rest r ≤ (n - at) * (n + 1)
+  found-le : (at body next : ℕ) (r : Result Found (ℕ × K)) → at ≤ body → body ≤ next → next ≤ n → Within file body next r → Steps standard file taken rest r ≤ (n - at) * (n + 1)
   found-le at body next (Err f) p q l w = omega arith
   found-le at body next (Ok list_ends) p q l w = omega arith
   found-le at body next (Ok (stands_alone after to)) p q l w =
       two-parts at body next 0 (rest after to) p q l (omega arith) (subst (λ (z : ℕ). rest after to ≤ (n - z) * (n + 1)) w (rest-le after to (omega (arith, w))))
   found-le at body next (Ok (has_body after to h place bytes)) p q l (to-is, bytes-are, own) =
       let long : length bytes ≤ next - body = omega (arith, ap length bytes-are, length-take (next - body) (drop body file)) in
-      let run : body_steps (plain gaps) (rows_taken file taken) h place bytes ≤ length bytes * (n + 1) =
-      steps-le (plain gaps) (rows_taken file taken) h n (streams-within file taken h own) (length bytes) (length bytes) place bytes (body_start (plain gaps) h) (omega arith) in
-      let within : body_steps (plain gaps) (rows_taken file taken) h place bytes ≤ (next - body) * (n + 1) = omega (arith, run, times-grow (length bytes) (next - body) (n + 1) long) in
-      two-parts at body next (body_steps (plain gaps) (rows_taken file taken) h place bytes) _ p q l within
-      (if-le (body_run (plain gaps) (rows_taken file taken) h place bytes) after to _ (subst (λ (z : ℕ). rest after to ≤ (n - z) * (n + 1)) to-is (rest-le after to (omega (arith, to-is)))))
+      let run : body_steps (profile_of standard) (rows_taken file taken) h place bytes ≤ length bytes * (n + 1) =
+      steps-le (profile_of standard) (rows_taken file taken) h n (streams-within file taken h own) (length bytes) (length bytes) place bytes (body_start (profile_of standard) h) (omega arith) in
+      let within : body_steps (profile_of standard) (rows_taken file taken) h place bytes ≤ (next - body) * (n + 1) = omega (arith, run, times-grow (length bytes) (next - body) (n + 1) long) in
+      two-parts at body next (body_steps (profile_of standard) (rows_taken file taken) h place bytes) _ p q l within
+      (if-le (body_run (profile_of standard) (rows_taken file taken) h place bytes) after to _ (subst (λ (z : ℕ). rest after to ≤ (n - z) * (n + 1)) to-is (rest-le after to (omega (arith, to-is)))))
 
-  by-place : (at : ℕ) (there : Result StmtAt StmtFault) → statement_at file at ≡ there → Steps gaps file taken rest (find_of file taken at there) ≤ (n - at) * (n + 1)
+  by-place : (at : ℕ) (there : Result StmtAt StmtFault) → statement_at file at ≡ there → Steps standard file taken rest (find_of file taken at there) ≤ (n - at) * (n + 1)
   by-place at (Err f) is = omega arith
   by-place at (Ok End) is = ends-le (test (all_taken file taken) (at, rules.RowsLeft))
     where
-      ends-le : (x : Passing) → Steps gaps file taken rest (x then Ok list_ends) ≤ (n - at) * (n + 1)
+      ends-le : (x : Passing) → Steps standard file taken rest (x then Ok list_ends) ≤ (n - at) * (n + 1)
       ends-le (Ok p) = omega arith
       ends-le (Err f) = omega arith
   by-place at (Ok (Head code body next)) is =
       let head = head-at file at code body next is in
       found-le at body next (find_kind file taken at body next (statement_code code)) head.before head.order head.within (kind-within file body next taken at (statement_code code))
 
-  place-le : (at : ℕ) → Steps gaps file taken rest (find_at file taken at) ≤ (n - at) * (n + 1)
+  place-le : (at : ℕ) → Steps standard file taken rest (find_at file taken at) ≤ (n - at) * (n + 1)
   unfolding find_at
   place-le at = by-place at (statement_at file at) refl
 
 -- ---- the list, and the file
 
-list-le : (gaps : Bool) (file : List ℕ) (bound : ℕ) (taken : Taken) (at : ℕ) → list_steps gaps file bound taken at ≤ (length file - at) * (length file + 1)
+list-le : (standard : Standard) (file : List ℕ) (bound : ℕ) (taken : Taken) (at : ℕ) → list_steps standard file bound taken at ≤ (length file - at) * (length file + 1)
 unfolding list_steps
-list-le gaps file zero taken at = omega arith
-list-le gaps file (suc bound) taken at = place-le gaps file taken (λ after next. list_steps gaps file bound after next) (λ after to le. list-le gaps file bound after to) at
+list-le standard file zero taken at = omega arith
+list-le standard file (suc bound) taken at = place-le standard file taken (λ after next. list_steps standard file bound after next) (λ after to le. list-le standard file bound after to) at
 
 pub steps-of-file : StepsOfAFile
-steps-of-file gaps file = go (test_layout file)
+steps-of-file standard file = go (test_layout file)
   where
-    go : (r : Passing) → steps_after r (list_steps gaps file (length file + 1) nothing_taken (list_at file)) ≤ length file * length file + length file
+    go : (r : Passing) → steps_after r (list_steps standard file (length file + 1) nothing_taken (list_at file)) ≤ length file * length file + length file
     go (Err f) = omega arith
     go (Ok x) =
         let one : length file + 1 ≡ suc (length file) = omega arith in
         let square : length file * (length file + 1) ≡ length file * length file + length file = ap (λ (z : ℕ). length file * z) one ∙ mul-suc (length file) (length file) in
-        omega (arith, list-le gaps file (length file + 1) nothing_taken (list_at file), times-grow (length file - list_at file) (length file) (length file + 1) (omega arith), square)
+        omega (arith, list-le standard file (length file + 1) nothing_taken (list_at file), times-grow (length file - list_at file) (length file) (length file + 1) (omega arith), square)

@@ -23,6 +23,7 @@ use Rattle.mz_cmd.specs.declared.statement.StmtAt.TheVariants.{End, Head as a_he
 use Rattle.mz_cmd.specs.declared.statement.StmtFault.{StmtFault}
 use Rattle.mz_cmd.specs.Codes.{statement_code}
 use Rattle.mz_cmd.specs.StatementList.{statement_at}
+use Rattle.mz_binary.specs.Standards.{strict_standard}
 use Rattle.mz_binary.proofs.PlacesJudged.{params-judged, words-judged, empty-decides, taken-decides}
 
 -- ---- tests
@@ -60,10 +61,10 @@ module _ (file : List ℕ) (taken : Taken) (at body next : ℕ) where
   bytes = body_bytes file body next
 
   empty : IsEmptyBody bytes → is_empty_body bytes ≡ true
-  empty h = (empty-decides false file taken bytes).1 h
+  empty h = (empty-decides strict_standard file taken bytes).1 h
 
   not-empty : (IsEmptyBody bytes → ⊥) → is_empty_body bytes ≡ false
-  not-empty out = out-of (is_empty_body bytes) (IsEmptyBody bytes) (empty-decides false file taken bytes) out
+  not-empty out = out-of (is_empty_body bytes) (IsEmptyBody bytes) (empty-decides strict_standard file taken bytes) out
 
   -- ---- a sort
 
@@ -172,10 +173,10 @@ module _ (file : List ℕ) (taken : Taken) (at body next : ℕ) where
 
 module _ (file : List ℕ) (taken : Taken) (at : ℕ) where
   pub list-ends : AllTaken file taken → find_of file taken at (Ok End) ≡ Ok list_ends
-  list-ends h = holds (all_taken file taken) (at, rules.RowsLeft) (Ok list_ends) ((taken-decides false file taken).1 h)
+  list-ends h = holds (all_taken file taken) (at, rules.RowsLeft) (Ok list_ends) ((taken-decides strict_standard file taken).1 h)
 
   pub rows-left : (AllTaken file taken → ⊥) → find_of file taken at (Ok End) ≡ Err (at, rules.RowsLeft)
-  rows-left out = fails (all_taken file taken) (at, rules.RowsLeft) (Ok list_ends) (out-of (all_taken file taken) (AllTaken file taken) (taken-decides false file taken) out)
+  rows-left out = fails (all_taken file taken) (at, rules.RowsLeft) (Ok list_ends) (out-of (all_taken file taken) (AllTaken file taken) (taken-decides strict_standard file taken) out)
 
 -- ---- a head
 

@@ -25,6 +25,8 @@ use Rattle.mz_binary.specs.FileRun.{with_sort, with_term, with_thm, after_kind}
 use Rattle.mz_binary.proofs.Heads.{code-is}
 use Rattle.mz_binary.proofs.Declared.{sorts-append, terms-append, assertions-append}
 use Rattle.mz_binary.proofs.Entries.{body_of, entry_of, entry-good}
+use Rattle.mz_binary.specs.declared.standard.Standard.{Standard}
+use Rattle.mz_binary.specs.Standards.{lets_gaps}
 
 -- ---- the rows taken after a statement
 
@@ -92,15 +94,15 @@ abbrev pub ProvedAs : Bool → List ℕ → List Declaration → Declaration →
 ProvedAs gaps bytes env d = (a : Assertion) → d ≡ assertion_decl a → a.is_axiom ≡ false → IsProvedBy (cites_as gaps bytes) env a
 
 -- the statement after which the list goes on: it is spelled there, it is legal, and the rows declare it too
-pub record FollowedBy (gaps : Bool) (file : List ℕ) (env : List Declaration) (at body next : ℕ) (k : StatementCode) : Type 0 where
+pub record FollowedBy (standard : Standard) (file : List ℕ) (env : List Declaration) (at body next : ℕ) (k : StatementCode) : Type 0 where
   pub statement : Statement
   pub spelled : IsSpelled file env at statement next
-  pub legal : IsLegalStatement (allowed_with gaps) env statement
-  pub proved : ProvedAs gaps (body_bytes file body next) env statement.decl
+  pub legal : IsLegalStatement (allowed_with (lets_gaps standard)) env statement
+  pub proved : ProvedAs (lets_gaps standard) (body_bytes file body next) env statement.decl
   pub taken : taken_by (env ++ statement.decl ∷ []) ≡ after_kind file (taken_by env) k
   pub declares : Declares (rows_taken file (taken_by (env ++ statement.decl ∷ []))) (env ++ statement.decl ∷ [])
 
-module _ (gaps : Bool) (file : List ℕ) (env : List Declaration) (at code body next : ℕ) (stands : statement_at file at ≡ Ok (Head code body next)) where
+module _ (standard : Standard) (file : List ℕ) (env : List Declaration) (at code body next : ℕ) (stands : statement_at file at ≡ Ok (Head code body next)) where
   Spelled : StatementCode → Statement → Type 0
   Spelled k s = IsSpelled file env at s next × (taken_by (env ++ s.decl ∷ []) ≡ after_kind file (taken_by env) k)
 
@@ -121,7 +123,7 @@ module _ (gaps : Bool) (file : List ℕ) (env : List Declaration) (at code body 
   theorem-kind : (a : Assertion) → a.is_axiom ≡ false → (code ≡ 0x06) ⊎ (code ≡ 0x0E) → IsKindOf code (assertion_decl a)
   theorem-kind a is e = subst (λ b. MatchBool b (code ≡ 0x02) ((code ≡ 0x06) ⊎ (code ≡ 0x0E))) (sym is) e
 
-  spelled-as : (k : StatementCode) (s : Statement) → code ≡ statement_byte k → AllHold (kind_checks gaps file (taken_by env) at body next (Some k))
+  spelled-as : (k : StatementCode) (s : Statement) → code ≡ statement_byte k → AllHold (kind_checks standard file (taken_by env) at body next (Some k))
       → SpellsEntry (signatures env) (entry_of file (taken_by env) body next k) s → Spelled k s
   spelled-as codes.Sort s e all (local-is, decl-is) =
       as-declared codes.Sort s _ false decl-is local-is (mark-of 0x04 false e refl) e (slice_get-sorts file (length (sorts env)) all.0) (after-sort env file)
@@ -142,11 +144,11 @@ module _ (gaps : Bool) (file : List ℕ) (env : List Declaration) (at code body 
   no-term : (d : Declaration) (a : Assertion) (t : Term) → d ≡ term_decl t → d ≡ assertion_decl a → ⊥
   no-term d a t e f = let bad : term_decl t ≡ assertion_decl a = sym e ∙ f in cc
 
-  by-body : (l w : Bool) (s : Statement) → ProvedByBody gaps env (an_assertion l w (thm_of_file file (length (assertions env))) (body_of file body next)) s.decl → ProvedAs gaps (body_bytes file body next) env s.decl
-  by-body l w s proved a is theorem = subst (ProvedByBody gaps env (an_assertion l w (thm_of_file file (length (assertions env))) (body_of file body next))) is proved theorem
+  by-body : (l w : Bool) (s : Statement) → ProvedByBody (lets_gaps standard) env (an_assertion l w (thm_of_file file (length (assertions env))) (body_of file body next)) s.decl → ProvedAs (lets_gaps standard) (body_bytes file body next) env s.decl
+  by-body l w s proved a is theorem = subst (ProvedByBody (lets_gaps standard) env (an_assertion l w (thm_of_file file (length (assertions env))) (body_of file body next))) is proved theorem
 
-  proved-as : (k : StatementCode) (s : Statement) → SpellsEntry (signatures env) (entry_of file (taken_by env) body next k) s → ProvedByBody gaps env (entry_of file (taken_by env) body next k) s.decl
-      → ProvedAs gaps (body_bytes file body next) env s.decl
+  proved-as : (k : StatementCode) (s : Statement) → SpellsEntry (signatures env) (entry_of file (taken_by env) body next k) s → ProvedByBody (lets_gaps standard) env (entry_of file (taken_by env) body next k) s.decl
+      → ProvedAs (lets_gaps standard) (body_bytes file body next) env s.decl
   proved-as codes.Sort s (_, decl-is) proved a is theorem = absurd (no-assertion s.decl a _ decl-is is)
   proved-as codes.Term s (_, (d, decl-is, _)) proved a is theorem = absurd (no-term s.decl a d decl-is is)
   proved-as codes.LocalDefinition s (_, (d, decl-is, _)) proved a is theorem = absurd (no-term s.decl a d decl-is is)
@@ -155,12 +157,12 @@ module _ (gaps : Bool) (file : List ℕ) (env : List Declaration) (at code body 
   proved-as codes.LocalTheorem s spells proved a is theorem = by-body true false s proved a is theorem
 
   pub followed : (k : StatementCode) → statement_code code ≡ Some k → IsLegalEnv env → Declares (rows_taken file (taken_by env)) env
-      → AllHold (kind_checks gaps file (taken_by env) at body next (Some k)) → FollowedBy gaps file env at body next k
+      → AllHold (kind_checks standard file (taken_by env) at body next (Some k)) → FollowedBy standard file env at body next k
   unfolding Spelled
   followed k is legal-env declares all =
       let tables : Tables = rows_taken file (taken_by env) in
       let e : Entry = entry_of file (taken_by env) body next k in
-      let (s, spells, legal, proved, grown) = follows gaps tables env legal-env declares e (entry-good gaps file (taken_by env) at body next k all) in
+      let (s, spells, legal, proved, grown) = follows (lets_gaps standard) tables env legal-env declares e (entry-good standard file (taken_by env) at body next k all) in
       let (spelled, taken) = spelled-as k s (code-is k code is) all spells in
       let rows : rows_taken file (taken_by (env ++ s.decl ∷ [])) ≡ with_entry tables e = ap (rows_taken file) taken ∙ rows-after file (taken_by env) body next k in
       record { statement = s; spelled = spelled; legal = legal; proved = proved-as k s spells proved; taken = taken; declares = subst (λ z. Declares z (env ++ s.decl ∷ [])) (sym rows) grown }

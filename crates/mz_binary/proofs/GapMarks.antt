@@ -1,5 +1,5 @@
 -- The marks of gapped theorems, as the list of statements goes on.
-use Rattle.std.proofs.Common.{◌≡◌, ◌∙◌, ◌<◌, ◌+◌, ◌⊎◌, ℕ, zero, suc, Bool, true, false, not, List, [], ◌∷◌, ◌++◌, length, slice_get, Some, None, Ok, refl, sym, ap, subst, inl, inr, arith, length-append, append_assoc, append-nil}
+use Rattle.std.proofs.Common.{◌≡◌, ◌∙◌, ◌<◌, ◌+◌, ◌⊎◌, ℕ, zero, suc, Bool, true, false, not, List, [], ◌∷◌, ◌++◌, length, slice_get, Some, Ok, refl, sym, ap, subst, inl, inr, arith, length-append, append_assoc, append-nil}
 use Rattle.std.specs.Prelude.{◌↔◌, MatchBool, Result, nat_lt}
 use Rattle.mz_cmd.specs.declared.rule.K.{K}
 use Rattle.mz_cmd.specs.declared.rule.K.TheVariants as rules
@@ -19,11 +19,11 @@ use Rattle.mz_machine.specs.BodyAnswers.{HasGap}
 use Rattle.mz_soundness.specs.FileRows.{Taken, thm_of_file, body_bytes}
 use Rattle.mz_binary.specs.FileRun.{test, test_params, Found, stands_alone, has_body, with_thm, find_thm, find_kind}
 use Rattle.mz_binary.proofs.Inverting.{then-ok, found-is}
-use Rattle.mz_soundness.specs.Sound.{CitesWithin}
-use Rattle.mz_binary.specs.Chains.{IsGoodStatement, GoodTo}
+use Rattle.mz_binary.specs.Chains.{GoodTo}
 use Rattle.mz_binary.specs.Gapped.{AssertionBody, body_there, place_after, body_of, bodies_from, bodies_of, IsTheoremBody, IsGapped, leaves_gap, rests_on, GappedIn, IsMarked, AreMarks, CitesMarked}
 use Rattle.mz_binary.specs.Progress.{is_theorem_kind, is_assertion_kind, marks_past}
 use Rattle.mz_binary.specs.Spelling.{IsKindOf}
+use Rattle.mz_binary.specs.declared.standard.Standard.{Standard}
 
 -- ---- places of a list
 
@@ -120,8 +120,8 @@ module _ (bodies : List AssertionBody) (marks : List Bool) (many : length marks 
 
 -- ---- bodies along the list
 
-module _ (gaps : Bool) (file : List ℕ) where
-  pub bodies-append : (env : List Declaration) (from : ℕ) (ss : List Statement) (env' : List Declaration) (to : ℕ) → GoodTo gaps file env from ss env' to
+module _ (standard : Standard) (file : List ℕ) where
+  pub bodies-append : (env : List Declaration) (from : ℕ) (ss : List Statement) (env' : List Declaration) (to : ℕ) → GoodTo standard file env from ss env' to
       → (more : List Statement) → bodies_from file from (ss ++ more) ≡ bodies_from file from ss ++ bodies_from file to more
   bodies-append env from [] env' to chain more = ap (λ n. bodies_from file n more) (sym chain.1)
   bodies-append env from (s ∷ ss) env' to chain more =
@@ -131,7 +131,7 @@ module _ (gaps : Bool) (file : List ℕ) where
       ∙ sym (append_assoc (body_of file from s.decl) (bodies_from file chain.0 ss) (bodies_from file to more))
       ∙ ap (λ n. (body_of file from s.decl ++ bodies_from file n ss) ++ bodies_from file to more) (sym goes)
 
-  pub bodies-more : (env : List Declaration) (from : ℕ) (ss : List Statement) (env' : List Declaration) (to : ℕ) → GoodTo gaps file env from ss env' to
+  pub bodies-more : (env : List Declaration) (from : ℕ) (ss : List Statement) (env' : List Declaration) (to : ℕ) → GoodTo standard file env from ss env' to
       → (s : Statement) → bodies_from file from (ss ++ s ∷ []) ≡ bodies_from file from ss ++ body_of file to s.decl
   bodies-more env from ss env' to chain s = bodies-append env from ss env' to chain (s ∷ []) ∙ ap (λ xs. bodies_from file from ss ++ xs) (append-nil (body_of file to s.decl))
 
@@ -143,7 +143,7 @@ module _ (gaps : Bool) (file : List ℕ) where
       of (term_decl _) = refl
       of (assertion_decl _) = refl
 
-  pub bodies-many : (env : List Declaration) (from : ℕ) (ss : List Statement) (env' : List Declaration) (to : ℕ) → GoodTo gaps file env from ss env' to
+  pub bodies-many : (env : List Declaration) (from : ℕ) (ss : List Statement) (env' : List Declaration) (to : ℕ) → GoodTo standard file env from ss env' to
       → length (bodies_from file from ss) + length (assertions env) ≡ length (assertions env')
   bodies-many env from [] env' to chain = let same : length (assertions env') ≡ length (assertions env) = ap (λ e. length (assertions e)) chain.0 in omega (arith, same)
   bodies-many env from (s ∷ ss) env' to chain =
@@ -212,17 +212,17 @@ pub record NewMark (file : List ℕ) (ss : List Statement) (at : ℕ) (s : State
   pub are : AreMarks file (ss ++ s ∷ []) marks
   pub told : (gap ≡ true) ↔ GappedIn file (ss ++ s ∷ []) row
 
-module _ (gaps : Bool) (file : List ℕ) (ss : List Statement) (env : List Declaration) (at : ℕ) (chain : GoodTo gaps file [] (list_at file) ss env at) (s : Statement)
+module _ (standard : Standard) (file : List ℕ) (ss : List Statement) (env : List Declaration) (at : ℕ) (chain : GoodTo standard file [] (list_at file) ss env at) (s : Statement)
     (k : StatementCode) (body next : ℕ) (stands : statement_at file at ≡ Ok (Head (statement_byte k) body next)) (tells : KindTells k s.decl)
     (marks : List Bool) (are : AreMarks file ss marks) (gap : Bool)
     (why : (gap ≡ true) ↔ ((is_theorem_kind k ≡ true) × (HasGap (body_bytes file body next) ⊎ CitesMarked (body_bytes file body next) marks))) where
   row-is : length (assertions env) ≡ length (bodies_of file ss)
-  row-is = let many = bodies-many gaps file [] (list_at file) ss env at chain in omega (arith, many)
+  row-is = let many = bodies-many standard file [] (list_at file) ss env at chain in omega (arith, many)
 
   -- another statement
   other : is_assertion_kind k ≡ false → is_theorem_kind k ≡ false → body_of file at s.decl ≡ [] → NewMark file ss at s k marks gap (length (assertions env))
   other no_ none empty =
-      let same : bodies_of file (ss ++ s ∷ []) ≡ bodies_of file ss = bodies-more gaps file [] (list_at file) ss env at chain s ∙ ap (λ xs. bodies_of file ss ++ xs) empty ∙ append-nil (bodies_of file ss) in
+      let same : bodies_of file (ss ++ s ∷ []) ≡ bodies_of file ss = bodies-more standard file [] (list_at file) ss env at chain s ∙ ap (λ xs. bodies_of file ss ++ xs) empty ∙ append-nil (bodies_of file ss) in
       record {
         are = record {
           many = are.many ∙ sym (ap (λ xs. length xs) same);
@@ -238,7 +238,7 @@ module _ (gaps : Bool) (file : List ℕ) (ss : List Statement) (env : List Decla
   assertion : (a : Assertion) → s.decl ≡ assertion_decl a → a.is_axiom ≡ not (is_theorem_kind k) → NewMark file ss at s k (marks ++ gap ∷ []) gap (length (assertions env))
   assertion a is kind =
       let b : AssertionBody = record { is_axiom = a.is_axiom; bytes = body_there file (statement_at file at) } in
-      let same : bodies_of file (ss ++ s ∷ []) ≡ bodies_of file ss ++ b ∷ [] = bodies-more gaps file [] (list_at file) ss env at chain s ∙ ap (λ d. bodies_of file ss ++ body_of file at d) is in
+      let same : bodies_of file (ss ++ s ∷ []) ≡ bodies_of file ss ++ b ∷ [] = bodies-more standard file [] (list_at file) ss env at chain s ∙ ap (λ d. bodies_of file ss ++ body_of file at d) is in
       let bytes : b.bytes ≡ body_bytes file body next = ap (body_there file) stands in
       let new : IsGapped (bodies_of file ss ++ b ∷ []) (length (bodies_of file ss)) ↔ ((b.is_axiom ≡ false) × (HasGap b.bytes ⊎ CitesMarked b.bytes marks)) = new-gapped (bodies_of file ss) marks are.many are.each b in
       let theorem : (b.is_axiom ≡ false) ↔ (is_theorem_kind k ≡ true) = opposite (is_theorem_kind k) b.is_axiom kind in

@@ -14,6 +14,7 @@ use Rattle.mz_unification.specs.Steps.{◌>>=◌, ◌>>◌ as ◌then◌}
 use Rattle.mz_soundness.specs.FileRows.{Taken, term_of_file, body_bytes}
 use Rattle.mz_layout.specs.Tables.{TermRow as TermRecord, sort_count, term_count, thm_count, term_row, thm_row}
 use Rattle.mz_binary.specs.FileRun.{Passing, test, test_params, test_words, is_empty_body, Found, list_ends, stands_alone, has_body, Onward, ended, onward, if_runs, run_found, run_place, find_term_body, find_term, find_thm, find_kind, find_of, find_at, may_stand, with_sort, with_term, with_thm, after_kind}
+use Rattle.mz_binary.specs.declared.standard.Standard.{Standard}
 
 abbrev found : Found → Result Found (ℕ × K)
 found f = Ok f
@@ -49,10 +50,10 @@ if-runs : {A : Type 0} (r : Result A (ℕ × K)) (o z : Onward) → if_runs r o 
 if-runs (Ok x) o z e = on-is o z e
 if-runs (Err r) o z e = absurd cc
 
-runs-to : (gaps : Bool) (file : List ℕ) (taken : Taken) (f : Found) (o : Onward) → run_found gaps file taken f ≡ Ok o → goes_to f ≡ leads o
-runs-to gaps file taken list_ends o e = ap leads (on-is ended o e)
-runs-to gaps file taken (stands_alone after next) o e = ap leads (on-is (onward after next) o e)
-runs-to gaps file taken (has_body after next h body bytes) o e = ap leads (if-runs _ (onward after next) o e)
+runs-to : (standard : Standard) (file : List ℕ) (taken : Taken) (f : Found) (o : Onward) → run_found standard file taken f ≡ Ok o → goes_to f ≡ leads o
+runs-to standard file taken list_ends o e = ap leads (on-is ended o e)
+runs-to standard file taken (stands_alone after next) o e = ap leads (on-is (onward after next) o e)
+runs-to standard file taken (has_body after next h body bytes) o e = ap leads (if-runs _ (onward after next) o e)
 
 module _ (file : List ℕ) (taken : Taken) (at body next : ℕ) where
   term-body : (o : Option (List ℕ)) (f : Found) → find_term_body file taken at body next o ≡ Ok f → goes_to f ≡ Some (with_term taken, next)
@@ -94,7 +95,7 @@ pub record GoesOn (file : List ℕ) (taken : Taken) (at : ℕ) (to : Option (Tak
   pub kind_is : statement_code code ≡ Some kind
   pub leads : to ≡ Some (after_kind file taken kind, next)
 
-module _ (gaps : Bool) (file : List ℕ) (taken : Taken) (at : ℕ) where
+module _ (standard : Standard) (file : List ℕ) (taken : Taken) (at : ℕ) where
   by-kind : (code body next : ℕ) (o : Option StatementCode) (f : Found) → statement_at file at ≡ Ok (Head code body next) → statement_code code ≡ o → find_kind file taken at body next o ≡ Ok f → GoesOn file taken at (goes_to f)
   by-kind code body next None f stands is e = absurd cc
   by-kind code body next (Some k) f stands is e = record { code = code; body = body; next = next; kind = k; stands = stands; kind_is = is; leads = kind file taken at body next k f e }
@@ -104,18 +105,18 @@ module _ (gaps : Bool) (file : List ℕ) (taken : Taken) (at : ℕ) where
   by-place (Ok End) f is e = inl (is, ap goes_to (sym (found-is list_ends f (then-ok _ _ f e))))
   by-place (Ok (Head code body next)) f is e = inr (by-kind code body next (statement_code code) f is refl e)
 
-  pub passed : (o : Onward) → run_place gaps file taken at ≡ Ok o → ((statement_at file at ≡ Ok End) × (leads o ≡ None)) ⊎ GoesOn file taken at (leads o)
+  pub passed : (o : Onward) → run_place standard file taken at ≡ Ok o → ((statement_at file at ≡ Ok End) × (leads o ≡ None)) ⊎ GoesOn file taken at (leads o)
   unfolding find_at
   passed o e =
-      let (f, found-there, ran) = bind-ok (find_at file taken at) (run_found gaps file taken) o e in
-      let to : goes_to f ≡ leads o = runs-to gaps file taken f o ran in
+      let (f, found-there, ran) = bind-ok (find_at file taken at) (run_found standard file taken) o e in
+      let to : goes_to f ≡ leads o = runs-to standard file taken f o ran in
       elim (by-place (statement_at file at) f refl found-there) [
         | inl stops ↦ inl (stops.0, sym to ∙ stops.1)
         | inr goes ↦ inr (record { code = goes.code; body = goes.body; next = goes.next; kind = goes.kind; stands = goes.stands; kind_is = goes.kind_is; leads = sym to ∙ goes.leads })
       ]
 
-  pub ends-there : run_place gaps file taken at ≡ Ok ended → statement_at file at ≡ Ok End
+  pub ends-there : run_place standard file taken at ≡ Ok ended → statement_at file at ≡ Ok End
   ends-there e = elim (passed ended e) [ inl stops ↦ stops.0 | inr goes ↦ absurd (let bad = goes.leads in cc) ]
 
-  pub goes-there : (after : Taken) (next : ℕ) → run_place gaps file taken at ≡ Ok (onward after next) → GoesOn file taken at (Some (after, next))
+  pub goes-there : (after : Taken) (next : ℕ) → run_place standard file taken at ≡ Ok (onward after next) → GoesOn file taken at (Some (after, next))
   goes-there after next e = elim (passed (onward after next) e) [ inl stops ↦ absurd (let bad = stops.1 in cc) | inr goes ↦ goes ]

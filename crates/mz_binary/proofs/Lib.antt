@@ -5,6 +5,8 @@ pub mod SortsSoFar
 pub mod ChainLaws
 pub mod SpellingLaws
 pub mod PlacesJudged
+pub mod ByTable
+pub mod Answering
 pub mod Entries
 pub mod Following
 pub mod Inverting

@@ -14,18 +14,20 @@ use Rattle.mz_logic.specs.LegalLists.{Statement}
 use Rattle.mz_layout.specs.Tables.{list_at, mods_of, sort_count, term_count, thm_count}
 use Rattle.mz_layout.specs.Layout.{IsBinary}
 use Rattle.mz_unification.specs.Steps.{◌>>=◌}
-use Rattle.mz_soundness.specs.Tables.{Heading}
-use Rattle.mz_machine.specs.Before.{taken_before}
+use Rattle.mz_soundness.specs.Tables.{Heading, State}
+use Rattle.mz_soundness.specs.Bodies.{body_run}
+use Rattle.mz_machine.specs.Before.{heading_of, tables_before, taken_before}
 use Rattle.mz_binary.specs.declared.place.Head.{Head}
+use Rattle.mz_binary.specs.declared.place.Found.TheVariants as seen
 use Rattle.mz_machine.specs.declared.earlier.Rows.{Rows}
 use Rattle.mz_binary.specs.declared.statement.Statement.{Statement as Told}
-use Rattle.mz_soundness.specs.FileRows.{Taken, taken_by}
+use Rattle.mz_soundness.specs.FileRows.{Taken, taken_by, body_bytes}
 use Rattle.mz_binary.specs.Spelling.{IsKindOf, HasKind, IsSpelled, is_local_code}
 use Rattle.mz_binary.specs.Checking.{kind_checks, place_checks}
-use Rattle.mz_binary.specs.FileRun.{with_term, with_thm, Found, list_ends, has_body, Onward, ended, onward, after_kind, find_at, run_found, run_place, RunsBody}
+use Rattle.mz_binary.specs.FileRun.{with_term, with_thm, Found, list_ends, has_body, Onward, ended, onward, if_runs, after_kind, find_at, run_found, run_place, RunsBody}
 use Rattle.mz_binary.specs.Chains.{IsGoodStatement, GoodTo}
 use Rattle.mz_binary.specs.Good.{Good, FailsAfter}
-use Rattle.mz_binary.specs.Progress.{Progress, HasPassed, CountsRows, IsReached, IsHead, RestsOnGap, marks_past, kind_byte, next_row, rows_past, is_local_kind, kind_code, row_after}
+use Rattle.mz_binary.specs.Progress.{Progress, HasPassed, found_of, CountsRows, IsReached, IsHead, RestsOnGap, marks_past, kind_byte, next_row, rows_past, is_local_kind, kind_code, row_after}
 use Rattle.mz_binary.specs.Gapped.{AreMarks}
 use Rattle.mz_binary.specs.Judging.{Passes}
 use Rattle.mz_binary.proofs.Heads.{head-at, IsHeadAt}
@@ -37,6 +39,8 @@ use Rattle.mz_binary.proofs.Inverting.{ends-there}
 use Rattle.mz_binary.proofs.Following.{FollowedBy, followed}
 use Rattle.mz_binary.proofs.LegalChains.{well-chain}
 use Rattle.mz_binary.proofs.WholeFiles.{at-head}
+use Rattle.mz_binary.specs.declared.standard.Standard.{Standard}
+use Rattle.mz_binary.specs.Standards.{lets_gaps, profile_of}
 
 -- ---- kinds
 
@@ -145,8 +149,8 @@ pub record RowsWithin (file : List ℕ) (rows : Rows) (passed : ℕ) : Type 0 wh
   pub thms_within : rows.thms ≤ thm_count file
   pub many : passed ≡ rows.sorts + rows.terms + rows.thms
 
-module _ (gaps : Bool) (file : List ℕ) (rows : Rows) (env : List Declaration) (counts : CountsRows rows env) (at body next passed : ℕ) (before : RowsWithin file rows passed) where
-  pub within-past : (k : StatementCode) → AllHold (kind_checks gaps file (taken_by env) at body next (Some k)) → RowsWithin file (rows_past rows k) (passed + 1)
+module _ (standard : Standard) (file : List ℕ) (rows : Rows) (env : List Declaration) (counts : CountsRows rows env) (at body next passed : ℕ) (before : RowsWithin file rows passed) where
+  pub within-past : (k : StatementCode) → AllHold (kind_checks standard file (taken_by env) at body next (Some k)) → RowsWithin file (rows_past rows k) (passed + 1)
   within-past codes.Sort all = record { sorts_within = omega (arith, all.0, counts.sorts_are); terms_within = before.terms_within; thms_within = before.thms_within; many = omega (arith, before.many) }
   within-past codes.Term all = record { sorts_within = before.sorts_within; terms_within = omega (arith, all.0, counts.terms_are); thms_within = before.thms_within; many = omega (arith, before.many) }
   within-past codes.LocalDefinition all = record { sorts_within = before.sorts_within; terms_within = omega (arith, all.0, counts.terms_are); thms_within = before.thms_within; many = omega (arith, before.many) }
@@ -156,19 +160,40 @@ module _ (gaps : Bool) (file : List ℕ) (rows : Rows) (env : List Declaration) 
 
 -- ---- what is found runs
 
-pub run-of : (gaps : Bool) (file : List ℕ) (t : Taken) (at : ℕ) (f : Found) → find_at file t at ≡ Ok f → run_place gaps file t at ≡ run_found gaps file t f
-run-of gaps file t at f e = ap (λ r. r >>= run_found gaps file t) e
+pub run-of : (standard : Standard) (file : List ℕ) (t : Taken) (at : ℕ) (f : Found) → find_at file t at ≡ Ok f → run_place standard file t at ≡ run_found standard file t f
+run-of standard file t at f e = ap (λ r. r >>= run_found standard file t) e
+
+-- with its body, under the heading of the kind and the row
+module _ (standard : Standard) (file : List ℕ) (rows : Rows) (at : ℕ) (head : Head) (there : find_at file (taken_before file rows) at ≡ Ok (found_of file rows (seen.WithBody head)))
+    (kind row : ℕ) (kind-is : kind ≡ kind_byte head.code) (row-is : row ≡ next_row rows head.code) where
+  abbrev on : Onward
+  on = onward (after_kind file (taken_before file rows) head.code) head.next
+
+  abbrev run : Result (State (profile_of standard).T) (ℕ × K)
+  run = body_run (profile_of standard) (tables_before file rows) (heading_of file kind row) head.body (body_bytes file head.body head.next)
+
+  run-is : run_place standard file (taken_before file rows) at ≡ if_runs run on
+  run-is =
+      subst (λ (n : ℕ). run_place standard file (taken_before file rows) at ≡ if_runs (body_run (profile_of standard) (tables_before file rows) (heading_of file kind n) head.body (body_bytes file head.body head.next)) on) (sym row-is)
+      (subst (λ (k : ℕ). run_place standard file (taken_before file rows) at ≡ if_runs (body_run (profile_of standard) (tables_before file rows) (heading_of file k (next_row rows head.code)) head.body (body_bytes file head.body head.next)) on) (sym kind-is)
+      (run-of standard file (taken_before file rows) at (found_of file rows (seen.WithBody head)) there))
+
+  pub body-runs : (last : State (profile_of standard).T) → run ≡ Ok last → run_place standard file (taken_before file rows) at ≡ Ok on
+  body-runs last is = run-is ∙ ap (λ (r : Result (State (profile_of standard).T) (ℕ × K)). if_runs r on) is
+
+  pub body-stops : (f : ℕ × K) → run ≡ Err f → run_place standard file (taken_before file rows) at ≡ Err f
+  body-stops f is = run-is ∙ ap (λ (r : Result (State (profile_of standard).T) (ℕ × K)). if_runs r on) is
 
 -- ---- what stops the checker
 
 module _ (p : Progress) (ss : List Statement) (env : List Declaration) (before : HasPassed p ss env) where
   -- the place is judged after what env declares
-  judged-here : (r : Result Onward (ℕ × K)) → run_place p.gaps p.file (taken_before p.file p.rows) p.at ≡ r → Judges r (place_checks p.gaps p.file (taken_by env) p.at)
+  judged-here : (r : Result Onward (ℕ × K)) → run_place p.standard p.file (taken_before p.file p.rows) p.at ≡ r → Judges r (place_checks p.standard p.file (taken_by env) p.at)
   judged-here r e =
-      subst (λ (x : Result Onward (ℕ × K)). Judges x (place_checks p.gaps p.file (taken_by env) p.at)) (ap (λ t. run_place p.gaps p.file t p.at) (taken p ss env before) ∙ e) (place-judged p.gaps p.file (taken_by env) p.at)
+      subst (λ (x : Result Onward (ℕ × K)). Judges x (place_checks p.standard p.file (taken_by env) p.at)) (ap (λ t. run_place p.standard p.file t p.at) (taken p ss env before) ∙ e) (place-judged p.standard p.file (taken_by env) p.at)
 
   -- the first rule that fails after the statements before
-  pub fails-here : (refusal : Refusal) → IsReached p → refusal.statement ≡ p.passed + 1 → run_place p.gaps p.file (taken_before p.file p.rows) p.at ≡ Err (refusal.at, refusal.rule) → FailsAfter p.gaps p.file ss env p.at refusal
+  pub fails-here : (refusal : Refusal) → IsReached p → refusal.statement ≡ p.passed + 1 → run_place p.standard p.file (taken_before p.file p.rows) p.at ≡ Err (refusal.at, refusal.rule) → FailsAfter p.standard p.file ss env p.at refusal
   fails-here refusal reached number e =
       record { layout = reached.binary.layout; statements = before.statements; number = omega (arith, number, before.many); fails = judged-here (Err (refusal.at, refusal.rule)) e }
 
@@ -176,17 +201,17 @@ module _ (p : Progress) (ss : List Statement) (env : List Declaration) (before :
   found-here f e = ap (λ t. find_at p.file t p.at) (taken p ss env before) ∙ e
 
   -- the list's end after the statements before
-  pub ends-here : IsReached p → find_at p.file (taken_before p.file p.rows) p.at ≡ Ok list_ends → Good p.gaps p.file ss
+  pub ends-here : IsReached p → find_at p.file (taken_before p.file p.rows) p.at ≡ Ok list_ends → Good p.standard p.file ss
   ends-here reached e =
-      let ran : run_place p.gaps p.file (taken_by env) p.at ≡ Ok ended = run-of p.gaps p.file (taken_by env) p.at list_ends (found-here list_ends e) in
+      let ran : run_place p.standard p.file (taken_by env) p.at ≡ Ok ended = run-of p.standard p.file (taken_by env) p.at list_ends (found-here list_ends e) in
       record {
         layout = reached.binary.layout;
         env = env;
         to = p.at;
         statements = before.statements;
         ends = record {
-          ends = ends-there p.gaps p.file (taken_by env) p.at ran;
-          passes = subst (λ (x : Result Onward (ℕ × K)). Judges x (place_checks p.gaps p.file (taken_by env) p.at)) ran (place-judged p.gaps p.file (taken_by env) p.at);
+          ends = ends-there p.standard p.file (taken_by env) p.at ran;
+          passes = subst (λ (x : Result Onward (ℕ × K)). Judges x (place_checks p.standard p.file (taken_by env) p.at)) ran (place-judged p.standard p.file (taken_by env) p.at);
         };
       }
 
@@ -195,25 +220,25 @@ module _ (p : Progress) (ss : List Statement) (env : List Declaration) (before :
 
   -- ---- a good statement
 
-  module _ (head : Head) (stands : IsHead p.file head) (place : head.at ≡ p.at) (ran : run_place p.gaps p.file (taken_before p.file p.rows) p.at ≡ Ok (onward (after_kind p.file (taken_before p.file p.rows) head.code) head.next)) where
+  module _ (head : Head) (stands : IsHead p.file head) (place : head.at ≡ p.at) (ran : run_place p.standard p.file (taken_before p.file p.rows) p.at ≡ Ok (onward (after_kind p.file (taken_before p.file p.rows) head.code) head.next)) where
     stands-there : statement_at p.file p.at ≡ Ok (there.Head (statement_byte head.code) head.body head.next)
     stands-there = subst (λ at. statement_at p.file at ≡ Ok (there.Head (statement_byte head.code) head.body head.next)) place stands
 
-    passes-all : AllHold (place_checks p.gaps p.file (taken_by env) p.at)
+    passes-all : AllHold (place_checks p.standard p.file (taken_by env) p.at)
     passes-all = judged-here (Ok (onward (after_kind p.file (taken_before p.file p.rows) head.code) head.next)) ran
 
-    kind-holds : AllHold (kind_checks p.gaps p.file (taken_by env) p.at head.body head.next (Some head.code))
-    kind-holds = at-head p.gaps p.file env p.at (statement_byte head.code) head.body head.next head.code stands-there (code-of head.code) passes-all
+    kind-holds : AllHold (kind_checks p.standard p.file (taken_by env) p.at head.body head.next (Some head.code))
+    kind-holds = at-head p.standard p.file env p.at (statement_byte head.code) head.body head.next head.code stands-there (code-of head.code) passes-all
 
-    follows : FollowedBy p.gaps p.file env p.at head.body head.next head.code
+    follows : FollowedBy p.standard p.file env p.at head.body head.next head.code
     follows =
-        let (legal, declares) = well-chain p.gaps p.file [] (list_at p.file) ss env p.at before.statements tt (record { sorts_are = refl; terms_are = tt; thms_are = tt }) in
-        followed p.gaps p.file env p.at (statement_byte head.code) head.body head.next stands-there head.code (code-of head.code) legal declares kind-holds
+        let (legal, declares) = well-chain p.standard p.file [] (list_at p.file) ss env p.at before.statements tt (record { sorts_are = refl; terms_are = tt; thms_are = tt }) in
+        followed p.standard p.file env p.at (statement_byte head.code) head.body head.next stands-there head.code (code-of head.code) legal declares kind-holds
 
 -- the checker and what it tells, past a statement
 pub record IsPast (p after : Progress) (told : Told) (head : Head) : Type 0 where
   pub same_file : after.file ≡ p.file
-  pub same_gaps : after.gaps ≡ p.gaps
+  pub same_standard : after.standard ≡ p.standard
   pub goes_on : after.at ≡ head.next
   pub one_more : after.passed ≡ p.passed + 1
   pub rows_are : after.rows ≡ rows_past p.rows head.code
@@ -223,7 +248,7 @@ pub record IsPast (p after : Progress) (told : Told) (head : Head) : Type 0 wher
   pub row : told.row ≡ next_row p.rows head.code
   pub mark : told.local ≡ is_local_kind head.code
   pub gap : (told.gap ≡ true) ↔ RestsOnGap p head
-  pub marks_are : after.marks ≡ marks_past p.gaps head.code told.gap p.marks
+  pub marks_are : after.marks ≡ marks_past (lets_gaps p.standard) head.code told.gap p.marks
 
 spelled-kind : (file : List ℕ) (env : List Declaration) (at : ℕ) (s : Statement) (next code body : ℕ) → IsSpelled file env at s next → statement_at file at ≡ Ok (there.Head code body next) → HasKind code s
 spelled-kind file env at s next code body sp e =
@@ -232,39 +257,39 @@ spelled-kind file env at s next code body sp e =
     subst (λ (z : ℕ). HasKind z s) same sp.kind
 
 module _ (p after : Progress) (told : Told) (head : Head) (past : IsPast p after told head) (stands : IsHead p.file head) (place : head.at ≡ p.at)
-    (ran : run_place p.gaps p.file (taken_before p.file p.rows) p.at ≡ Ok (onward (after_kind p.file (taken_before p.file p.rows) head.code) head.next)) where
+    (ran : run_place p.standard p.file (taken_before p.file p.rows) p.at ≡ Ok (onward (after_kind p.file (taken_before p.file p.rows) head.code) head.next)) where
   module _ (ss : List Statement) (env : List Declaration) (before : HasPassed p ss env) where
-    f : FollowedBy p.gaps p.file env p.at head.body head.next head.code
+    f : FollowedBy p.standard p.file env p.at head.body head.next head.code
     f = follows p ss env before head stands place ran
 
     abbrev s : Statement
     s = f.statement
 
-    good : IsGoodStatement p.gaps p.file env p.at s after.at
-    good = subst (λ (to : ℕ). IsGoodStatement p.gaps p.file env p.at s to) (sym past.goes_on) (record { spelled = f.spelled; passes = passes-all p ss env before head stands place ran })
+    good : IsGoodStatement p.standard p.file env p.at s after.at
+    good = subst (λ (to : ℕ). IsGoodStatement p.standard p.file env p.at s to) (sym past.goes_on) (record { spelled = f.spelled; passes = passes-all p ss env before head stands place ran })
 
     kind-is : HasKind (statement_byte head.code) s
     kind-is = spelled-kind p.file env p.at s head.next (statement_byte head.code) head.body f.spelled (stands-there p ss env before head stands place ran)
 
     -- the marks with the new one, and whether the new one is on a gapped theorem
-    news : p.gaps ≡ true → NewMark p.file ss p.at s head.code (marks_past true head.code told.gap p.marks) told.gap (length (assertions env))
+    news : lets_gaps p.standard ≡ true → NewMark p.file ss p.at s head.code (marks_past true head.code told.gap p.marks) told.gap (length (assertions env))
     news mode =
-        new-mark p.gaps p.file ss env p.at before.statements s head.code head.body head.next (stands-there p ss env before head stands place ran) (kind-tells head.code s.decl kind-is.0) p.marks (before.marks mode) told.gap
+        new-mark p.standard p.file ss env p.at before.statements s head.code head.body head.next (stands-there p ss env before head stands place ran) (kind-tells head.code s.decl kind-is.0) p.marks (before.marks mode) told.gap
         (λ h. let (m, k, why) = past.gap.0 h in (k, why), λ (k, why). past.gap.1 (mode, k, why))
 
-    marks-after : p.gaps ≡ true → AreMarks after.file (ss ++ s ∷ []) after.marks
+    marks-after : lets_gaps p.standard ≡ true → AreMarks after.file (ss ++ s ∷ []) after.marks
     marks-after mode =
         subst (λ file. AreMarks file (ss ++ s ∷ []) after.marks) (sym past.same_file)
         (subst (AreMarks p.file (ss ++ s ∷ [])) (sym (past.marks_are ∙ ap (λ g. marks_past g head.code told.gap p.marks) mode)) (news mode).are)
 
     passed : HasPassed after (ss ++ s ∷ []) (env ++ s.decl ∷ [])
     passed = record {
-      statements = subst (λ g. GoodTo g after.file [] (list_at after.file) (ss ++ s ∷ []) (env ++ s.decl ∷ []) after.at) (sym past.same_gaps)
-          (subst (λ file. GoodTo p.gaps file [] (list_at file) (ss ++ s ∷ []) (env ++ s.decl ∷ []) after.at) (sym past.same_file)
-          (chain-more (IsGoodStatement p.gaps p.file) [] (list_at p.file) ss env p.at s after.at before.statements good));
+      statements = subst (λ g. GoodTo g after.file [] (list_at after.file) (ss ++ s ∷ []) (env ++ s.decl ∷ []) after.at) (sym past.same_standard)
+          (subst (λ file. GoodTo p.standard file [] (list_at file) (ss ++ s ∷ []) (env ++ s.decl ∷ []) after.at) (sym past.same_file)
+          (chain-more (IsGoodStatement p.standard p.file) [] (list_at p.file) ss env p.at s after.at before.statements good));
       many = omega (arith, past.one_more, before.many, length-append ss (s ∷ []));
       rows = subst (λ r. CountsRows r (env ++ s.decl ∷ [])) (sym past.rows_are) (counts-past p.rows env before.rows p.file head.code (env ++ s.decl ∷ []) f.taken);
-      marks = λ mode. marks-after (sym past.same_gaps ∙ mode);
+      marks = λ mode. marks-after (ap lets_gaps (sym past.same_standard) ∙ mode);
     }
 
     head-is : IsHeadAt p.file p.at (statement_byte head.code) head.body head.next
@@ -287,7 +312,7 @@ module _ (p after : Progress) (told : Told) (head : Head) (past : IsPast p after
           };
           gap = (λ h. (let (mode, k, why) = past.gap.0 h in (mode, (news mode).told.0 h)), λ (mode, g). (news mode).told.1 g);
           same_file = past.same_file;
-          same_gaps = past.same_gaps;
+          same_standard = past.same_standard;
           further = omega (arith, past.goes_on, head-is.further);
           within = omega (arith, past.goes_on, head-is.within);
         }
@@ -295,7 +320,7 @@ module _ (p after : Progress) (told : Told) (head : Head) (past : IsPast p after
   pub reached : IsReached p → IsReached after
   reached r =
       let (ss, env, before) = r.before in
-      let enough : RowsWithin p.file (rows_past p.rows head.code) (p.passed + 1) = within-past p.gaps p.file p.rows env before.rows p.at head.body head.next p.passed
+      let enough : RowsWithin p.file (rows_past p.rows head.code) (p.passed + 1) = within-past p.standard p.file p.rows env before.rows p.at head.body head.next p.passed
       (record { sorts_within = r.sorts_within; terms_within = r.terms_within; thms_within = r.thms_within; many = r.many }) head.code (kind-holds p ss env before head stands place ran) in
       let files : length after.file ≡ length p.file = ap length past.same_file in
       let sort_counts : sort_count after.file ≡ sort_count p.file = ap sort_count past.same_file in
@@ -328,7 +353,7 @@ module _ (p after : Progress) (told : Told) (head : Head) (past : IsPast p after
   pub row-there : IsReached p → next_row p.rows head.code < sort_count p.file + term_count p.file + thm_count p.file
   row-there r = let (ss, env, before) = r.before in go env before.rows head.code (kind-holds p ss env before head stands place ran)
     where
-      go : (env : List Declaration) → CountsRows p.rows env → (k : StatementCode) → AllHold (kind_checks p.gaps p.file (taken_by env) p.at head.body head.next (Some k))
+      go : (env : List Declaration) → CountsRows p.rows env → (k : StatementCode) → AllHold (kind_checks p.standard p.file (taken_by env) p.at head.body head.next (Some k))
           → next_row p.rows k < sort_count p.file + term_count p.file + thm_count p.file
       go env counts codes.Sort all = omega (arith, all.0, counts.sorts_are)
       go env counts codes.Term all = omega (arith, all.0, counts.terms_are)

@@ -27,7 +27,6 @@ use Rattle.mz_logic.specs.declared.binder.SortMods.{SortMods}
 use Rattle.mz_logic.specs.declared.word.Word.{Word}
 use Rattle.mz_layout.specs.Tables.{TermRow as TermRecord}
 use Rattle.mz_unification.specs.Tests.{has_bit}
-use Rattle.mz_unification.specs.Profile.{plain}
 use Rattle.mz_unification.proofs.TestLaws.{bit-set, bit-not-set}
 use Rattle.mz_soundness.specs.Bodies.{body_run, body_checks}
 use Rattle.mz_soundness.specs.Bodies as bodies
@@ -36,6 +35,8 @@ use Rattle.mz_soundness.specs.FileRows.{Taken, term_of_file, thm_of_file, rows_t
 use Rattle.mz_binary.specs.Checking.{MayStand, IsEmptyBody, term_body_checks, sort_checks, term_checks, thm_checks, kind_checks, AllTaken, checks_of, place_checks}
 use Rattle.mz_soundness.specs.RowWords.{bound_count, IsParamWord, IsParamAt, IsResultWord, param_check, param_checks, word_checks}
 use Rattle.mz_binary.specs.FileRun.{Passing, test, test_each, holds_records, test_header, test_tables, test_rows, test_layout, may_be, is_param_word, is_param_at, test_params, is_result_word, test_words, Found, list_ends, stands_alone, has_body, is_empty_body, find_sort, find_term_body, find_term, find_thm, find_kind, all_taken, find_of, may_stand, find_at, Onward, onward, if_runs, run_found, run_place}
+use Rattle.mz_binary.specs.declared.standard.Standard.{Standard}
+use Rattle.mz_binary.specs.Standards.{profile_of}
 
 -- ---- tests, one after another
 
@@ -158,49 +159,49 @@ words-judged ss row = judges-then _ _ (param_checks ss row.words_at row.words.pa
 -- ---- what stands at a place
 
 -- what is found answers the checks, but for a body that is to run: this decides what is left
-abbrev pub JudgesFound : Bool → List ℕ → Taken → Result Found (ℕ × K) → Checks (ℕ × K) → Type 0
-JudgesFound gaps file taken (Err r) cs = FailsFirst cs r
-JudgesFound gaps file taken (Ok list_ends) cs = AllHold cs
-JudgesFound gaps file taken (Ok (stands_alone after next)) cs = AllHold cs
-JudgesFound gaps file taken (Ok (has_body after next h body bytes)) cs = Decides (body_checks (plain gaps) (rows_taken file taken) h body bytes) cs
+abbrev pub JudgesFound : Standard → List ℕ → Taken → Result Found (ℕ × K) → Checks (ℕ × K) → Type 0
+JudgesFound standard file taken (Err r) cs = FailsFirst cs r
+JudgesFound standard file taken (Ok list_ends) cs = AllHold cs
+JudgesFound standard file taken (Ok (stands_alone after next)) cs = AllHold cs
+JudgesFound standard file taken (Ok (has_body after next h body bytes)) cs = Decides (body_checks (profile_of standard) (rows_taken file taken) h body bytes) cs
 
-module _ (gaps : Bool) (file : List ℕ) (taken : Taken) where
-  found-after : (bs cs : Checks (ℕ × K)) (y : Result Found (ℕ × K)) → AllHold bs → JudgesFound gaps file taken y cs → JudgesFound gaps file taken y (bs >> cs)
+module _ (standard : Standard) (file : List ℕ) (taken : Taken) where
+  found-after : (bs cs : Checks (ℕ × K)) (y : Result Found (ℕ × K)) → AllHold bs → JudgesFound standard file taken y cs → JudgesFound standard file taken y (bs >> cs)
   found-after bs cs (Err r) a j = fails-after bs cs r a j
   found-after bs cs (Ok list_ends) a j = all_hold-both bs cs a j
   found-after bs cs (Ok (stands_alone after next)) a j = all_hold-both bs cs a j
   found-after bs cs (Ok (has_body after next h body bytes)) a j = record { fails = λ r f. fails-after bs cs r a (j.fails r f); holds = λ b. all_hold-both bs cs a (j.holds b) }
 
-  found-then : (x : Passing) (y : Result Found (ℕ × K)) (bs cs : Checks (ℕ × K)) → Judges x bs → (AllHold bs → JudgesFound gaps file taken y cs) → JudgesFound gaps file taken (x then y) (bs >> cs)
+  found-then : (x : Passing) (y : Result Found (ℕ × K)) (bs cs : Checks (ℕ × K)) → Judges x bs → (AllHold bs → JudgesFound standard file taken y cs) → JudgesFound standard file taken (x then y) (bs >> cs)
   found-then (Ok p) y bs cs j rest = found-after bs cs y j (rest j)
   found-then (Err r) y bs cs j rest = fails-before bs cs r j
 
   -- a test whose end is a statement without a body, or the end of the list
-  test-alone : (b : Bool) (P : Type 0) (r : ℕ × K) (after : Taken) (next : ℕ) → IsDecidedBy b P → JudgesFound gaps file taken (test b r then Ok (stands_alone after next)) (demand r P)
+  test-alone : (b : Bool) (P : Type 0) (r : ℕ × K) (after : Taken) (next : ℕ) → IsDecidedBy b P → JudgesFound standard file taken (test b r then Ok (stands_alone after next)) (demand r P)
   test-alone true P r after next d = (d.0 refl, tt)
   test-alone false P r after next d = inl ((λ p. let bad : false ≡ true = d.1 p in cc), refl)
 
-  test-end : (b : Bool) (P : Type 0) (r : ℕ × K) → IsDecidedBy b P → JudgesFound gaps file taken (test b r then Ok list_ends) (demand r P)
+  test-end : (b : Bool) (P : Type 0) (r : ℕ × K) → IsDecidedBy b P → JudgesFound standard file taken (test b r then Ok list_ends) (demand r P)
   test-end true P r d = (d.0 refl, tt)
   test-end false P r d = inl ((λ p. let bad : false ≡ true = d.1 p in cc), refl)
 
   pub empty-decides : (bytes : List ℕ) → IsDecidedBy (is_empty_body bytes) (IsEmptyBody bytes)
   empty-decides bytes = Decides-or _ _ (bytes_eq-Decides bytes []) (bytes_eq-Decides bytes (0 ∷ []))
 
-  sort-found : (at body next : ℕ) → JudgesFound gaps file taken (find_sort file taken at body next) (sort_checks file (length taken.sorts) at body next)
+  sort-found : (at body next : ℕ) → JudgesFound standard file taken (find_sort file taken at body next) (sort_checks file (length taken.sorts) at body next)
   sort-found at body next =
       found-then _ _ (demand (at, rules.NoRow) (length taken.sorts < sort_count file)) _ (judges-test _ _ _ (Decides-ltb (length taken.sorts) (sort_count file))) λ _.
       test-alone _ _ _ _ _ (empty-decides (body_bytes file body next))
 
-  term-body-found : (at body next : ℕ) (o : Option (List ℕ)) → JudgesFound gaps file taken (find_term_body file taken at body next o) (term_body_checks gaps file taken at body next o)
+  term-body-found : (at body next : ℕ) (o : Option (List ℕ)) → JudgesFound standard file taken (find_term_body file taken at body next o) (term_body_checks standard file taken at body next o)
   term-body-found at body next None = test-alone _ _ _ _ _ (empty-decides (body_bytes file body next))
-  term-body-found at body next (Some stream) = decides-whole (body_checks (plain gaps) (rows_taken file taken) (definition_of (term_of_file file taken.terms) stream) body (body_bytes file body next))
+  term-body-found at body next (Some stream) = decides-whole (body_checks (profile_of standard) (rows_taken file taken) (definition_of (term_of_file file taken.terms) stream) body (body_bytes file body next))
 
   stand-decides : (l b : Bool) → IsDecidedBy (may_stand l b) (MayStand l b)
   stand-decides true b = ((λ h. h), λ h. h)
   stand-decides false b = ((λ h. tt), λ h. refl)
 
-  term-found : (at body next : ℕ) (is_local : Bool) → JudgesFound gaps file taken (find_term file taken at body next is_local) (term_checks gaps file taken at body next is_local)
+  term-found : (at body next : ℕ) (is_local : Bool) → JudgesFound standard file taken (find_term file taken at body next is_local) (term_checks standard file taken at body next is_local)
   term-found at body next is_local =
       let row = term_row file taken.terms in
       found-then _ _ (demand (at, rules.NoRow) (taken.terms < term_count file)) _ (judges-test _ _ _ (Decides-ltb taken.terms (term_count file))) λ _.
@@ -208,14 +209,14 @@ module _ (gaps : Bool) (file : List ℕ) (taken : Taken) where
       found-then _ _ (word_checks taken.sorts row) _ (words-judged taken.sorts row) λ _.
       term-body-found at body next (term_of_file file taken.terms).stream
 
-  thm-found : (at body next : ℕ) (without_proof : Bool) → JudgesFound gaps file taken (find_thm file taken at body next without_proof) (thm_checks gaps file taken at body next without_proof)
+  thm-found : (at body next : ℕ) (without_proof : Bool) → JudgesFound standard file taken (find_thm file taken at body next without_proof) (thm_checks standard file taken at body next without_proof)
   thm-found at body next without_proof =
       let row = thm_row file taken.thms in
       found-then _ _ (demand (at, rules.NoRow) (taken.thms < thm_count file)) _ (judges-test _ _ _ (Decides-ltb taken.thms (thm_count file))) λ _.
       found-then _ _ (param_checks taken.sorts row.words_at row.params) _ (params-judged taken.sorts row.words_at row.params) λ _.
-      decides-whole (body_checks (plain gaps) (rows_taken file taken) (assertion_of without_proof (thm_of_file file taken.thms)) body (body_bytes file body next))
+      decides-whole (body_checks (profile_of standard) (rows_taken file taken) (assertion_of without_proof (thm_of_file file taken.thms)) body (body_bytes file body next))
 
-  kind-found : (at body next : ℕ) (kind : Option StatementCode) → JudgesFound gaps file taken (find_kind file taken at body next kind) (kind_checks gaps file taken at body next kind)
+  kind-found : (at body next : ℕ) (kind : Option StatementCode) → JudgesFound standard file taken (find_kind file taken at body next kind) (kind_checks standard file taken at body next kind)
   kind-found at body next None = inl ((λ h. h), refl)
   kind-found at body next (Some codes.Sort) = sort-found at body next
   kind-found at body next (Some codes.Term) = term-found at body next false
@@ -231,12 +232,12 @@ module _ (gaps : Bool) (file : List ℕ) (taken : Taken) where
         (λ r. all.1 (r.sorts_taken, (r.terms_taken, r.thms_taken))),
       )
 
-  of-found : (at : ℕ) (there : Result StmtAt StmtFault) → JudgesFound gaps file taken (find_of file taken at there) (checks_of gaps file taken at there)
+  of-found : (at : ℕ) (there : Result StmtAt StmtFault) → JudgesFound standard file taken (find_of file taken at there) (checks_of standard file taken at there)
   of-found at (Err f) = inl ((λ h. h), refl)
   of-found at (Ok End) = test-end _ _ _ taken-decides
   of-found at (Ok (Head code body next)) = kind-found at body next (statement_code code)
 
-  pub place-found : (at : ℕ) → JudgesFound gaps file taken (find_at file taken at) (place_checks gaps file taken at)
+  pub place-found : (at : ℕ) → JudgesFound standard file taken (find_at file taken at) (place_checks standard file taken at)
   unfolding find_at
   place-found at = of-found at (statement_at file at)
 
@@ -246,11 +247,11 @@ module _ (gaps : Bool) (file : List ℕ) (taken : Taken) where
   body-judged (Ok x) o cs d = d.holds tt
   body-judged (Err r) o cs d = d.fails r (inl ((λ h. h), refl))
 
-  found-judged : (r : Result Found (ℕ × K)) (cs : Checks (ℕ × K)) → JudgesFound gaps file taken r cs → Judges (r >>= run_found gaps file taken) cs
+  found-judged : (r : Result Found (ℕ × K)) (cs : Checks (ℕ × K)) → JudgesFound standard file taken r cs → Judges (r >>= run_found standard file taken) cs
   found-judged (Err r) cs j = j
   found-judged (Ok list_ends) cs j = j
   found-judged (Ok (stands_alone after next)) cs j = j
-  found-judged (Ok (has_body after next h body bytes)) cs j = body-judged (body_run (plain gaps) (rows_taken file taken) h body bytes) (onward after next) cs j
+  found-judged (Ok (has_body after next h body bytes)) cs j = body-judged (body_run (profile_of standard) (rows_taken file taken) h body bytes) (onward after next) cs j
 
-  pub place-judged : (at : ℕ) → Judges (run_place gaps file taken at) (place_checks gaps file taken at)
-  place-judged at = found-judged (find_at file taken at) (place_checks gaps file taken at) (place-found at)
+  pub place-judged : (at : ℕ) → Judges (run_place standard file taken at) (place_checks standard file taken at)
+  place-judged at = found-judged (find_at file taken at) (place_checks standard file taken at) (place-found at)

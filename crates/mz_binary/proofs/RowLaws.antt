@@ -19,7 +19,6 @@ use Rattle.mz_logic.specs.declared.binder.SortMods.{SortMods}
 use Rattle.mz_logic.specs.declared.word.Word.{Word}
 use Rattle.mz_layout.specs.Tables.{TermRow, tables_of, sort_count, term_row, thm_row}
 use Rattle.mz_layout.proofs.TableLists.{length-sorts, slice_get-sorts}
-use Rattle.mz_unification.specs.Profile.{plain}
 use Rattle.mz_unification.specs.Spells.{SpellsForm}
 use Rattle.mz_soundness.specs.Bodies.{body_checks}
 use Rattle.mz_soundness.specs.Lists.{assertion_of}
@@ -30,6 +29,8 @@ use Rattle.mz_binary.specs.Checking.{term_body_checks, term_checks, thm_checks, 
 use Rattle.mz_binary.specs.Chains.{IsGoodStatement}
 use Rattle.mz_binary.specs.Laws.{is_defined, HasRow, GoodStatementsHaveRows}
 use Rattle.mz_binary.proofs.Heads.{code-is}
+use Rattle.mz_binary.specs.declared.standard.Standard.{Standard}
+use Rattle.mz_binary.specs.Standards.{profile_of}
 
 same-mods : {m n : SortMods} → Some m ≡ Some n → m ≡ n
 same-mods e = cc
@@ -78,18 +79,18 @@ HasRightRow file env (term_decl d) = AllHold (word_checks (sorts env) (term_row 
 HasRightRow file env (assertion_decl a) =
     AllHold (param_checks (sorts env) (thm_row file (length (assertions env))).words_at (thm_row file (length (assertions env))).params)
 
-module _ (gaps : Bool) (file : List ℕ) (env : List Declaration) (at body next : ℕ) where
-  term-right : (l : Bool) → AllHold (term_checks gaps file (taken_by env) at body next l) → AllHold (word_checks (sorts env) (term_row file (length (terms env))))
+module _ (standard : Standard) (file : List ℕ) (env : List Declaration) (at body next : ℕ) where
+  term-right : (l : Bool) → AllHold (term_checks standard file (taken_by env) at body next l) → AllHold (word_checks (sorts env) (term_row file (length (terms env))))
   term-right l (_, (_, all)) =
-      all_hold-first (word_checks (sorts env) (term_row file (length (terms env)))) (term_body_checks gaps file (taken_by env) at body next (term_of_file file (length (terms env))).stream) all
+      all_hold-first (word_checks (sorts env) (term_row file (length (terms env)))) (term_body_checks standard file (taken_by env) at body next (term_of_file file (length (terms env))).stream) all
 
-  thm-right : (w : Bool) → AllHold (thm_checks gaps file (taken_by env) at body next w) → AllHold (param_checks (sorts env) (thm_row file (length (assertions env))).words_at (thm_row file (length (assertions env))).params)
+  thm-right : (w : Bool) → AllHold (thm_checks standard file (taken_by env) at body next w) → AllHold (param_checks (sorts env) (thm_row file (length (assertions env))).words_at (thm_row file (length (assertions env))).params)
   thm-right w (_, all) =
       let row = thm_row file (length (assertions env)) in
-      let run : Checks (ℕ × K) = body_checks (plain gaps) (rows_taken file (taken_by env)) (assertion_of w (thm_of_file file (length (assertions env)))) body (body_bytes file body next) in
+      let run : Checks (ℕ × K) = body_checks (profile_of standard) (rows_taken file (taken_by env)) (assertion_of w (thm_of_file file (length (assertions env)))) body (body_bytes file body next) in
       all_hold-first (param_checks (sorts env) row.words_at row.params) run all
 
-  by-kind : (k : StatementCode) (d : Declaration) → IsKindOf (statement_byte k) d → AllHold (kind_checks gaps file (taken_by env) at body next (Some k)) → HasRightRow file env d
+  by-kind : (k : StatementCode) (d : Declaration) → IsKindOf (statement_byte k) d → AllHold (kind_checks standard file (taken_by env) at body next (Some k)) → HasRightRow file env d
   by-kind k (sort_decl m) kind all = tt
   by-kind codes.Term (term_decl d) kind all = term-right false all
   by-kind codes.LocalDefinition (term_decl d) kind all = term-right true all
@@ -109,15 +110,15 @@ module _ (gaps : Bool) (file : List ℕ) (env : List Declaration) (at body next 
   by-kind codes.LocalDefinition (assertion_decl a) kind all = absurd (no-assertion 0x0D a.is_axiom (inr (inr refl)) kind)
 
   -- the code is a kind's, whose checks hold
-  by-code : (code : ℕ) (o : Option StatementCode) (d : Declaration) → statement_code code ≡ o → IsKindOf code d → AllHold (kind_checks gaps file (taken_by env) at body next o) → HasRightRow file env d
+  by-code : (code : ℕ) (o : Option StatementCode) (d : Declaration) → statement_code code ≡ o → IsKindOf code d → AllHold (kind_checks standard file (taken_by env) at body next o) → HasRightRow file env d
   by-code code None d is kind all = absurd all.0
   by-code code (Some k) d is kind all = by-kind k d (subst (λ (z : ℕ). IsKindOf z d) (code-is k code is) kind) all
 
-pub right-row : (gaps : Bool) (file : List ℕ) (env : List Declaration) (at : ℕ) (s : Statement) (next : ℕ) → IsGoodStatement gaps file env at s next → HasRightRow file env s.decl
-right-row gaps file env at s next good =
+pub right-row : (standard : Standard) (file : List ℕ) (env : List Declaration) (at : ℕ) (s : Statement) (next : ℕ) → IsGoodStatement standard file env at s next → HasRightRow file env s.decl
+right-row standard file env at s next good =
     let spelled = good.spelled in
-    by-code gaps file env at spelled.body next spelled.code (statement_code spelled.code) s.decl refl spelled.kind.0
-    (subst (λ (r : Result StmtAt StmtFault). AllHold (checks_of gaps file (taken_by env) at r)) spelled.stands good.passes)
+    by-code standard file env at spelled.body next spelled.code (statement_code spelled.code) s.decl refl spelled.kind.0
+    (subst (λ (r : Result StmtAt StmtFault). AllHold (checks_of standard file (taken_by env) at r)) spelled.stands good.passes)
 
 -- ---- what it says
 
@@ -142,4 +143,4 @@ module _ (file : List ℕ) (env : List Declaration) where
       (here, record { signature = sym spells.0; params = params-hold (sorts env) row.words_at row.params right })
 
 pub good-rows : GoodStatementsHaveRows
-good-rows gaps file env at s next good = says file env s.decl good.spelled.row (right-row gaps file env at s next good)
+good-rows standard file env at s next good = says file env s.decl good.spelled.row (right-row standard file env at s next good)

@@ -114,7 +114,7 @@ pub may-run : (p : Progress) (k : StatementCode) (body next : ℕ) (after : Take
 may-run p k body next after h place bytes reached e =
     let (ss, env, before) = reached.before in
     let row : RowMayRun p.file p.rows p.at body next (has_body after next h place bytes) tt k = row-runs p.file p.rows p.at body next (has_body after next h place bytes) tt k e in
-    let right : WereRight p.file (length (sorts env)) (length (terms env)) (length (assertions env)) = were-right p.gaps p.file (list_at p.file) ss env p.at before.statements in
+    let right : WereRight p.file (length (sorts env)) (length (terms env)) (length (assertions env)) = were-right p.standard p.file (list_at p.file) ss env p.at before.statements in
     record {
       kinds = row.kinds;
       within = record { sorts_within = reached.sorts_within; terms_within = reached.terms_within; thms_within = reached.thms_within };

@@ -1,5 +1,5 @@
 -- The sorts that good statements declare are the first of the file's.
-use Rattle.std.proofs.Common.{◌≡◌, ◌∙◌, ℕ, suc, List, [], ◌∷◌, ◌++◌, length, take, slice_get, Some, refl, sym, ap, subst, append-nil, Bool, false}
+use Rattle.std.proofs.Common.{◌≡◌, ◌∙◌, ℕ, suc, List, [], ◌∷◌, ◌++◌, length, take, slice_get, Some, refl, sym, ap, subst, append-nil}
 use Rattle.std.proofs.lemmas.Option.{slice_get_within, get_or_from_slice_get}
 use Rattle.std.proofs.Math.Seq.{take-suc}
 use Rattle.mz_logic.specs.Declaration.{Declaration, sort_decl, term_decl, assertion_decl, sorts}
@@ -14,6 +14,7 @@ use Rattle.mz_binary.specs.Progress.{Progress, HasPassed}
 use Rattle.mz_soundness.specs.FileRows.{taken_by}
 use Rattle.mz_binary.proofs.Declared.{sorts-append}
 use Rattle.mz_binary.proofs.Following.{same-taken}
+use Rattle.mz_binary.specs.declared.standard.Standard.{Standard}
 
 abbrev pub HasSorts : List ℕ → List Declaration → Type 0
 HasSorts file env = sorts env ≡ first_sorts file (length (sorts env))
@@ -37,12 +38,12 @@ sorts-more file env (sort_decl m) before row =
 sorts-more file env (term_decl d) before row = subst (λ ms. ms ≡ first_sorts file (length ms)) (sym (no-sort env (term_decl d) refl)) before
 sorts-more file env (assertion_decl a) before row = subst (λ ms. ms ≡ first_sorts file (length ms)) (sym (no-sort env (assertion_decl a) refl)) before
 
-pub chain-sorts : (gaps : Bool) (file : List ℕ) (env : List Declaration) (from : ℕ) (ss : List Statement) (env' : List Declaration) (to : ℕ) → GoodTo gaps file env from ss env' to → HasSorts file env → HasSorts file env'
-chain-sorts gaps file env from [] env' to chain before = subst (HasSorts file) (sym chain.0) before
-chain-sorts gaps file env from (s ∷ ss) env' to chain before =
-    chain-sorts gaps file (env ++ s.decl ∷ []) chain.0 ss env' to chain.2 (sorts-more file env s.decl before chain.1.spelled.row)
+pub chain-sorts : (standard : Standard) (file : List ℕ) (env : List Declaration) (from : ℕ) (ss : List Statement) (env' : List Declaration) (to : ℕ) → GoodTo standard file env from ss env' to → HasSorts file env → HasSorts file env'
+chain-sorts standard file env from [] env' to chain before = subst (HasSorts file) (sym chain.0) before
+chain-sorts standard file env from (s ∷ ss) env' to chain before =
+    chain-sorts standard file (env ++ s.decl ∷ []) chain.0 ss env' to chain.2 (sorts-more file env s.decl before chain.1.spelled.row)
 
 pub taken : (p : Progress) (ss : List Statement) (env : List Declaration) → HasPassed p ss env → taken_by env ≡ taken_before p.file p.rows
 taken p ss env before =
-    let declared : sorts env ≡ first_sorts p.file p.rows.sorts = chain-sorts p.gaps p.file [] (list_at p.file) ss env p.at before.statements refl ∙ ap (first_sorts p.file) (sym before.rows.sorts_are) in
+    let declared : sorts env ≡ first_sorts p.file p.rows.sorts = chain-sorts p.standard p.file [] (list_at p.file) ss env p.at before.statements refl ∙ ap (first_sorts p.file) (sym before.rows.sorts_are) in
     same-taken (taken_by env) (taken_before p.file p.rows) declared (sym before.rows.terms_are) (sym before.rows.thms_are)

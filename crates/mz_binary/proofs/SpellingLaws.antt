@@ -8,6 +8,7 @@ use Rattle.mz_unification.proofs.OneSpelling.{one-assertion, one-term}
 use Rattle.mz_soundness.specs.FileRows.{term_of_file, thm_of_file}
 use Rattle.mz_binary.specs.Spelling.{IsSpelled, IsKindOf, SpellsRow, is_local_code}
 use Rattle.mz_binary.specs.Chains.{IsGoodStatement}
+use Rattle.mz_binary.specs.declared.standard.Standard.{Standard}
 
 same-statement : (s t : Statement) → s.is_local ≡ t.is_local → s.decl ≡ t.decl → s ≡ t
 same-statement s t l d = ap (λ x. record { is_local = x; decl = s.decl }) l ∙ ap (λ x. record { is_local = t.is_local; decl = x }) d
@@ -61,5 +62,5 @@ one-spelled file env at s t next next' a b =
     let place : next ≡ next' = cc in
     (same-statement s t (a.kind.1 ∙ ap is_local_code code ∙ sym b.kind.1) (one-declaration file env b.code s.decl t.decl (subst (λ (z : ℕ). IsKindOf z s.decl) code a.kind.0) b.kind.0 a.row b.row), place)
 
-pub one-good : (gaps : Bool) (file : List ℕ) (env : List Declaration) (at : ℕ) (s t : Statement) (next next' : ℕ) → IsGoodStatement gaps file env at s next → IsGoodStatement gaps file env at t next' → (s ≡ t) × (next ≡ next')
-one-good gaps file env at s t next next' a b = one-spelled file env at s t next next' a.spelled b.spelled
+pub one-good : (standard : Standard) (file : List ℕ) (env : List Declaration) (at : ℕ) (s t : Statement) (next next' : ℕ) → IsGoodStatement standard file env at s next → IsGoodStatement standard file env at t next' → (s ≡ t) × (next ≡ next')
+one-good standard file env at s t next next' a b = one-spelled file env at s t next next' a.spelled b.spelled

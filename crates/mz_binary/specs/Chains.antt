@@ -1,5 +1,5 @@
 -- Statements that follow one another in the list (the .mmb format, its list of statements).
-use Rattle.std.specs.Prelude.{◌≡◌, ℕ, List, [], ◌∷◌, ◌++◌, Ok, Bool}
+use Rattle.std.specs.Prelude.{◌≡◌, ℕ, List, [], ◌∷◌, ◌++◌, Ok}
 use Rattle.mz_checks.specs.Checks.{AllHold}
 use Rattle.mz_cmd.specs.declared.statement.StmtAt.TheVariants.{End}
 use Rattle.mz_cmd.specs.StatementList.{statement_at}
@@ -8,6 +8,7 @@ use Rattle.mz_logic.specs.LegalLists.{Statement}
 use Rattle.mz_layout.specs.Tables.{list_at}
 use Rattle.mz_binary.specs.Spelling.{IsSpelled}
 use Rattle.mz_binary.specs.Checking.{list_checks}
+use Rattle.mz_binary.specs.declared.standard.Standard.{Standard}
 
 -- the statements lead from a place to another, and env grows by what each declares; Step says of each that it stands
 -- at its place after what was declared, and where the next one does
@@ -33,14 +34,14 @@ pub record Statements (file : List ℕ) (ss : List Statement) : Type 0 where
 -- ---- good statements
 
 -- the statement stands at a place after env, and nothing that is asked of the place fails
-pub record IsGoodStatement (gaps : Bool) (file : List ℕ) (env : List Declaration) (at : ℕ) (s : Statement) (next : ℕ) : Type 0 where
+pub record IsGoodStatement (standard : Standard) (file : List ℕ) (env : List Declaration) (at : ℕ) (s : Statement) (next : ℕ) : Type 0 where
   pub spelled : IsSpelled file env at s next
-  pub passes : AllHold (list_checks gaps file env at)
+  pub passes : AllHold (list_checks standard file env at)
 
-abbrev pub GoodTo : Bool → List ℕ → List Declaration → ℕ → List Statement → List Declaration → ℕ → Type 0
-GoodTo gaps file = Chain (IsGoodStatement gaps file)
+abbrev pub GoodTo : Standard → List ℕ → List Declaration → ℕ → List Statement → List Declaration → ℕ → Type 0
+GoodTo standard file = Chain (IsGoodStatement standard file)
 
 -- the list ends there after env, and no row is left
-pub record EndsAt (gaps : Bool) (file : List ℕ) (env : List Declaration) (at : ℕ) : Type 0 where
+pub record EndsAt (standard : Standard) (file : List ℕ) (env : List Declaration) (at : ℕ) : Type 0 where
   pub ends : IsListEnd file at
-  pub passes : AllHold (list_checks gaps file env at)
+  pub passes : AllHold (list_checks standard file env at)

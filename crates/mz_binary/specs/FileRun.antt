@@ -18,7 +18,6 @@ use Rattle.mz_logic.specs.declared.word.Word.{Word}
 use Rattle.mz_layout.specs.Numbers.{byte_at}
 use Rattle.mz_layout.specs.Tables.{TermRow as TermRecord, sort_count, term_count, thm_count, terms_at, thms_at, list_at, term_record, thm_record, param_count, words_at, mods_of, term_row, thm_row}
 use Rattle.mz_unification.specs.Steps.{◌>>=◌, ◌>>◌}
-use Rattle.mz_unification.specs.Profile.{plain}
 use Rattle.mz_unification.specs.Tests.{has_bit}
 use Rattle.mz_soundness.specs.Tables.{Heading}
 use Rattle.mz_soundness.specs.Bodies.{body_run, body_steps}
@@ -26,6 +25,8 @@ use Rattle.mz_soundness.specs.Lists.{definition_of, assertion_of}
 use Rattle.mz_soundness.specs.RowWords.{bound_count}
 use Rattle.mz_soundness.specs.FileRows.{Taken, nothing_taken, term_of_file, thm_of_file, rows_taken, body_bytes}
 use Rattle.mz_binary.specs.Checking.{rule_of}
+use Rattle.mz_binary.specs.declared.standard.Standard.{Standard}
+use Rattle.mz_binary.specs.Standards.{profile_of}
 
 -- what passes, or the place and the rule that fails
 abbrev pub Passing : Type 0
@@ -198,14 +199,14 @@ if_runs (Ok x) o = Ok o
 if_runs (Err r) o = Err r
 
 -- its body runs
-abbrev pub run_found : Bool → List ℕ → Taken → Found → Result Onward (ℕ × K)
-run_found gaps file taken list_ends = Ok ended
-run_found gaps file taken (stands_alone after next) = Ok (onward after next)
-run_found gaps file taken (has_body after next h body bytes) = if_runs (body_run (plain gaps) (rows_taken file taken) h body bytes) (onward after next)
+abbrev pub run_found : Standard → List ℕ → Taken → Found → Result Onward (ℕ × K)
+run_found standard file taken list_ends = Ok ended
+run_found standard file taken (stands_alone after next) = Ok (onward after next)
+run_found standard file taken (has_body after next h body bytes) = if_runs (body_run (profile_of standard) (rows_taken file taken) h body bytes) (onward after next)
 
 -- what stands at a place, its body run
-abbrev pub run_place : Bool → List ℕ → Taken → ℕ → Result Onward (ℕ × K)
-run_place gaps file taken at = find_at file taken at >>= run_found gaps file taken
+abbrev pub run_place : Standard → List ℕ → Taken → ℕ → Result Onward (ℕ × K)
+run_place standard file taken at = find_at file taken at >>= run_found standard file taken
 
 abbrev pub as_statement : ℕ → ℕ × K → Refusal
 as_statement n r = record { statement = n; at = r.0; rule = r.1 }
@@ -217,42 +218,42 @@ follow_list n taken (Ok ended) rest = Ok taken
 follow_list n taken (Ok (onward after next)) rest = rest after next
 
 -- the list from its n-th statement on; the bound is on the statements, each of which takes a byte
-unfoldable pub run_list : Bool → List ℕ → ℕ → ℕ → Taken → ℕ → Result Taken Refusal
-run_list gaps file zero n taken at = Err (as_statement n (at, rules.Command))
-run_list gaps file (suc bound) n taken at =
-    follow_list n taken (run_place gaps file taken at) (λ after next. run_list gaps file bound (n + 1) after next)
+unfoldable pub run_list : Standard → List ℕ → ℕ → ℕ → Taken → ℕ → Result Taken Refusal
+run_list standard file zero n taken at = Err (as_statement n (at, rules.Command))
+run_list standard file (suc bound) n taken at =
+    follow_list n taken (run_place standard file taken at) (λ after next. run_list standard file bound (n + 1) after next)
 
 abbrev pub after_layout : Passing → Result Taken Refusal → Result Taken Refusal
 after_layout (Err r) rest = Err (as_statement 0 r)
 after_layout (Ok x) rest = rest
 
 -- the whole file: the rows taken where it is good, or its first fault
-abbrev pub run_file : Bool → List ℕ → Result Taken Refusal
-run_file gaps file = after_layout (test_layout file) (run_list gaps file (length file + 1) 1 nothing_taken (list_at file))
+abbrev pub run_file : Standard → List ℕ → Result Taken Refusal
+run_file standard file = after_layout (test_layout file) (run_list standard file (length file + 1) 1 nothing_taken (list_at file))
 
 -- ---- steps
 
-abbrev pub found_steps : Bool → List ℕ → Taken → Result Found (ℕ × K) → ℕ
-found_steps gaps file taken (Err r) = 0
-found_steps gaps file taken (Ok list_ends) = 0
-found_steps gaps file taken (Ok (stands_alone after next)) = 0
-found_steps gaps file taken (Ok (has_body after next h body bytes)) = body_steps (plain gaps) (rows_taken file taken) h body bytes
+abbrev pub found_steps : Standard → List ℕ → Taken → Result Found (ℕ × K) → ℕ
+found_steps standard file taken (Err r) = 0
+found_steps standard file taken (Ok list_ends) = 0
+found_steps standard file taken (Ok (stands_alone after next)) = 0
+found_steps standard file taken (Ok (has_body after next h body bytes)) = body_steps (profile_of standard) (rows_taken file taken) h body bytes
 
 abbrev pub follow_steps : Result Onward (ℕ × K) → (Taken → ℕ → ℕ) → ℕ
 follow_steps (Err r) rest = 0
 follow_steps (Ok ended) rest = 0
 follow_steps (Ok (onward after next)) rest = rest after next
 
-unfoldable pub list_steps : Bool → List ℕ → ℕ → Taken → ℕ → ℕ
-list_steps gaps file zero taken at = 0
-list_steps gaps file (suc bound) taken at =
-    found_steps gaps file taken (find_at file taken at)
-    + follow_steps (run_place gaps file taken at) (λ after next. list_steps gaps file bound after next)
+unfoldable pub list_steps : Standard → List ℕ → ℕ → Taken → ℕ → ℕ
+list_steps standard file zero taken at = 0
+list_steps standard file (suc bound) taken at =
+    found_steps standard file taken (find_at file taken at)
+    + follow_steps (run_place standard file taken at) (λ after next. list_steps standard file bound after next)
 
 abbrev pub steps_after : Passing → ℕ → ℕ
 steps_after (Err r) n = 0
 steps_after (Ok x) n = n
 
 -- the proof and unify commands executed in a whole file, up to its first fault
-abbrev pub file_steps : Bool → List ℕ → ℕ
-file_steps gaps file = steps_after (test_layout file) (list_steps gaps file (length file + 1) nothing_taken (list_at file))
+abbrev pub file_steps : Standard → List ℕ → ℕ
+file_steps standard file = steps_after (test_layout file) (list_steps standard file (length file + 1) nothing_taken (list_at file))

@@ -1,5 +1,6 @@
 -- What a checker answers.
-use Rattle.std.specs.Prelude.{◌≡◌, ◌≤◌, ◌<◌, ◌↔◌, ⊤, ℕ, ◌+◌, Bool, true, false, List, [], ◌∷◌, ◌++◌, length}
+use Rattle.std.specs.Prelude.{◌≡◌, ◌≤◌, ◌<◌, ◌↔◌, ⊤, ℕ, ◌+◌, Bool, true, false, List, [], ◌∷◌, ◌++◌, length, Result, Ok, Err}
+use Rattle.mz_cmd.specs.declared.rule.K.{K}
 use Rattle.mz_logic.specs.Declaration.{Declaration, assertions}
 use Rattle.mz_logic.specs.LegalLists.{Statement, Legal, DraftLegal, declarations}
 use Rattle.mz_logic.specs.Closed.{TheoremsClosed}
@@ -10,31 +11,44 @@ use Rattle.mz_binary.specs.declared.checker.Next.{Next}
 use Rattle.mz_binary.specs.declared.checker.Next.TheVariants as next
 use Rattle.mz_binary.specs.declared.whole.Checked.{Checked}
 use Rattle.mz_binary.specs.declared.whole.Checked.TheVariants as checked
+use Rattle.mz_soundness.specs.Tables.{State}
 use Rattle.mz_soundness.specs.FileRows.{taken_by}
+use Rattle.mz_machine.specs.BodyAnswers.{HasGap}
+use Rattle.mz_machine.specs.declared.body.BodyChecked.{BodyChecked}
+use Rattle.mz_machine.specs.declared.body.BodyChecked.TheVariants as bodies
 use Rattle.mz_binary.specs.FileRun.{RunsBody}
 use Rattle.mz_binary.specs.Chains.{IsGoodStatement, GoodTo}
 use Rattle.mz_binary.specs.Good.{Good, FailsAfter, BinaryFault}
 use Rattle.mz_binary.specs.Gapped.{GappedIn, AreFreeUnlessGapped}
 use Rattle.mz_binary.specs.Progress.{Progress, HasPassed, CountsRows, Tells, next_steps, steps_left, most_left}
+use Rattle.mz_binary.specs.declared.standard.Standard.{Standard}
+use Rattle.mz_binary.specs.Standards.{lets_gaps}
+
+-- The answer is what the run of these bytes comes to, and where gaps are let through it tells whether they leave one.
+-- Want of memory says nothing.
+abbrev pub IsBodyRun : {T : Type 0} → Standard → List ℕ → Result (State T) (ℕ × K) → BodyChecked → Type 0
+IsBodyRun {T} standard bytes r (bodies.Good end) = (last : State T) × (r ≡ Ok last) × (lets_gaps standard ≡ true → (end.sorry ≡ true) ↔ HasGap bytes)
+IsBodyRun standard bytes r (bodies.Refused at rule) = r ≡ Err (at, rule)
+IsBodyRun standard bytes r bodies.Mem = ⊤
 
 -- the next statement is good, it is what is told, and the checker has passed it; in a draft it is told where it is a gapped
 -- theorem
 pub record Passes (p : Progress) (ss : List Statement) (env : List Declaration) (after : Progress) (told : Told) : Type 0 where
   pub statement : Statement
-  pub good : IsGoodStatement p.gaps p.file env p.at statement after.at
+  pub good : IsGoodStatement p.standard p.file env p.at statement after.at
   pub passed : HasPassed after (ss ++ statement ∷ []) (env ++ statement.decl ∷ [])
   pub tells : Tells told (length ss + 1) p.at env statement
-  pub gap : (told.gap ≡ true) ↔ ((p.gaps ≡ true) × GappedIn p.file (ss ++ statement ∷ []) (length (assertions env)))
+  pub gap : (told.gap ≡ true) ↔ ((lets_gaps p.standard ≡ true) × GappedIn p.file (ss ++ statement ∷ []) (length (assertions env)))
   pub same_file : after.file ≡ p.file
-  pub same_gaps : after.gaps ≡ p.gaps
+  pub same_standard : after.standard ≡ p.standard
   pub further : p.at < after.at
   pub within : after.at ≤ length p.file
 
 -- after good statements, which declare env, what comes next; want of memory only where a body runs
 abbrev pub IsNext : Progress → List Statement → List Declaration → Next → Type 0
 IsNext p ss env (next.Statement after told) = Passes p ss env after told
-IsNext p ss env (next.End rows) = Good p.gaps p.file ss × CountsRows rows env
-IsNext p ss env (next.Refused refusal) = FailsAfter p.gaps p.file ss env p.at refusal
+IsNext p ss env (next.End rows) = Good p.standard p.file ss × CountsRows rows env
+IsNext p ss env (next.Refused refusal) = FailsAfter p.standard p.file ss env p.at refusal
 IsNext p ss env next.Mem = RunsBody p.file (taken_by env) p.at
 
 -- the answer is another than want of memory
@@ -59,12 +73,12 @@ IsMost p old new (next.Refused refusal) = new ≤ old + most_left p
 IsMost p old new next.Mem = new ≤ old + most_left p
 
 -- header and tables are in order, and after good statements a body runs
-pub record RunsSomeBody (gaps : Bool) (file : List ℕ) : Type 0 where
+pub record RunsSomeBody (standard : Standard) (file : List ℕ) : Type 0 where
   pub layout : Layout file
   pub before : List Statement
   pub env : List Declaration
   pub at : ℕ
-  pub statements : GoodTo gaps file [] (list_at file) before env at
+  pub statements : GoodTo standard file [] (list_at file) before env at
   pub runs : RunsBody file (taken_by env) at
 
 -- What good statements are: a legal list, with closed derivations of all theorems. In a draft a legal draft, of which each
@@ -75,10 +89,10 @@ AreSound true file ss = DraftLegal ss × AreFreeUnlessGapped file ss
 
 -- The file is good, by statements that are sound and that take so many rows; or this is its first fault. It is want of
 -- memory only where a body runs.
-abbrev pub IsChecked : Bool → List ℕ → Checked → Type 0
-IsChecked gaps file (checked.Good rows) = (ss : List Statement) × Good gaps file ss × AreSound gaps file ss × CountsRows rows (declarations ss)
-IsChecked gaps file (checked.Refused refusal) = BinaryFault gaps file refusal
-IsChecked gaps file checked.Mem = RunsSomeBody gaps file
+abbrev pub IsChecked : Standard → List ℕ → Checked → Type 0
+IsChecked standard file (checked.Good rows) = (ss : List Statement) × Good standard file ss × AreSound (lets_gaps standard) file ss × CountsRows rows (declarations ss)
+IsChecked standard file (checked.Refused refusal) = BinaryFault standard file refusal
+IsChecked standard file checked.Mem = RunsSomeBody standard file
 
 -- what is said is other than want of memory
 abbrev pub IfJudged : Checked → Type 0 → Type 0

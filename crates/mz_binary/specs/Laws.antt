@@ -7,6 +7,7 @@ use Rattle.mz_logic.specs.declared.binder.SortMods.{SortMods}
 use Rattle.mz_layout.specs.Tables.{TermRow, ThmRow, sort_count, term_count, thm_count, mods_of, term_row, thm_row}
 use Rattle.mz_soundness.specs.RowWords.{IsResultWord, AreParamWords}
 use Rattle.mz_binary.specs.Chains.{IsGoodStatement}
+use Rattle.mz_binary.specs.declared.standard.Standard.{Standard}
 
 -- a form with dummies and a body
 abbrev pub is_defined : Form → Bool
@@ -35,4 +36,4 @@ HasRow file env (assertion_decl a) = (length (assertions env) < thm_count file) 
 
 -- a good statement's row is there
 abbrev pub GoodStatementsHaveRows : Type 0
-GoodStatementsHaveRows = (gaps : Bool) (file : List ℕ) (env : List Declaration) (at : ℕ) (s : Statement) (next : ℕ) → IsGoodStatement gaps file env at s next → HasRow file env s.decl
+GoodStatementsHaveRows = (standard : Standard) (file : List ℕ) (env : List Declaration) (at : ℕ) (s : Statement) (next : ℕ) → IsGoodStatement standard file env at s next → HasRow file env s.decl

@@ -1,4 +1,5 @@
 pub mod Spelling
+pub mod Standards
 pub mod Checking
 pub mod Chains
 pub mod Good

@@ -21,6 +21,8 @@ use Rattle.mz_binary.specs.declared.place.Found.TheVariants as seen
 use Rattle.mz_machine.specs.BodyAnswers.{HasGap}
 use Rattle.mz_binary.specs.Chains.{GoodTo, IsListEnd}
 use Rattle.mz_binary.specs.Gapped.{AreMarks, CitesMarked}
+use Rattle.mz_binary.specs.declared.standard.Standard.{Standard}
+use Rattle.mz_binary.specs.Standards.{lets_gaps}
 
 -- what env declares has taken these rows
 pub record CountsRows (rows : Rows) (env : List Declaration) : Type 0 where
@@ -101,10 +103,10 @@ StandsAt file at (seen.WithBody head) = IsHead file head × (head.at ≡ at)
 
 -- ---- how far the checker has come
 
--- whether gaps are let through, the file, the place of the next statement, how many stand before it, the rows that these
+-- to what bodies are held, the file, the place of the next statement, how many stand before it, the rows that these
 -- have taken, and in a draft the marks of the gapped theorems
 pub record Progress : Type 0 where
-  pub gaps : Bool
+  pub standard : Standard
   pub file : List ℕ
   pub at : ℕ
   pub passed : ℕ
@@ -113,10 +115,10 @@ pub record Progress : Type 0 where
 
 -- these are the statements before, all good, and they declare env
 pub record HasPassed (p : Progress) (ss : List Statement) (env : List Declaration) : Type 0 where
-  pub statements : GoodTo p.gaps p.file [] (list_at p.file) ss env p.at
+  pub statements : GoodTo p.standard p.file [] (list_at p.file) ss env p.at
   pub many : p.passed ≡ length ss
   pub rows : CountsRows p.rows env
-  pub marks : p.gaps ≡ true → AreMarks p.file ss p.marks
+  pub marks : lets_gaps p.standard ≡ true → AreMarks p.file ss p.marks
 
 -- where a checker can be
 pub record IsReached (p : Progress) : Type 0 where
@@ -132,7 +134,7 @@ pub record IsReached (p : Progress) : Type 0 where
 
 -- the next statement is a theorem of a draft, and its body leaves a gap or cites a marked theorem
 abbrev pub RestsOnGap : Progress → Head → Type 0
-RestsOnGap p head = (p.gaps ≡ true) × (is_theorem_kind head.code ≡ true)
+RestsOnGap p head = (lets_gaps p.standard ≡ true) × (is_theorem_kind head.code ≡ true)
     × (HasGap (body_bytes p.file head.body head.next) ⊎ CitesMarked (body_bytes p.file head.body head.next) p.marks)
 
 -- the marks with one more, where the statement is an axiom or theorem of a draft
@@ -143,11 +145,11 @@ marks_past gaps k gap marks = if gaps && is_assertion_kind k then marks ++ gap �
 
 -- in the body of the next statement, up to the rule that fails
 abbrev pub next_steps : Progress → ℕ
-next_steps p = found_steps p.gaps p.file (taken_before p.file p.rows) (find_at p.file (taken_before p.file p.rows) p.at)
+next_steps p = found_steps p.standard p.file (taken_before p.file p.rows) (find_at p.file (taken_before p.file p.rows) p.at)
 
 -- in all that is left of the list, up to its first fault
 abbrev pub steps_left : Progress → ℕ
-steps_left p = list_steps p.gaps p.file (length p.file + 1) (taken_before p.file p.rows) p.at
+steps_left p = list_steps p.standard p.file (length p.file + 1) (taken_before p.file p.rows) p.at
 
 -- the most that can be: a command of a body executes itself and at most one of a stream a byte of the file
 abbrev pub most_left : Progress → ℕ

@@ -1,9 +1,11 @@
 -- Whole files whose verdict is known from outside: the statement, the place and the rule of the first fault, and how
 -- many commands are executed.
-use Rattle.std.specs.Prelude.{◌≡◌, ℕ, List, [], ◌∷◌, take, Option, Some, None, Result, Ok, Err, true, false}
+use Rattle.std.specs.Prelude.{◌≡◌, ℕ, List, [], ◌∷◌, take, Option, Some, None, Result, Ok, Err}
 use Rattle.mz_cmd.specs.declared.rule.K.{K}
 use Rattle.mz_cmd.specs.declared.rule.K.TheVariants as k
 use Rattle.mz_cmd.specs.declared.rule.Refusal.{Refusal}
+use Rattle.mz_binary.specs.declared.standard.Standard.TheVariants.{Portable}
+use Rattle.mz_binary.specs.Standards.{strict_standard, draft_standard}
 use Rattle.mz_binary.specs.FileRun.{run_file, file_steps}
 use Rattle.mz_binary.specs.Files.{with_byte, with_bytes, without, one, empty, imp, gen, fold, saved, dummy, bound_inside}
 
@@ -15,10 +17,23 @@ abbrev pub refused : ℕ → ℕ → K → Option Refusal
 refused = λ n at rule. Some (record { statement = n; at = at; rule = rule })
 
 abbrev pub first_fault : List ℕ → Option Refusal
-first_fault file = fault_of (run_file false file)
+first_fault file = fault_of (run_file strict_standard file)
 
 abbrev pub first_fault_of_draft : List ℕ → Option Refusal
-first_fault_of_draft file = fault_of (run_file true file)
+first_fault_of_draft file = fault_of (run_file draft_standard file)
+
+abbrev pub first_fault_by_address : List ℕ → Option Refusal
+first_fault_by_address file = fault_of (run_file Portable file)
+
+-- files that are good by address; and some that are good by the published table alone, for they make twice what is asked
+-- to be the same
+abbrev pub ByAddress : Type 0
+ByAddress =
+    (first_fault_by_address one ≡ None)
+    × (first_fault_by_address (with_byte 104 0x01 gen) ≡ None)
+    × (first_fault_by_address imp ≡ refused 5 234 k.UnifyReference)
+    × (first_fault_by_address fold ≡ refused 4 156 k.Unfold)
+    × (first_fault_by_address saved ≡ refused 4 163 k.Unfold)
 
 -- a gap is refused, and let through in a draft
 abbrev pub Gaps : Type 0
@@ -116,14 +131,14 @@ BodiesChanged =
 -- the commands executed, up to the first fault
 abbrev pub StepsOfFiles : Type 0
 StepsOfFiles =
-    (file_steps false one ≡ 0)
-    × (file_steps false imp ≡ 68)
-    × (file_steps false (with_byte 104 0x01 gen) ≡ 34)
-    × (file_steps false gen ≡ 21)
-    × (file_steps false fold ≡ 35)
-    × (file_steps false saved ≡ 47)
-    × (file_steps false (with_bytes 72 (0x02 ∷ 0x00 ∷ 0x00 ∷ 0x00 ∷ 0x00 ∷ 0x00 ∷ 0x00 ∷ 0x81 ∷ []) (with_bytes 64 (0x01 ∷ 0x00 ∷ 0x00 ∷ 0x00 ∷ 0x00 ∷ 0x00 ∷ 0x00 ∷ 0x81 ∷ []) dummy)) ≡ 8)
-    × (file_steps false dummy ≡ 4)
-    × (file_steps false (with_byte 190 0x14 imp) ≡ 1)
-    × (file_steps false (with_byte 190 0x00 imp) ≡ 0)
-    × (file_steps false (with_byte 76 0xDE imp) ≡ 28)
+    (file_steps strict_standard one ≡ 0)
+    × (file_steps strict_standard imp ≡ 68)
+    × (file_steps strict_standard (with_byte 104 0x01 gen) ≡ 34)
+    × (file_steps strict_standard gen ≡ 21)
+    × (file_steps strict_standard fold ≡ 35)
+    × (file_steps strict_standard saved ≡ 47)
+    × (file_steps strict_standard (with_bytes 72 (0x02 ∷ 0x00 ∷ 0x00 ∷ 0x00 ∷ 0x00 ∷ 0x00 ∷ 0x00 ∷ 0x81 ∷ []) (with_bytes 64 (0x01 ∷ 0x00 ∷ 0x00 ∷ 0x00 ∷ 0x00 ∷ 0x00 ∷ 0x00 ∷ 0x81 ∷ []) dummy)) ≡ 8)
+    × (file_steps strict_standard dummy ≡ 4)
+    × (file_steps strict_standard (with_byte 190 0x14 imp) ≡ 1)
+    × (file_steps strict_standard (with_byte 190 0x00 imp) ≡ 0)
+    × (file_steps strict_standard (with_byte 76 0xDE imp) ≡ 28)

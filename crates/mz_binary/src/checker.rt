@@ -1,6 +1,5 @@
 // The list of statements, one after another.
 ghost use Rattle.std.specs.Prelude.{◌≡◌, ◌≤◌, ◌<◌, ◌+◌, ◌-◌, ◌*◌, ◌^◌, ◌↔◌, ℕ, List, [], length, Ok, Err, true, OnOk, OnErr};
-ghost use Rattle.mz_mode.specs.Gaps.{gaps_of};
 ghost use Rattle.mz_logic.specs.Declaration.{Declaration};
 ghost use Rattle.mz_logic.specs.LegalLists.{Statement as Declared};
 ghost use Rattle.mz_machine.specs.Before.{taken_before};
@@ -9,14 +8,16 @@ ghost use Rattle.mz_soundness.specs.FileRows.{body_bytes};
 ghost use Rattle.mz_binary.specs.FileRun.{after_kind, file_steps, find_at, onward, run_place, RunsBody};
 ghost use Rattle.mz_binary.specs.Progress.{HasPassed, IsHead, RestsOnGap, found_of, is_assertion_kind, is_theorem_kind, kind_byte, marks_past, next_row, next_steps, rows_past, steps_left, most_left};
 ghost use Rattle.mz_binary.specs.Judging.{IfTold, IsLeft, IsMost, IsNext};
+ghost use Rattle.mz_binary.specs.Standards.{lets_gaps};
 
+use crate::body::check_body_by;
 use crate::gaps::cites_marked;
 use crate::place::{Fault, Found, Head, found_at, is_local};
+use crate::standard::Standard;
 use crate::statement::{Rows, Statement};
 use mz_cmd::{Mem, Refusal, StatementCode, Steps};
 use mz_layout::Mmb;
-use mz_machine::{BodyChecked, check_body};
-use mz_mode::Mode;
+use mz_machine::BodyChecked;
 use std::alloc::Global;
 use std::marker::Model;
 use std::sync::ledger::Ledger;
@@ -27,7 +28,7 @@ use std::sync::ledger::Ledger;
 pub struct Checker<'a> {
     alloc: Global,
     mmb: &'a Mmb<'a>,
-    mode: Mode,
+    standard: Standard,
     rows: Rows,
     passed: u32,
     at: u32,
@@ -35,14 +36,13 @@ pub struct Checker<'a> {
 }
 
 impl<'a> Model for Checker<'a> {
-    ghost use Rattle.mz_mode.specs.Gaps.{gaps_of};
     ghost use Rattle.mz_binary.specs.Progress.{Progress, IsReached};
 
     ghost Value = { Progress };
 
-    ghost view = { λ c. record { gaps = gaps_of c.mode; file = c.mmb.now; at = c.at; passed = c.passed; rows = c.rows; marks = c.gapped.items } };
+    ghost view = { λ c. record { standard = c.standard; file = c.mmb.now; at = c.at; passed = c.passed; rows = c.rows; marks = c.gapped.items } };
 
-    ghost invariant = { λ c. IsReached (record { gaps = gaps_of c.mode; file = c.mmb.now; at = c.at; passed = c.passed; rows = c.rows; marks = c.gapped.items }) };
+    ghost invariant = { λ c. IsReached (record { standard = c.standard; file = c.mmb.now; at = c.at; passed = c.passed; rows = c.rows; marks = c.gapped.items }) };
 }
 
 /// What comes next in the list of statements.
@@ -61,11 +61,11 @@ pub enum Next<'a> {
 impl<'a> Checker<'a> {
     /// At the first statement. In a draft bodies may leave gaps, and the theorems that rest on one are
     /// told apart.
-    pub fn new(alloc: Global, mmb: &'a Mmb<'a>, mode: Mode) -> Checker<'a>
+    pub fn new(alloc: Global, mmb: &'a Mmb<'a>, standard: Standard) -> Checker<'a>
         ensures file { result.file ≡ mmb.now }
-        ensures gaps { result.gaps ≡ gaps_of mode }
+        ensures standard { result.standard ≡ standard }
         ensures nothing { HasPassed result [] [] }
-        ensures steps { steps_left result ≡ file_steps (gaps_of mode) mmb.now }
+        ensures steps { steps_left result ≡ file_steps standard mmb.now }
     {
         let at = mmb.proof_at();
         let rows = Rows {
@@ -76,7 +76,7 @@ impl<'a> Checker<'a> {
         Checker {
             alloc,
             mmb,
-            mode,
+            standard,
             rows,
             passed: 0,
             at,
@@ -112,8 +112,15 @@ impl<'a> Checker<'a> {
         let kind = kind_of(head.code);
         let row = row_of(self.rows, head.code);
         let body = (head.body, head.next);
-        match check_body(
-            self.alloc, self.mmb, self.mode, kind, row, self.rows, body, steps,
+        match check_body_by(
+            self.alloc,
+            self.mmb,
+            self.standard,
+            kind,
+            row,
+            self.rows,
+            body,
+            steps,
         ) {
             BodyChecked::Good(end) => {
                 let gap = self.rests_on_gap(head, end.sorry);
@@ -128,10 +135,10 @@ impl<'a> Checker<'a> {
     /// that rests on one.
     fn rests_on_gap(&self, head: Head, sorry: bool) -> bool
         requires head { IsHead self.now.file head }
-        requires sorry { (sorry ≡ true) ↔ HasGap (body_bytes self.now.file head.body head.next) }
+        requires sorry { lets_gaps self.now.standard ≡ true → (sorry ≡ true) ↔ HasGap (body_bytes self.now.file head.body head.next) }
         ensures { (result ≡ true) ↔ RestsOnGap self.now head }
     {
-        if !self.mode.allows_gaps() || !is_theorem(head.code) {
+        if !self.standard.allows_gaps() || !is_theorem(head.code) {
             return false;
         }
         let bytes = &self.mmb.file()[head.body as usize..head.next as usize];
@@ -142,7 +149,7 @@ impl<'a> Checker<'a> {
     fn past(self, head: Head, gap: bool) -> Next<'a>
         requires head { IsHead self.file head }
         requires at { head.at ≡ self.at }
-        requires runs { run_place self.gaps self.file (taken_before self.file self.rows) self.at ≡ Ok (onward (after_kind self.file (taken_before self.file self.rows) head.code) head.next) }
+        requires runs { run_place self.standard self.file (taken_before self.file self.rows) self.at ≡ Ok (onward (after_kind self.file (taken_before self.file self.rows) head.code) head.next) }
         requires gap { (gap ≡ true) ↔ RestsOnGap self head }
         requires body { is_assertion_kind head.code ≡ true → RunsBody self.file (taken_before self.file self.rows) self.at }
         ensures next { (ss : List Declared) (env : List Declaration) → HasPassed self.entry ss env → IsNext self.entry ss env result }
@@ -160,18 +167,18 @@ impl<'a> Checker<'a> {
         let Checker {
             alloc,
             mmb,
-            mode,
+            standard,
             rows,
             mut gapped,
             ..
         } = self;
-        let Ok(()) = mark(mode, head.code, gap, &mut gapped) else {
+        let Ok(()) = mark(standard, head.code, gap, &mut gapped) else {
             return Next::Mem;
         };
         let after = Checker {
             alloc,
             mmb,
-            mode,
+            standard,
             rows: after_rows(rows, head.code),
             passed: told.number,
             at: head.next,
@@ -182,7 +189,7 @@ impl<'a> Checker<'a> {
 
     /// The rule that fails at the next statement.
     fn refused(self, fault: Fault) -> Next<'a>
-        requires { run_place self.gaps self.file (taken_before self.file self.rows) self.at ≡ Err fault }
+        requires { run_place self.standard self.file (taken_before self.file self.rows) self.at ≡ Err fault }
         ensures next { (ss : List Declared) (env : List Declaration) → HasPassed self.entry ss env → IsNext self.entry ss env result }
         ensures left { IsLeft self.entry result }
         ensures most { (old new : ℕ) → new ≤ old + most_left self.entry → IsMost self.entry old new result }
@@ -197,11 +204,16 @@ impl<'a> Checker<'a> {
 }
 
 /// In a draft an axiom or theorem gets its mark.
-fn mark(mode: Mode, code: StatementCode, gap: bool, marks: &mut Vec<bool>) -> Result<(), Mem>
-    ensures ok { OnOk result (marks.new.items ≡ marks_past (gaps_of mode) code gap marks.old.items) }
+fn mark(
+    standard: Standard,
+    code: StatementCode,
+    gap: bool,
+    marks: &mut Vec<bool>,
+) -> Result<(), Mem>
+    ensures ok { OnOk result (marks.new.items ≡ marks_past (lets_gaps standard) code gap marks.old.items) }
     ensures err { OnErr result (is_assertion_kind code ≡ true) }
 {
-    if mode.allows_gaps() && is_assertion(code) {
+    if standard.allows_gaps() && is_assertion(code) {
         marks.push(gap)?;
     }
     Ok(())

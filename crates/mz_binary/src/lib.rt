@@ -5,12 +5,14 @@
 //! list, statement by statement, and tells each one or the first rule that fails, at its place.
 #![tactic(auto)]
 
+mod body;
 mod checker;
 mod examples;
 mod gaps;
 mod laws;
 mod line;
 mod place;
+mod standard;
 mod statement;
 mod whole;
 mod whole_laws;
@@ -20,6 +22,7 @@ pub use checker::{Checker, Next};
 pub use examples::worked_files;
 pub use laws::{good_statements_have_rows, right_words_say_params};
 pub use line::refusal_line;
+pub use standard::Standard;
 pub use statement::{Rows, Statement};
 pub use whole::{Checked, check_all};
 pub use whole_laws::{

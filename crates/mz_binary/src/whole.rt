@@ -1,16 +1,15 @@
 // A whole binary.
 ghost use Rattle.std.specs.Prelude.{◌≡◌, ◌≤◌, ◌<◌, ◌+◌, ◌*◌, ◌^◌, List, [], length};
-ghost use Rattle.mz_mode.specs.Gaps.{gaps_of};
 ghost use Rattle.mz_layout.specs.Layout.{Layout};
 ghost use Rattle.mz_binary.specs.FileRun.{file_steps};
 ghost use Rattle.mz_binary.specs.Progress.{HasPassed, most_left, steps_left};
 ghost use Rattle.mz_binary.specs.Judging.{IfJudged, IsChecked};
 
 use crate::checker::{Checker, Next};
+use crate::standard::Standard;
 use crate::statement::Rows;
 use mz_cmd::{Refusal, Steps};
 use mz_layout::Mmb;
-use mz_mode::Mode;
 use std::alloc::Global;
 use std::sync::ledger::Ledger;
 
@@ -27,14 +26,19 @@ pub enum Checked {
 
 /// Checks header, tables and the whole list of statements. A draft's bodies may leave gaps; then the
 /// theorems that rest on none are proved without.
-pub fn check_all<L: Ledger>(alloc: Global, file: &[u8], mode: Mode, steps: &mut Steps<L>) -> Checked
+pub fn check_all<L: Ledger>(
+    alloc: Global,
+    file: &[u8],
+    standard: Standard,
+    steps: &mut Steps<L>,
+) -> Checked
     requires { length file.now < 2 ^ 32 }
-    ensures checked { IsChecked (gaps_of mode) file.now result }
-    ensures steps { IfJudged result (steps.new ≡ steps.old + file_steps (gaps_of mode) file.now) }
+    ensures checked { IsChecked standard file.now result }
+    ensures steps { IfJudged result (steps.new ≡ steps.old + file_steps standard file.now) }
     ensures bound { steps.new ≤ steps.old + (length file.now * length file.now + length file.now) }
 {
     match Mmb::read(file) {
-        Ok(mmb) => check_list(Checker::new(alloc, &mmb, mode), steps),
+        Ok(mmb) => check_list(Checker::new(alloc, &mmb, standard), steps),
         Err(refusal) => Checked::Refused(refusal),
     }
 }
@@ -43,7 +47,7 @@ pub fn check_all<L: Ledger>(alloc: Global, file: &[u8], mode: Mode, steps: &mut 
 fn check_list<L: Ledger>(first: Checker, steps: &mut Steps<L>) -> Checked
     requires layout { Layout first.file }
     requires nothing { HasPassed first [] [] }
-    ensures checked { IsChecked first.entry.gaps first.entry.file result }
+    ensures checked { IsChecked first.entry.standard first.entry.file result }
     ensures steps { IfJudged result (steps.new ≡ steps.old + steps_left first.entry) }
     ensures bound { steps.new ≤ steps.old + most_left first.entry }
 {

@@ -1,9 +1,10 @@
 // Laws of whole files, of all kinds of statements.
-ghost use Rattle.mz_binary.specs.WholeLaws.{BoundNeverEndsAList, GoodFilesAreClosed, GoodFilesAreLegal, GoodFilesSpell, GoodOrFault, NotBoth, OneFault, OneListOfStatements, RunsAreExact, StepsOfAFile, TheoremsCiteAsTheirBodies, UngappedAreFree};
+ghost use Rattle.mz_binary.specs.WholeLaws.{BoundNeverEndsAList, GoodFilesAreClosed, GoodFilesAreLegal, GoodFilesSpell, GoodOrFault, NotBoth, OneFault, OneListOfStatements, PortableFilesAreGood, RunsAreExact, StepsOfAFile, TheoremsCiteAsTheirBodies, UngappedAreFree};
 
-/// The statements of a good file are a legal list, with closed derivations; and a theorem's derivation
-/// cites what its body cites.
+/// What is good by address is good by the published table. The statements of a good file are a legal
+/// list, with closed derivations; and a theorem's derivation cites what its body cites.
 pub fn whole_files_are_legal()
+    ensures portable { PortableFilesAreGood }
     ensures legal { GoodFilesAreLegal }
     ensures closed { GoodFilesAreClosed }
     ensures citations { TheoremsCiteAsTheirBodies }

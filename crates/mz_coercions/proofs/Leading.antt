@@ -1,19 +1,23 @@
 -- What is kept for two sorts, and how it stays right with one more coercion.
-use Rattle.std.proofs.Common.{◌≡◌, ◌<◌, ◌+◌, ◌-◌, ◌⊎◌, ◌++◌, ◌∙◌, ℕ, List, [], ◌∷◌, length, Bool, true, false, Some, None, Option, slice_get, ap, sym, refl, subst, inl, inr, arith, Contains}
-use Rattle.std.specs.Prelude.{MatchOption}
+use Rattle.std.proofs.Common.{◌≡◌, ◌<◌, ◌≤◌, ◌+◌, ◌-◌, ◌↔◌, ◌⊎◌, ◌++◌, ◌∙◌, ℕ, List, [], ◌∷◌, length, Bool, true, false, Some, None, Option, slice_get, get_or, ap, sym, refl, subst, inl, inr, arith, Contains}
+use Rattle.std.specs.Prelude.{IsTrue, MatchOption}
+use Rattle.std.specs.Option.{is_some}
 use Rattle.std.specs.Ordering.{is_eq, nat_cmp, ordering_then}
 use Rattle.std.specs.declared.cmp.Ordering.{Ordering}
 use Rattle.std.specs.declared.cmp.Ordering.TheVariants.{Less, Equal, Greater}
+use Rattle.std.proofs.lemmas.Bool.{true≢false}
 use Rattle.std.proofs.lemmas.Cmp.{ranked}
+use Rattle.std.proofs.lemmas.List.{get_or_default}
 use Rattle.std.specs.BTreeMap as tree
 use Rattle.std.specs.BTreeMap.{BTreeMap, is_at}
 use Rattle.std.specs.Map.{lookup}
 use Rattle.mz_logic.specs.Tree.{Tree, app, none, more}
-use Rattle.mz_tokens.proofs.Lists.{contains_at, contains_either, place_last}
+use Rattle.mz_tokens.proofs.Lists.{AllSoFar, all_so_far_more, all-members, contains_at, contains_first, contains_last, contains_either, place_last}
 use Rattle.mz_coercions.specs.declared.coercion.Coercion.{Coercion}
+use Rattle.mz_coercions.specs.declared.firsts.Start.{Start}
 use Rattle.mz_coercions.specs.Coercions.{IsPath, OnePath, Reaches, wrapped}
-use Rattle.mz_coercions.specs.Answers.{HasLength, HasPath, IsBefore, IsNext, ClashesFrom}
-use Rattle.mz_coercions.specs.Firsts.{pair_cmp, first_of, IsLed, AreLed, AreMet}
+use Rattle.mz_coercions.specs.Answers.{AreEnds, AreStarts, HasLength, HasPath, IsBefore, IsNext}
+use Rattle.mz_coercions.specs.Firsts.{pair_cmp, first_of, AreForgotten, AreLed, AreMet, IsChanged, IsForgotten, IsOfStart, IsOfStarts}
 use Rattle.mz_coercions.proofs.Paths.{path-join, path-more, clash-two, taken, no-return, last-end, contains-middle, stays-one, wrap-step}
 
 some-one : {A : Type 0} {x y : A} → Some x ≡ Some y → x ≡ y
@@ -25,24 +29,33 @@ none-some e = cc
 cons-one : {A : Type 0} {x y : A} {xs ys : List A} → x ∷ xs ≡ y ∷ ys → x ≡ y
 cons-one e = cc
 
+-- what a loop has in hand
+pub item-in : {X : Type 0} (xs : List X) (i : ℕ) (e : X) → i < length xs → Contains xs (get_or xs i e)
+item-in xs i e below = (i, below, get_or_default xs i (get_or xs i e) e below)
+
 -- ---- reading
 
 pub no-first : (cs : List Coercion) (m : BTreeMap (ℕ × ℕ) ℕ) (from to : ℕ) → AreLed cs m → first_of m from to ≡ None → (p : ℕ) (path : List ℕ) → IsPath cs from (p ∷ path) to → ⊥
-no-first cs m from to led gone p path on = none-some (sym gone ∙ led from to p path on)
+no-first cs m from to led gone p path on = none-some (sym gone ∙ (led from to).0 p path on)
 
-pub the-first : (cs : List Coercion) (m : BTreeMap (ℕ × ℕ) ℕ) (from to place : ℕ) → AreLed cs m → first_of m from to ≡ Some place → (p : ℕ) (path : List ℕ) → IsPath cs from (p ∷ path) to → p ≡ place
-the-first cs m from to place led some p path on = some-one (sym (led from to p path on) ∙ some)
+pub next-at : (cs : List Coercion) (m : BTreeMap (ℕ × ℕ) ℕ) (from to place : ℕ) (o : Option Coercion) → AreLed cs m → first_of m from to ≡ Some place → o ≡ slice_get cs place
+    → MatchOption o ((p : ℕ) (path : List ℕ) → IsPath cs from (p ∷ path) to → ⊥) (λ c. (p : ℕ) × IsNext cs from to p c)
+next-at cs m from to place None led some at =
+    let (path, (d, at-d, begins, rest)) = (led from to).1 place some in
+    absurd (none-some (at ∙ at-d))
+next-at cs m from to place (Some c) led some at =
+    let (path, (d, at-d, begins, rest)) = (led from to).1 place some in
+    let same : d ≡ c = some-one (sym at-d ∙ sym at) in
+    (place, (sym at, ap (λ x. x.from) (sym same) ∙ begins, (path, subst (λ x. IsPath cs x.to path to) same rest), λ q other on. some-one (sym ((led from to).0 q other on) ∙ some)))
 
--- a place behind the last coercion, or of one that begins elsewhere, begins no path
-pub none-at : (cs : List Coercion) (m : BTreeMap (ℕ × ℕ) ℕ) (from to place : ℕ) → AreLed cs m → first_of m from to ≡ Some place → slice_get cs place ≡ None → (p : ℕ) (path : List ℕ) → IsPath cs from (p ∷ path) to → ⊥
-none-at cs m from to place led some gone p path (d, at, begins, rest) =
-    none-some (sym gone ∙ ap (slice_get cs) (sym (the-first cs m from to place led some p path (d, at, begins, rest))) ∙ at)
-
-pub other-at : (cs : List Coercion) (m : BTreeMap (ℕ × ℕ) ℕ) (from to place : ℕ) (c : Coercion) → AreLed cs m → first_of m from to ≡ Some place → slice_get cs place ≡ Some c → (c.from ≡ from → ⊥)
-    → (p : ℕ) (path : List ℕ) → IsPath cs from (p ∷ path) to → ⊥
-other-at cs m from to place c led some at other p path (d, at-p, begins, rest) =
-    let same : c ≡ d = some-one (sym at ∙ ap (slice_get cs) (sym (the-first cs m from to place led some p path (d, at-p, begins, rest))) ∙ at-p) in
-    other (ap (λ x. x.from) same ∙ begins)
+pub reach-next : (cs : List Coercion) (from to : ℕ) (o : Option Coercion) → MatchOption o ((p : ℕ) (path : List ℕ) → IsPath cs from (p ∷ path) to → ⊥) (λ c. (p : ℕ) × IsNext cs from to p c)
+    → (from ≡ to → ⊥) → (b : Bool) → b ≡ is_some o → IsTrue b ↔ HasPath cs from to
+reach-next cs from to None next other b e = (λ t. absurd (true≢false (sym t ∙ e)), λ has. absurd (go has.0 has.1))
+  where
+    go : (path : List ℕ) → IsPath cs from path to → ⊥
+    go [] on = other on
+    go (p ∷ path) on = next p path on
+reach-next cs from to (Some c) (p, (at, begins, (path, on), one)) other b e = (λ t. (p ∷ path, (c, at, begins, on)), λ has. e)
 
 pub stuck : (cs : List Coercion) (most from to : ℕ) → (from ≡ to → ⊥) → ((p : ℕ) (path : List ℕ) → IsPath cs from (p ∷ path) to → ⊥) → Reaches cs most from to → ⊥
 stuck cs most from to other never ([], on, le) = other on
@@ -50,18 +63,15 @@ stuck cs most from to other never (p ∷ path, on, le) = never p path on
 
 pub next-reach : (cs : List Coercion) (most from to p : ℕ) (c : Coercion) → IsNext cs from to p c → (from ≡ to → ⊥) → Reaches cs most from to → Reaches cs (most - 1) c.to to
 next-reach cs most from to p c next other ([], on, le) = absurd (other on)
-next-reach cs most from to p c (at-p, begins-p, one) other (q ∷ path, (d, at, begins, rest), le) =
+next-reach cs most from to p c (at-p, begins-p, there, one) other (q ∷ path, (d, at, begins, rest), le) =
     let here : q ≡ p = one q path (d, at, begins, rest) in
     let same : d ≡ c = some-one (sym at ∙ ap (slice_get cs) here ∙ at-p) in
     (path, subst (λ x. IsPath cs x.to path to) same rest, omega (arith, le))
 
 pub next-length : (cs : List Coercion) (most from to p r : ℕ) (c : Coercion) → IsNext cs from to p c → 0 < most → HasLength cs (most - 1) c.to to r → HasLength cs most from to (r + 1)
-next-length cs most from to p r c (at, begins, one) some (path, on, many, le) = (p ∷ path, (c, at, begins, on), omega (arith, many), omega (arith, some, le))
+next-length cs most from to p r c (at, begins, there, one) some (path, on, many, le) = (p ∷ path, (c, at, begins, on), omega (arith, many), omega (arith, some, le))
 
 -- ---- one coercion more
-
-pub one-less : (cs : List Coercion) (c : Coercion) → OnePath (cs ++ c ∷ []) → OnePath cs
-one-less cs c one s to x y on-x on-y = one s to x y (path-more cs c s to x on-x) (path-more cs c s to y on-y)
 
 -- behind the new coercion it isn't taken again
 pub behind : (cs : List Coercion) (c : Coercion) (to : ℕ) (q : List ℕ) → OnePath (cs ++ c ∷ []) → IsPath (cs ++ c ∷ []) c.to q to → IsPath cs c.to q to
@@ -73,31 +83,15 @@ behind cs c to q one on = elim (taken cs c c.to to q on) [
 pub before-here : (cs : List Coercion) (c : Coercion) (from : ℕ) → from ≡ c.from → IsBefore cs c from (length cs)
 before-here cs c from same = ([], [], same, refl)
 
-pub before-next : (cs : List Coercion) (c : Coercion) (from : ℕ) (o : Option ℕ) → MatchOption o ((p : ℕ) (path : List ℕ) → IsPath cs from (p ∷ path) c.from → ⊥) (λ p. (d : Coercion) × IsNext cs from c.from p d)
-    → (from ≡ c.from → ⊥) → HasPath cs from c.from → MatchOption o (HasPath cs from c.from → ⊥) (λ p. IsBefore cs c from p)
-before-next cs c from None next other (path, on) = absurd (go path on)
+pub before-first : (cs : List Coercion) (c : Coercion) (m : BTreeMap (ℕ × ℕ) ℕ) (from : ℕ) (o : Option ℕ) → AreLed cs m → o ≡ first_of m from c.from → (from ≡ c.from → ⊥) → MatchOption o (HasPath cs from c.from → ⊥) (λ p. IsBefore cs c from p)
+before-first cs c m from None led is other = λ has. go has.0 has.1
   where
     go : (path : List ℕ) → IsPath cs from path c.from → ⊥
     go [] on = other on
-    go (p ∷ path) on = next p path on
-before-next cs c from (Some q) next other (path, on) = go path on
-  where
-    go : (path : List ℕ) → IsPath cs from path c.from → IsBefore cs c from q
-    go [] on = absurd (other on)
-    go (p ∷ path) on = (p ∷ path, path ++ length cs ∷ [], on, ap (λ x. x ∷ (path ++ length cs ∷ [])) (next.1.2 p path on))
-
--- from a sort with no path to the new coercion, and to one with no path from it, nothing changes
-pub led-apart : (cs : List Coercion) (c : Coercion) (m : BTreeMap (ℕ × ℕ) ℕ) (s t : ℕ) → AreLed cs m → (HasPath cs s c.from → ⊥) → IsLed (cs ++ c ∷ []) m s t
-led-apart cs c m s t led never p path on = elim (taken cs c s t (p ∷ path) on) [
-  | inl without ↦ led s t p path without
-  | inr by ↦ absurd (never (by.0, by.3))
-]
-
-pub led-short : (cs : List Coercion) (c : Coercion) (m : BTreeMap (ℕ × ℕ) ℕ) (s t : ℕ) → OnePath (cs ++ c ∷ []) → AreLed cs m → (HasPath cs c.to t → ⊥) → IsLed (cs ++ c ∷ []) m s t
-led-short cs c m s t one led never p path on = elim (taken cs c s t (p ∷ path) on) [
-  | inl without ↦ led s t p path without
-  | inr by ↦ absurd (never (by.1, behind cs c t by.1 one by.4))
-]
+    go (p ∷ path) on = none-some (is ∙ (led from c.from).0 p path on)
+before-first cs c m from (Some p) led is other =
+    let (path, on) = (led from c.from).1 p (sym is) in
+    (p ∷ path, path ++ length cs ∷ [], on, refl)
 
 -- ---- what is kept for a pair
 
@@ -111,65 +105,240 @@ pair-same a b x y e = go (nat_cmp a x) (nat_cmp b y) refl refl e
     go Equal Greater o-is r-is e = absurd cc
     go Equal Equal o-is r-is e = (ranked a x Equal (sym o-is), ranked b y Equal (sym r-is))
 
-module _ (m n : BTreeMap (ℕ × ℕ) ℕ) (s t p : ℕ) (put : tree.Updates pair_cmp m n (s, t) (Some p)) where
-  put-here : first_of n s t ≡ Some p
+abbrev Kept : Type 0
+Kept = BTreeMap (ℕ × ℕ) ℕ
+
+-- two changes
+pub then-changed : (m n o : Kept) (P Q : ℕ → ℕ → Option ℕ → Type 0) → ((s t : ℕ) (w : Option ℕ) → Q s t w → P s t w) → IsChanged m n P → IsChanged n o Q → IsChanged m o P
+then-changed m n o P Q is first second s t = elim (second s t) [
+  | inl same ↦ elim (first s t) [ inl before ↦ inl (same ∙ before) | inr put ↦ inr (subst (P s t) (sym same) put) ]
+  | inr put ↦ inr (is s t (first_of o s t) put)
+]
+
+-- what P says of a pair stays
+pub then-kept : (m n : Kept) (P Q : ℕ → ℕ → Option ℕ → Type 0) → ((s t : ℕ) (w : Option ℕ) → Q s t w → P s t w) → IsChanged m n Q → (s t : ℕ) → P s t (first_of m s t) → P s t (first_of n s t)
+then-kept m n P Q is change s t put = elim (change s t) [ inl same ↦ subst (P s t) (sym same) put | inr new ↦ is s t (first_of n s t) new ]
+
+-- nothing changed
+pub un-changed : (m n : Kept) (P : ℕ → ℕ → Option ℕ → Type 0) → n.entries ≡ m.entries → IsChanged m n P
+un-changed m n P same s t = inl (ap (λ es. lookup (is_at (pair_cmp (s, t))) es) same)
+
+module _ (m n : Kept) (s t : ℕ) (w : Option ℕ) (put : tree.Updates pair_cmp m n (s, t) w) where
+  pub put-here : first_of n s t ≡ w
   put-here = put.1
 
-  put-or : (x y : ℕ) → ((s ≡ x) × (t ≡ y)) ⊎ (first_of n x y ≡ first_of m x y)
-  put-or x y = go (is_eq (pair_cmp (s, t) (x, y))) refl
+  pub put-changed : IsChanged m n (λ x y o. (s ≡ x) × (t ≡ y) × (o ≡ w))
+  put-changed x y = go (is_eq (pair_cmp (s, t) (x, y))) refl
     where
-      go : (b : Bool) → is_eq (pair_cmp (s, t) (x, y)) ≡ b → ((s ≡ x) × (t ≡ y)) ⊎ (first_of n x y ≡ first_of m x y)
-      go true e = inl (pair-same s t x y e)
-      go false e = inr (put.2 (x, y) e)
+      go : (b : Bool) → is_eq (pair_cmp (s, t) (x, y)) ≡ b → (first_of n x y ≡ first_of m x y) ⊎ ((s ≡ x) × (t ≡ y) × (first_of n x y ≡ w))
+      go true e = let (a, b) = pair-same s t x y e in inr (a, b, ap (λ i. first_of n i y) (sym a) ∙ ap (λ j. first_of n s j) (sym b) ∙ put.1)
+      go false e = inl (put.2 (x, y) e)
 
-  module _ (cs : List Coercion) (c : Coercion) (one : OnePath (cs ++ c ∷ [])) (before : IsBefore cs c s p) (after : HasPath cs c.to t) where
-    pub put-led : AreLed cs m → AreLed cs n
-    put-led led x y q path on = elim (put-or x y) [
-      | inl same ↦ absurd (clash-two cs c s t (before.0, after.0, q ∷ path, before.2, after.1, subst (λ a. IsPath cs a (q ∷ path) t) (sym same.0) (subst (λ b. IsPath cs x (q ∷ path) b) (sym same.1) on)) one)
-      | inr kept ↦ kept ∙ led x y q path on
-    ]
+-- ---- one end more
+
+module _ (m n : Kept) (f : Start) (ends : List ℕ) (end : ℕ) (has : Contains ends end) (put : tree.Updates pair_cmp m n (f.sort, end) (Some f.place)) where
+  pub end-changed : (l : Kept) → IsChanged l m (IsOfStart f ends) → IsChanged l n (IsOfStart f ends)
+  end-changed l before = then-changed l m n (IsOfStart f ends) (λ x y o. (f.sort ≡ x) × (end ≡ y) × (o ≡ Some f.place)) (λ x y o h. (h.0, subst (Contains ends) h.1 has, h.2)) before (put-changed m n f.sort end (Some f.place) put)
+
+  pub end-kept : (t : ℕ) → first_of m f.sort t ≡ Some f.place → first_of n f.sort t ≡ Some f.place
+  end-kept t is = then-kept m n (λ x y o. o ≡ Some f.place) (λ x y o. (f.sort ≡ x) × (end ≡ y) × (o ≡ Some f.place)) (λ x y o h. h.2) (put-changed m n f.sort end (Some f.place) put) f.sort t is
+
+module _ (m n : Kept) (from : ℕ) (ends : List ℕ) (end : ℕ) (has : Contains ends end) (put : tree.Updates pair_cmp m n (from, end) None) where
+  pub gone-changed : (l : Kept) → IsChanged l m (IsForgotten from ends) → IsChanged l n (IsForgotten from ends)
+  gone-changed l before = then-changed l m n (IsForgotten from ends) (λ x y o. (from ≡ x) × (end ≡ y) × (o ≡ None)) (λ x y o h. (h.0, subst (Contains ends) h.1 has, h.2)) before (put-changed m n from end None put)
+
+  pub gone-kept : (t : ℕ) → first_of m from t ≡ None → first_of n from t ≡ None
+  gone-kept t is = then-kept m n (λ x y o. o ≡ None) (λ x y o. (from ≡ x) × (end ≡ y) × (o ≡ None)) (λ x y o h. h.2) (put-changed m n from end None put) from t is
+
+-- ---- one start more
+
+module _ (m n : Kept) (starts : List Start) (ends : List ℕ) (f : Start) (has : Contains starts f) (change : IsChanged m n (IsOfStart f ends)) where
+  pub start-changed : (l : Kept) → IsChanged l m (IsOfStarts starts ends) → IsChanged l n (IsOfStarts starts ends)
+  start-changed l before = then-changed l m n (IsOfStarts starts ends) (IsOfStart f ends) (λ x y o h. (f, has, h)) before change
+
+  pub start-kept : (g : Start) → ((t : ℕ) → Contains ends t → IsOfStarts starts ends g.sort t (first_of m g.sort t)) → (t : ℕ) → Contains ends t → IsOfStarts starts ends g.sort t (first_of n g.sort t)
+  start-kept g put t at = then-kept m n (IsOfStarts starts ends) (IsOfStart f ends) (λ x y o h. (f, has, h)) change g.sort t (put t at)
+
+  pub start-put : ((t : ℕ) → Contains ends t → first_of n f.sort t ≡ Some f.place) → (t : ℕ) → Contains ends t → IsOfStarts starts ends f.sort t (first_of n f.sort t)
+  start-put put t at = (f, has, (refl, at, put t at))
+
+module _ (m n : Kept) (starts : List Start) (ends : List ℕ) (f : Start) (has : Contains starts f) (change : IsChanged m n (IsForgotten f.sort ends)) where
+  pub all-changed : (l : Kept) → IsChanged l m (AreForgotten starts ends) → IsChanged l n (AreForgotten starts ends)
+  all-changed l before = then-changed l m n (AreForgotten starts ends) (IsForgotten f.sort ends) (λ x y o h. (f, has, h)) before change
+
+  pub all-kept : (g : Start) → ((t : ℕ) → Contains ends t → first_of m g.sort t ≡ None) → (t : ℕ) → Contains ends t → first_of n g.sort t ≡ None
+  all-kept g gone t at = then-kept m n (λ x y o. o ≡ None) (IsForgotten f.sort ends) (λ x y o h. h.2) change g.sort t (gone t at)
+
+-- what was put is forgotten: the same is kept as before, where nothing was kept for the pairs
+pub put-back : (l m n : Kept) (starts : List Start) (ends : List ℕ) → ((f : Start) (t : ℕ) → Contains starts f → Contains ends t → first_of l f.sort t ≡ None)
+    → IsChanged l m (IsOfStarts starts ends) → IsChanged m n (AreForgotten starts ends) → ((f : Start) (t : ℕ) → Contains starts f → Contains ends t → first_of n f.sort t ≡ None)
+    → (s t : ℕ) → first_of n s t ≡ first_of l s t
+put-back l m n starts ends free put change gone s t = elim (change s t) [
+  | inl same ↦ elim (put s t) [
+    | inl before ↦ same ∙ before
+    | inr new ↦ none-both new.0 s (new.2).0 (gone new.0 t new.1 (new.2).1) (free new.0 t new.1 (new.2).1)
+  ]
+  | inr new ↦ none-both new.0 s (new.2).0 (gone new.0 t new.1 (new.2).1) (free new.0 t new.1 (new.2).1)
+]
+  where
+    none-both : (f : Start) (x : ℕ) → f.sort ≡ x → first_of n f.sort t ≡ None → first_of l f.sort t ≡ None → first_of n x t ≡ first_of l x t
+    none-both f x is one other = subst (λ y. first_of n y t ≡ first_of l y t) is (one ∙ sym other)
+
+-- ---- the pairs of a new coercion
+
+module _ (cs : List Coercion) (c : Coercion) (starts : List Start) (ends : List ℕ) (from-there : AreStarts cs c starts) (to-there : AreEnds cs c ends) where
+  pub joined-clash : (f : Start) (t : ℕ) → Contains starts f → Contains ends t → HasPath cs f.sort t → OnePath (cs ++ c ∷ []) → ⊥
+  joined-clash f t in-f in-t (r, on-r) one =
+      let (front, rest, on, is) = from-there.0 f in-f in
+      let (q, on-q) = to-there.0 t in-t in
+      clash-two cs c f.sort t (front, q, r, on, on-q, on-r) one
+
+  pub none-joined : OnePath cs → ((f : Start) × (t : ℕ) × Contains starts f × Contains ends t × HasPath cs f.sort t → ⊥) → OnePath (cs ++ c ∷ [])
+  none-joined one never = stays-one cs c one (λ i from j to start end clash. go from to clash.0 clash.1 clash.2 (clash.3) (clash.4) (clash.5))
+    where
+      go : (from to : ℕ) (p q r : List ℕ) → IsPath cs from p c.from → IsPath cs c.to q to → IsPath cs from r to → ⊥
+      go from to p q r on-p on-q on-r =
+          let (f, in-f, is) = from-there.1 from (p, on-p) in
+          never (f, to, in-f, to-there.1 to (q, on-q), (r, subst (λ s. IsPath cs s r to) (sym is) on-r))
+
+  -- whether one of the starts and one of the ends are joined decides it
+  module _ (ds : List Coercion) (ss : List Start) (es : List ℕ) (d-is : ds ≡ cs) (s-is : ss ≡ starts) (e-is : es ≡ ends)
+      (b : Bool) (joined : IsTrue b ↔ ((f : Start) × (t : ℕ) × Contains ss f × Contains es t × HasPath ds f.sort t)) where
+    pub not-one : b ≡ true → OnePath (cs ++ c ∷ []) → ⊥
+    not-one are one =
+        let (f, t, in-f, in-t, path) = joined.0 are in
+        joined-clash f t (subst (λ (xs : List Start). Contains xs f) s-is in-f) (subst (λ (xs : List ℕ). Contains xs t) e-is in-t) (subst (λ (xs : List Coercion). HasPath xs f.sort t) d-is path) one
+
+    pub still-one : OnePath cs → b ≡ false → OnePath (cs ++ c ∷ [])
+    still-one one apart = none-joined one (λ h. true≢false (sym (joined.1 (again h)) ∙ apart))
+      where
+        again : (f : Start) × (t : ℕ) × Contains starts f × Contains ends t × HasPath cs f.sort t → (f : Start) × (t : ℕ) × Contains ss f × Contains es t × HasPath ds f.sort t
+        again (f, t, in-f, in-t, path) = (f, t, subst (λ (xs : List Start). Contains xs f) (sym s-is) in-f, subst (λ (xs : List ℕ). Contains xs t) (sym e-is) in-t, subst (λ (xs : List Coercion). HasPath xs f.sort t) (sym d-is) path)
+
+  module _ (m : Kept) (led : AreLed cs m) (one : OnePath (cs ++ c ∷ [])) where
+    pub none-yet : (f : Start) (t : ℕ) → Contains starts f → Contains ends t → first_of m f.sort t ≡ None
+    none-yet f t in-f in-t = go (first_of m f.sort t) refl
+      where
+        go : (o : Option ℕ) → first_of m f.sort t ≡ o → first_of m f.sort t ≡ None
+        go None is = is
+        go (Some p) is = let (path, on) = (led f.sort t).1 p is in absurd (joined-clash f t in-f in-t (p ∷ path, on) one)
 
     append-mid : (xs ys : List ℕ) (i : ℕ) → xs ++ i ∷ ys ≡ (xs ++ i ∷ []) ++ ys
     append-mid [] ys i = refl
     append-mid (x ∷ xs) ys i = ap (λ zs. x ∷ zs) (append-mid xs ys i)
 
-    pub put-first : IsLed (cs ++ c ∷ []) n s t
-    put-first q path on =
-        let long : IsPath (cs ++ c ∷ []) s (before.0 ++ length cs ∷ after.0) t =
-        path-join (cs ++ c ∷ []) s c.from t before.0 (length cs ∷ after.0) (path-more cs c s c.from before.0 before.2) (c, place_last cs c, refl, path-more cs c c.to t after.0 after.1) in
-        let same : q ∷ path ≡ p ∷ (before.1 ++ after.0) = one s t (q ∷ path) (before.0 ++ length cs ∷ after.0) on long ∙ append-mid before.0 after.0 (length cs) ∙ ap (λ zs. zs ++ after.0) before.3 in
-        put-here ∙ ap Some (sym (cons-one same))
+    -- the path from a start to an end begins with the start's place
+    long : (f : Start) (t : ℕ) → Contains starts f → Contains ends t → (path : List ℕ) × IsPath (cs ++ c ∷ []) f.sort (f.place ∷ path) t
+    long f t in-f in-t =
+        let (front, rest, on, is) = from-there.0 f in-f in
+        let (q, on-q) = to-there.0 t in-t in
+        let all : IsPath (cs ++ c ∷ []) f.sort (front ++ length cs ∷ q) t =
+        path-join (cs ++ c ∷ []) f.sort c.from t front (length cs ∷ q) (path-more cs c f.sort c.from front on) (c, place_last cs c, refl, path-more cs c c.to t q on-q) in
+        (rest ++ q, subst (λ x. IsPath (cs ++ c ∷ []) f.sort x t) (append-mid front q (length cs) ∙ ap (λ zs. zs ++ q) is) all)
 
-    pub put-kept : (x y : ℕ) → IsLed (cs ++ c ∷ []) m x y → IsLed (cs ++ c ∷ []) n x y
-    put-kept x y led q path on = elim (put-or x y) [
-      | inl same ↦ ap (λ a. first_of n a y) (sym same.0) ∙ ap (λ b. first_of n s b) (sym same.1)
-          ∙ put-first q path (subst (λ a. IsPath (cs ++ c ∷ []) a (q ∷ path) t) (sym same.0) (subst (λ b. IsPath (cs ++ c ∷ []) x (q ∷ path) b) (sym same.1) on))
-      | inr kept ↦ kept ∙ led q path on
+    module _ (n : Kept) (change : IsChanged m n (IsOfStarts starts ends)) (put : (f : Start) (t : ℕ) → Contains starts f → Contains ends t → IsOfStarts starts ends f.sort t (first_of n f.sort t)) where
+      -- a place that is kept now begins the path
+      begins-at : (s t p q : ℕ) (path : List ℕ) → IsPath (cs ++ c ∷ []) s (q ∷ path) t → IsOfStarts starts ends s t (Some p) → q ≡ p
+      begins-at s t p q path on (f, in-f, (is, in-t, place)) =
+          let (rest, way) = long f t in-f in-t in
+          let same : q ∷ path ≡ f.place ∷ rest = one s t (q ∷ path) (f.place ∷ rest) on (subst (λ x. IsPath (cs ++ c ∷ []) x (f.place ∷ rest) t) is way) in
+          cons-one same ∙ sym (some-one place)
+
+      new-first : (s t : ℕ) (p : ℕ) (path : List ℕ) → IsPath (cs ++ c ∷ []) s (p ∷ path) t → IsPath cs s (p ∷ path) t ⊎ (HasPath cs s c.from × HasPath cs c.to t) → first_of n s t ≡ Some p
+      new-first s t p path on (inl old) = elim (change s t) [
+        | inl same ↦ same ∙ (led s t).0 p path old
+        | inr new ↦ absurd (joined-clash new.0 t new.1 (new.2).1 (p ∷ path, subst (λ x. IsPath cs x (p ∷ path) t) (sym (new.2).0) old) one)
+      ]
+      new-first s t p path on (inr (from, to)) =
+          let (f, in-f, is) = from-there.1 s from in
+          let (g, in-g, (is-g, in-t, place)) = put f t in-f (to-there.1 t to) in
+          let here : first_of n s t ≡ Some g.place = ap (λ x. first_of n x t) (sym is) ∙ place in
+          here ∙ ap Some (sym (begins-at s t g.place p path on (g, in-g, (is-g ∙ is, in-t, refl))))
+
+      way-of : (s t : ℕ) (p : ℕ) (path : List ℕ) → IsPath (cs ++ c ∷ []) s (p ∷ path) t → IsPath cs s (p ∷ path) t ⊎ (HasPath cs s c.from × HasPath cs c.to t)
+      way-of s t p path on = elim (taken cs c s t (p ∷ path) on) [
+        | inl without ↦ inl without
+        | inr by ↦ inr ((by.0, by.3), (by.1, behind cs c t by.1 one by.4))
+      ]
+
+      there-is : (s t : ℕ) (p : ℕ) → first_of n s t ≡ Some p → (path : List ℕ) × IsPath (cs ++ c ∷ []) s (p ∷ path) t
+      there-is s t p is = elim (change s t) [
+        | inl same ↦ let (path, on) = (led s t).1 p (sym same ∙ is) in (path, path-more cs c s t (p ∷ path) on)
+        | inr new ↦ go new.0 new.1 new.2
+      ]
+        where
+          go : (f : Start) → Contains starts f → IsOfStart f ends s t (first_of n s t) → (path : List ℕ) × IsPath (cs ++ c ∷ []) s (p ∷ path) t
+          go f in-f (from, in-t, place) =
+              let (rest, on) = long f t in-f in-t in
+              (rest, subst (λ x. IsPath (cs ++ c ∷ []) s (x ∷ rest) t) (some-one (sym place ∙ is)) (subst (λ x. IsPath (cs ++ c ∷ []) x (f.place ∷ rest) t) from on))
+
+      pub led-more : AreLed (cs ++ c ∷ []) n
+      led-more s t = (λ p path on. new-first s t p path on (way-of s t p path on), there-is s t)
+
+-- the same is kept
+pub led-same : (cs : List Coercion) (m n : Kept) → ((s t : ℕ) → first_of n s t ≡ first_of m s t) → AreLed cs m → AreLed cs n
+led-same cs m n same led s t = (λ p path on. same s t ∙ (led s t).0 p path on, λ p is. (led s t).1 p (sym (same s t) ∙ is))
+
+-- ---- the starts and ends are found
+
+abbrev pub IsFound : List Coercion → Coercion → List Start → ℕ → Type 0
+IsFound cs c starts s = HasPath cs s c.from → (f : Start) × Contains starts f × (f.sort ≡ s)
+
+-- what was found of the starts among so many sorts
+abbrev pub StartsSoFar : List Coercion → Coercion → List ℕ → ℕ → List Start → Type 0
+StartsSoFar cs c sorts i starts = ((f : Start) → Contains starts f → IsBefore cs c f.sort f.place) × AllSoFar (IsFound cs c starts) sorts i
+
+module _ (cs : List Coercion) (c : Coercion) (sorts : List ℕ) (i : ℕ) (starts : List Start) (below : i < length sorts) (seen : StartsSoFar cs c sorts i starts) where
+  pub starts-one : (here : Start) → here.sort ≡ get_or sorts i 0 → IsBefore cs c here.sort here.place → StartsSoFar cs c sorts (i + 1) (starts ++ here ∷ [])
+  starts-one here is before = (sound, all_so_far_more (IsFound cs c (starts ++ here ∷ [])) sorts i 0 longer below (λ path. (here, contains_last starts here, is)))
+    where
+      sound : (f : Start) → Contains (starts ++ here ∷ []) f → IsBefore cs c f.sort f.place
+      sound f has = elim (contains_either starts here f has) [
+        | inl there ↦ seen.0 f there
+        | inr same ↦ subst (λ (g : Start). IsBefore cs c g.sort g.place) same before
+      ]
+
+      longer : AllSoFar (IsFound cs c (starts ++ here ∷ [])) sorts i
+      longer k d less path = let (f, has, same) = seen.1 k d less path in (f, contains_first starts (here ∷ []) f has, same)
+
+  pub starts-skip : (HasPath cs (get_or sorts i 0) c.from → ⊥) → StartsSoFar cs c sorts (i + 1) starts
+  starts-skip never = (seen.0, all_so_far_more (IsFound cs c starts) sorts i 0 seen.1 below (λ path. absurd (never path)))
+
+pub starts-all : (cs : List Coercion) (c : Coercion) (sorts : List ℕ) (i : ℕ) (starts : List Start) → AreMet (cs ++ c ∷ []) sorts → StartsSoFar cs c sorts i starts → length sorts ≤ i → AreStarts cs c starts
+starts-all cs c sorts i starts met seen done = (seen.0, λ s has. all s (at s has.0 has.1) has)
+  where
+    all : (s : ℕ) → Contains sorts s → IsFound cs c starts s
+    all s has = all-members (IsFound cs c starts) sorts seen.1 done s has
+
+    at : (s : ℕ) (path : List ℕ) → IsPath cs s path c.from → Contains sorts s
+    at s [] on = subst (Contains sorts) (sym on) (met c (contains_last cs c)).0
+    at s (p ∷ path) (d, at-d, begins, rest) = subst (Contains sorts) begins (met d (contains_first cs (c ∷ []) d (contains_at cs d p at-d))).0
+
+-- and of the ends
+abbrev pub EndsSoFar : List Coercion → Coercion → List ℕ → ℕ → List ℕ → Type 0
+EndsSoFar cs c sorts i ends = ((t : ℕ) → Contains ends t → HasPath cs c.to t) × AllSoFar (λ t. HasPath cs c.to t → Contains ends t) sorts i
+
+module _ (cs : List Coercion) (c : Coercion) (sorts : List ℕ) (i : ℕ) (ends : List ℕ) (below : i < length sorts) (seen : EndsSoFar cs c sorts i ends) where
+  pub ends-one : (here : ℕ) → here ≡ get_or sorts i 0 → HasPath cs c.to here → EndsSoFar cs c sorts (i + 1) (ends ++ here ∷ [])
+  ends-one here is path = (reached, all_so_far_more (λ t. HasPath cs c.to t → Contains (ends ++ here ∷ []) t) sorts i 0 longer below (λ way. subst (Contains (ends ++ here ∷ [])) is (contains_last ends here)))
+    where
+      reached : (t : ℕ) → Contains (ends ++ here ∷ []) t → HasPath cs c.to t
+      reached t has = elim (contains_either ends here t has) [ inl there ↦ seen.0 t there | inr same ↦ subst (HasPath cs c.to) same path ]
+
+      longer : AllSoFar (λ t. HasPath cs c.to t → Contains (ends ++ here ∷ []) t) sorts i
+      longer k d less way = contains_first ends (here ∷ []) (get_or sorts k d) (seen.1 k d less way)
+
+  pub ends-skip : (HasPath cs c.to (get_or sorts i 0) → ⊥) → EndsSoFar cs c sorts (i + 1) ends
+  ends-skip never = (seen.0, all_so_far_more (λ t. HasPath cs c.to t → Contains ends t) sorts i 0 seen.1 below (λ path. absurd (never path)))
+
+pub ends-all : (cs : List Coercion) (c : Coercion) (sorts : List ℕ) (i : ℕ) (ends : List ℕ) → AreMet (cs ++ c ∷ []) sorts → EndsSoFar cs c sorts i ends → length sorts ≤ i → AreEnds cs c ends
+ends-all cs c sorts i ends met seen done = (seen.0, λ t has. all-members (λ t. HasPath cs c.to t → Contains ends t) sorts seen.1 done t (at t has.0 has.1) has)
+  where
+    at : (t : ℕ) (path : List ℕ) → IsPath cs c.to path t → Contains sorts t
+    at t path on = elim (last-end cs c.to t path on) [
+      | inl same ↦ subst (Contains sorts) same (met c (contains_last cs c)).1
+      | inr found ↦ subst (Contains sorts) found.3 (met found.1 (contains_first cs (c ∷ []) found.1 (contains_at cs found.1 found.0 found.2))).1
     ]
-
--- a map with the same entries
-module _ (m n : BTreeMap (ℕ × ℕ) ℕ) (same : n.entries ≡ m.entries) where
-  first-same : (x y : ℕ) → first_of n x y ≡ first_of m x y
-  first-same x y = ap (λ es. lookup (is_at (pair_cmp (x, y))) es) same
-
-  pub same-led : (cs : List Coercion) → AreLed cs m → AreLed cs n
-  same-led cs led x y q path on = first-same x y ∙ led x y q path on
-
-  pub same-kept : (cs : List Coercion) (c : Coercion) (x y : ℕ) → IsLed (cs ++ c ∷ []) m x y → IsLed (cs ++ c ∷ []) n x y
-  same-kept cs c x y led q path on = first-same x y ∙ led q path on
-
--- ---- all sorts
-
--- a path leads from a met sort to another
-pub all-led : (cs : List Coercion) (m : BTreeMap (ℕ × ℕ) ℕ) (sorts : List ℕ) → AreMet cs sorts → ((s : ℕ) → Contains sorts s → (t : ℕ) → Contains sorts t → IsLed cs m s t) → AreLed cs m
-all-led cs m sorts met led s t p path (d, at, begins, rest) =
-    let from-there = (met d (contains_at cs d p at)).0 in
-    let start = subst (Contains sorts) begins from-there in
-    let end : Contains sorts t = elim (last-end cs d.to t path rest) [
-      | inl same ↦ subst (Contains sorts) same (met d (contains_at cs d p at)).1
-      | inr found ↦ subst (Contains sorts) found.3 (met found.1 (contains_at cs found.1 found.0 found.2)).1
-    ] in
-    led s start t end p path (d, at, begins, rest)
 
 -- ---- sorts that are met
 
@@ -185,8 +354,8 @@ met-more cs c xs met from-there to-there d has = elim (contains_either cs c d ha
 no-path : (s to p : ℕ) (path : List ℕ) → IsPath [] s (p ∷ path) to → ⊥
 no-path s to p path (c, at, begins, rest) = none-some at
 
-pub none-led : (cs : List Coercion) (xs : List ℕ) (m : BTreeMap (ℕ × ℕ) ℕ) → cs ≡ [] → OnePath cs × AreMet cs xs × AreLed cs m
-none-led cs xs m is = subst (λ (ds : List Coercion). OnePath ds × AreMet ds xs × AreLed ds m) (sym is) (one, met, led)
+pub none-led : (cs : List Coercion) (xs : List ℕ) (m : BTreeMap (ℕ × ℕ) ℕ) → cs ≡ [] → m.entries ≡ [] → OnePath cs × AreMet cs xs × AreLed cs m
+none-led cs xs m is gone = subst (λ (ds : List Coercion). OnePath ds × AreMet ds xs × AreLed ds m) (sym is) (one, met, led)
   where
     one : OnePath []
     one s to [] [] on-x on-y = refl
@@ -196,28 +365,11 @@ none-led cs xs m is = subst (λ (ds : List Coercion). OnePath ds × AreMet ds xs
     met : AreMet [] xs
     met c (k, below, at) = absurd (omega arith)
 
+    empty : (s to : ℕ) → first_of m s to ≡ None
+    empty s to = ap (λ es. lookup (is_at (pair_cmp (s, to))) es) gone
+
     led : AreLed [] m
-    led s to p path on = absurd (no-path s to p path on)
-
--- a clash is between met sorts, or at the new coercion's ends
-abbrev pub IsJoinedAt : List Coercion → ℕ → ℕ → ℕ → Type 0
-IsJoinedAt cs one other to = (p : List ℕ) × (q : List ℕ) × IsPath cs one p to × IsPath cs other q to
-
-pub no-clash-from : (cs : List Coercion) (sorts : List ℕ) (c : Coercion) (from : ℕ) → AreMet cs sorts → (HasPath cs from c.to → ⊥) → ((t : ℕ) → Contains sorts t → IsJoinedAt cs c.to from t → ⊥) → ClashesFrom cs c from → ⊥
-no-clash-from cs sorts c from met never never2 (to, (p, q, r, on-p, on-q, on-r)) = elim (last-end cs c.to to q on-q) [
-  | inl same ↦ never (r, subst (IsPath cs from r) (sym same) on-r)
-  | inr found ↦ never2 to (subst (Contains sorts) found.3 (met found.1 (contains_at cs found.1 found.0 found.2)).1) (q, r, on-q, on-r)
-]
-
-pub clash-met : (cs : List Coercion) (sorts : List ℕ) (c : Coercion) → AreMet cs sorts → (ClashesFrom cs c c.from → ⊥) → ((s : ℕ) → Contains sorts s → ClashesFrom cs c s → ⊥) → (from : ℕ) → ClashesFrom cs c from → ⊥
-clash-met cs sorts c met here never2 from (to, (p, q, r, on-p, on-q, on-r)) = go p on-p
-  where
-    go : (p : List ℕ) → IsPath cs from p c.from → ⊥
-    go [] on = here (subst (ClashesFrom cs c) on (to, (p, q, r, on-p, on-q, on-r)))
-    go (x ∷ p') (d, at, begins, rest) = never2 from (subst (Contains sorts) begins (met d (contains_at cs d x at)).0) (to, (p, q, r, on-p, on-q, on-r))
-
-pub no-two : (cs : List Coercion) (sorts : List ℕ) (c : Coercion) → OnePath cs → AreMet cs sorts → (ClashesFrom cs c c.from → ⊥) → ((s : ℕ) → Contains sorts s → ClashesFrom cs c s → ⊥) → OnePath (cs ++ c ∷ [])
-no-two cs sorts c one met here never2 = stays-one cs c one (λ i from j to start end clash. clash-met cs sorts c met here never2 from (to, clash))
+    led s to = (λ p path on. absurd (no-path s to p path on), λ p kept. absurd (none-some (sym (empty s to) ∙ kept)))
 
 pub next-wrapped : (cs : List Coercion) (from to p : ℕ) (c : Coercion) (path : List ℕ) (e f : Tree) → IsNext cs from to p c → IsPath cs c.to path to → f ≡ wrapped cs path (app c.term (more e none))
     → (q : List ℕ) × IsPath cs from q to × (f ≡ wrapped cs q e)

@@ -1,11 +1,15 @@
 // Coercions in the order in which they were declared, and their paths.
-ghost use Rattle.std.specs.Prelude.{◌≡◌, ◌↔◌, ◌≤◌, ◌++◌, ◌∷◌, [], ℕ, List, Contains, IsTrue, IfOk, OnOk, OnErr, MatchOption, length};
+ghost use Rattle.std.specs.Prelude.{◌≡◌, ◌↔◌, ◌≤◌, ◌++◌, ◌∷◌, [], ℕ, List, Contains, IsTrue, IfOk, OnOk, OnErr, MatchBool, MatchOption, length};
 ghost use Rattle.mz_logic.specs.View.{tree};
 ghost use Rattle.mz_coercions.specs.Coercions.{IsPath, OnePath, Reaches, wrapped};
-ghost use Rattle.mz_coercions.specs.Answers.{ClashesFrom, HasLength, IsClashAt};
+ghost use Rattle.mz_coercions.specs.declared.coercion.Coercion.{Coercion};
+ghost use Rattle.mz_coercions.specs.Answers.{AreEnds, AreStarts, HasLength};
+ghost use Rattle.mz_coercions.specs.Firsts.{AreLed};
 
 use crate::coercion::Coercion;
-use crate::firsts::{is_reached, lead_all, next_coercion, steps_between};
+use crate::firsts::{
+    Start, are_joined, ends_of, is_reached, lead_all, next_coercion, starts_of, steps_between,
+};
 use mz_logic::{Expr, Exprs};
 use std::alloc::{AllocError, Global};
 use std::collections::BTreeMap;
@@ -55,55 +59,57 @@ impl Coercions {
         &self.items
     }
 
-    /// Whether there would be two paths from the sort to another, one of them by the new coercion.
-    fn clashes_from(&self, coercion: Coercion, from: u32) -> bool
-        ensures { IsTrue result ↔ ClashesFrom self.now coercion from }
-    {
-        if !reaches(self, from, coercion.from) {
-            return false;
-        }
-        if reaches(self, from, coercion.to) {
-            return true;
-        }
-        'sorts: for i in 0..self.sorts.len() {
-            if are_joined(self, coercion.to, from, self.sorts[i]) {
-                return true;
-            }
-        }
-        false
-    }
-
-    /// Whether there is at most one path between two sorts with one more coercion, too.
-    pub fn stays_one_path(&self, coercion: Coercion) -> bool
-        ensures { IsTrue result ↔ OnePath (self.now ++ coercion ∷ []) }
-    {
-        if self.clashes_from(coercion, coercion.from) {
-            return false;
-        }
-        'sorts: for i in 0..self.sorts.len() {
-            if self.clashes_from(coercion, self.sorts[i]) {
-                return false;
-            }
-        }
-        true
-    }
-
-    /// Adds a coercion.
+    /// Adds a coercion, where there is at most one path between two sorts with it, too, and says
+    /// whether it did.
     ///
     /// # Errors
     ///
     /// Where there is no memory. The coercions are unchanged then.
-    pub fn push(&mut self, coercion: Coercion) -> Result<(), AllocError>
-        requires { OnePath (self.old ++ coercion ∷ []) }
-        ensures ok { OnOk result (self.new ≡ self.old ++ coercion ∷ []) }
+    pub fn add(&mut self, alloc: Global, coercion: Coercion) -> Result<bool, AllocError>
+        ensures ok { IfOk result (λ added. MatchBool added (OnePath (self.old ++ coercion ∷ []) × (self.new ≡ self.old ++ coercion ∷ []))
+            ((OnePath (self.old ++ coercion ∷ []) → ⊥) × (self.new ≡ self.old))) }
         ensures err { OnErr result (self.new ≡ self.old) }
     {
         meet(&mut self.sorts, coercion.from)?;
         meet(&mut self.sorts, coercion.to)?;
-        lead_all(&self.items, &self.sorts, &mut self.firsts, coercion)?;
-        self.items.push(coercion)?;
-        Ok(())
+        let starts = starts_of(alloc, &self.items, &self.sorts, &self.firsts, coercion)?;
+        let ends = ends_of(alloc, &self.items, &self.sorts, &self.firsts, coercion)?;
+        if are_joined(&self.items, &self.firsts, &starts, &ends) {
+            return Ok(false);
+        }
+        push(&mut self.items, &mut self.firsts, coercion, &starts, &ends)?;
+        Ok(true)
     }
+}
+
+/// Adds a coercion, and keeps the first coercions of the paths that go by it.
+fn push(
+    items: &mut Vec<Coercion>,
+    firsts: &mut BTreeMap<(u32, u32), usize>,
+    coercion: Coercion,
+    starts: &[Start],
+    ends: &[u32],
+) -> Result<(), AllocError>
+    requires led { AreLed items.old.items firsts.old }
+    requires one { OnePath (items.old.items ++ coercion ∷ []) }
+    requires starts { AreStarts items.old.items coercion starts.now }
+    requires ends { AreEnds items.old.items coercion ends.now }
+    ensures led { AreLed items.new.items firsts.new }
+    ensures ok { OnOk result (items.new.items ≡ items.old.items ++ coercion ∷ []) }
+    ensures err { OnErr result (items.new.items ≡ items.old.items) }
+{
+    items.push(coercion)?;
+    let Ok(()) = lead_all(firsts, starts, ends) else {
+        drop_last(items);
+        return Err(AllocError);
+    };
+    Ok(())
+}
+
+fn drop_last(items: &mut Vec<Coercion>)
+    ensures { (front : List Coercion) (last : Coercion) → items.old.items ≡ front ++ last ∷ [] → items.new.items ≡ front }
+{
+    items.pop();
 }
 
 /// Notes a sort, where it isn't noted yet.
@@ -136,16 +142,6 @@ pub fn reaches(coercions: &Coercions, from: u32, to: u32) -> bool
     ensures { IsTrue result ↔ ((path : List ℕ) × IsPath coercions.now from path to) }
 {
     is_reached(&coercions.items, &coercions.firsts, from, to)
-}
-
-/// Whether a sort is reached from two others.
-fn are_joined(coercions: &Coercions, one: u32, other: u32, to: u32) -> bool
-    ensures { IsTrue result ↔ ((p : List ℕ) × (q : List ℕ) × IsPath coercions.now one p to × IsPath coercions.now other q to) }
-{
-    if !reaches(coercions, one, to) {
-        return false;
-    }
-    reaches(coercions, other, to)
 }
 
 /// An expression of a sort, wrapped in the path to another.

@@ -1,13 +1,22 @@
 // The first coercion of each path, by the two sorts between which it leads.
-ghost use Rattle.std.specs.Prelude.{◌≡◌, ◌↔◌, ◌≤◌, ◌++◌, ◌∷◌, [], ℕ, List, Contains, IsTrue, MatchOption, OnOk, length, slice_get, Some};
+ghost use Rattle.std.specs.Prelude.{◌≡◌, ◌↔◌, ◌≤◌, ◌++◌, ◌∷◌, [], ℕ, List, Contains, IsTrue, IfOk, MatchOption, OnOk, OnErr, None, Some, length, slice_get};
 ghost use Rattle.mz_coercions.specs.Coercions.{IsPath, OnePath, Reaches};
-ghost use Rattle.mz_coercions.specs.Answers.{HasLength, HasPath, IsBefore, IsNext};
-ghost use Rattle.mz_coercions.specs.Firsts.{AreLed, AreMet, IsLed, first_of as first_lem};
+ghost use Rattle.mz_coercions.specs.Answers.{AreEnds, AreStarts, HasLength, HasPath, IsBefore, IsNext};
+ghost use Rattle.mz_coercions.specs.Firsts.{AreLed, AreMet, IsChanged, IsForgotten, IsOfStart, IsOfStarts, AreForgotten, first_of as first_lem};
 ghost use Rattle.mz_coercions.specs.declared.coercion.Coercion.{Coercion};
+ghost use Rattle.mz_coercions.specs.declared.firsts.Start.{Start};
 
 use crate::coercion::Coercion;
 use std::alloc::{AllocError, Global};
 use std::collections::BTreeMap;
+
+/// A sort from which a new coercion is reached, and the place of the coercion that begins the path
+/// by the new one.
+#[derive(Clone, Copy)]
+pub struct Start {
+    pub sort: u32,
+    pub place: usize,
+}
 
 fn coercion_at(items: &[Coercion], place: usize) -> Option<Coercion>
     ensures { result ≡ slice_get items.now place }
@@ -22,29 +31,6 @@ fn first_of(firsts: &BTreeMap<(u32, u32), usize>, from: u32, to: u32) -> Option<
     firsts.get(&(from, to)).copied()
 }
 
-/// The place of the coercion that begins the path from a sort to another, if there is such a path.
-/// Where there is none, it may be any coercion that begins at the sort.
-fn next_place(
-    items: &[Coercion],
-    firsts: &BTreeMap<(u32, u32), usize>,
-    from: u32,
-    to: u32,
-) -> Option<usize>
-    requires { AreLed items.now firsts.now }
-    ensures { MatchOption result ((p : ℕ) (path : List ℕ) → IsPath items.now from (p ∷ path) to → ⊥) (λ p. (c : Coercion) × IsNext items.now from to p c) }
-{
-    let Some(place) = first_of(firsts, from, to) else {
-        return None;
-    };
-    let Some(coercion) = coercion_at(items, place) else {
-        return None;
-    };
-    if coercion.from != from {
-        return None;
-    }
-    Some(place)
-}
-
 /// The coercion that begins the path from a sort to another, if there is such a path.
 pub fn next_coercion(
     items: &[Coercion],
@@ -55,7 +41,7 @@ pub fn next_coercion(
     requires { AreLed items.now firsts.now }
     ensures { MatchOption result ((p : ℕ) (path : List ℕ) → IsPath items.now from (p ∷ path) to → ⊥) (λ c. (p : ℕ) × IsNext items.now from to p c) }
 {
-    match next_place(items, firsts, from, to) {
+    match first_of(firsts, from, to) {
         Some(place) => coercion_at(items, place),
         None => None,
     }
@@ -94,11 +80,13 @@ pub fn is_reached(
     from: u32,
     to: u32,
 ) -> bool
-    requires led { AreLed items.now firsts.now }
-    requires one { OnePath items.now }
+    requires { AreLed items.now firsts.now }
     ensures { IsTrue result ↔ HasPath items.now from to }
 {
-    steps_between(items, firsts, from, to, items.len()).is_some()
+    if from == to {
+        return true;
+    }
+    next_coercion(items, firsts, from, to).is_some()
 }
 
 /// The place of the coercion that begins the path from a sort to the end of a new coercion, which
@@ -109,83 +97,156 @@ fn place_before(
     coercion: Coercion,
     from: u32,
 ) -> Option<usize>
-    requires led { AreLed items.now firsts.now }
-    requires one { OnePath (items.now ++ coercion ∷ []) }
+    requires { AreLed items.now firsts.now }
     ensures { MatchOption result (HasPath items.now from coercion.from → ⊥) (λ p. IsBefore items.now coercion from p) }
 {
     if from == coercion.from {
         return Some(items.len());
     }
-    if !is_reached(items, firsts, from, coercion.from) {
-        return None;
-    }
-    next_place(items, firsts, from, coercion.from)
+    first_of(firsts, from, coercion.from)
 }
 
-/// Keeps the first coercion of the path from a sort to another, where it goes by a new coercion.
-fn lead(
-    items: &[Coercion],
-    firsts: &mut BTreeMap<(u32, u32), usize>,
-    coercion: Coercion,
-    from: u32,
-    place: usize,
-    to: u32,
-) -> Result<(), AllocError>
-    requires led { AreLed items.now firsts.old }
-    requires one { OnePath (items.now ++ coercion ∷ []) }
-    requires place { IsBefore items.now coercion from place }
-    ensures led { AreLed items.now firsts.new }
-    ensures ok { OnOk result (IsLed (items.now ++ coercion ∷ []) firsts.new from to) }
-    ensures kept { (s t : ℕ) → IsLed (items.now ++ coercion ∷ []) firsts.old s t → IsLed (items.now ++ coercion ∷ []) firsts.new s t }
-{
-    if is_reached(items, firsts, coercion.to, to) {
-        firsts.insert((from, to), place)?;
-    }
-    Ok(())
-}
-
-/// Keeps the first coercions of the paths from a sort, where they go by a new coercion.
-fn lead_from(
-    items: &[Coercion],
-    sorts: &[u32],
-    firsts: &mut BTreeMap<(u32, u32), usize>,
-    coercion: Coercion,
-    from: u32,
-) -> Result<(), AllocError>
-    requires led { AreLed items.now firsts.old }
-    requires one { OnePath (items.now ++ coercion ∷ []) }
-    ensures led { AreLed items.now firsts.new }
-    ensures ok { OnOk result ((t : ℕ) → Contains sorts.now t → IsLed (items.now ++ coercion ∷ []) firsts.new from t) }
-    ensures kept { (s t : ℕ) → IsLed (items.now ++ coercion ∷ []) firsts.old s t → IsLed (items.now ++ coercion ∷ []) firsts.new s t }
-{
-    let Some(place) = place_before(items, firsts, coercion, from) else {
-        return Ok(());
-    };
-    'sorts: for i in 0..sorts.len() {
-        lead(items, firsts, coercion, from, place, sorts[i])?;
-    }
-    Ok(())
-}
-
-/// Keeps the first coercions of the paths that go by a new coercion, which will be the last.
+/// The sorts from which a new coercion is reached.
 ///
 /// # Errors
 ///
-/// Where there is no memory. The paths without the new coercion are still led.
-pub fn lead_all(
+/// Where there is no memory.
+pub fn starts_of(
+    alloc: Global,
     items: &[Coercion],
     sorts: &[u32],
-    firsts: &mut BTreeMap<(u32, u32), usize>,
+    firsts: &BTreeMap<(u32, u32), usize>,
     coercion: Coercion,
-) -> Result<(), AllocError>
-    requires led { AreLed items.now firsts.old }
-    requires one { OnePath (items.now ++ coercion ∷ []) }
+) -> Result<Vec<Start>, AllocError>
+    requires led { AreLed items.now firsts.now }
     requires met { AreMet (items.now ++ coercion ∷ []) sorts.now }
-    ensures led { AreLed items.now firsts.new }
-    ensures ok { OnOk result (AreLed (items.now ++ coercion ∷ []) firsts.new) }
+    ensures { IfOk result (λ starts. AreStarts items.now coercion starts.items) }
 {
-    'sorts: for i in 0..sorts.len() {
-        lead_from(items, sorts, firsts, coercion, sorts[i])?;
+    let mut starts = Vec::new(alloc);
+    for sort in sorts {
+        if let Some(place) = place_before(items, firsts, coercion, *sort) {
+            starts.push(Start { sort: *sort, place })?;
+        }
+    }
+    Ok(starts)
+}
+
+/// The sorts that are reached from the end of a new coercion.
+///
+/// # Errors
+///
+/// Where there is no memory.
+pub fn ends_of(
+    alloc: Global,
+    items: &[Coercion],
+    sorts: &[u32],
+    firsts: &BTreeMap<(u32, u32), usize>,
+    coercion: Coercion,
+) -> Result<Vec<u32>, AllocError>
+    requires led { AreLed items.now firsts.now }
+    requires met { AreMet (items.now ++ coercion ∷ []) sorts.now }
+    ensures { IfOk result (λ ends. AreEnds items.now coercion ends.items) }
+{
+    let mut ends = Vec::new(alloc);
+    for sort in sorts {
+        if is_reached(items, firsts, coercion.to, *sort) {
+            ends.push(*sort)?;
+        }
+    }
+    Ok(ends)
+}
+
+/// Whether a path leads from a sort to one of the ends.
+fn reaches_any(
+    items: &[Coercion],
+    firsts: &BTreeMap<(u32, u32), usize>,
+    from: u32,
+    ends: &[u32],
+) -> bool
+    requires { AreLed items.now firsts.now }
+    ensures { IsTrue result ↔ ((t : ℕ) × Contains ends.now t × HasPath items.now from t) }
+{
+    for end in ends {
+        if is_reached(items, firsts, from, *end) {
+            return true;
+        }
+    }
+    false
+}
+
+/// Whether a path leads from one of the starts to one of the ends.
+pub fn are_joined(
+    items: &[Coercion],
+    firsts: &BTreeMap<(u32, u32), usize>,
+    starts: &[Start],
+    ends: &[u32],
+) -> bool
+    requires { AreLed items.now firsts.now }
+    ensures { IsTrue result ↔ ((f : Start) × (t : ℕ) × Contains starts.now f × Contains ends.now t × HasPath items.now f.sort t) }
+{
+    for start in starts {
+        if reaches_any(items, firsts, start.sort, ends) {
+            return true;
+        }
+    }
+    false
+}
+
+/// Keeps the place of a start between it and each end.
+fn lead_from(
+    firsts: &mut BTreeMap<(u32, u32), usize>,
+    start: Start,
+    ends: &[u32],
+) -> Result<(), AllocError>
+    ensures others { IsChanged firsts.old firsts.new (IsOfStart start ends.now) }
+    ensures ok { OnOk result ((t : ℕ) → Contains ends.now t → first_lem firsts.new start.sort t ≡ Some start.place) }
+{
+    for end in ends {
+        firsts.insert((start.sort, *end), start.place)?;
+    }
+    Ok(())
+}
+
+/// Forgets what is kept between a sort and each end.
+fn forget_from(firsts: &mut BTreeMap<(u32, u32), usize>, from: u32, ends: &[u32])
+    ensures others { IsChanged firsts.old firsts.new (IsForgotten from ends.now) }
+    ensures gone { (t : ℕ) → Contains ends.now t → first_lem firsts.new from t ≡ None }
+{
+    for end in ends {
+        firsts.remove(&(from, *end));
+    }
+}
+
+/// Forgets what is kept between the starts and the ends.
+fn forget_all(firsts: &mut BTreeMap<(u32, u32), usize>, starts: &[Start], ends: &[u32])
+    ensures others { IsChanged firsts.old firsts.new (AreForgotten starts.now ends.now) }
+    ensures gone { (f : Start) (t : ℕ) → Contains starts.now f → Contains ends.now t → first_lem firsts.new f.sort t ≡ None }
+{
+    for start in starts {
+        forget_from(firsts, start.sort, ends);
+    }
+}
+
+/// Keeps the places of the starts between them and the ends, where nothing is kept yet.
+///
+/// # Errors
+///
+/// Where there is no memory. The same is kept as before then.
+pub fn lead_all(
+    firsts: &mut BTreeMap<(u32, u32), usize>,
+    starts: &[Start],
+    ends: &[u32],
+) -> Result<(), AllocError>
+    requires { (f : Start) (t : ℕ) → Contains starts.now f → Contains ends.now t → first_lem firsts.old f.sort t ≡ None }
+    ensures others { OnOk result (IsChanged firsts.old firsts.new (IsOfStarts starts.now ends.now)) }
+    ensures ok { OnOk result ((f : Start) (t : ℕ) → Contains starts.now f → Contains ends.now t → IsOfStarts starts.now ends.now f.sort t (first_lem firsts.new f.sort t)) }
+    ensures err { OnErr result ((s t : ℕ) → first_lem firsts.new s t ≡ first_lem firsts.old s t) }
+{
+    for start in starts {
+        let Ok(()) = lead_from(firsts, *start, ends) else {
+            forget_all(firsts, starts, ends);
+            return Err(AllocError);
+        };
     }
     Ok(())
 }

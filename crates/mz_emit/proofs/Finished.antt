@@ -20,6 +20,7 @@ use Rattle.mz_writing.proofs.BodiesWritten.{written-gapped}
 use Rattle.mz_writing.proofs.FilesHold.{files-good, files-spell}
 use Rattle.mz_writing.proofs.SameLists.{written-same}
 use Rattle.mz_accepting.proofs.Accepted.{files-accepted}
+use Rattle.mz_portability.proofs.AcceptedByAddress.{accepted-by-address}
 use Rattle.mz_emit.specs.Compiling.{IsBinaryOf}
 use Rattle.mz_emit.specs.Emitting.{HasWritten}
 use Rattle.mz_emit.specs.Gapped.{proofs_of, IsGappedIn}
@@ -48,6 +49,8 @@ binary_of gaps ss p made fit legal says gapped short = record {
     gapped = gapped;
   };
   accepted = λ spec ds is_spec agrees. files-accepted gaps p (marked ss) made fit legal says spec ds is_spec agrees;
+  by_address = λ finished spec ds is_spec agrees.
+      accepted-by-address p (marked ss) made fit (subst (λ (g : Bool). LegalBy (allowed_with g) (marked ss)) finished legal) (subst (λ (g : Bool). IsWrittenAs g p (marked ss) made) finished says) spec ds is_spec agrees;
 }
 
 module _ (gaps : Bool) (ss : List Statement) (p : Parts) (h : HasWritten gaps ss p) (legal : LegalAsStated gaps ss) (within : IsWithinLimits ss) where

@@ -1,18 +1,22 @@
 -- The loop over the statements of a text.
-use Rattle.std.proofs.Common.{Bool, ℕ, ◌≡◌, ◌≤◌, ◌<◌, ◌+◌, List, [], ◌∷◌, ◌++◌, ◌∙◌, length, take, sym, subst, ap}
+use Rattle.std.proofs.Common.{Bool, ℕ, zero, suc, ◌≡◌, ◌≤◌, ◌<◌, ◌+◌, List, [], ◌∷◌, ◌++◌, ◌∙◌, length, take, drop, refl, sym, subst, ap, arith, add-one}
+use Rattle.std.specs.Prelude.{Some, None, slice_get}
 use Rattle.std.proofs.lemmas.List.{take_more, take_all}
+use Rattle.std.proofs.Math.Seq.{drop-nil}
+use Rattle.mz_logic.specs.Declaration.{Declaration}
 use Rattle.mz_mmu.specs.Proof.{Statement}
 use Rattle.mz_mmu.specs.Statements.{no_names}
 use Rattle.mz_mmu.proofs.OnlyDrafts.{only_drafts}
 use Rattle.mz_mmu.proofs.Whole.{are_whole}
 use Rattle.mz_type.specs.Meaning.{LegalAsStated}
 use Rattle.mz_type.specs.TextOf.{TextOf}
-use Rattle.mz_type.specs.StatedView.{AreRead}
+use Rattle.mz_type.specs.StatedView.{AreRead, with_decl, statements_of}
+use Rattle.mz_type.specs.declared.typed.Beside.{Beside}
 use Rattle.mz_type.specs.TypedText.{statement_at, declared}
 use Rattle.mz_type.specs.Weight.{IsWithinLimits}
 use Rattle.mz_type.specs.Ready.{StatementsCanBeWords}
 use Rattle.mz_type.proofs.StatementsRead.{statements_there}
-use Rattle.mz_emit.specs.Emitting.{IsLegalWith, HasRows, HasEmitted, IsNext}
+use Rattle.mz_emit.specs.Emitting.{IsLegalWith, HasRows, HasEmitted, IsNext, EmitsNext}
 use Rattle.mz_emit.specs.declared.emitter.Emitter.{Emitter}
 use Rattle.mz_emit.proofs.Following.{follows}
 use Rattle.mz_emit.proofs.Rows.{declared_more}
@@ -26,11 +30,10 @@ pub own_mode : (mode : Bool) (ss : List Statement) → AreRead mode ss → Legal
 own_mode mode ss (nodes, read) legal = (legal, only_drafts (no_names mode) nodes ss read)
 
 pub next_there : StatementsCanBeWords → (mode : Bool) (ss : List Statement) → AreRead mode ss → IsWithinLimits ss
-    → (gaps : Bool) → IsLegalWith gaps ss → (i : ℕ) (e : Emitter) → i < length ss → HasEmitted gaps (take i ss) e → IsNext gaps ss i e
+    → (gaps : Bool) → IsLegalWith gaps ss → (i : ℕ) (e : Emitter) → i < length ss → HasEmitted gaps (take i ss) e → IsNext gaps (take i ss) (statement_at ss i) e
 next_there ready mode ss (nodes, read) within gaps (legal, has_gaps) i e below before =
     let whole = are_whole (no_names mode) nodes ss read in
     record {
-      within = below;
       before = before;
       follows = follows gaps ss legal (statements_there mode nodes ss read) whole (all_stated (no_names mode) nodes ss read) has_gaps (ready gaps ss legal whole within) within i below;
     }
@@ -38,12 +41,82 @@ next_there ready mode ss (nodes, read) within gaps (legal, has_gaps) i e below b
 one_more : (ss : List Statement) (i : ℕ) → i < length ss → take i ss ++ statement_at ss i ∷ [] ≡ take (i + 1) ss
 one_more ss i below = sym (take_more ss i _ below)
 
-pub emitted_next : (gaps : Bool) (ss : List Statement) (i : ℕ) (e : Emitter) → i < length ss → HasRows gaps (take i ss ++ statement_at ss i ∷ []) e
-    → e.env ≡ declared (take i ss) ++ (statement_at ss i).decl ∷ [] → HasEmitted gaps (take (i + 1) ss) e
-emitted_next gaps ss i e below rows env = record {
-  rows = subst (λ ts. HasRows gaps ts e) (one_more ss i below) rows;
-  env = env ∙ sym (declared_more (take i ss) (statement_at ss i)) ∙ ap declared (one_more ss i below);
-}
+pub emitted_next : (gaps : Bool) (earlier : List Statement) (s : Statement) (e : Emitter) → HasRows gaps (earlier ++ s ∷ []) e
+    → e.env ≡ declared earlier ++ s.decl ∷ [] → HasEmitted gaps (earlier ++ s ∷ []) e
+emitted_next gaps earlier s e rows env = record { rows = rows; env = env ∙ sym (declared_more earlier s) }
 
 pub emitted_all : (gaps : Bool) (ss : List Statement) (i : ℕ) (e : Emitter) → length ss ≤ i → HasEmitted gaps (take i ss) e → HasEmitted gaps ss e
 emitted_all gaps ss i e past h = subst (λ ts. HasEmitted gaps ts e) (take_all i ss past) h
+
+-- ---- what is left of a text that is taken apart
+
+-- from a place on these declarations and what is said beside them are the statements
+pub record AreLeft (ss : List Statement) (env : List Declaration) (bs : List Beside) (place : ℕ) : Type 0 where
+  pub many : length env ≡ place + length bs
+  pub are : statements_of (drop place env) bs ≡ drop place ss
+
+pub as_many : (ds : List Declaration) (bs : List Beside) → length ds ≡ length bs → length (statements_of ds bs) ≡ length ds
+as_many [] bs h = refl
+as_many (d ∷ ds) [] h = absurd (omega (arith, h))
+as_many (d ∷ ds) (b ∷ bs) h = ap suc (as_many ds bs (omega (arith, h)))
+
+-- the first of them, and the others
+first_left : (ss : List Statement) (env : List Declaration) (b : Beside) (bs : List Beside) (place : ℕ) (d : Declaration) → length env ≡ place + suc (length bs)
+    → statements_of (drop place env) (b ∷ bs) ≡ drop place ss → slice_get env place ≡ Some d
+    → (place < length ss) × (statement_at ss place ≡ with_decl d b) × (statements_of (drop (suc place) env) bs ≡ drop (suc place) ss)
+first_left ss [] b bs place d many are at = absurd (omega (arith, many))
+first_left [] (x ∷ env) b bs zero d many are at = absurd cc
+first_left (s ∷ ss) (x ∷ env) b bs zero d many are at =
+    let same : x ≡ d = cc in
+    let head : s ≡ with_decl x b = cc in
+    let tail : statements_of env bs ≡ ss = cc in
+    (omega arith, head ∙ ap (λ y. with_decl y b) same, tail)
+first_left [] (x ∷ env) b bs (suc place) d many are at =
+    let none = first_left [] env b bs place d (omega (arith, many)) (are ∙ sym (drop-nil place)) at in
+    absurd (omega (arith, none.0))
+first_left (s ∷ ss) (x ∷ env) b bs (suc place) d many are at =
+    let rest = first_left ss env b bs place d (omega (arith, many)) are at in
+    (omega (arith, rest.0), rest.1, rest.2)
+
+module _ (ss : List Statement) (env : List Declaration) (b : Beside) (bs : List Beside) (place : ℕ) (h : AreLeft ss env (b ∷ bs) place) (d : Declaration) (at : slice_get env place ≡ Some d) where
+  pub within : place < length ss
+  within = (first_left ss env b bs place d h.many h.are at).0
+
+  pub is_there : statement_at ss place ≡ with_decl d b
+  is_there = (first_left ss env b bs place d h.many h.are at).1
+
+  pub others_left : AreLeft ss env bs (place + 1)
+  others_left = record {
+    many = omega (arith, h.many);
+    are = rw add-one ((first_left ss env b bs place d h.many h.are at).2);
+  }
+
+-- the first of them is written, and with it one more
+pub written_more : StatementsCanBeWords → (mode : Bool) (ss : List Statement) → AreRead mode ss → IsWithinLimits ss → (env : List Declaration) (b : Beside) (bs : List Beside) (place : ℕ)
+    → AreLeft ss env (b ∷ bs) place → (d : Declaration) → slice_get env place ≡ Some d → (e e' : Emitter) → EmitsNext (with_decl d b) e e'
+    → ((gaps : Bool) → IsLegalWith gaps ss → HasEmitted gaps (take place ss) e) → (gaps : Bool) → IsLegalWith gaps ss → HasEmitted gaps (take (place + 1) ss) e'
+written_more ready mode ss read limits env b bs place left d at e e' emits written gaps legal =
+    let below = within ss env b bs place left d at in
+    let is = is_there ss env b bs place left d at in
+    let next = next_there ready mode ss read limits gaps legal place e below (written gaps legal) in
+    let emitted = emits gaps (take place ss) (subst (λ s. IsNext gaps (take place ss) s e) is next) in
+    subst (λ ts. HasEmitted gaps ts e') (one_more ss place below) (subst (λ s. HasEmitted gaps (take place ss ++ s ∷ []) e') (sym is) emitted)
+
+-- a declaration is there
+pub is_declared : (env : List Declaration) (place : ℕ) (n : ℕ) → length env ≡ place + suc n → slice_get env place ≡ None → ⊥
+is_declared [] place n many none = absurd (omega (arith, many))
+is_declared (d ∷ env) zero n many none = cc
+is_declared (d ∷ env) (suc place) n many none = is_declared env place n (omega (arith, many)) none
+
+-- none are left at the end
+pub all_taken : (ss : List Statement) (env : List Declaration) (place : ℕ) → AreLeft ss env [] place → length ss ≤ place
+all_taken ss env place h = shorter ss place (nothing (drop place env) ∙ h.are)
+  where
+    nothing : (ds : List Declaration) → [] ≡ statements_of ds []
+    nothing [] = refl
+    nothing (d ∷ ds) = refl
+
+    shorter : (ts : List Statement) (i : ℕ) → [] ≡ drop i ts → length ts ≤ i
+    shorter [] i e = omega arith
+    shorter (t ∷ ts) zero e = absurd cc
+    shorter (t ∷ ts) (suc i) e = let le = shorter ts i e in omega (arith, le)

@@ -1,7 +1,6 @@
 -- The rows of one statement more.
-use Rattle.std.proofs.Common.{ℕ, ◌≡◌, Bool, List, [], ◌∷◌, ◌++◌, ◌∙◌, ◌⊎◌, map, take, refl, sym, subst, ap, append-nil}
-use Rattle.std.specs.Prelude.{Option, Some, None, option_map}
-use Rattle.std.specs.Borrow.{Bor}
+use Rattle.std.proofs.Common.{ℕ, ◌≡◌, Bool, List, [], ◌∷◌, ◌++◌, ◌∙◌, ◌⊎◌, map, refl, sym, subst, ap, append-nil}
+use Rattle.std.specs.Prelude.{Option, Some, None}
 use Rattle.mz_logic.specs.Tree.{Tree, none, more}
 use Rattle.mz_logic.specs.Signature.{Signature}
 use Rattle.mz_logic.specs.Declaration.{Form, plain_form, abstract_form, defined, body_of, dummies_of, Assertion, Declaration, sort_decl, term_decl, assertion_decl, sorts, signatures}
@@ -11,10 +10,7 @@ use Rattle.mz_logic.specs.declared.binder.SortMods.{SortMods}
 use Rattle.mz_logic.proofs.Extend.{sorts-append}
 use Rattle.mz_logic.proofs.Lists.{each_from_all}
 use Rattle.mz_mmu.specs.Proof.{Proof, Statement}
-use Rattle.mz_mmu.specs.ProofView.{proof_view}
-use Rattle.mz_mmu.specs.declared.proof.Proof.{Proof as Coded}
-use Rattle.mz_type.specs.Answers.{stated}
-use Rattle.mz_type.specs.TypedText.{statement_at, declared}
+use Rattle.mz_type.specs.TypedText.{declared}
 use Rattle.mz_binary.specs.Spelling.{HasKind, is_local_code}
 use Rattle.mz_writing.proofs.WordsSay.{words-say-params}
 use Rattle.mz_logic.specs.Words.{signatures_of}
@@ -46,10 +42,6 @@ pub defined_is : (f : Form) (b : Tree) → body_of f ≡ more b none → f ≡ d
 defined_is plain_form b e = absurd (let n : none ≡ more b none = e in cc)
 defined_is abstract_form b e = absurd (let n : none ≡ more b none = e in cc)
 defined_is (defined ds c) b e = ap (defined ds) (let n : more c none ≡ more b none = e in cc)
-
-pub stated_view : (o : Option (Bor Coded)) → option_map (λ p. proof_view p.now) o ≡ stated o
-stated_view None = refl
-stated_view (Some p) = refl
 
 module _ (gaps : Bool) (b : List Statement) (s : Statement) (follows : MayFollow gaps b s) where
   pub proved_by : StatedProofsAreSound → (a : Assertion) → s.decl ≡ assertion_decl a → (q : Option Proof) → s.proof ≡ q
@@ -112,10 +104,10 @@ module _ (gaps : Bool) (b : List Statement) (s : Statement) (follows : MayFollow
         (ap (λ (t : Table). t.sorts.items) same ∙ sym (append-nil e.table.sorts.items) ∙ ap (λ d. e.table.sorts.items ++ sorts (d ∷ [])) (sym is))
         (ap (λ (t : Table). signatures_of (map words_of_row t.terms.items)) same ∙ sym (append-nil (table_of e)) ∙ ap (λ d. table_of e ++ signatures (d ∷ [])) (sym is))
 
--- the i-th statement, an axiom or a theorem, is proved over what the emitter has declared
-pub proved_here : (ss : List Statement) (i : ℕ) (e : Emitter) (gaps : Bool) → IsNext gaps ss i e → StatedProofsAreSound → (a : Assertion) → (statement_at ss i).decl ≡ assertion_decl a
-    → (ds : List Binder) → (statement_at ss i).dummies ≡ ds → (q : Option Proof) → (statement_at ss i).proof ≡ q → IsProvedBy gaps e.env (a.params ++ ds) a q
-proved_here ss i e gaps next sound a is ds dummies q proof =
+-- the next statement, an axiom or a theorem, is proved over what the emitter has declared
+pub proved_here : (gaps : Bool) (b : List Statement) (s : Statement) (e : Emitter) → IsNext gaps b s e → StatedProofsAreSound → (a : Assertion) → s.decl ≡ assertion_decl a
+    → (ds : List Binder) → s.dummies ≡ ds → (q : Option Proof) → s.proof ≡ q → IsProvedBy gaps e.env (a.params ++ ds) a q
+proved_here gaps b s e next sound a is ds dummies q proof =
     subst (λ (env : List Declaration). IsProvedBy gaps env (a.params ++ ds) a q) (sym next.before.env)
-    (subst (λ (xs : List Binder). IsProvedBy gaps (declared (take i ss)) (a.params ++ xs) a q) dummies
-    (proved_by gaps (take i ss) (statement_at ss i) next.follows sound a is q proof))
+    (subst (λ (xs : List Binder). IsProvedBy gaps (declared b) (a.params ++ xs) a q) dummies
+    (proved_by gaps b s next.follows sound a is q proof))

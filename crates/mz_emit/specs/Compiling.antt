@@ -22,6 +22,9 @@ use Rattle.mz_emit.specs.Gapped.{proofs_of, IsGappedIn}
 use Rattle.mz_emit.specs.Limits.{limit, over}
 use Rattle.mz_emit.specs.declared.compiled.Compiled.{Compiled}
 use Rattle.mz_emit.specs.declared.compiled.Compiled.TheVariants as answers
+use Rattle.mz_binary.specs.Standards.{by_table}
+use Rattle.mz_binary.specs.declared.standard.Standard.{Standard}
+use Rattle.mz_binary.specs.declared.standard.Standard.TheVariants.{Portable}
 
 -- ---- the binary, of a finished text or, with gaps, of a draft
 
@@ -42,17 +45,19 @@ pub record IsGoodFor (gaps : Bool) (ss : List Statement) (bytes : List ℕ) : Ty
   pub made : List Marked
   pub spelled : Statements bytes made
   pub same : IsSameList (marked ss) made
-  pub good : Good gaps bytes made
+  pub good : Good (by_table gaps) bytes made
   pub gapped : (T : ℕ) → GappedIn bytes made T ↔ IsGappedIn (proofs_of ss) T
 
--- It is accepted against each specification with which the public statements agree; with gaps as a draft.
-abbrev pub IsAccepted : Bool → List Statement → List ℕ → Type 0
-IsAccepted gaps ss bytes = (spec : List ℕ) (ds : List Declaration) → SpecOf spec ds → Agrees ds (publics (marked ss)) → AcceptsBy gaps spec bytes
+-- Its bodies held to the standard, it is accepted against each specification with which the public statements agree.
+abbrev pub IsAccepted : Standard → List Statement → List ℕ → Type 0
+IsAccepted standard ss bytes = (spec : List ℕ) (ds : List Declaration) → SpecOf spec ds → Agrees ds (publics (marked ss)) → AcceptsBy standard spec bytes
 
+-- It is accepted by the published table, with gaps as a draft; and that of a finished text by address too.
 pub record IsBinaryOf (gaps : Bool) (ss : List Statement) (bytes : List ℕ) : Type 0 where
   pub written : IsWritten gaps ss bytes
   pub good : IsGoodFor gaps ss bytes
-  pub accepted : IsAccepted gaps ss bytes
+  pub accepted : IsAccepted (by_table gaps) ss bytes
+  pub by_address : gaps ≡ false → IsAccepted Portable ss bytes
 
 -- ---- the answers
 

@@ -1,5 +1,5 @@
 -- Statements as they are written into a binary.
-use Rattle.std.specs.Prelude.{Bool, true, false, ◌≡◌, ◌≤◌, ◌<◌, ◌+◌, ◌*◌, ◌^◌, ⊤, ℕ, List, [], ◌∷◌, ◌++◌, length, map, take, All, Option, Some, None}
+use Rattle.std.specs.Prelude.{Bool, true, false, ◌≡◌, ◌≤◌, ◌<◌, ◌+◌, ◌*◌, ◌^◌, ⊤, ℕ, List, [], ◌∷◌, ◌++◌, length, map, All, Option, Some, None}
 use Rattle.mz_logic.specs.Tree.{Tree, none, listed, size, trees_size}
 use Rattle.mz_logic.specs.Signature.{Signature}
 use Rattle.mz_logic.specs.Declaration.{Form, plain_form, abstract_form, defined, Assertion, Declaration, sort_decl, term_decl, assertion_decl, sorts, signatures}
@@ -22,7 +22,7 @@ use Rattle.mz_mmu.specs.Laws.{IsWhole}
 use Rattle.mz_mmu.specs.Proof.{Proof, Statement}
 use Rattle.mz_type.specs.Meaning.{IsLegalAsStated, LegalAsStated, marked}
 use Rattle.mz_type.specs.Names.{StatementThere}
-use Rattle.mz_type.specs.TypedText.{statement_at, declared}
+use Rattle.mz_type.specs.TypedText.{declared}
 use Rattle.mz_type.specs.Weight.{params_of, parameter_count, bound_count, statement_weight, weight_of}
 use Rattle.mz_steps.specs.SharedBodies.{IsSharedBody}
 use Rattle.mz_streams.specs.Laws.{IsSmall}
@@ -190,20 +190,19 @@ pub record HasEmitted (gaps : Bool) (ss : List Statement) (e : Emitter) : Type 0
   pub rows : HasRows gaps ss e
   pub env : e.env ≡ declared ss
 
--- the i-th statement is the next to be written
-pub record IsNext (gaps : Bool) (ss : List Statement) (i : ℕ) (e : Emitter) : Type 0 where
-  pub within : i < length ss
-  pub before : HasEmitted gaps (take i ss) e
-  pub follows : MayFollow gaps (take i ss) (statement_at ss i)
+-- the statement is the next to be written, after these
+pub record IsNext (gaps : Bool) (earlier : List Statement) (s : Statement) (e : Emitter) : Type 0 where
+  pub before : HasEmitted gaps earlier e
+  pub follows : MayFollow gaps earlier s
 
--- in one of both modes
-abbrev pub CanBeNext : List Statement → ℕ → Emitter → Type 0
-CanBeNext ss i e = (gaps : Bool) × IsNext gaps ss i e
+-- after some, in one of both modes
+abbrev pub CanBeNext : Statement → Emitter → Type 0
+CanBeNext s e = (gaps : Bool) × (earlier : List Statement) × IsNext gaps earlier s e
 
--- in each mode in which it was the next, it is written
-abbrev pub WritesNext : List Statement → ℕ → Emitter → Emitter → Type 0
-WritesNext ss i e e' = (gaps : Bool) → IsNext gaps ss i e → HasRows gaps (take i ss ++ statement_at ss i ∷ []) e'
+-- in each mode in which it was the next, after whichever, it is written
+abbrev pub WritesNext : Statement → Emitter → Emitter → Type 0
+WritesNext s e e' = (gaps : Bool) (earlier : List Statement) → IsNext gaps earlier s e → HasRows gaps (earlier ++ s ∷ []) e'
 
 -- and what it declares stands before the one after it
-abbrev pub EmitsNext : List Statement → ℕ → Emitter → Emitter → Type 0
-EmitsNext ss i e e' = (gaps : Bool) → IsNext gaps ss i e → HasEmitted gaps (take (i + 1) ss) e'
+abbrev pub EmitsNext : Statement → Emitter → Emitter → Type 0
+EmitsNext s e e' = (gaps : Bool) (earlier : List Statement) → IsNext gaps earlier s e → HasEmitted gaps (earlier ++ s ∷ []) e'

@@ -1,42 +1,69 @@
 // From a text to a binary.
-ghost use Rattle.std.specs.Prelude.{Bool, false, ◌<◌, ◌^◌, IfOk, ℕ, List, length};
+ghost use Rattle.std.specs.Prelude.{Bool, false, ◌≡◌, ◌<◌, ◌^◌, IfOk, ℕ, List, length};
 ghost use Rattle.mz_mode.specs.Gaps.{gaps_of};
 ghost use Rattle.mz_mmu.specs.Proof.{Statement};
+ghost use Rattle.mz_type.specs.Meaning.{LegalAsStated};
+ghost use Rattle.mz_type.specs.StatedView.{AreRead, statements_of};
 ghost use Rattle.mz_type.specs.TextOf.{TextOf};
 ghost use Rattle.mz_type.specs.Weight.{IsWithinLimits};
-ghost use Rattle.mz_emit.specs.Emitting.{IsLegalWith};
+ghost use Rattle.mz_emit.specs.Emitting.{IsLegalWith, HasEmitted};
 ghost use Rattle.mz_emit.specs.Compiling.{IsBinaryOf, IsCompilation, IsDecided, ModesCompileAlike};
 
 use crate::compiled::Compiled;
 use crate::emitter::Emitter;
 use crate::limit::{Passed, limit_of};
 use mz_cmd::Mem;
+use mz_logic::Env;
 use mz_mmu::{TextRead, read_text};
 use mz_mode::Mode;
 use mz_type::{
-    Typed, TypedRead, check_text, limits_are_decided, statements_can_be_words, typed_or_faulty,
+    Beside, Typed, TypedRead, check_text, limits_are_decided, statements_can_be_words, take_last,
+    typed_or_faulty,
 };
 use std::alloc::Global;
 
-/// The binary of a well-typed text within the limits. It is one in each mode in which the text is legal as stated.
-fn emit(alloc: Global, text: &Typed) -> Result<Vec<u8>, Mem>
-    requires { IsWithinLimits text.now.statements }
-    ensures { IfOk result (λ bytes. (gaps : Bool) → IsLegalWith gaps text.now.statements → IsBinaryOf gaps text.now.statements bytes.items) }
+/// Emits the statements that declare what the environment has, each in its place, and say these beside it. What one says
+/// is let go once it is written.
+fn emit_all(alloc: Global, env: &Env, mut besides: Vec<Beside>) -> Result<Emitter, Mem>
+    requires many { length env.now ≡ length besides.items }
+    requires few { length env.now < 2 ^ 32 }
+    requires legal { (mode : Bool) × AreRead mode (statements_of env.now besides.items) × LegalAsStated mode (statements_of env.now besides.items) }
+    requires within { IsWithinLimits (statements_of env.now besides.items) }
+    ensures { IfOk result (λ emitter. (gaps : Bool) → IsLegalWith gaps (statements_of env.now besides.entry.items) → HasEmitted gaps (statements_of env.now besides.entry.items) emitter) }
 {
     statements_can_be_words();
+    // from the last one on, so that they can be taken from the end
+    besides.reverse();
     let mut emitter = Emitter::new(alloc);
-    for i in 0..text.len() {
-        emitter.statement(text, i)?;
+    let mut place: usize = 0;
+    while let Some(beside) = take_last(&mut besides) {
+        let Some(decl) = env.get(place) else {
+            unreachable!();
+        };
+        emitter.statement(decl, &beside)?;
+        place += 1;
     }
+    Ok(emitter)
+}
+
+/// The binary of a well-typed text within the limits. It is one in each mode in which the text is legal as stated.
+fn emit(alloc: Global, text: Typed) -> Result<Vec<u8>, Mem>
+    requires { IsWithinLimits text.statements }
+    ensures { IfOk result (λ bytes. (gaps : Bool) → IsLegalWith gaps text.entry.statements → IsBinaryOf gaps text.entry.statements bytes.items) }
+{
+    // that the statements are read, and legal as stated
+    let _count = text.len();
+    let (env, besides) = text.into_parts();
+    let emitter = emit_all(alloc, &env, besides)?;
     let bytes = emitter.finish()?;
     Ok(bytes)
 }
 
 /// Compiles a well-typed text, in whichever mode its bytes are these statements.
-fn compile_typed(alloc: Global, typed: &Typed) -> Compiled
-    ensures { (gaps : Bool) (bytes : List ℕ) → TextOf gaps bytes typed.now.statements → IsCompilation gaps bytes result }
+fn compile_typed(alloc: Global, typed: Typed) -> Compiled
+    ensures { (gaps : Bool) (bytes : List ℕ) → TextOf gaps bytes typed.entry.statements → IsCompilation gaps bytes result }
 {
-    if let Some(Passed { rule, count }) = limit_of(typed) {
+    if let Some(Passed { rule, count }) = limit_of(&typed) {
         return Compiled::Limit { rule, count };
     }
     match emit(alloc, typed) {
@@ -49,7 +76,8 @@ fn compile_typed(alloc: Global, typed: &Typed) -> Compiled
 /// within the limits, else its first fault, or the first limit that it passes. A draft may have gaps; one that is
 /// finished is compiled as a finished text.
 ///
-/// The binary's bodies build no application twice, and its streams none once all its dummies are met.
+/// The binary's bodies build no application twice, and its streams none once all its dummies are met. So that of a
+/// finished text is accepted by verifiers that compare addresses, too.
 pub fn compile_bytes(alloc: Global, text: &[u8], mode: Mode) -> Compiled
     requires { length text.now < 2 ^ 32 }
     ensures answer { IsCompilation (gaps_of mode) text.now result }
@@ -62,7 +90,7 @@ pub fn compile_bytes(alloc: Global, text: &[u8], mode: Mode) -> Compiled
         TextRead::Mem => return Compiled::Mem,
     };
     match check_text(alloc, text) {
-        TypedRead::Typed(typed) => compile_typed(alloc, &typed),
+        TypedRead::Typed(typed) => compile_typed(alloc, typed),
         TypedRead::Refused(refusal) => Compiled::Refused(refusal),
         TypedRead::Mem => Compiled::Mem,
     }

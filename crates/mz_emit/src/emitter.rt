@@ -17,7 +17,7 @@ ghost use Rattle.mz_mmu.specs.ProofView.{proof_view};
 ghost use Rattle.mz_type.specs.Answers.{stated};
 ghost use Rattle.mz_mmu.specs.Proof.{Statement};
 ghost use Rattle.mz_type.specs.Meaning.{LegalAsStated};
-ghost use Rattle.mz_type.specs.TypedText.{statement_at};
+ghost use Rattle.mz_type.specs.StatedView.{with_decl};
 ghost use Rattle.mz_type.specs.Weight.{IsWithinLimits};
 ghost use Rattle.mz_emit.specs.Compiling.{IsBinaryOf};
 ghost use Rattle.mz_store.specs.Sharing.{AreIn, IsIn, tree_of, trees_of};
@@ -36,7 +36,7 @@ use mz_mmu::Proof;
 use mz_shared::{Shared, Table, Words};
 use mz_spell::{assertion_stream, definition_stream};
 use mz_store::Id;
-use mz_type::{Typed, copy_of_decl};
+use mz_type::{Beside, copy_of_decl};
 use std::alloc::Global;
 
 /// The statements so far: their declarations, the words of these, and what is written of them.
@@ -179,94 +179,83 @@ impl Emitter {
         Ok(())
     }
 
-    /// Writes the i-th statement, a sort.
-    fn write_sort(&mut self, text: &Typed, i: u32, mods: SortMods) -> Result<(), Mem>
-        requires next { CanBeNext text.now.statements i self.old }
-        requires decl { (statement_at text.now.statements i).decl ≡ sort_decl mods }
-        ensures rows { OnOk result (WritesNext text.now.statements i self.old self.new) }
+    /// Writes a statement, a sort.
+    fn write_sort(&mut self, beside: &Beside, mods: SortMods) -> Result<(), Mem>
+        requires { CanBeNext (with_decl (sort_decl mods) beside.now) self.old }
+        ensures rows { OnOk result (WritesNext (with_decl (sort_decl mods) beside.now) self.old self.new) }
         ensures env { OnOk result (self.new.env ≡ self.old.env) }
     {
         self.sort(mods)?;
         Ok(())
     }
 
-    /// Writes the i-th statement, a plain term.
-    fn write_plain(&mut self, text: &Typed, i: u32, term: &TermDecl) -> Result<(), Mem>
-        requires next { CanBeNext text.now.statements i self.old }
-        requires decl { (statement_at text.now.statements i).decl ≡ term_of term.now }
+    /// Writes a statement, a plain term.
+    fn write_plain(&mut self, beside: &Beside, term: &TermDecl) -> Result<(), Mem>
+        requires next { CanBeNext (with_decl (term_of term.now) beside.now) self.old }
         requires plain { form term.now.form ≡ plain_form }
-        ensures rows { OnOk result (WritesNext text.now.statements i self.old self.new) }
+        ensures rows { OnOk result (WritesNext (with_decl (term_of term.now) beside.now) self.old self.new) }
         ensures env { OnOk result (self.new.env ≡ self.old.env) }
     {
         self.plain(term)?;
         Ok(())
     }
 
-    /// Writes the i-th statement, a definition.
-    fn write_definition(
-        &mut self,
-        text: &Typed,
-        i: u32,
-        term: &TermDecl,
-        body: &Expr,
-    ) -> Result<(), Mem>
-        requires next { CanBeNext text.now.statements i self.old }
-        requires decl { (statement_at text.now.statements i).decl ≡ term_of term.now }
+    /// Writes a statement, a definition.
+    fn write_definition(&mut self, beside: &Beside, term: &TermDecl, body: &Expr) -> Result<(), Mem>
+        requires next { CanBeNext (with_decl (term_of term.now) beside.now) self.old }
         requires body { form term.now.form ≡ defined (dummies_of (form term.now.form)) (tree body.now) }
-        ensures rows { OnOk result (WritesNext text.now.statements i self.old self.new) }
+        ensures rows { OnOk result (WritesNext (with_decl (term_of term.now) beside.now) self.old self.new) }
         ensures env { OnOk result (self.new.env ≡ self.old.env) }
     {
-        let code = definition_code(text.is_local(i));
+        let code = definition_code(beside.is_local);
         self.definition(term, body, code)?;
         Ok(())
     }
 
-    /// Writes the i-th statement, a term.
-    fn write_term(&mut self, text: &Typed, i: u32, term: &TermDecl) -> Result<(), Mem>
-        requires next { CanBeNext text.now.statements i self.old }
-        requires decl { (statement_at text.now.statements i).decl ≡ term_of term.now }
-        ensures rows { OnOk result (WritesNext text.now.statements i self.old self.new) }
+    /// Writes a statement, a term.
+    fn write_term(&mut self, beside: &Beside, term: &TermDecl) -> Result<(), Mem>
+        requires { CanBeNext (with_decl (term_of term.now) beside.now) self.old }
+        ensures rows { OnOk result (WritesNext (with_decl (term_of term.now) beside.now) self.old self.new) }
         ensures env { OnOk result (self.new.env ≡ self.old.env) }
     {
         match term.form.body() {
-            None => self.write_plain(text, i, term),
-            Some(body) => self.write_definition(text, i, term, body),
+            None => self.write_plain(beside, term),
+            Some(body) => self.write_definition(beside, term, body),
         }
     }
 
-    /// Writes the i-th statement, an axiom or a theorem.
-    fn write_thm(&mut self, text: &Typed, i: u32, thm: &ThmDecl) -> Result<(), Mem>
-        requires next { CanBeNext text.now.statements i self.old }
-        requires decl { (statement_at text.now.statements i).decl ≡ assertion_of thm.now }
-        ensures rows { OnOk result (WritesNext text.now.statements i self.old self.new) }
+    /// Writes a statement, an axiom or a theorem.
+    fn write_thm(&mut self, beside: &Beside, thm: &ThmDecl) -> Result<(), Mem>
+        requires { CanBeNext (with_decl (assertion_of thm.now) beside.now) self.old }
+        ensures rows { OnOk result (WritesNext (with_decl (assertion_of thm.now) beside.now) self.old self.new) }
         ensures env { OnOk result (self.new.env ≡ self.old.env) }
     {
         stated_proofs_are_sound();
-        let code = assertion_code(thm.form, text.is_local(i));
-        self.assertion(thm, text.dummies(i).as_slice(), text.proof(i), code)?;
+        let code = assertion_code(thm.form, beside.is_local);
+        self.assertion(thm, beside.dummies.as_slice(), beside.proof(), code)?;
         Ok(())
     }
 
-    /// Writes the i-th statement.
-    fn write(&mut self, text: &Typed, i: u32) -> Result<(), Mem>
-        requires { CanBeNext text.now.statements i self.old }
-        ensures rows { OnOk result (WritesNext text.now.statements i self.old self.new) }
+    /// Writes the statement that declares this, and says that beside it.
+    fn write(&mut self, decl: &Decl, beside: &Beside) -> Result<(), Mem>
+        requires { CanBeNext (with_decl (declaration decl.now) beside.now) self.old }
+        ensures rows { OnOk result (WritesNext (with_decl (declaration decl.now) beside.now) self.old self.new) }
         ensures env { OnOk result (self.new.env ≡ self.old.env) }
     {
-        match text.decl(i) {
-            Decl::Sort(mods) => self.write_sort(text, i, *mods),
-            Decl::Term(term) => self.write_term(text, i, term),
-            Decl::Thm(thm) => self.write_thm(text, i, thm),
+        match decl {
+            Decl::Sort(mods) => self.write_sort(beside, *mods),
+            Decl::Term(term) => self.write_term(beside, term),
+            Decl::Thm(thm) => self.write_thm(beside, thm),
         }
     }
 
-    /// Writes the i-th statement, and adds what it declares to what stands before the next.
-    pub(crate) fn statement(&mut self, text: &Typed, i: u32) -> Result<(), Mem>
-        requires { CanBeNext text.now.statements i self.old }
-        ensures { OnOk result (EmitsNext text.now.statements i self.old self.new) }
+    /// Writes the statement, and adds what it declares to what stands before the next.
+    pub(crate) fn statement(&mut self, decl: &Decl, beside: &Beside) -> Result<(), Mem>
+        requires { CanBeNext (with_decl (declaration decl.now) beside.now) self.old }
+        ensures { OnOk result (EmitsNext (with_decl (declaration decl.now) beside.now) self.old self.new) }
     {
-        self.write(text, i)?;
-        let decl = copy_of_decl(self.alloc, text.decl(i))?;
+        self.write(decl, beside)?;
+        let decl = copy_of_decl(self.alloc, decl)?;
         self.env.push_decl(decl)?;
         Ok(())
     }

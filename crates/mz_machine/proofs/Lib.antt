@@ -8,6 +8,7 @@ mod Citing
 pub mod RowResults
 pub mod TakenOperands
 pub mod FittingOperands
+pub mod ApartPlaces
 mod Apartness
 pub mod TermResults
 pub mod Stopping

@@ -1,4 +1,5 @@
--- What is answered where a body has run.
+-- What is answered where a body has run: its first failing command, or how many hypotheses and dummies it left
+-- (documents of the .mmb format, on proof streams and the proof machine).
 use Rattle.std.specs.Prelude.{◌≡◌, ◌↔◌, ℕ, ⊤, ◌+◌, true, List, length, Result, Ok, Err}
 use Rattle.mz_cmd.specs.declared.rule.K.{K}
 use Rattle.mz_logic.specs.Tree.{Tree}

@@ -19,13 +19,14 @@ use Rattle.mz_unification.specs.Spells.{Marks, trees_of}
 use Rattle.mz_match.specs.declared.compare.Sides.{Sides}
 use Rattle.mz_match.specs.Trees.{SameTrees, SameBody}
 use Rattle.mz_match.specs.TellsRow.{SaysFirst, SaysForm, SaysClaims, IsTermRow}
+use Rattle.mz_match.specs.Marks.{AreKept}
 use Rattle.mz_match.specs.Beside.{IsStream, IsPlainStream}
 
-pub first-stream : (s : Sides) (m : Marks) (f : Tree) → SaysFirst s.mmb.now s.params s.start m f → IsStream s m
-first-stream s m f says = record { within = says.within; marks = says.marks }
+pub first-stream : (s : Sides) (m : Marks) (f : Tree) → SaysFirst s.mmb.now s.params s.start m f → AreKept s.mmb.now s.start s.places.items → IsStream s m
+first-stream s m f says kept = record { within = says.within; marks = says.marks; kept = kept }
 
-pub claims-plain : (s : Sides) (a : Assertion) (says : SaysClaims s.mmb.now s.params s.start a) → s.dummies.now ≡ [] → IsPlainStream s says.marks
-claims-plain s a says none-beside = record { stream = record { within = says.conclusion.within; marks = says.conclusion.marks }; no_dummies = says.no_dummies; none_beside = none-beside }
+pub claims-plain : (s : Sides) (a : Assertion) (says : SaysClaims s.mmb.now s.params s.start a) → s.dummies.now ≡ [] → AreKept s.mmb.now s.start s.places.items → IsPlainStream s says.marks
+claims-plain s a says none-beside kept = record { stream = record { within = says.conclusion.within; marks = says.conclusion.marks; kept = kept }; no_dummies = says.no_dummies; none_beside = none-beside }
 
 listed-back : (es : Trees) → trees_of (listed es) ≡ es
 listed-back none = refl

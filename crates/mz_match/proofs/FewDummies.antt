@@ -52,6 +52,9 @@ use Rattle.mz_binary.specs.Laws.{HasRow}
 use Rattle.mz_binary.specs.Spelling.{IsKindOf, SpellsRow}
 use Rattle.mz_binary.proofs.LegalChains.{well-chain}
 use Rattle.mz_binary.proofs.RowLaws.{good-rows}
+use Rattle.mz_binary.proofs.ByTable.{runs-by-table}
+use Rattle.mz_binary.specs.Standards.{lets_gaps, profile_of}
+use Rattle.mz_binary.specs.declared.standard.Standard.{Standard}
 
 -- ---- the commands of a definition's body add at most one bound variable, where there are fewer than 55
 
@@ -259,14 +262,14 @@ run-few gaps tables env declares h at bytes kind few (last, run-is) ds body text
     subst (λ (bs : List Binder). length bs ≤ 55) same (omega (arith, enough, last-few))
 
 -- what is asked of a definition's statement, whether it is local or not
-body-asked : (gaps : Bool) (file : List ℕ) (env : List Declaration) (at code body next : ℕ) (t : Term) → IsKindOf code (term_decl t) → AllHold (kind_checks gaps file (taken_by env) at body next (statement_code code))
-    → (l : Bool) × AllHold (term_checks gaps file (taken_by env) at body next l)
-body-asked gaps file env at code body next t (inl is) all = (false, subst (λ (c : ℕ). AllHold (kind_checks gaps file (taken_by env) at body next (statement_code c))) is all)
-body-asked gaps file env at code body next t (inr is) all = (true, subst (λ (c : ℕ). AllHold (kind_checks gaps file (taken_by env) at body next (statement_code c))) is all)
+body-asked : (standard : Standard) (file : List ℕ) (env : List Declaration) (at code body next : ℕ) (t : Term) → IsKindOf code (term_decl t) → AllHold (kind_checks standard file (taken_by env) at body next (statement_code code))
+    → (l : Bool) × AllHold (term_checks standard file (taken_by env) at body next l)
+body-asked standard file env at code body next t (inl is) all = (false, subst (λ (c : ℕ). AllHold (kind_checks standard file (taken_by env) at body next (statement_code c))) is all)
+body-asked standard file env at code body next t (inr is) all = (true, subst (λ (c : ℕ). AllHold (kind_checks standard file (taken_by env) at body next (statement_code c))) is all)
 
-pub few-dummies : (gaps : Bool) (file : List ℕ) (ss : List Statement) (env : List Declaration) (at : ℕ) (s : Statement) (next : ℕ) (t : Term) (dummies : List Binder) (body : Tree)
-    → GoodTo gaps file [] (list_at file) ss env at → IsGoodStatement gaps file env at s next → s.decl ≡ term_decl t → t.form ≡ defined dummies body → length dummies ≤ 55
-few-dummies gaps file ss env at s next t dummies body before good d-is form-is = go (term_of_file file r).stream refl
+pub few-dummies : (standard : Standard) (file : List ℕ) (ss : List Statement) (env : List Declaration) (at : ℕ) (s : Statement) (next : ℕ) (t : Term) (dummies : List Binder) (body : Tree)
+    → GoodTo standard file [] (list_at file) ss env at → IsGoodStatement standard file env at s next → s.decl ≡ term_decl t → t.form ≡ defined dummies body → length dummies ≤ 55
+few-dummies standard file ss env at s next t dummies body before good d-is form-is = go (term_of_file file r).stream refl
   where
     r : ℕ
     r = length (terms env)
@@ -274,25 +277,25 @@ few-dummies gaps file ss env at s next t dummies body before good d-is form-is =
     kind : IsKindOf good.spelled.code (term_decl t)
     kind = subst (IsKindOf good.spelled.code) d-is good.spelled.kind.0
 
-    here : AllHold (kind_checks gaps file (taken_by env) at good.spelled.body next (statement_code good.spelled.code))
-    here = subst (λ (x : Result StmtAt StmtFault). AllHold (checks_of gaps file (taken_by env) at x)) good.spelled.stands good.passes
+    here : AllHold (kind_checks standard file (taken_by env) at good.spelled.body next (statement_code good.spelled.code))
+    here = subst (λ (x : Result StmtAt StmtFault). AllHold (checks_of standard file (taken_by env) at x)) good.spelled.stands good.passes
 
-    asked : AllHold (term_body_checks gaps file (taken_by env) at good.spelled.body next (term_of_file file r).stream)
+    asked : AllHold (term_body_checks standard file (taken_by env) at good.spelled.body next (term_of_file file r).stream)
     asked =
-        let (l, all) = body-asked gaps file env at good.spelled.code good.spelled.body next t kind here in
-        all_hold-rest (word_checks (sorts env) (term_row file r)) (term_body_checks gaps file (taken_by env) at good.spelled.body next (term_of_file file r).stream) all.1.1
+        let (l, all) = body-asked standard file env at good.spelled.code good.spelled.body next t kind here in
+        all_hold-rest (word_checks (sorts env) (term_row file r)) (term_body_checks standard file (taken_by env) at good.spelled.body next (term_of_file file r).stream) all.1.1
 
     row : SpellsRow file env (term_decl t)
     row = subst (SpellsRow file env) d-is good.spelled.row
 
     has : HasRow file env (term_decl t)
-    has = subst (HasRow file env) d-is (good-rows gaps file env at s next good)
+    has = subst (HasRow file env) d-is (good-rows standard file env at s next good)
 
     spelled : SpellsForm (signatures env) (term_of_file file r).signature.params (term_of_file file r).stream (defined dummies body)
     spelled = subst (SpellsForm (signatures env) (term_of_file file r).signature.params (term_of_file file r).stream) form-is row.1.1
 
     declares : Declares (rows_taken file (taken_by env)) env
-    declares = (well-chain gaps file [] (list_at file) ss env at before tt (record { sorts_are = refl; terms_are = tt; thms_are = tt })).1
+    declares = (well-chain standard file [] (list_at file) ss env at before tt (record { sorts_are = refl; terms_are = tt; thms_are = tt })).1
 
     enough : bound_count (binders_of (term_row file r).words.params) ≤ 55
     enough =
@@ -302,7 +305,8 @@ few-dummies gaps file ss env at s next t dummies body before good d-is form-is =
     go : (o : Option (List ℕ)) → (term_of_file file r).stream ≡ o → length dummies ≤ 55
     go None is = absurd (subst (λ (o : Option (List ℕ)). SpellsForm (signatures env) (term_of_file file r).signature.params o (defined dummies body)) is spelled)
     go (Some stream) is =
-        let runs = (bodies-checked (plain gaps) (rows_taken file (taken_by env)) (definition_of (term_of_file file r) stream) good.spelled.body (body_bytes file good.spelled.body next)).0.0
-        (subst (λ (o : Option (List ℕ)). AllHold (term_body_checks gaps file (taken_by env) at good.spelled.body next o)) is asked) in
-        run-few gaps (rows_taken file (taken_by env)) env declares (definition_of (term_of_file file r) stream) good.spelled.body (body_bytes file good.spelled.body next) refl enough runs dummies body
+        let runs = runs-by-table standard (rows_taken file (taken_by env)) (definition_of (term_of_file file r) stream) good.spelled.body (body_bytes file good.spelled.body next)
+        ((bodies-checked (profile_of standard) (rows_taken file (taken_by env)) (definition_of (term_of_file file r) stream) good.spelled.body (body_bytes file good.spelled.body next)).0.0
+        (subst (λ (o : Option (List ℕ)). AllHold (term_body_checks standard file (taken_by env) at good.spelled.body next o)) is asked)) in
+        run-few (lets_gaps standard) (rows_taken file (taken_by env)) env declares (definition_of (term_of_file file r) stream) good.spelled.body (body_bytes file good.spelled.body next) refl enough runs dummies body
         (subst (λ (o : Option (List ℕ)). SpellsForm (signatures env) (term_of_file file r).signature.params o (defined dummies body)) is spelled)

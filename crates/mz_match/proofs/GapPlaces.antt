@@ -1,5 +1,5 @@
 -- The places of gapped theorems, as the list of statements goes on.
-use Rattle.std.proofs.Common.{◌≡◌, ◌∙◌, ◌<◌, ◌≤◌, ◌+◌, ◌⊎◌, ℕ, Bool, true, false, cond, List, [], ◌∷◌, ◌++◌, length, refl, sym, ap, subst, inl, inr, arith, length-append, append_assoc, append-nil}
+use Rattle.std.proofs.Common.{◌≡◌, ◌∙◌, ◌<◌, ◌≤◌, ◌+◌, ℕ, Bool, true, false, List, [], ◌∷◌, ◌++◌, length, refl, sym, ap, subst, inl, inr, arith, length-append, append_assoc, append-nil}
 use Rattle.std.specs.Prelude.{◌↔◌, MatchBool, not, ◌&&◌, if◌then◌else◌}
 use Rattle.mz_logic.specs.Declaration.{Declaration, Assertion, sort_decl, term_decl, assertion_decl, assertions}
 use Rattle.mz_logic.specs.LegalLists.{Statement, declarations}
@@ -7,7 +7,7 @@ use Rattle.mz_logic.proofs.Extend.{assertions-append}
 use Rattle.mz_layout.specs.Tables.{list_at}
 use Rattle.mz_binary.specs.declared.statement.Statement.{Statement as Told}
 use Rattle.mz_binary.specs.Chains.{IsGoodStatement}
-use Rattle.mz_binary.specs.Gapped.{AssertionBody, body_of, bodies_of, IsGapped, GappedIn}
+use Rattle.mz_binary.specs.Gapped.{body_of, bodies_of, IsGapped, GappedIn}
 use Rattle.mz_binary.specs.Judging.{Passes}
 use Rattle.mz_binary.specs.Progress.{Progress}
 use Rattle.mz_binary.proofs.ChainLaws.{chain-declares}
@@ -24,6 +24,9 @@ use Rattle.mz_match.specs.Drafts.{IsGapOf, IsGapHere, ListsGaps, ListsGapsOf, Is
 use Rattle.mz_match.specs.Match.{publics}
 use Rattle.mz_match.specs.Told.{IsMatched}
 use Rattle.mz_match.specs.Verdict.{AcceptsBy, IsDifference, IsVerdictBy}
+use Rattle.mz_binary.specs.declared.standard.Standard.{Standard}
+use Rattle.mz_binary.specs.Standards.{lets_gaps}
+use Rattle.mz_binary.specs.Standards.{draft_standard}
 
 -- ---- one statement more at the end
 
@@ -100,18 +103,18 @@ no-body file at (sort_decl m) none = refl
 no-body file at (term_decl t) none = refl
 no-body file at (assertion_decl a) none = absurd (none a refl)
 
-module _ (p : Progress) (ds : List Declaration) (m : Matching) (ss : List Statement) (env : List Declaration) (after : Progress) (told : Told) (matched : IsMatched p ds m ss env) (passes : Passes p ss env after told) (mode : p.gaps ≡ true) where
+module _ (p : Progress) (ds : List Declaration) (m : Matching) (ss : List Statement) (env : List Declaration) (after : Progress) (told : Told) (matched : IsMatched p ds m ss env) (passes : Passes p ss env after told) (mode : lets_gaps p.standard ≡ true) where
   abbrev s : Statement
   s = passes.statement
 
   more : bodies_of p.file (ss ++ s ∷ []) ≡ bodies_of p.file ss ++ body_of p.file p.at s.decl
-  more = bodies-more p.gaps p.file [] (list_at p.file) ss env p.at matched.passed.statements s
+  more = bodies-more p.standard p.file [] (list_at p.file) ss env p.at matched.passed.statements s
 
   env-is : env ≡ declarations ss
-  env-is = chain-declares (IsGoodStatement p.gaps p.file) [] (list_at p.file) ss env p.at matched.passed.statements
+  env-is = chain-declares (IsGoodStatement p.standard p.file) [] (list_at p.file) ss env p.at matched.passed.statements
 
   row-is : length (assertions (declarations ss)) ≡ length (bodies_of p.file ss)
-  row-is = let many = bodies-many p.gaps p.file [] (list_at p.file) ss env p.at matched.passed.statements in let rows : length (assertions env) ≡ length (assertions (declarations ss)) = ap (λ e. length (assertions e)) env-is in omega (arith, many, rows)
+  row-is = let many = bodies-many p.standard p.file [] (list_at p.file) ss env p.at matched.passed.statements in let rows : length (assertions env) ≡ length (assertions (declarations ss)) = ap (λ e. length (assertions e)) env-is in omega (arith, many, rows)
 
   before-same : (T : ℕ) → T < length (bodies_of p.file ss) → GappedIn p.file ss T ↔ GappedIn p.file (ss ++ s ∷ []) T
   before-same T lt = (
@@ -139,36 +142,36 @@ module _ (p : Progress) (ds : List Declaration) (m : Matching) (ss : List Statem
 
 -- ---- answers
 
-pub judged-verdict : (gaps : Bool) (spec bin : List ℕ) (v : Verdict) (places : List ℕ) → IsJudged gaps spec bin v places → IsVerdictBy gaps spec bin v
-judged-verdict gaps spec bin (verdicts.Accepted counts) places (accepts, is, lists) = (accepts, is)
-judged-verdict gaps spec bin (verdicts.Spec refusal) places h = h
-judged-verdict gaps spec bin (verdicts.Binary refusal) places h = h
-judged-verdict gaps spec bin (verdicts.Match declaration statement rule) places h = h
-judged-verdict gaps spec bin verdicts.Mem places h = tt
+pub judged-verdict : (standard : Standard) (spec bin : List ℕ) (v : Verdict) (places : List ℕ) → IsJudged standard spec bin v places → IsVerdictBy standard spec bin v
+judged-verdict standard spec bin (verdicts.Accepted counts) places (accepts, is, lists) = (accepts, is)
+judged-verdict standard spec bin (verdicts.Spec refusal) places h = h
+judged-verdict standard spec bin (verdicts.Binary refusal) places h = h
+judged-verdict standard spec bin (verdicts.Match declaration statement rule) places h = h
+judged-verdict standard spec bin verdicts.Mem places h = tt
 
 -- a difference, whatever the places
-pub stop-judged : (gaps : Bool) (spec bin : List ℕ) (v : Verdict) (places : List ℕ) → IsDifference v → IsVerdictBy gaps spec bin v → IsJudged gaps spec bin v places
-stop-judged gaps spec bin (verdicts.Accepted counts) places other h = absurd other
-stop-judged gaps spec bin (verdicts.Spec refusal) places other h = absurd other
-stop-judged gaps spec bin (verdicts.Binary refusal) places other h = absurd other
-stop-judged gaps spec bin (verdicts.Match declaration statement rule) places other h = h
-stop-judged gaps spec bin verdicts.Mem places other h = tt
+pub stop-judged : (standard : Standard) (spec bin : List ℕ) (v : Verdict) (places : List ℕ) → IsDifference v → IsVerdictBy standard spec bin v → IsJudged standard spec bin v places
+stop-judged standard spec bin (verdicts.Accepted counts) places other h = absurd other
+stop-judged standard spec bin (verdicts.Spec refusal) places other h = absurd other
+stop-judged standard spec bin (verdicts.Binary refusal) places other h = absurd other
+stop-judged standard spec bin (verdicts.Match declaration statement rule) places other h = h
+stop-judged standard spec bin verdicts.Mem places other h = tt
 
-pub draft-verdict : (spec bin : List ℕ) (d : Draft) → IsDraft spec bin d → IsVerdictBy true spec bin (verdict_of d)
+pub draft-verdict : (spec bin : List ℕ) (d : Draft) → IsDraft spec bin d → IsVerdictBy draft_standard spec bin (verdict_of d)
 draft-verdict spec bin (drafts.Accepted counts gaps) (accepts, is, lists) = (accepts, is)
 draft-verdict spec bin (drafts.Spec refusal) h = h
 draft-verdict spec bin (drafts.Binary refusal) h = h
 draft-verdict spec bin (drafts.Match declaration statement rule) h = h
 draft-verdict spec bin drafts.Mem h = tt
 
-accepted-draft : (spec bin : List ℕ) → AcceptsBy true spec bin → IsDraftSound spec bin
+accepted-draft : (spec bin : List ℕ) → AcceptsBy draft_standard spec bin → IsDraftSound spec bin
 accepted-draft spec bin a = record {
   declared = a.declared;
   statements = a.statements;
   is_spec = a.is_spec;
-  spelled = good-spelled true bin a.statements a.is_good;
-  legal = good-legal true bin a.statements a.is_good;
-  free = ungapped-free true bin a.statements a.is_good;
+  spelled = good-spelled draft_standard bin a.statements a.is_good;
+  legal = good-legal draft_standard bin a.statements a.is_good;
+  free = ungapped-free draft_standard bin a.statements a.is_good;
   agrees = a.agrees;
 }
 

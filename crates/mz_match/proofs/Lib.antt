@@ -8,6 +8,7 @@ pub mod OwnBodies
 mod Renaming
 mod Compared
 mod Steps
+mod KeptMarks
 pub mod Lists
 pub mod RowPairs
 pub mod Spelled

@@ -1,5 +1,5 @@
 -- Two files have one verdict at most.
-use Rattle.std.proofs.Common.{◌≡◌, ◌⊎◌, ◌+◌, ◌∙◌, ℕ, Bool, false, List, [], ◌∷◌, ◌++◌, length, Ok, refl, sym, ap, subst, inl, inr}
+use Rattle.std.proofs.Common.{◌≡◌, ◌⊎◌, ◌+◌, ◌∙◌, ℕ, false, List, [], ◌∷◌, ◌++◌, length, Ok, refl, sym, ap, subst, inl, inr}
 use Rattle.mz_checks.specs.Checks.{AllHold, FailsFirst}
 use Rattle.mz_checks.proofs.CheckLaws.{all_hold-excludes, fails_first-unique}
 use Rattle.mz_cmd.specs.declared.rule.K.{K}
@@ -23,8 +23,10 @@ use Rattle.mz_match.specs.declared.verdict.Verdict.TheVariants as verdicts
 use Rattle.mz_match.specs.Match.{partner_of, publics_after, publics, match_checks, Agrees, Leaves, partner_checks, end_checks}
 use Rattle.mz_match.specs.Verdict.{counts_of, AcceptsBy, AcceptsWith, AcceptsWithBy, BinaryFails, Differs, MatchFails, FirstRefusal, FirstRefusalBy, IsVerdictBy}
 use Rattle.mz_match.proofs.Lists.{append-nil, publics-append, publics-public, left-same, left-next}
+use Rattle.mz_binary.specs.declared.standard.Standard.{Standard}
+use Rattle.mz_binary.specs.Standards.{strict_standard}
 
-module _ (gaps : Bool) where
+module _ (standard : Standard) where
   -- ---- two chains from one place
 
   pub record AreSame (ss ts : List Statement) (env env' : List Declaration) (to to' : ℕ) : Type 0 where
@@ -38,7 +40,7 @@ module _ (gaps : Bool) where
     pub next : ℕ
     pub more : List Statement
     pub longer : ts ≡ ss ++ statement ∷ more
-    pub good : IsGoodStatement gaps file env to statement next
+    pub good : IsGoodStatement standard file env to statement next
 
   abbrev pub Compared : List ℕ → List Statement → List Statement → List Declaration → List Declaration → ℕ → ℕ → Type 0
   Compared file ss ts env env' to to' = AreSame ss ts env env' to to' ⊎ (GoesOn file ss ts env to ⊎ GoesOn file ts ss env' to')
@@ -52,7 +54,7 @@ module _ (gaps : Bool) where
       inr (inr (record { statement = on.statement; next = on.next; more = on.more; longer = ap (λ xs. s ∷ xs) on.longer ∙ ap (λ x. x ∷ (ts ++ on.statement ∷ on.more)) e; good = on.good }))
 
   compare : (file : List ℕ) (start : List Declaration) (from : ℕ) (ss ts : List Statement) (env env' : List Declaration) (to to' : ℕ)
-      → GoodTo gaps file start from ss env to → GoodTo gaps file start from ts env' to' → Compared file ss ts env env' to to'
+      → GoodTo standard file start from ss env to → GoodTo standard file start from ts env' to' → Compared file ss ts env env' to to'
   compare file start from [] [] env env' to to' a b = inl (record { statements = refl; declared = a.0 ∙ sym b.0; place = a.1 ∙ sym b.1 })
   compare file start from [] (t ∷ ts) env env' to to' a b =
       inr (inl (record {
@@ -60,7 +62,7 @@ module _ (gaps : Bool) where
         next = b.0;
         more = ts;
         longer = refl;
-        good = subst (λ e. IsGoodStatement gaps file e to t b.0) (sym a.0) (subst (λ at. IsGoodStatement gaps file start at t b.0) (sym a.1) b.1);
+        good = subst (λ e. IsGoodStatement standard file e to t b.0) (sym a.0) (subst (λ at. IsGoodStatement standard file start at t b.0) (sym a.1) b.1);
       }))
   compare file start from (s ∷ ss) [] env env' to to' a b =
       inr (inr (record {
@@ -68,21 +70,21 @@ module _ (gaps : Bool) where
         next = a.0;
         more = ss;
         longer = refl;
-        good = subst (λ e. IsGoodStatement gaps file e to' s a.0) (sym b.0) (subst (λ at. IsGoodStatement gaps file start at s a.0) (sym b.1) a.1);
+        good = subst (λ e. IsGoodStatement standard file e to' s a.0) (sym b.0) (subst (λ at. IsGoodStatement standard file start at s a.0) (sym b.1) a.1);
       }))
   compare file start from (s ∷ ss) (t ∷ ts) env env' to to' a b =
-      let first = one-good gaps file start from s t a.0 b.0 a.1 b.1 in
+      let first = one-good standard file start from s t a.0 b.0 a.1 b.1 in
       more-same file s t ss ts env env' to to' first.0
       (compare file (start ++ s.decl ∷ []) a.0 ss ts env env' to to' a.2
-      (subst (λ next. GoodTo gaps file (start ++ s.decl ∷ []) next ts env' to') (sym first.1) (subst (λ x. GoodTo gaps file (start ++ x.decl ∷ []) b.0 ts env' to') (sym first.0) b.2)))
+      (subst (λ next. GoodTo standard file (start ++ s.decl ∷ []) next ts env' to') (sym first.1) (subst (λ x. GoodTo standard file (start ++ x.decl ∷ []) b.0 ts env' to') (sym first.0) b.2)))
 
   -- ---- why the list stops there
 
   abbrev pub Stop : List ℕ → List Declaration → List Statement → List Declaration → ℕ → List Declaration → ℕ → ℕ → Verdict → Type 0
-  Stop bin ds before env at left n k (verdicts.Accepted counts) = EndsAt gaps bin env at × (left ≡ []) × (counts ≡ counts_of ds)
+  Stop bin ds before env at left n k (verdicts.Accepted counts) = EndsAt standard bin env at × (left ≡ []) × (counts ≡ counts_of ds)
   Stop bin ds before env at left n k (verdicts.Spec refusal) = ⊥
-  Stop bin ds before env at left n k (verdicts.Binary refusal) = (refusal.statement ≡ n) × FailsFirst (list_checks gaps bin env at) (refusal.at, refusal.rule)
-  Stop bin ds before env at left n k (verdicts.Match declaration statement rule) = (declaration ≡ k) × (statement ≡ n) × Differs gaps bin before env at left rule
+  Stop bin ds before env at left n k (verdicts.Binary refusal) = (refusal.statement ≡ n) × FailsFirst (list_checks standard bin env at) (refusal.at, refusal.rule)
+  Stop bin ds before env at left n k (verdicts.Match declaration statement rule) = (declaration ≡ k) × (statement ≡ n) × Differs standard bin before env at left rule
   Stop bin ds before env at left n k verdicts.Mem = ⊥
 
   -- good statements that agree, and why they stop
@@ -92,11 +94,11 @@ module _ (gaps : Bool) where
     pub at : ℕ
     pub left : List Declaration
     pub layout : Layout bin
-    pub statements : GoodTo gaps bin [] (list_at bin) before env at
+    pub statements : GoodTo standard bin [] (list_at bin) before env at
     pub leaves : Leaves ds before left
     pub stop : Stop bin ds before env at left (length before + 1) (length (publics before) + 1) v
 
-  no-end : (bin : List ℕ) (env : List Declaration) (at : ℕ) (s : Statement) (next : ℕ) → IsGoodStatement gaps bin env at s next → EndsAt gaps bin env at → ⊥
+  no-end : (bin : List ℕ) (env : List Declaration) (at : ℕ) (s : Statement) (next : ℕ) → IsGoodStatement standard bin env at s next → EndsAt standard bin env at → ⊥
   no-end bin env at s next good ends =
       let both : Ok (Head good.spelled.code good.spelled.body next) ≡ Ok End = sym good.spelled.stands ∙ ends.ends in cc
 
@@ -112,13 +114,13 @@ module _ (gaps : Bool) where
 
   -- nothing stops where a good statement that agrees comes next
   stop-goes : (bin : List ℕ) (ds : List Declaration) (before : List Statement) (env : List Declaration) (at : ℕ) (left : List Declaration) (n k : ℕ) (v : Verdict) (s : Statement) (next : ℕ)
-      → Stop bin ds before env at left n k v → IsGoodStatement gaps bin env at s next → AgreesNext before left s → ⊥
+      → Stop bin ds before env at left n k v → IsGoodStatement standard bin env at s next → AgreesNext before left s → ⊥
   stop-goes bin ds before env at left n k (verdicts.Accepted counts) s next stop good agrees = no-end bin env at s next good stop.0
   stop-goes bin ds before env at left n k (verdicts.Spec refusal) s next stop good agrees = stop
-  stop-goes bin ds before env at left n k (verdicts.Binary refusal) s next stop good agrees = all_hold-excludes (list_checks gaps bin env at) (refusal.at, refusal.rule) good.passes stop.1
+  stop-goes bin ds before env at left n k (verdicts.Binary refusal) s next stop good agrees = all_hold-excludes (list_checks standard bin env at) (refusal.at, refusal.rule) good.passes stop.1
   stop-goes bin ds before env at left n k (verdicts.Match declaration statement rule) s next (_, _, inl (ends, _)) good agrees = no-end bin env at s next good ends
   stop-goes bin ds before env at left n k (verdicts.Match declaration statement rule) s next (_, _, inr (t, after, there, is_public, fails)) good agrees =
-      partner-agrees before left s t rule (one-good gaps bin env at s t next after good there).0 is_public agrees fails
+      partner-agrees before left s t rule (one-good standard bin env at s t next after good there).0 is_public agrees fails
   stop-goes bin ds before env at left n k verdicts.Mem s next stop good agrees = stop
 
   -- ---- one reason at one place
@@ -130,34 +132,34 @@ module _ (gaps : Bool) where
   same-refusal r s n p =
       ap (λ x. record { statement = x; at = r.at; rule = r.rule }) n ∙ ap (λ (x : ℕ × K). record { statement = s.statement; at = x.0; rule = x.1 }) p
 
-  rule-one : (bin : List ℕ) (before : List Statement) (env : List Declaration) (at : ℕ) (left : List Declaration) (r q : M) → Differs gaps bin before env at left r → Differs gaps bin before env at left q → r ≡ q
+  rule-one : (bin : List ℕ) (before : List Statement) (env : List Declaration) (at : ℕ) (left : List Declaration) (r q : M) → Differs standard bin before env at left r → Differs standard bin before env at left q → r ≡ q
   rule-one bin before env at left r q (inl (_, f)) (inl (_, g)) = fails_first-unique (end_checks left) r q f g
   rule-one bin before env at left r q (inl (ends, _)) (inr (t, next, good, _, _)) = absurd (no-end bin env at t next good ends)
   rule-one bin before env at left r q (inr (s, next, good, _, _)) (inl (ends, _)) = absurd (no-end bin env at s next good ends)
   rule-one bin before env at left r q (inr (s, next, good, _, f)) (inr (t, after, there, _, g)) =
-      let same = one-good gaps bin env at s t next after good there in
+      let same = one-good standard bin env at s t next after good there in
       fails_first-unique (partner_checks left (partner_of before s)) r q f (subst (λ x. FailsFirst (partner_checks left (partner_of before x)) q) (sym same.0) g)
 
   -- nothing differs at a good end without declarations left, nor where a rule of the binary fails
-  differs-ends : (bin : List ℕ) (before : List Statement) (env : List Declaration) (at : ℕ) (left : List Declaration) (r : M) → Differs gaps bin before env at left r → EndsAt gaps bin env at → left ≡ [] → ⊥
+  differs-ends : (bin : List ℕ) (before : List Statement) (env : List Declaration) (at : ℕ) (left : List Declaration) (r : M) → Differs standard bin before env at left r → EndsAt standard bin env at → left ≡ [] → ⊥
   differs-ends bin before env at left r (inl (_, f)) ends none = all_hold-excludes (end_checks left) r (none, tt) f
   differs-ends bin before env at left r (inr (s, next, good, _, _)) ends none = no-end bin env at s next good ends
 
-  differs-fails : (bin : List ℕ) (before : List Statement) (env : List Declaration) (at : ℕ) (left : List Declaration) (r : M) (f : ℕ × K) → Differs gaps bin before env at left r → FailsFirst (list_checks gaps bin env at) f → ⊥
-  differs-fails bin before env at left r f (inl (ends, _)) fails = all_hold-excludes (list_checks gaps bin env at) f ends.passes fails
-  differs-fails bin before env at left r f (inr (s, next, good, _, _)) fails = all_hold-excludes (list_checks gaps bin env at) f good.passes fails
+  differs-fails : (bin : List ℕ) (before : List Statement) (env : List Declaration) (at : ℕ) (left : List Declaration) (r : M) (f : ℕ × K) → Differs standard bin before env at left r → FailsFirst (list_checks standard bin env at) f → ⊥
+  differs-fails bin before env at left r f (inl (ends, _)) fails = all_hold-excludes (list_checks standard bin env at) f ends.passes fails
+  differs-fails bin before env at left r f (inr (s, next, good, _, _)) fails = all_hold-excludes (list_checks standard bin env at) f good.passes fails
 
   stop-one : (bin : List ℕ) (ds : List Declaration) (before : List Statement) (env : List Declaration) (at : ℕ) (left : List Declaration) (n k : ℕ) (v w : Verdict) → Stop bin ds before env at left n k v → Stop bin ds before env at left n k w → v ≡ w
   stop-one bin ds before env at left n k (verdicts.Accepted c) (verdicts.Accepted e) a b = ap verdicts.Accepted (a.2 ∙ sym b.2)
   stop-one bin ds before env at left n k (verdicts.Accepted c) (verdicts.Spec r) a b = absurd b
-  stop-one bin ds before env at left n k (verdicts.Accepted c) (verdicts.Binary r) a b = absurd (all_hold-excludes (list_checks gaps bin env at) (r.at, r.rule) a.0.passes b.1)
+  stop-one bin ds before env at left n k (verdicts.Accepted c) (verdicts.Binary r) a b = absurd (all_hold-excludes (list_checks standard bin env at) (r.at, r.rule) a.0.passes b.1)
   stop-one bin ds before env at left n k (verdicts.Accepted c) (verdicts.Match d s r) a b = absurd (differs-ends bin before env at left r b.2 a.0 a.1)
   stop-one bin ds before env at left n k (verdicts.Accepted c) verdicts.Mem a b = absurd b
   stop-one bin ds before env at left n k (verdicts.Spec r) w a b = absurd a
-  stop-one bin ds before env at left n k (verdicts.Binary r) (verdicts.Accepted c) a b = absurd (all_hold-excludes (list_checks gaps bin env at) (r.at, r.rule) b.0.passes a.1)
+  stop-one bin ds before env at left n k (verdicts.Binary r) (verdicts.Accepted c) a b = absurd (all_hold-excludes (list_checks standard bin env at) (r.at, r.rule) b.0.passes a.1)
   stop-one bin ds before env at left n k (verdicts.Binary r) (verdicts.Spec q) a b = absurd b
   stop-one bin ds before env at left n k (verdicts.Binary r) (verdicts.Binary q) a b =
-      ap verdicts.Binary (same-refusal r q (a.0 ∙ sym b.0) (fails_first-unique (list_checks gaps bin env at) (r.at, r.rule) (q.at, q.rule) a.1 b.1))
+      ap verdicts.Binary (same-refusal r q (a.0 ∙ sym b.0) (fails_first-unique (list_checks standard bin env at) (r.at, r.rule) (q.at, q.rule) a.1 b.1))
   stop-one bin ds before env at left n k (verdicts.Binary r) (verdicts.Match d s q) a b = absurd (differs-fails bin before env at left q (r.at, r.rule) b.2 a.1)
   stop-one bin ds before env at left n k (verdicts.Binary r) verdicts.Mem a b = absurd b
   stop-one bin ds before env at left n k (verdicts.Match d s r) (verdicts.Accepted c) a b = absurd (differs-ends bin before env at left r a.2 b.0 b.1)
@@ -202,7 +204,7 @@ module _ (gaps : Bool) where
   decided-one bin ds v w (inr a) (inl (q, too, nor, failing)) = absurd (all_hold-excludes (layout_checks bin) (q.at, q.rule) a.layout failing)
   decided-one bin ds v w (inr a) (inr b) = stops-one bin ds v w a b
 
-  accepted-decides : (bin : List ℕ) (spec : List ℕ) (counts : Counts) (a : AcceptsBy gaps spec bin) → counts ≡ counts_of a.declared → Decided bin a.declared (verdicts.Accepted counts)
+  accepted-decides : (bin : List ℕ) (spec : List ℕ) (counts : Counts) (a : AcceptsBy standard spec bin) → counts ≡ counts_of a.declared → Decided bin a.declared (verdicts.Accepted counts)
   accepted-decides bin spec counts a is = inr (record {
     before = a.statements;
     env = a.is_good.env;
@@ -214,7 +216,7 @@ module _ (gaps : Bool) where
     stop = (a.is_good.ends, refl, is);
   })
 
-  binary-decides : (bin : List ℕ) (ds : List Declaration) (r : Refusal) → BinaryFails gaps bin ds r → Decided bin ds (verdicts.Binary r)
+  binary-decides : (bin : List ℕ) (ds : List Declaration) (r : Refusal) → BinaryFails standard bin ds r → Decided bin ds (verdicts.Binary r)
   binary-decides bin ds r (inl f) = inl (r, refl, f.0, f.1)
   binary-decides bin ds r (inr (ss, env, at, left, fails, leaves)) = inr (record {
     before = ss;
@@ -227,7 +229,7 @@ module _ (gaps : Bool) where
     stop = (fails.number, fails.fails);
   })
 
-  match-decides : (bin : List ℕ) (ds : List Declaration) (d s : ℕ) (rule : M) → MatchFails gaps bin ds d s rule → Decided bin ds (verdicts.Match d s rule)
+  match-decides : (bin : List ℕ) (ds : List Declaration) (d s : ℕ) (rule : M) → MatchFails standard bin ds d s rule → Decided bin ds (verdicts.Match d s rule)
   match-decides bin ds d s rule f = inr (record {
     before = f.before;
     env = f.env;
@@ -243,10 +245,10 @@ module _ (gaps : Bool) where
 
   -- it is accepted, or this is the first refusal
   abbrev pub Says : List ℕ → List ℕ → Verdict → Type 0
-  Says spec bin (verdicts.Accepted counts) = AcceptsWithBy gaps spec bin counts
-  Says spec bin (verdicts.Spec refusal) = FirstRefusalBy gaps spec bin (verdicts.Spec refusal)
-  Says spec bin (verdicts.Binary refusal) = FirstRefusalBy gaps spec bin (verdicts.Binary refusal)
-  Says spec bin (verdicts.Match declaration statement rule) = FirstRefusalBy gaps spec bin (verdicts.Match declaration statement rule)
+  Says spec bin (verdicts.Accepted counts) = AcceptsWithBy standard spec bin counts
+  Says spec bin (verdicts.Spec refusal) = FirstRefusalBy standard spec bin (verdicts.Spec refusal)
+  Says spec bin (verdicts.Binary refusal) = FirstRefusalBy standard spec bin (verdicts.Binary refusal)
+  Says spec bin (verdicts.Match declaration statement rule) = FirstRefusalBy standard spec bin (verdicts.Match declaration statement rule)
   Says spec bin verdicts.Mem = ⊥
 
   -- the specification's fault, or its declarations and what they decide
@@ -274,7 +276,7 @@ module _ (gaps : Bool) where
   says-one spec bin v w a b = split-one spec bin v w (split spec bin v a) (split spec bin w b)
 
   -- a verdict is the one that the files say, or want of memory
-  pub verdict-says : (spec bin : List ℕ) (v w : Verdict) → IsVerdictBy gaps spec bin v → Says spec bin w → (v ≡ w) ⊎ (v ≡ verdicts.Mem)
+  pub verdict-says : (spec bin : List ℕ) (v w : Verdict) → IsVerdictBy standard spec bin v → Says spec bin w → (v ≡ w) ⊎ (v ≡ verdicts.Mem)
   verdict-says spec bin (verdicts.Accepted counts) w is says = inl (says-one spec bin (verdicts.Accepted counts) w is says)
   verdict-says spec bin (verdicts.Spec refusal) w is says = inl (says-one spec bin (verdicts.Spec refusal) w is says)
   verdict-says spec bin (verdicts.Binary refusal) w is says = inl (says-one spec bin (verdicts.Binary refusal) w is says)
@@ -282,7 +284,7 @@ module _ (gaps : Bool) where
   verdict-says spec bin verdicts.Mem w is says = inr refl
 
   -- a first refusal is said
-  pub refusal-says : (spec bin : List ℕ) (v : Verdict) → FirstRefusalBy gaps spec bin v → Says spec bin v
+  pub refusal-says : (spec bin : List ℕ) (v : Verdict) → FirstRefusalBy standard spec bin v → Says spec bin v
   refusal-says spec bin (verdicts.Accepted counts) first = absurd first
   refusal-says spec bin (verdicts.Spec refusal) first = first
   refusal-says spec bin (verdicts.Binary refusal) first = first
@@ -290,18 +292,18 @@ module _ (gaps : Bool) where
   refusal-says spec bin verdicts.Mem first = first
 
   -- nothing is accepted and refused
-  pub excludes : (spec bin : List ℕ) (counts : Counts) (v : Verdict) → AcceptsWithBy gaps spec bin counts → FirstRefusalBy gaps spec bin v → ⊥
+  pub excludes : (spec bin : List ℕ) (counts : Counts) (v : Verdict) → AcceptsWithBy standard spec bin counts → FirstRefusalBy standard spec bin v → ⊥
   excludes spec bin counts v accepts first =
       let same : v ≡ verdicts.Accepted counts = says-one spec bin v (verdicts.Accepted counts) (refusal-says spec bin v first) accepts in
-      subst (FirstRefusalBy gaps spec bin) same first
+      subst (FirstRefusalBy standard spec bin) same first
 
-  pub counts-one : (spec bin : List ℕ) (counts other : Counts) → AcceptsWithBy gaps spec bin counts → AcceptsWithBy gaps spec bin other → counts ≡ other
+  pub counts-one : (spec bin : List ℕ) (counts other : Counts) → AcceptsWithBy standard spec bin counts → AcceptsWithBy standard spec bin other → counts ≡ other
   counts-one spec bin counts other a b =
       let same : verdicts.Accepted counts ≡ verdicts.Accepted other = says-one spec bin (verdicts.Accepted counts) (verdicts.Accepted other) a b in cc
 
-  pub refusal-one : (spec bin : List ℕ) (v w : Verdict) → FirstRefusalBy gaps spec bin v → FirstRefusalBy gaps spec bin w → v ≡ w
+  pub refusal-one : (spec bin : List ℕ) (v w : Verdict) → FirstRefusalBy standard spec bin v → FirstRefusalBy standard spec bin w → v ≡ w
   refusal-one spec bin v w a b = says-one spec bin v w (refusal-says spec bin v a) (refusal-says spec bin w b)
 
 -- without gaps
 pub accepted-excludes : (spec bin : List ℕ) (counts : Counts) (v : Verdict) → AcceptsWith spec bin counts → FirstRefusal spec bin v → ⊥
-accepted-excludes spec bin counts v accepts first = excludes false spec bin counts v accepts first
+accepted-excludes spec bin counts v accepts first = excludes strict_standard spec bin counts v accepts first

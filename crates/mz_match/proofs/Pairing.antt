@@ -34,6 +34,9 @@ use Rattle.mz_match.specs.Told.{IsTold, IsMatched}
 use Rattle.mz_match.specs.Verdict.{Accepts, IsDifference, IsSound, TicksBy, counts_of, IsSoundIfAccepted, IsVerdict, IsVerdictBy}
 use Rattle.mz_match.proofs.ProvingTheorems.{theorems-proved}
 use Rattle.mz_match.proofs.Lists.{append-nil, publics-append, publics-local, publics-public, term_rows-append, drop-further, drop-past, kinds-total, length-declarations, length-env, leaves-nothing, leaves-local, leaves-public, partner-there}
+use Rattle.mz_binary.specs.declared.standard.Standard.{Standard}
+use Rattle.mz_binary.specs.Standards.{lets_gaps}
+use Rattle.mz_binary.specs.Standards.{strict_standard}
 
 abbrev assertion_code : Bool → ℕ
 assertion_code b = if b then 0x02 else 0x06
@@ -67,12 +70,12 @@ matched-nothing p ds m layout passed none no_statements no_rows = record {
 
 -- what is told is the next statement
 pub told-next : (p : Progress) (ds : List Declaration) (m : Matching) (ss : List Statement) (env : List Declaration) (after : Progress) (told : Told)
-    → IsMatched p ds m ss env → (passes : Passes p ss env after told) → IsTold p.gaps p.file m.publics told ss env passes.statement after.at
+    → IsMatched p ds m ss env → (passes : Passes p ss env after told) → IsTold p.standard p.file m.publics told ss env passes.statement after.at
 told-next p ds m ss env after told matched passes =
     let here : p.at ≡ told.at = sym passes.tells.place in
     record {
-      before = subst (λ at. GoodTo p.gaps p.file [] (list_at p.file) ss env at) here matched.passed.statements;
-      good = subst (λ at. IsGoodStatement p.gaps p.file env at passes.statement after.at) here passes.good;
+      before = subst (λ at. GoodTo p.standard p.file [] (list_at p.file) ss env at) here matched.passed.statements;
+      good = subst (λ at. IsGoodStatement p.standard p.file env at passes.statement after.at) here passes.good;
       tells = subst (λ at. Tells told (length ss + 1) at env passes.statement) here passes.tells;
       rows_are = matched.rows_are;
     }
@@ -90,7 +93,7 @@ module _ (p : Progress) (ds : List Declaration) (m : Matching) (ss : List Statem
 
   -- the rows that were taken before
   taken : length (terms (declarations ss)) ≡ length (terms env)
-  taken = ap (λ ds. length (terms ds)) (sym (chain-declares (IsGoodStatement p.gaps p.file) [] (list_at p.file) ss env p.at matched.passed.statements))
+  taken = ap (λ ds. length (terms ds)) (sym (chain-declares (IsGoodStatement p.standard p.file) [] (list_at p.file) ss env p.at matched.passed.statements))
 
   rows-more : term_rows 0 (ss ++ s ∷ []) ≡ m.publics ++ term_rows (length (terms env)) (s ∷ [])
   rows-more =
@@ -152,7 +155,7 @@ done-fewer p ds m ss env after told matched passes = omega (arith, matched.done_
 -- a public statement differs
 pub differs-here : (text : List ℕ) (es : List Entry) (p : Progress) (m : Matching) (ss : List Statement) (env : List Declaration) (after : Progress) (told : Told) (rule : M)
     → SpecMakes text es → IsMatched p (env_of es) m ss env → (passes : Passes p ss env after told) → told.local ≡ false → FailsFirst (partner_checks (drop m.done (env_of es)) (partner_of ss passes.statement)) rule
-    → IsVerdictBy p.gaps text p.file (verdicts.Match (m.done + 1) told.number rule)
+    → IsVerdictBy p.standard text p.file (verdicts.Match (m.done + 1) told.number rule)
 differs-here text es p m ss env after told rule makes matched passes is_public fails = (
   env_of es,
   (es, makes, refl),
@@ -172,13 +175,13 @@ differs-here text es p m ss env after told rule makes matched passes is_public f
 
 -- a rule of the binary fails
 pub fails-here : (text : List ℕ) (es : List Entry) (p : Progress) (m : Matching) (ss : List Statement) (env : List Declaration) (r : Refusal)
-    → SpecMakes text es → IsMatched p (env_of es) m ss env → FailsAfter p.gaps p.file ss env p.at r → IsVerdictBy p.gaps text p.file (verdicts.Binary r)
+    → SpecMakes text es → IsMatched p (env_of es) m ss env → FailsAfter p.standard p.file ss env p.at r → IsVerdictBy p.standard text p.file (verdicts.Binary r)
 fails-here text es p m ss env r makes matched fails =
     (env_of es, (es, makes, refl), inr (ss, env, p.at, drop m.done (env_of es), fails, matched.leaves))
 
 -- a declaration is left
 pub missing-here : (text : List ℕ) (es : List Entry) (p : Progress) (m : Matching) (ss : List Statement) (env : List Declaration)
-    → SpecMakes text es → IsMatched p (env_of es) m ss env → Good p.gaps p.file ss → m.done < length es → IsVerdictBy p.gaps text p.file (verdicts.Match (m.done + 1) (m.passed + 1) rules.Missing)
+    → SpecMakes text es → IsMatched p (env_of es) m ss env → Good p.standard p.file ss → m.done < length es → IsVerdictBy p.standard text p.file (verdicts.Match (m.done + 1) (m.passed + 1) rules.Missing)
 missing-here text es p m ss env makes matched good short = (
   env_of es,
   (es, makes, refl),
@@ -203,20 +206,20 @@ missing-here text es p m ss env makes matched good short = (
 
 -- none is left
 pub accepted-here : (text : List ℕ) (es : List Entry) (p : Progress) (m : Matching) (ss : List Statement) (env : List Declaration) (places : List ℕ)
-    → SpecMakes text es → IsMatched p (env_of es) m ss env → Good p.gaps p.file ss → m.done ≡ length es → (p.gaps ≡ true → ListsGapsOf p.file ss places)
-    → IsJudged p.gaps text p.file (verdicts.Accepted (counts_of (env_of es))) places
+    → SpecMakes text es → IsMatched p (env_of es) m ss env → Good p.standard p.file ss → m.done ≡ length es → (lets_gaps p.standard ≡ true → ListsGapsOf p.file ss places)
+    → IsJudged p.standard text p.file (verdicts.Accepted (counts_of (env_of es))) places
 accepted-here text es p m ss env places makes matched good all lists =
     let none : drop m.done (env_of es) ≡ [] = drop-past (env_of es) m.done (omega (arith, length-env es, all)) in
     let done : env_of es ≡ matched.leaves.done = matched.leaves.all ∙ ap (λ xs. matched.leaves.done ++ xs) none ∙ append-nil matched.leaves.done in
     (record { declared = env_of es; statements = ss; is_spec = (es, makes, refl); is_good = good; agrees = subst (λ ds. Agrees ds (publics ss)) (sym done) matched.leaves.agrees }, refl, lists)
 
 -- the number of a good list's statements
-pub few-statements : (gaps : Bool) (file : List ℕ) (ss : List Statement) → length file < 2 ^ 32 → Good gaps file ss → length ss + 1 < 2 ^ 32
-few-statements gaps file ss small good =
+pub few-statements : (standard : Standard) (file : List ℕ) (ss : List Statement) → length file < 2 ^ 32 → Good standard file ss → length ss + 1 < 2 ^ 32
+few-statements standard file ss small good =
     let parts = parts-of_layout file good.layout in
-    let at_end : AllHold (checks_of gaps file (taken_by good.env) good.to (Ok End)) = subst (λ r. AllHold (checks_of gaps file (taken_by good.env) good.to r)) good.ends.ends good.ends.passes in
+    let at_end : AllHold (checks_of standard file (taken_by good.env) good.to (Ok End)) = subst (λ r. AllHold (checks_of standard file (taken_by good.env) good.to r)) good.ends.ends good.ends.passes in
     let taken : AllTaken file (taken_by good.env) = at_end.0 in
-    let declares : length good.env ≡ length (declarations ss) = ap length (chain-declares (IsGoodStatement gaps file) [] (list_at file) ss good.env good.to good.statements) in
+    let declares : length good.env ≡ length (declarations ss) = ap length (chain-declares (IsGoodStatement standard file) [] (list_at file) ss good.env good.to good.statements) in
     omega (arith, small, parts.few_sorts, parts.few_terms, parts.few_thms, taken.sorts_taken, taken.terms_taken, taken.thms_taken, declares, kinds-total good.env, length-declarations ss)
 
 -- what is accepted is sound
@@ -225,10 +228,10 @@ accepted-sound spec bin a = record {
   declared = a.declared;
   statements = a.statements;
   is_spec = a.is_spec;
-  spelled = good-spelled false bin a.statements a.is_good;
-  theorems = theorems-proved a.declared a.statements (good-legal false bin a.statements a.is_good) a.agrees;
-  legal = good-legal false bin a.statements a.is_good;
-  closed = legal_list_is_closed a.statements (good-legal false bin a.statements a.is_good);
+  spelled = good-spelled strict_standard bin a.statements a.is_good;
+  theorems = theorems-proved a.declared a.statements (good-legal strict_standard bin a.statements a.is_good) a.agrees;
+  legal = good-legal strict_standard bin a.statements a.is_good;
+  closed = legal_list_is_closed a.statements (good-legal strict_standard bin a.statements a.is_good);
   agrees = a.agrees;
 }
 
@@ -241,9 +244,9 @@ sound spec bin verdicts.Mem is = tt
 
 -- ---- steps
 
-pub stop-ticks : (gaps : Bool) (bin : List ℕ) (old new : ℕ) (v : Verdict) → IsDifference v → new ≤ old + file_steps gaps bin → TicksBy gaps bin old new v
-stop-ticks gaps bin old new (verdicts.Accepted counts) is few = absurd is
-stop-ticks gaps bin old new (verdicts.Spec refusal) is few = absurd is
-stop-ticks gaps bin old new (verdicts.Binary refusal) is few = absurd is
-stop-ticks gaps bin old new (verdicts.Match declaration statement rule) is few = few
-stop-ticks gaps bin old new verdicts.Mem is few = tt
+pub stop-ticks : (standard : Standard) (bin : List ℕ) (old new : ℕ) (v : Verdict) → IsDifference v → new ≤ old + file_steps standard bin → TicksBy standard bin old new v
+stop-ticks standard bin old new (verdicts.Accepted counts) is few = absurd is
+stop-ticks standard bin old new (verdicts.Spec refusal) is few = absurd is
+stop-ticks standard bin old new (verdicts.Binary refusal) is few = absurd is
+stop-ticks standard bin old new (verdicts.Match declaration statement rule) is few = few
+stop-ticks standard bin old new verdicts.Mem is few = tt

@@ -29,9 +29,10 @@ use Rattle.mz_match.specs.declared.verdict.Counts.{Counts}
 use Rattle.mz_match.specs.declared.verdict.Verdict.{Verdict}
 use Rattle.mz_match.specs.declared.verdict.Verdict.TheVariants as verdicts
 use Rattle.mz_match.specs.Match.{Partner, partner_of, publics, number_of, kind_of, form_checks, assertion_checks, part_checks, Agrees, Leaves, partner_checks}
-use Rattle.mz_match.specs.Verdict.{counts_of, AcceptsWith, MatchFails, FirstRefusal}
+use Rattle.mz_match.specs.Verdict.{counts_of, AcceptsWithBy, MatchFails, FirstRefusalBy}
 use Rattle.mz_match.proofs.SameDecided.{same-tree-decided, same-trees-decided, same-body-decided}
 use Rattle.mz_match.proofs.Lists.{append-nil, leaves-nothing, leaves-local, leaves-public, partner-there}
+use Rattle.mz_binary.specs.declared.standard.Standard.{Standard}
 
 -- ---- whether a declaration and its partner agree can be found out
 
@@ -119,109 +120,110 @@ partner-decided : (left : List Declaration) (p : Partner) → AreDecided (partne
 partner-decided [] p = (inr (λ h. h), λ _. tt)
 partner-decided (d ∷ left) p = (kind-decided (kind_of d) (kind_of p.decl), λ _. part-decided p.rows d p.decl)
 
--- ---- along good statements
+module _ (standard : Standard) where
+  -- ---- along good statements
 
--- their public ones agree with the first declarations, or one of them differs
-abbrev pub Walked : List ℕ → List Declaration → List Statement → Type 0
-Walked bin ds ss = ((left : List Declaration) × Leaves ds ss left) ⊎ ((d : ℕ) × (s : ℕ) × (rule : M) × MatchFails false bin ds d s rule)
+  -- their public ones agree with the first declarations, or one of them differs
+  abbrev pub Walked : List ℕ → List Declaration → List Statement → Type 0
+  Walked bin ds ss = ((left : List Declaration) × Leaves ds ss left) ⊎ ((d : ℕ) × (s : ℕ) × (rule : M) × MatchFails standard bin ds d s rule)
 
-module _ (bin : List ℕ) (layout : Layout bin) (ds : List Declaration) where
-  -- a statement is local or public
-  mark : (s : Statement) → (s.is_local ≡ true) ⊎ (s.is_local ≡ false)
-  mark s = by s.is_local
-    where
-      by : (b : Bool) → (b ≡ true) ⊎ (b ≡ false)
-      by true = inl refl
-      by false = inr refl
+  module _ (bin : List ℕ) (layout : Layout bin) (ds : List Declaration) where
+    -- a statement is local or public
+    mark : (s : Statement) → (s.is_local ≡ true) ⊎ (s.is_local ≡ false)
+    mark s = by s.is_local
+      where
+        by : (b : Bool) → (b ≡ true) ⊎ (b ≡ false)
+        by true = inl refl
+        by false = inr refl
 
-  walk : (before : List Statement) (env : List Declaration) (at : ℕ) (ss : List Statement) (env' : List Declaration) (to : ℕ) (left : List Declaration)
-      → GoodTo false bin [] (list_at bin) before env at → Leaves ds before left → GoodTo false bin env at ss env' to → Walked bin ds (before ++ ss)
-  walk before env at [] env' to left passed leaves chain = subst (Walked bin ds) (sym (append-nil before)) (inl (left, leaves))
-  walk before env at (s ∷ ss) env' to left passed leaves chain =
-      let go : (rest : List Declaration) → Leaves ds (before ++ s ∷ []) rest → Walked bin ds ((before ++ s ∷ []) ++ ss) = λ rest more.
-      walk (before ++ s ∷ []) (env ++ s.decl ∷ []) chain.0 ss env' to rest (chain-more (IsGoodStatement false bin) [] (list_at bin) before env at s chain.0 passed chain.1) more chain.2 in
-      subst (Walked bin ds) (append_assoc before (s ∷ []) ss) (elim (mark s) [
-        | inl is_local ↦ go left (leaves-local ds left before s is_local leaves)
-        | inr is_public ↦ elim (all_hold-or_fails (partner_checks left (partner_of before s)) (partner-decided left (partner_of before s))) [
-          | inl agrees ↦ (
-              let there = partner-there left (partner_of before s) agrees in
-              go there.1 (leaves-public ds there.1 there.0 before s is_public there.3 (subst (Leaves ds before) there.2 leaves)))
-          | inr fails ↦ inr (
-            length (publics before) + 1,
-            length before + 1,
-            fails.0,
-            record {
-              layout = layout;
-              before = before;
-              env = env;
-              at = at;
-              left = left;
-              statements = passed;
-              leaves = leaves;
-              declaration_is = refl;
-              statement_is = refl;
-              fails = inr (s, chain.0, chain.1, is_public, fails.1);
-            },
-          )
-        ]
-      ])
+    walk : (before : List Statement) (env : List Declaration) (at : ℕ) (ss : List Statement) (env' : List Declaration) (to : ℕ) (left : List Declaration)
+        → GoodTo standard bin [] (list_at bin) before env at → Leaves ds before left → GoodTo standard bin env at ss env' to → Walked bin ds (before ++ ss)
+    walk before env at [] env' to left passed leaves chain = subst (Walked bin ds) (sym (append-nil before)) (inl (left, leaves))
+    walk before env at (s ∷ ss) env' to left passed leaves chain =
+        let go : (rest : List Declaration) → Leaves ds (before ++ s ∷ []) rest → Walked bin ds ((before ++ s ∷ []) ++ ss) = λ rest more.
+        walk (before ++ s ∷ []) (env ++ s.decl ∷ []) chain.0 ss env' to rest (chain-more (IsGoodStatement standard bin) [] (list_at bin) before env at s chain.0 passed chain.1) more chain.2 in
+        subst (Walked bin ds) (append_assoc before (s ∷ []) ss) (elim (mark s) [
+          | inl is_local ↦ go left (leaves-local ds left before s is_local leaves)
+          | inr is_public ↦ elim (all_hold-or_fails (partner_checks left (partner_of before s)) (partner-decided left (partner_of before s))) [
+            | inl agrees ↦ (
+                let there = partner-there left (partner_of before s) agrees in
+                go there.1 (leaves-public ds there.1 there.0 before s is_public there.3 (subst (Leaves ds before) there.2 leaves)))
+            | inr fails ↦ inr (
+              length (publics before) + 1,
+              length before + 1,
+              fails.0,
+              record {
+                layout = layout;
+                before = before;
+                env = env;
+                at = at;
+                left = left;
+                statements = passed;
+                leaves = leaves;
+                declaration_is = refl;
+                statement_is = refl;
+                fails = inr (s, chain.0, chain.1, is_public, fails.1);
+              },
+            )
+          ]
+        ])
 
-  pub walked : (ss : List Statement) (env : List Declaration) (to : ℕ) → GoodTo false bin [] (list_at bin) ss env to → Walked bin ds ss
-  walked ss env to chain = walk [] [] (list_at bin) ss env to ds (refl, refl) (leaves-nothing ds) chain
+    pub walked : (ss : List Statement) (env : List Declaration) (to : ℕ) → GoodTo standard bin [] (list_at bin) ss env to → Walked bin ds ss
+    walked ss env to chain = walk [] [] (list_at bin) ss env to ds (refl, refl) (leaves-nothing ds) chain
 
--- ---- either
+  -- ---- either
 
-abbrev pub Either : List ℕ → List ℕ → Type 0
-Either spec bin = ((counts : Counts) × AcceptsWith spec bin counts) ⊎ ((verdict : Verdict) × FirstRefusal spec bin verdict)
+  abbrev pub Either : List ℕ → List ℕ → Type 0
+  Either spec bin = ((counts : Counts) × AcceptsWithBy standard spec bin counts) ⊎ ((verdict : Verdict) × FirstRefusalBy standard spec bin verdict)
 
-module _ (spec bin : List ℕ) (ds : List Declaration) (is_spec : SpecOf spec ds) where
-  differs : (d s : ℕ) (rule : M) → MatchFails false bin ds d s rule → Either spec bin
-  differs d s rule fails = inr (verdicts.Match d s rule, (ds, is_spec, fails))
+  module _ (spec bin : List ℕ) (ds : List Declaration) (is_spec : SpecOf spec ds) where
+    differs : (d s : ℕ) (rule : M) → MatchFails standard bin ds d s rule → Either spec bin
+    differs d s rule fails = inr (verdicts.Match d s rule, (ds, is_spec, fails))
 
-  -- at a good end
-  at-end : (ss : List Statement) (left : List Declaration) → Good false bin ss → Leaves ds ss left → Either spec bin
-  at-end ss [] good leaves = inl (
-    counts_of ds,
-    (
-      record {
-        declared = ds;
-        statements = ss;
-        is_spec = is_spec;
-        is_good = good;
-        agrees = subst (λ xs. Agrees xs (publics ss)) (sym (leaves.all ∙ append-nil leaves.done)) leaves.agrees;
-      },
-      refl,
-    ),
-  )
-  at-end ss (d ∷ left) good leaves = differs (length (publics ss) + 1) (length ss + 1) rules.Missing (record {
-    layout = good.layout;
-    before = ss;
-    env = good.env;
-    at = good.to;
-    left = d ∷ left;
-    statements = good.statements;
-    leaves = leaves;
-    declaration_is = refl;
-    statement_is = refl;
-    fails = inl (good.ends, inl (λ none. absurd cc, refl));
-  })
+    -- at a good end
+    at-end : (ss : List Statement) (left : List Declaration) → Good standard bin ss → Leaves ds ss left → Either spec bin
+    at-end ss [] good leaves = inl (
+      counts_of ds,
+      (
+        record {
+          declared = ds;
+          statements = ss;
+          is_spec = is_spec;
+          is_good = good;
+          agrees = subst (λ xs. Agrees xs (publics ss)) (sym (leaves.all ∙ append-nil leaves.done)) leaves.agrees;
+        },
+        refl,
+      ),
+    )
+    at-end ss (d ∷ left) good leaves = differs (length (publics ss) + 1) (length ss + 1) rules.Missing (record {
+      layout = good.layout;
+      before = ss;
+      env = good.env;
+      at = good.to;
+      left = d ∷ left;
+      statements = good.statements;
+      leaves = leaves;
+      declaration_is = refl;
+      statement_is = refl;
+      fails = inl (good.ends, inl (λ none. absurd cc, refl));
+    })
 
-  over-good : (ss : List Statement) → Good false bin ss → Walked bin ds ss → Either spec bin
-  over-good ss good (inl (left, leaves)) = at-end ss left good leaves
-  over-good ss good (inr (d, s, rule, fails)) = differs d s rule fails
+    over-good : (ss : List Statement) → Good standard bin ss → Walked bin ds ss → Either spec bin
+    over-good ss good (inl (left, leaves)) = at-end ss left good leaves
+    over-good ss good (inr (d, s, rule, fails)) = differs d s rule fails
 
-  over-fault : (ss : List Statement) (env : List Declaration) (at : ℕ) (r : Refusal) → FailsAfter false bin ss env at r → Walked bin ds ss → Either spec bin
-  over-fault ss env at r fault (inl (left, leaves)) = inr (verdicts.Binary r, (ds, is_spec, inr (ss, env, at, left, fault, leaves)))
-  over-fault ss env at r fault (inr (d, s, rule, fails)) = differs d s rule fails
+    over-fault : (ss : List Statement) (env : List Declaration) (at : ℕ) (r : Refusal) → FailsAfter standard bin ss env at r → Walked bin ds ss → Either spec bin
+    over-fault ss env at r fault (inl (left, leaves)) = inr (verdicts.Binary r, (ds, is_spec, inr (ss, env, at, left, fault, leaves)))
+    over-fault ss env at r fault (inr (d, s, rule, fails)) = differs d s rule fails
 
-  over-binary : ((ss : List Statement) × Good false bin ss) ⊎ ((r : Refusal) × BinaryFault false bin r) → Either spec bin
-  over-binary (inl (ss, good)) = over-good ss good (walked bin good.layout ds ss good.env good.to good.statements)
-  over-binary (inr (r, inl layout)) = inr (verdicts.Binary r, (ds, is_spec, inl layout))
-  over-binary (inr (r, inr (ss, env, at, fault))) = over-fault ss env at r fault (walked bin fault.layout ds ss env at fault.statements)
+    over-binary : ((ss : List Statement) × Good standard bin ss) ⊎ ((r : Refusal) × BinaryFault standard bin r) → Either spec bin
+    over-binary (inl (ss, good)) = over-good ss good (walked bin good.layout ds ss good.env good.to good.statements)
+    over-binary (inr (r, inl layout)) = inr (verdicts.Binary r, (ds, is_spec, inl layout))
+    over-binary (inr (r, inr (ss, env, at, fault))) = over-fault ss env at r fault (walked bin fault.layout ds ss env at fault.statements)
 
-over-spec : (spec bin : List ℕ) → ((entries : List Entry) × SpecMakes spec entries) ⊎ ((r : SpecRefusal) × SpecFault spec r) → Either spec bin
-over-spec spec bin (inl (entries, makes)) = over-binary spec bin (env_of entries) (entries, makes, refl) (good-or-fault false bin)
-over-spec spec bin (inr (r, fault)) = inr (verdicts.Spec r, fault)
+  over-spec : (spec bin : List ℕ) → ((entries : List Entry) × SpecMakes spec entries) ⊎ ((r : SpecRefusal) × SpecFault spec r) → Either spec bin
+  over-spec spec bin (inl (entries, makes)) = over-binary spec bin (env_of entries) (entries, makes, refl) (good-or-fault standard bin)
+  over-spec spec bin (inr (r, fault)) = inr (verdicts.Spec r, fault)
 
-pub verdict-or-refusal : (spec bin : List ℕ) → Either spec bin
-verdict-or-refusal spec bin = over-spec spec bin (one-of-both spec)
+  pub verdict-or-refusal : (spec bin : List ℕ) → Either spec bin
+  verdict-or-refusal spec bin = over-spec spec bin (one-of-both spec)

@@ -1,5 +1,5 @@
 -- What the row of a good statement says.
-use Rattle.std.proofs.Common.{◌≡◌, ◌≤◌, ◌<◌, ◌+◌, ◌∙◌, ◌⊎◌, ℕ, zero, suc, Bool, List, [], ◌∷◌, ◌++◌, length, drop, reverse, Option, Some, None, slice_get, refl, sym, ap, subst, inl, inr, arith, append_assoc, false}
+use Rattle.std.proofs.Common.{◌≡◌, ◌≤◌, ◌<◌, ◌+◌, ◌∙◌, ◌⊎◌, ℕ, zero, suc, Bool, List, [], ◌∷◌, ◌++◌, length, drop, reverse, Option, Some, None, slice_get, refl, sym, ap, subst, inl, inr, arith, append_assoc}
 use Rattle.std.specs.Prelude.{if◌then◌else◌}
 use Rattle.mz_logic.specs.Tree.{Tree, Trees, var, none, listed}
 use Rattle.mz_logic.specs.Signature.{Signature}
@@ -25,6 +25,7 @@ use Rattle.mz_match.proofs.Steps.{command-takes}
 use Rattle.mz_match.proofs.Spelled.{length-binders}
 use Rattle.mz_match.proofs.FewDummies.{few-dummies}
 use Rattle.mz_match.proofs.SaidStreams.{joined, Grows, Segment, append-none, grows-not, hyps-grow, spelled-said, hyps-said}
+use Rattle.mz_binary.specs.declared.standard.Standard.{Standard}
 
 -- ---- the signatures of what was declared are those of the rows
 
@@ -65,10 +66,10 @@ more-arities file env (term_decl d) (there, says) so_far t s at =
           ))
     ]
 
-chain-arities : (gaps : Bool) (file : List ℕ) (env : List Declaration) (from : ℕ) (ss : List Statement) (env' : List Declaration) (to : ℕ) → GoodTo gaps file env from ss env' to → Arities file env → Arities file env'
-chain-arities gaps file env from [] env' to (same, _) so_far = subst (Arities file) (sym same) so_far
-chain-arities gaps file env from (s ∷ ss) env' to (next, good, rest) so_far =
-    chain-arities gaps file (env ++ s.decl ∷ []) next ss env' to rest (more-arities file env s.decl (good-rows gaps file env from s next good) so_far)
+chain-arities : (standard : Standard) (file : List ℕ) (env : List Declaration) (from : ℕ) (ss : List Statement) (env' : List Declaration) (to : ℕ) → GoodTo standard file env from ss env' to → Arities file env → Arities file env'
+chain-arities standard file env from [] env' to (same, _) so_far = subst (Arities file) (sym same) so_far
+chain-arities standard file env from (s ∷ ss) env' to (next, good, rest) so_far =
+    chain-arities standard file (env ++ s.decl ∷ []) next ss env' to rest (more-arities file env s.decl (good-rows standard file env from s next good) so_far)
 
 -- ---- a whole stream
 
@@ -194,8 +195,8 @@ row-told file env told (assertion_decl a) arities kind row (there, says) (_, spe
 )
 
 -- its row says what it declares
-pub told-row : (gaps : Bool) (file rows : List ℕ) (told : Told) (ss : List Statement) (env : List Declaration) (s : Statement) (next : ℕ) → IsTold gaps file rows told ss env s next → IsRowOf file told s.decl
-told-row gaps file rows told ss env s next is =
-    let arities = chain-arities gaps file [] (list_at file) ss env told.at is.before (λ t x at. absurd cc) in
-    row-told file env told s.decl arities is.tells.kind is.tells.row (good-rows gaps file env told.at s next is.good) is.good.spelled.row
-    (λ t dummies body d-is form-is. few-dummies gaps file ss env told.at s next t dummies body is.before is.good d-is form-is)
+pub told-row : (standard : Standard) (file rows : List ℕ) (told : Told) (ss : List Statement) (env : List Declaration) (s : Statement) (next : ℕ) → IsTold standard file rows told ss env s next → IsRowOf file told s.decl
+told-row standard file rows told ss env s next is =
+    let arities = chain-arities standard file [] (list_at file) ss env told.at is.before (λ t x at. absurd cc) in
+    row-told file env told s.decl arities is.tells.kind is.tells.row (good-rows standard file env told.at s next is.good) is.good.spelled.row
+    (λ t dummies body d-is form-is. few-dummies standard file ss env told.at s next t dummies body is.before is.good d-is form-is)

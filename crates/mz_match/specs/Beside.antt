@@ -4,6 +4,7 @@ use Rattle.mz_logic.specs.Tree.{Tree, Trees}
 use Rattle.mz_unification.specs.Spells.{Marks}
 use Rattle.mz_match.specs.declared.compare.Sides.{Sides}
 use Rattle.mz_match.specs.declared.stream.Cursor.{Cursor}
+use Rattle.mz_match.specs.Marks.{AreKept}
 use Rattle.mz_match.specs.Streams.{IsSaid, AreSaid, IsMade, AreMarks, HypsAreSaid}
 use Rattle.mz_match.specs.Comparing.{Beside}
 
@@ -11,10 +12,11 @@ use Rattle.mz_match.specs.Comparing.{Beside}
 abbrev pub beside : Sides → Marks → Beside
 beside s m = record { rows = s.publics.now; params = s.params; ds = s.dummies.now; es = m.dummies }
 
--- the stream has these marks
+-- the stream has these marks, and makes them at the places that are kept
 pub record IsStream (s : Sides) (m : Marks) : Type 0 where
   pub within : s.start ≤ length s.mmb.now
   pub marks : AreMarks s.mmb.now s.params s.start m
+  pub kept : AreKept s.mmb.now s.start s.places.items
 
 abbrev pub at_start : Sides → Cursor
 at_start s = record { at = s.start; dummies = 0 }

@@ -12,6 +12,8 @@ use Rattle.mz_match.specs.declared.verdict.Verdict.{Verdict}
 use Rattle.mz_match.specs.declared.verdict.Verdict.TheVariants as verdicts
 use Rattle.mz_match.specs.Match.{publics, Agrees}
 use Rattle.mz_match.specs.Verdict.{AcceptsBy, IsVerdictBy, counts_of}
+use Rattle.mz_binary.specs.declared.standard.Standard.{Standard}
+use Rattle.mz_binary.specs.Standards.{lets_gaps, draft_standard}
 
 -- ---- which theorems rest on a gap
 
@@ -38,7 +40,7 @@ ListsGapsOf bin ss places = ListsGaps (GappedIn bin ss) [] ss places
 
 -- the pair is accepted with gaps, has so many declarations of each kind, and these are the places of the gapped theorems
 abbrev pub DraftAccepts : List ℕ → List ℕ → Counts → List ℕ → Type 0
-DraftAccepts spec bin counts places = (accepts : AcceptsBy true spec bin) × (counts ≡ counts_of accepts.declared) × ListsGapsOf bin accepts.statements places
+DraftAccepts spec bin counts places = (accepts : AcceptsBy draft_standard spec bin) × (counts ≡ counts_of accepts.declared) × ListsGapsOf bin accepts.statements places
 
 -- the answer without the places
 abbrev pub verdict_of : Draft → Verdict
@@ -51,9 +53,9 @@ verdict_of drafts.Mem = verdicts.Mem
 -- accepted, with the places of the gapped theorems; or the first refusal
 abbrev pub IsDraft : List ℕ → List ℕ → Draft → Type 0
 IsDraft spec bin (drafts.Accepted counts gaps) = DraftAccepts spec bin counts gaps
-IsDraft spec bin (drafts.Spec refusal) = IsVerdictBy true spec bin (verdicts.Spec refusal)
-IsDraft spec bin (drafts.Binary refusal) = IsVerdictBy true spec bin (verdicts.Binary refusal)
-IsDraft spec bin (drafts.Match declaration statement rule) = IsVerdictBy true spec bin (verdicts.Match declaration statement rule)
+IsDraft spec bin (drafts.Spec refusal) = IsVerdictBy draft_standard spec bin (verdicts.Spec refusal)
+IsDraft spec bin (drafts.Binary refusal) = IsVerdictBy draft_standard spec bin (verdicts.Binary refusal)
+IsDraft spec bin (drafts.Match declaration statement rule) = IsVerdictBy draft_standard spec bin (verdicts.Match declaration statement rule)
 IsDraft spec bin drafts.Mem = ⊤
 
 -- The specification and the binary's statements agree. These are a legal draft, and each of its theorems that isn't gapped
@@ -81,9 +83,9 @@ abbrev pub places_past : Bool → Bool → ℕ → List ℕ → List ℕ
 places_past is_local gap place places = if gap && not is_local then places ++ place ∷ [] else places
 
 -- what is said of the two, and in a draft the places
-abbrev pub IsJudged : Bool → List ℕ → List ℕ → Verdict → List ℕ → Type 0
-IsJudged gaps spec bin (verdicts.Accepted counts) places = (accepts : AcceptsBy gaps spec bin) × (counts ≡ counts_of accepts.declared) × (gaps ≡ true → ListsGapsOf bin accepts.statements places)
-IsJudged gaps spec bin (verdicts.Spec refusal) places = IsVerdictBy gaps spec bin (verdicts.Spec refusal)
-IsJudged gaps spec bin (verdicts.Binary refusal) places = IsVerdictBy gaps spec bin (verdicts.Binary refusal)
-IsJudged gaps spec bin (verdicts.Match declaration statement rule) places = IsVerdictBy gaps spec bin (verdicts.Match declaration statement rule)
-IsJudged gaps spec bin verdicts.Mem places = ⊤
+abbrev pub IsJudged : Standard → List ℕ → List ℕ → Verdict → List ℕ → Type 0
+IsJudged standard spec bin (verdicts.Accepted counts) places = (accepts : AcceptsBy standard spec bin) × (counts ≡ counts_of accepts.declared) × (lets_gaps standard ≡ true → ListsGapsOf bin accepts.statements places)
+IsJudged standard spec bin (verdicts.Spec refusal) places = IsVerdictBy standard spec bin (verdicts.Spec refusal)
+IsJudged standard spec bin (verdicts.Binary refusal) places = IsVerdictBy standard spec bin (verdicts.Binary refusal)
+IsJudged standard spec bin (verdicts.Match declaration statement rule) places = IsVerdictBy standard spec bin (verdicts.Match declaration statement rule)
+IsJudged standard spec bin verdicts.Mem places = ⊤

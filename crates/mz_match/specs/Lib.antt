@@ -1,5 +1,6 @@
 pub mod Trees
 pub mod Streams
+pub mod Marks
 pub mod Comparing
 pub mod Beside
 pub mod RowWords

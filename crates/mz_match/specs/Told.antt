@@ -1,5 +1,5 @@
 -- A statement that a checker of the binary told.
-use Rattle.std.specs.Prelude.{◌≡◌, ◌≤◌, ◌+◌, ℕ, List, [], length, drop, Bool}
+use Rattle.std.specs.Prelude.{◌≡◌, ◌≤◌, ◌+◌, ℕ, List, [], length, drop}
 use Rattle.mz_logic.specs.Declaration.{Declaration}
 use Rattle.mz_logic.specs.LegalLists.{Statement}
 use Rattle.mz_layout.specs.Tables.{list_at}
@@ -10,11 +10,12 @@ use Rattle.mz_binary.specs.Judging.{Passes}
 use Rattle.mz_layout.specs.Layout.{Layout}
 use Rattle.mz_match.specs.declared.matching.Matching.{Matching}
 use Rattle.mz_match.specs.Match.{Leaves, publics, term_rows}
+use Rattle.mz_binary.specs.declared.standard.Standard.{Standard}
 
 -- after these good statements, whose public terms have these rows, it is this one
-pub record IsTold (gaps : Bool) (bin rows : List ℕ) (told : Told) (ss : List Statement) (env : List Declaration) (s : Statement) (next : ℕ) : Type 0 where
-  pub before : GoodTo gaps bin [] (list_at bin) ss env told.at
-  pub good : IsGoodStatement gaps bin env told.at s next
+pub record IsTold (standard : Standard) (bin rows : List ℕ) (told : Told) (ss : List Statement) (env : List Declaration) (s : Statement) (next : ℕ) : Type 0 where
+  pub before : GoodTo standard bin [] (list_at bin) ss env told.at
+  pub good : IsGoodStatement standard bin env told.at s next
   pub tells : Tells told (length ss + 1) told.at env s
   pub rows_are : rows ≡ term_rows 0 ss
 

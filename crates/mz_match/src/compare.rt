@@ -9,20 +9,23 @@ ghost use Rattle.mz_match.specs.Trees.{SameBody, SameTree, SameTrees};
 ghost use Rattle.mz_match.specs.Comparing.{all_none, Answers, all_compared, compared, dummy_compared, has_sort as sort_lem, is_taken as taken_lem, is_number as number_lem, makes_term as term_lem, paired};
 ghost use Rattle.mz_match.specs.Beside.{AllSaidAt, at_start, HypsSaidAt, IsPlainStream, IsStream, MadeAt, SaidAt, beside};
 
+use crate::marks::place_of_mark;
 use crate::publics::Publics;
-use crate::stream::{Cursor, Step, find_mark, next_hyp, step_at};
+use crate::stream::{Cursor, Step, next_hyp, step_at};
 use mz_cmd::UnifyCode;
 use mz_layout::Mmb;
 use mz_logic::{Binder, Expr, Exprs, Terms};
 
 /// What is compared: a unify stream of the file, that begins at `start` and is over so many
-/// parameters, beside expressions of a specification over as many and these dummies.
+/// parameters, beside expressions of a specification over as many and these dummies. `places` has
+/// those of the stream's marks that are kept.
 #[derive(Drop)]
 pub struct Sides<'a> {
     pub mmb: &'a Mmb<'a>,
     pub publics: &'a Publics,
     pub dummies: &'a [Binder],
     pub start: u32,
+    pub places: Vec<Cursor>,
     pub params: u32,
 }
 
@@ -134,7 +137,8 @@ fn same_mark(sides: &Sides, expr: &Expr, mark: u32, pairs: &mut [Option<u32>]) -
     if mark < sides.params {
         return is_variable(expr, mark);
     }
-    let Some(place) = find_mark(sides.mmb.file(), sides.start, mark - sides.params) else {
+    let places = sides.places.as_slice();
+    let Some(place) = place_of_mark(sides.mmb, sides.start, places, mark - sides.params) else {
         return false;
     };
     same_made(sides, expr, place, pairs).is_some()

@@ -1,5 +1,6 @@
 // A specification and a binary whose proofs may have gaps.
-ghost use Rattle.std.specs.Prelude.{◌≡◌, ◌⊎◌, ◌<◌, ◌≤◌, ◌+◌, ◌*◌, ◌^◌, ℕ, length, true};
+ghost use Rattle.std.specs.Prelude.{◌≡◌, ◌⊎◌, ◌<◌, ◌≤◌, ◌+◌, ◌*◌, ◌^◌, ℕ, length};
+ghost use Rattle.mz_binary.specs.Standards.{draft_standard};
 ghost use Rattle.mz_match.specs.declared.verdict.Verdict.{Verdict as TheVerdict};
 ghost use Rattle.mz_match.specs.declared.verdict.Verdict.TheVariants as verdicts;
 ghost use Rattle.mz_match.specs.Drafts.{IsDraft, IsDraftSoundIfAccepted, verdict_of};
@@ -8,6 +9,7 @@ ghost use Rattle.mz_match.specs.Verdict.{AcceptsWithBy, FirstRefusalBy, TicksBy}
 use crate::rule::M;
 use crate::verdict::{Counts, Verdict};
 use crate::verify::judge;
+use mz_binary::Standard;
 use mz_cmd::{Refusal, Steps};
 use mz_mode::Mode;
 use mz_spec::SpecRefusal;
@@ -65,10 +67,10 @@ pub fn draft_bytes<L: Ledger>(alloc: Global, spec: &[u8], bin: &[u8], steps: &mu
     requires spec { length spec.now < 2 ^ 32 }
     requires bin { length bin.now < 2 ^ 32 }
     ensures draft { IsDraft spec.now bin.now result }
-    ensures accepted { (counts : Counts) → AcceptsWithBy true spec.now bin.now counts → (verdict_of result ≡ verdicts.Accepted counts) ⊎ (verdict_of result ≡ verdicts.Mem) }
-    ensures refused { (verdict : TheVerdict) → FirstRefusalBy true spec.now bin.now verdict → (verdict_of result ≡ verdict) ⊎ (verdict_of result ≡ verdicts.Mem) }
+    ensures accepted { (counts : Counts) → AcceptsWithBy draft_standard spec.now bin.now counts → (verdict_of result ≡ verdicts.Accepted counts) ⊎ (verdict_of result ≡ verdicts.Mem) }
+    ensures refused { (verdict : TheVerdict) → FirstRefusalBy draft_standard spec.now bin.now verdict → (verdict_of result ≡ verdict) ⊎ (verdict_of result ≡ verdicts.Mem) }
     ensures sound { IsDraftSoundIfAccepted spec.now bin.now result }
-    ensures steps { TicksBy true bin.now steps.old steps.new (verdict_of result) }
+    ensures steps { TicksBy draft_standard bin.now steps.old steps.new (verdict_of result) }
     ensures bound { steps.new ≤ steps.old + (length bin.now * length bin.now + length bin.now) }
 {
     judge_draft(alloc, spec, bin, steps)
@@ -78,11 +80,18 @@ fn judge_draft<L: Ledger>(alloc: Global, spec: &[u8], bin: &[u8], steps: &mut St
     requires spec { length spec.now < 2 ^ 32 }
     requires bin { length bin.now < 2 ^ 32 }
     ensures draft { IsDraft spec.now bin.now result }
-    ensures steps { TicksBy true bin.now steps.old steps.new (verdict_of result) }
+    ensures steps { TicksBy draft_standard bin.now steps.old steps.new (verdict_of result) }
     ensures bound { steps.new ≤ steps.old + (length bin.now * length bin.now + length bin.now) }
 {
     let mut places = Vec::new(alloc);
-    match judge(alloc, spec, bin, Mode::Draft, &mut places, steps) {
+    match judge(
+        alloc,
+        spec,
+        bin,
+        Standard::Published(Mode::Draft),
+        &mut places,
+        steps,
+    ) {
         Verdict::Accepted(counts) => Draft::Accepted(counts, Gaps { places }),
         Verdict::Spec(refusal) => Draft::Spec(refusal),
         Verdict::Binary(refusal) => Draft::Binary(refusal),

@@ -47,16 +47,22 @@ impl Matching {
     ///
     /// The verdict where a public statement differs from its declaration, or where memory is
     /// wanting.
-    pub fn pass(&mut self, spec: &Spec, mmb: &Mmb, told: &Statement) -> Result<(), Verdict>
+    pub fn pass(
+        &mut self,
+        alloc: Global,
+        spec: &Spec,
+        mmb: &Mmb,
+        told: &Statement,
+    ) -> Result<(), Verdict>
         requires told { IsNextTold mmb.now (env_of spec.now) self.old told.now }
         ensures passed { (p after : Progress) (ss : List Declared) (env : List Declaration) → p.file ≡ mmb.now → IsMatched p (env_of spec.now) self.old ss env
             → (passes : Passes p ss env after told.now) → OnOk result (IsMatched after (env_of spec.now) self.new (ss ++ passes.statement ∷ []) (env ++ passes.statement.decl ∷ [])) }
         ensures kind { IfErr result IsDifference }
         ensures stops { (p after : Progress) (ss : List Declared) (env : List Declaration) → p.file ≡ mmb.now → IsMatched p (env_of spec.now) self.old ss env
-            → Passes p ss env after told.now → (text : List ℕ) → SpecMakes text spec.now → IfErr result (λ verdict. IsVerdictBy p.gaps text mmb.now verdict) }
+            → Passes p ss env after told.now → (text : List ℕ) → SpecMakes text spec.now → IfErr result (λ verdict. IsVerdictBy p.standard text mmb.now verdict) }
     {
         if !told.local {
-            if let Err(rule) = match_statement(spec, self.done, mmb, told, &self.publics) {
+            if let Err(rule) = match_statement(alloc, spec, self.done, mmb, told, &self.publics) {
                 return Err(Verdict::Match {
                     declaration: self.done + 1,
                     statement: told.number,

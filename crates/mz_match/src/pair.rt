@@ -7,11 +7,13 @@ ghost use Rattle.mz_logic.specs.LegalLists.{Statement as Declared};
 ghost use Rattle.mz_spec.specs.State.{env_of};
 ghost use Rattle.mz_layout.specs.Tables.{term_row};
 ghost use Rattle.mz_binary.specs.Laws.{is_defined};
+ghost use Rattle.mz_binary.specs.declared.standard.Standard.{Standard};
 ghost use Rattle.mz_match.specs.Match.{assertion_checks, form_checks, is_plain as plain_lem, match_checks, partner_checks, partner_of};
 ghost use Rattle.mz_match.specs.TellsRow.{IsRowOf, IsTermRow, IsThmRow};
 ghost use Rattle.mz_match.specs.Told.{IsTold};
 
 use crate::compare::{Sides, same_body, same_first, same_hyps};
+use crate::marks::kept_marks;
 use crate::publics::Publics;
 use crate::rule::M;
 use crate::signature::{RowOf, match_params, match_signature};
@@ -19,6 +21,7 @@ use mz_binary::Statement;
 use mz_layout::Mmb;
 use mz_logic::{Decl, SortMods, TermDecl, TermForm, Terms, ThmDecl, ThmForm};
 use mz_spec::Spec;
+use std::alloc::Global;
 
 /// The codes of a sort's and of a term's statement.
 pub const SORT: u8 = 0x04;
@@ -37,6 +40,7 @@ pub const THEOREM: u8 = 0x06;
 ///
 /// The first rule that fails; `M::Extra` where no declaration is left.
 pub fn match_statement(
+    alloc: Global,
     spec: &Spec,
     i: u32,
     mmb: &Mmb,
@@ -44,19 +48,20 @@ pub fn match_statement(
     publics: &Publics,
 ) -> Result<(), M>
     requires place { i ≤ length spec.now }
-    requires told { (gaps : Bool) × (ss : List Declared) × (env : List Declaration) × (s : Declared) × (next : ℕ) × IsTold gaps mmb.now publics.now statement.now ss env s next }
+    requires told { (standard : Standard) × (ss : List Declared) × (env : List Declaration) × (s : Declared) × (next : ℕ) × IsTold standard mmb.now publics.now statement.now ss env s next }
     requires public_ { statement.now.local ≡ false }
-    ensures { (gaps : Bool) (ss : List Declared) (env : List Declaration) (s : Declared) (next : ℕ) → IsTold gaps mmb.now publics.now statement.now ss env s next
+    ensures { (standard : Standard) (ss : List Declared) (env : List Declaration) (s : Declared) (next : ℕ) → IsTold standard mmb.now publics.now statement.now ss env s next
         → Judges result (partner_checks (drop i (env_of spec.now)) (partner_of ss s)) }
 {
     if i == spec.len() {
         return Err(M::Extra);
     }
-    match_declaration(spec.decl(i), mmb, statement, publics)
+    match_declaration(alloc, spec.decl(i), mmb, statement, publics)
 }
 
 /// Compares the statement with a declaration.
 fn match_declaration(
+    alloc: Global,
     decl: &Decl,
     mmb: &Mmb,
     statement: &Statement,
@@ -67,8 +72,8 @@ fn match_declaration(
 {
     match decl {
         Decl::Sort(mods) => match_sort(*mods, mmb, statement, publics),
-        Decl::Term(term) => match_term(term, mmb, statement, publics),
-        Decl::Thm(thm) => match_assertion(thm, mmb, statement, publics),
+        Decl::Term(term) => match_term(alloc, term, mmb, statement, publics),
+        Decl::Thm(thm) => match_assertion(alloc, thm, mmb, statement, publics),
     }
 }
 
@@ -85,7 +90,13 @@ fn match_sort(mods: SortMods, mmb: &Mmb, statement: &Statement, publics: &Public
     Ok(())
 }
 
-fn match_term(term: &TermDecl, mmb: &Mmb, statement: &Statement, publics: &Publics) -> Result<(), M>
+fn match_term(
+    alloc: Global,
+    term: &TermDecl,
+    mmb: &Mmb,
+    statement: &Statement,
+    publics: &Publics,
+) -> Result<(), M>
     requires { (p : Declaration) × IsRowOf mmb.now statement.now p }
     ensures { (p : Declaration) → IsRowOf mmb.now statement.now p → Judges result (match_checks (term_of term.now) (record { rows = publics.now; decl = p })) }
 {
@@ -100,7 +111,7 @@ fn match_term(term: &TermDecl, mmb: &Mmb, statement: &Statement, publics: &Publi
     if let Err(rule) = match_signature(term.params.as_slice(), &term.result, mmb, statement.row) {
         return Err(rule);
     }
-    match_body(term, mmb, statement.row, publics)
+    match_body(alloc, term, mmb, statement.row, publics)
 }
 
 fn is_same(one: bool, other: bool) -> bool
@@ -120,7 +131,13 @@ fn is_plain(form: &TermForm) -> bool
 }
 
 /// Compares the body that the specification gives with that of the row.
-fn match_body(term: &TermDecl, mmb: &Mmb, row: u32, publics: &Publics) -> Result<(), M>
+fn match_body(
+    alloc: Global,
+    term: &TermDecl,
+    mmb: &Mmb,
+    row: u32,
+    publics: &Publics,
+) -> Result<(), M>
     requires { (e : Term) × IsTermRow mmb.now row e × (is_defined (form_lem term.now.form) ≡ true → is_defined e.form ≡ true) }
     ensures body { (e : Term) → IsTermRow mmb.now row e → is_defined (form_lem term.now.form) ≡ true → is_defined e.form ≡ true
         → Judges result (form_checks publics.now (length (term_row mmb.now row).words.params) (form_lem term.now.form) e.form) }
@@ -129,11 +146,13 @@ fn match_body(term: &TermDecl, mmb: &Mmb, row: u32, publics: &Publics) -> Result
     let TermForm::Body { dummies, body } = &term.form else {
         return Ok(());
     };
+    let start = mmb.unify_of_term(row).0;
     let sides = Sides {
         mmb,
         publics,
         dummies: dummies.as_slice(),
-        start: mmb.unify_of_term(row).0,
+        start,
+        places: kept_marks(alloc, mmb, start),
         params: mmb.arity(row),
     };
     if !same_body(&sides, body) {
@@ -143,6 +162,7 @@ fn match_body(term: &TermDecl, mmb: &Mmb, row: u32, publics: &Publics) -> Result
 }
 
 fn match_assertion(
+    alloc: Global,
     thm: &ThmDecl,
     mmb: &Mmb,
     statement: &Statement,
@@ -154,7 +174,7 @@ fn match_assertion(
     if statement.kind != code_of(thm.form) {
         return Err(M::Kind);
     }
-    match_claims(thm, mmb, statement.row, publics)
+    match_claims(alloc, thm, mmb, statement.row, publics)
 }
 
 /// The code of an axiom's or a theorem's statement.
@@ -168,18 +188,26 @@ fn code_of(form: ThmForm) -> u8
 }
 
 /// Compares parameters, hypotheses and conclusion with those of the row.
-fn match_claims(thm: &ThmDecl, mmb: &Mmb, row: u32, publics: &Publics) -> Result<(), M>
+fn match_claims(
+    alloc: Global,
+    thm: &ThmDecl,
+    mmb: &Mmb,
+    row: u32,
+    publics: &Publics,
+) -> Result<(), M>
     requires { (b : Assertion) × IsThmRow mmb.now row b }
     ensures { (b : Assertion) → IsThmRow mmb.now row b → Judges result (assertion_checks publics.now (assertion_view thm.now) b) }
 {
     if !match_params(thm.params.as_slice(), mmb, RowOf::Thm(row)) {
         return Err(M::Binders);
     }
+    let start = mmb.unify_of_thm(row).0;
     let sides = Sides {
         mmb,
         publics,
         dummies: &[],
-        start: mmb.unify_of_thm(row).0,
+        start,
+        places: kept_marks(alloc, mmb, start),
         params: mmb.thm_arity(row),
     };
     if !same_hyps(&sides, &thm.hyps) {

@@ -65,14 +65,14 @@ pub fn find_mark(file: &[u8], start: u32, mark: u32) -> Option<Cursor>
 }
 
 /// Whether the command marks an expression.
-fn makes_mark(code: UnifyCode) -> bool
+pub fn makes_mark(code: UnifyCode) -> bool
     ensures { result ≡ makes_lem code }
 {
     matches!(code, UnifyCode::TermSave | UnifyCode::Dummy)
 }
 
 /// 1 for a dummy's command, else 0.
-fn dummies_in(code: UnifyCode) -> u32
+pub fn dummies_in(code: UnifyCode) -> u32
     ensures { result ≡ dummies_lem code }
 {
     match code {

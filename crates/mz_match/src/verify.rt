@@ -1,14 +1,13 @@
 // A specification and a binary together.
 ghost use Rattle.std.specs.Prelude.{◌≡◌, ◌⊎◌, ◌<◌, ◌≤◌, ◌+◌, ◌*◌, ◌^◌, ℕ, List, [], length, OnOk};
-ghost use Rattle.mz_mode.specs.Gaps.{gaps_of};
 ghost use Rattle.mz_layout.specs.Layout.{Layout};
 ghost use Rattle.mz_spec.specs.Spec.{SpecMakes};
 ghost use Rattle.mz_match.specs.Drafts.{IsJudged, places_past};
-ghost use Rattle.mz_match.specs.Verdict.{AcceptsWith, FirstRefusal, IsSoundIfAccepted, IsVerdict, Ticks, TicksBy};
+ghost use Rattle.mz_match.specs.Verdict.{AcceptsWith, AcceptsWithBy, FirstRefusal, FirstRefusalBy, IsSoundIfAccepted, IsVerdict, IsVerdictBy, Ticks, TicksBy};
 
 use crate::matching::Matching;
 use crate::verdict::{Counts, Verdict};
-use mz_binary::{Checker, Next, Statement};
+use mz_binary::{Checker, Next, Standard, Statement};
 use mz_cmd::{Mem, Steps};
 use mz_layout::Mmb;
 use mz_mode::Mode;
@@ -33,8 +32,27 @@ pub fn verify_bytes<L: Ledger>(
     ensures steps { Ticks bin.now steps.old steps.new result }
     ensures bound { steps.new ≤ steps.old + (length bin.now * length bin.now + length bin.now) }
 {
+    verify_by(alloc, spec, bin, Standard::Published(Mode::Strict), steps)
+}
+
+/// Verifies as `verify_bytes` does, the binary's bodies held to a standard.
+pub fn verify_by<L: Ledger>(
+    alloc: Global,
+    spec: &[u8],
+    bin: &[u8],
+    standard: Standard,
+    steps: &mut Steps<L>,
+) -> Verdict
+    requires spec { length spec.now < 2 ^ 32 }
+    requires bin { length bin.now < 2 ^ 32 }
+    ensures verdict { IsVerdictBy standard spec.now bin.now result }
+    ensures accepted { (counts : Counts) → AcceptsWithBy standard spec.now bin.now counts → (result ≡ Verdict.Accepted counts) ⊎ (result ≡ Verdict.Mem) }
+    ensures refused { (verdict : Verdict) → FirstRefusalBy standard spec.now bin.now verdict → (result ≡ verdict) ⊎ (result ≡ Verdict.Mem) }
+    ensures steps { TicksBy standard bin.now steps.old steps.new result }
+    ensures bound { steps.new ≤ steps.old + (length bin.now * length bin.now + length bin.now) }
+{
     let mut places = Vec::new(alloc);
-    judge(alloc, spec, bin, Mode::Strict, &mut places, steps)
+    judge(alloc, spec, bin, standard, &mut places, steps)
 }
 
 /// What is said of the two, and in a draft the places of the declarations whose theorems rest on a gap.
@@ -42,15 +60,15 @@ pub(crate) fn judge<L: Ledger>(
     alloc: Global,
     spec: &[u8],
     bin: &[u8],
-    mode: Mode,
+    standard: Standard,
     places: &mut Vec<u32>,
     steps: &mut Steps<L>,
 ) -> Verdict
     requires spec { length spec.now < 2 ^ 32 }
     requires bin { length bin.now < 2 ^ 32 }
     requires none { places.old.items ≡ [] }
-    ensures verdict { IsJudged (gaps_of mode) spec.now bin.now result places.new.items }
-    ensures steps { TicksBy (gaps_of mode) bin.now steps.old steps.new result }
+    ensures verdict { IsJudged standard spec.now bin.now result places.new.items }
+    ensures steps { TicksBy standard bin.now steps.old steps.new result }
     ensures bound { steps.new ≤ steps.old + (length bin.now * length bin.now + length bin.now) }
 {
     let declared = match read_spec(alloc, spec) {
@@ -59,7 +77,7 @@ pub(crate) fn judge<L: Ledger>(
         SpecRead::Mem => return Verdict::Mem,
     };
     match Mmb::read(bin) {
-        Ok(mmb) => check_list(alloc, &declared, &mmb, mode, places, steps),
+        Ok(mmb) => check_list(alloc, &declared, &mmb, standard, places, steps),
         Err(refusal) => Verdict::Binary(refusal),
     }
 }
@@ -69,24 +87,24 @@ fn check_list<L: Ledger>(
     alloc: Global,
     spec: &Spec,
     mmb: &Mmb,
-    mode: Mode,
+    standard: Standard,
     places: &mut Vec<u32>,
     steps: &mut Steps<L>,
 ) -> Verdict
     requires small { length mmb.now < 2 ^ 32 }
     requires layout { Layout mmb.now }
     requires none { places.old.items ≡ [] }
-    ensures verdict { (text : List ℕ) → SpecMakes text spec.now → IsJudged (gaps_of mode) text mmb.now result places.new.items }
-    ensures steps { TicksBy (gaps_of mode) mmb.now steps.old steps.new result }
+    ensures verdict { (text : List ℕ) → SpecMakes text spec.now → IsJudged standard text mmb.now result places.new.items }
+    ensures steps { TicksBy standard mmb.now steps.old steps.new result }
     ensures bound { steps.new ≤ steps.old + (length mmb.now * length mmb.now + length mmb.now) }
 {
-    let mut checker = Checker::new(alloc, mmb, mode);
+    let mut checker = Checker::new(alloc, mmb, standard);
     let mut matching = Matching::new(alloc);
     'statements: loop {
         match checker.check_next(steps) {
             Next::Statement(after, told) => {
                 let place = matching.done;
-                if let Err(verdict) = matching.pass(spec, mmb, &told) {
+                if let Err(verdict) = matching.pass(alloc, spec, mmb, &told) {
                     return verdict;
                 }
                 let Ok(()) = note(&told, place, places) else {

@@ -1,7 +1,6 @@
 -- Elements of notations, and the constants by which they are found.
-use Rattle.std.proofs.Common.{◌≡◌, ◌↔◌, ◌∙◌, ℕ, List, ◌∷◌, Bool, true, false, not, sym, subst}
+use Rattle.std.proofs.Common.{◌≡◌, ◌↔◌, ◌∙◌, ℕ, List, ◌∷◌, Bool, sym, subst}
 use Rattle.std.specs.Prelude.{IsTrue}
-use Rattle.std.proofs.lemmas.Bool.{false≢true}
 use Rattle.mz_notation.specs.Notation.{Element, fixed, Notation}
 use Rattle.mz_notation.specs.Clear.{LedBy, JoinedBy}
 
@@ -26,12 +25,3 @@ led-one k v w (es, is) (fs, other) = (fixed-same (heads-same (sym is ∙ other))
 
 pub joined-one : (k : Notation) (v w : List ℕ) → JoinedBy k v → JoinedBy k w → v ≡ w
 joined-one k v w (i, es, is) (j, fs, other) = (fixed-same (seconds-same (sym is ∙ other))).0
-
--- of two notations, whether the one isn't found by the constant of the other
-pub found-otherwise : (By : Notation → List ℕ → Type 0) (o k : Notation) (v : List ℕ) → By o v → ((w : List ℕ) → By o w → v ≡ w) → (r : Bool) → (IsTrue r ↔ By k v)
-    → IsTrue (not r) ↔ ((w : List ℕ) → By o w → By k w → ⊥)
-found-otherwise By o k v by_o one true j = (λ f. absurd (false≢true f), λ none. absurd (none v by_o (j.0 refl')))
-  where
-    refl' : true ≡ true
-    refl' = cc
-found-otherwise By o k v by_o one false j = (λ t w by_w by_k. absurd (false≢true (j.1 (subst (By k) (sym (one w by_w)) by_k))), λ none. cc)

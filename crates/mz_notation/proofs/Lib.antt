@@ -1,4 +1,5 @@
 pub mod Spotting
+mod Levelling
 pub mod Constants
 pub mod Clearing
 pub mod Literals

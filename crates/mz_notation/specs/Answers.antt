@@ -58,6 +58,14 @@ KeepsLevels es ks = (w : List ℕ) (q p : ℕ) → Contains es (fixed w q) → H
 abbrev pub KeepsOwnLevels : List Element → Type 0
 KeepsOwnLevels es = (w : List ℕ) (q p : ℕ) → Contains es (fixed w q) → Contains es (fixed w p) → p ≡ q
 
+-- each constant has one level wherever it stands
+abbrev pub HaveOneLevel : List Notation → Type 0
+HaveOneLevel ks = (w : List ℕ) (q p : ℕ) → HasConstant ks w q → HasConstant ks w p → q ≡ p
+
+-- those of one level group to the same side
+abbrev pub GroupAlike : List Notation → Type 0
+GroupAlike ks = (k l : Notation) → Contains ks k → Contains ks l → k.level ≡ l.level → k.is_right ≡ l.is_right
+
 abbrev pub GroupsWith : List Notation → Notation → Type 0
 GroupsWith ks k = (l : Notation) → Contains ks l → l.level ≡ k.level → l.is_right ≡ k.is_right
 

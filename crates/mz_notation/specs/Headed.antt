@@ -1,5 +1,8 @@
--- Notations by their constants.
-use Rattle.std.specs.Prelude.{◌≡◌, ◌⊎◌, ◌++◌, ◌∷◌, [], ℕ, List, Some, slice_get}
+-- Notations by their constants, and by their levels.
+use Rattle.std.specs.Prelude.{◌≡◌, ◌⊎◌, ◌++◌, ◌∷◌, [], ℕ, List, Option, Some, Contains, slice_get}
+use Rattle.std.specs.Ordering.{nat_cmp}
+use Rattle.std.specs.BTreeMap as tree
+use Rattle.std.specs.BTreeMap.{BTreeMap}
 use Rattle.mz_notation.specs.Notation.{Notation, fixed}
 use Rattle.mz_notation.specs.Clear.{JoinedBy, LedBy}
 use Rattle.mz_tokens.specs.Places.{place_of}
@@ -21,3 +24,11 @@ AreFound ps ks = (i j : ℕ) (k : Notation) (w : List ℕ) (q : ℕ) → slice_g
 -- the constant at a place of one more notation has a place where it stands
 abbrev pub IsNoted : List (List ℕ × Spot) → List Notation → Notation → ℕ → Type 0
 IsNoted ps ks k j = (w : List ℕ) (q : ℕ) → slice_get k.elements j ≡ Some (fixed w q) → (s : Spot) × (place_of ps w ≡ Some s) × StandsAt (ks ++ k ∷ []) w s
+
+-- the place that is kept for a level
+abbrev pub place_at : BTreeMap ℕ ℕ → ℕ → Option ℕ
+place_at m level = tree.get nat_cmp m level
+
+-- for the level of each of the notations the place of one of that level is kept
+abbrev pub AreLevelled : BTreeMap ℕ ℕ → List Notation → Type 0
+AreLevelled m ks = (k : Notation) → Contains ks k → (i : ℕ) × (l : Notation) × (place_at m k.level ≡ Some i) × (slice_get ks i ≡ Some l) × (l.level ≡ k.level)

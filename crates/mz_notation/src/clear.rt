@@ -1,11 +1,12 @@
 // Whether a notation can be mistaken for another one.
 ghost use Rattle.std.specs.Prelude.{◌≡◌, ◌↔◌, ◌<◌, ◌++◌, ◌∷◌, [], ℕ, List, IsTrue, Contains};
-ghost use Rattle.mz_notation.specs.Clear.{HasConstant, IsClear, JoinedBy, LedBy};
+ghost use Rattle.mz_notation.specs.Clear.{HasConstant, IsClear};
 ghost use Rattle.mz_notation.specs.Notation.{fixed, max_level};
 ghost use Rattle.mz_notation.specs.declared.notation.Notation.{Notation};
-ghost use Rattle.mz_notation.specs.Answers.{GroupsWith, KeepsLevels, KeepsOwnLevels, NoOtherJoined, NoOtherLed};
+ghost use Rattle.mz_notation.specs.Answers.{GroupAlike, GroupsWith, HaveOneLevel, KeepsLevels, KeepsOwnLevels, NoOtherJoined, NoOtherLed};
 
 use crate::notation::{Element, MAX, Notation};
+use crate::notations::NotationList;
 
 impl Element {
     /// Whether it isn't this constant with another level.
@@ -19,7 +20,8 @@ impl Element {
     }
 
     /// Whether it is no constant, or has its level in the notations, too.
-    fn keeps_level(&self, notations: &[Notation]) -> bool
+    fn keeps_level(&self, notations: &NotationList) -> bool
+        requires { HaveOneLevel notations.now }
         ensures { IsTrue result ↔ ((w : List ℕ) (q p : ℕ) → self.now ≡ fixed w q → HasConstant notations.now w p → p ≡ q) }
     {
         match self {
@@ -40,38 +42,11 @@ impl Element {
 }
 
 impl Notation {
-    /// Whether the constant has this level wherever it stands in the notation.
-    fn has_level(&self, word: &[u8], level: u32) -> bool
-        ensures { IsTrue result ↔ ((q : ℕ) → Contains self.now.elements (fixed word.now q) → q ≡ level) }
+    /// Whether it groups to this side.
+    fn groups(&self, is_right: bool) -> bool
+        ensures { IsTrue result ↔ (self.now.is_right ≡ is_right) }
     {
-        has_level(self.elements.as_slice(), word, level)
-    }
-
-    /// Whether it doesn't begin with the constant with which the other one begins.
-    fn is_led_otherwise(&self, other: &Notation) -> bool
-        ensures { IsTrue result ↔ ((w : List ℕ) → LedBy other.now w → LedBy self.now w → ⊥) }
-    {
-        match other.leading_constant() {
-            None => true,
-            Some(word) => !self.is_led_by(word),
-        }
-    }
-
-    /// Whether it isn't joined by the constant by which the other one is joined.
-    fn is_joined_otherwise(&self, other: &Notation) -> bool
-        ensures { IsTrue result ↔ ((w : List ℕ) → JoinedBy other.now w → JoinedBy self.now w → ⊥) }
-    {
-        match other.joining_constant() {
-            None => true,
-            Some(word) => !self.is_joined_by(word),
-        }
-    }
-
-    /// Whether it groups as the other one does, or is of another level.
-    fn groups_with(&self, other: &Notation) -> bool
-        ensures { IsTrue result ↔ (self.now.level ≡ other.now.level → self.now.is_right ≡ other.now.is_right) }
-    {
-        self.level != other.level || self.is_right == other.is_right
+        self.is_right == is_right
     }
 }
 
@@ -88,19 +63,19 @@ fn has_level(elements: &[Element], word: &[u8], level: u32) -> bool
 }
 
 /// Whether the constant has this level in each of the notations.
-fn has_level_in(notations: &[Notation], word: &[u8], level: u32) -> bool
+fn has_level_in(notations: &NotationList, word: &[u8], level: u32) -> bool
+    requires { HaveOneLevel notations.now }
     ensures { IsTrue result ↔ ((q : ℕ) → HasConstant notations.now word.now q → q ≡ level) }
 {
-    for k in notations {
-        if !k.has_level(word, level) {
-            return false;
-        }
+    match notations.level_of(word) {
+        None => true,
+        Some(other) => other == level,
     }
-    true
 }
 
 /// Whether the constants among the elements have their levels in the notations, too.
-fn keeps_levels(elements: &[Element], notations: &[Notation]) -> bool
+fn keeps_levels(elements: &[Element], notations: &NotationList) -> bool
+    requires { HaveOneLevel notations.now }
     ensures { IsTrue result ↔ KeepsLevels elements.now notations.now }
 {
     for element in elements {
@@ -124,43 +99,45 @@ fn keeps_own_levels(elements: &[Element]) -> bool
 }
 
 /// Whether the infix notations of its level group as it does.
-fn all_group_with(infixes: &[Notation], notation: &Notation) -> bool
+fn all_group_with(infixes: &NotationList, notation: &Notation) -> bool
+    requires { GroupAlike infixes.now }
     ensures { IsTrue result ↔ GroupsWith infixes.now notation.now }
 {
-    for k in infixes {
-        if !k.groups_with(notation) {
-            return false;
-        }
+    match infixes.grouping_at(notation.level) {
+        None => true,
+        Some(is_right) => notation.groups(is_right),
     }
-    true
 }
 
 /// Whether none of the notations begins with its constant.
-fn none_is_led(leading: &[Notation], notation: &Notation) -> bool
+fn none_is_led(leading: &NotationList, notation: &Notation) -> bool
     ensures { IsTrue result ↔ NoOtherLed leading.now notation.now }
 {
-    for k in leading {
-        if !k.is_led_otherwise(notation) {
-            return false;
-        }
+    match notation.leading_constant() {
+        None => true,
+        Some(word) => match leading.led_by(word) {
+            None => true,
+            Some(_) => false,
+        },
     }
-    true
 }
 
 /// Whether none of the notations has its constant behind the first parameter.
-fn none_is_joined(infixes: &[Notation], notation: &Notation) -> bool
+fn none_is_joined(infixes: &NotationList, notation: &Notation) -> bool
     ensures { IsTrue result ↔ NoOtherJoined infixes.now notation.now }
 {
-    for k in infixes {
-        if !k.is_joined_otherwise(notation) {
-            return false;
-        }
+    match notation.joining_constant() {
+        None => true,
+        Some(word) => match infixes.joined_by(word) {
+            None => true,
+            Some(_) => false,
+        },
     }
-    true
 }
 
 /// Whether the constants of the notation have one level each, also beside those of all notations.
-fn levels_are_kept(leading: &[Notation], infixes: &[Notation], notation: &Notation) -> bool
+fn levels_are_kept(leading: &NotationList, infixes: &NotationList, notation: &Notation) -> bool
+    requires { IsClear leading.now infixes.now }
     ensures { IsTrue result ↔ (KeepsOwnLevels notation.now.elements × KeepsLevels notation.now.elements leading.now × KeepsLevels notation.now.elements infixes.now) }
 {
     let elements = notation.elements.as_slice();
@@ -175,8 +152,8 @@ fn levels_are_kept(leading: &[Notation], infixes: &[Notation], notation: &Notati
 
 /// Whether the notations stay clear with one more that begins with a constant.
 pub fn is_clear_with_leading(
-    leading: &[Notation],
-    infixes: &[Notation],
+    leading: &NotationList,
+    infixes: &NotationList,
     notation: &Notation,
 ) -> bool
     requires { IsClear leading.now infixes.now }
@@ -189,7 +166,11 @@ pub fn is_clear_with_leading(
 }
 
 /// Whether the notations stay clear with one more that begins with a parameter.
-pub fn is_clear_with_infix(leading: &[Notation], infixes: &[Notation], notation: &Notation) -> bool
+pub fn is_clear_with_infix(
+    leading: &NotationList,
+    infixes: &NotationList,
+    notation: &Notation,
+) -> bool
     requires { IsClear leading.now infixes.now }
     ensures { IsTrue result ↔ IsClear leading.now (infixes.now ++ notation.now ∷ []) }
 {

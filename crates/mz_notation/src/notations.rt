@@ -1,13 +1,14 @@
-// Notations, found by their constants.
+// Notations, found by their constants and their levels.
 ghost use Rattle.std.specs.Prelude.{◌≡◌, ◌++◌, ◌∷◌, ◌<◌, ◌+◌, [], ℕ, List, MatchOption, OnOk, OnErr, Contains, length, Some, bytes_eq, if◌then◌else◌};
 ghost use Rattle.mz_notation.specs.Clear.{HasConstant, JoinedBy, LedBy};
-ghost use Rattle.mz_notation.specs.Headed.{AreFound, IsHeadedBy, IsNoted};
+ghost use Rattle.mz_notation.specs.Headed.{AreFound, AreLevelled, IsHeadedBy, IsNoted, place_at as place_at_level};
 ghost use Rattle.mz_tokens.specs.Places.{place_of};
 ghost use Rattle.mz_notation.specs.declared.notation.Notation.{Notation};
 
 use crate::notation::{Element, Notation};
 use mz_tokens::Places;
 use std::alloc::{AllocError, Global};
+use std::collections::BTreeMap;
 use std::marker::Model;
 
 /// Where a constant stands: in which notation, and which of its elements it is.
@@ -25,19 +26,21 @@ pub struct NotationList {
     heads: Places<usize>,
     // one place of each constant
     constants: Places<Spot>,
+    // where one notation of each level stands
+    levels: BTreeMap<u32, usize>,
 }
 
 impl Model for NotationList {
     ghost use Rattle.std.specs.Prelude.{List};
     ghost use Rattle.mz_notation.specs.declared.notation.Notation.{Notation};
-    ghost use Rattle.mz_notation.specs.Headed.{AreFound, IsHeadedBy};
+    ghost use Rattle.mz_notation.specs.Headed.{AreFound, AreLevelled, IsHeadedBy};
     ghost use Rattle.mz_tokens.specs.Places.{LeadsTo};
 
     ghost Value = { List Notation };
 
     ghost view = { λ a. a.items.items };
 
-    ghost invariant = { λ a. LeadsTo IsHeadedBy a.heads a.items.items × AreFound a.constants a.items.items };
+    ghost invariant = { λ a. LeadsTo IsHeadedBy a.heads a.items.items × AreFound a.constants a.items.items × AreLevelled a.levels a.items.items };
 }
 
 impl NotationList {
@@ -49,14 +52,8 @@ impl NotationList {
             items: Vec::new(alloc),
             heads: Places::new(alloc),
             constants: Places::new(alloc),
+            levels: BTreeMap::new(alloc),
         }
-    }
-
-    /// The notations in order.
-    pub fn as_slice(&self) -> &[Notation]
-        ensures { result.now ≡ self.now }
-    {
-        &self.items
     }
 
     /// The notation that a constant makes, if there is one.
@@ -94,6 +91,13 @@ impl NotationList {
         level_in(&self.constants, &self.items, token)
     }
 
+    /// Whether one of the notations of this level groups to the right, if there are any.
+    pub fn grouping_at(&self, level: u32) -> Option<bool>
+        ensures { MatchOption result ((k : Notation) → Contains self.now k → k.level ≡ level → ⊥) (λ right. (k : Notation) × Contains self.now k × (k.level ≡ level) × (k.is_right ≡ right)) }
+    {
+        grouping_in(&self.levels, &self.items, level)
+    }
+
     /// Adds a notation whose constant makes none yet.
     ///
     /// # Errors
@@ -106,6 +110,7 @@ impl NotationList {
         ensures err { OnErr result (self.new ≡ self.old) }
     {
         note_constants(&mut self.constants, alloc, &self.items, &notation)?;
+        note_level(&mut self.levels, &self.items, &notation)?;
         note_head(&mut self.heads, alloc, &notation, self.items.len())?;
         self.items.push(notation)?;
         Ok(())
@@ -121,6 +126,46 @@ fn level_in(constants: &Places<Spot>, items: &[Notation], token: &[u8]) -> Optio
     let notation = items.get(spot.notation)?;
     let element = notation.elements.as_slice().get(spot.element)?;
     element.level_of(token)
+}
+
+/// What is kept for a level.
+fn place_at(levels: &BTreeMap<u32, usize>, level: u32) -> Option<usize>
+    ensures { result ≡ place_at_level levels.now level }
+{
+    levels.get(&level).copied()
+}
+
+/// Whether one of the notations of a level groups to the right, if there are any.
+fn grouping_in(levels: &BTreeMap<u32, usize>, items: &[Notation], level: u32) -> Option<bool>
+    requires { AreLevelled levels.now items.now }
+    ensures { MatchOption result ((k : Notation) → Contains items.now k → k.level ≡ level → ⊥) (λ right. (k : Notation) × Contains items.now k × (k.level ≡ level) × (k.is_right ≡ right)) }
+{
+    let place = place_at(levels, level)?;
+    let notation = items.get(place)?;
+    if notation.level == level {
+        Some(notation.is_right)
+    } else {
+        None
+    }
+}
+
+/// Notes where one more notation stands, where there is none of its level.
+fn note_level(
+    levels: &mut BTreeMap<u32, usize>,
+    items: &[Notation],
+    notation: &Notation,
+) -> Result<(), AllocError>
+    requires { AreLevelled levels.old items.now }
+    ensures found { AreLevelled levels.new items.now }
+    ensures ok { OnOk result (AreLevelled levels.new (items.now ++ notation.now ∷ [])) }
+{
+    match grouping_in(levels, items, notation.level) {
+        Some(_) => Ok(()),
+        None => {
+            levels.insert(notation.level, items.len())?;
+            Ok(())
+        }
+    }
 }
 
 /// Notes the place of the notation that a constant makes.

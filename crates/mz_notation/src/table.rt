@@ -310,7 +310,7 @@ impl Notations {
         requires plain { IsPlain notation }
         ensures { IsAdded result self.old (with_infix self.old notation) self.new }
     {
-        if !is_clear_with_infix(self.leading.as_slice(), self.infixes.as_slice(), &notation) {
+        if !is_clear_with_infix(&self.leading, &self.infixes, &notation) {
             return Err(NoteFault::Clash);
         }
         let Ok(()) = self.infixes.push(self.alloc, notation) else {
@@ -324,7 +324,7 @@ impl Notations {
         requires plain { IsPlain notation }
         ensures { IsAdded result self.old (with_leading self.old notation) self.new }
     {
-        if !is_clear_with_leading(self.leading.as_slice(), self.infixes.as_slice(), &notation) {
+        if !is_clear_with_leading(&self.leading, &self.infixes, &notation) {
             return Err(NoteFault::Clash);
         }
         let Ok(()) = self.leading.push(self.alloc, notation) else {
@@ -355,12 +355,12 @@ impl Notations {
         if !is_coercion(env, coercion) {
             return Err(NoteFault::Form);
         }
-        if !self.coercions.stays_one_path(coercion) {
-            return Err(NoteFault::CoercionClash);
-        }
-        let Ok(()) = self.coercions.push(coercion) else {
+        let Ok(added) = self.coercions.add(self.alloc, coercion) else {
             return Err(NoteFault::Mem);
         };
+        if !added {
+            return Err(NoteFault::CoercionClash);
+        }
         Ok(())
     }
 

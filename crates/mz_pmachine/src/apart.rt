@@ -1,60 +1,110 @@
 //! Operands that are apart: none holds the variable of a bound parameter, but of its own and of those
 //! on which its parameter depends.
-ghost use Rattle.std.specs.Prelude.{◌≡◌, ◌<◌, ◌%◌, ◌==◌, ◌||◌, ◌&&◌, true, List, Ok, Some, length, not, nat_lt, slice_get, if◌then◌else◌};
+ghost use Rattle.std.specs.Prelude.{ℕ, ◌≡◌, ◌<◌, ◌%◌, ◌==◌, ◌||◌, ◌&&◌, true, List, IfOk, Ok, Some, length, not, nat_lt, slice_get, if◌then◌else◌};
 ghost use Rattle.mz_logic.specs.Tree.{Tree};
 ghost use Rattle.mz_logic.specs.Signature.{Signature};
-ghost use Rattle.mz_logic.specs.Words.{binders_of, word_bound, word_deps};
+ghost use Rattle.mz_logic.specs.Words.{binders_of, bound_places, word_bound, word_deps};
 ghost use Rattle.mz_logic.specs.declared.binder.Binder.{Binder};
 ghost use Rattle.mz_nodes.specs.Numbering.{IsIn, AreIn, IsOver, tree_of};
 ghost use Rattle.mz_punify.specs.Stored.{trees_at};
 ghost use Rattle.mz_unification.specs.Tests.{is_bound_var, var_within};
 ghost use Rattle.mz_soundness.specs.Premises.{operands_fit, apart_from, are_apart};
 ghost use Rattle.mz_machine.specs.Before.{signatures_of};
-ghost use Rattle.mz_pmachine.specs.OperandRows.{IsBefore, params_of};
+ghost use Rattle.mz_pmachine.specs.OperandRows.{AreAmong, IsBefore, params_of};
 
 use crate::earlier::{Earlier, Row};
 use mz_logic::Word;
 use mz_nodes::Nodes;
 use mz_store::Id;
+use std::alloc::{AllocError, Global};
 
 /// Whether each two operands of a row are apart, whichever of them comes first. They fit.
-pub(crate) fn are_apart(earlier: &Earlier, row: Row, nodes: &Nodes, operands: &[Id]) -> bool
+///
+/// Each is compared with those of the bound parameters alone, of which a row has few.
+pub(crate) fn are_apart(
+    alloc: Global,
+    earlier: &Earlier,
+    row: Row,
+    nodes: &Nodes,
+    operands: &[Id],
+) -> Result<bool, AllocError>
     requires row { IsBefore earlier.now row }
     requires over { IsOver (signatures_of earlier.now) nodes.now }
     requires ids { AreIn nodes.now operands.now }
     requires many { length operands.now ≡ length (params_of earlier.now.file row) }
     requires fit { operands_fit (signatures_of earlier.now) nodes.now.context (trees_at nodes.now operands.now) (binders_of (params_of earlier.now.file row)) ≡ Ok tt }
-    ensures { result ≡ are_apart nodes.now.context (trees_at nodes.now operands.now) (binders_of (params_of earlier.now.file row)) }
+    ensures { IfOk result (λ apart. apart ≡ are_apart nodes.now.context (trees_at nodes.now operands.now) (binders_of (params_of earlier.now.file row))) }
 {
+    let bound = bound_places(alloc, earlier, row)?;
+    let all = variables_at(nodes, operands, &bound);
     'operands: for i in 0..earlier.arity_of(row) {
-        if !is_apart(earlier, row, nodes, operands, i) {
-            return false;
+        if !is_apart(earlier, row, nodes, operands, &bound, all, i) {
+            return Ok(false);
         }
     }
-    true
+    Ok(true)
 }
 
-/// Whether the operand at a place is apart from all others.
-fn is_apart(earlier: &Earlier, row: Row, nodes: &Nodes, operands: &[Id], i: u32) -> bool
+/// The places of the row's bound parameters.
+fn bound_places(alloc: Global, earlier: &Earlier, row: Row) -> Result<Vec<u32>, AllocError>
+    requires { IsBefore earlier.now row }
+    ensures { IfOk result (λ places. places.items ≡ bound_places 0 (params_of earlier.now.file row)) }
+{
+    let mut places = Vec::new(alloc);
+    'params: for i in 0..earlier.arity_of(row) {
+        if earlier.word_of(row, i).bound() {
+            places.push(i)?;
+        }
+    }
+    Ok(places)
+}
+
+/// The word of the variables of the operands at these places.
+fn variables_at(nodes: &Nodes, operands: &[Id], places: &[u32]) -> u64
+    requires ids { AreIn nodes.now operands.now }
+    requires within { (k p : ℕ) → slice_get places.now k ≡ Some p → p < length operands.now }
+    ensures { AreAmong nodes.now operands.now places.now result }
+{
+    let mut word = 0;
+    'places: for place in places {
+        word |= nodes.vars(operands[*place as usize]);
+    }
+    word
+}
+
+/// Whether the operand at a place is apart from all others. The bound parameters stand at these places,
+/// and the word tells the variables of their operands: where it shares none with it, none is met.
+fn is_apart(
+    earlier: &Earlier,
+    row: Row,
+    nodes: &Nodes,
+    operands: &[Id],
+    bound: &[u32],
+    all: u64,
+    i: u32,
+) -> bool
     requires row { IsBefore earlier.now row }
     requires over { IsOver (signatures_of earlier.now) nodes.now }
     requires ids { AreIn nodes.now operands.now }
     requires many { length operands.now ≡ length (params_of earlier.now.file row) }
     requires fit { operands_fit (signatures_of earlier.now) nodes.now.context (trees_at nodes.now operands.now) (binders_of (params_of earlier.now.file row)) ≡ Ok tt }
+    requires bound { bound.now ≡ bound_places 0 (params_of earlier.now.file row) }
+    requires all { AreAmong nodes.now operands.now bound.now all }
     requires place { i < length (params_of earlier.now.file row) }
     ensures { (e : Tree) (p : Binder) → slice_get (trees_at nodes.now operands.now) i ≡ Some e → slice_get (binders_of (params_of earlier.now.file row)) i ≡ Some p → result ≡ apart_from nodes.now.context i p.deps e 0 (trees_at nodes.now operands.now) (binders_of (params_of earlier.now.file row)) }
 {
     let id = operands[i as usize];
+    if nodes.vars(id) & all == 0 {
+        return true;
+    }
     let word = earlier.word_of(row, i);
     let mut bits = dependencies(word);
-    'others: for j in 0..earlier.arity_of(row) {
-        if earlier.word_of(row, j).bound() {
-            let exempt = may_meet(i, j, bits);
-            if !stands_beside(nodes, id, operands[j as usize], exempt) {
-                return false;
-            }
-            bits /= 2;
+    'places: for place in bound {
+        let exempt = may_meet(i, *place, bits);
+        if !stands_beside(nodes, id, operands[*place as usize], exempt) {
+            return false;
         }
+        bits /= 2;
     }
     true
 }

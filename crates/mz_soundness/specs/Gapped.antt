@@ -1,4 +1,5 @@
--- Gapped theorems: those whose body leaves a gap or cites a gapped one. The others have derivations without gaps.
+-- Gapped theorems: those whose body leaves a gap or cites a gapped one. The others have derivations without gaps
+-- (documents of the .mmb format, on proof streams and their command Sorry; Carneiro, the rules of derivation).
 use Rattle.std.specs.Prelude.{◌≡◌, ℕ, ⊤, ◌<◌, ◌⊎◌, Bool, true, false, List, [], ◌∷◌, ◌++◌, length}
 use Rattle.mz_logic.specs.Declaration.{Declaration, sort_decl, term_decl, assertion_decl, assertions}
 use Rattle.mz_logic.specs.Derivations.{Derivation, CitesOnly, without_gaps}

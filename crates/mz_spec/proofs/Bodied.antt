@@ -59,25 +59,6 @@ module _ (σ : State) (place : ℕ) (vs : List Variable) (l : Lexeme) (t : TypeT
         fails-after (strings_checks σ vs (body l t ∷ []) tokens) (each_in_order (free_checks σ place vs) (body l t ∷ [])) (record { at = place; rule = rules.DefinitionDependencies }) strings-hold
         (inl ((λ q. out (subst (CoversFreeVariables σ vs t) (one-meaning (reader_of σ vs) (of_sort (sort_number σ t)) (inner l) table names q.0 e q.1 meant) q.2)), refl))
 
--- ---- its scope
-
-module _ (σ : State) (vs : List Variable) where
-  abbrev ps : List Variable
-  ps = params_of vs
-
-  dep-within : (ds : List Lexeme) (x : ℕ) → Contains (dep_places 0 ps ds) x → x < length ps
-  dep-within ds x has = All-contains (λ j. j < length ps) (dep_places 0 ps ds) x (all-places (λ j. j < length ps) 0 ps ds (λ k v at is. let within = slice_get_within ps k v at in omega (arith, within))) has
-
-  -- what a variable depends on stands in the scope
-  pub deps-inside : DepsInside (scope_of σ vs).binders
-  deps-inside i b at x has =
-      let joined = map-append (binder_of σ ps) ps (dummies_of vs) in
-      let found = get-back (binder_of σ ps) (ps ++ dummies_of vs) i b (subst (λ bs. slice_get bs i ≡ Some b) (sym joined) at) in
-      let below = dep-within found.0.type.deps x (subst (λ c. Contains c.deps x) found.2 has) in
-      let long = length-append (param_binders σ vs) (dummy_binders σ vs) in
-      let same = length-map ps (binder_of σ ps) in
-      omega (arith, below, long, same)
-
 -- ---- what the code's scope and result say of free variables
 
 module _ (σ : State) (vs : List Variable) (t : TypeText) (e : Tree) (scope : Variables) (result : ResultType) (is_scope : scope ≡ scope_of σ vs) (is_result : result ≡ result_of σ vs t) where

@@ -1,8 +1,10 @@
 pub mod Loops
+pub mod Walking
 pub mod Numbers
 pub mod Tokens
 pub mod Naming
 pub mod Places
+pub mod Indexed
 pub mod Good
 pub mod Sorted
 pub mod Legal

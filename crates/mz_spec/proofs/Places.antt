@@ -2,10 +2,11 @@
 use Rattle.std.proofs.Common.{◌≡◌, ◌≢◌, ◌∙◌, ◌++◌, ◌<◌, ◌≤◌, ◌+◌, ◌⊎◌, ℕ, zero, suc, List, [], ◌∷◌, length, map, take, Bool, true, false, Option, Some, None, slice_get, All, Contains, ap, sym, refl, subst, inl, inr, arith, append_assoc}
 use Rattle.std.proofs.lemmas.List.{append-nil, length-map}
 use Rattle.std.proofs.lemmas.List.Elements.{All-nil, All-cons}
+use Rattle.std.proofs.lemmas.Bool.{eqb-true}
 use Rattle.std.proofs.lemmas.Slice.Eq.{bytes_eq-Decides}
 use Rattle.std.specs.Bool.{Decides}
 use Rattle.std.specs.List.{list_any}
-use Rattle.std.specs.Prelude.{◌||◌, ◌-◌, IsTrue, option_map, if◌then◌else◌, bytes_eq}
+use Rattle.std.specs.Prelude.{◌||◌, ◌==◌, ◌-◌, IsTrue, option_map, if◌then◌else◌, bytes_eq}
 use Rattle.mz_lex.specs.Kinds.{is_name}
 use Rattle.mz_lex.specs.Lexemes.{Lexeme}
 use Rattle.mz_checks.specs.Checks.{AllHold}
@@ -305,3 +306,8 @@ module _ (names : List (List ℕ)) (w : List ℕ) (rest : List (List ℕ)) (are 
       let front = get-front names (w ∷ rest) found.0 found.1 in
       let same = are.distinct found.0 (length names) w some front.0 here in
       omega (arith, same, front.1)
+
+-- nothing depends on nothing
+pub nothing-among : {X : Type 0} → (f : X → Lexeme) (vs : List Variable) (xs : List X) (b : Bool) → b ≡ (length xs == 0) → b ≡ true → [] ≡ dep_places 0 vs (map f xs)
+nothing-among f vs [] b is empty = sym (no-deps 0 vs)
+nothing-among f vs (x ∷ xs) b is empty = absurd (let e : length (x ∷ xs) ≡ 0 = eqb-true (length (x ∷ xs)) 0 (sym is ∙ empty) in omega (arith, e))

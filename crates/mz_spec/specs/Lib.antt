@@ -7,6 +7,7 @@ pub mod Rules
 pub mod Declaring
 pub mod Kept
 pub mod Spec
+pub mod Index
 pub mod Code
 pub mod Entries
 pub mod Reading

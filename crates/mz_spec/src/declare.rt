@@ -123,7 +123,7 @@ impl<'a> State<'a> {
         ensures { (vs : List VariableLem) (types results : List TypeLem) → AreParts parts.now vs types results → JudgesOrMem result (parts_rules (state self.now) place vs types results) }
     {
         self.check_variables(alloc, &parts.variables, &parts.types)?;
-        self.check_binders(place, parts)?;
+        self.check_binders(alloc, place, parts)?;
         Ok(())
     }
 
@@ -243,7 +243,8 @@ impl<'a> State<'a> {
     {
         let scope = self.scope_of(alloc, parts)?;
         let body = self.formula(alloc, &scope, math, Wanted::Sort(result_type.sort))?;
-        if !self.has_free_variables(&scope, &body, &result_type.deps) {
+        let has = self.has_free_variables(alloc, &scope, &body, &result_type.deps)?;
+        if !has {
             return Err(Halt::Fault(Fault {
                 at: place,
                 rule: S::DefinitionDependencies,

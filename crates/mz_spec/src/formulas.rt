@@ -1,10 +1,9 @@
 // The formulas of a statement.
-ghost use Rattle.std.specs.Prelude.{◌≡◌, ◌↔◌, ◌+◌, ◌<◌, ◌^◌, ◌++◌, ℕ, List, IfOk, IsTrue, OnOk, Contains, length, map};
+ghost use Rattle.std.specs.Prelude.{◌≡◌, ◌↔◌, ◌+◌, ◌<◌, ◌^◌, ◌++◌, ℕ, List, IfOk, IsTrue, OnOk, Contains, map};
 ghost use Rattle.mz_checks.specs.Checks.{retold};
 ghost use Rattle.mz_grammar.specs.Code.{group as group_lem, lexeme, source as source_lem};
 ghost use Rattle.mz_lex.specs.Kinds.{inside_of};
 ghost use Rattle.mz_logic.specs.Declaration.{signatures};
-ghost use Rattle.mz_logic.specs.Legality.{Each};
 ghost use Rattle.mz_logic.specs.Sorts.{HasSort};
 ghost use Rattle.mz_logic.specs.Tree.{Tree, followed_by};
 ghost use Rattle.mz_logic.specs.Variables.{InFV};
@@ -21,10 +20,12 @@ ghost use Rattle.mz_spec.specs.Rules.{Every};
 ghost use Rattle.mz_spec.specs.State.{scope_of};
 ghost use Rattle.mz_spec.specs.View.{Variable, group_stated, premise_stated, stated_claim};
 
+use crate::covered::Covered;
+use crate::free::covers;
 use crate::state::State;
 use mz_grammar::{Fault, Group, Halt, Lexeme, Source};
 use mz_lex::S;
-use mz_logic::{Deps, Expr, Exprs, copy_of, has_place, in_free_vars};
+use mz_logic::{Deps, Expr, Exprs, copy_of};
 use mz_math::{Parsed, Scope, Wanted, parse_formula};
 use std::alloc::{AllocError, Global};
 
@@ -180,17 +181,18 @@ impl<'a> State<'a> {
     }
 
     /// Whether the result depends on each free variable of the body.
-    pub fn has_free_variables(&self, scope: &Scope, body: &Expr, deps: &Deps) -> bool
+    pub fn has_free_variables(
+        &self,
+        alloc: Global,
+        scope: &Scope,
+        body: &Expr,
+        deps: &Deps,
+    ) -> Result<bool, AllocError>
         requires sorted { (s : ℕ) × HasSort (signatures self.now.env) scope.now.binders (tree body.now) s }
-        requires small { length scope.now.binders < 2 ^ 32 }
-        requires scoped { Each scope.now.binders (λ _ b. (x : ℕ) → Contains b.deps x → x < length scope.now.binders) }
-        ensures { IsTrue result ↔ ((x : ℕ) → InFV (signatures self.now.env) scope.now.binders x (tree body.now) → Contains deps.now x) }
+        ensures { IfOk result (λ has. IsTrue has ↔ ((x : ℕ) → InFV (signatures self.now.env) scope.now.binders x (tree body.now) → Contains deps.now x)) }
     {
-        for x in 0..scope.binders().len() {
-            if in_free_vars(&self.env, scope.binders(), body, x as u32) && !has_place(deps, x) {
-                return false;
-            }
-        }
-        true
+        let mut covered = Covered::of(alloc, deps)?;
+        let binders = scope.binders().as_slice();
+        covers(&self.env, binders, body, &mut covered)
     }
 }

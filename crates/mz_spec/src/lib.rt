@@ -6,8 +6,11 @@
 //! what a text declares and where it breaks its first rule.
 #![tactic(auto)]
 
+mod by_name;
+mod covered;
 mod declare;
 mod formulas;
+mod free;
 mod laws;
 mod levels;
 mod literals;

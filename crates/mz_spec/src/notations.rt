@@ -142,7 +142,7 @@ impl<'a> State<'a> {
             → JudgesOrMem result (noting_rules (state self.now) place (lexeme name.entry) vs types results) }
     {
         self.check_names(alloc, name, &parts.variables, &parts.types)?;
-        self.check_binders(place, parts)?;
+        self.check_binders(alloc, place, parts)?;
         Ok(())
     }
 

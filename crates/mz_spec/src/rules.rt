@@ -1,23 +1,26 @@
 // The rules of a statement on its names and binders.
-ghost use Rattle.std.specs.Prelude.{◌≡◌, ◌↔◌, ◌⊎◌, [], IfOk, IsTrue, List, map, option_map};
+ghost use Rattle.std.specs.Prelude.{◌≡◌, ◌↔◌, ◌⊎◌, ◌≤◌, ⊤, [], IfOk, IsTrue, List, MatchOption, length, map, option_map, take};
 ghost use Rattle.mz_checks.specs.Checks.{Judges, each_in_order};
 ghost use Rattle.mz_logic.specs.Modifiers.{IsPure, IsStrict, IsFree};
 ghost use Rattle.mz_grammar.specs.Code.{lexeme, type_text};
 ghost use Rattle.mz_spec.specs.Answers.{JudgesOrMem};
 ghost use Rattle.mz_spec.specs.Code.{AreParts, all_of, variable as variable_lem};
 ghost use Rattle.mz_spec.specs.Entries.{state};
+ghost use Rattle.mz_spec.specs.Index.{IsIndexOf};
 ghost use Rattle.mz_spec.specs.Kept.{IsKept};
 ghost use Rattle.mz_spec.specs.Rules.{AreBinders, DependsOnNothing, Every, HasSortThat, HaveBinders, IsBinder, IsDummySort, IsNotPure, IsResult, are_others, binder_rules, is_known, mods_of as mods_of_lem, new_name, type_checks};
 ghost use Rattle.mz_spec.specs.View.{Variable as VariableLem, names_of};
 ghost use Rattle.mz_grammar.specs.Statement.{TypeText as TypeLem};
 
+use crate::by_name::{are_bound_before, places_of};
 use crate::names::Names;
 use crate::parts::{Parts, TypeAt};
 use crate::state::State;
-use crate::variables::{Variable, are_bound};
+use crate::variables::Variable;
 use mz_grammar::{Fault, Halt, Lexeme, TypeText};
 use mz_lex::S;
 use mz_logic::SortMods;
+use mz_tokens::Places;
 use std::alloc::Global;
 
 /// The name is none of these.
@@ -130,24 +133,33 @@ impl<'a> State<'a> {
         }
     }
 
-    /// Whether the parameter stands right behind these.
-    fn is_binder(&self, before: &[Variable<'_, 'a>], variable: &Variable<'_, 'a>) -> bool
+    /// Whether the parameter at this place stands right behind those before it.
+    fn is_binder(
+        &self,
+        index: &Option<Places<u32>>,
+        params: &[Variable<'_, 'a>],
+        place: usize,
+        variable: &Variable<'_, 'a>,
+    ) -> bool
         requires kept { IsKept (state self.now) }
-        ensures { IsTrue result ↔ IsBinder (state self.now) (map variable_lem before.now) (variable_lem variable.now) }
+        requires index { MatchOption index.now ⊤ (IsIndexOf (map variable_lem params.now)) }
+        requires place { place ≤ length params.now }
+        ensures { IsTrue result ↔ IsBinder (state self.now) (map variable_lem (take place params.now)) (variable_lem variable.now) }
     {
         if variable.is_bound && (!variable.ty.deps.is_empty() || self.is_strict(variable.ty)) {
             return false;
         }
-        are_bound(before, &variable.ty.deps)
+        are_bound_before(index, params, place, &variable.ty.deps)
     }
 
     /// Whether each parameter stands right behind those before it.
-    fn are_binders(&self, params: &[Variable<'_, 'a>]) -> bool
+    fn are_binders(&self, index: &Option<Places<u32>>, params: &[Variable<'_, 'a>]) -> bool
         requires kept { IsKept (state self.now) }
+        requires index { MatchOption index.now ⊤ (IsIndexOf (map variable_lem params.now)) }
         ensures { IsTrue result ↔ AreBinders (state self.now) [] (map variable_lem params.now) }
     {
         for (i, variable) in params.iter().enumerate() {
-            if !self.is_binder(&params[..i], variable) {
+            if !self.is_binder(index, params, i, variable) {
                 return false;
             }
         }
@@ -179,44 +191,51 @@ impl<'a> State<'a> {
     }
 
     /// Whether parameters, dummies and result depend on what they may.
-    fn have_binders(&self, parts: &Parts<'_, 'a>) -> bool
+    fn have_binders(&self, index: &Option<Places<u32>>, parts: &Parts<'_, 'a>) -> bool
         requires kept { IsKept (state self.now) }
+        requires index { MatchOption index.now ⊤ (IsIndexOf (map variable_lem parts.now.params.items)) }
         ensures { (vs : List VariableLem) (types results : List TypeLem) → AreParts parts.now vs types results → IsTrue result ↔ HaveBinders (state self.now) vs results }
     {
-        self.are_binders(&parts.params)
+        self.are_binders(index, &parts.params)
             && depend_on_nothing(&parts.dummies)
-            && depends_on_bound(&parts.params, parts.result)
+            && depends_on_bound(index, &parts.params, parts.result)
     }
 
     /// The binders, the dummies' sorts and the result's sort are right.
-    pub fn check_binders(&self, place: u32, parts: &Parts<'_, 'a>) -> Result<(), Fault>
+    pub fn check_binders(
+        &self,
+        alloc: Global,
+        place: u32,
+        parts: &Parts<'_, 'a>,
+    ) -> Result<(), Halt>
         requires kept { IsKept (state self.now) }
-        ensures { (vs : List VariableLem) (types results : List TypeLem) → AreParts parts.now vs types results → Judges result (binder_rules (state self.now) place vs results) }
+        ensures { (vs : List VariableLem) (types results : List TypeLem) → AreParts parts.now vs types results → JudgesOrMem result (binder_rules (state self.now) place vs results) }
     {
-        if !self.have_binders(parts) {
-            return Err(Fault {
+        let index = places_of(alloc, &parts.params, have_deps(parts))?;
+        if !self.have_binders(&index, parts) {
+            return Err(Halt::Fault(Fault {
                 at: place,
                 rule: S::Binder,
-            });
+            }));
         }
         if !self.are_dummy_sorts(&parts.dummies) {
-            return Err(Fault {
+            return Err(Halt::Fault(Fault {
                 at: place,
                 rule: S::DummySort,
-            });
+            }));
         }
         if !self.is_not_pure(parts.result) {
-            return Err(Fault {
+            return Err(Halt::Fault(Fault {
                 at: place,
                 rule: S::Pure,
-            });
+            }));
         }
         Ok(())
     }
 }
 
 /// Whether none of the variables has dependencies.
-fn depend_on_nothing(variables: &[Variable<'_, '_>]) -> bool
+pub fn depend_on_nothing(variables: &[Variable<'_, '_>]) -> bool
     ensures { IsTrue result ↔ Every DependsOnNothing (map variable_lem variables.now) }
 {
     for variable in variables {
@@ -228,11 +247,24 @@ fn depend_on_nothing(variables: &[Variable<'_, '_>]) -> bool
 }
 
 /// Whether the result depends on bound parameters alone.
-fn depends_on_bound(params: &[Variable<'_, '_>], result_type: Option<&TypeText<'_>>) -> bool
+fn depends_on_bound(
+    index: &Option<Places<u32>>,
+    params: &[Variable<'_, '_>],
+    result_type: Option<&TypeText<'_>>,
+) -> bool
+    requires { MatchOption index.now ⊤ (IsIndexOf (map variable_lem params.now)) }
     ensures { IsTrue result ↔ Every (IsResult (map variable_lem params.now)) (all_of (option_map (λ t. type_text t.now) result_type.entry)) }
 {
     match result_type {
-        Some(ty) => are_bound(params, &ty.deps),
+        Some(ty) => are_bound_before(index, params, params.len(), &ty.deps),
         None => true,
+    }
+}
+
+/// Whether a parameter or the result has dependencies.
+fn have_deps(parts: &Parts<'_, '_>) -> bool {
+    match parts.result {
+        Some(ty) => !ty.deps.is_empty() || !depend_on_nothing(&parts.params),
+        None => !depend_on_nothing(&parts.params),
     }
 }

@@ -1,19 +1,23 @@
 // The variables of a statement over what is declared.
-ghost use Rattle.std.specs.Prelude.{◌≡◌, ◌+◌, ◌<◌, ◌^◌, ◌++◌, List, IfOk, OnOk, length, map, option_map};
+ghost use Rattle.std.specs.Prelude.{◌≡◌, ◌+◌, ◌<◌, ◌^◌, ◌++◌, ⊤, List, IfOk, MatchOption, OnOk, length, map, option_map};
 ghost use Rattle.mz_grammar.specs.Code.{lexeme, type_text};
 ghost use Rattle.mz_grammar.specs.Statement.{TypeText as TypeLem};
 ghost use Rattle.mz_notation.specs.Kept.{AreVariables};
 ghost use Rattle.mz_spec.specs.Code.{AreParts, variable as variable_lem};
 ghost use Rattle.mz_spec.specs.Entries.{state};
+ghost use Rattle.mz_spec.specs.Index.{IsIndexOf};
 ghost use Rattle.mz_spec.specs.State.{binder_of as binder_of_lem, bytes_of as bytes_of_lem, result_of, scope_of as scope_of_lem, sort_number as sort_number_lem, term_number as term_number_lem, variable_bytes};
 ghost use Rattle.mz_spec.specs.View.{Variable as VariableLem, alone};
 
+use crate::by_name::{places_among, places_of};
 use crate::parts::Parts;
+use crate::rules::depend_on_nothing;
 use crate::state::State;
-use crate::variables::{Variable, dep_places};
+use crate::variables::Variable;
 use mz_grammar::{Lexeme, TypeText};
 use mz_logic::{Binder, Binders, ResultType};
 use mz_math::Scope;
+use mz_tokens::Places;
 use std::alloc::{AllocError, Global};
 
 impl<'a> State<'a> {
@@ -43,17 +47,19 @@ impl<'a> State<'a> {
     fn binder_of(
         &self,
         alloc: Global,
+        index: &Option<Places<u32>>,
         params: &[Variable<'_, 'a>],
         variable: &Variable<'_, 'a>,
     ) -> Result<Binder, AllocError>
         requires few { length (state self.now).sort_names < 2 ^ 32 }
+        requires index { MatchOption index.now ⊤ (IsIndexOf (map variable_lem params.now)) }
         requires small { length params.now < 2 ^ 32 }
         ensures { IfOk result (λ binder. binder ≡ binder_of_lem (state self.now) (map variable_lem params.now) (variable_lem variable.now)) }
     {
         Ok(Binder {
             sort: self.sort_number(variable.ty.sort),
             bound: variable.is_bound,
-            deps: dep_places(alloc, params, &variable.ty.deps)?,
+            deps: places_among(alloc, index, params, &variable.ty.deps)?,
         })
     }
 
@@ -68,9 +74,26 @@ impl<'a> State<'a> {
         requires small { length params.now < 2 ^ 32 }
         ensures { IfOk result (λ binders. binders ≡ map (binder_of_lem (state self.now) (map variable_lem params.now)) (map variable_lem variables.now)) }
     {
+        let index = places_of(alloc, params, !depend_on_nothing(variables))?;
+        self.binders_by(alloc, &index, params, variables)
+    }
+
+    /// The same with this index of the parameters.
+    fn binders_by(
+        &self,
+        alloc: Global,
+        index: &Option<Places<u32>>,
+        params: &[Variable<'_, 'a>],
+        variables: &[Variable<'_, 'a>],
+    ) -> Result<Binders, AllocError>
+        requires few { length (state self.now).sort_names < 2 ^ 32 }
+        requires index { MatchOption index.now ⊤ (IsIndexOf (map variable_lem params.now)) }
+        requires small { length params.now < 2 ^ 32 }
+        ensures { IfOk result (λ binders. binders ≡ map (binder_of_lem (state self.now) (map variable_lem params.now)) (map variable_lem variables.now)) }
+    {
         let mut binders = Binders::new(alloc);
         for variable in variables {
-            binders.push(self.binder_of(alloc, params, variable)?)?;
+            binders.push(self.binder_of(alloc, index, params, variable)?)?;
         }
         Ok(binders)
     }
@@ -86,9 +109,10 @@ impl<'a> State<'a> {
         requires small { length parts.now.params.items < 2 ^ 32 }
         ensures { IfOk result (λ r. (vs : List VariableLem) (types results : List TypeLem) → AreParts parts.now vs types results → r ≡ result_of (state self.now) vs (type_text ty.now)) }
     {
+        let index = places_of(alloc, &parts.params, !ty.deps.is_empty())?;
         Ok(ResultType {
             sort: self.sort_number(ty.sort),
-            deps: dep_places(alloc, &parts.params, &ty.deps)?,
+            deps: places_among(alloc, &index, &parts.params, &ty.deps)?,
         })
     }
 
@@ -107,8 +131,29 @@ impl<'a> State<'a> {
         ensures names { OnOk result (scope.new.names ≡ scope.old.names ++ map variable_bytes (map variable_lem variables.now)) }
         ensures binders { OnOk result (scope.new.binders ≡ scope.old.binders ++ map (binder_of_lem (state self.now) (map variable_lem params.now)) (map variable_lem variables.now)) }
     {
+        let index = places_of(alloc, params, !depend_on_nothing(variables))?;
+        self.push_indexed(alloc, &index, scope, params, variables)
+    }
+
+    /// The same with this index of the parameters.
+    fn push_indexed(
+        &self,
+        alloc: Global,
+        index: &Option<Places<u32>>,
+        scope: &mut Scope,
+        params: &[Variable<'_, 'a>],
+        variables: &[Variable<'_, 'a>],
+    ) -> Result<(), AllocError>
+        requires few { length (state self.now).sort_names < 2 ^ 32 }
+        requires index { MatchOption index.now ⊤ (IsIndexOf (map variable_lem params.now)) }
+        requires small { length params.now < 2 ^ 32 }
+        requires room { length scope.old.names + length variables.now < 2 ^ 32 }
+        requires names { AreVariables (scope.old.names ++ map variable_bytes (map variable_lem variables.now)) }
+        ensures names { OnOk result (scope.new.names ≡ scope.old.names ++ map variable_bytes (map variable_lem variables.now)) }
+        ensures binders { OnOk result (scope.new.binders ≡ scope.old.binders ++ map (binder_of_lem (state self.now) (map variable_lem params.now)) (map variable_lem variables.now)) }
+    {
         for variable in variables {
-            let binder = self.binder_of(alloc, params, variable)?;
+            let binder = self.binder_of(alloc, index, params, variable)?;
             scope.push(bytes_of(variable.name), binder)?;
         }
         Ok(())

@@ -3,7 +3,7 @@ ghost use Rattle.std.specs.Prelude.{◌≡◌, ◌↔◌, ◌<◌, ◌^◌, ◌+
 ghost use Rattle.std.specs.List.{list_any};
 ghost use Rattle.mz_grammar.specs.Code.{group as group_lem, lexeme, name_text, type_text};
 ghost use Rattle.mz_spec.specs.Code.{variable};
-ghost use Rattle.mz_spec.specs.Rules.{Every, IsBoundAmong, IsCalled};
+ghost use Rattle.mz_spec.specs.Rules.{IsBoundAmong, IsCalled};
 ghost use Rattle.mz_spec.specs.State.{dep_places as dep_places_lem};
 ghost use Rattle.mz_spec.specs.View.{dummies_of as dummies_lem, group_variables, is_among as is_among_lem, name_of as name_of_lem, params_of as params_lem, unnamed, variable_of as variable_of_lem, variables_of as variables_of_lem};
 
@@ -129,20 +129,8 @@ pub fn dummies_of<'t, 'a>(
     Ok(dummies)
 }
 
-/// Whether all of these are names of bound variables.
-pub fn are_bound(variables: &[Variable<'_, '_>], deps: &[Lexeme<'_>]) -> bool
-    ensures { IsTrue result ↔ Every (IsBoundAmong (map variable variables.now)) (map lexeme deps.now) }
-{
-    for dep in deps {
-        if !is_bound(variables, *dep) {
-            return false;
-        }
-    }
-    true
-}
-
 /// Whether one of the variables is bound and has the name.
-fn is_bound(variables: &[Variable<'_, '_>], dep: Lexeme<'_>) -> bool
+pub fn is_bound(variables: &[Variable<'_, '_>], dep: Lexeme<'_>) -> bool
     ensures { IsTrue result ↔ IsBoundAmong (map variable variables.now) (lexeme dep.entry) }
 {
     for variable in variables {
@@ -171,6 +159,9 @@ pub fn dep_places(
     requires { length variables.now < 2 ^ 32 }
     ensures { IfOk result (λ places. places ≡ dep_places_lem 0 (map variable variables.now) (map lexeme deps.now)) }
 {
+    if deps.is_empty() {
+        return Ok(Deps::new(alloc));
+    }
     let mut places = Deps::new(alloc);
     for (i, variable) in variables.iter().enumerate() {
         if is_among(deps, variable.name) {

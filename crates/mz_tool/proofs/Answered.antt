@@ -1,9 +1,6 @@
 -- What is answered over the contents of files is the answer over the folder.
-use Rattle.std.proofs.Common.{false, Bool, ◌≡◌, ◌∙◌, ◌⊎◌, ◌≤◌, ℕ, List, [], ◌∷◌, length, Option, Some, None, sym, subst, inl, inr, refl, true, arith}
-use Rattle.mz_match.specs.declared.verdict.Counts.{Counts}
-use Rattle.mz_match.specs.declared.verdict.Verdict.{Verdict}
-use Rattle.mz_match.specs.declared.verdict.Verdict.TheVariants as verdicts
-use Rattle.mz_match.specs.Verdict.{AcceptsWith, IsVerdict, IsSound, line_of}
+use Rattle.std.proofs.Common.{false, Bool, ◌≡◌, ◌∙◌, ◌≤◌, ℕ, List, [], ◌∷◌, length, Option, Some, None, sym, subst, inl, inr, refl, true, arith}
+use Rattle.mz_match.specs.Verdict.{IsSound}
 use Rattle.std.specs.Prelude.{nat_le, bytes_eq}
 use Rattle.std.specs.List.{list_any}
 use Rattle.std.proofs.lemmas.Bool.{or_cases, or_left, or_right, and_parts, and_from, le-leb, leb-true}
@@ -50,23 +47,6 @@ module _ (file : Files) (request : Request) (contents : List (List ℕ)) (held :
       subst P (hold-same file (names_read request) read contents hold held) is
 
 -- ---- the outcome of `verify`
-
-module _ (spec bin : List ℕ) where
-  pub is-refuted : (v : Verdict) (text : List ℕ) → IsVerdict spec bin v → ((counts : Counts) → v ≡ verdicts.Accepted counts → ⊥) → (v ≡ verdicts.Mem → ⊥) → text ≡ line_of v
-      → IsRefuted spec bin text
-  is-refuted (verdicts.Accepted counts) text is other some line = absurd (other counts refl)
-  is-refuted (verdicts.Spec refusal) text is other some line = (verdicts.Spec refusal, is, line)
-  is-refuted (verdicts.Binary refusal) text is other some line = (verdicts.Binary refusal, is, line)
-  is-refuted (verdicts.Match declaration statement rule) text is other some line = (verdicts.Match declaration statement rule, is, line)
-  is-refuted verdicts.Mem text is other some line = absurd (some refl)
-
-  pub not-verified : (v : Verdict) → ((counts : Counts) → v ≡ verdicts.Accepted counts → ⊥) → (v ≡ verdicts.Mem → ⊥)
-      → ((counts : Counts) → AcceptsWith spec bin counts → (v ≡ verdicts.Accepted counts) ⊎ (v ≡ verdicts.Mem))
-      → (text : List ℕ) → IsVerified spec bin text → ⊥
-  not-verified v other some accepted text (counts, accepts, line) = either (accepted counts accepts) where
-    either : (v ≡ verdicts.Accepted counts) ⊎ (v ≡ verdicts.Mem) → ⊥
-    either (inl e) = other counts e
-    either (inr e) = some e
 
 -- two files as they are read and as slices
 pub two-read : (xs : List (List ℕ)) (x y u v : List ℕ) → xs ≡ x ∷ y ∷ [] → u ≡ x → v ≡ y → xs ≡ u ∷ v ∷ []

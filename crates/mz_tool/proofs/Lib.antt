@@ -3,6 +3,7 @@ mod Sizes
 mod StatedBodies
 mod StatedLists
 mod Answered
+mod Judged
 mod Sampled
 mod Assemblies
 mod Specifications

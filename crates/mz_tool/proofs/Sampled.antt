@@ -16,12 +16,13 @@ use Rattle.mz_tool.specs.Outcomes.{IfYes, IfNo, OnYes, OnNo, IsAfter}
 use Rattle.mz_tool.specs.Run.{IsYesOf, IsNoOf, IsProvedOf, IsVerified, IsRefuted, IsCompiledTo, IsNotCompiled, IsUpheld, IsFaulted, IsProvedByText, sizes_line, IsSampleUpheld, IsSampleFaulted}
 use Rattle.mz_tool.proofs.Answered.{put-bytes, not-compiled-alone}
 use Rattle.mz_tool.proofs.StatedLists.{stated-agree}
+use Rattle.mz_binary.specs.Standards.{strict_standard}
 
 -- a text that is compiled is accepted or not whatever binary it is compiled to
 accepted-once : (spec text bin bin' : List ℕ) → IsTypedOrFaulty false text → CompilesTo false text bin → CompilesTo false text bin' → Accepts spec bin → Accepts spec bin'
 accepted-once spec text bin bin' one (ss, typed, within, binary) (ss', typed', within', binary') accepts =
     let same : ss ≡ ss' = one.one_list ss ss' typed typed' in
-    let made = one-list bin accepts.statements binary.good.made (good-spelled false bin accepts.statements accepts.is_good) binary.good.spelled in
+    let made = one-list bin accepts.statements binary.good.made (good-spelled strict_standard bin accepts.statements accepts.is_good) binary.good.spelled in
     let agrees : Agrees accepts.declared (publics binary.good.made) = subst (λ (xs : List Statement). Agrees accepts.declared (publics xs)) made accepts.agrees in
     let stated : Agrees accepts.declared (publics (marked ss)) = stated-agree accepts.declared (marked ss) binary.good.made binary.good.same agrees in
     binary'.accepted spec accepts.declared accepts.is_spec (subst (λ (xs : _). Agrees accepts.declared (publics (marked xs))) same stated)

@@ -1,6 +1,7 @@
 pub mod Request
 pub mod Sizes
 pub mod Inputs
+pub mod Judging
 pub mod Outcomes
 pub mod Run
 pub mod Specified

@@ -12,6 +12,7 @@ pub data Request : Type 0 where
   assemble : (listing out : List ℕ) → Request
   axioms : (spec bin : List ℕ) → Request
   draft : (spec bin : List ℕ) → Request
+  portable : (spec bin : List ℕ) → Request
   specify : (text out : List ℕ) → Request
   sample : (n : ℕ) → Request
 
@@ -26,6 +27,7 @@ words_of (compile gaps text out) = compile_word gaps ∷ text ∷ out ∷ []
 words_of (assemble listing out) = codes "assemble" ∷ listing ∷ out ∷ []
 words_of (axioms spec bin) = codes "axioms" ∷ spec ∷ bin ∷ []
 words_of (draft spec bin) = codes "draft" ∷ spec ∷ bin ∷ []
+words_of (portable spec bin) = codes "portable" ∷ spec ∷ bin ∷ []
 words_of (specify text out) = codes "spec" ∷ text ∷ out ∷ []
 words_of (sample n) = codes "sample" ∷ decimal n ∷ []
 
@@ -37,6 +39,7 @@ IsInRange (compile gaps text out) = Unit {0}
 IsInRange (assemble listing out) = Unit {0}
 IsInRange (axioms spec bin) = Unit {0}
 IsInRange (draft spec bin) = Unit {0}
+IsInRange (portable spec bin) = Unit {0}
 IsInRange (specify text out) = Unit {0}
 IsInRange (sample n) = (1 ≤ n) × (n ≤ 10000)
 
@@ -52,6 +55,7 @@ names_read (compile gaps text out) = text ∷ []
 names_read (assemble listing out) = listing ∷ []
 names_read (axioms spec bin) = spec ∷ bin ∷ []
 names_read (draft spec bin) = spec ∷ bin ∷ []
+names_read (portable spec bin) = spec ∷ bin ∷ []
 names_read (specify text out) = text ∷ []
 names_read (sample n) = []
 
@@ -63,6 +67,7 @@ name_put (compile gaps text out) = Some out
 name_put (assemble listing out) = Some out
 name_put (axioms spec bin) = None
 name_put (draft spec bin) = None
+name_put (portable spec bin) = None
 name_put (specify text out) = Some out
 name_put (sample n) = None
 

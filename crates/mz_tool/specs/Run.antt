@@ -1,10 +1,13 @@
 -- How the program answers (this project's own).
-use Rattle.std.specs.Prelude.{◌≡◌, ◌⊎◌, ◌++◌, ℕ, Bool, true, false, List, [], ◌∷◌, length, Option, Some, None}
+use Rattle.std.specs.Prelude.{◌≡◌, ◌⊎◌, ◌++◌, ℕ, Bool, false, List, [], ◌∷◌, length, Option, Some, None}
 use Rattle.mz_cmd.specs.declared.rule.Refusal.{Refusal}
 use Rattle.mz_match.specs.declared.verdict.Counts.{Counts}
 use Rattle.mz_match.specs.declared.verdict.Verdict.{Verdict}
 use Rattle.mz_match.specs.declared.verdict.Verdict.TheVariants as verdicts
-use Rattle.mz_match.specs.Verdict.{Accepts, AcceptsWith, FirstRefusalBy, IsSound, line_of}
+use Rattle.mz_binary.specs.declared.standard.Standard.{Standard}
+use Rattle.mz_binary.specs.declared.standard.Standard.TheVariants.{Portable}
+use Rattle.mz_binary.specs.Standards.{strict_standard, draft_standard}
+use Rattle.mz_match.specs.Verdict.{Accepts, AcceptsWithBy, FirstRefusalBy, IsSound, line_of}
 use Rattle.mz_match.specs.Drafts.{DraftAccepts, IsDraftSound}
 use Rattle.mz_binary.specs.RefusalLine.{refusal_line}
 use Rattle.mz_show.specs.Listing.{IsListing, IsListedUpTo, IsListed}
@@ -22,7 +25,7 @@ use Rattle.mz_axioms.specs.Lists.{TheoremSupport, AreSupports}
 use Rattle.mz_axioms.specs.Text.{IsTextOf}
 use Rattle.mz_axioms.specs.Gaps.{IsGapsTextOf}
 use Rattle.mz_sample.specs.Samples.{sample_specification, sample_text, sample_line}
-use Rattle.mz_tool.specs.Request.{Request, verify, show, compile, assemble, axioms, draft, specify, sample, Files, Hold, names_read}
+use Rattle.mz_tool.specs.Request.{Request, verify, show, compile, assemble, axioms, draft, portable, specify, sample, Files, Hold, names_read}
 use Rattle.mz_wording.specs.Wording.{Unwritten, local_in, long_in, too_long, longest, IsWordedAs, IsUnwritten}
 use Rattle.mz_agreeing.specs.Laws.{DeclaresText}
 use Rattle.mz_prefix.specs.Told.{specified_line, local_line, long_line}
@@ -31,23 +34,27 @@ use Rattle.mz_tool.specs.declared.status.Status.TheVariants as statuses
 
 -- ---- the answers of each command, over the bytes of the files
 
--- the binary is accepted against the specification
-abbrev pub IsVerified : List ℕ → List ℕ → List ℕ → Type 0
-IsVerified spec bin text = (counts : Counts) × AcceptsWith spec bin counts × (text ≡ line_of (verdicts.Accepted counts))
+-- the binary, held to a standard, is accepted against the specification
+abbrev pub IsVerifiedBy : Standard → List ℕ → List ℕ → List ℕ → Type 0
+IsVerifiedBy standard spec bin text = (counts : Counts) × AcceptsWithBy standard spec bin counts × (text ≡ line_of (verdicts.Accepted counts))
 
--- it is refused, by the one first refusal, with gaps or without
-abbrev pub IsRefutedBy : Bool → List ℕ → List ℕ → List ℕ → Type 0
-IsRefutedBy gaps spec bin text = (verdict : Verdict) × FirstRefusalBy gaps spec bin verdict × (text ≡ line_of verdict)
+abbrev pub IsVerified : List ℕ → List ℕ → List ℕ → Type 0
+IsVerified spec bin text = IsVerifiedBy strict_standard spec bin text
+
+-- it is refused, by the one first refusal
+abbrev pub IsRefutedBy : Standard → List ℕ → List ℕ → List ℕ → Type 0
+IsRefutedBy standard spec bin text = (verdict : Verdict) × FirstRefusalBy standard spec bin verdict × (text ≡ line_of verdict)
 
 abbrev pub IsRefuted : List ℕ → List ℕ → List ℕ → Type 0
-IsRefuted spec bin text = IsRefutedBy false spec bin text
+IsRefuted spec bin text = IsRefutedBy strict_standard spec bin text
 
 -- the listing stops, and the refusal's line follows what was listed
 abbrev pub IsPartlyListed : List ℕ → List ℕ → Type 0
 IsPartlyListed bin text = (listed : List ℕ) × (refusal : Refusal) × IsListedUpTo bin listed refusal × (text ≡ listed ++ refusal_line refusal)
 
 -- the text, where gaps are let through a draft, is compiled to the bytes, which are put: they are accepted against each
--- specification with which its public statements agree, of a draft as a draft; a finished text's are so without gaps
+-- specification with which its public statements agree, of a draft as a draft; a finished text's are so without gaps,
+-- and by verifiers that compare addresses too
 abbrev pub IsCompiledTo : Bool → List ℕ → Option (List ℕ) → List ℕ → Type 0
 IsCompiledTo gaps text put line = (bin : List ℕ) × (put ≡ Some bin) × CompilesTo gaps text bin × (IsCompilable false text → CompilesTo false text bin)
     × (line ≡ bytes_line (length bin))
@@ -132,6 +139,7 @@ IsYesOf (compile gaps text_name out_name) (stated ∷ []) put text = IsCompiledT
 IsYesOf (assemble listing_name out_name) (listing ∷ []) put text = IsAssembledTo listing put text
 IsYesOf (axioms spec_name bin_name) (spec ∷ bin ∷ []) put text = (put ≡ None) × AreAxiomsTold spec bin text
 IsYesOf (draft spec_name bin_name) (spec ∷ bin ∷ []) put text = (put ≡ None) × IsDraftTold spec bin text
+IsYesOf (portable spec_name bin_name) (spec ∷ bin ∷ []) put text = (put ≡ None) × IsVerifiedBy Portable spec bin text
 IsYesOf (specify text_name out_name) (stated ∷ []) put text = IsSpecifiedTo stated put text
 IsYesOf (sample n) [] put text = (put ≡ None) × IsSampleUpheld n text
 IsYesOf request contents put text = ⊥
@@ -143,7 +151,8 @@ IsNoOf (show bin_name) (bin ∷ []) text = IsPartlyListed bin text
 IsNoOf (compile gaps text_name out_name) (stated ∷ []) text = IsNotCompiled gaps stated text
 IsNoOf (assemble listing_name out_name) (listing ∷ []) text = IsNotAssembled listing text
 IsNoOf (axioms spec_name bin_name) (spec ∷ bin ∷ []) text = IsRefuted spec bin text
-IsNoOf (draft spec_name bin_name) (spec ∷ bin ∷ []) text = IsRefutedBy true spec bin text
+IsNoOf (draft spec_name bin_name) (spec ∷ bin ∷ []) text = IsRefutedBy draft_standard spec bin text
+IsNoOf (portable spec_name bin_name) (spec ∷ bin ∷ []) text = IsRefutedBy Portable spec bin text
 IsNoOf (specify text_name out_name) (stated ∷ []) text = IsNotSpecified stated text
 IsNoOf (sample n) [] text = IsSampleFaulted n text
 IsNoOf request contents text = ⊥
@@ -152,7 +161,7 @@ IsNoOf request contents text = ⊥
 -- list and agrees with the specification up to the theorem; it has a closed derivation over the statements before it, and
 -- this cites only axioms that the specification declares before it. All of the binary's statements are legal and agree too.
 -- What is accepted with gaps agrees and is a legal draft, and each theorem that isn't gapped has a derivation without gaps,
--- over the statements before it, that cites no gapped theorem.
+-- over the statements before it, that cites no gapped theorem. What verifiers accept that compare addresses is accepted.
 abbrev pub IsProvedOf : Request → List (List ℕ) → Type 0
 IsProvedOf (verify spec_name bin_name) (spec ∷ bin ∷ []) = IsSound spec bin
 IsProvedOf (verify spec_name bin_name) contents = ⊥
@@ -163,6 +172,8 @@ IsProvedOf (axioms spec_name bin_name) (spec ∷ bin ∷ []) = IsSound spec bin
 IsProvedOf (axioms spec_name bin_name) contents = ⊥
 IsProvedOf (draft spec_name bin_name) (spec ∷ bin ∷ []) = IsDraftSound spec bin
 IsProvedOf (draft spec_name bin_name) contents = ⊥
+IsProvedOf (portable spec_name bin_name) (spec ∷ bin ∷ []) = IsSound spec bin × Accepts spec bin
+IsProvedOf (portable spec_name bin_name) contents = ⊥
 IsProvedOf (specify text_name out_name) (stated ∷ []) = AreItsSpecifications stated
 IsProvedOf (specify text_name out_name) contents = ⊥
 IsProvedOf (sample n) contents = IsProvedByText (sample_specification n) (sample_text n)
@@ -201,6 +212,7 @@ IsListedFor file (compile gaps text_name out_name) text = ⊥
 IsListedFor file (assemble listing_name out_name) text = ⊥
 IsListedFor file (axioms spec_name bin_name) text = ⊥
 IsListedFor file (draft spec_name bin_name) text = ⊥
+IsListedFor file (portable spec_name bin_name) text = ⊥
 IsListedFor file (specify text_name out_name) text = ⊥
 IsListedFor file (sample n) text = ⊥
 IsListedFor file (show bin_name) text = (bin : List ℕ) × (file bin_name ≡ Some bin) × IsListed bin text
@@ -212,6 +224,7 @@ IsShow (compile gaps text out) = ⊥
 IsShow (assemble listing out) = ⊥
 IsShow (axioms spec bin) = ⊥
 IsShow (draft spec bin) = ⊥
+IsShow (portable spec bin) = ⊥
 IsShow (specify text out) = ⊥
 IsShow (sample n) = ⊥
 

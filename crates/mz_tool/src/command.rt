@@ -41,6 +41,11 @@ pub enum Command<'a> {
         spec: &'a str,
         bin: &'a str,
     },
+    /// `portable SPEC BIN`
+    Portable {
+        spec: &'a str,
+        bin: &'a str,
+    },
     /// `spec TEXT OUT`
     Specify {
         text: &'a str,
@@ -116,6 +121,10 @@ impl<'a> Command<'a> {
                 spec: first,
                 bin: second,
             }),
+            "portable" => Some(Command::Portable {
+                spec: first,
+                bin: second,
+            }),
             "spec" => Some(Command::Specify {
                 text: first,
                 out: second,
@@ -135,6 +144,7 @@ impl<'a> Command<'a> {
             Command::Assemble { listing, .. } => Inputs::One(listing),
             Command::Axioms { spec, bin } => Inputs::Two(spec, bin),
             Command::Draft { spec, bin } => Inputs::Two(spec, bin),
+            Command::Portable { spec, bin } => Inputs::Two(spec, bin),
             Command::Specify { text, .. } => Inputs::One(text),
             Command::Sample { .. } => Inputs::Nothing,
         }
@@ -149,6 +159,7 @@ impl<'a> Command<'a> {
             | Command::Show { .. }
             | Command::Axioms { .. }
             | Command::Draft { .. }
+            | Command::Portable { .. }
             | Command::Sample { .. } => Output::Nothing,
             Command::Compile { out, .. }
             | Command::Assemble { out, .. }

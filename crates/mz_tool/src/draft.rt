@@ -1,8 +1,10 @@
 // The command `draft`.
-ghost use Rattle.std.specs.Prelude.{◌≡◌, ◌<◌, ◌⊎◌, ◌^◌, ℕ, List, None, length, true};
+ghost use Rattle.std.specs.Prelude.{◌≡◌, ◌<◌, ◌⊎◌, ◌^◌, ℕ, List, None, length};
+ghost use Rattle.mz_binary.specs.Standards.{draft_standard};
 ghost use Rattle.mz_match.specs.declared.verdict.Verdict.{Verdict as TheVerdict};
 ghost use Rattle.mz_match.specs.declared.verdict.Verdict.TheVariants as verdicts;
 ghost use Rattle.mz_match.specs.Drafts.{IsDraft, IsDraftSound, IsDraftSoundIfAccepted, verdict_of};
+ghost use Rattle.mz_binary.specs.Standards.{draft_standard};
 ghost use Rattle.mz_match.specs.Verdict.{AcceptsWithBy, FirstRefusalBy};
 ghost use Rattle.mz_tool.specs.Run.{IsDraftTold, IsRefutedBy};
 ghost use Rattle.mz_tool.specs.Outcomes.{IfYes, IfNo, OnYes, OnNo};
@@ -22,10 +24,10 @@ pub fn draft(alloc: Global, spec: &[u8], bin: &[u8]) -> Outcome
     requires spec { length spec.now < 2 ^ 32 }
     requires bin { length bin.now < 2 ^ 32 }
     ensures yes { IfYes result (λ put text. (put ≡ None) × IsDraftTold spec.now bin.now text) }
-    ensures no { IfNo result (λ text. IsRefutedBy true spec.now bin.now text) }
+    ensures no { IfNo result (λ text. IsRefutedBy draft_standard spec.now bin.now text) }
     ensures sound { OnYes result (IsDraftSound spec.now bin.now) }
     ensures only_yes { (text : List ℕ) → IsDraftTold spec.now bin.now text → OnNo result ⊥ }
-    ensures only_no { (text : List ℕ) → IsRefutedBy true spec.now bin.now text → OnYes result ⊥ }
+    ensures only_no { (text : List ℕ) → IsRefutedBy draft_standard spec.now bin.now text → OnYes result ⊥ }
 {
     match judge::<Brand>(alloc, Blank::new(1), spec, bin) {
         Draft::Accepted(counts, gaps) => {
@@ -75,8 +77,8 @@ fn judge<L: Ledger>(alloc: Global, blank: Blank, spec: &[u8], bin: &[u8]) -> Dra
     requires bin { length bin.now < 2 ^ 32 }
     ensures draft { IsDraft spec.now bin.now result }
     ensures sound { IsDraftSoundIfAccepted spec.now bin.now result }
-    ensures accepted { (counts : Counts) → AcceptsWithBy true spec.now bin.now counts → (verdict_of result ≡ verdicts.Accepted counts) ⊎ (verdict_of result ≡ verdicts.Mem) }
-    ensures refused { (verdict : TheVerdict) → FirstRefusalBy true spec.now bin.now verdict → (verdict_of result ≡ verdict) ⊎ (verdict_of result ≡ verdicts.Mem) }
+    ensures accepted { (counts : Counts) → AcceptsWithBy draft_standard spec.now bin.now counts → (verdict_of result ≡ verdicts.Accepted counts) ⊎ (verdict_of result ≡ verdicts.Mem) }
+    ensures refused { (verdict : TheVerdict) → FirstRefusalBy draft_standard spec.now bin.now verdict → (verdict_of result ≡ verdict) ⊎ (verdict_of result ≡ verdicts.Mem) }
 {
     let mut steps = Steps::<L>::start(blank);
     draft_bytes(alloc, spec, bin, &mut steps)

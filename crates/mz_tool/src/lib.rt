@@ -14,12 +14,14 @@ mod draft;
 mod inputs;
 mod outcome;
 mod output;
+mod portable;
 mod program;
 mod sample;
 mod show;
 mod size;
 mod specify;
 mod status;
+mod verdict;
 mod verify;
 mod whole;
 

@@ -13,6 +13,7 @@ use crate::compile::compile;
 use crate::draft::draft;
 use crate::inputs::Contents;
 use crate::output::Put;
+use crate::portable::portable;
 use crate::sample::sample;
 use crate::specify::specify;
 use crate::verify::verify;
@@ -47,6 +48,9 @@ pub fn outcome_of(alloc: Global, command: Command, contents: &Contents) -> Outco
         (Command::Assemble { .. }, Contents::One(listing)) => assemble(alloc, listing),
         (Command::Axioms { .. }, Contents::Two(spec, bin)) => axioms(alloc, spec.as_slice(), bin),
         (Command::Draft { .. }, Contents::Two(spec, bin)) => draft(alloc, spec.as_slice(), bin),
+        (Command::Portable { .. }, Contents::Two(spec, bin)) => {
+            portable(alloc, spec.as_slice(), bin)
+        }
         (Command::Specify { .. }, Contents::One(text)) => specify(alloc, text),
         (Command::Sample { size }, Contents::Nothing) => sample(alloc, size),
         _ => unreachable!(),

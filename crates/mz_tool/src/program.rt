@@ -132,6 +132,7 @@ pub fn answer<F: Folder, O: Sink>(
         | Command::Assemble { .. }
         | Command::Axioms { .. }
         | Command::Draft { .. }
+        | Command::Portable { .. }
         | Command::Specify { .. }
         | Command::Sample { .. } => answer_whole(alloc, limit, command, folder, out),
     }

@@ -5,9 +5,9 @@ ghost use Rattle.mz_tool.specs.Run.{IsVerified, IsRefuted};
 ghost use Rattle.mz_tool.specs.Outcomes.{IfYes, IfNo, OnYes, OnNo};
 
 use crate::outcome::Outcome;
-use crate::output::Put;
+use crate::verdict::answered_by;
 use mz_cmd::Steps;
-use mz_match::{Counts, Verdict, verdict_line, verify_bytes};
+use mz_match::{Counts, Verdict, verify_bytes};
 use std::alloc::Global;
 use std::marker::Brand;
 use std::sync::ledger::{Blank, Ledger};
@@ -23,19 +23,7 @@ pub fn verify(alloc: Global, spec: &[u8], bin: &[u8]) -> Outcome
     ensures only_no { (text : List ℕ) → IsRefuted spec.now bin.now text → OnYes result ⊥ }
 {
     let verdict = judge::<Brand>(alloc, Blank::new(1), spec, bin);
-    if let Verdict::Mem = verdict {
-        return Outcome::Mem;
-    }
-    let Ok(text) = verdict_line(alloc, &verdict) else {
-        return Outcome::Mem;
-    };
-    match verdict {
-        Verdict::Accepted(_) => Outcome::Yes {
-            put: Put::Nothing,
-            text,
-        },
-        _ => Outcome::No { text },
-    }
+    answered_by(alloc, &verdict)
 }
 
 /// The verdict, its steps counted in a ledger of their own.

@@ -2,7 +2,7 @@
 
 ghost use Rattle.std.specs.Prelude.{◌≡◌, ◌<◌, ◌^◌, length};
 
-use mz_binary::{Checked, Checker, Next, Rows, Statement, check_all, refusal_line};
+use mz_binary::{Checked, Checker, Next, Rows, Standard, Statement, check_all, refusal_line};
 use mz_cmd::{K, Mem, Refusal, Steps};
 use mz_layout::Mmb;
 use mz_mode::Mode;
@@ -11,6 +11,11 @@ use std::marker::Brand;
 use std::process::Abort;
 use std::sync::ledger::{Blank, Ledger};
 use std::test::Fail;
+
+/// Finished proofs, and drafts.
+const STRICT: Standard = Standard::Published(Mode::Strict);
+
+const DRAFT: Standard = Standard::Published(Mode::Draft);
 
 /// Negation, the definition of a double negation, and a theorem that folds it.
 const FOLD: &[u8] = &[
@@ -32,14 +37,14 @@ fn with_byte(alloc: Global, at: usize, byte: u8) -> Result<Vec<u8>, Mem> {
     Ok(file)
 }
 
-fn check_with<L: Ledger>(alloc: Global, blank: Blank, file: &[u8], mode: Mode) -> Checked
+fn check_with<L: Ledger>(alloc: Global, blank: Blank, file: &[u8], standard: Standard) -> Checked
     requires name { blank.name ≡ L.name }
     requires parts { blank.parts ≡ L.parts }
     requires some { 0 < blank.parts }
     requires fits { length file.now < 2 ^ 32 }
 {
     let mut steps = Steps::<L>::start(blank);
-    check_all(alloc, file, mode, &mut steps)
+    check_all(alloc, file, standard, &mut steps)
 }
 
 /// How many rows a file has, or its refusal's line.
@@ -59,32 +64,38 @@ fn line_of(
     rt: &(impl Abort + AllocGlobal),
     at: usize,
     byte: u8,
-    mode: Mode,
+    standard: Standard,
 ) -> Result<Vec<u8>, Mem> {
     let file = with_byte(rt.alloc(), at, byte)?;
     assert!(rt; file.len() < 200);
     told(
         rt.alloc(),
-        check_with::<Brand>(rt.alloc(), Blank::new(1), &file, mode),
+        check_with::<Brand>(rt.alloc(), Blank::new(1), &file, standard),
     )
 }
 
 /// A byte and its place, and what is told of the file then.
-const WHOLE: &[(usize, u8, Mode, &str)] = &[
-    (132, 0x4D, Mode::Strict, "good: 1 2 1\n"),
+const WHOLE: &[(usize, u8, Standard, &str)] = &[
+    (132, 0x4D, STRICT, "good: 1 2 1\n"),
     (
         157,
         0x20,
-        Mode::Strict,
+        STRICT,
         "refused: binary statement 4 at byte 157: K30 sorry\n",
     ),
-    (157, 0x20, Mode::Draft, "good: 1 2 1\n"),
+    (157, 0x20, DRAFT, "good: 1 2 1\n"),
+    (
+        132,
+        0x4D,
+        Standard::Portable,
+        "refused: binary statement 4 at byte 156: K28 unfold\n",
+    ),
 ];
 
 #[test]
 fn whole_files(rt: HostRuntime) -> Result<(), Fail> {
-    for (at, byte, mode, line) in WHOLE {
-        let found = line_of(&rt, *at, *byte, *mode)?;
+    for (at, byte, standard, line) in WHOLE {
+        let found = line_of(&rt, *at, *byte, *standard)?;
         assert!(rt; found.as_slice() == line.as_bytes(), "{byte} at {at}");
     }
     Ok(())
@@ -95,7 +106,7 @@ fn end_of<L: Ledger>(
     alloc: Global,
     blank: Blank,
     mmb: &Mmb<'_>,
-    mode: Mode,
+    standard: Standard,
     statements: &mut Vec<Statement>,
 ) -> Result<Result<Rows, Refusal>, Mem>
     requires name { blank.name ≡ L.name }
@@ -103,7 +114,7 @@ fn end_of<L: Ledger>(
     requires some { 0 < blank.parts }
 {
     let mut steps = Steps::<L>::start(blank);
-    let mut checker = Checker::new(alloc, mmb, mode);
+    let mut checker = Checker::new(alloc, mmb, standard);
     for _ in 0..10 {
         match checker.check_next(&mut steps) {
             Next::Statement(after, statement) => {
@@ -183,13 +194,13 @@ fn end_with(
     rt: &(impl Abort + AllocGlobal),
     at: usize,
     byte: u8,
-    mode: Mode,
+    standard: Standard,
     statements: &mut Vec<Statement>,
 ) -> Result<Result<Rows, Refusal>, Mem> {
     let file = with_byte(rt.alloc(), at, byte)?;
     assert!(rt; file.len() < 200);
     match Mmb::read(&file) {
-        Ok(mmb) => end_of::<Brand>(rt.alloc(), Blank::new(1), &mmb, mode, statements),
+        Ok(mmb) => end_of::<Brand>(rt.alloc(), Blank::new(1), &mmb, standard, statements),
         Err(refusal) => Ok(Err(refusal)),
     }
 }
@@ -199,7 +210,7 @@ fn end_with(
 fn statements_one_by_one(rt: HostRuntime) -> Result<(), Fail> {
     for (at, byte, count, after) in ENDINGS {
         let mut found = Vec::new(rt.alloc());
-        let ended = end_with(&rt, *at, *byte, Mode::Strict, &mut found)?;
+        let ended = end_with(&rt, *at, *byte, STRICT, &mut found)?;
         assert!(rt;
             found.iter().eq(STATEMENTS.iter().take(*count)),
             "{count} statements"
@@ -213,7 +224,7 @@ fn statements_one_by_one(rt: HostRuntime) -> Result<(), Fail> {
 #[test]
 fn gaps_are_told(rt: HostRuntime) -> Result<(), Fail> {
     let mut found = Vec::new(rt.alloc());
-    let ended = end_with(&rt, 157, 0x20, Mode::Draft, &mut found)?;
+    let ended = end_with(&rt, 157, 0x20, DRAFT, &mut found)?;
     assert!(rt; ended.is_ok(), "good in a draft");
     assert!(rt; found.len() == 4, "four statements");
     for (i, statement) in found.iter().enumerate() {

@@ -46,6 +46,7 @@ pub const RUNS: &[(&str, u8, u8, &str)] = &[
     ("assemble list out", 3, 1, "assembled: 51 bytes\n"),
     ("axioms claim proof", 6, 0, RESTS_ON),
     ("draft open gap", 6, 0, OPEN),
+    ("portable spec bin", 6, 0, ACCEPTED_ONE),
     (SPECIFYING, 3, 1, SPECIFIED),
     ("sample 1", 0, 0, SAMPLE_ONE),
 ];

@@ -38,9 +38,28 @@ pub fn compiled_as(
     Ok((status, folder, out))
 }
 
-/// Verifies a binary against a specification, and compares the line and the status.
+/// What is compiled of a finished text is judged alike by the published table and by address.
+const JUDGING: &[&str] = &["verify spec bin", "portable spec bin"];
+
+/// Verifies a binary against a specification, by the published table and by address, and compares the line
+/// and the status.
 pub fn expect_verdict(
     rt: &(impl Abort + AllocGlobal),
+    spec: &[u8],
+    bin: &[u8],
+    line: &str,
+    what: &str,
+) -> Result<(), Fail> {
+    for command in JUDGING {
+        expect_said(rt, command, spec, bin, line, what)?;
+    }
+    Ok(())
+}
+
+/// Judges a binary against a specification by a command, and compares the line and the status.
+fn expect_said(
+    rt: &(impl Abort + AllocGlobal),
+    command: &str,
     spec: &[u8],
     bin: &[u8],
     line: &str,
@@ -51,7 +70,7 @@ pub fn expect_verdict(
     folder.add("spec", spec)?;
     folder.add("bin", bin)?;
     let mut out = MemSink::new(alloc, 200)?;
-    let words = words_of(alloc, "verify spec bin")?;
+    let words = words_of(alloc, command)?;
     let status = run(alloc, &words, &mut folder, &mut out);
     let text = format!(in alloc; "{line}\n")?;
     assert!(rt; out.bytes() == text.as_bytes(), "the line for {what}");

@@ -12,6 +12,7 @@ mod hostile_sheets;
 pub mod listings;
 mod lists;
 mod matching;
+mod portable;
 mod resting;
 mod worked;
 

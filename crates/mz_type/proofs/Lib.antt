@@ -8,6 +8,7 @@ pub mod NamesRead
 pub mod StatementsRead
 pub mod Decided
 pub mod RulesDecided
+pub mod Turned
 pub mod Texts
 pub mod Judging
 pub mod Steps

@@ -1,5 +1,5 @@
 -- A text's statements are checked one after another; what each declares and what it says beside that are kept apart.
-use Rattle.std.proofs.Common.{ℕ, zero, suc, ◌≡◌, ◌<◌, ◌+◌, ◌^◌, List, [], ◌∷◌, ◌++◌, length, get_or, refl, sym, ap, ◌∙◌, subst, arith, Bool, Some, None, length-append}
+use Rattle.std.proofs.Common.{ℕ, zero, suc, ◌≡◌, ◌<◌, ◌+◌, ◌^◌, List, [], ◌∷◌, ◌++◌, length, get_or, refl, sym, ap, ◌∙◌, subst, arith, Bool, Some, None, length-append, append-nil}
 use Rattle.std.specs.Prelude.{option_map, slice_get}
 use Rattle.mz_checks.specs.Checks.{AllHold}
 use Rattle.mz_checks.proofs.InOrder.{Decides, decides-whole}
@@ -118,6 +118,14 @@ module _ (gaps : Bool) (nodes : Nodes) (ss : List Statement) (read : AreStatemen
           weighs = all_weigh end ∙ ap weight_of (sym is);
           small = omega (arith, all_weigh end, few_weigh gaps nodes ss read few);
         }
+
+-- as all that are left were before
+pub typed_at_end : (gaps : Bool) (nodes : Nodes) (ss left : List Statement) (env : List Declaration) (beside : List Beside) (number weight : ℕ) (at : Nodes) → AreStatements (no_names gaps) nodes ss
+    → IsAsFar nodes ss (statements_of env beside) left env beside number weight at → statements_of env beside ++ left ≡ ss → left ≡ [] → length env < 2 ^ 32 → node_count nodes < 2 ^ 32
+    → IsTyped gaps env beside weight
+typed_at_end gaps nodes ss left env beside number weight at read h split none short few =
+    let all = sym (append-nil (statements_of env beside)) ∙ ap (λ xs. statements_of env beside ++ xs) (sym none) ∙ split in
+    all_typed gaps nodes ss read (statements_of env beside) left env beside number weight at h none all short few
 
 -- ---- what is asked of the i-th
 

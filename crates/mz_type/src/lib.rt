@@ -13,6 +13,7 @@ mod proofs;
 mod shapes;
 mod sizes;
 mod statements;
+mod taking;
 mod typed;
 mod weigh;
 
@@ -21,5 +22,6 @@ pub use laws::{
     limits_are_decided, modes_agree, rules_are_the_meaning, statements_can_be_words,
     typed_or_faulty, typed_or_refused,
 };
-pub use typed::{Typed, TypedRead, check_text};
+pub use taking::take_last;
+pub use typed::{Beside, Typed, TypedRead, check_text};
 pub use weigh::weight;

@@ -19,7 +19,7 @@ use std::marker::Model;
 /// How large an expression is, and how often each variable stands in it.
 #[derive(Drop)]
 pub(crate) struct Shape {
-    own: u128,
+    own: u64,
     uses: Vec<u64>,
 }
 
@@ -65,7 +65,7 @@ fn shape_of(alloc: Global, expr: &Expr, places: usize) -> Result<Shape, AllocErr
     let mut uses: Vec<u64> = vec![in alloc; 0; places]?;
     count_uses(expr, &mut uses);
     Ok(Shape {
-        own: size_of(expr),
+        own: size_of(expr) as u64,
         uses,
     })
 }
@@ -103,7 +103,7 @@ impl Shape {
         ensures { result ≡ trees_size es.now + (self.now.own + put_on es.now self.now.uses.items) }
     {
         let items = es.as_slice();
-        let mut total = self.own;
+        let mut total = self.own as u128;
         for i in 0..items.len() {
             let size = size_of(&items[i]);
             total += size + self.uses_of(i) * (size - 1);

@@ -17,6 +17,7 @@ ghost use Rattle.mz_type.specs.Weight.{declaration_weight};
 use crate::cursor::Cursor;
 use crate::shapes::Shaped;
 use crate::statements::check_decl;
+use crate::taking::take_last;
 use crate::weigh::statement_weight;
 use mz_logic::{Binders, Decl, Env};
 use mz_mmu::{Entry, Fault, Proof, ProofBox, Stop, Text};
@@ -27,11 +28,20 @@ use std::marker::Model;
 
 /// What a statement says beside its declaration.
 #[derive(Drop)]
-pub(crate) struct Beside<'a> {
-    pub(crate) is_local: bool,
-    pub(crate) name: &'a [u8],
-    pub(crate) dummies: Binders,
-    pub(crate) proof: Option<ProofBox>,
+pub struct Beside<'a> {
+    pub is_local: bool,
+    pub name: &'a [u8],
+    pub dummies: Binders,
+    pub proof: Option<ProofBox>,
+}
+
+impl<'a> Beside<'a> {
+    /// A theorem's proof; nothing else has one.
+    pub fn proof(&self) -> Option<&Proof>
+        ensures { stated result ≡ option_proof self.now.proof }
+    {
+        proof_in(&self.proof)
+    }
 }
 
 /// A well-typed text: its statements alone, since no later fault is told at a node.
@@ -158,7 +168,7 @@ fn check_statements<'a>(
     alloc: Global,
     mode: Mode,
     nodes: &Sexprs,
-    entries: Vec<Entry<'a>>,
+    mut entries: Vec<Entry<'a>>,
 ) -> Result<Typed<'a>, TextStop>
     requires { IsRooted (gaps_of mode) nodes.now entries.items }
     ensures mode { IfOk result (λ typed. typed.gaps ≡ gaps_of mode) }
@@ -175,7 +185,9 @@ fn check_statements<'a>(
     let mut weight: u128 = 0;
     let mut number: u32 = 0;
     let mut left = Cursor::top(nodes);
-    for entry in entries {
+    // from the last one on, so that they can be taken from the end
+    entries.reverse();
+    while let Some(entry) = take_last(&mut entries) {
         number += 1;
         weight += statement_weight(&env, &entry);
         if let Err(stop) = declare_statement(alloc, &mut env, &mut beside, entry, &left) {
@@ -272,6 +284,14 @@ impl<'a> Typed<'a> {
         ensures { option_map (λ s. s.proof) (slice_get self.now.statements i) ≡ Some (option_map (λ p. proof_view p.now) result) }
     {
         proof_in(&self.beside[i as usize].proof)
+    }
+
+    /// What the statements declare, and what each says beside it.
+    pub fn into_parts(self) -> (Env, Vec<Beside<'a>>)
+        ensures statements { statements_of result.0 result.1.items ≡ self.entry.statements }
+        ensures many { length result.0 ≡ length result.1.items }
+    {
+        (self.env, self.beside)
     }
 }
 

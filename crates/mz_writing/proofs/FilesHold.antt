@@ -1,5 +1,6 @@
 -- A file whose parts say a legal text is good.
-use Rattle.std.proofs.Common.{[], refl, sym, subst}
+use Rattle.std.proofs.Common.{Bool, [], refl, sym, subst}
+use Rattle.mz_logic.specs.LegalLists.{LegalBy, allowed_with}
 use Rattle.mz_layout.specs.Normal.{file_of}
 use Rattle.mz_layout.specs.Standing.{AreListed}
 use Rattle.mz_layout.specs.Tables.{list_at}
@@ -7,6 +8,8 @@ use Rattle.mz_layout.proofs.LayoutHolds.{layout-holds}
 use Rattle.mz_layout.proofs.ListRead.{all-listed}
 use Rattle.mz_layout.proofs.PartsStand.{counts-said}
 use Rattle.mz_steps.proofs.Joining.{same-at-first}
+use Rattle.mz_binary.specs.Standards.{by_table}
+use Rattle.mz_binary.proofs.ByTable.{lets-with}
 use Rattle.mz_binary.proofs.LegalChains.{good-legal}
 use Rattle.mz_binary.proofs.WholeFiles.{good-spelled}
 use Rattle.mz_writing.specs.Laws.{WrittenFilesAreGood, WrittenFilesSpell, WrittenListsAreLegal}
@@ -19,7 +22,8 @@ files-good gaps p text made fit legal written =
     record { layout = layout-holds p fit; env = r.last; to = r.to; statements = r.statements; ends = r.ends }
 
 pub files-spell : WrittenFilesSpell
-files-spell gaps p text made fit legal written = good-spelled gaps (file_of p) made (files-good gaps p text made fit legal written)
+files-spell gaps p text made fit legal written = good-spelled (by_table gaps) (file_of p) made (files-good gaps p text made fit legal written)
 
 pub made-legal : WrittenListsAreLegal
-made-legal gaps p text made fit legal written = good-legal gaps (file_of p) made (files-good gaps p text made fit legal written)
+made-legal gaps p text made fit legal written =
+    subst (λ (g : Bool). LegalBy (allowed_with g) made) (lets-with gaps) (good-legal (by_table gaps) (file_of p) made (files-good gaps p text made fit legal written))

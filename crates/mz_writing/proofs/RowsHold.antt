@@ -39,13 +39,15 @@ use Rattle.mz_streams.specs.SpellsBefore.{SpellsBefore}
 use Rattle.mz_writing.specs.Writing.{SayParams, SaySignature, IsWrittenAssertion}
 use Rattle.mz_writing.proofs.BodiesRun.{assertion-runs, definition-runs}
 use Rattle.mz_writing.proofs.WordsHold.{params-hold, words-hold}
+use Rattle.mz_binary.proofs.ByTable.{runs-with}
+use Rattle.mz_binary.specs.Standards.{profile_of, by_table}
 
 may-stand : (l b : Bool) → b ≡ true → MayStand l b
 may-stand true b is = is
 may-stand false b is = tt
 
-holds-of : (gaps : Bool) (tables : Tables) (h : Heading) (at : ℕ) (bytes : List ℕ) → Runs (plain gaps) tables h at bytes → AllHold (body_checks (plain gaps) tables h at bytes)
-holds-of gaps tables h at bytes runs = (bodies-checked (plain gaps) tables h at bytes).0.1 runs
+holds-of : (gaps : Bool) (tables : Tables) (h : Heading) (at : ℕ) (bytes : List ℕ) → Runs (plain gaps) tables h at bytes → AllHold (body_checks (profile_of (by_table gaps)) tables h at bytes)
+holds-of gaps tables h at bytes runs = (bodies-checked (profile_of (by_table gaps)) tables h at bytes).0.1 (runs-with gaps tables h at bytes runs)
 
 -- a term's row as it is read of its record, and an assertion's
 abbrev term_by : List ℕ → TermRecord → TermRow
@@ -53,6 +55,17 @@ term_by file row = record { signature = signature_of row.words; stream = stream_
 
 abbrev thm_by : List ℕ → ThmRecord → ThmRow
 thm_by file row = record { params = binders_of row.params; stream = drop row.stream_at file }
+
+-- a definition's row as it is read: its stream goes on to the end of the file
+pub definition-row : (p : Parts) → Fit p → (n : ℕ) (signature : Signature) (ws : List Word) (result : Word) (stream : List ℕ) → signature_of (record { params = ws; result = result; has_body = false }) ≡ signature
+    → slice_get p.terms n ≡ Some (row_of_term ws result (Some stream)) → (further : List ℕ) × (term_of_file (file_of p) n ≡ record { signature = signature; stream = Some (stream ++ further) })
+definition-row p fit n signature ws result stream said here =
+    let file : List ℕ = file_of p in
+    let stands : Stands file (term_place p n + 8 * (length ws + 1)) stream = term-stream p fit n ws result stream here in (
+      stands.rest,
+      ap (term_by file) (term-read p fit n ws result (Some stream) here) ∙ ap (λ (z : Signature). record { signature = z; stream = Some (drop (term_place p n + 8 * (length ws + 1)) file) }) said
+          ∙ ap (λ (z : List ℕ). record { signature = signature; stream = Some z }) stands.from_there,
+    )
 
 -- the row spells this after the declarations of env, and these checks hold
 pub record IsGoodRow (file : List ℕ) (env : List Declaration) (d : Declaration) (checks : Checks (ℕ × K)) : Type 0 where
@@ -102,56 +115,54 @@ module _ (gaps : Bool) (p : Parts) (fit : Fit p) (env env' : List Declaration) (
     is-below unify e = let within : length (terms env') < length p.terms = slice_get_within p.terms (length (terms env')) (row_of_term ws result unify) e in omega (arith, counts.terms)
 
     pub plain-good : slice_get p.terms (length (terms env)) ≡ Some (row_of_term ws result None) → is_local ≡ false → bytes ≡ []
-        → IsGoodRow file env' (term_decl (record { signature = signature; form = plain_form })) (term_checks gaps file (taken_by env') at body next is_local)
+        → IsGoodRow file env' (term_decl (record { signature = signature; form = plain_form })) (term_checks (by_table gaps) file (taken_by env') at body next is_local)
     plain-good e mark empty =
         let n : ℕ = length (terms env') in
         let here = get-row None e in
         let below = is-below None here in
         let row-is : term_row file n ≡ written_term ws result None (term_place p n) = term-read p fit n ws result None here in
         let row : term_of_file file n ≡ record { signature = signature; stream = None } = ap (term_by file) row-is ∙ ap (λ (z : Signature). record { signature = z; stream = None }) say.said in
-        let ends : AllHold (term_body_checks gaps file (taken_by env') at body next (term_of_file file n).stream) =
-        subst (λ (r : TermRow). AllHold (term_body_checks gaps file (taken_by env') at body next r.stream)) (sym row) (inl (bytes-are ∙ empty), tt) in
+        let ends : AllHold (term_body_checks (by_table gaps) file (taken_by env') at body next (term_of_file file n).stream) =
+        subst (λ (r : TermRow). AllHold (term_body_checks (by_table gaps) file (taken_by env') at body next r.stream)) (sym row) (inl (bytes-are ∙ empty), tt) in
         record {
           row = (below, subst (λ (r : TermRow). SpellsTerm (signatures env') r (record { signature = signature; form = plain_form })) (sym row) (refl, tt));
-          holds = subst (λ (l : Bool). AllHold (term_checks gaps file (taken_by env') at body next l)) (sym mark)
-              (below, (tt, all_hold-both (word_checks (sorts env') (term_row file n)) (term_body_checks gaps file (taken_by env') at body next (term_of_file file n).stream) (words (term_row file n) None (term_place p n) row-is) ends));
+          holds = subst (λ (l : Bool). AllHold (term_checks (by_table gaps) file (taken_by env') at body next l)) (sym mark)
+              (below, (tt, all_hold-both (word_checks (sorts env') (term_row file n)) (term_body_checks (by_table gaps) file (taken_by env') at body next (term_of_file file n).stream) (words (term_row file n) None (term_place p n) row-is) ends));
         }
 
     pub definition-good : (stream : List ℕ) (dummies dummies' : List Binder) (e e' : Tree) → slice_get p.terms (length (terms env)) ≡ Some (row_of_term ws result (Some stream))
         → IsLegalDecl env (term_decl (record { signature = signature; form = defined dummies e })) → IsSameForm signature.params (defined dummies e) (defined dummies' e')
         → SpellsBefore of_definition (signatures env) signature.params stream none e' dummies' → IsBody gaps env is_definition signature.params dummies e [] bytes
-        → IsGoodRow file env' (term_decl (record { signature = signature; form = defined dummies' e' })) (term_checks gaps file (taken_by env') at body next is_local)
+        → IsGoodRow file env' (term_decl (record { signature = signature; form = defined dummies' e' })) (term_checks (by_table gaps) file (taken_by env') at body next is_local)
     definition-good stream dummies dummies' e e' get legal same-form spells b =
         let n : ℕ = length (terms env') in
         let here = get-row (Some stream) get in
         let below = is-below (Some stream) here in
         let row-is : term_row file n ≡ written_term ws result (Some stream) (term_place p n) = term-read p fit n ws result (Some stream) here in
-        let stands : Stands file (term_place p n + 8 * (length ws + 1)) stream = term-stream p fit n ws result stream here in
-        let bytes' : List ℕ = stream ++ stands.rest in
-        let row : term_of_file file n ≡ record { signature = signature; stream = Some bytes' } =
-        ap (term_by file) row-is ∙ ap (λ (z : Signature). record { signature = z; stream = Some (drop (term_place p n + 8 * (length ws + 1)) file) }) say.said ∙ ap (λ (z : List ℕ). record { signature = signature; stream = Some z }) stands.from_there in
+        let (further, row) = definition-row p fit n signature ws result stream say.said here in
+        let bytes' : List ℕ = stream ++ further in
         let runs : Runs (plain gaps) tables (definition_of (record { signature = signature; stream = Some bytes' }) bytes') body (body_bytes file body next) =
         subst (Runs (plain gaps) tables (definition_of (record { signature = signature; stream = Some bytes' }) bytes') body) (sym bytes-are)
-        (definition-runs gaps tables env env' declares same body bytes signature bytes' dummies dummies' e e' legal same-form (spells stands.rest) b) in
-        let ends : AllHold (term_body_checks gaps file (taken_by env') at body next (term_of_file file n).stream) =
-        subst (λ (o : Option (List ℕ)). AllHold (term_body_checks gaps file (taken_by env') at body next o)) (sym (ap (λ (r : TermRow). r.stream) row))
-        (subst (λ (r : TermRow). AllHold (body_checks (plain gaps) tables (definition_of r bytes') body (body_bytes file body next))) (sym row)
+        (definition-runs gaps tables env env' declares same body bytes signature bytes' dummies dummies' e e' legal same-form (spells further) b) in
+        let ends : AllHold (term_body_checks (by_table gaps) file (taken_by env') at body next (term_of_file file n).stream) =
+        subst (λ (o : Option (List ℕ)). AllHold (term_body_checks (by_table gaps) file (taken_by env') at body next o)) (sym (ap (λ (r : TermRow). r.stream) row))
+        (subst (λ (r : TermRow). AllHold (body_checks (profile_of (by_table gaps)) tables (definition_of r bytes') body (body_bytes file body next))) (sym row)
         (holds-of gaps tables (definition_of (record { signature = signature; stream = Some bytes' }) bytes') body (body_bytes file body next) runs)) in
-        let text : Text of_definition (signatures env') signature.params bytes' none e' dummies' = subst (λ (z : List Signature). Text of_definition z signature.params bytes' none e' dummies') sigs (spells stands.rest) in
+        let text : Text of_definition (signatures env') signature.params bytes' none e' dummies' = subst (λ (z : List Signature). Text of_definition z signature.params bytes' none e' dummies') sigs (spells further) in
         record {
           row = (below, subst (λ (r : TermRow). SpellsTerm (signatures env') r (record { signature = signature; form = defined dummies' e' })) (sym row) (refl, text));
           holds = (
             below,
             (
               may-stand is_local (term_row file n).words.has_body (ap (λ (r : TermRecord). r.words.has_body) row-is),
-              all_hold-both (word_checks (sorts env') (term_row file n)) (term_body_checks gaps file (taken_by env') at body next (term_of_file file n).stream) (words (term_row file n) (Some stream) (term_place p n) row-is) ends,
+              all_hold-both (word_checks (sorts env') (term_row file n)) (term_body_checks (by_table gaps) file (taken_by env') at body next (term_of_file file n).stream) (words (term_row file n) (Some stream) (term_place p n) row-is) ends,
             ),
           );
         }
 
   -- ---- axioms and theorems
 
-  pub assertion-good : (a : Assertion) → IsLegalDecl env (assertion_decl a) → IsWrittenAssertion gaps p env a bytes → IsGoodRow file env' (assertion_decl a) (thm_checks gaps file (taken_by env') at body next a.is_axiom)
+  pub assertion-good : (a : Assertion) → IsLegalDecl env (assertion_decl a) → IsWrittenAssertion gaps p env a bytes → IsGoodRow file env' (assertion_decl a) (thm_checks (by_table gaps) file (taken_by env') at body next a.is_axiom)
   assertion-good a legal w =
       let n : ℕ = length (assertions env') in
       let here : slice_get p.thms n ≡ Some (row_of_thm w.words w.stream) = subst (λ (z : List Assertion). slice_get p.thms (length z) ≡ Some (row_of_thm w.words w.stream)) same.assertions_are w.row in
@@ -167,10 +178,10 @@ module _ (gaps : Bool) (p : Parts) (fit : Fit p) (env env' : List Declaration) (
       let words : AllHold (param_checks (sorts env') (thm_row file n).words_at (thm_row file n).params) =
       subst (λ (r : ThmRecord). AllHold (param_checks (sorts env') r.words_at r.params)) (sym row-is)
       (params-hold (sorts env') (thm_place p n) w.words (subst (λ (ss : List SortMods). SayParams ss w.words a.params) same.sorts_are w.say).right) in
-      let ends : AllHold (body_checks (plain gaps) tables (assertion_of a.is_axiom (thm_of_file file n)) body (body_bytes file body next)) =
-      subst (λ (r : ThmRow). AllHold (body_checks (plain gaps) tables (assertion_of a.is_axiom r) body (body_bytes file body next))) (sym row) (holds-of gaps tables h body (body_bytes file body next) runs) in
+      let ends : AllHold (body_checks (profile_of (by_table gaps)) tables (assertion_of a.is_axiom (thm_of_file file n)) body (body_bytes file body next)) =
+      subst (λ (r : ThmRow). AllHold (body_checks (profile_of (by_table gaps)) tables (assertion_of a.is_axiom r) body (body_bytes file body next))) (sym row) (holds-of gaps tables h body (body_bytes file body next) runs) in
       let text : Text of_assertion (signatures env') a.params bytes' a.hyps a.conclusion [] = subst (λ (z : List Signature). Text of_assertion z a.params bytes' a.hyps a.conclusion []) sigs (w.text.spells stands.rest) in
       record {
         row = (below, subst (λ (r : ThmRow). SpellsThm (signatures env') r a) (sym row) (refl, text));
-        holds = (below, all_hold-both (param_checks (sorts env') (thm_row file n).words_at (thm_row file n).params) (body_checks (plain gaps) tables (assertion_of a.is_axiom (thm_of_file file n)) body (body_bytes file body next)) words ends);
+        holds = (below, all_hold-both (param_checks (sorts env') (thm_row file n).words_at (thm_row file n).params) (body_checks (profile_of (by_table gaps)) tables (assertion_of a.is_axiom (thm_of_file file n)) body (body_bytes file body next)) words ends);
       }

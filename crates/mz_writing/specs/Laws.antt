@@ -7,11 +7,12 @@ use Rattle.mz_binary.specs.Chains.{Statements}
 use Rattle.mz_binary.specs.Good.{Good}
 use Rattle.mz_steps.specs.SameLists.{IsSameList}
 use Rattle.mz_writing.specs.Writing.{IsWrittenAs}
+use Rattle.mz_binary.specs.Standards.{by_table}
 
 -- a legal text, written within the format's bounds, is a good binary of the made statements; both with gaps, or both
 -- without
 abbrev pub WrittenFilesAreGood : Type 0
-WrittenFilesAreGood = (gaps : Bool) (p : Parts) (text made : List Statement) → Fit p → LegalBy (allowed_with gaps) text → IsWrittenAs gaps p text made → Good gaps (file_of p) made
+WrittenFilesAreGood = (gaps : Bool) (p : Parts) (text made : List Statement) → Fit p → LegalBy (allowed_with gaps) text → IsWrittenAs gaps p text made → Good (by_table gaps) (file_of p) made
 
 -- they are all that it spells
 abbrev pub WrittenFilesSpell : Type 0

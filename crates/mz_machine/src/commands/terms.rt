@@ -146,7 +146,10 @@ fn take_citation(
     if let Err(rule) = check_operands(earlier, Row::Thm(t), store, &operands) {
         return Err(Stop::Rule(rule));
     }
-    if !are_apart(earlier, Row::Thm(t), store, &operands) {
+    let Ok(apart) = are_apart(alloc, earlier, Row::Thm(t), store, &operands) else {
+        return Err(Stop::Mem);
+    };
+    if !apart {
         return Err(Stop::Rule(K::Disjoint));
     }
     Ok((target, operands))

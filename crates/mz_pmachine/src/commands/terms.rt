@@ -151,7 +151,10 @@ fn take_citation(
     if let Err(rule) = check_operands(earlier, Row::Thm(t), nodes, &operands) {
         return Err(Stop::Rule(rule));
     }
-    if !are_apart(earlier, Row::Thm(t), nodes, &operands) {
+    let Ok(apart) = are_apart(alloc, earlier, Row::Thm(t), nodes, &operands) else {
+        return Err(Stop::Mem);
+    };
+    if !apart {
         return Err(Stop::Rule(K::Disjoint));
     }
     Ok((target, operands))

@@ -35,6 +35,10 @@ const OTHER_WORDS: &[&str] = &[
     "draft spec",
     "draft spec bin bin",
     "Draft spec bin",
+    "portable",
+    "portable spec",
+    "portable spec bin bin",
+    "Portable spec bin",
     "sample 1 1",
     "spec bin",
 ];
@@ -75,6 +79,8 @@ const MISSING: &[(&str, Status, u64)] = &[
     ("axioms bin other", Status::ReadFault, 4),
     ("draft other bin", Status::ReadFault, 1),
     ("draft bin other", Status::ReadFault, 4),
+    ("portable other bin", Status::ReadFault, 1),
+    ("portable bin other", Status::ReadFault, 4),
     ("verify bin", Status::Usage, 0),
     ("compile bin", Status::Usage, 0),
     ("assemble bin", Status::Usage, 0),
@@ -138,6 +144,7 @@ const COMMANDS: &[&str] = &[
     "assemble list out",
     "axioms spec bin",
     "draft spec bin",
+    "portable spec bin",
     "sample 1",
 ];
 

@@ -1,6 +1,7 @@
-use Rattle.std.proofs.Common.{◌≡◌, ℕ, false, List, sym, subst, inl}
+use Rattle.std.proofs.Common.{◌≡◌, ℕ, List, sym, subst, inl}
 use Rattle.mz_axioms.specs.declared.rows.Row.{Row}
 use Rattle.mz_axioms.specs.Rows.{IsGood, TellsFile, supports_of}
+use Rattle.mz_binary.specs.Standards.{strict_standard}
 use Rattle.mz_binary.proofs.WholeFiles.{good-excludes}
 use Rattle.mz_axioms.proofs.Telling.{if-more, told-within, told-few}
 use Rattle.mz_axioms.proofs.axioms.lists_in.Goals as goal
@@ -12,7 +13,7 @@ pub rows_of-requires : goal.rows_of-requires
 rows_of-requires c = subst IsGood (sym c.in-Ok.ensures.0) c.requires.good
 
 pub unreachable-requires : goal.unreachable-requires
-unreachable-requires c = good-excludes false c.args.bin.now c.requires.good.0 c.in_default.field-0 c.requires.good.1 (inl c.in_default.ensures)
+unreachable-requires c = good-excludes strict_standard c.args.bin.now c.requires.good.0 c.in_default.field-0 c.requires.good.1 (inl c.in_default.ensures)
 
 pub lists_of-requires-clause-within : goal.lists_of-requires-clause-within
 lists_of-requires-clause-within c = told-within c.in-Ok.mmb c.in_ok-rows.rows.items c.in_ok-rows.ensures.told

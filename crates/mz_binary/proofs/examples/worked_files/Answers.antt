@@ -15,5 +15,6 @@ returns c = record {
   rows = (refl, refl, refl, refl, refl, refl, refl, refl, refl, refl, refl, refl, refl, refl, refl);
   bodies = (refl, refl, refl, refl, refl, refl, refl, refl, refl, refl, refl, refl, refl, refl, refl, refl, refl, refl, refl, refl, refl, refl, refl, refl, refl, refl, refl, refl, refl);
   gaps = (refl, refl, refl);
+  by_address = (refl, refl, refl, refl, refl);
   steps = (refl, refl, refl, refl, refl, refl, refl, refl, refl, refl, refl);
 }

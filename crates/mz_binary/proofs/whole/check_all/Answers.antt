@@ -1,5 +1,4 @@
 use Rattle.std.proofs.Common.{◌≡◌, ◌+◌, ◌-◌, ◌*◌, ◌∙◌, ℕ, List, length, ap, arith}
-use Rattle.mz_mode.specs.Gaps.{gaps_of}
 use Rattle.mz_binary.specs.FileRun.{file_steps}
 use Rattle.mz_binary.specs.Progress.{most_left}
 use Rattle.mz_binary.proofs.Counting.{no-steps, most-of-file}
@@ -14,5 +13,5 @@ returns-in-Ok-clause-bound g c =
 
 pub returns-in-Err-clause-steps : goal.returns-in-Err-clause-steps
 returns-in-Err-clause-steps g c =
-    let none : file_steps (gaps_of c.args.mode) c.args.file.now ≡ 0 = no-steps (gaps_of c.args.mode) c.args.file.now (c.in-Err.refusal.at, c.in-Err.refusal.rule) c.in-Err.ensures.1 in
+    let none : file_steps c.args.standard c.args.file.now ≡ 0 = no-steps c.args.standard c.args.file.now (c.in-Err.refusal.at, c.in-Err.refusal.rule) c.in-Err.ensures.1 in
     omega (arith, none)

@@ -9,7 +9,7 @@ abbrev pub invariant-statements : goal.invariant-statements
 invariant-statements g l = record {
   so_far : (ss : List Declared) × (env : List Declaration) × HasPassed l.checker ss env;
   same_file : l.checker.file ≡ l.fn.first.file;
-  same_gaps : l.checker.gaps ≡ l.fn.first.gaps;
+  same_standard : l.checker.standard ≡ l.fn.first.standard;
   layout : Layout l.checker.file;
   left : l.steps + steps_left l.checker ≡ l.fn.steps + steps_left l.fn.first;
   most : l.steps + most_left l.checker ≤ l.fn.steps + most_left l.fn.first;

@@ -1,18 +1,37 @@
-use Rattle.std.proofs.Common.{◌++◌, ◌∷◌, [], ℕ, Contains, arith}
+use Rattle.std.proofs.Common.{ℕ, get_or, Contains}
 use Rattle.mz_tokens.proofs.Lists.{all_so_far_more, all-members}
-use Rattle.mz_coercions.specs.Firsts.{IsLed}
-use Rattle.mz_coercions.proofs.Leading.{all-led}
+use Rattle.mz_coercions.specs.declared.firsts.Start.{Start}
+use Rattle.mz_coercions.specs.Firsts.{IsOfStarts, first_of}
+use Rattle.mz_coercions.proofs.Leading.{item-in, put-back, start-changed, start-kept, start-put}
 use Rattle.mz_coercions.proofs.firsts.lead_all.Goals as goal
 
-pub sorts-preserved : goal.sorts-preserved
-sorts-preserved c =
-    let P : ℕ → Type 0 = λ s. (t : ℕ) → Contains c.args.sorts.now t → IsLed (c.args.items.now ++ c.args.coercion ∷ []) c.lead_from.new.firsts s t in
+pub returns-in_default-clause-err : goal.returns-in_default-clause-err
+returns-in_default-clause-err c =
+    let zero : Start = record { sort = 0; place = 0 } in
+    let f : Start = get_or c.args.starts.now c.loop-start.start-index zero in
+    let has = item-in c.args.starts.now c.loop-start.start-index zero c.loop-start-test.true in
+    put-back c.args.firsts.now c.lead_from.new.firsts c.forget_all.new.firsts c.args.starts.now c.args.ends.now c.requires
+    (start-changed c.loop-start.firsts c.lead_from.new.firsts c.args.starts.now c.args.ends.now f has c.lead_from.ensures.others c.args.firsts.now c.loop-start.invariant.others)
+    c.forget_all.ensures.others c.forget_all.ensures.gone
+
+pub loop-start-preserved : goal.loop-start-preserved
+loop-start-preserved c =
+    let m = c.loop-start.firsts in
+    let n = c.lead_from.new.firsts in
+    let starts = c.args.starts.now in
+    let ends = c.args.ends.now in
+    let zero : Start = record { sort = 0; place = 0 } in
+    let f : Start = get_or c.args.starts.now c.loop-start.start-index zero in
+    let has = item-in c.args.starts.now c.loop-start.start-index zero c.loop-start-test.true in
+    let P : Start → Type 0 = λ g. (t : ℕ) → Contains c.args.ends.now t → IsOfStarts c.args.starts.now c.args.ends.now g.sort t (first_of c.lead_from.new.firsts g.sort t) in
     record {
-      led = c.lead_from.ensures.led;
-      so_far = all_so_far_more P c.args.sorts.now c.sorts.i 0 (λ k d below t has. c.lead_from.ensures.kept _ t (c.sorts.invariant.so_far k d below t has)) c.sorts-test.true c.in_ok-lead_from.ensures.ok;
+      others = start-changed m n starts ends f has c.lead_from.ensures.others c.args.firsts.now c.loop-start.invariant.others;
+      so_far = all_so_far_more P starts c.loop-start.start-index zero
+          (λ k d below. start-kept m n starts ends f has c.lead_from.ensures.others (get_or c.args.starts.now k d) (c.loop-start.invariant.so_far k d below)) c.loop-start-test.true
+          (start-put m n starts ends f has c.lead_from.ensures.others c.in-Ok.ensures.ok);
     }
 
 pub returns-clause-ok : goal.returns-clause-ok
-returns-clause-ok c =
-    all-led (c.args.items.now ++ c.args.coercion ∷ []) c.sorts.firsts c.args.sorts.now c.requires.met
-    (all-members (λ s. (t : ℕ) → Contains c.args.sorts.now t → IsLed (c.args.items.now ++ c.args.coercion ∷ []) c.sorts.firsts s t) c.args.sorts.now c.sorts.invariant.so_far (omega (arith, c.sorts-test.false)))
+returns-clause-ok c = λ f t in-f in-t.
+    let P : Start → Type 0 = λ g. (t : ℕ) → Contains c.args.ends.now t → IsOfStarts c.args.starts.now c.args.ends.now g.sort t (first_of c.loop-start.firsts g.sort t) in
+    all-members P c.args.starts.now c.loop-start.invariant.so_far c.loop-start-test.false f in-f t in-t

@@ -1,23 +1,35 @@
-use Rattle.std.proofs.Common.{◌++◌, ◌∷◌, [], ℕ, arith}
+use Rattle.std.proofs.Common.{◌≡◌, ℕ, Some, get_or, refl, arith}
 use Rattle.mz_tokens.proofs.Lists.{all_so_far_more, all-members}
-use Rattle.mz_coercions.specs.Firsts.{IsLed}
-use Rattle.mz_coercions.proofs.Leading.{led-apart}
+use Rattle.mz_coercions.specs.Firsts.{IsOfStart, first_of}
+use Rattle.mz_coercions.proofs.Leading.{end-changed, end-kept, item-in, put-here, then-changed, un-changed}
 use Rattle.mz_coercions.proofs.firsts.lead_from.Goals as goal
 
-pub returns-in_default-clause-ok : goal.returns-in_default-clause-ok
-returns-in_default-clause-ok c = λ t has. led-apart c.args.items.now c.args.coercion c.args.firsts.now c.args.from t c.requires.led c.in_default.ensures
+pub loop-end-init : goal.loop-end-init
+loop-end-init c = record {
+  others = un-changed c.args.firsts.now c.args.firsts.now (IsOfStart c.args.start c.args.ends.now) refl;
+  so_far = λ k d below. absurd (omega (arith, below));
+}
 
-pub returns-in_err-lead-clause-kept : goal.returns-in_err-lead-clause-kept
-returns-in_err-lead-clause-kept c = λ s t led. c.lead.ensures.kept s t (c.sorts.invariant.kept s t led)
-
-pub sorts-preserved : goal.sorts-preserved
-sorts-preserved c =
-    let P : ℕ → Type 0 = λ t. IsLed (c.args.items.now ++ c.args.coercion ∷ []) c.lead.new.firsts c.args.from t in
+pub loop-end-preserved : goal.loop-end-preserved
+loop-end-preserved c =
+    let m = c.loop-end.firsts in
+    let n = c.insert.new.self in
+    let f = c.args.start in
+    let ends = c.args.ends.now in
+    let end : ℕ = get_or c.args.ends.now c.loop-end.end-index 0 in
+    let has = item-in c.args.ends.now c.loop-end.end-index 0 c.loop-end-test.true in
+    let put = c.in_ok-insert.ensures.updates in
     record {
-      led = c.lead.ensures.led;
-      kept = λ s t led. c.lead.ensures.kept s t (c.sorts.invariant.kept s t led);
-      so_far = all_so_far_more P c.args.sorts.now c.sorts.i 0 (λ k d below. c.lead.ensures.kept c.args.from _ (c.sorts.invariant.so_far k d below)) c.sorts-test.true c.in_ok-lead.ensures.ok;
+      others = end-changed m n f ends end has put c.args.firsts.now c.loop-end.invariant.others;
+      so_far = all_so_far_more (λ t. first_of c.insert.new.self c.args.start.sort t ≡ Some c.args.start.place) ends c.loop-end.end-index 0
+          (λ k d below. end-kept m n f ends end has put (get_or c.args.ends.now k d) (c.loop-end.invariant.so_far k d below)) c.loop-end-test.true
+          (put-here m n f.sort end (Some f.place) put);
     }
 
+pub returns-in_err-insert-clause-others : goal.returns-in_err-insert-clause-others
+returns-in_err-insert-clause-others c =
+    let P = IsOfStart c.args.start c.args.ends.now in
+    then-changed c.args.firsts.now c.loop-end.firsts c.insert.new.self P P (λ s t w h. h) c.loop-end.invariant.others (un-changed c.loop-end.firsts c.insert.new.self P c.in_err-insert.ensures.err)
+
 pub returns-clause-ok : goal.returns-clause-ok
-returns-clause-ok c = λ t has. all-members (λ t. IsLed (c.args.items.now ++ c.args.coercion ∷ []) c.sorts.firsts c.args.from t) c.args.sorts.now c.sorts.invariant.so_far (omega (arith, c.sorts-test.false)) t has
+returns-clause-ok c = λ t has. all-members (λ t. first_of c.loop-end.firsts c.args.start.sort t ≡ Some c.args.start.place) c.args.ends.now c.loop-end.invariant.so_far c.loop-end-test.false t has

@@ -1,11 +1,10 @@
-use Rattle.std.proofs.Common.{◌++◌, ◌∷◌, [], ℕ}
+use Rattle.std.proofs.Common.{◌≡◌, Some}
 use Rattle.mz_tokens.proofs.Lists.{AllSoFar}
-use Rattle.mz_coercions.specs.Firsts.{AreLed, IsLed}
+use Rattle.mz_coercions.specs.Firsts.{IsChanged, IsOfStart, first_of}
 use Rattle.mz_coercions.proofs.firsts.lead_from.Given as goal
 
-abbrev pub invariant-sorts : goal.invariant-sorts
-invariant-sorts l = record {
-  led : AreLed l.items l.firsts;
-  kept : (s t : ℕ) → IsLed (l.items ++ l.fn.coercion ∷ []) l.fn.firsts s t → IsLed (l.items ++ l.fn.coercion ∷ []) l.firsts s t;
-  so_far : AllSoFar (λ t. IsLed (l.items ++ l.fn.coercion ∷ []) l.firsts l.from t) l.sorts l.i;
+abbrev pub invariant-loop-end : goal.invariant-loop-end
+invariant-loop-end l = record {
+  others : IsChanged l.fn.firsts l.firsts (IsOfStart l.fn.start l.ends);
+  so_far : AllSoFar (λ t. first_of l.firsts l.fn.start.sort t ≡ Some l.fn.start.place) l.ends l.end-index;
 }

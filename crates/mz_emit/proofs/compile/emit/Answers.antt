@@ -1,32 +1,40 @@
-use Rattle.std.proofs.Common.{arith}
-use Rattle.mz_emit.proofs.Looping.{own_mode, next_there, emitted_all}
+use Rattle.std.proofs.Common.{List, length, sym, ap, subst, arith}
+use Rattle.mz_mmu.specs.Proof.{Statement}
+use Rattle.mz_type.specs.Meaning.{LegalAsStated}
+use Rattle.mz_type.specs.StatedView.{AreRead, statements_of}
+use Rattle.mz_type.specs.Weight.{IsWithinLimits}
+use Rattle.mz_emit.specs.Compiling.{IsBinaryOf}
+use Rattle.mz_emit.specs.Emitting.{IsLegalWith}
+use Rattle.mz_emit.proofs.Looping.{own_mode, as_many}
 use Rattle.mz_emit.proofs.compile.emit.Goals as goal
 
-pub loop-i-init : goal.loop-i-init
-loop-i-init c = λ gaps legal. c.new-emitter.ensures gaps
+pub emit_all-requires-clause-few : goal.emit_all-requires-clause-few
+emit_all-requires-clause-few c =
+    let same = ap length c.into_parts-env.ensures.statements in
+    let all = as_many c.into_parts-env.result.0 c.into_parts-env.result.1.items c.into_parts-env.ensures.many in
+    omega (arith, same, all, c.len-count.ensures.many, c.len-count.type_inv)
 
-pub statement-requires : goal.statement-requires
-statement-requires c =
-    let text = c.args.text.now in
-    let own = own_mode text.gaps text.statements c.len-i-end.ensures.read c.len-i-end.ensures.legal in (
-      text.gaps,
-      next_there c.statements_can_be_words.ensures text.gaps text.statements c.len-i-end.ensures.read c.requires text.gaps own c.loop-i.i c.loop-i.emitter
-          (omega (arith, c.loop-i-test.true, c.len-i-end.ensures.many)) (c.loop-i.invariant text.gaps own),
-    )
+pub emit_all-requires-clause-legal : goal.emit_all-requires-clause-legal
+emit_all-requires-clause-legal c =
+    let is = sym c.into_parts-env.ensures.statements in
+    let gaps = c.args.text.gaps in
+    (gaps, subst (AreRead gaps) is c.len-count.ensures.read, subst (LegalAsStated gaps) is c.len-count.ensures.legal)
 
-pub loop-i-preserved : goal.loop-i-preserved
-loop-i-preserved c = λ gaps legal.
-    c.in_ok-statement.ensures gaps
-    (next_there c.statements_can_be_words.ensures c.args.text.now.gaps c.args.text.now.statements c.len-i-end.ensures.read c.requires gaps legal c.loop-i.i c.loop-i.emitter
-    (omega (arith, c.loop-i-test.true, c.len-i-end.ensures.many)) (c.loop-i.invariant gaps legal))
+pub emit_all-requires-clause-within : goal.emit_all-requires-clause-within
+emit_all-requires-clause-within c = subst IsWithinLimits (sym c.into_parts-env.ensures.statements) c.requires
 
 pub finish-requires : goal.finish-requires
 finish-requires c =
-    let text = c.args.text.now in
-    let own = own_mode text.gaps text.statements c.len-i-end.ensures.read c.len-i-end.ensures.legal in
-    (text.gaps, text.statements, emitted_all text.gaps text.statements c.loop-i.i c.loop-i.emitter (omega (arith, c.loop-i-test.false, c.len-i-end.ensures.many)) (c.loop-i.invariant text.gaps own), c.len-i-end.ensures.legal, c.requires)
+    let is = sym c.into_parts-env.ensures.statements in
+    let gaps = c.args.text.gaps in
+    let legal = subst (LegalAsStated gaps) is c.len-count.ensures.legal in
+    let own = subst (IsLegalWith gaps) is (own_mode gaps c.args.text.statements c.len-count.ensures.read c.len-count.ensures.legal) in
+    (gaps, statements_of c.into_parts-env.result.0 c.into_parts-env.result.1.items, c.in_ok-emitter.ensures gaps own, legal, subst IsWithinLimits is c.requires)
 
 pub returns : goal.returns
 returns c = λ gaps legal.
-    c.in_ok-bytes.ensures gaps c.args.text.now.statements
-    (emitted_all gaps c.args.text.now.statements c.loop-i.i c.loop-i.emitter (omega (arith, c.loop-i-test.false, c.len-i-end.ensures.many)) (c.loop-i.invariant gaps legal)) legal.0 c.requires
+    let ss = statements_of c.into_parts-env.result.0 c.into_parts-env.result.1.items in
+    let is = c.into_parts-env.ensures.statements in
+    let own = subst (IsLegalWith gaps) (sym is) legal in
+    subst (λ (ts : List Statement). IsBinaryOf gaps ts c.in_ok-bytes.bytes.items) is
+    (c.in_ok-bytes.ensures gaps ss (c.in_ok-emitter.ensures gaps own) own.0 (subst IsWithinLimits (sym is) c.requires))

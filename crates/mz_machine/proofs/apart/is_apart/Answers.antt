@@ -1,21 +1,51 @@
-use Rattle.std.proofs.Common.{◌<◌, ◌≤◌, length, sym, ap, ◌∙◌, arith, add-one}
-use Rattle.std.specs.Prelude.{if◌then◌else◌}
+use Rattle.std.proofs.Common.{ℕ, ◌≡◌, ◌<◌, length, get_or, sym, ap, ◌∙◌, arith, add-one}
+use Rattle.std.specs.Prelude.{bit_and, if◌then◌else◌}
+use Rattle.std.proofs.lemmas.List.{length-map}
 use Rattle.std.proofs.lemmas.Option.{slice_get-get_or}
-use Rattle.mz_logic.specs.Words.{binders_of, word_bound, word_deps}
+use Rattle.mz_logic.specs.Words.{word_bound, word_deps}
 use Rattle.mz_logic.specs.declared.word.Word.{Word}
+use Rattle.mz_store.specs.Sharing.{tree_of}
+use Rattle.mz_store.specs.declared.item.Id.{Id}
 use Rattle.mz_unify.specs.Stored.{trees_at}
 use Rattle.mz_unify.proofs.StoredIds.{is-in-at, tree-at}
 use Rattle.mz_unification.proofs.Inverting.{some_is}
 use Rattle.mz_machine.specs.Before.{signatures_of}
 use Rattle.mz_machine.specs.OperandRows.{params_of}
-use Rattle.mz_machine.proofs.Apartness.{bound-fits, binder-at, decides-first, decides-end, decides-regular, decides-not, decides-bound, row-asked}
+use Rattle.mz_machine.proofs.ApartPlaces.{is-there, place-below, place-fits, decides-first, decides-end, decides-not, decides-next, row-asked}
+use Rattle.mz_machine.proofs.Apartness.{apart-at-once}
 use Rattle.mz_machine.proofs.apart.is_apart.Goals as goal
-use Rattle.mz_machine.proofs.apart.is_apart.Goals.{then-bound+else-not-stands_beside, else-bound}
 
-pub others-init : goal.others-init
-others-init c w wat =
-    decides-first c.args.store.now c.args.operands.now (params_of c.args.earlier.now.file c.args.row) c.args.i w _ c.dependencies-bits.result
+pub deps-requires : goal.deps-requires
+deps-requires c =
+    is-in-at c.args.store.now c.args.operands.now c.args.i _ c.requires.ids
+    (slice_get-get_or _ _ _ (let e : c.args.i < length c.args.operands.now = omega (arith, c.requires.many, c.requires.place) in e))
+
+pub returns-then-deps-all-eq0 : goal.returns-then-deps-all-eq0
+returns-then-deps-all-eq0 c e p eat pat =
+    let s = c.args.store.now in
+    let es = trees_at s c.args.operands.now in
+    let ws = params_of c.args.earlier.now.file c.args.row in
+    let there : c.args.i < length c.args.operands.now = omega (arith, c.requires.many, c.requires.place) in
+    let at = slice_get-get_or c.args.operands.now c.args.i _ there in
+    let (w, wat) = is-there ws c.args.i c.requires.place in
+    let none = ap (λ (n : ℕ). bit_and n c.args.all) (sym c.deps.ensures.kept) ∙ c.if-deps-all-eq0.true in
+    sym (apart-at-once (signatures_of c.args.earlier.now) s c.args.operands.now ws c.requires.over c.requires.mode c.requires.ids c.requires.many c.requires.fit c.args.bound.now c.requires.bound c.args.all c.requires.all
+    c.args.i _ w at wat none)
+    ∙ row-asked s.context es ws c.args.i w _ e p wat (tree-at s c.args.operands.now c.args.i _ at) eat pat
+
+pub places-init : goal.places-init
+places-init c w wat =
+    let s = c.args.store.now in
+    let es = trees_at s c.args.operands.now in
+    let ws = params_of c.args.earlier.now.file c.args.row in
+    let many : length es ≡ length ws = length-map c.args.operands.now (λ (i : Id). tree_of s i.0) ∙ c.requires.many in
+    decides-first s.context es ws many c.args.i w _ c.dependencies-bits.result c.args.bound.now c.requires.bound
     (c.dependencies-bits.ensures ∙ ap (λ (v : Word). if word_bound v then 0 else word_deps v) (some_is c.word_of-word.ensures wat))
+
+pub bounds-operands-place : goal.bounds-operands-place
+bounds-operands-place c =
+    let low = place-below (params_of c.args.earlier.now.file c.args.row) c.args.bound.now c.requires.bound c.places.place-index _ (slice_get-get_or _ _ 0 c.places-test.true) in
+    omega (arith, low, c.requires.many)
 
 pub stands_beside-requires-clause-id : goal.stands_beside-requires-clause-id
 stands_beside-requires-clause-id c =
@@ -24,45 +54,46 @@ stands_beside-requires-clause-id c =
 
 pub stands_beside-requires-clause-bound : goal.stands_beside-requires-clause-bound
 stands_beside-requires-clause-bound c =
-    is-in-at c.args.store.now c.args.operands.now c.others.j _ c.requires.ids
-    (slice_get-get_or _ _ _ (let e : c.others.j < length c.args.operands.now = omega (arith, c.requires.many, c.arity_of-j-end.ensures, c.others-test.true) in e))
+    let low = place-below (params_of c.args.earlier.now.file c.args.row) c.args.bound.now c.requires.bound c.places.place-index _ (slice_get-get_or _ _ 0 c.places-test.true) in
+    is-in-at c.args.store.now c.args.operands.now _ _ c.requires.ids
+    (slice_get-get_or _ _ _ (let e : get_or c.args.bound.now c.places.place-index 0 < length c.args.operands.now = omega (arith, low, c.requires.many) in e))
 
 pub returns-then-not-stands_beside : goal.returns-then-not-stands_beside
 returns-then-not-stands_beside c e p eat pat =
+    let s = c.args.store.now in
+    let es = trees_at s c.args.operands.now in
     let ws = params_of c.args.earlier.now.file c.args.row in
     let there : c.args.i < length c.args.operands.now = omega (arith, c.requires.many, c.requires.place) in
-    let here : c.others.j < length c.args.operands.now = omega (arith, c.requires.many, c.arity_of-j-end.ensures, c.others-test.true) in
-    let at = slice_get-get_or c.args.operands.now c.others.j _ here in
-    let bd = sym c.bound.ensures ∙ c.if-bound.true in
-    let fits = bound-fits (signatures_of c.args.earlier.now) c.args.store.now.context (trees_at c.args.store.now c.args.operands.now) (binders_of ws) tt c.requires.fit c.others.j _ _
-    (tree-at c.args.store.now c.args.operands.now c.others.j _ at) (binder-at ws c.others.j _ c.word_of.ensures) bd in
-    sym (decides-not c.args.store.now c.args.operands.now ws c.args.i c.word_of-word.result _ c.others.j c.others.bits (c.others.invariant c.word_of-word.result c.word_of-word.ensures) _ c.word_of.result at c.word_of.ensures bd
+    let k = c.places.place-index in
+    let at = slice_get-get_or c.args.bound.now k 0 c.places-test.true in
+    let low = place-below ws c.args.bound.now c.requires.bound k _ at in
+    let inside : get_or c.args.bound.now k 0 < length c.args.operands.now = omega (arith, low, c.requires.many) in
+    let f = tree-at s c.args.operands.now _ _ (slice_get-get_or c.args.operands.now _ _ inside) in
+    let fits = place-fits s.context es ws (signatures_of c.args.earlier.now) tt c.requires.fit c.args.bound.now c.requires.bound k _ at _ f in
+    sym (decides-not s.context es ws c.args.i c.word_of-word.result _ c.places.bits c.args.bound.now k (c.places.invariant c.word_of-word.result c.word_of-word.ensures) _ _ at f
     c.may_meet-exempt.result c.stands_beside.result c.may_meet-exempt.ensures (c.stands_beside.ensures (signatures_of c.args.earlier.now) c.requires.over c.requires.mode fits) c.if-not-stands_beside.true)
-    ∙ row-asked c.args.store.now c.args.operands.now ws c.args.i c.word_of-word.result _ e p c.word_of-word.ensures (slice_get-get_or _ _ _ there) eat pat
+    ∙ row-asked s.context es ws c.args.i c.word_of-word.result _ e p c.word_of-word.ensures (tree-at s c.args.operands.now c.args.i _ (slice_get-get_or _ _ _ there)) eat pat
 
-pub others-preserved : goal.others-preserved
-others-preserved c w wat =
+pub places-preserved : goal.places-preserved
+places-preserved c w wat =
+    let s = c.args.store.now in
+    let es = trees_at s c.args.operands.now in
     let ws = params_of c.args.earlier.now.file c.args.row in
-    let here : c.others.j < length c.args.operands.now = omega (arith, c.requires.many, c.arity_of-j-end.ensures, c.others-test.true) in
-    let at = slice_get-get_or c.args.operands.now c.others.j _ here in
-    rw (add-one c.others.j)
-    (elim c.if-bound.branch [
-      | then-bound+else-not-stands_beside r ↦ (
-          let bd = sym c.bound.ensures ∙ r.if-bound.true in
-          let fits = bound-fits (signatures_of c.args.earlier.now) c.args.store.now.context (trees_at c.args.store.now c.args.operands.now) (binders_of ws) tt c.requires.fit c.others.j _ _
-          (tree-at c.args.store.now c.args.operands.now c.others.j _ at) (binder-at ws c.others.j _ c.word_of.ensures) bd in
-          rw r.bits-is
-          (decides-bound c.args.store.now c.args.operands.now ws c.args.i w _ c.others.j c.others.bits (c.others.invariant w wat) _ c.word_of.result at c.word_of.ensures bd
-          r.may_meet-exempt.result r.stands_beside.result r.may_meet-exempt.ensures (r.stands_beside.ensures (signatures_of c.args.earlier.now) c.requires.over c.requires.mode fits) r.if-not-stands_beside.false)
-          )
-      | else-bound r ↦ rw r.bits-is
-          (decides-regular c.args.store.now c.args.operands.now ws c.args.i w _ c.others.j c.others.bits (c.others.invariant w wat) _ c.word_of.result at c.word_of.ensures (sym c.bound.ensures ∙ r.if-bound.false))
-    ])
+    let k = c.places.place-index in
+    let at = slice_get-get_or c.args.bound.now k 0 c.places-test.true in
+    let low = place-below ws c.args.bound.now c.requires.bound k _ at in
+    let inside : get_or c.args.bound.now k 0 < length c.args.operands.now = omega (arith, low, c.requires.many) in
+    let f = tree-at s c.args.operands.now _ _ (slice_get-get_or c.args.operands.now _ _ inside) in
+    let fits = place-fits s.context es ws (signatures_of c.args.earlier.now) tt c.requires.fit c.args.bound.now c.requires.bound k _ at _ f in
+    rw (add-one k)
+    (decides-next s.context es ws c.args.i w _ c.places.bits c.args.bound.now k (c.places.invariant w wat) _ _ at f
+    c.may_meet-exempt.result c.stands_beside.result c.may_meet-exempt.ensures (c.stands_beside.ensures (signatures_of c.args.earlier.now) c.requires.over c.requires.mode fits) c.if-not-stands_beside.false)
 
 pub returns : goal.returns
 returns c e p eat pat =
+    let s = c.args.store.now in
+    let es = trees_at s c.args.operands.now in
     let ws = params_of c.args.earlier.now.file c.args.row in
     let there : c.args.i < length c.args.operands.now = omega (arith, c.requires.many, c.requires.place) in
-    let past : length c.args.operands.now ≤ c.others.j = omega (arith, c.requires.many, c.arity_of-j-end.ensures, c.others-test.false) in
-    sym (decides-end c.args.store.now c.args.operands.now ws c.args.i c.word_of-word.result _ c.others.j c.others.bits (c.others.invariant c.word_of-word.result c.word_of-word.ensures) past)
-    ∙ row-asked c.args.store.now c.args.operands.now ws c.args.i c.word_of-word.result _ e p c.word_of-word.ensures (slice_get-get_or _ _ _ there) eat pat
+    sym (decides-end s.context es ws c.args.i c.word_of-word.result _ c.places.bits c.args.bound.now c.places.place-index (c.places.invariant c.word_of-word.result c.word_of-word.ensures) (omega (arith, c.places-test.false)))
+    ∙ row-asked s.context es ws c.args.i c.word_of-word.result _ e p c.word_of-word.ensures (tree-at s c.args.operands.now c.args.i _ (slice_get-get_or _ _ _ there)) eat pat

@@ -1,4 +1,4 @@
-use Rattle.std.proofs.Common.{◌≡◌, ◌≤◌, ◌+◌, ◌-◌, ◌∙◌, ℕ, List, [], Some, None, Bool, length, drop, sym, ap, subst, arith}
+use Rattle.std.proofs.Common.{◌≡◌, ◌≤◌, ◌+◌, ◌∙◌, ℕ, List, [], Some, None, Bool, length, drop, sym, ap, subst, arith}
 use Rattle.std.specs.Prelude.{MatchBool}
 use Rattle.mz_logic.specs.Tree.{Tree, Trees, var, more, size, trees_size}
 use Rattle.mz_logic.specs.declared.expr.Expr.{Expr}
@@ -6,7 +6,8 @@ use Rattle.mz_logic.specs.View.{tree, trees}
 use Rattle.mz_match.specs.declared.stream.Cursor.{Cursor}
 use Rattle.std.proofs.lemmas.List.{drop_all}
 use Rattle.std.proofs.lemmas.Bool.{false≢true}
-use Rattle.mz_match.specs.Streams.{step_at, mark_from, AreSaid, IsMade}
+use Rattle.mz_match.specs.Streams.{step_at, AreSaid, IsMade}
+use Rattle.mz_match.specs.Marks.{AreKept}
 use Rattle.mz_match.specs.Comparing.{compared, all_compared}
 use Rattle.mz_match.specs.Beside.{beside}
 use Rattle.mz_match.proofs.Compared.{cursor-is, said-within, made-within, said-no, made-no, said-made, said-mark, mark-made, mark-param, made-term, compared-param, found-place, differs-app, marked, answered, next-of, all-next, all-stopped, all-goes-on, all-done}
@@ -76,29 +77,32 @@ same_mark-returns-then-mark-sides t c = λ m f stream at.
     subst (λ (g : Tree). MatchBool c.is_variable.result (compared (beside c.args.sides.now m) c.args.pairs.now (tree c.args.expr.now) g ≡ Some c.args.pairs.now) (compared (beside c.args.sides.now m) c.args.pairs.now (tree c.args.expr.now) g ≡ None)) (sym is)
     (marked c.is_variable.result _ _ _ c.is_variable.ensures by.0 by.1)
 
-pub same_mark-find_mark-requires-clause-within : goal.same_mark-find_mark-requires-clause-within
-same_mark-find_mark-requires-clause-within t c =
+pub same_mark-place_of_mark-requires-clause-within : goal.same_mark-place_of_mark-requires-clause-within
+same_mark-place_of_mark-requires-clause-within t c = let (m, f, stream, at) = c.requires in stream.within
+
+pub same_mark-place_of_mark-requires-clause-kept : goal.same_mark-place_of_mark-requires-clause-kept
+same_mark-place_of_mark-requires-clause-kept t c =
     let (m, f, stream, at) = c.requires in
-    subst (λ (xs : List ℕ). c.args.sides.now.start ≤ length xs) (sym c.file.ensures.file) stream.within
+    subst (AreKept c.args.sides.now.mmb.now c.args.sides.now.start) (sym c.as_slice-places.ensures.value) stream.kept
 
 pub same_mark-returns-in_default : goal.same_mark-returns-in_default
 same_mark-returns-in_default t c = λ m f stream at.
     let made = mark-made c.args.sides.now.mmb.now c.args.sides.now.params m c.args.sides.now.start c.args.mark f stream.marks c.if-mark-sides.false at in
-    let found = c.find_mark.ensures made.many made.place (subst (λ (xs : List ℕ). mark_from xs made.many c.args.sides.now.start 0 (c.args.mark - c.args.sides.now.params) ≡ Some made.place) (sym c.file.ensures.file) made.found) in
+    let found = c.place_of_mark.ensures made.many made.place made.found in
     absurd (c.in_default.not-Some made.place found)
 
 pub same_mark-same_made-requires : goal.same_mark-same_made-requires
 same_mark-same_made-requires t c =
     let (m, f, stream, at) = c.requires in
     let made = mark-made c.args.sides.now.mmb.now c.args.sides.now.params m c.args.sides.now.start c.args.mark f stream.marks c.if-mark-sides.false at in
-    let found = c.find_mark.ensures made.many made.place (subst (λ (xs : List ℕ). mark_from xs made.many c.args.sides.now.start 0 (c.args.mark - c.args.sides.now.params) ≡ Some made.place) (sym c.file.ensures.file) made.found) in
+    let found = c.place_of_mark.ensures made.many made.place made.found in
     let same : made.place ≡ c.in-Some.place = found-place made.place c.in-Some.place (sym found ∙ c.in-Some.is) in
     (omega (arith, c.decreases), (m, f, made.end, stream, subst (λ (p : Cursor). IsMade c.args.sides.now.mmb.now c.args.sides.now.params m p.at p.dummies f made.end.at made.end.dummies) same made.made))
 
 pub same_mark-returns : goal.same_mark-returns
 same_mark-returns t c = λ m f stream at.
     let made = mark-made c.args.sides.now.mmb.now c.args.sides.now.params m c.args.sides.now.start c.args.mark f stream.marks c.if-mark-sides.false at in
-    let found = c.find_mark.ensures made.many made.place (subst (λ (xs : List ℕ). mark_from xs made.many c.args.sides.now.start 0 (c.args.mark - c.args.sides.now.params) ≡ Some made.place) (sym c.file.ensures.file) made.found) in
+    let found = c.place_of_mark.ensures made.many made.place made.found in
     let same : made.place ≡ c.in-Some.place = found-place made.place c.in-Some.place (sym found ∙ c.in-Some.is) in
     answered c.same_made.result c.same_made.new.pairs (compared (beside c.args.sides.now m) c.args.pairs.now (tree c.args.expr.now) f) made.end c.is_some.result c.is_some.ensures
     (c.same_made.ensures m f made.end stream (subst (λ (p : Cursor). IsMade c.args.sides.now.mmb.now c.args.sides.now.params m p.at p.dummies f made.end.at made.end.dummies) same made.made))

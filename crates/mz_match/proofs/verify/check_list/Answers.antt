@@ -1,6 +1,5 @@
-use Rattle.std.proofs.Common.{◌≡◌, ◌≤◌, ◌<◌, ◌^◌, ℕ, Bool, List, [], ◌∷◌, ◌++◌, ◌+◌, ◌*◌, ◌∙◌, length, true, sym, ap, subst, inl, inr, arith}
+use Rattle.std.proofs.Common.{◌≡◌, ◌≤◌, ◌<◌, ◌^◌, ℕ, List, [], ◌∷◌, ◌++◌, ◌+◌, ◌*◌, ◌∙◌, length, true, sym, ap, subst, inl, inr, arith}
 use Rattle.std.proofs.lemmas.Bool.{cases_lt}
-use Rattle.mz_mode.specs.Gaps.{gaps_of}
 use Rattle.mz_layout.specs.Layout.{Layout}
 use Rattle.mz_spec.specs.State.{env_of}
 use Rattle.mz_binary.specs.Good.{Good}
@@ -18,12 +17,14 @@ use Rattle.mz_match.proofs.Lists.{length-env}
 use Rattle.mz_match.proofs.GapPlaces.{noted, stop-judged}
 use Rattle.mz_match.proofs.Pairing.{stop-ticks, fails-here, missing-here, accepted-here, few-statements}
 use Rattle.mz_match.proofs.verify.check_list.Goals as goal
+use Rattle.mz_binary.specs.Standards.{lets_gaps}
+use Rattle.mz_binary.specs.declared.standard.Standard.{Standard}
 
 pub statements-init : goal.statements-init
 statements-init g c = record {
   so_far = ([], [], (c.new-matching.ensures.nothing c.new-checker.result (env_of c.args.spec.now) (subst Layout (sym c.new-checker.ensures.file) c.requires.layout) c.new-checker.ensures.nothing), λ mode. c.requires.none);
   same_file = c.new-checker.ensures.file;
-  same_gaps = c.new-checker.ensures.gaps;
+  same_standard = c.new-checker.ensures.standard;
   counted = ap (λ n. c.args.steps.now + n) c.new-checker.ensures.steps;
   most = subst (λ (f : List ℕ). c.args.steps.now + most_left c.new-checker.result ≤ c.args.steps.now + (length f * length f + length f)) c.new-checker.ensures.file
       (omega (arith, most-of-file (length c.new-checker.result.file) c.new-checker.result.at));
@@ -47,9 +48,9 @@ pass-requires g c =
 pub end-requires-clause-passed : goal.end-requires-clause-passed
 end-requires-clause-passed g c =
     let so_far = c.statements.invariant.so_far in
-    let good : Good c.statements.checker.gaps c.statements.checker.file so_far.0 = (c.in-End.ensures.next so_far.0 so_far.1 so_far.2.passed).0 in
+    let good : Good c.statements.checker.standard c.statements.checker.file so_far.0 = (c.in-End.ensures.next so_far.0 so_far.1 so_far.2.passed).0 in
     let small : length c.statements.checker.file < 2 ^ 32 = subst (λ f. length f < 2 ^ 32) (sym c.statements.invariant.same_file) c.requires.small in
-    let few = few-statements c.statements.checker.gaps c.statements.checker.file so_far.0 small good in
+    let few = few-statements c.statements.checker.standard c.statements.checker.file so_far.0 small good in
     omega (arith, few, so_far.2.passed_is)
 
 pub returns-in-End-clause-verdict : goal.returns-in-End-clause-verdict
@@ -58,14 +59,14 @@ returns-in-End-clause-verdict g c = λ text makes.
     let p = c.statements.checker in
     let m = c.statements.matching in
     let places = c.statements.places.items in
-    let good : Good p.gaps p.file so_far.0 = (c.in-End.ensures.next so_far.0 so_far.1 so_far.2.passed).0 in
-    let here : (IsJudged p.gaps text p.file c.end.result places) = elim (cases_lt m.done (length c.args.spec.now)) [
-      | inl short ↦ subst (λ (v : Verdict). IsJudged p.gaps text p.file v places) (sym (c.end.ensures.missing short)) (missing-here text c.args.spec.now p m so_far.0 so_far.1 makes so_far.2 good short)
+    let good : Good p.standard p.file so_far.0 = (c.in-End.ensures.next so_far.0 so_far.1 so_far.2.passed).0 in
+    let here : (IsJudged p.standard text p.file c.end.result places) = elim (cases_lt m.done (length c.args.spec.now)) [
+      | inl short ↦ subst (λ (v : Verdict). IsJudged p.standard text p.file v places) (sym (c.end.ensures.missing short)) (missing-here text c.args.spec.now p m so_far.0 so_far.1 makes so_far.2 good short)
       | inr long ↦ (
           let all : m.done ≡ length c.args.spec.now = omega (arith, long, so_far.2.within, length-env c.args.spec.now) in
-          subst (λ (v : Verdict). IsJudged p.gaps text p.file v places) (sym (c.end.ensures.accepted all)) (accepted-here text c.args.spec.now p m so_far.0 so_far.1 places makes so_far.2 good all so_far.3))
+          subst (λ (v : Verdict). IsJudged p.standard text p.file v places) (sym (c.end.ensures.accepted all)) (accepted-here text c.args.spec.now p m so_far.0 so_far.1 places makes so_far.2 good all so_far.3))
     ] in
-    subst (λ (b : Bool). IsJudged b text c.args.mmb.now c.end.result places) c.statements.invariant.same_gaps (subst (λ f. IsJudged p.gaps text f c.end.result places) c.statements.invariant.same_file here)
+    subst (λ (b : Standard). IsJudged b text c.args.mmb.now c.end.result places) c.statements.invariant.same_standard (subst (λ f. IsJudged p.standard text f c.end.result places) c.statements.invariant.same_file here)
 
 pub returns-in-Refused-clause-verdict : goal.returns-in-Refused-clause-verdict
 returns-in-Refused-clause-verdict g c = λ text makes.
@@ -73,8 +74,8 @@ returns-in-Refused-clause-verdict g c = λ text makes.
     let p = c.statements.checker in
     let places = c.statements.places.items in
     let v = verdicts.Binary c.in-Refused.refusal in
-    subst (λ (b : Bool). IsJudged b text c.args.mmb.now (verdicts.Binary c.in-Refused.refusal) places) c.statements.invariant.same_gaps
-    (subst (λ f. IsJudged p.gaps text f (verdicts.Binary c.in-Refused.refusal) places) c.statements.invariant.same_file
+    subst (λ (b : Standard). IsJudged b text c.args.mmb.now (verdicts.Binary c.in-Refused.refusal) places) c.statements.invariant.same_standard
+    (subst (λ f. IsJudged p.standard text f (verdicts.Binary c.in-Refused.refusal) places) c.statements.invariant.same_file
     (fails-here text c.args.spec.now p c.statements.matching so_far.0 so_far.1 c.in-Refused.refusal makes so_far.2 (c.in-Refused.ensures.next so_far.0 so_far.1 so_far.2.passed)))
 
 pub returns-in-Err-clause-verdict : goal.returns-in-Err-clause-verdict
@@ -83,15 +84,15 @@ returns-in-Err-clause-verdict g c = λ text makes.
     let p = c.statements.checker in
     let passes = c.in-Statement.ensures.next so_far.0 so_far.1 so_far.2.passed in
     let stops = c.in-Err.ensures.stops p c.in-Statement.after so_far.0 so_far.1 c.statements.invariant.same_file so_far.2 passes text makes in
-    subst (λ (b : Bool). IsJudged b text c.args.mmb.now c.in-Err.verdict c.statements.places.items) c.statements.invariant.same_gaps
-    (stop-judged p.gaps text c.args.mmb.now c.in-Err.verdict c.statements.places.items c.in-Err.ensures.kind stops)
+    subst (λ (b : Standard). IsJudged b text c.args.mmb.now c.in-Err.verdict c.statements.places.items) c.statements.invariant.same_standard
+    (stop-judged p.standard text c.args.mmb.now c.in-Err.verdict c.statements.places.items c.in-Err.ensures.kind stops)
 
 pub returns-in-Err-clause-steps : goal.returns-in-Err-clause-steps
 returns-in-Err-clause-steps g c =
     let counted = c.statements.invariant.counted in
     let steps = c.in-Statement.ensures.steps in
     let left = c.in-Statement.ensures.left in
-    stop-ticks (gaps_of c.args.mode) c.args.mmb.now c.args.steps.now c.check_next.new.steps c.in-Err.verdict c.in-Err.ensures.kind (omega (arith, counted, steps, left))
+    stop-ticks c.args.standard c.args.mmb.now c.args.steps.now c.check_next.new.steps c.in-Err.verdict c.in-Err.ensures.kind (omega (arith, counted, steps, left))
 
 pub returns-in-End-clause-steps : goal.returns-in-End-clause-steps
 returns-in-End-clause-steps g c =
@@ -101,10 +102,10 @@ returns-in-End-clause-steps g c =
     let m = c.statements.matching in
     let within = c.statements.invariant.so_far.2.within in
     elim (cases_lt m.done (length c.args.spec.now)) [
-      | inl short ↦ subst (TicksBy (gaps_of c.args.mode) c.args.mmb.now c.args.steps.now c.check_next.new.steps) (sym (c.end.ensures.missing short)) (omega (arith, counted, steps, left))
+      | inl short ↦ subst (TicksBy c.args.standard c.args.mmb.now c.args.steps.now c.check_next.new.steps) (sym (c.end.ensures.missing short)) (omega (arith, counted, steps, left))
       | inr long ↦ (
           let all : m.done ≡ length c.args.spec.now = omega (arith, long, within, length-env c.args.spec.now) in
-          subst (TicksBy (gaps_of c.args.mode) c.args.mmb.now c.args.steps.now c.check_next.new.steps) (sym (c.end.ensures.accepted all)) (omega (arith, counted, steps, left)))
+          subst (TicksBy c.args.standard c.args.mmb.now c.args.steps.now c.check_next.new.steps) (sym (c.end.ensures.accepted all)) (omega (arith, counted, steps, left)))
     ]
 
 pub statements-preserved : goal.statements-preserved
@@ -120,14 +121,14 @@ statements-preserved g c =
     let ss : List Statement = so_far.0 ++ passes.statement ∷ [] in
     let env : List Declaration = so_far.1 ++ passes.statement.decl ∷ [] in
     let matched : IsMatched after ds c.pass.new.self ss env = c.in_default.ensures.passed p after so_far.0 so_far.1 c.statements.invariant.same_file so_far.2 passes in
-    let lists : (after.gaps ≡ true → ListsGapsOf after.file ss c.note.new.places.items) = λ mode.
+    let lists : (lets_gaps after.standard ≡ true → ListsGapsOf after.file ss c.note.new.places.items) = λ mode.
     subst (λ (xs : List ℕ). ListsGapsOf after.file ss xs) (sym c.in-Ok.ensures)
     (subst (λ (f : List ℕ). ListsGapsOf f ss (places_past c.in-Statement.told.local c.in-Statement.told.gap c.statements.matching.done c.statements.places.items)) (sym passes.same_file)
-    (noted p ds c.statements.matching so_far.0 so_far.1 after c.in-Statement.told so_far.2 passes (sym passes.same_gaps ∙ mode) c.statements.places.items (so_far.3 (sym passes.same_gaps ∙ mode)))) in
+    (noted p ds c.statements.matching so_far.0 so_far.1 after c.in-Statement.told so_far.2 passes (ap lets_gaps (sym passes.same_standard) ∙ mode) c.statements.places.items (so_far.3 (ap lets_gaps (sym passes.same_standard) ∙ mode)))) in
     record {
       so_far = (ss, env, matched, lists);
       same_file = passes.same_file ∙ c.statements.invariant.same_file;
-      same_gaps = passes.same_gaps ∙ c.statements.invariant.same_gaps;
+      same_standard = passes.same_standard ∙ c.statements.invariant.same_standard;
       counted = omega (arith, counted, steps, left);
       most = (let a = c.in-Statement.ensures.most in let b = c.statements.invariant.most in omega (arith, a, b));
     }

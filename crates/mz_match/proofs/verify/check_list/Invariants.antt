@@ -1,5 +1,4 @@
 use Rattle.std.proofs.Common.{◌≡◌, ◌≤◌, ◌+◌, ◌-◌, ◌*◌, length, true, List}
-use Rattle.mz_mode.specs.Gaps.{gaps_of}
 use Rattle.mz_logic.specs.Declaration.{Declaration}
 use Rattle.mz_logic.specs.LegalLists.{Statement}
 use Rattle.mz_binary.specs.FileRun.{file_steps}
@@ -8,13 +7,14 @@ use Rattle.mz_spec.specs.State.{env_of}
 use Rattle.mz_match.specs.Drafts.{ListsGapsOf}
 use Rattle.mz_match.specs.Told.{IsMatched}
 use Rattle.mz_match.proofs.verify.check_list.Given as goal
+use Rattle.mz_binary.specs.Standards.{lets_gaps}
 
 abbrev pub invariant-statements : goal.invariant-statements
 invariant-statements g l = record {
-  so_far : (ss : List Statement) × (env : List Declaration) × IsMatched l.checker (env_of l.fn.spec) l.matching ss env × (l.checker.gaps ≡ true → ListsGapsOf l.checker.file ss l.places.items);
+  so_far : (ss : List Statement) × (env : List Declaration) × IsMatched l.checker (env_of l.fn.spec) l.matching ss env × (lets_gaps l.checker.standard ≡ true → ListsGapsOf l.checker.file ss l.places.items);
   same_file : l.checker.file ≡ l.fn.mmb;
-  same_gaps : l.checker.gaps ≡ gaps_of l.fn.mode;
-  counted : l.steps + steps_left l.checker ≡ l.fn.steps + file_steps (gaps_of l.fn.mode) l.fn.mmb;
+  same_standard : l.checker.standard ≡ l.fn.standard;
+  counted : l.steps + steps_left l.checker ≡ l.fn.steps + file_steps l.fn.standard l.fn.mmb;
   most : l.steps + most_left l.checker ≤ l.fn.steps + (length l.fn.mmb * length l.fn.mmb + length l.fn.mmb);
 }
 

@@ -1,23 +1,12 @@
-use Rattle.std.proofs.Common.{◌≡◌, ◌∙◌, Contains, sym, subst, refl}
-use Rattle.std.proofs.lemmas.Bool.{true≢false, false≢true}
-use Rattle.mz_notation.specs.Notation.{Notation}
-use Rattle.mz_tokens.proofs.Lists.{all_so_far_more, all-members}
+use Rattle.std.proofs.Common.{◌∙◌, sym, refl}
 use Rattle.mz_notation.proofs.clear.all_group_with.Goals as goal
 
-pub returns-then-not-groups_with : goal.returns-then-not-groups_with
-returns-then-not-groups_with c =
-    let mem : Contains c.args.infixes.now c.k-item.result = (c.loop-k.k-index, c.loop-k-test.true, sym c.k-item.is) in
-    (λ f. absurd (false≢true f), λ all. absurd (true≢false (sym (c.groups_with.ensures.1 (all c.k-item.result mem)) ∙ c.if-not-groups_with.true)))
+pub returns-in-None : goal.returns-in-None
+returns-in-None c = (λ t l has same. absurd (c.in-None.ensures l has same), λ all. refl)
 
-pub loop-k-preserved : goal.loop-k-preserved
-loop-k-preserved c =
-    let P : Notation → Type 0 = λ x. x.level ≡ c.args.notation.now.level → x.is_right ≡ c.args.notation.now.is_right in
-    all_so_far_more P c.args.infixes.now c.loop-k.k-index c.k-item.result c.loop-k.invariant c.loop-k-test.true
-    (subst P c.k-item.is (c.groups_with.ensures.0 c.if-not-groups_with.false))
-
-pub returns : goal.returns
-returns c =
-    let P : Notation → Type 0 = λ x. x.level ≡ c.args.notation.now.level → x.is_right ≡ c.args.notation.now.is_right in
-    let seen = c.loop-k.invariant in
-    let done = c.loop-k-test.false in
-    (λ t. λ l inn. all-members P c.args.infixes.now seen done l inn, λ all. refl)
+pub returns-in-Some : goal.returns-in-Some
+returns-in-Some c =
+    let (k, in-k, level, is) = c.in-Some.ensures in (
+      λ t l has same. c.requires l k has in-k (same ∙ sym level) ∙ is ∙ sym (c.groups.ensures.0 t),
+      λ all. c.groups.ensures.1 (sym (all k in-k level) ∙ is),
+    )

@@ -1,4 +1,4 @@
-use Rattle.std.proofs.Common.{◌∙◌, sym, subst}
+use Rattle.std.proofs.Common.{◌∙◌, sym, subst, inl, inr}
 use Rattle.std.proofs.lemmas.Bool.{true≢false, false≢true}
 use Rattle.mz_notation.specs.Answers.{KeepsLevels, KeepsOwnLevels}
 use Rattle.mz_notation.proofs.clear.levels_are_kept.Goals as goal
@@ -21,3 +21,9 @@ returns c =
       ),
       λ all. c.keeps_levels-2.ensures.1 (subst (λ xs. KeepsLevels xs c.args.infixes.now) (sym es) all.2),
     )
+
+pub keeps_levels-requires : goal.keeps_levels-requires
+keeps_levels-requires c = λ w q p a b. c.requires.levels w q p (inl a) (inl b)
+
+pub keeps_levels-requires-2 : goal.keeps_levels-requires-2
+keeps_levels-requires-2 c = λ w q p a b. c.requires.levels w q p (inr a) (inr b)

@@ -1,24 +1,20 @@
-use Rattle.std.proofs.Common.{◌∙◌, ℕ, List, Contains, sym, subst, refl}
-use Rattle.std.proofs.lemmas.Bool.{true≢false, false≢true}
-use Rattle.mz_notation.specs.Notation.{Notation}
+use Rattle.std.proofs.Common.{refl, subst}
+use Rattle.std.proofs.lemmas.Bool.{false≢true}
 use Rattle.mz_notation.specs.Clear.{JoinedBy}
-use Rattle.mz_tokens.proofs.Lists.{all_so_far_more, all-members}
+use Rattle.mz_notation.proofs.Constants.{joined-one}
 use Rattle.mz_notation.proofs.clear.none_is_joined.Goals as goal
 
-pub returns-then-not-is_joined_otherwise : goal.returns-then-not-is_joined_otherwise
-returns-then-not-is_joined_otherwise c =
-    let mem : Contains c.args.infixes.now c.k-item.result = (c.loop-k.k-index, c.loop-k-test.true, sym c.k-item.is) in
-    (λ f. absurd (false≢true f), λ all. absurd (true≢false (sym (c.is_joined_otherwise.ensures.1 (λ w by_k by_l. all c.k-item.result w mem by_k by_l)) ∙ c.if-not-is_joined_otherwise.true)))
+pub returns-in-None : goal.returns-in-None
+returns-in-None c = (λ t l w has by_k by_l. c.in-None.ensures w by_k, λ all. refl)
 
-pub loop-k-preserved : goal.loop-k-preserved
-loop-k-preserved c =
-    let P : Notation → Type 0 = λ x. (w : List ℕ) → JoinedBy c.args.notation.now w → JoinedBy x w → ⊥ in
-    all_so_far_more P c.args.infixes.now c.loop-k.k-index c.k-item.result c.loop-k.invariant c.loop-k-test.true
-    (subst P c.k-item.is (c.is_joined_otherwise.ensures.0 c.if-not-is_joined_otherwise.false))
+pub returns-in-None-joined_by : goal.returns-in-None-joined_by
+returns-in-None-joined_by c = (
+  λ t l w has by_k by_l. c.in-None-joined_by.ensures l has (subst (JoinedBy l) (joined-one c.args.notation.now w c.in-Some.word.now by_k c.in-Some.ensures) by_l),
+  λ all. refl,
+)
 
-pub returns : goal.returns
-returns c =
-    let P : Notation → Type 0 = λ x. (w : List ℕ) → JoinedBy c.args.notation.now w → JoinedBy x w → ⊥ in
-    let seen = c.loop-k.invariant in
-    let done = c.loop-k-test.false in
-    (λ t. λ l w inn by_k by_l. all-members P c.args.infixes.now seen done l inn w by_k by_l, λ all. refl)
+pub returns-in-Some-joined_by : goal.returns-in-Some-joined_by
+returns-in-Some-joined_by c = (
+  λ t. absurd (false≢true t),
+  λ all. absurd (all c.in-Some-joined_by.field-0.now c.in-Some.word.now c.in-Some-joined_by.ensures.0 c.in-Some.ensures c.in-Some-joined_by.ensures.1),
+)

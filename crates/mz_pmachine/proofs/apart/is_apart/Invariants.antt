@@ -1,9 +1,12 @@
-use Rattle.std.proofs.Common.{◌≡◌, Some, slice_get}
+use Rattle.std.proofs.Common.{◌≡◌, Some, drop, slice_get}
 use Rattle.mz_logic.specs.declared.word.Word.{Word}
+use Rattle.mz_nodes.specs.Numbering.{tree_of}
+use Rattle.mz_punify.specs.Stored.{trees_at}
 use Rattle.mz_pmachine.specs.OperandRows.{params_of}
-use Rattle.mz_pmachine.proofs.Apartness.{Decides}
+use Rattle.mz_machine.proofs.ApartPlaces.{Decides}
 use Rattle.mz_pmachine.proofs.apart.is_apart.Given as goal
 
--- the operands that are left decide, by the bits that are left
-abbrev pub invariant-others : goal.invariant-others
-invariant-others l = (w : Word) → slice_get (params_of l.earlier.file l.row) l.i ≡ Some w → Decides l.nodes l.operands (params_of l.earlier.file l.row) l.i w l.id.0 l.j l.bits
+-- the places that are left decide, by the bits that are left
+abbrev pub invariant-places : goal.invariant-places
+invariant-places l = (w : Word) → slice_get (params_of l.earlier.file l.fn.row) l.i ≡ Some w
+    → Decides l.nodes.context (trees_at l.nodes l.operands) (params_of l.earlier.file l.fn.row) l.i w (tree_of l.nodes l.id.0) l.bits (drop l.place-index l.bound)

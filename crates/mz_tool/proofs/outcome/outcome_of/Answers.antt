@@ -2,7 +2,7 @@ use Rattle.std.proofs.Common.{ap, [], ◌∷◌}
 use Rattle.mz_mode.specs.Gaps.{gaps_of}
 use Rattle.mz_tool.specs.Asked.{request}
 use Rattle.mz_tool.specs.Inputs.{contents_of}
-use Rattle.mz_tool.specs.Request.{assemble, axioms, draft, specify}
+use Rattle.mz_tool.specs.Request.{assemble, axioms, draft, portable, specify}
 use Rattle.mz_tool.proofs.Answered.{two-read, verify-yes, verify-no, verify-proved, verify-only_yes, verify-only_no, one-read, compile-yes, compile-no, compile-proved, compile-only_yes, compile-only_no, same-yes, same-no, same-proved, same-sound, same-only_yes, same-only_no}
 use Rattle.mz_tool.proofs.Sampled.{sample-yes, sample-no, sample-proved, sample-only_yes, sample-only_no}
 use Rattle.mz_tool.proofs.outcome.outcome_of.Goals as goal
@@ -146,3 +146,23 @@ returns-in-Draft-Two-clause-only_no c = same-only_no (request c.args.command) (d
 pub returns-in-Draft-Two-clause-proved : goal.returns-in-Draft-Two-clause-proved
 returns-in-Draft-Two-clause-proved c = same-sound (request c.args.command) (draft c.in-Draft-Two.spec-0.now c.in-Draft-Two.bin-0.now) (contents_of c.args.contents.now) (c.as_slice-in-Draft-Two.result.now ∷ c.deref-in-Draft-Two.result.now ∷ [])
     (ap request c.in-Draft-Two.is-0) (two-read (contents_of c.args.contents.now) c.in-Draft-Two.spec.items c.in-Draft-Two.bin.items c.as_slice-in-Draft-Two.result.now c.deref-in-Draft-Two.result.now (ap contents_of c.in-Draft-Two.is-1) c.as_slice-in-Draft-Two.ensures.value c.deref-in-Draft-Two.ensures.value) c.draft.result c.draft.ensures.sound
+
+pub returns-in-Portable-Two-clause-yes : goal.returns-in-Portable-Two-clause-yes
+returns-in-Portable-Two-clause-yes c = same-yes (request c.args.command) (portable c.in-Portable-Two.spec-0.now c.in-Portable-Two.bin-0.now) (contents_of c.args.contents.now) (c.as_slice-in-Portable-Two.result.now ∷ c.deref-in-Portable-Two.result.now ∷ [])
+    (ap request c.in-Portable-Two.is-0) (two-read (contents_of c.args.contents.now) c.in-Portable-Two.spec.items c.in-Portable-Two.bin.items c.as_slice-in-Portable-Two.result.now c.deref-in-Portable-Two.result.now (ap contents_of c.in-Portable-Two.is-1) c.as_slice-in-Portable-Two.ensures.value c.deref-in-Portable-Two.ensures.value) c.portable.result c.portable.ensures.yes
+
+pub returns-in-Portable-Two-clause-no : goal.returns-in-Portable-Two-clause-no
+returns-in-Portable-Two-clause-no c = same-no (request c.args.command) (portable c.in-Portable-Two.spec-0.now c.in-Portable-Two.bin-0.now) (contents_of c.args.contents.now) (c.as_slice-in-Portable-Two.result.now ∷ c.deref-in-Portable-Two.result.now ∷ [])
+    (ap request c.in-Portable-Two.is-0) (two-read (contents_of c.args.contents.now) c.in-Portable-Two.spec.items c.in-Portable-Two.bin.items c.as_slice-in-Portable-Two.result.now c.deref-in-Portable-Two.result.now (ap contents_of c.in-Portable-Two.is-1) c.as_slice-in-Portable-Two.ensures.value c.deref-in-Portable-Two.ensures.value) c.portable.result c.portable.ensures.no
+
+pub returns-in-Portable-Two-clause-only_yes : goal.returns-in-Portable-Two-clause-only_yes
+returns-in-Portable-Two-clause-only_yes c = same-only_yes (request c.args.command) (portable c.in-Portable-Two.spec-0.now c.in-Portable-Two.bin-0.now) (contents_of c.args.contents.now) (c.as_slice-in-Portable-Two.result.now ∷ c.deref-in-Portable-Two.result.now ∷ [])
+    (ap request c.in-Portable-Two.is-0) (two-read (contents_of c.args.contents.now) c.in-Portable-Two.spec.items c.in-Portable-Two.bin.items c.as_slice-in-Portable-Two.result.now c.deref-in-Portable-Two.result.now (ap contents_of c.in-Portable-Two.is-1) c.as_slice-in-Portable-Two.ensures.value c.deref-in-Portable-Two.ensures.value) c.portable.result (λ put text is. c.portable.ensures.only_yes text is.1)
+
+pub returns-in-Portable-Two-clause-only_no : goal.returns-in-Portable-Two-clause-only_no
+returns-in-Portable-Two-clause-only_no c = same-only_no (request c.args.command) (portable c.in-Portable-Two.spec-0.now c.in-Portable-Two.bin-0.now) (contents_of c.args.contents.now) (c.as_slice-in-Portable-Two.result.now ∷ c.deref-in-Portable-Two.result.now ∷ [])
+    (ap request c.in-Portable-Two.is-0) (two-read (contents_of c.args.contents.now) c.in-Portable-Two.spec.items c.in-Portable-Two.bin.items c.as_slice-in-Portable-Two.result.now c.deref-in-Portable-Two.result.now (ap contents_of c.in-Portable-Two.is-1) c.as_slice-in-Portable-Two.ensures.value c.deref-in-Portable-Two.ensures.value) c.portable.result c.portable.ensures.only_no
+
+pub returns-in-Portable-Two-clause-proved : goal.returns-in-Portable-Two-clause-proved
+returns-in-Portable-Two-clause-proved c = same-sound (request c.args.command) (portable c.in-Portable-Two.spec-0.now c.in-Portable-Two.bin-0.now) (contents_of c.args.contents.now) (c.as_slice-in-Portable-Two.result.now ∷ c.deref-in-Portable-Two.result.now ∷ [])
+    (ap request c.in-Portable-Two.is-0) (two-read (contents_of c.args.contents.now) c.in-Portable-Two.spec.items c.in-Portable-Two.bin.items c.as_slice-in-Portable-Two.result.now c.deref-in-Portable-Two.result.now (ap contents_of c.in-Portable-Two.is-1) c.as_slice-in-Portable-Two.ensures.value c.deref-in-Portable-Two.ensures.value) c.portable.result c.portable.ensures.sound

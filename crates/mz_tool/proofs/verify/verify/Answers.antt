@@ -1,11 +1,12 @@
-use Rattle.mz_tool.proofs.Answered.{is-refuted, not-verified}
+use Rattle.mz_binary.specs.Standards.{strict_standard}
+use Rattle.mz_tool.proofs.Judged.{judged-yes, judged-no, judged-sound, judged-only_yes, judged-only_no}
 use Rattle.mz_tool.proofs.verify.verify.Goals as goal
 
-pub returns-in_default-verdict : goal.returns-in_default-verdict
-returns-in_default-verdict c = record {
-  yes = tt;
-  no = is-refuted c.args.spec.now c.args.bin.now c.judge-verdict.result c.in-Ok.text.items c.judge-verdict.ensures.verdict c.in_default-verdict.not-Accepted c.in_default.not-Mem c.in-Ok.ensures;
-  sound = tt;
-  only_yes = not-verified c.args.spec.now c.args.bin.now c.judge-verdict.result c.in_default-verdict.not-Accepted c.in_default.not-Mem c.judge-verdict.ensures.accepted;
-  only_no = λ text is. tt;
+pub returns : goal.returns
+returns c = record {
+  yes = judged-yes strict_standard c.args.spec.now c.args.bin.now c.judge-verdict.result c.answered_by.result c.judge-verdict.ensures.verdict c.answered_by.ensures.yes;
+  no = judged-no strict_standard c.args.spec.now c.args.bin.now c.judge-verdict.result c.answered_by.result c.judge-verdict.ensures.verdict c.answered_by.ensures.no;
+  sound = judged-sound c.args.spec.now c.args.bin.now c.judge-verdict.result c.answered_by.result c.judge-verdict.ensures.sound c.answered_by.ensures.yes;
+  only_yes = judged-only_yes strict_standard c.args.spec.now c.args.bin.now c.judge-verdict.result c.answered_by.result c.judge-verdict.ensures.accepted c.answered_by.ensures.no;
+  only_no = judged-only_no strict_standard c.args.spec.now c.args.bin.now c.judge-verdict.result c.answered_by.result c.judge-verdict.ensures.refused c.answered_by.ensures.yes;
 }

@@ -24,7 +24,7 @@ returns-in-Ok-End-clause-left g c =
     let p : Progress = c.args.self in
     let here : find_at p.file (taken_before p.file p.rows) p.at ≡ Ok list_ends = subst (λ (q : Progress). find_at q.file (taken_before q.file q.rows) q.at ≡ Ok list_ends) c.self.view_is
     (c.in-Ok-End.ensures.found ∙ ap (λ s. Ok (found_of c.self.inside.mmb.now c.self.inside.rows s)) c.in-Ok-End.field-0-is) in
-    left-at-end p (run-of p.gaps p.file (taken_before p.file p.rows) p.at list_ends here)
+    left-at-end p (run-of p.standard p.file (taken_before p.file p.rows) p.at list_ends here)
 
 -- no axiom or theorem stands without a body
 no-assertion : (g : Over) (c : goal.In-Ok-Alone g) → is_assertion_kind c.in-Ok-Alone.head.code ≡ false

@@ -1,5 +1,4 @@
 use Rattle.std.proofs.Common.{◌+◌, ◌∙◌, ℕ, length, sym, ap}
-use Rattle.mz_mode.specs.Gaps.{gaps_of}
 use Rattle.mz_soundness.specs.FileRows.{nothing_taken}
 use Rattle.mz_binary.specs.FileRun.{list_steps}
 use Rattle.mz_binary.proofs.Counting.{steps-of-list}
@@ -8,4 +7,4 @@ use Rattle.mz_binary.proofs.checker.Checker.new.Goals as goal
 pub returns-clause-steps : goal.returns-clause-steps
 returns-clause-steps c =
     let file = c.args.mmb.now in
-    ap (λ (at : ℕ). list_steps (gaps_of c.args.mode) file (length file + 1) nothing_taken at) c.proof_at-at.ensures.place ∙ sym (steps-of-list (gaps_of c.args.mode) file c.proof_at-at.ensures.binary.layout)
+    ap (λ (at : ℕ). list_steps c.args.standard file (length file + 1) nothing_taken at) c.proof_at-at.ensures.place ∙ sym (steps-of-list c.args.standard file c.proof_at-at.ensures.binary.layout)

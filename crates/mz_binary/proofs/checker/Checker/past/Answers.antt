@@ -1,5 +1,4 @@
 use Rattle.std.proofs.Common.{◌≡◌, ◌+◌, ◌-◌, ◌*◌, ◌∙◌, ℕ, List, length, refl, sym, ap, subst, arith}
-use Rattle.mz_mode.specs.Gaps.{gaps_of}
 use Rattle.mz_cmd.specs.Codes.{statement_byte}
 use Rattle.mz_binary.specs.declared.statement.Statement.{Statement as Told}
 use Rattle.mz_binary.specs.Progress.{Progress, IsReached, marks_past, most_left, next_row, rows_past}
@@ -8,11 +7,12 @@ use Rattle.mz_binary.proofs.Passing.{IsPast, passes, reached, further, taken-pas
 use Rattle.mz_binary.proofs.Counting.{left-past, most-past, most-here}
 use Rattle.mz_binary.proofs.SortsSoFar.{taken}
 use Rattle.mz_binary.specs.FileRun.{RunsBody}
+use Rattle.mz_binary.specs.Standards.{lets_gaps}
 use Rattle.mz_soundness.specs.FileRows.{Taken}
 use Rattle.mz_binary.proofs.checker.Checker.past.Goals as goal
 
 abbrev after_of : goal.After-after_rows → Progress
-after_of c = record { gaps = gaps_of c.self.inside.mode; file = c.self.inside.mmb.now; at = c.args.head.next; passed = c.self.inside.passed + 1; rows = c.after_rows.result; marks = c.mark.new.marks.items }
+after_of c = record { standard = c.self.inside.standard; file = c.self.inside.mmb.now; at = c.args.head.next; passed = c.self.inside.passed + 1; rows = c.after_rows.result; marks = c.mark.new.marks.items }
 
 abbrev told_of : goal.After-after_rows → Told
 told_of c = record { number = c.self.inside.passed + 1; at = c.self.inside.at; kind = c.kind_of.result; row = c.row_of.result; local = c.is_local.result; gap = c.args.gap }
@@ -20,7 +20,7 @@ told_of c = record { number = c.self.inside.passed + 1; at = c.self.inside.at; k
 past-of : (c : goal.After-after_rows) → IsPast c.args.self (after_of c) (told_of c) c.args.head
 past-of c = record {
   same_file = ap (λ (q : Progress). q.file) c.self.view_is;
-  same_gaps = ap (λ (q : Progress). q.gaps) c.self.view_is;
+  same_standard = ap (λ (q : Progress). q.standard) c.self.view_is;
   goes_on = refl;
   one_more = ap (λ (q : Progress). q.passed + 1) c.self.view_is;
   rows_are = c.after_rows.ensures ∙ ap (λ (q : Progress). rows_past q.rows c.args.head.code) c.self.view_is;
@@ -30,7 +30,7 @@ past-of c = record {
   row = c.row_of.ensures ∙ ap (λ (q : Progress). next_row q.rows c.args.head.code) c.self.view_is;
   mark = c.is_local.ensures;
   gap = c.requires.gap;
-  marks_are = c.in-Ok.ensures.ok ∙ ap (λ (q : Progress). marks_past q.gaps c.args.head.code c.args.gap q.marks) c.self.view_is;
+  marks_are = c.in-Ok.ensures.ok ∙ ap (λ (q : Progress). marks_past (lets_gaps q.standard) c.args.head.code c.args.gap q.marks) c.self.view_is;
 }
 
 pub invariant_of-after : goal.invariant_of-after
@@ -46,7 +46,7 @@ returns-clause-left c =
     let past = past-of c in
     let on = further c.args.self (after_of c) (told_of c) c.args.head past c.requires.head c.requires.at c.requires.runs r in
     left-past c.args.self (after_of c) c.args.head.next _ c.requires.runs
-    (taken-past c.args.self (after_of c) (told_of c) c.args.head past c.requires.head c.requires.at c.requires.runs r) refl past.same_file past.same_gaps on.0 on.1
+    (taken-past c.args.self (after_of c) (told_of c) c.args.head past c.requires.head c.requires.at c.requires.runs r) refl past.same_file past.same_standard on.0 on.1
 
 pub returns-clause-most : goal.returns-clause-most
 returns-clause-most c = λ old new few.

@@ -1,20 +1,22 @@
-use Rattle.std.proofs.Common.{◌≡◌, ◌≤◌, ◌+◌, ◌-◌, ◌*◌, ◌∙◌, ℕ, length, Some, Ok, sym, subst, arith}
+use Rattle.std.proofs.Common.{◌≡◌, ◌≤◌, ◌+◌, ◌-◌, ◌*◌, ◌∙◌, ℕ, length, Some, Ok, Err, sym, subst, arith}
 use Rattle.mz_cmd.specs.declared.statement.StmtAt.TheVariants as there
 use Rattle.mz_cmd.specs.Codes.{statement_byte}
 use Rattle.mz_cmd.specs.StatementList.{statement_at}
 use Rattle.mz_soundness.specs.FileRows.{Taken, body_bytes}
 use Rattle.mz_machine.specs.Before.{MayRun, heading_of, taken_before}
-use Rattle.mz_binary.specs.FileRun.{after_kind}
-use Rattle.mz_binary.specs.Progress.{Progress, IsReached, kind_byte, next_row}
+use Rattle.mz_binary.specs.declared.place.Head.{Head}
+use Rattle.mz_binary.specs.declared.place.Found.TheVariants as seen
+use Rattle.mz_binary.specs.FileRun.{after_kind, find_at, onward, run_place}
+use Rattle.mz_binary.specs.Progress.{Progress, IsReached, found_of, kind_byte, next_row}
 use Rattle.mz_binary.proofs.Heads.{head-at}
 use Rattle.mz_binary.proofs.Finding.{find-head}
-use Rattle.mz_binary.proofs.Passing.{body-here, code-of}
+use Rattle.mz_binary.proofs.Passing.{body-here, body-runs, body-stops, code-of}
 use Rattle.mz_binary.proofs.Counting.{most-here}
 use Rattle.mz_binary.proofs.Running.{may-run}
 use Rattle.mz_binary.proofs.checker.Checker.past_body.Goals as goal
 
-pub check_body-requires-clause-may_run : goal.check_body-requires-clause-may_run
-check_body-requires-clause-may_run g c =
+pub check_body_by-requires-clause-may_run : goal.check_body_by-requires-clause-may_run
+check_body_by-requires-clause-may_run g c =
     let p : Progress = c.args.self in
     let head = c.args.head in
     let taken : Taken = taken_before p.file p.rows in
@@ -28,11 +30,11 @@ check_body-requires-clause-may_run g c =
     subst (λ (k : ℕ). MayRun c.self.inside.mmb.now k c.row_of-row.result c.self.inside.rows) (sym c.kind_of-kind.ensures)
     (subst (λ (row : ℕ). MayRun c.self.inside.mmb.now (kind_byte head.code) row c.self.inside.rows) (sym c.row_of-row.ensures) inside)
 
-pub check_body-requires-clause-order : goal.check_body-requires-clause-order
-check_body-requires-clause-order g c = (head-at c.args.self.file c.args.head.at (statement_byte c.args.head.code) c.args.head.body c.args.head.next c.requires.head).order
+pub check_body_by-requires-clause-order : goal.check_body_by-requires-clause-order
+check_body_by-requires-clause-order g c = (head-at c.args.self.file c.args.head.at (statement_byte c.args.head.code) c.args.head.body c.args.head.next c.requires.head).order
 
-pub check_body-requires-clause-within : goal.check_body-requires-clause-within
-check_body-requires-clause-within g c =
+pub check_body_by-requires-clause-within : goal.check_body_by-requires-clause-within
+check_body_by-requires-clause-within g c =
     subst (λ (q : Progress). c.args.head.next ≤ length q.file) (sym c.self.view_is)
     (head-at c.args.self.file c.args.head.at (statement_byte c.args.head.code) c.args.head.body c.args.head.next c.requires.head).within
 
@@ -47,25 +49,44 @@ returns-clause-next g c = λ ss env before.
 pub returns-in-Good-clause-most : goal.returns-in-Good-clause-most
 returns-in-Good-clause-most g c =
     let head = c.args.head in
-    c.past.ensures.most c.args.steps.now c.check_body.new.steps
-    (subst (λ (q : Progress). c.check_body.new.steps ≤ c.args.steps.now + (head.next - head.body) * (length q.file + 1)) c.self.view_is c.check_body.ensures.most)
+    c.past.ensures.most c.args.steps.now c.check_body_by.new.steps
+    (subst (λ (q : Progress). c.check_body_by.new.steps ≤ c.args.steps.now + (head.next - head.body) * (length q.file + 1)) c.self.view_is c.check_body_by.ensures.most)
 
 pub returns-in-Refused-clause-most : goal.returns-in-Refused-clause-most
 returns-in-Refused-clause-most g c =
     let p : Progress = c.args.self in
     let head = c.args.head in
     let at-head = head-at p.file head.at (statement_byte head.code) head.body head.next c.requires.head in
-    c.refused.ensures.most c.args.steps.now c.check_body.new.steps
-    (most-here (length p.file) p.at head.body head.next c.args.steps.now c.check_body.new.steps (omega (arith, at-head.before, c.requires.at)) at-head.order at-head.within
-    (subst (λ (q : Progress). c.check_body.new.steps ≤ c.args.steps.now + (head.next - head.body) * (length q.file + 1)) c.self.view_is c.check_body.ensures.most))
+    c.refused.ensures.most c.args.steps.now c.check_body_by.new.steps
+    (most-here (length p.file) p.at head.body head.next c.args.steps.now c.check_body_by.new.steps (omega (arith, at-head.before, c.requires.at)) at-head.order at-head.within
+    (subst (λ (q : Progress). c.check_body_by.new.steps ≤ c.args.steps.now + (head.next - head.body) * (length q.file + 1)) c.self.view_is c.check_body_by.ensures.most))
 
 pub returns-clause-most : goal.returns-clause-most
 returns-clause-most g c =
     let p : Progress = c.args.self in
     let head = c.args.head in
     let at-head = head-at p.file head.at (statement_byte head.code) head.body head.next c.requires.head in
-    most-here (length p.file) p.at head.body head.next c.args.steps.now c.check_body.new.steps (omega (arith, at-head.before, c.requires.at)) at-head.order at-head.within
-    (subst (λ (q : Progress). c.check_body.new.steps ≤ c.args.steps.now + (head.next - head.body) * (length q.file + 1)) c.self.view_is c.check_body.ensures.most)
+    most-here (length p.file) p.at head.body head.next c.args.steps.now c.check_body_by.new.steps (omega (arith, at-head.before, c.requires.at)) at-head.order at-head.within
+    (subst (λ (q : Progress). c.check_body_by.new.steps ≤ c.args.steps.now + (head.next - head.body) * (length q.file + 1)) c.self.view_is c.check_body_by.ensures.most)
 
 pub past-requires-clause-body : goal.past-requires-clause-body
 past-requires-clause-body g c _ = (_, _, _, _, _, c.requires.body)
+
+abbrev IsFound : Head → Progress → Type 0
+IsFound head q = find_at q.file (taken_before q.file q.rows) q.at ≡ Ok (found_of q.file q.rows (seen.WithBody head))
+
+pub past-requires-clause-runs : goal.past-requires-clause-runs
+past-requires-clause-runs g c =
+    let head = c.args.head in
+    let s = c.self.inside in
+    let (last, ran, _) = c.in-Good.ensures.run in
+    subst (λ (q : Progress). run_place q.standard q.file (taken_before q.file q.rows) q.at ≡ Ok (onward (after_kind q.file (taken_before q.file q.rows) head.code) head.next)) c.self.view_is
+    (body-runs s.standard s.mmb.now s.rows s.at head (subst (IsFound head) (sym c.self.view_is) c.requires.body) c.kind_of-kind.result c.row_of-row.result c.kind_of-kind.ensures c.row_of-row.ensures last ran)
+
+pub refused-requires : goal.refused-requires
+refused-requires g c =
+    let head = c.args.head in
+    let s = c.self.inside in
+    subst (λ (q : Progress). run_place q.standard q.file (taken_before q.file q.rows) q.at ≡ Err (c.in-Refused.at, c.in-Refused.rule)) c.self.view_is
+    (body-stops s.standard s.mmb.now s.rows s.at head (subst (IsFound head) (sym c.self.view_is) c.requires.body) c.kind_of-kind.result c.row_of-row.result c.kind_of-kind.ensures c.row_of-row.ensures
+    (c.in-Refused.at, c.in-Refused.rule) c.in-Refused.ensures.run)

@@ -1,10 +1,10 @@
-use Rattle.std.proofs.Common.{take}
-use Rattle.mz_type.specs.TypedText.{statement_at}
+use Rattle.std.proofs.Common.{refl}
+use Rattle.mz_logic.specs.Declaration.{sort_decl}
+use Rattle.mz_type.specs.StatedView.{with_decl}
 use Rattle.mz_emit.proofs.Rows.{sort_rows}
 use Rattle.mz_emit.proofs.emitter.Emitter.write_sort.Goals as goal
 
 pub returns-clause-rows : goal.returns-clause-rows
-returns-clause-rows c = λ gaps next.
-    let ss = c.args.text.now.statements in
-    sort_rows gaps (take c.args.i ss) (statement_at ss c.args.i) next.follows c.args.self.now c.sort.new.self next.before.rows c.args.mods
-    c.requires.decl c.in_ok-sort.ensures.writer c.in_ok-sort.ensures.sorts c.in_ok-sort.ensures.terms
+returns-clause-rows c = λ gaps earlier next.
+    sort_rows gaps earlier (with_decl (sort_decl c.args.mods) c.args.beside.now) next.follows c.args.self.now c.sort.new.self next.before.rows c.args.mods
+    refl c.in_ok-sort.ensures.writer c.in_ok-sort.ensures.sorts c.in_ok-sort.ensures.terms

@@ -39,16 +39,16 @@ returns-in-Err-check_operands-clause-taken c st ctx is =
     (subst (λ (ids : List Id). operands_fit (signatures_of c.args.earlier.now) c.args.store.now.context (trees_at c.args.store.now ids) (binders_of (thm_row c.args.earlier.now.file c.args.t).params) ≡ Err c.in-Err-check_operands.rule)
     c.deref.ensures.value c.in-Err-check_operands.ensures)
 
-pub returns-then-not-are_apart-clause-taken : goal.returns-then-not-are_apart-clause-taken
-returns-then-not-are_apart-clause-taken c st ctx is =
+pub returns-then-not-apart-clause-taken : goal.returns-then-not-apart-clause-taken
+returns-then-not-apart-clause-taken c st ctx is =
     cites-meeting c.args.earlier.now c.args.t st c.args.store.now c.args.stack.now.items c.arity_of-arity.result (omega (arith, c.thms.ensures.rows, c.if-t-thms.false)) c.arity_of-arity.ensures is
     (omega (arith, c.len.ensures, c.args.stack.now.ok.0, c.if-len-arity.false)) _ _ c.in-Ok.ensures.taken _ _ c.in_ok-operands.ensures.taken ctx
     (subst (λ (ids : List Id). operands_fit (signatures_of c.args.earlier.now) c.args.store.now.context (trees_at c.args.store.now ids) (binders_of (thm_row c.args.earlier.now.file c.args.t).params) ≡ Ok tt) c.deref.ensures.value c.in_default.ensures)
-    (subst (λ (ids : List Id). are_apart c.args.store.now.context (trees_at c.args.store.now ids) (binders_of (thm_row c.args.earlier.now.file c.args.t).params) ≡ false) c.deref-2.ensures.value (sym c.are_apart.ensures ∙ c.if-not-are_apart.true))
+    (subst (λ (ids : List Id). are_apart c.args.store.now.context (trees_at c.args.store.now ids) (binders_of (thm_row c.args.earlier.now.file c.args.t).params) ≡ false) c.deref-2.ensures.value (sym c.in-Ok-are_apart.ensures ∙ c.if-not-apart.true))
 
 pub returns-clause-taken : goal.returns-clause-taken
 returns-clause-taken c st ctx is =
     cites-so c.args.earlier.now c.args.t st c.args.store.now c.args.stack.now.items c.arity_of-arity.result (omega (arith, c.thms.ensures.rows, c.if-t-thms.false)) c.arity_of-arity.ensures is
     (omega (arith, c.len.ensures, c.args.stack.now.ok.0, c.if-len-arity.false)) _ _ c.in-Ok.ensures.taken _ _ c.in_ok-operands.ensures.taken ctx
     (subst (λ (ids : List Id). operands_fit (signatures_of c.args.earlier.now) c.args.store.now.context (trees_at c.args.store.now ids) (binders_of (thm_row c.args.earlier.now.file c.args.t).params) ≡ Ok tt) c.deref.ensures.value c.in_default.ensures)
-    (subst (λ (ids : List Id). are_apart c.args.store.now.context (trees_at c.args.store.now ids) (binders_of (thm_row c.args.earlier.now.file c.args.t).params) ≡ true) c.deref-2.ensures.value (sym c.are_apart.ensures ∙ c.if-not-are_apart.false))
+    (subst (λ (ids : List Id). are_apart c.args.store.now.context (trees_at c.args.store.now ids) (binders_of (thm_row c.args.earlier.now.file c.args.t).params) ≡ true) c.deref-2.ensures.value (sym c.in-Ok-are_apart.ensures ∙ c.if-not-apart.false))

@@ -23,10 +23,10 @@ pub returns-in-Err-clause-stops : goal.returns-in-Err-clause-stops
 returns-in-Err-clause-stops c = λ p after ss env same matched passes text makes.
     let self = c.args.self.now in
     let ds = env_of c.args.spec.now in
-    let here : IsTold p.gaps c.args.mmb.now self.publics c.args.told.now ss env passes.statement after.at =
-    subst (λ f. IsTold p.gaps f self.publics c.args.told.now ss env passes.statement after.at) same (told-next p ds self ss env after c.args.told.now matched passes) in
-    let fails : FailsFirst (partner_checks (drop self.done ds) (partner_of ss passes.statement)) c.in-Err.rule = c.in-Err.ensures p.gaps ss env passes.statement after.at here in
-    subst (λ f. IsVerdictBy p.gaps text f (verdicts.Match (self.done + 1) c.args.told.now.number c.in-Err.rule)) same
+    let here : IsTold p.standard c.args.mmb.now self.publics c.args.told.now ss env passes.statement after.at =
+    subst (λ f. IsTold p.standard f self.publics c.args.told.now ss env passes.statement after.at) same (told-next p ds self ss env after c.args.told.now matched passes) in
+    let fails : FailsFirst (partner_checks (drop self.done ds) (partner_of ss passes.statement)) c.in-Err.rule = c.in-Err.ensures p.standard ss env passes.statement after.at here in
+    subst (λ f. IsVerdictBy p.standard text f (verdicts.Match (self.done + 1) c.args.told.now.number c.in-Err.rule)) same
     (differs-here text c.args.spec.now p self ss env after c.args.told.now c.in-Err.rule makes matched passes c.if-not-told.true fails)
 
 pub overflow_add-self : goal.overflow_add-self
@@ -42,17 +42,17 @@ returns-clause-passed c = λ p after ss env same matched passes.
     let self = c.args.self.now in
     let told = c.args.told.now in
     let later : Matching = record { done = c.if-not-told.self.done; passed = told.number; publics = c.if-not-told.self.publics } in
-    let here : IsTold p.gaps c.args.mmb.now self.publics told ss env passes.statement after.at =
-    subst (λ f. IsTold p.gaps f self.publics told ss env passes.statement after.at) same (told-next p ds self ss env after told matched passes) in
+    let here : IsTold p.standard c.args.mmb.now self.publics told ss env passes.statement after.at =
+    subst (λ f. IsTold p.standard f self.publics told ss env passes.statement after.at) same (told-next p ds self ss env after told matched passes) in
     elim c.if-not-told.branch [
       | then-not-told+in_default+then-told-eq-TERM+in-Ok w ↦ (
-          matched-public p ds self ss env after told matched passes later refl (sym passes.tells.mark ∙ w.if-not-told.true) (w.in_default.ensures p.gaps ss env passes.statement after.at here)
+          matched-public p ds self ss env after told matched passes later refl (sym passes.tells.mark ∙ w.if-not-told.true) (w.in_default.ensures p.standard ss env passes.statement after.at here)
           (ap (λ (x : Matching). x.done) w.self-is)
           (ap (λ (x : Matching). x.publics) w.self-is ∙ w.in-Ok.ensures.ok ∙ ap (λ xs. self.publics ++ xs)
           (ap (λ n. n ∷ []) passes.tells.row ∙ sym (term-row env passes.statement.decl (sym passes.tells.kind ∙ w.if-told-eq-TERM.true))))
           )
       | then-not-told+in_default+else-told-eq-TERM w ↦ (
-          matched-public p ds self ss env after told matched passes later refl (sym passes.tells.mark ∙ w.if-not-told.true) (w.in_default.ensures p.gaps ss env passes.statement after.at here)
+          matched-public p ds self ss env after told matched passes later refl (sym passes.tells.mark ∙ w.if-not-told.true) (w.in_default.ensures p.standard ss env passes.statement after.at here)
           (ap (λ (x : Matching). x.done) w.self-is)
           (ap (λ (x : Matching). x.publics) w.self-is ∙ sym (append-nil self.publics) ∙ ap (λ xs. self.publics ++ xs)
           (sym (no-term-row (length (terms env)) passes.statement.decl (λ is. w.if-told-eq-TERM.false (passes.tells.kind ∙ is)))))

@@ -1,7 +1,7 @@
-use Rattle.std.proofs.Common.{◌∙◌, ◌++◌, ◌∷◌, [], List, Some, ap, sym, subst, Contains}
+use Rattle.std.proofs.Common.{◌∙◌, ◌++◌, ◌∷◌, [], ℕ, List, Some, ap, sym, subst, Contains}
 use Rattle.std.specs.Prelude.{bytes_eq, if◌then◌else◌}
 use Rattle.mz_notation.specs.Notation.{Notation}
-use Rattle.mz_notation.specs.Headed.{AreFound, IsHeadedBy}
+use Rattle.mz_notation.specs.Headed.{AreFound, AreLevelled, IsHeadedBy}
 use Rattle.mz_tokens.specs.Places.{LeadsTo, place_of}
 use Rattle.mz_tokens.proofs.Placing.{leads-kept, leads-more}
 use Rattle.mz_notation.proofs.Spotting.{headed-one}
@@ -16,6 +16,7 @@ invariant_of-self-in_err-push c =
           (λ k has by. c.requires.other k head.0 (subst (λ (ls : List Notation). Contains ls k) c.self.view_is has) head.1 by)
           (λ w. head.2 w ∙ ap (λ n. if bytes_eq head.0 w then Some n else place_of c.self.inside.heads w) (c.len.ensures ∙ c.self.inside.items.ok.0))),
       subst (AreFound c.note_constants.new.constants) (c.deref.ensures.value ∙ sym c.in_err-push.ensures.items) c.note_constants.ensures.found,
+      subst (AreLevelled c.note_level.new.levels) (c.deref-2.ensures.value ∙ sym c.in_err-push.ensures.items) c.note_level.ensures.found,
     )
 
 pub invariant_of-self-2 : goal.invariant_of-self-2
@@ -27,4 +28,22 @@ invariant_of-self-2 c =
           (λ k has by. c.requires.other k head.0 (subst (λ (ls : List Notation). Contains ls k) c.self.view_is has) head.1 by)
           (λ w. head.2 w ∙ ap (λ n. if bytes_eq head.0 w then Some n else place_of c.self.inside.heads w) (c.len.ensures ∙ c.self.inside.items.ok.0))),
       subst (AreFound c.note_constants.new.constants) (ap (λ ls. ls ++ c.args.notation ∷ []) c.deref.ensures.value ∙ sym c.in_ok-push.ensures.items) c.in_ok-note_constants.ensures.ok,
+      subst (AreLevelled c.note_level.new.levels) (ap (λ ls. ls ++ c.args.notation ∷ []) c.deref-2.ensures.value ∙ sym c.in_ok-push.ensures.items) c.in_ok-note_level.ensures.ok,
     )
+
+pub note_level-requires : goal.note_level-requires
+note_level-requires c = subst (AreLevelled c.self.inside.levels) (sym c.deref-2.ensures.value) c.self.invariant.2
+
+pub invariant_of-self-in_err-note_level : goal.invariant_of-self-in_err-note_level
+invariant_of-self-in_err-note_level c = (
+  c.self.invariant.0,
+  subst (AreFound c.note_constants.new.constants) c.deref.ensures.value c.note_constants.ensures.found,
+  subst (AreLevelled c.note_level.new.levels) c.deref-2.ensures.value c.note_level.ensures.found,
+)
+
+pub invariant_of-self-in_err-note_head : goal.invariant_of-self-in_err-note_head
+invariant_of-self-in_err-note_head c = (
+  subst (λ (hs : List (List ℕ × ℕ)). LeadsTo IsHeadedBy hs c.self.inside.items.items) (sym c.in_err-note_head.ensures.err) c.self.invariant.0,
+  subst (AreFound c.note_constants.new.constants) c.deref.ensures.value c.note_constants.ensures.found,
+  subst (AreLevelled c.note_level.new.levels) c.deref-2.ensures.value c.note_level.ensures.found,
+)

@@ -15,7 +15,7 @@ returns-then-not-is_clear_with_infix c =
     let v : Table = record { delimiters = c.self.inside.delimiters; leading = c.self.inside.leading; infixes = c.self.inside.infixes; names = c.self.inside.names; coercions = c.self.inside.coercions } in
     let k = c.args.notation in (
       (λ made. let clear : IsClear v.leading (v.infixes ++ k ∷ []) = subst (λ (t : Table). IsClearTable (with_infix t k)) (sym c.self.view_is) made in
-          true≢false (sym (c.is_clear_with_infix.ensures.1 (subst (λ xs. IsClear xs (c.as_slice-2.result.now ++ k ∷ [])) (sym c.as_slice.ensures) (subst (λ xs. IsClear v.leading (xs ++ k ∷ [])) (sym c.as_slice-2.ensures) clear))) ∙ c.if-not-is_clear_with_infix.true)),
+          true≢false (sym (c.is_clear_with_infix.ensures.1 clear) ∙ c.if-not-is_clear_with_infix.true)),
       refl,
     )
 
@@ -23,7 +23,7 @@ pub invariant_of-self-2 : goal.invariant_of-self-2
 invariant_of-self-2 c =
     let v : Table = record { delimiters = c.self.inside.delimiters; leading = c.self.inside.leading; infixes = c.self.inside.infixes; names = c.self.inside.names; coercions = c.self.inside.coercions } in
     let k = c.args.notation in
-    let clear : IsClear v.leading (v.infixes ++ k ∷ []) = subst (λ xs. IsClear xs (v.infixes ++ k ∷ [])) c.as_slice.ensures (subst (λ xs. IsClear c.as_slice.result.now (xs ++ k ∷ [])) c.as_slice-2.ensures (c.is_clear_with_infix.ensures.0 c.if-not-is_clear_with_infix.false)) in
+    let clear : IsClear v.leading (v.infixes ++ k ∷ []) = c.is_clear_with_infix.ensures.0 c.if-not-is_clear_with_infix.false in
     subst (λ (xs : List Notation). IsTable (record v { infixes = xs })) (sym c.in-Ok.ensures.ok)
     (infix-is v k c.self.invariant c.requires.plain clear c.requires.joined)
 
@@ -31,7 +31,7 @@ pub returns : goal.returns
 returns c =
     let v : Table = record { delimiters = c.self.inside.delimiters; leading = c.self.inside.leading; infixes = c.self.inside.infixes; names = c.self.inside.names; coercions = c.self.inside.coercions } in
     let k = c.args.notation in
-    let clear : IsClear v.leading (v.infixes ++ k ∷ []) = subst (λ xs. IsClear xs (v.infixes ++ k ∷ [])) c.as_slice.ensures (subst (λ xs. IsClear c.as_slice.result.now (xs ++ k ∷ [])) c.as_slice-2.ensures (c.is_clear_with_infix.ensures.0 c.if-not-is_clear_with_infix.false)) in
+    let clear : IsClear v.leading (v.infixes ++ k ∷ []) = c.is_clear_with_infix.ensures.0 c.if-not-is_clear_with_infix.false in
     pushed-infix v c.args.self.now c.self.view_is k c.push.new.self c.in-Ok.ensures.ok clear
 
 pub push-requires-clause-headed : goal.push-requires-clause-headed
@@ -41,5 +41,5 @@ pub push-requires-clause-other : goal.push-requires-clause-other
 push-requires-clause-other c =
     let v : Table = record { delimiters = c.self.inside.delimiters; leading = c.self.inside.leading; infixes = c.self.inside.infixes; names = c.self.inside.names; coercions = c.self.inside.coercions } in
     let k = c.args.notation in
-    let clear : IsClear v.leading (v.infixes ++ k ∷ []) = subst (λ xs. IsClear xs (v.infixes ++ k ∷ [])) c.as_slice.ensures (subst (λ xs. IsClear c.as_slice.result.now (xs ++ k ∷ [])) c.as_slice-2.ensures (c.is_clear_with_infix.ensures.0 c.if-not-is_clear_with_infix.false)) in
+    let clear : IsClear v.leading (v.infixes ++ k ∷ []) = c.is_clear_with_infix.ensures.0 c.if-not-is_clear_with_infix.false in
     joined-apart v.infixes k c.requires.joined c.self.invariant.joined (infix-other v.leading v.infixes k clear)

@@ -15,7 +15,7 @@ returns-then-not-is_clear_with_leading c =
     let v : Table = record { delimiters = c.self.inside.delimiters; leading = c.self.inside.leading; infixes = c.self.inside.infixes; names = c.self.inside.names; coercions = c.self.inside.coercions } in
     let k = c.args.notation in (
       (λ made. let clear : IsClear (v.leading ++ k ∷ []) v.infixes = subst (λ (t : Table). IsClearTable (with_leading t k)) (sym c.self.view_is) made in
-          true≢false (sym (c.is_clear_with_leading.ensures.1 (subst (λ xs. IsClear (xs ++ k ∷ []) c.as_slice-2.result.now) (sym c.as_slice.ensures) (subst (λ xs. IsClear (v.leading ++ k ∷ []) xs) (sym c.as_slice-2.ensures) clear))) ∙ c.if-not-is_clear_with_leading.true)),
+          true≢false (sym (c.is_clear_with_leading.ensures.1 clear) ∙ c.if-not-is_clear_with_leading.true)),
       refl,
     )
 
@@ -23,7 +23,7 @@ pub invariant_of-self-2 : goal.invariant_of-self-2
 invariant_of-self-2 c =
     let v : Table = record { delimiters = c.self.inside.delimiters; leading = c.self.inside.leading; infixes = c.self.inside.infixes; names = c.self.inside.names; coercions = c.self.inside.coercions } in
     let k = c.args.notation in
-    let clear : IsClear (v.leading ++ k ∷ []) v.infixes = subst (λ xs. IsClear (xs ++ k ∷ []) v.infixes) c.as_slice.ensures (subst (λ xs. IsClear (c.as_slice.result.now ++ k ∷ []) xs) c.as_slice-2.ensures (c.is_clear_with_leading.ensures.0 c.if-not-is_clear_with_leading.false)) in
+    let clear : IsClear (v.leading ++ k ∷ []) v.infixes = c.is_clear_with_leading.ensures.0 c.if-not-is_clear_with_leading.false in
     subst (λ (xs : List Notation). IsTable (record v { leading = xs })) (sym c.in-Ok.ensures.ok)
     (leading-is v k c.self.invariant c.requires.plain clear c.requires.led)
 
@@ -31,7 +31,7 @@ pub returns : goal.returns
 returns c =
     let v : Table = record { delimiters = c.self.inside.delimiters; leading = c.self.inside.leading; infixes = c.self.inside.infixes; names = c.self.inside.names; coercions = c.self.inside.coercions } in
     let k = c.args.notation in
-    let clear : IsClear (v.leading ++ k ∷ []) v.infixes = subst (λ xs. IsClear (xs ++ k ∷ []) v.infixes) c.as_slice.ensures (subst (λ xs. IsClear (c.as_slice.result.now ++ k ∷ []) xs) c.as_slice-2.ensures (c.is_clear_with_leading.ensures.0 c.if-not-is_clear_with_leading.false)) in
+    let clear : IsClear (v.leading ++ k ∷ []) v.infixes = c.is_clear_with_leading.ensures.0 c.if-not-is_clear_with_leading.false in
     pushed-leading v c.args.self.now c.self.view_is k c.push.new.self c.in-Ok.ensures.ok clear
 
 pub push-requires-clause-headed : goal.push-requires-clause-headed
@@ -41,5 +41,5 @@ pub push-requires-clause-other : goal.push-requires-clause-other
 push-requires-clause-other c =
     let v : Table = record { delimiters = c.self.inside.delimiters; leading = c.self.inside.leading; infixes = c.self.inside.infixes; names = c.self.inside.names; coercions = c.self.inside.coercions } in
     let k = c.args.notation in
-    let clear : IsClear (v.leading ++ k ∷ []) v.infixes = subst (λ xs. IsClear (xs ++ k ∷ []) v.infixes) c.as_slice.ensures (subst (λ xs. IsClear (c.as_slice.result.now ++ k ∷ []) xs) c.as_slice-2.ensures (c.is_clear_with_leading.ensures.0 c.if-not-is_clear_with_leading.false)) in
+    let clear : IsClear (v.leading ++ k ∷ []) v.infixes = c.is_clear_with_leading.ensures.0 c.if-not-is_clear_with_leading.false in
     led-apart v.leading k c.requires.led c.self.invariant.led (leading-other v.leading v.infixes k clear)

@@ -6,7 +6,6 @@ use Rattle.mz_grammar.specs.Reading.{OnFault}
 use Rattle.mz_logic.specs.Declaration.{defined}
 use Rattle.mz_logic.specs.View.{tree}
 use Rattle.mz_logic.specs.declared.binder.Binder.{Binder}
-use Rattle.mz_logic.proofs.Scoped.{DepsInside}
 use Rattle.mz_notation.specs.Notation.{Variables}
 use Rattle.mz_math.specs.Formula.{Reader, IsFormula, formula_checks}
 use Rattle.mz_math.specs.declared.formula.Wanted.TheVariants.{Sort as of_sort}
@@ -20,7 +19,7 @@ use Rattle.mz_spec.specs.View.{Variable, body, params_of}
 use Rattle.mz_spec.proofs.Judged.{few-sorts}
 use Rattle.mz_spec.proofs.Loops.{test-in, test-out}
 use Rattle.mz_spec.proofs.Sorted.{body-sorted}
-use Rattle.mz_spec.proofs.Bodied.{body-halt, body-holds, body-fails, deps-inside, covers-all, all-covers, scope-names}
+use Rattle.mz_spec.proofs.Bodied.{body-halt, body-holds, body-fails, covers-all, all-covers, scope-names}
 use Rattle.mz_spec.proofs.state.State.body_of.Goals as goal
 
 pub scope_of-requires-clause-few : goal.scope_of-requires-clause-few
@@ -40,19 +39,13 @@ returns-in_err-body-clause-judged c = λ vs ts t parts same tokens are.
     (λ ps cut. subst (λ x. OnFault halt (FailsFirst (retold (told l) (formula_checks (reads x) (of_sort (sort_number σ t)) (inner l) ps)))) scope
     (subst (λ s. OnFault halt (FailsFirst (retold (told l) (formula_checks (reads c.in_ok-scope.scope) (of_sort s) (inner l) ps)))) sort (c.in_err-body.ensures.judged ps cut))))
 
-pub has_free_variables-requires-clause-sorted : goal.has_free_variables-requires-clause-sorted
-has_free_variables-requires-clause-sorted c =
+pub has_free_variables-requires : goal.has_free_variables-requires
+has_free_variables-requires c =
     let r : Reader = record { env = c.args.self.now.env; table = c.args.self.now.notations; scope = c.in_ok-scope.scope } in
-    (c.args.result_type.now.sort, body-sorted r c.requires.kept.coercions c.args.result_type.now.sort (inner (lexeme c.args.math)) (tree c.in_ok-body.body) c.in_ok-body.ensures.meant)
+    record { sorted = (c.args.result_type.now.sort, body-sorted r c.requires.kept.coercions c.args.result_type.now.sort (inner (lexeme c.args.math)) (tree c.in_ok-body.body) c.in_ok-body.ensures.meant) }
 
-pub has_free_variables-requires-clause-scoped : goal.has_free_variables-requires-clause-scoped
-has_free_variables-requires-clause-scoped c =
-    let p = c.requires.parts in
-    let reads : Variables → Type 0 = λ x. DepsInside x.binders in
-    subst reads (sym (c.in_ok-scope.ensures p.0 p.1 (p.2 ∷ []) p.3)) (deps-inside (state c.args.self.now) p.0)
-
-pub returns-then-not-has_free_variables-clause-judged : goal.returns-then-not-has_free_variables-clause-judged
-returns-then-not-has_free_variables-clause-judged c = λ vs ts t parts same tokens are.
+pub returns-then-not-has-clause-judged : goal.returns-then-not-has-clause-judged
+returns-then-not-has-clause-judged c = λ vs ts t parts same tokens are.
     let σ = state c.args.self.now in
     let l = lexeme c.args.math in
     let e = tree c.in_ok-body.body in
@@ -65,7 +58,7 @@ returns-then-not-has_free_variables-clause-judged c = λ vs ts t parts same toke
     e
     (subst (λ x. IsFormula (reads x) (of_sort (sort_number σ t)) (inner l) e) scope (subst (λ s. IsFormula (reads c.in_ok-scope.scope) (of_sort s) (inner l) e) sort c.in_ok-body.ensures.meant))
     c.requires.kept.table (scope-names σ c.args.parts.now vs ts (t ∷ []) parts c.requires.names)
-    (λ free. test-out c.has_free_variables.result c.has_free_variables.ensures c.if-not-has_free_variables.true (all-covers σ vs t e c.in_ok-scope.scope c.args.result_type.now scope same free))
+    (λ free. test-out c.in_ok-has.has c.in_ok-has.ensures c.if-not-has.true (all-covers σ vs t e c.in_ok-scope.scope c.args.result_type.now scope same free))
 
 pub binders_of-requires-clause-few : goal.binders_of-requires-clause-few
 binders_of-requires-clause-few c = few-sorts (state c.args.self.now) c.requires.kept c.requires.few
@@ -83,7 +76,7 @@ returns-clause-judged c = λ vs ts t parts same tokens are.
     (subst (λ s. AllHold (retold (told l) (formula_checks (reads c.in_ok-scope.scope) (of_sort s) (inner l) ps))) sort (c.in_ok-body.ensures.judged ps cut)))
     e
     (subst (λ x. IsFormula (reads x) (of_sort (sort_number σ t)) (inner l) e) scope (subst (λ s. IsFormula (reads c.in_ok-scope.scope) (of_sort s) (inner l) e) sort c.in_ok-body.ensures.meant))
-    (covers-all σ vs t e c.in_ok-scope.scope c.args.result_type.now scope same (test-in c.has_free_variables.result c.has_free_variables.ensures c.if-not-has_free_variables.false))
+    (covers-all σ vs t e c.in_ok-scope.scope c.args.result_type.now scope same (test-in c.in_ok-has.has c.in_ok-has.ensures c.if-not-has.false))
 
 pub returns-clause-form : goal.returns-clause-form
 returns-clause-form c = λ vs ts t parts same.

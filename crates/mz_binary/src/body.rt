@@ -1,0 +1,42 @@
+// A body, run as its binary is held to.
+ghost use Rattle.std.specs.Prelude.{◌≡◌, ◌≤◌, ◌+◌, ◌-◌, ◌*◌, length};
+ghost use Rattle.mz_machine.specs.Before.{MayRun, heading_of, tables_before};
+ghost use Rattle.mz_machine.specs.BodyAnswers.{UnlessMem};
+ghost use Rattle.mz_soundness.specs.Bodies.{body_run, body_steps};
+ghost use Rattle.mz_soundness.specs.FileRows.{body_bytes};
+ghost use Rattle.mz_binary.specs.Judging.{IsBodyRun};
+ghost use Rattle.mz_binary.specs.Standards.{profile_of};
+
+use crate::standard::Standard;
+use crate::statement::Rows;
+use mz_cmd::Steps;
+use mz_layout::Mmb;
+use mz_machine::{BodyChecked, check_body};
+use mz_pmachine::check_portable;
+use std::alloc::Global;
+use std::sync::ledger::Ledger;
+
+/// Runs the body of a statement on the standard's machine: a body of this kind, for this row, after these
+/// rows.
+pub fn check_body_by<L: Ledger>(
+    alloc: Global,
+    mmb: &Mmb,
+    standard: Standard,
+    kind: u8,
+    row: u32,
+    before: Rows,
+    body: (u32, u32),
+    steps: &mut Steps<L>,
+) -> BodyChecked
+    requires may_run { MayRun mmb.now kind row before }
+    requires order { body.0 ≤ body.1 }
+    requires within { body.1 ≤ length mmb.now }
+    ensures run { IsBodyRun standard (body_bytes mmb.now body.0 body.1) (body_run (profile_of standard) (tables_before mmb.now before) (heading_of mmb.now kind row) body.0 (body_bytes mmb.now body.0 body.1)) result }
+    ensures most { steps.new ≤ steps.old + (body.1 - body.0) * (length mmb.now + 1) }
+    ensures steps { UnlessMem result (steps.new ≡ steps.old + body_steps (profile_of standard) (tables_before mmb.now before) (heading_of mmb.now kind row) body.0 (body_bytes mmb.now body.0 body.1)) }
+{
+    match standard {
+        Standard::Published(mode) => check_body(alloc, mmb, mode, kind, row, before, body, steps),
+        Standard::Portable => check_portable(alloc, mmb, kind, row, before, body, steps),
+    }
+}

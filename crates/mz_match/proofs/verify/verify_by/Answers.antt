@@ -1,0 +1,13 @@
+use Rattle.mz_match.proofs.GapPlaces.{judged-verdict}
+use Rattle.mz_match.specs.declared.verdict.Verdict.TheVariants as verdicts
+use Rattle.mz_match.proofs.OneVerdict.{verdict-says, refusal-says}
+use Rattle.mz_match.proofs.verify.verify_by.Goals as goal
+
+pub returns-clause-verdict : goal.returns-clause-verdict
+returns-clause-verdict g c = judged-verdict c.args.standard c.args.spec.now c.args.bin.now c.judge.result c.judge.new.places.items c.judge.ensures.verdict
+
+pub returns-clause-accepted : goal.returns-clause-accepted
+returns-clause-accepted g c = λ counts accepts. verdict-says c.args.standard c.args.spec.now c.args.bin.now c.judge.result (verdicts.Accepted counts) (judged-verdict c.args.standard c.args.spec.now c.args.bin.now c.judge.result c.judge.new.places.items c.judge.ensures.verdict) accepts
+
+pub returns-clause-refused : goal.returns-clause-refused
+returns-clause-refused g c = λ verdict first. verdict-says c.args.standard c.args.spec.now c.args.bin.now c.judge.result verdict (judged-verdict c.args.standard c.args.spec.now c.args.bin.now c.judge.result c.judge.new.places.items c.judge.ensures.verdict) (refusal-says c.args.standard c.args.spec.now c.args.bin.now verdict first)

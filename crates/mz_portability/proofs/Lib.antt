@@ -1,0 +1,4 @@
+pub mod BodiesByAddress
+pub mod StatementsByAddress
+pub mod FilesByAddress
+pub mod AcceptedByAddress

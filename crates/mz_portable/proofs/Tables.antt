@@ -1,0 +1,27 @@
+-- What is accepted by address is accepted by the published table.
+use Rattle.std.proofs.Common.{ℕ, List}
+use Rattle.mz_binary.proofs.ByTable.{good-by-table}
+use Rattle.mz_match.specs.declared.verdict.Counts.{Counts}
+use Rattle.mz_match.specs.declared.verdict.Verdict.{Verdict}
+use Rattle.mz_match.specs.declared.verdict.Verdict.TheVariants as verdicts
+use Rattle.mz_match.specs.Verdict.{AcceptsWith, IsSoundIfAccepted}
+use Rattle.mz_match.proofs.Pairing.{accepted-sound}
+use Rattle.mz_portable.specs.Portable.{PortablyAccepts, IsPortableVerdict, IsAcceptedByTable}
+
+pub by-table : (spec bin : List ℕ) (counts : Counts) → PortablyAccepts spec bin counts → AcceptsWith spec bin counts
+by-table spec bin counts (a, is) =
+    (record { declared = a.declared; statements = a.statements; is_spec = a.is_spec; is_good = good-by-table bin a.statements a.is_good; agrees = a.agrees }, is)
+
+pub accepted-by-table : (spec bin : List ℕ) (v : Verdict) → IsPortableVerdict spec bin v → IsAcceptedByTable spec bin v
+accepted-by-table spec bin (verdicts.Accepted counts) accepts = by-table spec bin counts accepts
+accepted-by-table spec bin (verdicts.Spec refusal) is = tt
+accepted-by-table spec bin (verdicts.Binary refusal) is = tt
+accepted-by-table spec bin (verdicts.Match declaration statement rule) is = tt
+accepted-by-table spec bin verdicts.Mem is = tt
+
+pub sound : (spec bin : List ℕ) (v : Verdict) → IsPortableVerdict spec bin v → IsSoundIfAccepted spec bin v
+sound spec bin (verdicts.Accepted counts) accepts = accepted-sound spec bin (by-table spec bin counts accepts).0
+sound spec bin (verdicts.Spec refusal) is = tt
+sound spec bin (verdicts.Binary refusal) is = tt
+sound spec bin (verdicts.Match declaration statement rule) is = tt
+sound spec bin verdicts.Mem is = tt

@@ -1,0 +1,32 @@
+-- What is said of a specification and a binary by verifiers that compare addresses (mm0.md's and the .mmb format's parts;
+-- the order of refusals is this project's own).
+use Rattle.std.specs.Prelude.{⊤, ℕ, List}
+use Rattle.mz_binary.specs.declared.standard.Standard.TheVariants.{Portable}
+use Rattle.mz_match.specs.declared.verdict.Counts.{Counts}
+use Rattle.mz_match.specs.declared.verdict.Verdict.{Verdict}
+use Rattle.mz_match.specs.declared.verdict.Verdict.TheVariants as verdicts
+use Rattle.mz_match.specs.Verdict.{AcceptsWith, AcceptsWithBy, FirstRefusalBy, IsVerdictBy, TicksBy}
+
+-- the specification declares so many of each kind, the binary is good by address, and its public statements agree
+abbrev pub PortablyAccepts : List ℕ → List ℕ → Counts → Type 0
+PortablyAccepts spec bin counts = AcceptsWithBy Portable spec bin counts
+
+-- the first refusal: of the specification, else of the binary by address or of the match, whichever comes first
+abbrev pub FirstPortableRefusal : List ℕ → List ℕ → Verdict → Type 0
+FirstPortableRefusal spec bin verdict = FirstRefusalBy Portable spec bin verdict
+
+-- accepted, or the first refusal; want of memory says nothing
+abbrev pub IsPortableVerdict : List ℕ → List ℕ → Verdict → Type 0
+IsPortableVerdict spec bin verdict = IsVerdictBy Portable spec bin verdict
+
+-- the commands executed, counted as the verdict by the published table counts them
+abbrev pub PortableTicks : List ℕ → (old new : ℕ) → Verdict → Type 0
+PortableTicks bin old new verdict = TicksBy Portable bin old new verdict
+
+-- what is accepted is accepted by the published table
+abbrev pub IsAcceptedByTable : List ℕ → List ℕ → Verdict → Type 0
+IsAcceptedByTable spec bin (verdicts.Accepted counts) = AcceptsWith spec bin counts
+IsAcceptedByTable spec bin (verdicts.Spec refusal) = ⊤
+IsAcceptedByTable spec bin (verdicts.Binary refusal) = ⊤
+IsAcceptedByTable spec bin (verdicts.Match declaration statement rule) = ⊤
+IsAcceptedByTable spec bin verdicts.Mem = ⊤

@@ -1,0 +1,12 @@
+//! A specification and a binary together, as verifiers see them that compare addresses.
+//!
+//! `specs/Portable.antt` says what is accepted so, and what the first refusal is: the verdict of `mz_match`,
+//! where the bodies of the binary run by address. What is accepted so is accepted by the published table
+//! too.
+#![tactic(auto)]
+
+mod laws;
+mod portable;
+
+pub use laws::{each_pair_has_one_verdict_by_address, portable_pairs_are_accepted};
+pub use portable::portable_bytes;

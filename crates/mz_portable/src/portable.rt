@@ -1,0 +1,31 @@
+// A specification and a binary together, by address.
+ghost use Rattle.std.specs.Prelude.{◌≡◌, ◌⊎◌, ◌<◌, ◌≤◌, ◌+◌, ◌*◌, ◌^◌, length};
+ghost use Rattle.mz_match.specs.Verdict.{IsSoundIfAccepted};
+ghost use Rattle.mz_portable.specs.Portable.{FirstPortableRefusal, IsAcceptedByTable, IsPortableVerdict, PortableTicks, PortablyAccepts};
+
+use mz_binary::Standard;
+use mz_cmd::Steps;
+use mz_match::{Counts, Verdict, verify_by};
+use std::alloc::Global;
+use std::sync::ledger::Ledger;
+
+/// Verifies a binary against a specification as verifiers do that compare addresses: as `verify_bytes`
+/// does, but that two expressions are the same only where the same commands of a body made them.
+pub fn portable_bytes<L: Ledger>(
+    alloc: Global,
+    spec: &[u8],
+    bin: &[u8],
+    steps: &mut Steps<L>,
+) -> Verdict
+    requires spec { length spec.now < 2 ^ 32 }
+    requires bin { length bin.now < 2 ^ 32 }
+    ensures verdict { IsPortableVerdict spec.now bin.now result }
+    ensures accepted { (counts : Counts) → PortablyAccepts spec.now bin.now counts → (result ≡ Verdict.Accepted counts) ⊎ (result ≡ Verdict.Mem) }
+    ensures refused { (verdict : Verdict) → FirstPortableRefusal spec.now bin.now verdict → (result ≡ verdict) ⊎ (result ≡ Verdict.Mem) }
+    ensures table { IsAcceptedByTable spec.now bin.now result }
+    ensures sound { IsSoundIfAccepted spec.now bin.now result }
+    ensures steps { PortableTicks bin.now steps.old steps.new result }
+    ensures bound { steps.new ≤ steps.old + (length bin.now * length bin.now + length bin.now) }
+{
+    verify_by(alloc, spec, bin, Standard::Portable, steps)
+}

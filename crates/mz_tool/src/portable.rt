@@ -1,0 +1,47 @@
+// The command `portable`.
+ghost use Rattle.std.specs.Prelude.{◌≡◌, ◌<◌, ◌⊎◌, ◌^◌, ℕ, List, None, length};
+ghost use Rattle.mz_binary.specs.declared.standard.Standard.TheVariants.{Portable};
+ghost use Rattle.mz_match.specs.Verdict.{Accepts, IsSoundIfAccepted, IsSound};
+ghost use Rattle.mz_portable.specs.Portable.{FirstPortableRefusal, IsAcceptedByTable, IsPortableVerdict, PortablyAccepts};
+ghost use Rattle.mz_tool.specs.Run.{IsVerifiedBy, IsRefutedBy};
+ghost use Rattle.mz_tool.specs.Outcomes.{IfYes, IfNo, OnYes, OnNo};
+
+use crate::outcome::Outcome;
+use crate::verdict::answered_by;
+use mz_cmd::Steps;
+use mz_match::{Counts, Verdict};
+use mz_portable::portable_bytes;
+use std::alloc::Global;
+use std::marker::Brand;
+use std::sync::ledger::{Blank, Ledger};
+
+/// Judges a binary against a specification as verifiers do that compare addresses.
+pub fn portable(alloc: Global, spec: &[u8], bin: &[u8]) -> Outcome
+    requires spec { length spec.now < 2 ^ 32 }
+    requires bin { length bin.now < 2 ^ 32 }
+    ensures yes { IfYes result (λ put text. (put ≡ None) × IsVerifiedBy Portable spec.now bin.now text) }
+    ensures no { IfNo result (λ text. IsRefutedBy Portable spec.now bin.now text) }
+    ensures sound { OnYes result (IsSound spec.now bin.now × Accepts spec.now bin.now) }
+    ensures only_yes { (text : List ℕ) → IsVerifiedBy Portable spec.now bin.now text → OnNo result ⊥ }
+    ensures only_no { (text : List ℕ) → IsRefutedBy Portable spec.now bin.now text → OnYes result ⊥ }
+{
+    let verdict = judge::<Brand>(alloc, Blank::new(1), spec, bin);
+    answered_by(alloc, &verdict)
+}
+
+/// The verdict, its steps counted in a ledger of their own.
+fn judge<L: Ledger>(alloc: Global, blank: Blank, spec: &[u8], bin: &[u8]) -> Verdict
+    requires name { blank.name ≡ L.name }
+    requires parts { blank.parts ≡ L.parts }
+    requires some { 0 < blank.parts }
+    requires spec { length spec.now < 2 ^ 32 }
+    requires bin { length bin.now < 2 ^ 32 }
+    ensures verdict { IsPortableVerdict spec.now bin.now result }
+    ensures sound { IsSoundIfAccepted spec.now bin.now result }
+    ensures table { IsAcceptedByTable spec.now bin.now result }
+    ensures accepted { (counts : Counts) → PortablyAccepts spec.now bin.now counts → (result ≡ Verdict.Accepted counts) ⊎ (result ≡ Verdict.Mem) }
+    ensures refused { (verdict : Verdict) → FirstPortableRefusal spec.now bin.now verdict → (result ≡ verdict) ⊎ (result ≡ Verdict.Mem) }
+{
+    let mut steps = Steps::<L>::start(blank);
+    portable_bytes(alloc, spec, bin, &mut steps)
+}
