@@ -12,4 +12,5 @@ mod Gapped
 mod Finished
 mod Alike
 mod Looping
+mod Copying
 mod Deciding

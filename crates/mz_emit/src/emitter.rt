@@ -27,6 +27,7 @@ ghost use Rattle.mz_bodies.specs.Stages.{HasDummiesBehind};
 ghost use Rattle.mz_emit.specs.Emitting;
 ghost use Rattle.mz_emit.specs.Emitting.{CanBeNext, WritesNext, EmitsNext, MayFollow, CanBeDefined, CanBeAsserted, HasWords, table_of, term_row, thm_row, SaysDefinition, SaysAssertion, IsProvedBy, IsSoundIfStated, MakesBody, body_weight, HasEmitted, with_sort, with_term, with_thm};
 
+use crate::copies::copy_of_decl;
 use mz_bodies::{Before, axiom_body, definition_body, theorem_body};
 use mz_claims::stated_proofs_are_sound;
 use mz_cmd::{Mem, StatementCode};
@@ -36,7 +37,7 @@ use mz_mmu::Proof;
 use mz_shared::{Shared, Table, Words};
 use mz_spell::{assertion_stream, definition_stream};
 use mz_store::Id;
-use mz_type::{Beside, copy_of_decl};
+use mz_type::Beside;
 use std::alloc::Global;
 
 /// The statements so far: their declarations, the words of these, and what is written of them.

@@ -4,6 +4,7 @@
 
 mod compile;
 mod compiled;
+mod copies;
 mod emitter;
 mod limit;
 mod line;

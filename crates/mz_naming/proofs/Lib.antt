@@ -1,0 +1,4 @@
+pub mod Named
+mod Listing
+mod Runs
+mod Walking

@@ -1,0 +1,4 @@
+pub mod Names
+pub mod Accepted
+pub mod Adding
+pub mod Spans

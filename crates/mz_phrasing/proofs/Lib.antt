@@ -1,0 +1,12 @@
+pub mod Atoms
+pub mod Written
+pub mod Saying
+pub mod Numbers
+pub mod NoKeyword
+pub mod Exprs
+pub mod Steps
+pub mod Modifiers
+pub mod Binders
+pub mod Behind
+pub mod Declared
+pub mod Stated

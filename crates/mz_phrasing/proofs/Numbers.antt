@@ -1,0 +1,86 @@
+-- Names that are numbered: each has the number at which it stands.
+use Rattle.std.proofs.Common.{ℕ, zero, suc, ◌≡◌, ◌<◌, ◌≤◌, ◌∙◌, inl, inr, Bool, true, false, List, [], ◌∷◌, ◌++◌, length, Option, Some, None, sym, ap, subst, refl, arith, length-append}
+use Rattle.std.specs.Prelude.{bytes_eq, option_map, if◌then◌else◌}
+use Rattle.std.proofs.lemmas.Bool.{cases_eq, false_from_ne_true}
+use Rattle.std.proofs.lemmas.Slice.Eq.{bytes_eq-Decides}
+use Rattle.mz_mmu.specs.Name.{number_of, IsName, IsNew}
+use Rattle.mz_mmu.proofs.Hold.{new_both}
+
+pub other-bytes : (a b : List ℕ) → (a ≡ b → ⊥) → bytes_eq a b ≡ false
+other-bytes a b not_ = false_from_ne_true (bytes_eq a b) (λ is. not_ ((bytes_eq-Decides a b).0 is))
+
+-- number_of, where the name is the first or isn't
+abbrev At : Bool → Option ℕ → Option ℕ
+At b o = if b then Some 0 else option_map suc o
+
+pub new-more : (xs : List (List ℕ)) (x w : List ℕ) → IsNew xs w → (w ≡ x → ⊥) → IsNew (xs ++ x ∷ []) w
+new-more xs x w new not_ = new_both xs (x ∷ []) w new (ap (λ b. At b None) (other-bytes w x not_))
+
+-- a name keeps its number
+pub number-more : (xs : List (List ℕ)) (x w : List ℕ) (i : ℕ) → number_of xs w ≡ Some i → number_of (xs ++ x ∷ []) w ≡ Some i
+number-more [] x w i e = absurd cc
+number-more (y ∷ xs) x w i e = go (bytes_eq w y) (number_of xs w) e (λ k e. number-more xs x w k e)
+  where
+    go : (b : Bool) (o : Option ℕ) → At b o ≡ Some i → ((k : ℕ) → o ≡ Some k → number_of (xs ++ x ∷ []) w ≡ Some k) → At b (number_of (xs ++ x ∷ []) w) ≡ Some i
+    go true o e more = e
+    go false None e more = absurd cc
+    go false (Some k) e more = ap (option_map suc) (more k refl) ∙ e
+
+-- a new name that comes last has the last number
+pub number-last : (xs : List (List ℕ)) (w : List ℕ) → IsNew xs w → number_of (xs ++ w ∷ []) w ≡ Some (length xs)
+number-last [] w new = ap (λ b. At b None) ((bytes_eq-Decides w w).1 refl)
+number-last (y ∷ xs) w new = go (bytes_eq w y) (number_of xs w) new (λ e. number-last xs w e)
+  where
+    go : (b : Bool) (o : Option ℕ) → At b o ≡ None → (o ≡ None → number_of (xs ++ w ∷ []) w ≡ Some (length xs)) → At b (number_of (xs ++ w ∷ []) w) ≡ Some (suc (length xs))
+    go true o e more = absurd cc
+    go false None e more = ap (option_map suc) (more refl)
+    go false (Some k) e more = absurd cc
+
+-- ---- names that a vocabulary has by number
+
+-- xs are the names of 0 up to k, each an identifier of its own
+pub record Numbered (f : ℕ → List ℕ) (k : ℕ) (xs : List (List ℕ)) : Type 0 where
+  pub many : length xs ≡ k
+  pub named : (i : ℕ) → i < k → IsName (f i)
+  pub found : (i : ℕ) → i < k → number_of xs (f i) ≡ Some i
+
+pub last-or-before : (P : ℕ → Type 0) (k : ℕ) → ((i : ℕ) → i < k → P i) → P k → (i : ℕ) → i < suc k → P i
+last-or-before P k before last i less = elim (cases_eq i k) [
+  | inl same ↦ subst P (sym same) last
+  | inr other ↦ before i (below other)
+]
+  where
+    below : (i ≡ k → ⊥) → i < k
+    below other = grind arith
+
+pub numbered-none : (f : ℕ → List ℕ) → Numbered f 0 []
+numbered-none f = record { many = refl; named = λ i less. absurd (omega arith); found = λ i less. absurd (omega arith) }
+
+pub numbered-more : (f : ℕ → List ℕ) (k : ℕ) (xs : List (List ℕ)) → Numbered f k xs → IsName (f k) → IsNew xs (f k) → Numbered f (suc k) (xs ++ f k ∷ [])
+numbered-more f k xs are name new = record {
+  many = let e = length-append xs (f k ∷ []) in let m = are.many in omega arith;
+  named = last-or-before (λ i. IsName (f i)) k are.named name;
+  found = last-or-before (λ i. number_of (xs ++ f k ∷ []) (f i) ≡ Some i) k (λ i less. number-more xs (f k) (f i) i (are.found i less))
+      (number-last xs (f k) new ∙ ap (λ m. Some m) are.many);
+}
+
+-- the names of 0 up to k
+abbrev pub upto : (ℕ → List ℕ) → ℕ → List (List ℕ)
+upto f zero = []
+upto f (suc k) = upto f k ++ f k ∷ []
+
+pub new-upto : (f : ℕ → List ℕ) (k : ℕ) (w : List ℕ) → ((i : ℕ) → i < k → f i ≡ w → ⊥) → IsNew (upto f k) w
+new-upto f zero w others = refl
+new-upto f (suc k) w others = new-more (upto f k) (f k) w (new-upto f k w (λ i less. others i (omega arith))) (λ is. others k (omega arith) (sym is))
+
+-- the first n are identifiers, and different
+abbrev pub AreOwn : (ℕ → List ℕ) → ℕ → Type 0
+AreOwn f n = ((i : ℕ) → i < n → IsName (f i)) × ((i j : ℕ) → i < n → j < n → f i ≡ f j → i ≡ j)
+
+pub new-next : (f : ℕ → List ℕ) (n : ℕ) → AreOwn f n → (k : ℕ) → k < n → IsNew (upto f k) (f k)
+new-next f n own k less = new-upto f k (f k) (λ i below is. let same : i ≡ k = own.1 i k (omega arith) less is in absurd (omega arith))
+
+pub numbered-upto : (f : ℕ → List ℕ) (n : ℕ) → AreOwn f n → (k : ℕ) → k ≤ n → Numbered f k (upto f k)
+numbered-upto f n own zero le = numbered-none f
+numbered-upto f n own (suc k) le =
+    numbered-more f k (upto f k) (numbered-upto f n own k (omega arith)) (own.0 k (omega arith)) (new-next f n own k (omega arith))

@@ -1,0 +1,5 @@
+pub mod Phrases
+pub mod Phrasing
+pub mod Naming
+pub mod Phrasable
+pub mod Laws

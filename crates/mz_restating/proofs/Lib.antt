@@ -1,0 +1,15 @@
+pub mod Lets
+pub mod Theorems
+pub mod Restating
+pub mod Alike
+pub mod Seen
+pub mod SpecNames
+pub mod Prefixed
+pub mod Titles
+pub mod Ascending
+pub mod Hypotheses
+pub mod FewBound
+pub mod Rows
+pub mod Stated
+pub mod Phrasable
+pub mod Texts

@@ -1,0 +1,3 @@
+pub mod Restated
+pub mod Texts
+pub mod Laws

@@ -1,0 +1,7 @@
+pub mod Capping
+mod Longer
+mod Adding
+mod Finding
+mod Fields
+mod Measuring
+mod Lists

@@ -1,0 +1,10 @@
+pub mod Following
+pub mod Taken
+pub mod Standing
+pub mod RowsStand
+pub mod Shapes
+pub mod WholeTraces
+pub mod BodiesMake
+pub mod PlainProofs
+pub mod Deriving
+pub mod Proving

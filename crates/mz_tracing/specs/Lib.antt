@@ -1,0 +1,4 @@
+pub mod Parts
+pub mod Traces
+pub mod Laws
+pub mod Examples
