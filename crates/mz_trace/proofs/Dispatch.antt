@@ -1,0 +1,99 @@
+-- Each command has its clause, whatever its operand where none is looked at.
+use Rattle.std.proofs.Common.{Result, ◌≡◌, ℕ, refl, sym, ◌∙◌, subst, List, Ok, Option, Some, None, Bool, true, false}
+use Rattle.std.specs.Prelude.{slice_get}
+use Rattle.mz_cmd.specs.declared.rule.K.{K}
+use Rattle.mz_cmd.specs.declared.rule.K.TheVariants as k
+use Rattle.mz_cmd.specs.declared.code.ProofCode.{ProofCode}
+use Rattle.mz_cmd.specs.declared.code.ProofCode.TheVariants as code
+use Rattle.mz_logic.specs.Tree.{Tree}
+use Rattle.mz_unification.specs.Profile.{strict, Item}
+use Rattle.mz_unification.specs.Steps.{◌>>=◌, ◌>>◌, need, want}
+use Rattle.mz_soundness.specs.Tables.{Tables, State}
+use Rattle.mz_soundness.specs.Premises.{is_conversion}
+use Rattle.mz_soundness.specs.ProofMachine.{proof_row, referred}
+use Rattle.mz_tracing.specs.Traces.{Trace, traced}
+use Rattle.mz_trace.specs.Commands.{Stage, IsOfFile, state_of, trace_of, Goes, Leads}
+
+-- c over n does what d over m does, wherever c goes through
+abbrev pub DoesAs : (c : ProofCode) (n : ℕ) (d : ProofCode) (m : ℕ) → Type 0
+DoesAs c n d m = ((tables : Tables) (st st' : State Tree) → proof_row strict tables 0 c n st ≡ Ok st' → proof_row strict tables 0 d m st ≡ Ok st')
+    × ((tables : Tables) (st : State Tree) (tr : Trace) → traced tables d m st tr ≡ traced tables c n st tr)
+
+module _ (file : List ℕ) (Q : Tables → Type 0) (lift : (tables : Tables) → IsOfFile file tables → Q tables) (b c d : ProofCode) (n m : ℕ) (is : b ≡ c) (as_d : DoesAs c n d m) (s : Stage) where
+  pub goes-as : Goes (IsOfFile file) b n s → Goes Q d m s
+  goes-as goes =
+      let (tables, params, st, q, made, row) = subst (λ z. Goes (IsOfFile file) z n s) is goes in
+      (tables, params, st, lift tables q, made, as_d.0 tables (state_of params s) st row)
+
+  leads-c : (s' : Stage) → Leads Q d m s s' → Leads (IsOfFile file) c n s s'
+  leads-c s' leads tables params st q made row =
+      let (made1, state-is, trace-is) = leads tables params st (lift tables q) made (as_d.0 tables (state_of params s) st row) in
+      (made1, state-is, sym (as_d.1 tables (state_of params s) (trace_of s)) ∙ trace-is)
+
+  pub leads-as : (s' : Stage) → Leads Q d m s s' → Leads (IsOfFile file) b n s s'
+  leads-as s' leads = subst (λ z. Leads (IsOfFile file) z n s s') (sym is) (leads-c s' leads)
+
+-- the same command
+pub itself : (c : ProofCode) (n : ℕ) → DoesAs c n c n
+itself c n = (λ tables st st' row. row, λ tables st tr. refl)
+
+if-conversion : (b : Bool) (r : Result (State Tree) K) (st' : State Tree) → (need b k.Kind >> r) ≡ Ok st' → r ≡ Ok st'
+if-conversion true r st' e = e
+if-conversion false r st' e = absurd cc
+
+conv-ref : (tables : Tables) (st st' : State Tree) (n : ℕ) (o : Option (Item Tree)) → slice_get st.heap n ≡ o → proof_row strict tables 0 code.ConvRef n st ≡ Ok st' → proof_row strict tables 0 code.Ref n st ≡ Ok st'
+unfolding proof_row
+conv-ref tables st st' n None at row = absurd (let no : (want None k.HeapIndex >>= λ x. need (is_conversion x) k.Kind >> referred strict x st) ≡ Ok st' = subst (λ o. (want o k.HeapIndex >>= λ x. need (is_conversion x) k.Kind >> referred strict x st) ≡ Ok st') at row in cc)
+conv-ref tables st st' n (Some x) at row =
+    subst (λ o. (want o k.HeapIndex >>= λ x. referred strict x st) ≡ Ok st') (sym at)
+    (if-conversion (is_conversion x) (referred strict x st) st' (subst (λ o. (want o k.HeapIndex >>= λ x. need (is_conversion x) k.Kind >> referred strict x st) ≡ Ok st') at row))
+
+pub conv-ref-as : (n : ℕ) → DoesAs code.ConvRef n code.Ref n
+unfolding traced
+conv-ref-as n = (λ tables st st' row. conv-ref tables st st' n (slice_get st.heap n) refl row, λ tables st tr. refl)
+
+no-sorry : (tables : Tables) (st st' : State Tree) (n : ℕ) → proof_row strict tables 0 code.Sorry n st ≡ Ok st' → ⊥
+unfolding proof_row
+no-sorry tables st st' n row = absurd cc
+
+pub never-sorry : (file : List ℕ) (b : ProofCode) (n : ℕ) (s : Stage) → b ≡ code.Sorry → Goes (IsOfFile file) b n s → ⊥
+never-sorry file b n s is goes =
+    let (tables, params, st, q, made, row) = subst (λ z. Goes (IsOfFile file) z n s) is goes in no-sorry tables (state_of params s) st n row
+
+-- ---- commands that look at no operand
+
+pub hyp-as : (n : ℕ) → DoesAs code.Hyp n code.Hyp 0
+unfolding proof_row traced
+hyp-as n = (λ tables st st' row. row, λ tables st tr. refl)
+
+pub conv-as : (n : ℕ) → DoesAs code.Conv n code.Conv 0
+unfolding proof_row traced
+conv-as n = (λ tables st st' row. row, λ tables st tr. refl)
+
+pub refl-as : (n : ℕ) → DoesAs code.Refl n code.Refl 0
+unfolding proof_row traced
+refl-as n = (λ tables st st' row. row, λ tables st tr. refl)
+
+pub symm-as : (n : ℕ) → DoesAs code.Symm n code.Symm 0
+unfolding proof_row traced
+symm-as n = (λ tables st st' row. row, λ tables st tr. refl)
+
+pub cong-as : (n : ℕ) → DoesAs code.Cong n code.Cong 0
+unfolding proof_row traced
+cong-as n = (λ tables st st' row. row, λ tables st tr. refl)
+
+pub unfold-as : (n : ℕ) → DoesAs code.Unfold n code.Unfold 0
+unfolding proof_row traced
+unfold-as n = (λ tables st st' row. row, λ tables st tr. refl)
+
+pub conv_cut-as : (n : ℕ) → DoesAs code.ConvCut n code.ConvCut 0
+unfolding proof_row traced
+conv_cut-as n = (λ tables st st' row. row, λ tables st tr. refl)
+
+pub conv_save-as : (n : ℕ) → DoesAs code.ConvSave n code.ConvSave 0
+unfolding proof_row traced
+conv_save-as n = (λ tables st st' row. row, λ tables st tr. refl)
+
+pub save-as : (n : ℕ) → DoesAs code.Save n code.Save 0
+unfolding proof_row traced
+save-as n = (λ tables st st' row. row, λ tables st tr. refl)

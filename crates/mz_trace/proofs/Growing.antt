@@ -1,0 +1,224 @@
+-- More values behind: what was named stays what it was.
+use Rattle.std.proofs.Common.{◌≡◌, ℕ, zero, suc, List, [], ◌∷◌, ◌++◌, Some, length, map, refl, sym, ap, ◌∙◌}
+use Rattle.std.specs.Prelude.{slice_get, reverse}
+use Rattle.std.proofs.lemmas.List.{reverse-append, map-append}
+use Rattle.mz_logic.specs.Tree.{Tree, app}
+use Rattle.mz_logic.specs.Conversions.{Conversion, Conversions, cong_conv, sym_conv, refl_conv, unfold_conv, more_convs}
+use Rattle.mz_mmu.specs.Proof.{Proof, Proofs, by_citation, by_conv, more_proofs}
+use Rattle.mz_unification.specs.Profile.{expr, proof, obligation, conversion}
+use Rattle.mz_unification.specs.Profile.{Item as MachineItem}
+use Rattle.mz_unification.specs.Spells.{trees_of}
+use Rattle.mz_soundness.specs.Tables.{Tables}
+use Rattle.mz_tracing.specs.Parts.{Part, proved, converted, for_proof, for_operand, for_unfolded}
+use Rattle.mz_trace.specs.Nodes.{Value, an_expression, a_conversion, a_proof, expression_of, conversion_of, proof_of, expression_at, conversion_at, proof_at, expressions_at, conversions_at, proofs_at, value_of, IsExpression, IsConversion, IsProof, AreExpressions, AreConversions, AreProofs, HasParts}
+use Rattle.mz_trace.specs.Entries.{item_at, part_at, IsItem, AreItems, owed_at, items_of, items_at, part_of, parts_at, ArePairs, IsStack, IsWaiting}
+use Rattle.mz_trace.specs.declared.node.RunNode.{RunNode}
+use Rattle.mz_trace.specs.declared.node.RunNode.TheVariants as node
+use Rattle.mz_trace.specs.declared.entry.Item.{Item}
+use Rattle.mz_trace.specs.declared.entry.Item.TheVariants.{Expr, Proof as ProofItem, Conversion as ConversionItem}
+use Rattle.mz_trace.specs.declared.entry.Entry.{Entry}
+use Rattle.mz_trace.specs.declared.entry.Entry.TheVariants.{Held, Owed, ForProof, ForTurned, ForOperand, ForUnfolded, ForCut}
+
+pub grown-at : {A : Type 0} (xs ys : List A) (n : ℕ) (x : A) → slice_get xs n ≡ Some x → slice_get (xs ++ ys) n ≡ Some x
+grown-at [] ys n x h = absurd cc
+grown-at (y ∷ xs) ys zero x h = h
+grown-at (y ∷ xs) ys (suc n) x h = grown-at xs ys n x h
+
+pub last-at : {A : Type 0} (xs : List A) (x : A) → slice_get (xs ++ x ∷ []) (length xs) ≡ Some x
+last-at [] x = refl
+last-at (y ∷ xs) x = last-at xs x
+
+module _ (vs ws : List Value) where
+  -- ---- one number
+
+  pub grown-expression : (n : ℕ) → IsExpression vs n → IsExpression (vs ++ ws) n
+  grown-expression n h = (h.0, grown-at vs ws n (an_expression h.0) h.1)
+
+  pub grown-conversion : (n : ℕ) → IsConversion vs n → IsConversion (vs ++ ws) n
+  grown-conversion n h = (h.0, grown-at vs ws n (a_conversion h.0) h.1)
+
+  pub grown-proof : (n : ℕ) → IsProof vs n → IsProof (vs ++ ws) n
+  grown-proof n h = (h.0, grown-at vs ws n (a_proof h.0) h.1)
+
+  pub same-expression : (n : ℕ) → IsExpression vs n → expression_at (vs ++ ws) n ≡ expression_at vs n
+  same-expression n h = ap expression_of (grown-at vs ws n (an_expression h.0) h.1 ∙ sym h.1)
+
+  pub same-conversion : (n : ℕ) → IsConversion vs n → conversion_at (vs ++ ws) n ≡ conversion_at vs n
+  same-conversion n h = ap conversion_of (grown-at vs ws n (a_conversion h.0) h.1 ∙ sym h.1)
+
+  pub same-proof : (n : ℕ) → IsProof vs n → proof_at (vs ++ ws) n ≡ proof_at vs n
+  same-proof n h = ap proof_of (grown-at vs ws n (a_proof h.0) h.1 ∙ sym h.1)
+
+  -- ---- lists of numbers
+
+  pub grown-expressions : (ns : List ℕ) → AreExpressions vs ns → AreExpressions (vs ++ ws) ns
+  grown-expressions [] h = tt
+  grown-expressions (n ∷ ns) h = (grown-expression n h.0, grown-expressions ns h.1)
+
+  pub grown-conversions : (ns : List ℕ) → AreConversions vs ns → AreConversions (vs ++ ws) ns
+  grown-conversions [] h = tt
+  grown-conversions (n ∷ ns) h = (grown-conversion n h.0, grown-conversions ns h.1)
+
+  pub grown-proofs : (ns : List ℕ) → AreProofs vs ns → AreProofs (vs ++ ws) ns
+  grown-proofs [] h = tt
+  grown-proofs (n ∷ ns) h = (grown-proof n h.0, grown-proofs ns h.1)
+
+  pub same-expressions : (ns : List ℕ) → AreExpressions vs ns → expressions_at (vs ++ ws) ns ≡ expressions_at vs ns
+  same-expressions [] h = refl
+  same-expressions (n ∷ ns) h = rw (same-expression n h.0, same-expressions ns h.1) refl
+
+  pub same-conversions : (ns : List ℕ) → AreConversions vs ns → conversions_at (vs ++ ws) ns ≡ conversions_at vs ns
+  same-conversions [] h = refl
+  same-conversions (n ∷ ns) h = rw (same-conversion n h.0, same-conversions ns h.1) refl
+
+  pub same-proofs : (ns : List ℕ) → AreProofs vs ns → proofs_at (vs ++ ws) ns ≡ proofs_at vs ns
+  same-proofs [] h = refl
+  same-proofs (n ∷ ns) h = rw (same-proof n h.0, same-proofs ns h.1) refl
+
+  pub same-named : (ns : List ℕ) → AreProofs vs ns → map (proof_at (vs ++ ws)) ns ≡ map (proof_at vs) ns
+  same-named [] h = refl
+  same-named (n ∷ ns) h = rw (same-proof n h.0, same-named ns h.1) refl
+
+  -- ---- nodes
+
+  pub grown-parts : (tables : Tables) (n : RunNode) → HasParts tables vs n → HasParts tables (vs ++ ws) n
+  grown-parts tables (node.Var x) h = tt
+  grown-parts tables (node.App t es) h = (grown-expressions es.items h.0, h.1)
+  grown-parts tables (node.Hyp i) h = tt
+  grown-parts tables (node.Let i) h = tt
+  grown-parts tables (node.Use t e es ps) h = (grown-expression e h.0, grown-expressions es.items h.1, grown-proofs ps.items h.2)
+  grown-parts tables (node.Conv e c p) h = (grown-expression e h.0, grown-conversion c h.1, grown-proof p h.2)
+  grown-parts tables (node.Refl e) h = grown-expression e h
+  grown-parts tables (node.Sym c) h = grown-conversion c h
+  grown-parts tables (node.Cong t cs) h = grown-conversions cs.items h
+  grown-parts tables (node.Unfold t e es ys c) h = (grown-expression e h.0, grown-expressions es.items h.1, grown-conversion c h.2)
+
+  pub same-value : (tables : Tables) (n : RunNode) → HasParts tables vs n → value_of (vs ++ ws) n ≡ value_of vs n
+  same-value tables (node.Var x) h = refl
+  same-value tables (node.App t es) h = ap (λ ts. an_expression (app t (trees_of ts))) (same-expressions es.items h.0)
+  same-value tables (node.Hyp i) h = refl
+  same-value tables (node.Let i) h = refl
+  same-value tables (node.Use t e es ps) h = rw (same-expressions es.items h.1, same-proofs ps.items h.2) refl
+  same-value tables (node.Conv e c p) h = rw (same-expression e h.0, same-conversion c h.1, same-proof p h.2) refl
+  same-value tables (node.Refl e) h = rw (same-expression e h) refl
+  same-value tables (node.Sym c) h = rw (same-conversion c h) refl
+  same-value tables (node.Cong t cs) h = rw (same-conversions cs.items h) refl
+  same-value tables (node.Unfold t e es ys c) h = rw (same-expressions es.items h.1, same-conversion c h.2) refl
+
+  -- ---- items
+
+  pub grown-item : (x : Item) → IsItem vs x → IsItem (vs ++ ws) x
+  grown-item (Expr e) h = grown-expression e h
+  grown-item (ProofItem e p) h = (grown-expression e h.0, grown-proof p h.1)
+  grown-item (ConversionItem l r c) h = (grown-expression l h.0, grown-expression r h.1, grown-conversion c h.2)
+
+  pub same-item : (x : Item) → IsItem vs x → item_at (vs ++ ws) x ≡ item_at vs x
+  same-item (Expr e) h = ap expr (same-expression e h)
+  same-item (ProofItem e p) h = ap proof (same-expression e h.0)
+  same-item (ConversionItem l r c) h = rw (same-expression l h.0, same-expression r h.1) refl
+
+  pub same-part : (x : Item) → IsItem vs x → part_at (vs ++ ws) x ≡ part_at vs x
+  same-part (Expr e) h = refl
+  same-part (ProofItem e p) h = ap proved (same-proof p h.1)
+  same-part (ConversionItem l r c) h = ap converted (same-conversion c h.2)
+
+  pub grown-heap : (xs : List Item) → AreItems vs xs → AreItems (vs ++ ws) xs
+  grown-heap [] h = tt
+  grown-heap (x ∷ xs) h = (grown-item x h.0, grown-heap xs h.1)
+
+  pub same-heap : (xs : List Item) → AreItems vs xs → map (item_at (vs ++ ws)) xs ≡ map (item_at vs) xs
+  same-heap [] h = refl
+  same-heap (x ∷ xs) h = rw (same-item x h.0, same-heap xs h.1) refl
+
+  pub same-heap_parts : (xs : List Item) → AreItems vs xs → map (part_at (vs ++ ws)) xs ≡ map (part_at vs) xs
+  same-heap_parts [] h = refl
+  same-heap_parts (x ∷ xs) h = rw (same-part x h.0, same-heap_parts xs h.1) refl
+
+  -- ---- the stack
+
+  pub grown-pairs : (ps : List (ℕ × ℕ)) → ArePairs vs ps → ArePairs (vs ++ ws) ps
+  grown-pairs [] h = tt
+  grown-pairs (p ∷ ps) h = (grown-expression p.0 h.0, grown-expression p.1 h.1, grown-pairs ps h.2)
+
+  -- in the order of the stack
+  pub same-pairs : (ps : List (ℕ × ℕ)) → ArePairs vs ps → map (owed_at (vs ++ ws)) ps ≡ map (owed_at vs) ps
+  same-pairs [] h = refl
+  same-pairs (p ∷ ps) h = rw (same-expression p.0 h.0, same-expression p.1 h.1, same-pairs ps h.2) refl
+
+pub pairs-both : (vs : List Value) (ps qs : List (ℕ × ℕ)) → ArePairs vs ps → ArePairs vs qs → ArePairs vs (ps ++ qs)
+pairs-both vs [] qs h k = k
+pairs-both vs (p ∷ ps) qs h k = (h.0, h.1, pairs-both vs ps qs h.2 k)
+
+pub pairs-turned : (vs : List Value) (ps : List (ℕ × ℕ)) → ArePairs vs ps → ArePairs vs (reverse ps)
+pairs-turned vs [] h = tt
+pairs-turned vs (p ∷ ps) h = rw (reverse-append (p ∷ []) ps) (pairs-both vs (reverse ps) (p ∷ []) (pairs-turned vs ps h.2) (h.0, h.1, tt))
+
+module _ (vs ws : List Value) where
+  mutual
+    pub grown-stack : (xs : List Entry) → IsStack vs xs → IsStack (vs ++ ws) xs
+    grown-stack [] h = tt
+    grown-stack (Held (Expr e) ∷ xs) h = (grown-expression vs ws e h.0, grown-stack xs h.1)
+    grown-stack (Held (ProofItem e p) ∷ xs) h = (grown-item vs ws (ProofItem e p) h.0, grown-stack xs h.1)
+    grown-stack (Held (ConversionItem l r c) ∷ xs) h = (grown-item vs ws (ConversionItem l r c) h.0, grown-waiting xs h.1)
+    grown-stack (Owed l r ∷ xs) h = (grown-expression vs ws l h.0, grown-expression vs ws r h.1, grown-waiting xs h.2)
+    grown-stack (ForProof e p ∷ xs) h = absurd h
+    grown-stack (ForTurned ∷ xs) h = absurd h
+    grown-stack (ForOperand t done left ∷ xs) h = absurd h
+    grown-stack (ForUnfolded t e es ys ∷ xs) h = absurd h
+    grown-stack (ForCut l r ∷ xs) h = absurd h
+
+    pub grown-waiting : (xs : List Entry) → IsWaiting vs xs → IsWaiting (vs ++ ws) xs
+    grown-waiting [] h = absurd h
+    grown-waiting (Held x ∷ xs) h = absurd h
+    grown-waiting (Owed l r ∷ xs) h = absurd h
+    grown-waiting (ForProof e p ∷ xs) h = (grown-expression vs ws e h.0, grown-proof vs ws p h.1, grown-stack xs h.2)
+    grown-waiting (ForTurned ∷ xs) h = grown-waiting xs h
+    grown-waiting (ForOperand t done left ∷ xs) h = (grown-conversions vs ws done.items h.0, grown-pairs vs ws left.items h.1, grown-waiting xs h.2)
+    grown-waiting (ForUnfolded t e es ys ∷ xs) h = (grown-expression vs ws e h.0, grown-expressions vs ws es.items h.1, grown-waiting xs h.2)
+    grown-waiting (ForCut l r ∷ xs) h = (grown-expression vs ws l h.0, grown-expression vs ws r h.1, grown-waiting xs h.2)
+
+  mutual
+    pub same-items : (xs : List Entry) → IsStack vs xs → items_at (vs ++ ws) xs ≡ items_at vs xs
+    same-items [] h = refl
+    same-items (Held (Expr e) ∷ xs) h = rw (same-expression vs ws e h.0, same-items xs h.1) refl
+    same-items (Held (ProofItem e p) ∷ xs) h = rw (same-expression vs ws e h.0.0, same-items xs h.1) refl
+    same-items (Held (ConversionItem l r c) ∷ xs) h = rw (same-expression vs ws l h.0.0, same-expression vs ws r h.0.1, same-items_below xs h.1) refl
+    same-items (Owed l r ∷ xs) h = rw (same-expression vs ws l h.0, same-expression vs ws r h.1, same-items_below xs h.2) refl
+    same-items (ForProof e p ∷ xs) h = absurd h
+    same-items (ForTurned ∷ xs) h = absurd h
+    same-items (ForOperand t done left ∷ xs) h = absurd h
+    same-items (ForUnfolded t e es ys ∷ xs) h = absurd h
+    same-items (ForCut l r ∷ xs) h = absurd h
+
+    pub same-items_below : (xs : List Entry) → IsWaiting vs xs → items_at (vs ++ ws) xs ≡ items_at vs xs
+    same-items_below [] h = absurd h
+    same-items_below (Held x ∷ xs) h = absurd h
+    same-items_below (Owed l r ∷ xs) h = absurd h
+    same-items_below (ForProof e p ∷ xs) h = rw (same-expression vs ws e h.0, same-items xs h.2) refl
+    same-items_below (ForTurned ∷ xs) h = same-items_below xs h
+    same-items_below (ForOperand t done left ∷ xs) h = rw (same-pairs vs ws (reverse left.items) (pairs-turned vs left.items h.1), same-items_below xs h.2) refl
+    same-items_below (ForUnfolded t e es ys ∷ xs) h = same-items_below xs h.2
+    same-items_below (ForCut l r ∷ xs) h = rw (same-expression vs ws l h.0, same-expression vs ws r h.1, same-items_below xs h.2) refl
+
+  mutual
+    pub same-parts : (xs : List Entry) → IsStack vs xs → parts_at (vs ++ ws) xs ≡ parts_at vs xs
+    same-parts [] h = refl
+    same-parts (Held (Expr e) ∷ xs) h = rw (same-parts xs h.1) refl
+    same-parts (Held (ProofItem e p) ∷ xs) h = rw (same-proof vs ws p h.0.1, same-parts xs h.1) refl
+    same-parts (Held (ConversionItem l r c) ∷ xs) h = rw (same-conversion vs ws c h.0.2, same-parts_below xs h.1) refl
+    same-parts (Owed l r ∷ xs) h = rw (same-parts_below xs h.2) refl
+    same-parts (ForProof e p ∷ xs) h = absurd h
+    same-parts (ForTurned ∷ xs) h = absurd h
+    same-parts (ForOperand t done left ∷ xs) h = absurd h
+    same-parts (ForUnfolded t e es ys ∷ xs) h = absurd h
+    same-parts (ForCut l r ∷ xs) h = absurd h
+
+    pub same-parts_below : (xs : List Entry) → IsWaiting vs xs → parts_at (vs ++ ws) xs ≡ parts_at vs xs
+    same-parts_below [] h = absurd h
+    same-parts_below (Held x ∷ xs) h = absurd h
+    same-parts_below (Owed l r ∷ xs) h = absurd h
+    same-parts_below (ForProof e p ∷ xs) h = rw (same-expression vs ws e h.0, same-proof vs ws p h.1, same-parts xs h.2) refl
+    same-parts_below (ForTurned ∷ xs) h = rw (same-parts_below xs h) refl
+    same-parts_below (ForOperand t done left ∷ xs) h = rw (same-conversions vs ws done.items h.0, same-parts_below xs h.2) refl
+    same-parts_below (ForUnfolded t e es ys ∷ xs) h = rw (same-expressions vs ws es.items h.1, same-parts_below xs h.2) refl
+    same-parts_below (ForCut l r ∷ xs) h = rw (same-parts_below xs h.2) refl

@@ -1,0 +1,12 @@
+use Rattle.std.proofs.Common.{◌≡◌, ℕ, List, length}
+use Rattle.mz_logic.specs.declared.binder.Binder.{Binder}
+use Rattle.mz_soundness.specs.Tables.{Tables}
+use Rattle.mz_trace.specs.Nodes.{IsConversion}
+use Rattle.mz_trace.specs.Commands.{stage_of, values_in, IsMadeBelow, IsPassedOn, PassesOn}
+use Rattle.mz_trace.proofs.making.Making.pay.Given as goal
+
+abbrev pub invariant-frames : goal.invariant-frames
+invariant-frames l = PassesOn (stage_of l.initial.self) l.tree (stage_of l.self) l.paid
+
+abbrev pub decreases-frames : goal.decreases-frames
+decreases-frames l = length l.self.stack.items

@@ -1,0 +1,67 @@
+-- The proof that a run has.
+use Rattle.std.specs.Prelude.{◌≡◌, ⊤, ℕ, List, [], ◌∷◌, map, Ok}
+use Rattle.mz_logic.specs.declared.binder.Binder.{Binder}
+use Rattle.mz_mmu.specs.Proof.{Proof}
+use Rattle.mz_unification.specs.Spells.{dummy_of}
+use Rattle.mz_soundness.specs.Tables.{Tables, State, is_theorem, Heading}
+use Rattle.mz_logic.specs.Tree.{Tree}
+use Rattle.mz_unification.specs.Profile.{strict}
+use Rattle.mz_soundness.specs.ProofMachine.{proof_end}
+use Rattle.mz_soundness.specs.Bodies.{body_from}
+use Rattle.mz_tracing.specs.Traces.{Made, trace_from}
+use Rattle.mz_trace.specs.Commands.{Stage, IsOfFile, IsMade, state_of, trace_of}
+use Rattle.mz_trace.specs.Nodes.{Value, values, proof_at, HaveParts, AreProofs, IsProof}
+use Rattle.mz_trace.specs.declared.entry.Item.TheVariants.{Proof as ProofItem}
+use Rattle.mz_trace.specs.declared.entry.Entry.TheVariants.{Held}
+use Rattle.mz_trace.specs.declared.run.Run.{Run}
+use Rattle.mz_trace.specs.declared.run.Traced.{Traced}
+use Rattle.mz_trace.specs.declared.run.Traced.TheVariants as traced
+
+abbrev pub values_in : Run → List Value
+values_in r = values r.nodes.items
+
+abbrev pub dummies_in : Run → List Binder
+dummies_in r = map dummy_of r.dummies.items
+
+abbrev pub lets_in : Run → List Proof
+lets_in r = map (proof_at (values_in r)) r.lets.items
+
+abbrev pub root_in : Run → Proof
+root_in r = proof_at (values_in r) r.root
+
+-- the body makes what the nodes stand for, and all that they name is there
+pub record IsRunOf (tables : Tables) (h : Heading) (bytes : List ℕ) (r : Run) : Type 0 where
+  pub nodes : HaveParts tables r.nodes.items
+  pub lets : AreProofs (values_in r) r.lets.items
+  pub root : IsProof (values_in r) r.root
+  pub made : Made tables h bytes (dummies_in r) (lets_in r) (root_in r)
+
+-- want of memory says nothing
+abbrev pub IsTraced : Tables → Heading → List ℕ → Traced → Type 0
+IsTraced tables h bytes (traced.Run r) = IsRunOf tables h bytes r
+IsTraced tables h bytes traced.Mem = ⊤
+
+-- ---- what is left of a body
+
+-- it runs to its END from here
+abbrev pub RunsFrom : List ℕ → List ℕ → Stage → Type 0
+RunsFrom file bytes s = (tables : Tables) × (h : Heading) × (n at : ℕ) × (end : State Tree)
+    × IsOfFile file tables × (h.kind ≡ is_theorem) × IsMade tables h.params s × (body_from strict tables h n at bytes (state_of h.params s) ≡ Ok end)
+
+-- and what it makes leads there
+abbrev pub LeadsToEnd : List ℕ → List ℕ → Stage → Stage → Type 0
+LeadsToEnd file bytes s s' = (tables : Tables) (h : Heading) (n at : ℕ) (end : State Tree)
+    → IsOfFile file tables → h.kind ≡ is_theorem → IsMade tables h.params s → body_from strict tables h n at bytes (state_of h.params s) ≡ Ok end
+    → IsMade tables h.params s' × (proof_end strict tables h (state_of h.params s') ≡ Ok end)
+    × (trace_from tables h n bytes (state_of h.params s, trace_of s) ≡ Ok (state_of h.params s', trace_of s'))
+
+-- one proof is left
+abbrev pub HasRoot : Stage → Type 0
+HasRoot s = (e p : ℕ) × (s.stack ≡ Held (ProofItem e p) ∷ [])
+
+-- with what is made beside it
+pub record IsFinished (s : Stage) (r : Run) : Type 0 where
+  pub nodes : r.nodes.items ≡ s.nodes
+  pub lets : r.lets.items ≡ s.lets
+  pub dummies : r.dummies.items ≡ s.dummies
+  pub root : (e : ℕ) × (s.stack ≡ Held (ProofItem e r.root) ∷ [])

@@ -1,0 +1,16 @@
+//! The proof that a theorem's body makes, as numbered nodes.
+//!
+//! A body is gone through once. What it makes is said in `mz_tracing`; here each expression, conversion and
+//! proof is a node whose parts are earlier nodes, so that a tree which is used many times is kept once, and
+//! nothing is gone through by its depth. `specs/Nodes.antt` says what nodes stand for.
+#![tactic(auto)]
+
+mod entry;
+mod making;
+mod node;
+mod run;
+mod stack;
+mod streams;
+
+pub use node::RunNode;
+pub use run::{Run, Traced, trace};
