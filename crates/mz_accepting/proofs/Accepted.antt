@@ -1,6 +1,5 @@
 -- A written file is accepted where the text's public statements agree with the specification.
-use Rattle.mz_writing.proofs.FilesHold.{files-good}
-use Rattle.mz_writing.proofs.SameLists.{written-same}
+use Rattle.mz_writing.proofs.Offered.{files-good, written-same}
 use Rattle.mz_accepting.specs.Laws.{WrittenFilesAreAccepted}
 use Rattle.mz_accepting.proofs.Agreeing.{same-lists-agree}
 

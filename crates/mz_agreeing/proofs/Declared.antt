@@ -2,7 +2,7 @@
 use Rattle.std.proofs.Common.{◌≡◌, ◌≤◌, ◌<◌, ◌^◌, ℕ, List, [], ◌∷◌, length, Bool, true, false, sym, refl, subst, arith}
 use Rattle.std.specs.Prelude.{All, nat_le, not}
 use Rattle.std.proofs.lemmas.Bool.{and_parts, or_parts, leb-true}
-use Rattle.mz_checks.proofs.InOrder.{all_hold-first, all_hold-rest}
+use Rattle.mz_checks.proofs.Offered.{all_hold-first, all_hold-rest}
 use Rattle.mz_checks.specs.Checks.{AllHold}
 use Rattle.mz_logic.specs.Tree.{Tree}
 use Rattle.mz_logic.specs.LegalLists.{Legal}
@@ -11,15 +11,14 @@ use Rattle.mz_math.specs.Formula.{most}
 use Rattle.mz_mmu.specs.Proof.{Statement}
 use Rattle.mz_mmu.specs.Laws.{IsWhole}
 use Rattle.mz_mmu.specs.Statements.{no_names}
-use Rattle.mz_mmu.proofs.OneAnswer.{one_reading}
-use Rattle.mz_mmu.proofs.Whole.{are_whole}
+use Rattle.mz_mmu.proofs.Offered.{one_reading, are_whole}
 use Rattle.mz_type.specs.Meaning.{marked}
-use Rattle.mz_type.proofs.Texts.{stated_is_legal}
+use Rattle.mz_type.proofs.Offered.{stated_is_legal}
 use Rattle.mz_spec.specs.Spec.{SpecOf}
 use Rattle.mz_printing.specs.Lines.{Line, lines_text}
 use Rattle.mz_printing.specs.Prefix.{IsShort}
 use Rattle.mz_readback.specs.Declared.{HasVariables, formula_of, decls_of}
-use Rattle.mz_readback.proofs.Printed.{printed-declare}
+use Rattle.mz_readback.proofs.Offered.{printed-declare}
 use Rattle.mz_publics.specs.PublicPart.{public_number, public_part, mentions_local, Hides, AreSayable}
 use Rattle.mz_match.specs.Match.{publics, Agrees}
 use Rattle.mz_wording.specs.Wording.{vocabulary_of, local_terms, is_short, is_hidden, prefix_text, local_checks, long_checks, wording_checks}

@@ -13,8 +13,7 @@ use Rattle.mz_type.specs.Meaning.{marked}
 use Rattle.mz_printing.specs.Lines.{PlainBinder, Tokens, term_line, assert_line, definition_line}
 use Rattle.mz_readback.specs.Declared.{Vocabulary, plain_type, plain_param, plain_dummy, plain_dummies, plain_binders, formula_of, formulas_of, kind_of, term_line_of, line_of_decl, lines_of, decls_of}
 use Rattle.mz_publics.specs.PublicPart.{public_number, renamed, all_renamed, mentions_local, any_mentions_local, shown, public_decl, public_decls, public_part, Hides, IsSayable}
-use Rattle.mz_publics.proofs.Beside.{all-public}
-use Rattle.mz_publics.proofs.Legal.{IsAt, at-next}
+use Rattle.mz_publics.proofs.Offered.{all-public, IsAt, at-next}
 use Rattle.mz_wording.specs.Wording.{local_terms, publics_named, vocabulary_of}
 use Rattle.mz_agreeing.proofs.Cases.{chosen}
 use Rattle.mz_agreeing.proofs.Spoken.{KeepsName, same-tokens}

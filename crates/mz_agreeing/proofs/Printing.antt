@@ -11,7 +11,7 @@ use Rattle.mz_logic.specs.Declaration.{Form, plain_form, abstract_form, defined,
 use Rattle.mz_logic.specs.Legality.{InRange, AllInRange, NamesThere}
 use Rattle.mz_logic.specs.declared.binder.SortMods.{SortMods}
 use Rattle.mz_logic.specs.LegalLists.{Statement as Marked, LegalAfter, Legal, gap_free, MayBeLocal, declarations}
-use Rattle.mz_logic.proofs.Extend.{sorts-append}
+use Rattle.mz_logic.proofs.Offered.{sorts-append}
 use Rattle.mz_mmu.specs.Name.{Names, IsNew}
 use Rattle.mz_mmu.specs.Proof.{Statement}
 use Rattle.mz_mmu.specs.Statements.{no_names, names_with}
@@ -20,10 +20,9 @@ use Rattle.mz_type.specs.Meaning.{marked}
 use Rattle.mz_spec.specs.Names as spec
 use Rattle.mz_printing.specs.Prefix.{IsShort}
 use Rattle.mz_readback.specs.Declared.{Named, Vocabulary, formula_of, AreShort, HasNewName, HasShortBody, IsWithin, used_with, ArePrintable}
-use Rattle.mz_readback.proofs.Names.{new-more}
+use Rattle.mz_readback.proofs.Offered.{new-more}
 use Rattle.mz_publics.specs.PublicPart.{public_number, is_local_term, mark_of, marks_of, renamed, all_renamed, mentions_local, any_mentions_local, shown, public_decl, Hides, IsSayable}
-use Rattle.mz_publics.proofs.Beside.{AreBeside, signatures-append, same-signatures, same-sorts, none-beside, all-public}
-use Rattle.mz_publics.proofs.Legal.{pick, decl-legal, IsAt, mark-at, at-next, at-known, public-next, local-next}
+use Rattle.mz_publics.proofs.Offered.{AreBeside, signatures-append, same-signatures, same-sorts, none-beside, all-public, pick, decl-legal, IsAt, mark-at, at-next, at-known, public-next, local-next}
 use Rattle.mz_match.specs.Match.{term_rows}
 use Rattle.mz_wording.specs.Wording.{sort_name, term_name, sort_names, term_names, vocabulary_of, local_terms, IsBrief}
 use Rattle.mz_agreeing.proofs.Naming.{other-name}

@@ -12,7 +12,7 @@ use Rattle.mz_grammar.specs.declared.kind.Kind.TheVariants.{Term, Assert, Defini
 use Rattle.mz_mmu.specs.Proof.{Statement}
 use Rattle.mz_printing.specs.Words.{Word, written}
 use Rattle.mz_printing.specs.Lines.{PlainBinder, Line, binder_words, binders_words, colon_words, end_words, type_words, body_words, hyps_words, math_word, head_words, title_words, line_words, line_text, lines_text}
-use Rattle.mz_printing.proofs.PlainLines.{written-append}
+use Rattle.mz_printing.proofs.Offered.{written-append}
 use Rattle.mz_readback.specs.Declared.{Vocabulary, kind_of, formula_of, formulas_of, plain_type, plain_param, plain_dummy, plain_dummies, plain_binders, term_line_of, line_of_decl, lines_of}
 use Rattle.mz_publics.specs.PublicPart.{public_number, renamed, shown, public_decl}
 use Rattle.mz_wording.specs.Wording.{publics_named, vocabulary_of, local_terms, local_checks, long_checks}

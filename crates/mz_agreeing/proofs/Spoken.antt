@@ -6,7 +6,7 @@ use Rattle.mz_math.specs.Meaning.{height, trees_height}
 use Rattle.mz_math.specs.Formula.{most}
 use Rattle.mz_printing.specs.Prefix.{tokens_of, operand_tokens, enclosed, IsShort}
 use Rattle.mz_publics.specs.PublicPart.{renamed, all_renamed}
-use Rattle.mz_publics.proofs.Renaming.{AllTerms, AllTermsIn}
+use Rattle.mz_publics.proofs.Offered.{AllTerms, AllTermsIn}
 
 module _ (f : ℕ → ℕ) (term term' variable : ℕ → List ℕ) where
   abbrev pub KeepsName : ℕ → Type 0

@@ -8,9 +8,9 @@ use Rattle.mz_cmd.specs.declared.command.CmdFault.{CmdFault}
 use Rattle.mz_cmd.specs.Codes.{is_known}
 use Rattle.mz_cmd.specs.Reading.{first_command, command_at}
 use Rattle.mz_cmd.specs.Spelling.{Spells, operand_len, shortest_size, shortest}
-use Rattle.mz_cmd.proofs.SpellingLaws.{Spells-again}
+use Rattle.mz_cmd.proofs.Offered.{Spells-again}
 use Rattle.mz_layout.specs.Standing.{Stands}
-use Rattle.mz_layout.proofs.StandingLaws.{stands-first, stands-second, stands-is, stands-bytes}
+use Rattle.mz_layout.proofs.Offered.{stands-first, stands-second, stands-is, stands-bytes}
 use Rattle.mz_show.specs.declared.stream.Stream.{Stream}
 use Rattle.mz_show.specs.Streams.{belongs, Follow, Run, IsLongest, EndStands, LeadsTo}
 use Rattle.mz_asm.specs.Statements.{command_bytes}

@@ -16,18 +16,14 @@ use Rattle.mz_logic.specs.declared.binder.SortMods.{SortMods}
 use Rattle.mz_layout.specs.Normal.{Row, Written, Parts, no_parts, row_of_term, row_of_thm, file_of, file_length}
 use Rattle.mz_layout.specs.Standing.{Stands, HasRoom, HaveRoom, Fit, AreListed, body_place, next_place}
 use Rattle.mz_layout.specs.Tables.{TermRow, ThmRow, list_at, term_row as term_row_of, thm_row as thm_row_of}
-use Rattle.mz_layout.proofs.LayoutHolds.{layout-holds}
-use Rattle.mz_layout.proofs.ListRead.{all-listed}
-use Rattle.mz_layout.proofs.PartsStand.{counts-said}
-use Rattle.mz_layout.proofs.TablesRead.{mods-read, term-read, thm-read, term-stream, thm-stream}
+use Rattle.mz_layout.proofs.Offered.{layout-holds, all-listed, counts-said, mods-read, term-read, thm-read, term-stream, thm-stream}
 use Rattle.mz_show.specs.declared.place.Place.{Place}
 use Rattle.mz_show.specs.declared.stream.Stream.TheVariants as streams
 use Rattle.mz_show.specs.Words.{texts, numbered, param_line, result_line}
 use Rattle.mz_show.specs.Streams.{belongs, command_line, stream_text}
 use Rattle.mz_show.specs.Listing.{Chain, chain_text, EndsAt, IsListing}
 use Rattle.mz_show.specs.Statements.{Stands as StandsThere, Statement as Shown, after, has_streams as shown_streams, unify_at, statement_checks, part_checks, row_checks, statement_text, streams_text}
-use Rattle.mz_show.proofs.Commands.{longest-some}
-use Rattle.mz_show.proofs.Texts.{texts-append}
+use Rattle.mz_show.proofs.Offered.{longest-some, texts-append}
 use Rattle.mz_asm.specs.declared.kind.Kind.{Kind}
 use Rattle.mz_asm.specs.declared.kind.Kind.TheVariants as kinds
 use Rattle.mz_asm.specs.declared.line.Line.{Line}

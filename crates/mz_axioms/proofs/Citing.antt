@@ -6,7 +6,7 @@ use Rattle.std.proofs.lemmas.List.Elements.{All-nil, All-cons, All-head, All-tai
 use Rattle.mz_cmd.specs.declared.command.Cmd.{Cmd}
 use Rattle.mz_cmd.specs.declared.command.CmdFault.{CmdFault}
 use Rattle.mz_cmd.specs.Reading.{first_command}
-use Rattle.mz_unification.proofs.Turning.{command-long}
+use Rattle.mz_unification.proofs.Offered.{command-long}
 use Rattle.mz_soundness.specs.Sound.{IsCitation, CitesWithin}
 use Rattle.mz_soundness.specs.FileRows.{body_bytes}
 use Rattle.mz_axioms.specs.Commands.{StandThere, length_of, IsCiting, IsCitedIn}

@@ -7,10 +7,10 @@ use Rattle.mz_logic.specs.Declaration.{Declaration, sort_decl, term_decl, assert
 use Rattle.mz_logic.specs.LegalLists.{Statement, declarations}
 use Rattle.mz_spec.specs.State.{Entry, env_of}
 use Rattle.mz_spec.specs.Spec.{SpecMakes}
-use Rattle.mz_spec.proofs.OneSpec.{one-reading}
+use Rattle.mz_spec.proofs.Offered.{one-reading}
 use Rattle.mz_match.specs.Drafts.{IsGapOf, ListsGaps}
 use Rattle.mz_match.specs.Match.{publics, Agrees}
-use Rattle.mz_match.proofs.Lists.{length-env}
+use Rattle.mz_match.proofs.Offered.{length-env}
 use Rattle.mz_axioms.specs.Gaps.{AreGapsOf}
 use Rattle.mz_axioms.proofs.Increasing.{get-within}
 use Rattle.mz_axioms.proofs.Placing.{declared-at}

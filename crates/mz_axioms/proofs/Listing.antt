@@ -5,13 +5,11 @@ use Rattle.std.proofs.lemmas.List.{map-append}
 use Rattle.std.proofs.lemmas.List.Elements.{All-nil, All-cons, All-append}
 use Rattle.mz_logic.specs.Declaration.{Declaration, Assertion, sort_decl, term_decl, assertion_decl}
 use Rattle.mz_logic.specs.LegalLists.{Statement, declarations, MayBeLocal, IsProvedBy, Legal, gap_free}
-use Rattle.mz_logic.proofs.Instance.{one_at, none_some}
-use Rattle.mz_logic.proofs.Closing.{legal_at}
+use Rattle.mz_logic.proofs.Offered.{one_at, none_some, legal_at}
 use Rattle.mz_layout.specs.Tables.{list_at}
 use Rattle.mz_cmd.specs.StatementList.{statement_at}
 use Rattle.mz_binary.specs.Good.{Good}
-use Rattle.mz_binary.proofs.LegalChains.{good-legal}
-use Rattle.mz_binary.proofs.WholeFiles.{one-list, good-spelled}
+use Rattle.mz_binary.proofs.Offered.{good-legal, one-list, good-spelled}
 use Rattle.mz_match.specs.Match.{publics, Agrees}
 use Rattle.mz_match.specs.Verdict.{Accepts}
 use Rattle.mz_axioms.specs.declared.rows.Place.{Place}

@@ -6,17 +6,13 @@ use Rattle.mz_logic.specs.Declaration.{Assertion, Declaration, sort_decl, term_d
 use Rattle.mz_logic.specs.Derivations.{without_gaps}
 use Rattle.mz_logic.specs.LegalLists.{Statement, declarations, IsProvedBy, IsProvedIfTheorem, LegalAfter, LegalBy, gap_free}
 use Rattle.mz_logic.specs.Closed.{AreSupports, by_number, on_support}
-use Rattle.mz_logic.proofs.Instance.{one_at, none_some}
-use Rattle.mz_logic.proofs.Extend.{assertions-append}
-use Rattle.mz_logic.proofs.Graft.{cites_more}
-use Rattle.mz_logic.proofs.Closing.{legal_at, legal_by_supports}
+use Rattle.mz_logic.proofs.Offered.{one_at, none_some, assertions-append, cites_more, legal_at, legal_by_supports}
 use Rattle.mz_layout.specs.Tables.{list_at}
 use Rattle.mz_soundness.specs.Sound.{IsCited, used_by, cites_as}
 use Rattle.mz_soundness.specs.FileRows.{body_bytes}
 use Rattle.mz_binary.specs.Chains.{IsGoodStatement, GoodTo}
 use Rattle.mz_binary.specs.Good.{Good}
-use Rattle.mz_binary.proofs.ChainLaws.{chain-more}
-use Rattle.mz_binary.proofs.LegalChains.{good-legal, cite-as-bodies}
+use Rattle.mz_binary.proofs.Offered.{chain-more, good-legal, cite-as-bodies}
 use Rattle.mz_axioms.specs.Commands.{IsCitedIn}
 use Rattle.mz_binary.specs.Gapped.{AssertionBody, body_there, place_after, body_of, bodies_from, bodies_of}
 use Rattle.mz_axioms.specs.Supports.{Cites, IsKind, InSupport, within_support}

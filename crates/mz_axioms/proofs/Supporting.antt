@@ -1,7 +1,7 @@
 -- Supports, citation by citation, and as the list of bodies goes on.
 use Rattle.std.proofs.Common.{◌≡◌, ◌∙◌, ◌<◌, ◌+◌, ℕ, zero, suc, Bool, true, false, List, [], ◌∷◌, ◌++◌, length, slice_get, refl, sym, ap, subst, inl, inr, arith}
 use Rattle.std.specs.Prelude.{◌↔◌}
-use Rattle.mz_logic.proofs.Instance.{one_at}
+use Rattle.mz_logic.proofs.Offered.{one_at}
 use Rattle.mz_binary.specs.Gapped.{AssertionBody}
 use Rattle.mz_axioms.specs.Supports.{Cites, IsKind, InSupport, by_axiom, by_theorem}
 use Rattle.mz_axioms.specs.Rows.{ComesTo}

@@ -4,8 +4,8 @@ use Rattle.std.proofs.lemmas.List.Elements.{Contains-get_or}
 use Rattle.mz_logic.specs.Declaration.{Declaration}
 use Rattle.mz_spec.specs.State.{Entry, env_of}
 use Rattle.mz_spec.specs.Spec.{SpecMakes}
-use Rattle.mz_spec.proofs.OneSpec.{one-reading}
-use Rattle.mz_match.proofs.Lists.{length-env}
+use Rattle.mz_spec.proofs.Offered.{one-reading}
+use Rattle.mz_match.proofs.Offered.{length-env}
 use Rattle.mz_axioms.specs.Lists.{TheoremSupport}
 use Rattle.mz_axioms.specs.Text.{IsNamed, AreOfSome}
 use Rattle.mz_axioms.proofs.Increasing.{get-within}

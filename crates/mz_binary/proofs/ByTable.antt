@@ -1,7 +1,7 @@
 -- What is good by address is good by the published table.
 use Rattle.std.proofs.Common.{◌≡◌, ℕ, Bool, true, false, List, [], Option, None, Some, Result, Ok, Err, refl}
 use Rattle.mz_checks.specs.Checks.{Checks, AllHold}
-use Rattle.mz_checks.proofs.InOrder.{all_hold-both, all_hold-first, all_hold-rest}
+use Rattle.mz_checks.proofs.Offered.{all_hold-both, all_hold-first, all_hold-rest}
 use Rattle.mz_cmd.specs.declared.rule.K.{K}
 use Rattle.mz_cmd.specs.declared.code.StatementCode.{StatementCode}
 use Rattle.mz_cmd.specs.declared.code.StatementCode.TheVariants as codes
@@ -19,9 +19,9 @@ use Rattle.mz_soundness.specs.FileRows.{Taken, taken_by, term_of_file, thm_of_fi
 use Rattle.mz_soundness.specs.Lists.{definition_of, assertion_of}
 use Rattle.mz_soundness.specs.RowWords.{param_checks, word_checks}
 use Rattle.mz_soundness.specs.Tables.{Tables, Heading}
-use Rattle.mz_soundness.proofs.Outcomes.{bodies-checked}
+use Rattle.mz_soundness.proofs.Offered.{bodies-checked}
 use Rattle.mz_numbered.specs.Numbered.{portable}
-use Rattle.mz_numbered.proofs.ByTable.{bodies-strict}
+use Rattle.mz_numbered.proofs.Offered.{bodies-strict}
 use Rattle.mz_binary.specs.declared.standard.Standard.{Standard}
 use Rattle.mz_binary.specs.declared.standard.Standard.TheVariants.{Published, Portable}
 use Rattle.mz_binary.specs.Standards.{profile_of, lets_gaps, strict_standard, by_table}

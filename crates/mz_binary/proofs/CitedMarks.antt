@@ -7,7 +7,7 @@ use Rattle.mz_cmd.specs.declared.code.ProofCode.{ProofCode}
 use Rattle.mz_cmd.specs.declared.code.ProofCode.TheVariants as code
 use Rattle.mz_cmd.specs.Codes.{proof_code}
 use Rattle.mz_cmd.specs.Reading.{first_command}
-use Rattle.mz_unification.proofs.Turning.{command-long, drop-less}
+use Rattle.mz_unification.proofs.Offered.{command-long, drop-less}
 use Rattle.mz_soundness.specs.Sound.{IsCitation, CitesWithin}
 use Rattle.mz_binary.specs.Gapped.{CitesMarked, IsMarked, is_citing, mark_in, cites_mark}
 

@@ -1,7 +1,7 @@
 -- The commands executed in what is left of a list.
 use Rattle.std.proofs.Common.{◌≡◌, ◌<◌, ◌≤◌, ◌+◌, ◌∙◌, ℕ, suc, List, length, Result, Ok, Err, refl, sym, ap, arith, mul-suc, ◌-◌, ◌*◌}
 use Rattle.mz_checks.specs.Checks.{FailsFirst, Judges}
-use Rattle.mz_checks.proofs.CheckLaws.{all_hold-excludes}
+use Rattle.mz_checks.proofs.Offered.{all_hold-excludes}
 use Rattle.mz_cmd.specs.declared.rule.K.{K}
 use Rattle.mz_layout.specs.Tables.{list_at}
 use Rattle.mz_layout.specs.Layout.{Layout, layout_checks}

@@ -2,7 +2,7 @@
 use Rattle.std.proofs.Common.{◌≡◌, ◌+◌, ◌*◌, ℕ, Bool, true, false, cond, List, length, drop, Some, None, refl}
 use Rattle.std.specs.Prelude.{MatchBool, ⊤}
 use Rattle.mz_checks.specs.Checks.{Checks, AllHold, demand}
-use Rattle.mz_checks.proofs.InOrder.{all_hold-first, all_hold-rest, all_hold-rows}
+use Rattle.mz_checks.proofs.Offered.{all_hold-first, all_hold-rest, all_hold-rows}
 use Rattle.mz_cmd.specs.declared.code.StatementCode.{StatementCode}
 use Rattle.mz_cmd.specs.declared.code.StatementCode.TheVariants as codes
 use Rattle.mz_cmd.specs.declared.rule.K.{K}
@@ -10,17 +10,16 @@ use Rattle.mz_cmd.specs.declared.rule.K.TheVariants as rules
 use Rattle.mz_logic.specs.Words.{binders_of, result_of}
 use Rattle.mz_logic.specs.declared.binder.SortMods.{SortMods}
 use Rattle.mz_logic.specs.declared.word.Word.{Word}
-use Rattle.mz_logic.proofs.WordsAsParams.{words_say_results}
+use Rattle.mz_logic.proofs.Offered.{words_say_results}
 use Rattle.mz_layout.specs.Tables.{TermRow as TermRecord, mods_of, term_row, thm_row}
 use Rattle.mz_soundness.specs.Tables.{Tables, Heading}
 use Rattle.mz_soundness.specs.Bodies.{Runs, body_checks}
 use Rattle.mz_soundness.specs.Sound.{AreRowParams, IsRowResult}
 use Rattle.mz_soundness.specs.Lists.{Body, Entry, a_sort, a_term, an_assertion, definition_of, assertion_of, BodyIsGood, IsGoodEntry}
-use Rattle.mz_soundness.proofs.Outcomes.{bodies-checked}
 use Rattle.mz_soundness.specs.RowWords.{param_check, param_checks, word_checks, IsResultWord}
 use Rattle.mz_soundness.specs.FileRows.{Taken, stream_of, term_of_file, thm_of_file, rows_taken, body_bytes}
 use Rattle.mz_binary.specs.Checking.{term_body_checks, term_checks, thm_checks, kind_checks}
-use Rattle.mz_soundness.proofs.RightWords.{right-words}
+use Rattle.mz_soundness.proofs.Offered.{bodies-checked, right-words}
 use Rattle.mz_binary.specs.declared.standard.Standard.{Standard}
 use Rattle.mz_binary.specs.Standards.{lets_gaps, profile_of}
 use Rattle.mz_binary.proofs.ByTable.{runs-by-table}

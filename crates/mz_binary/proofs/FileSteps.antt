@@ -19,7 +19,7 @@ use Rattle.mz_soundness.specs.Tables.{Heading}
 use Rattle.mz_soundness.specs.Bodies.{body_run, body_steps, body_start}
 use Rattle.mz_soundness.specs.Laws.{StreamsWithin}
 use Rattle.mz_soundness.specs.Lists.{assertion_of}
-use Rattle.mz_soundness.proofs.BodyRuns.{steps-le}
+use Rattle.mz_soundness.proofs.Offered.{steps-le}
 use Rattle.mz_soundness.specs.FileRows.{Taken, nothing_taken, stream_of, term_of_file, thm_of_file, rows_taken, body_bytes}
 use Rattle.mz_binary.specs.FileRun.{Passing, test, test_params, test_words, is_empty_body, with_sort, with_term, with_thm, all_taken, may_stand, Found, list_ends, stands_alone, has_body, onward, if_runs, run_found, find_sort, find_term_body, find_term, find_thm, find_kind, find_of, find_at, test_layout, found_steps, follow_steps, list_steps, steps_after}
 use Rattle.mz_binary.specs.WholeLaws.{StepsOfAFile}

@@ -4,7 +4,7 @@ use Rattle.std.specs.Prelude.{nat_lt}
 use Rattle.std.specs.Bool.{Decides as IsDecidedBy}
 use Rattle.std.proofs.lemmas.Bool.Decides.{Decides-ltb}
 use Rattle.mz_checks.specs.Checks.{Checks, AllHold, FailsFirst, Judges}
-use Rattle.mz_checks.proofs.CheckLaws.{all_hold-excludes, fails_first-unique}
+use Rattle.mz_checks.proofs.Offered.{all_hold-excludes, fails_first-unique}
 use Rattle.mz_cmd.specs.declared.code.StatementCode.{StatementCode}
 use Rattle.mz_cmd.specs.declared.rule.K.{K}
 use Rattle.mz_cmd.specs.declared.rule.K.TheVariants as rules

@@ -4,8 +4,7 @@ use Rattle.mz_cmd.specs.StatementList.{statement_at}
 use Rattle.mz_logic.specs.Declaration.{Declaration, Assertion, assertion_decl, assertions}
 use Rattle.mz_logic.specs.Derivations.{without_gaps}
 use Rattle.mz_logic.specs.LegalLists.{Statement, declarations, IsProvedBy, LegalBy, allowed_with}
-use Rattle.mz_logic.proofs.Closing.{legal_list_is_closed}
-use Rattle.mz_logic.proofs.Graft.{cites_more}
+use Rattle.mz_logic.proofs.Offered.{legal_list_is_closed, cites_more}
 use Rattle.mz_layout.specs.Tables.{list_at}
 use Rattle.mz_soundness.specs.FileRows.{body_bytes}
 use Rattle.mz_soundness.specs.Gapped.{free_of}

@@ -10,8 +10,7 @@ use Rattle.mz_cmd.specs.Codes.{statement_byte}
 use Rattle.mz_cmd.specs.StatementList.{statement_at}
 use Rattle.mz_logic.specs.Declaration.{Declaration, Assertion, sort_decl, term_decl, assertion_decl, assertions}
 use Rattle.mz_logic.specs.LegalLists.{Statement}
-use Rattle.mz_logic.proofs.Instance.{one_at, none_some}
-use Rattle.mz_logic.proofs.Extend.{assertions-append}
+use Rattle.mz_logic.proofs.Offered.{one_at, none_some, assertions-append}
 use Rattle.mz_layout.specs.Tables.{list_at, thm_count, thm_row}
 use Rattle.mz_unification.specs.Steps.{◌>>◌ as ◌then◌}
 use Rattle.mz_soundness.specs.Lists.{assertion_of}

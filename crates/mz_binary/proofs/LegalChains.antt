@@ -10,7 +10,7 @@ use Rattle.mz_cmd.specs.StatementList.{statement_at}
 use Rattle.mz_logic.specs.Declaration.{Declaration}
 use Rattle.mz_logic.specs.Legality.{IsLegalEnv}
 use Rattle.mz_logic.specs.LegalLists.{Statement, IsProvedBy, IsLegalStatement, LegalAfter, LegalBy, allowed_with}
-use Rattle.mz_logic.proofs.LegalIsRight.{legal_push}
+use Rattle.mz_logic.proofs.Offered.{legal_push}
 use Rattle.mz_layout.specs.Tables.{list_at}
 use Rattle.mz_soundness.specs.Tables.{Declares}
 use Rattle.mz_soundness.specs.Sound.{cites_as}

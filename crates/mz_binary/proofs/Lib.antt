@@ -22,3 +22,4 @@ pub mod Running
 pub mod GapMarks
 pub mod GapFree
 pub mod CitedMarks
+pub mod Offered

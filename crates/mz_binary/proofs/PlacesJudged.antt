@@ -7,7 +7,7 @@ use Rattle.std.proofs.lemmas.Bool.{or_cases, or_left, or_right, cases_eq, eqb-tr
 use Rattle.std.proofs.lemmas.Bool.Decides.{Decides-eqb, Decides-ltb, Decides-and, Decides-or}
 use Rattle.std.proofs.lemmas.Slice.Eq.{bytes_eq-Decides}
 use Rattle.mz_checks.specs.Checks.{Checks, demand, ◌>>◌, each_in_order, AllHold, FailsFirst, Judges}
-use Rattle.mz_checks.proofs.InOrder.{fails-before, fails-after, all_hold-both, judges-after, Decides, decides-whole}
+use Rattle.mz_checks.proofs.Offered.{fails-before, fails-after, all_hold-both, judges-after, Decides, decides-whole}
 use Rattle.mz_cmd.specs.declared.rule.K.{K}
 use Rattle.mz_unification.specs.Steps.{◌>>=◌, ◌>>◌ as ◌then◌}
 use Rattle.mz_cmd.specs.declared.rule.K.TheVariants.{Header, Table}
@@ -27,7 +27,7 @@ use Rattle.mz_logic.specs.declared.binder.SortMods.{SortMods}
 use Rattle.mz_logic.specs.declared.word.Word.{Word}
 use Rattle.mz_layout.specs.Tables.{TermRow as TermRecord}
 use Rattle.mz_unification.specs.Tests.{has_bit}
-use Rattle.mz_unification.proofs.TestLaws.{bit-set, bit-not-set}
+use Rattle.mz_unification.proofs.Offered.{bit-set, bit-not-set}
 use Rattle.mz_soundness.specs.Bodies.{body_run, body_checks}
 use Rattle.mz_soundness.specs.Bodies as bodies
 use Rattle.mz_soundness.specs.Lists.{definition_of, assertion_of}

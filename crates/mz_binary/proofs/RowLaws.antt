@@ -3,7 +3,7 @@ use Rattle.std.proofs.Common.{◌≡◌, ◌⊎◌, ◌<◌, ◌∙◌, ℕ, Boo
 use Rattle.std.specs.Prelude.{◌+◌, ◌*◌, ⊤, MatchBool}
 use Rattle.std.proofs.lemmas.Option.{slice_get_within}
 use Rattle.mz_checks.specs.Checks.{Checks, AllHold, demand}
-use Rattle.mz_checks.proofs.InOrder.{all_hold-first, all_hold-rest, all_hold-rows}
+use Rattle.mz_checks.proofs.Offered.{all_hold-first, all_hold-rest, all_hold-rows}
 use Rattle.mz_cmd.specs.declared.code.StatementCode.{StatementCode}
 use Rattle.mz_cmd.specs.declared.code.StatementCode.TheVariants as codes
 use Rattle.mz_cmd.specs.declared.rule.K.{K}
@@ -18,7 +18,7 @@ use Rattle.mz_logic.specs.declared.binder.Binder.{Binder}
 use Rattle.mz_logic.specs.declared.binder.SortMods.{SortMods}
 use Rattle.mz_logic.specs.declared.word.Word.{Word}
 use Rattle.mz_layout.specs.Tables.{TermRow, tables_of, sort_count, term_row, thm_row}
-use Rattle.mz_layout.proofs.TableLists.{length-sorts, slice_get-sorts}
+use Rattle.mz_layout.proofs.Offered.{length-sorts, slice_get-sorts}
 use Rattle.mz_unification.specs.Spells.{SpellsForm}
 use Rattle.mz_soundness.specs.Bodies.{body_checks}
 use Rattle.mz_soundness.specs.Lists.{assertion_of}

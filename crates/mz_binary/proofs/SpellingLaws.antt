@@ -4,7 +4,7 @@ use Rattle.std.specs.Prelude.{MatchBool}
 use Rattle.mz_cmd.specs.declared.statement.StmtAt.TheVariants.{Head}
 use Rattle.mz_logic.specs.Declaration.{Declaration, sort_decl, term_decl, assertion_decl, terms, signatures, assertions}
 use Rattle.mz_logic.specs.LegalLists.{Statement}
-use Rattle.mz_unification.proofs.OneSpelling.{one-assertion, one-term}
+use Rattle.mz_unification.proofs.Offered.{one-assertion, one-term}
 use Rattle.mz_soundness.specs.FileRows.{term_of_file, thm_of_file}
 use Rattle.mz_binary.specs.Spelling.{IsSpelled, IsKindOf, SpellsRow, is_local_code}
 use Rattle.mz_binary.specs.Chains.{IsGoodStatement}

@@ -2,7 +2,7 @@
 use Rattle.std.proofs.Common.{◌≡◌, ◌⊎◌, ◌<◌, ◌≤◌, ◌+◌, ◌-◌, ◌∙◌, ℕ, zero, suc, List, [], ◌∷◌, ◌++◌, length, Option, Some, Result, Ok, Err, refl, sym, ap, subst, inl, inr, arith, length-append}
 use Rattle.std.specs.Prelude.{◌↔◌}
 use Rattle.mz_checks.specs.Checks.{AllHold, FailsFirst, Judges}
-use Rattle.mz_checks.proofs.CheckLaws.{all_hold-excludes, fails_first-unique}
+use Rattle.mz_checks.proofs.Offered.{all_hold-excludes, fails_first-unique}
 use Rattle.mz_cmd.specs.declared.rule.K.{K}
 use Rattle.mz_cmd.specs.declared.rule.Refusal.{Refusal}
 use Rattle.mz_cmd.specs.declared.code.StatementCode.{StatementCode}
@@ -14,10 +14,10 @@ use Rattle.mz_cmd.specs.StatementList.{statement_at}
 use Rattle.mz_logic.specs.Declaration.{Declaration}
 use Rattle.mz_logic.specs.Legality.{IsLegalEnv}
 use Rattle.mz_logic.specs.LegalLists.{Statement}
-use Rattle.mz_logic.proofs.LegalIsRight.{legal_push}
+use Rattle.mz_logic.proofs.Offered.{legal_push}
 use Rattle.mz_layout.specs.Tables.{list_at}
 use Rattle.mz_layout.specs.Layout.{Layout, layout_checks}
-use Rattle.mz_layout.proofs.Parts.{parts-of_layout}
+use Rattle.mz_layout.proofs.Offered.{parts-of_layout}
 use Rattle.mz_soundness.specs.Tables.{Declares}
 use Rattle.mz_soundness.specs.FileRows.{Taken, nothing_taken, taken_by, rows_taken}
 use Rattle.mz_binary.specs.Spelling.{IsSpelled}

@@ -18,8 +18,7 @@ use Rattle.mz_bodies.specs.declared.task.Task.{Task as Coded}
 use Rattle.mz_bodies.specs.Stages.{HasDummiesBehind, Begins}
 use Rattle.mz_bodies.proofs.Building.{nothing_built, none_of}
 use Rattle.mz_bodies.proofs.Using.{using_begun}
-use Rattle.mz_shared.proofs.Making.{grows_self}
-use Rattle.mz_shared.proofs.Owned.{variable_id}
+use Rattle.mz_shared.proofs.Offered.{grows_self, variable_id}
 
 -- the parameters in the heap, and those that are met
 heap_at : (j : ℕ) (ps : List Binder) (x : ℕ) → x < length ps → slice_get (map expr (variables_from j ps)) x ≡ Some (expr (var (j + x)))

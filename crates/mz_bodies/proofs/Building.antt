@@ -19,7 +19,7 @@ use Rattle.mz_bodies.specs.Pushing.{pushes}
 use Rattle.mz_bodies.specs.Lengths.{is_one_of}
 use Rattle.mz_bodies.specs.Making.{to_make, IsUnder, IsRising, AreNew, IsFresh}
 use Rattle.mz_bodies.specs.Going.{HasPlace, HasBuilt}
-use Rattle.mz_shared.proofs.Making.{in_grown, tree_grown}
+use Rattle.mz_shared.proofs.Offered.{in_grown, tree_grown}
 use Rattle.mz_bodies.proofs.Lists.{same_or_not, last_or_before}
 use Rattle.mz_bodies.proofs.Shortening.{one_or_rest}
 

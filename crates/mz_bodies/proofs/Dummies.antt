@@ -17,7 +17,7 @@ use Rattle.mz_steps.specs.Works.{Work}
 use Rattle.mz_steps.specs.Steps.{Step, command_bytes}
 use Rattle.std.proofs.lemmas.Option.{slice_get_within}
 use Rattle.mz_shared.specs.Places.{place_of}
-use Rattle.mz_shared.proofs.Owned.{variable_id}
+use Rattle.mz_shared.proofs.Offered.{variable_id}
 use Rattle.mz_bodies.specs.Owes.{Task, push, Owes}
 use Rattle.mz_bodies.specs.Sight.{parts}
 use Rattle.mz_bodies.specs.Going.{Job, IsGoing}

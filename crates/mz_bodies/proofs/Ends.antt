@@ -34,7 +34,7 @@ use Rattle.mz_bodies.specs.Stages.{job, Begins, Rests, leaving, to_use, spending
 use Rattle.mz_bodies.specs.declared.body.Before.{Before}
 use Rattle.mz_bodies.specs.declared.body.Body.{Body}
 use Rattle.mz_bodies.specs.declared.cells.Cell.{Cell}
-use Rattle.mz_shared.proofs.Making.{in_grown, tree_grown}
+use Rattle.mz_shared.proofs.Offered.{in_grown, tree_grown}
 use Rattle.mz_bodies.proofs.Building.{builds_steps, nothing_more, none_of}
 use Rattle.mz_bodies.proofs.Lists.{slice_last, last_or_before}
 use Rattle.mz_bodies.proofs.Keeping.{cells_kept}

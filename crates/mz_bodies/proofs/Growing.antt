@@ -14,7 +14,7 @@ use Rattle.mz_store.specs.Sharing.{Sharing, AreIn, Holds, tree_of, trees_of}
 use Rattle.mz_store.specs.declared.item.Id.{Id}
 use Rattle.mz_unification.specs.Profile.{Item, expr, proof, obligation}
 use Rattle.mz_unification.specs.Spells.{trees_of as listed_back}
-use Rattle.mz_unification.proofs.Trees.{trees_of-listed}
+use Rattle.mz_unification.proofs.Offered.{trees_of-listed}
 use Rattle.mz_mmu.specs.Proof.{Proof, by_conv, by_gap}
 use Rattle.mz_steps.specs.Works.{Work}
 use Rattle.mz_steps.specs.Steps.{stacked, above, Step, IsCited}
@@ -32,7 +32,7 @@ use Rattle.mz_bodies.specs.Using.{let_uses, ComesTo}
 use Rattle.mz_bodies.proofs.Using.{or_assoc, pushes_come}
 use Rattle.mz_bodies.specs.declared.cells.Cell.{Cell}
 use Rattle.mz_bodies.proofs.Building.{built_grown, rising_grown, pushes_fresh}
-use Rattle.mz_shared.proofs.Making.{in_grown, tree_grown, grows_on}
+use Rattle.mz_shared.proofs.Offered.{in_grown, tree_grown, grows_on}
 use Rattle.mz_bodies.specs.Lengths.{waits}
 use Rattle.mz_bodies.specs.Sight.{place_at}
 use Rattle.mz_bodies.proofs.Shortening.{command_short, command_one, bytes_grown, pushes_bytes, pushes_begun, pushes_clear}

@@ -6,13 +6,13 @@ use Rattle.mz_cmd.specs.declared.code.ProofCode.TheVariants as code
 use Rattle.mz_logic.specs.Tree.{Tree, var, app, listed}
 use Rattle.mz_logic.specs.Declaration.{Declaration, signatures}
 use Rattle.mz_logic.specs.declared.binder.Binder.{Binder}
-use Rattle.mz_logic.proofs.Extend.{extends_append}
+use Rattle.mz_logic.proofs.Offered.{extends_append}
 use Rattle.mz_store.specs.Sharing.{Sharing, IsIn, tree_of, head_of, operands_of, sort_of}
 use Rattle.mz_store.specs.declared.item.Id.{Id}
 use Rattle.mz_unification.specs.Profile.{Item, expr}
 use Rattle.mz_unification.specs.Spells.{trees_of as listed_back}
 use Rattle.mz_unification.specs.Sorted.{Sorted}
-use Rattle.mz_unification.proofs.Trees.{trees_of-listed}
+use Rattle.mz_unification.proofs.Offered.{trees_of-listed}
 use Rattle.mz_steps.specs.Works.{Work}
 use Rattle.mz_steps.specs.Steps.{stacked, kept, Step, command_bytes}
 use Rattle.mz_shared.specs.Places.{place_of}

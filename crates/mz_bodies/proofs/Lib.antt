@@ -16,3 +16,4 @@ mod Ends
 pub mod Paying
 mod Shortening
 pub mod Using
+pub mod Offered

@@ -30,7 +30,7 @@ use Rattle.mz_bodies.specs.Using.{let_uses, ComesTo}
 use Rattle.mz_bodies.specs.Going.{Job, MayDo, spelled, still, IsGoing}
 use Rattle.mz_bodies.specs.declared.cells.Cell.{Cell}
 use Rattle.mz_bodies.proofs.Building.{nothing_more, rest_fresh, parts_fresh}
-use Rattle.mz_shared.proofs.Making.{in_grown, tree_grown}
+use Rattle.mz_shared.proofs.Offered.{in_grown, tree_grown}
 use Rattle.std.proofs.lemmas.Option.{get_or_from_slice_get}
 use Rattle.mz_bodies.proofs.Shortening.{command_short, pushes_bytes, pushes_begun, pushes_clear}
 use Rattle.mz_bodies.proofs.Lists.{rest_whole}

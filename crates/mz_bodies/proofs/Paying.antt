@@ -11,11 +11,11 @@ use Rattle.mz_logic.specs.Sorts.{HasSort, Fits, IsSorted}
 use Rattle.mz_logic.specs.Legality.{IsLegalEnv}
 use Rattle.mz_logic.specs.Conversions.{Conversion, Conversions, refl_conv, sym_conv, cong_conv, unfold_conv, gap_conv, no_convs, more_convs, IsDefined, AreFresh, Between, AllBetween}
 use Rattle.mz_logic.specs.declared.binder.Binder.{Binder}
-use Rattle.mz_logic.proofs.LegalIsRight.{legal_env_is_right}
+use Rattle.mz_logic.proofs.Offered.{legal_env_is_right}
 use Rattle.mz_store.specs.Sharing.{Sharing, Holds, tree_of}
 use Rattle.mz_store.specs.declared.item.Id.{Id}
 use Rattle.mz_unification.specs.Profile.{Item, expr, obligation}
-use Rattle.mz_unification.proofs.Trees.{trees_of-listed}
+use Rattle.mz_unification.proofs.Offered.{trees_of-listed}
 use Rattle.mz_soundness.specs.ProofMachine.{sides}
 use Rattle.mz_steps.specs.Works.{Work}
 use Rattle.mz_steps.specs.Steps.{stacked, Step, command_bytes}
@@ -36,7 +36,7 @@ use Rattle.mz_bodies.proofs.Building.{rest_fresh}
 use Rattle.mz_bodies.proofs.Lists.{rest_whole}
 use Rattle.mz_bodies.proofs.Standing.{proving, may_rest, may_be}
 use Rattle.mz_bodies.proofs.Using.{or_turn}
-use Rattle.mz_shared.proofs.Owned.{reach_of_sort}
+use Rattle.mz_shared.proofs.Offered.{reach_of_sort}
 use Rattle.mz_bodies.proofs.Moves.{at_last, replaced, given}
 use Rattle.mz_bodies.proofs.Growing.{grown, rest_cost}
 

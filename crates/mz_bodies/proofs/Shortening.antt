@@ -20,7 +20,7 @@ use Rattle.mz_bodies.specs.Weights.{proof_weight}
 use Rattle.mz_bodies.specs.Owes.{Task, prove, prove_all, cite, push, make, pay, pay_all, give, save, Turns, Owes}
 use Rattle.mz_bodies.specs.Pushing.{pushes}
 use Rattle.mz_bodies.specs.Lengths.{task_bytes, tasks_bytes, begun, is_one_of, waits_at, waits, IsOutside, itself, farther, IsSeen, Sees, IsClear}
-use Rattle.mz_shared.proofs.Making.{tree_grown}
+use Rattle.mz_shared.proofs.Offered.{tree_grown}
 use Rattle.mz_bodies.specs.declared.cells.Cell.{Cell}
 use Rattle.mz_bodies.proofs.Lists.{get_end, same_or_not}
 use Rattle.mz_bodies.proofs.Scoping.{outer_same, links_long}

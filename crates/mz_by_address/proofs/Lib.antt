@@ -6,3 +6,4 @@ pub mod RowsGo
 pub mod Making
 pub mod SharedRuns
 pub mod Statements
+pub mod Offered

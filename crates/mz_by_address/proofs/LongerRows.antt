@@ -5,14 +5,13 @@ use Rattle.std.proofs.lemmas.List.{map-append}
 use Rattle.mz_logic.specs.Tree.{Tree, Trees, var, app, none, more}
 use Rattle.mz_logic.specs.Signature.{Signature}
 use Rattle.mz_logic.specs.declared.binder.Binder.{Binder}
-use Rattle.mz_logic.proofs.Extend.{extends_append}
-use Rattle.mz_logic.proofs.Fresh.{split_at}
+use Rattle.mz_logic.proofs.Offered.{extends_append, split_at}
 use Rattle.mz_unification.specs.Streams.{UnifyCommand}
 use Rattle.mz_unification.specs.Spells.{Marks, marked, HasOperands, TermRow, at_first}
-use Rattle.mz_unification.proofs.Inverting.{some_is}
+use Rattle.mz_unification.proofs.Offered.{some_is}
 use Rattle.mz_streams.specs.Writing.{body_spelled}
 use Rattle.mz_streams.specs.Sharing.{Built, Builds, BuildsAll}
-use Rattle.mz_streams.proofs.Texts.{definitions-shared}
+use Rattle.mz_streams.proofs.Offered.{definitions-shared}
 use Rattle.mz_by_address.specs.SharedRows.{SharesBody, IsSharedRow}
 use Rattle.mz_by_address.specs.Laws.{SharedTextsShare, WrittenDefinitionsShare, SharedAtFirst, SharedWithTerm}
 

@@ -14,7 +14,7 @@ use Rattle.mz_logic.specs.Declaration.{Declaration, signatures}
 use Rattle.mz_logic.specs.declared.binder.Binder.{Binder}
 use Rattle.mz_unification.specs.Steps.{◌>>=◌, Turn, over}
 use Rattle.mz_unification.specs.Profile.{Item, expr, proof, obligation, conversion}
-use Rattle.mz_unification.proofs.Inverting.{from_bind, some_is, taken-is}
+use Rattle.mz_unification.proofs.Offered.{from_bind, some_is, taken-is}
 use Rattle.mz_soundness.specs.Tables.{Tables, State, Heading}
 use Rattle.mz_soundness.specs.ProofMachine.{push, saved, built as application, proof_row, proof_end}
 use Rattle.mz_soundness.specs.Bodies.{body_turn}
@@ -23,8 +23,8 @@ use Rattle.mz_steps.specs.Steps.{Step, command_bytes}
 use Rattle.mz_steps.specs.Endings.{spelled_body, MayStand}
 use Rattle.mz_steps.specs.Laws.{AreRightTrees, IsRight}
 use Rattle.mz_steps.specs.SharedBodies.{top, built, Builds, AreDistinct}
-use Rattle.mz_steps.proofs.Bytes.{drop-front}
-use Rattle.mz_streams.proofs.Own.{map-back}
+use Rattle.mz_steps.proofs.Offered.{drop-front}
+use Rattle.mz_streams.proofs.Offered.{map-back}
 use Rattle.mz_numbered.specs.Making.{portable_trees, made_of, row_makes, first_makes, and_then, makes_from, MadeOnce}
 use Rattle.mz_by_address.proofs.Turns.{turn-is, makes-is}
 use Rattle.mz_by_address.proofs.Names.{steps-keep-names, right-both, right-built, known-at, one-tree}

@@ -10,13 +10,12 @@ use Rattle.mz_logic.specs.Declaration.{Declaration, signatures}
 use Rattle.mz_logic.specs.Variables.{Occurs, OccursIn}
 use Rattle.mz_logic.specs.declared.binder.Binder.{Binder}
 use Rattle.mz_unification.specs.Profile.{Item, expr, proof, obligation, conversion}
-use Rattle.mz_unification.proofs.Inverting.{some_is}
+use Rattle.mz_unification.proofs.Offered.{some_is}
 use Rattle.mz_steps.specs.Works.{renamed, all_renamed, name_in, Work}
 use Rattle.mz_steps.specs.Steps.{IsReferred, Step}
 use Rattle.mz_steps.specs.Laws.{AreRightItems, AreRightTrees}
 use Rattle.mz_steps.specs.SharedBodies.{top, built, Builds}
-use Rattle.mz_steps.proofs.Naming.{one-name}
-use Rattle.mz_steps.proofs.Rightness.{trees-more, trees-alike}
+use Rattle.mz_steps.proofs.Offered.{one-name, trees-more, trees-alike}
 
 -- ---- variables that are met
 

@@ -16,15 +16,13 @@ use Rattle.mz_unification.specs.Sorted.{Sorted}
 use Rattle.mz_unification.specs.Profile.{strict, Item, expr, obligation}
 use Rattle.mz_unification.specs.UnifyMachine.{Matching, UnifyState, unify}
 use Rattle.mz_unification.specs.Laws.{unfolding_by}
-use Rattle.mz_unification.proofs.Citations.{length-params}
-use Rattle.mz_unification.proofs.Inverting.{from_bind, from_need, rule_of-ok, taken-is}
-use Rattle.mz_unification.proofs.Trees.{same_tree-refl, listed-trees_of}
+use Rattle.mz_unification.proofs.Offered.{length-params, from_bind, from_need, rule_of-ok, taken-is, same_tree-refl, listed-trees_of}
 use Rattle.mz_soundness.specs.Tables.{Tables, signatures_in, State, Kind, is_axiom, is_theorem, is_definition, Heading}
 use Rattle.mz_soundness.specs.FreeVars.{free_within}
 use Rattle.mz_soundness.specs.ProofMachine.{push, matched_by, unfolding_of, proof_row, own_variables, ends_with, proof_end}
-use Rattle.mz_soundness.proofs.Assertions.{own-are}
+use Rattle.mz_soundness.proofs.Offered.{own-are}
 use Rattle.mz_numbered.specs.Making.{portable_trees}
-use Rattle.mz_numbered.proofs.AskedAlone.{ends-too}
+use Rattle.mz_numbered.proofs.Offered.{ends-too}
 use Rattle.mz_by_address.specs.SharedRows.{SharesBody, IsSharedHeading}
 use Rattle.mz_by_address.proofs.WholeMarks.{shared-stream}
 

@@ -12,13 +12,12 @@ use Rattle.mz_unification.specs.Steps.{◌>>=◌}
 use Rattle.mz_unification.specs.Spells.{trees_of}
 use Rattle.mz_unification.specs.Sorted.{Sorted}
 use Rattle.mz_unification.specs.Profile.{strict, expr, obligation}
-use Rattle.mz_unification.proofs.Inverting.{from_bind}
-use Rattle.mz_unification.proofs.Trees.{fits-length}
+use Rattle.mz_unification.proofs.Offered.{from_bind, fits-length}
 use Rattle.mz_soundness.specs.Tables.{Tables, signatures_in, State, Heading, Declares}
 use Rattle.mz_soundness.specs.Premises.{bound_count}
 use Rattle.mz_soundness.specs.ProofMachine.{proof_row, proof_end}
 use Rattle.mz_soundness.specs.Bodies.{body_start, body_run, Runs}
-use Rattle.mz_soundness.proofs.Assertions.{own-are}
+use Rattle.mz_soundness.proofs.Offered.{own-are}
 use Rattle.mz_steps.specs.Works.{renamed, item_renamed, name_in, Work, work_start, machine}
 use Rattle.mz_steps.specs.Steps.{Step, Steps, command_bytes, run_commands}
 use Rattle.mz_steps.specs.Sameness.{IsSameEnv}
@@ -26,18 +25,10 @@ use Rattle.mz_steps.specs.Endings.{spelled_body, MayStand}
 use Rattle.mz_steps.specs.Bodies.{last_item}
 use Rattle.mz_steps.specs.SharedBodies.{IsSharedBody}
 use Rattle.mz_steps.specs.Laws.{IsRightTree, AreRightItems, DependOnFirst, IsRight}
-use Rattle.mz_steps.proofs.Naming.{deps-kept, renamed-trees}
-use Rattle.mz_steps.proofs.Rightness.{sorted-forward}
-use Rattle.mz_steps.proofs.SameTables.{in-tables}
-use Rattle.mz_steps.proofs.Unfolds.{IsSpelledUnfolding, spelled-unfolding}
-use Rattle.mz_steps.proofs.Running.{steps-run}
-use Rattle.mz_steps.proofs.Bytes.{body-from-run}
-use Rattle.mz_steps.proofs.Starting.{start-right, start-machine}
-use Rattle.mz_steps.proofs.WholeBodies.{bodies-run}
+use Rattle.mz_steps.proofs.Offered.{deps-kept, renamed-trees, sorted-forward, in-tables, IsSpelledUnfolding, spelled-unfolding, steps-run, body-from-run, start-right, start-machine, bodies-run}
 use Rattle.mz_numbered.specs.Numbered.{portable}
 use Rattle.mz_numbered.specs.Making.{portable_trees, makes_from, body_makes, MadeOnce}
-use Rattle.mz_numbered.proofs.AskedAlone.{rows-too}
-use Rattle.mz_numbered.proofs.ByAddress.{shared-run}
+use Rattle.mz_numbered.proofs.Offered.{rows-too, shared-run}
 use Rattle.mz_by_address.specs.SharedRows.{AreSharedRows, IsSharedHeading}
 use Rattle.mz_by_address.specs.Laws.{SharedBodiesRunByAddress}
 use Rattle.mz_by_address.proofs.Turns.{may-stand, end-of}

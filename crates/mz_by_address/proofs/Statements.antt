@@ -8,9 +8,8 @@ use Rattle.mz_unification.specs.Profile.{strict}
 use Rattle.mz_soundness.specs.Bodies.{Runs}
 use Rattle.mz_soundness.specs.Tables.{signatures_in, is_definition, Heading}
 use Rattle.mz_soundness.specs.Lists.{kind_of, assertion_of, definition_of}
-use Rattle.mz_unification.proofs.Inverting.{some_is}
-use Rattle.mz_steps.proofs.Joining.{contexts-depend}
-use Rattle.mz_steps.proofs.SameTables.{in-tables}
+use Rattle.mz_unification.proofs.Offered.{some_is}
+use Rattle.mz_steps.proofs.Offered.{contexts-depend, in-tables}
 use Rattle.mz_numbered.specs.Numbered.{portable}
 use Rattle.mz_by_address.specs.SharedRows.{SharesBody, IsSharedRow, AreSharedRows}
 use Rattle.mz_by_address.specs.Laws.{AssertionsRunByAddress, DefinitionsRunByAddress}

@@ -8,23 +8,19 @@ use Rattle.mz_logic.specs.Tree.{Tree, Trees, var, app, none, more, followed_by, 
 use Rattle.mz_logic.specs.Signature.{Signature}
 use Rattle.mz_logic.specs.Variables.{Occurs}
 use Rattle.mz_logic.specs.declared.binder.Binder.{Binder}
-use Rattle.mz_logic.proofs.Extend.{extends_append}
-use Rattle.mz_logic.proofs.Fresh.{split_at, slice_get-append_add}
+use Rattle.mz_logic.proofs.Offered.{extends_append, split_at, slice_get-append_add}
 use Rattle.mz_unification.specs.Profile.{strict}
 use Rattle.mz_unification.specs.Streams.{of_definition, UnifyCommand}
 use Rattle.mz_unification.specs.Spells.{trees_of, variables_from, dummy_of, Marks, marked, with_dummy, at_first}
 use Rattle.mz_unification.specs.Sorted.{Sorted}
 use Rattle.mz_unification.specs.UnifyMachine.{UnifyState, unify}
 use Rattle.mz_unification.specs.Laws.{instances_of, unfolding_by}
-use Rattle.mz_unification.proofs.Exact.{unfoldings-exact}
-use Rattle.mz_unification.proofs.Inverting.{some_is}
-use Rattle.mz_unification.proofs.Unfolding.{unfolding-is}
+use Rattle.mz_unification.proofs.Offered.{unfoldings-exact, some_is, unfolding-is}
 use Rattle.mz_streams.specs.Sharing.{Built, Builds, BuildsAll, IsWhole}
-use Rattle.mz_streams.proofs.Forgetting.{building-spells}
-use Rattle.mz_streams.proofs.Growing.{at-last}
+use Rattle.mz_streams.proofs.Offered.{building-spells, at-last}
 use Rattle.mz_numbered.specs.Making.{portable_trees}
 use Rattle.mz_numbered.specs.Saving.{AreWhole}
-use Rattle.mz_numbered.proofs.WholeSaves.{whole-streams}
+use Rattle.mz_numbered.proofs.Offered.{whole-streams}
 use Rattle.mz_by_address.specs.SharedRows.{SharesBody}
 
 -- the first of the parameters and dummies are marked

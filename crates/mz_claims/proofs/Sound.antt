@@ -9,8 +9,7 @@ use Rattle.mz_logic.specs.Legality.{IsLegalEnv}
 use Rattle.mz_logic.specs.Conversions.{Between}
 use Rattle.mz_logic.specs.Derivations.{Derivation, Derivations, hypothesis, cite, convert, gap, no_derivs, more_derivs, Derives, AllDerive}
 use Rattle.mz_logic.specs.declared.binder.Binder.{Binder}
-use Rattle.mz_logic.proofs.Instance.{one_at, sort_of_instance}
-use Rattle.mz_logic.proofs.LegalIsRight.{legal_env_is_right}
+use Rattle.mz_logic.proofs.Offered.{one_at, sort_of_instance, legal_env_is_right}
 use Rattle.mz_logic.specs.Sorts.{HasProvable}
 use Rattle.mz_mmu.specs.Gaps.{LeavesOnly, AllLeaveOnly}
 use Rattle.mz_mmu.specs.Proof.{Proof, Proofs, by_hyp, by_name, by_citation, by_conv, by_let, by_gap, no_proofs, more_proofs}
@@ -18,8 +17,8 @@ use Rattle.mz_type.specs.Meaning.{derivation_at, then_deriv, derivation, derivat
 use Rattle.mz_type.specs.Names.{ProofThere, ProofsThere}
 use Rattle.mz_shared.specs.Instances.{InReach}
 use Rattle.mz_bodies.specs.Claims.{claim_at, conclusion_of, proved, all_proved, IsCitable, IsSound, AreSound}
-use Rattle.mz_shared.proofs.Owned.{reach_of_sort}
-use Rattle.mz_bodies.proofs.Paying.{fits_long}
+use Rattle.mz_shared.proofs.Offered.{reach_of_sort}
+use Rattle.mz_bodies.proofs.Offered.{fits_long}
 use Rattle.mz_claims.specs.Laws.{StatedProofsAreSound}
 
 module _ (env : List Declaration) (ctx : List Binder) (hyps : Trees) where

@@ -8,7 +8,7 @@ use Rattle.mz_logic.specs.Derivations.{Derivation, Derivations, no_derivs, more_
 use Rattle.mz_mmu.specs.Proof.{Proof, Proofs, by_hyp, by_name, by_citation, by_conv, by_let, by_gap, no_proofs, more_proofs}
 use Rattle.mz_type.specs.Meaning.{derivation_at, then_deriv, derivation, derivations}
 use Rattle.mz_bodies.specs.Uses.{Use, a_gap, assertion, is_gap, is_assertion, conv_uses, convs_use, uses, some_use}
-use Rattle.mz_bodies.proofs.Using.{or_left, or_right}
+use Rattle.mz_bodies.proofs.Offered.{or_left, or_right}
 use Rattle.mz_claims.specs.Laws.{may_use, allowing, StatedProofsUseWhatTheyMean}
 
 or_cases : (a b : Bool) → (a || b) ≡ true → (a ≡ true) ⊎ (b ≡ true)

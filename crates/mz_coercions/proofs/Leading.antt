@@ -12,7 +12,7 @@ use Rattle.std.specs.BTreeMap as tree
 use Rattle.std.specs.BTreeMap.{BTreeMap, is_at}
 use Rattle.std.specs.Map.{lookup}
 use Rattle.mz_logic.specs.Tree.{Tree, app, none, more}
-use Rattle.mz_tokens.proofs.Lists.{AllSoFar, all_so_far_more, all-members, contains_at, contains_first, contains_last, contains_either, place_last}
+use Rattle.mz_tokens.proofs.Offered.{AllSoFar, all_so_far_more, all-members, contains_at, contains_first, contains_last, contains_either, place_last}
 use Rattle.mz_coercions.specs.declared.coercion.Coercion.{Coercion}
 use Rattle.mz_coercions.specs.declared.firsts.Start.{Start}
 use Rattle.mz_coercions.specs.Coercions.{IsPath, OnePath, Reaches, wrapped}

@@ -11,7 +11,7 @@ use Rattle.mz_logic.specs.Tree.{Tree, app, none, more}
 use Rattle.mz_coercions.specs.declared.coercion.Coercion.{Coercion}
 use Rattle.mz_coercions.specs.Coercions.{IsPath, OnePath, coercion_term, wrapped, Reaches}
 use Rattle.mz_coercions.specs.Answers.{HasLength, MayStart, MayEnd, IsClashAt}
-use Rattle.mz_tokens.proofs.Lists.{place_first, place_last, place_either}
+use Rattle.mz_tokens.proofs.Offered.{place_first, place_last, place_either}
 
 some-same : {A : Type 0} {x y : A} → Some x ≡ Some y → x ≡ y
 some-same e = cc

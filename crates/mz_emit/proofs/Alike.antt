@@ -5,17 +5,15 @@ use Rattle.mz_logic.specs.LegalLists.{Statement as Marked, LegalBy, allowed_with
 use Rattle.mz_layout.specs.Normal.{file_of}
 use Rattle.mz_binary.specs.Chains.{Statements}
 use Rattle.mz_binary.specs.Gapped.{GappedIn}
-use Rattle.mz_binary.proofs.WholeFiles.{one-list}
+use Rattle.mz_binary.proofs.Offered.{one-list}
 use Rattle.mz_mmu.specs.Proof.{Statement}
 use Rattle.mz_sexpr.specs.declared.rule.TextRefusal.{TextRefusal}
 use Rattle.mz_type.specs.Laws.{IsTypedOrFaulty}
 use Rattle.mz_type.specs.Meaning.{marked}
 use Rattle.mz_type.specs.TextOf.{TextOf, TextFault}
 use Rattle.mz_type.specs.Weight.{Passes, IsWithinLimits, byte_bound}
-use Rattle.mz_type.proofs.BothModes.{modes_agree}
-use Rattle.mz_type.proofs.Texts.{stated_is_legal}
-use Rattle.mz_writing.proofs.Drafts.{finished-is-draft}
-use Rattle.mz_writing.proofs.FilesHold.{files-spell}
+use Rattle.mz_type.proofs.Offered.{modes_agree, stated_is_legal}
+use Rattle.mz_writing.proofs.Offered.{finished-is-draft, files-spell}
 use Rattle.mz_emit.specs.Gapped.{proofs_of, IsGappedIn}
 use Rattle.mz_emit.specs.Compiling.{IsBinaryOf, ModesCompileAlike}
 use Rattle.mz_emit.proofs.Finished.{binary_of}

@@ -3,24 +3,21 @@ use Rattle.std.proofs.Common.{Bool, ℕ, ◌≡◌, ◌≤◌, List, [], ◌∷�
 use Rattle.std.specs.Prelude.{◌↔◌}
 use Rattle.mz_logic.specs.Declaration.{sorts}
 use Rattle.mz_logic.specs.LegalLists.{Statement as Marked, LegalBy, allowed_with}
-use Rattle.mz_logic.proofs.Extend.{sorts-append}
+use Rattle.mz_logic.proofs.Offered.{sorts-append}
 use Rattle.mz_layout.specs.Normal.{Parts, file_of, file_length}
 use Rattle.mz_layout.specs.Standing.{Fit}
-use Rattle.mz_layout.proofs.LengthBound.{file-bound}
-use Rattle.mz_layout.proofs.PartsStand.{file-length}
+use Rattle.mz_layout.proofs.Offered.{file-bound, file-length}
 use Rattle.mz_binary.specs.Gapped.{GappedIn}
 use Rattle.mz_mmu.specs.Proof.{Statement}
 use Rattle.mz_type.specs.Meaning.{LegalAsStated, marked}
 use Rattle.mz_type.specs.TypedText.{declared}
 use Rattle.mz_type.specs.Weight.{sort_count, byte_bound, IsWithinLimits}
-use Rattle.mz_type.proofs.Texts.{stated_is_legal}
+use Rattle.mz_type.proofs.Offered.{stated_is_legal}
 use Rattle.mz_streams.specs.SpelledLists.{list_spelled}
 use Rattle.mz_writing.specs.Writing.{IsWrittenAs}
-use Rattle.mz_writing.proofs.BodiesWritten.{written-gapped}
-use Rattle.mz_writing.proofs.FilesHold.{files-good, files-spell}
-use Rattle.mz_writing.proofs.SameLists.{written-same}
-use Rattle.mz_accepting.proofs.Accepted.{files-accepted}
-use Rattle.mz_portability.proofs.AcceptedByAddress.{accepted-by-address}
+use Rattle.mz_writing.proofs.Offered.{written-gapped, files-good, files-spell, written-same}
+use Rattle.mz_accepting.proofs.Offered.{files-accepted}
+use Rattle.mz_portability.proofs.Offered.{accepted-by-address}
 use Rattle.mz_emit.specs.Compiling.{IsBinaryOf}
 use Rattle.mz_emit.specs.Emitting.{HasWritten}
 use Rattle.mz_emit.specs.Gapped.{proofs_of, IsGappedIn}

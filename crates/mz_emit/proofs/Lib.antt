@@ -12,5 +12,4 @@ mod Gapped
 mod Finished
 mod Alike
 mod Looping
-mod Copying
 mod Deciding

@@ -4,7 +4,7 @@ use Rattle.std.proofs.Common.{ℕ, zero, suc, ◌≡◌, ◌+◌, ◌≤◌, ◌
 use Rattle.std.proofs.Math.Seq.{drop-cons}
 use Rattle.std.proofs.Math.ListN.{drop_of_length-le}
 use Rattle.mz_checks.specs.Checks.{AllHold, FailsFirst}
-use Rattle.mz_checks.proofs.InOrder.{Decides, decides-whole, fails-before, fails-after, all_hold-both}
+use Rattle.mz_checks.proofs.Offered.{Decides, decides-whole, fails-before, fails-after, all_hold-both}
 use Rattle.mz_logic.specs.Declaration.{sorts}
 use Rattle.mz_mmu.specs.Proof.{Statement}
 use Rattle.mz_type.specs.TypedText.{statement_at}

@@ -6,8 +6,7 @@ use Rattle.std.proofs.Math.Seq.{drop-nil}
 use Rattle.mz_logic.specs.Declaration.{Declaration}
 use Rattle.mz_mmu.specs.Proof.{Statement}
 use Rattle.mz_mmu.specs.Statements.{no_names}
-use Rattle.mz_mmu.proofs.OnlyDrafts.{only_drafts}
-use Rattle.mz_mmu.proofs.Whole.{are_whole}
+use Rattle.mz_mmu.proofs.Offered.{only_drafts, are_whole}
 use Rattle.mz_type.specs.Meaning.{LegalAsStated}
 use Rattle.mz_type.specs.TextOf.{TextOf}
 use Rattle.mz_type.specs.StatedView.{AreRead, with_decl, statements_of}
@@ -15,7 +14,7 @@ use Rattle.mz_type.specs.declared.typed.Beside.{Beside}
 use Rattle.mz_type.specs.TypedText.{statement_at, declared}
 use Rattle.mz_type.specs.Weight.{IsWithinLimits}
 use Rattle.mz_type.specs.Ready.{StatementsCanBeWords}
-use Rattle.mz_type.proofs.StatementsRead.{statements_there}
+use Rattle.mz_type.proofs.Offered.{statements_there}
 use Rattle.mz_emit.specs.Emitting.{IsLegalWith, HasRows, HasEmitted, IsNext, EmitsNext}
 use Rattle.mz_emit.specs.declared.emitter.Emitter.{Emitter}
 use Rattle.mz_emit.proofs.Following.{follows}

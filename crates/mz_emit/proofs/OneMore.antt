@@ -19,7 +19,7 @@ use Rattle.mz_steps.specs.Sameness.{IsSameForm}
 use Rattle.mz_streams.specs.SpelledLists.{form_spelled, decl_spelled, statement_spelled, list_spelled}
 use Rattle.mz_writing.specs.Growing.{HasOneMore}
 use Rattle.mz_writing.specs.Writing.{SayParams, SaySignature, IsWrittenDeclaration, IsWrittenStatement, IsWrittenAssertion, HaveNoMore, IsWrittenAs}
-use Rattle.mz_writing.proofs.Growing.{writing-grows, rows-counted, appended-next}
+use Rattle.mz_writing.proofs.Offered.{writing-grows, rows-counted, appended-next}
 use Rattle.mz_emit.specs.Emitting.{with_sort, with_term, with_thm, SaysDefinition, SaysAssertion, cost_of, HasWritten}
 use Rattle.mz_emit.specs.Gapped.{StatementUses, SayTheirUses}
 use Rattle.mz_emit.proofs.Gapped.{uses_more}

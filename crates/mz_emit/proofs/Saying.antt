@@ -15,8 +15,7 @@ use Rattle.mz_logic.specs.Variables.{IsBoundAt}
 use Rattle.mz_logic.specs.WordsWritten.{CanBeWords}
 use Rattle.mz_logic.specs.declared.binder.Binder.{Binder}
 use Rattle.mz_logic.specs.declared.binder.SortMods.{SortMods}
-use Rattle.mz_logic.proofs.Lists.{each_from_all}
-use Rattle.mz_logic.proofs.PlainLegality.{assertions_are_sorted, terms_are_sorted}
+use Rattle.mz_logic.proofs.Offered.{each_from_all, assertions_are_sorted, terms_are_sorted}
 use Rattle.mz_soundness.specs.Premises.{bound_count as bound_in}
 use Rattle.mz_mmu.specs.Gaps.{LeavesOnly, SomeLeavesOnly}
 use Rattle.mz_mmu.specs.Laws.{Ascends, HasNoProof, HasItsProof}
@@ -27,9 +26,9 @@ use Rattle.mz_type.specs.TypedText.{declared}
 use Rattle.mz_type.specs.Weight.{params_of, dummy_count, declaration_weight, weight_after}
 use Rattle.mz_steps.specs.Sameness.{IsSameForm}
 use Rattle.mz_streams.specs.SpelledLists.{form_spelled}
-use Rattle.mz_streams.proofs.SameForms.{bodies-same}
+use Rattle.mz_streams.proofs.Offered.{bodies-same}
 use Rattle.mz_binary.specs.Spelling.{HasKind, is_local_code}
-use Rattle.mz_writing.proofs.WordsSay.{words-say-signatures}
+use Rattle.mz_writing.proofs.Offered.{words-say-signatures}
 use Rattle.mz_emit.specs.Emitting.{MayFollow, HasWords, AreReady, CanBeDefined, CanBeAsserted, definition_code, assertion_code}
 
 -- ---- counts

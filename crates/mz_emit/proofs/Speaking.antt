@@ -10,9 +10,7 @@ use Rattle.mz_logic.specs.Sorts.{HasSort, HasProvable, AreProvable}
 use Rattle.mz_logic.specs.Words.{binders_of}
 use Rattle.mz_logic.specs.declared.binder.Binder.{Binder}
 use Rattle.mz_logic.specs.declared.word.Word.{Word}
-use Rattle.mz_logic.proofs.Extend.{extends_append}
-use Rattle.mz_logic.proofs.Lists.{each_from_all}
-use Rattle.mz_logic.proofs.Longer.{keep_sorts}
+use Rattle.mz_logic.proofs.Offered.{extends_append, each_from_all, keep_sorts}
 use Rattle.mz_store.specs.Bits.{bound_from, bound_vars}
 use Rattle.mz_store.specs.Sharing.{Sharing, Holds, tree_of}
 use Rattle.mz_store.specs.declared.item.Id.{Id}
@@ -22,18 +20,16 @@ use Rattle.mz_unification.specs.Streams.{of_definition, of_assertion}
 use Rattle.mz_soundness.specs.Lists.{kind_of}
 use Rattle.mz_soundness.specs.Premises.{bound_count as bound_in}
 use Rattle.mz_soundness.specs.Tables.{is_theorem, is_definition}
-use Rattle.mz_machine.proofs.BeforeLaws.{binders_many}
+use Rattle.mz_machine.proofs.Offered.{binders_many}
 use Rattle.mz_mmu.specs.Proof.{Proof}
 use Rattle.mz_steps.specs.SharedBodies.{IsSharedBody}
 use Rattle.mz_streams.specs.Laws.{IsSmall}
 use Rattle.mz_streams.specs.SharedTexts.{IsSharedText}
 use Rattle.mz_streams.specs.Writing.{assertion_written, definition_written, body_spelled, dummies_spelled, stream_of}
-use Rattle.mz_streams.proofs.Short.{assertions-short, definitions-short, assertions-bounded, definitions-bounded}
-use Rattle.mz_streams.proofs.Texts.{assertions-written, definitions-written, assertions-shared, definitions-shared}
+use Rattle.mz_streams.proofs.Offered.{assertions-short, definitions-short, assertions-bounded, definitions-bounded, assertions-written, definitions-written, assertions-shared, definitions-shared}
 use Rattle.mz_shared.specs.Instances.{Grows, InReach, AllInReach, AreSorted}
 use Rattle.mz_shared.specs.Variables.{IsShared}
-use Rattle.mz_shared.proofs.Making.{tree_grown}
-use Rattle.mz_shared.proofs.Owned.{reach_of_sort}
+use Rattle.mz_shared.proofs.Offered.{tree_grown, reach_of_sort}
 use Rattle.mz_spell.specs.Params.{HasParams}
 use Rattle.mz_bodies.specs.Claims.{IsSound, proved}
 use Rattle.mz_bodies.specs.Stages.{HasDummiesBehind}

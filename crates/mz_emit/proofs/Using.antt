@@ -10,7 +10,7 @@ use Rattle.mz_soundness.specs.Tables.{Kind}
 use Rattle.mz_mmu.specs.Proof.{Proof}
 use Rattle.mz_bodies.specs.Uses.{Use, a_gap, assertion, uses, command_uses, commands_use, IsBodyUsing}
 use Rattle.mz_writing.specs.Gaps.{LeaveGap, Cite, SaysItsGaps}
-use Rattle.mz_writing.proofs.Gaps.{bodies-say-gaps}
+use Rattle.mz_writing.proofs.Offered.{bodies-say-gaps}
 use Rattle.mz_emit.specs.Gapped.{UsesAsStated}
 
 none_among : {A : Type 0} → (c : ProofCode × ℕ) → Contains [] c → A

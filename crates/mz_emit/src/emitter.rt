@@ -27,10 +27,10 @@ ghost use Rattle.mz_bodies.specs.Stages.{HasDummiesBehind};
 ghost use Rattle.mz_emit.specs.Emitting;
 ghost use Rattle.mz_emit.specs.Emitting.{CanBeNext, WritesNext, EmitsNext, MayFollow, CanBeDefined, CanBeAsserted, HasWords, table_of, term_row, thm_row, SaysDefinition, SaysAssertion, IsProvedBy, IsSoundIfStated, MakesBody, body_weight, HasEmitted, with_sort, with_term, with_thm};
 
-use crate::copies::copy_of_decl;
 use mz_bodies::{Before, axiom_body, definition_body, theorem_body};
 use mz_claims::stated_proofs_are_sound;
 use mz_cmd::{Mem, StatementCode};
+use mz_copies::copy_of_decl;
 use mz_layout::LayoutWriter;
 use mz_logic::{Binder, Decl, Env, Expr, SortMods, TermDecl, ThmDecl, ThmForm};
 use mz_mmu::Proof;

@@ -4,7 +4,6 @@
 
 mod compile;
 mod compiled;
-mod copies;
 mod emitter;
 mod limit;
 mod line;

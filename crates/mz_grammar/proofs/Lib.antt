@@ -5,3 +5,4 @@ pub mod Grammar
 pub mod Stopping
 pub mod Reading
 pub mod OneAnswer
+pub mod Offered

@@ -3,8 +3,7 @@ use Rattle.std.proofs.Common.{◌≡◌, ◌∙◌, ◌+◌, ◌≤◌, ◌⊎�
 use Rattle.std.proofs.lemmas.List.{append-nil}
 use Rattle.mz_lex.specs.Lexemes.{Lexeme, LexemesTo}
 use Rattle.mz_lex.specs.Laws.{GoesOn}
-use Rattle.mz_lex.proofs.Lexing.{begun, comparable, some-lexing}
-use Rattle.mz_lex.proofs.Blanks.{blank-forward}
+use Rattle.mz_lex.proofs.Offered.{begun, comparable, some-lexing, blank-forward}
 use Rattle.mz_grammar.specs.Code.{statement}
 use Rattle.mz_grammar.specs.Statement.{Statement, Sign, AreSigns, Spells, statement_signs}
 use Rattle.mz_grammar.specs.Stops.{Stops, StopsBy}

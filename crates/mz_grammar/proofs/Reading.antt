@@ -16,7 +16,7 @@ use Rattle.mz_lex.specs.declared.rule.S.TheVariants as rules
 use Rattle.mz_lex.specs.declared.token.LexFault.{LexFault}
 use Rattle.mz_lex.specs.RuleText.{place_of, rule_of}
 use Rattle.mz_lex.specs.Lexemes.{Lexeme, lexeme as lexeme_at, IsNext, ComesNext, EndsBy, LexemesTo}
-use Rattle.mz_lex.proofs.Lexing.{one-more, ended, begun, one-lexing}
+use Rattle.mz_lex.proofs.Offered.{one-more, ended, begun, one-lexing}
 use Rattle.mz_grammar.specs.declared.refusal.Fault.{Fault}
 use Rattle.mz_grammar.specs.declared.reader.StatementRead.{StatementRead}
 use Rattle.mz_grammar.specs.Code.{lexeme, statement}

@@ -8,3 +8,4 @@ pub mod OneKind
 pub mod SomeNext
 pub mod Lexing
 pub mod MathStrings
+pub mod Offered

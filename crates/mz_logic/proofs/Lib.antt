@@ -23,3 +23,4 @@ pub mod WordsAsParams
 pub mod WordBits
 pub mod WordsWritten
 pub mod NearMisses
+pub mod Offered

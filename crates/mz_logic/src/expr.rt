@@ -135,38 +135,3 @@ pub fn same_exprs(a: &Exprs, b: &Exprs) -> bool
     }
     true
 }
-
-/// A copy of the expression.
-///
-/// # Errors
-///
-/// Where there is no memory.
-#[cycle(copy_of)]
-pub fn copy_of(alloc: Global, expr: &Expr) -> Result<Expr, AllocError>
-    ensures { IfOk result (λ e. tree e ≡ tree expr.now) }
-{
-    match expr {
-        Expr::Var(x) => Ok(Expr::Var(*x)),
-        Expr::App(t, es) => {
-            let copies = copies_of(alloc, es)?;
-            Ok(Expr::App(*t, copies))
-        }
-    }
-}
-
-/// Copies of the expressions.
-///
-/// # Errors
-///
-/// Where there is no memory.
-#[cycle(copy_of)]
-pub fn copies_of(alloc: Global, es: &Exprs) -> Result<Exprs, AllocError>
-    ensures { IfOk result (λ copies. copies ≡ es.now) }
-{
-    let mut copies = Exprs::with_capacity(alloc, es.len())?;
-    for e in es.as_slice() {
-        let copy = copy_of(alloc, e)?;
-        copies.push(copy)?;
-    }
-    Ok(copies)
-}

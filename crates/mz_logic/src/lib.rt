@@ -28,7 +28,7 @@ pub use examples::{
     definition_unfolds, dependencies_come_before, four_statements_are_legal,
     implication_is_derived, operands_are_apart,
 };
-pub use expr::{Expr, Exprs, copies_of, copy_of, same_expr, same_exprs};
+pub use expr::{Expr, Exprs, same_expr, same_exprs};
 pub use laws::{
     conversions_keep_sorts, derived_is_provable, instances_have_what_is_put_in,
     instances_keep_sorts, instances_stay_apart, legal_declarations_are_sorted,

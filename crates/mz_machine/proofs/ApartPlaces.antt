@@ -15,9 +15,9 @@ use Rattle.mz_logic.specs.declared.word.Word.{Word}
 use Rattle.mz_store.specs.declared.item.Id.{Id}
 use Rattle.mz_unification.specs.Steps.{◌>>◌, need}
 use Rattle.mz_unification.specs.Tests.{is_member, is_bound_var, var_within}
-use Rattle.mz_unification.proofs.Inverting.{from_then, from_need, need_ok, some_is}
+use Rattle.mz_unification.proofs.Offered.{from_then, from_need, need_ok, some_is}
 use Rattle.mz_soundness.specs.Premises.{operands_fit, apart_from, apart_at}
-use Rattle.mz_soundness.proofs.Operands.{or-not}
+use Rattle.mz_soundness.proofs.Offered.{or-not}
 use Rattle.mz_machine.proofs.FittingOperands.{next-at, none-left, next-binder}
 
 -- ---- operands of bound parameters

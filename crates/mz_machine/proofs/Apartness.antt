@@ -12,12 +12,11 @@ use Rattle.mz_store.specs.Sharing.{Sharing, IsIn, AreIn, IsOver, IsTold, tree_of
 use Rattle.mz_store.specs.declared.item.Id.{Id}
 use Rattle.mz_store.specs.declared.item.DepsMode.{DepsMode}
 use Rattle.mz_store.specs.declared.item.DepsMode.TheVariants.{All}
-use Rattle.mz_store.proofs.Meeting.{words-meet}
+use Rattle.mz_store.proofs.Offered.{words-meet}
 use Rattle.mz_unification.specs.Tests.{is_bound_var, in_v, var_within}
-use Rattle.mz_unification.proofs.Inverting.{some_is}
-use Rattle.mz_unification.proofs.TestLaws.{bound-is, in-v-true, v-in}
+use Rattle.mz_unification.proofs.Offered.{some_is, bound-is, in-v-true, v-in}
 use Rattle.mz_unify.specs.Stored.{trees_at}
-use Rattle.mz_unify.proofs.StoredIds.{is-in-at, tree-at}
+use Rattle.mz_unify.proofs.Offered.{is-in-at, tree-at}
 use Rattle.mz_soundness.specs.Premises.{operands_fit}
 use Rattle.mz_machine.specs.OperandRows.{AreAmong}
 use Rattle.mz_machine.proofs.ApartPlaces.{is-there, place-below, place-fits, apart-none, whole_row, decides-first}

@@ -6,15 +6,15 @@ use Rattle.std.proofs.lemmas.Option.{slice_get_past}
 use Rattle.std.proofs.lemmas.List.FromFn.{length-map-range_with_len, get_or-map-range_with_len}
 use Rattle.mz_logic.specs.Words.{term_at, signature_of, binders_of}
 use Rattle.mz_logic.specs.declared.word.Word.{Word}
-use Rattle.mz_store.proofs.Params.{binders-many}
+use Rattle.mz_store.proofs.Offered.{binders-many}
 use Rattle.mz_logic.specs.Words.{signatures_of as signatures_by}
 use Rattle.mz_logic.specs.Signature.{Signature}
 use Rattle.mz_layout.specs.Tables.{term_row, thm_row, term_count, term_words}
-use Rattle.mz_layout.proofs.TableLists.{slice_get-rows, length-term_words, term_at-words}
+use Rattle.mz_layout.proofs.Offered.{slice_get-rows, length-term_words, term_at-words}
 use Rattle.mz_unification.specs.Spells.{TermRow, ThmRow}
 use Rattle.mz_soundness.specs.FileRows.{term_of_file, thm_of_file}
 use Rattle.mz_machine.specs.Before.{Before, AreWithin, tables_of, signatures_of, words_before, sorts_before}
-use Rattle.mz_soundness.proofs.FirstSorts.{length-first_sorts, slice_get-first_sorts}
+use Rattle.mz_soundness.proofs.Offered.{length-first_sorts, slice_get-first_sorts}
 
 pub length-words : (b : Before) → length (words_before b) ≡ b.rows.terms
 length-words b = length-map-range_with_len (λ t. (term_row b.file t).words) 0 b.rows.terms

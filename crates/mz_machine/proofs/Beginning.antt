@@ -3,7 +3,7 @@ use Rattle.std.proofs.Common.{◌≡◌, ◌<◌, ◌≤◌, ◌+◌, ◌*◌, �
 use Rattle.std.specs.List.{range_with_len}
 use Rattle.std.proofs.lemmas.List.{map-append}
 use Rattle.mz_checks.specs.Checks.{AllHold, demand}
-use Rattle.mz_checks.proofs.InOrder.{all_hold-first, all_hold-rows}
+use Rattle.mz_checks.proofs.Offered.{all_hold-first, all_hold-rows}
 use Rattle.mz_cmd.specs.declared.rule.K.TheVariants as rules
 use Rattle.mz_logic.specs.Tree.{Tree, var}
 use Rattle.mz_logic.specs.Words.{binders_of, BitsRight}
@@ -24,7 +24,7 @@ use Rattle.mz_machine.specs.declared.earlier.Rows.{Rows}
 use Rattle.mz_machine.proofs.BeforeLaws.{binders_many}
 use Rattle.mz_machine.proofs.Dummies.{no-dummies}
 use Rattle.mz_machine.proofs.Ending.{range-next, own-are}
-use Rattle.mz_soundness.proofs.RightWords.{right-words}
+use Rattle.mz_soundness.proofs.Offered.{right-words}
 
 -- ---- the row's own words
 

@@ -14,11 +14,11 @@ use Rattle.mz_logic.specs.Tree.{Tree}
 use Rattle.mz_unification.specs.Steps.{◌>>=◌, Turn, over, goes_on, goes_to}
 use Rattle.mz_unification.specs.Profile.{plain}
 use Rattle.mz_unification.specs.UnifyMachine.{is_empty}
-use Rattle.mz_unification.proofs.Turning.{command-long, drop-less}
+use Rattle.mz_unification.proofs.Offered.{command-long, drop-less}
 use Rattle.mz_soundness.specs.Tables.{Tables, State, Kind, Heading}
 use Rattle.mz_soundness.specs.ProofMachine.{proof_row, proof_end, ends_with}
 use Rattle.mz_soundness.specs.Bodies.{BodyCommand, ends, proves, stands_in, if_allowed, body_command, body_turn_by, body_turn, body_from, match_steps, command_steps, body_steps_from}
-use Rattle.mz_soundness.proofs.BodyRuns.{bound-never-ends, count-is-whole}
+use Rattle.mz_soundness.proofs.Offered.{bound-never-ends, count-is-whole}
 use Rattle.mz_machine.specs.Steps.{row_by, row_of, steps_by, steps_for}
 
 abbrev ended : State Tree → Result (Turn (State Tree)) K

@@ -17,9 +17,8 @@ use Rattle.mz_unification.specs.Profile.{strict, Item, expr, obligation, tree_pa
 use Rattle.mz_unification.specs.Tests.{same_tree}
 use Rattle.mz_unification.specs.UnifyMachine.{in_definition, Matching, UnifyState, unify, unify_steps}
 use Rattle.mz_unify.specs.Stored.{IsItemIn, AreItemsIn, trees_at}
-use Rattle.mz_unification.proofs.Inverting.{taken-is}
-use Rattle.mz_unify.proofs.StoredIds.{items-in-both, listed-trees}
-use Rattle.mz_unification.proofs.Trees.{same_tree-true, same_tree-refl}
+use Rattle.mz_unify.proofs.Offered.{items-in-both, listed-trees}
+use Rattle.mz_unification.proofs.Offered.{taken-is, same_tree-true, same_tree-refl}
 use Rattle.mz_soundness.specs.Tables.{Tables, State, signatures_in}
 use Rattle.mz_soundness.specs.Premises.{pop, pop_expr, pop_obligation, pop_sides}
 use Rattle.mz_soundness.specs.ProofMachine.{proof_row, sides, same_term, stream_of, unfolding_of, matched_by}

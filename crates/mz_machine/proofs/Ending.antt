@@ -15,7 +15,7 @@ use Rattle.mz_unification.specs.Steps.{◌>>=◌, rule_of}
 use Rattle.mz_unification.specs.Profile.{strict, Item, proof}
 use Rattle.mz_unification.specs.UnifyMachine.{Matching, UnifyState, unify, unify_steps}
 use Rattle.mz_unify.specs.Stored.{item_at, items_at, trees_at, matching_at, AreItemsIn, AreVariables, mode_of}
-use Rattle.mz_unify.proofs.StoredIds.{are-in-both, items-in-both, trees-append}
+use Rattle.mz_unify.proofs.Offered.{are-in-both, items-in-both, trees-append}
 use Rattle.mz_soundness.specs.Tables.{Tables, State, Kind, is_axiom, is_theorem, is_definition, Heading, signatures_in}
 use Rattle.mz_soundness.specs.ProofMachine.{last_item, as_proofs, own_variables, ending, ends_with, proof_end}
 use Rattle.mz_soundness.specs.Bodies.{match_steps}

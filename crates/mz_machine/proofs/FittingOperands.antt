@@ -9,12 +9,12 @@ use Rattle.mz_logic.specs.Legality.{sort_of}
 use Rattle.mz_logic.specs.Words.{word_bound, word_sort, bound_places, binder_of, binders_from, binders_of}
 use Rattle.mz_logic.specs.declared.binder.Binder.{Binder}
 use Rattle.mz_logic.specs.declared.word.Word.{Word}
-use Rattle.mz_logic.proofs.Instance.{one_at, none_some}
+use Rattle.mz_logic.proofs.Offered.{one_at, none_some}
 use Rattle.std.proofs.lemmas.List.{length-map}
 use Rattle.mz_store.specs.Sharing.{Sharing, tree_of}
 use Rattle.mz_store.specs.declared.item.Id.{Id}
 use Rattle.mz_unify.specs.Stored.{trees_at}
-use Rattle.mz_unify.proofs.StoredIds.{tree-at}
+use Rattle.mz_unify.proofs.Offered.{tree-at}
 use Rattle.mz_unification.specs.Steps.{◌>>◌, need}
 use Rattle.mz_unification.specs.Tests.{is_bound_var}
 use Rattle.mz_soundness.specs.Premises.{operands_fit}

@@ -9,10 +9,10 @@ use Rattle.mz_cmd.specs.declared.code.ProofCode.TheVariants as code
 use Rattle.mz_logic.specs.Tree.{Tree}
 use Rattle.mz_logic.specs.Legality.{sort_of}
 use Rattle.mz_logic.specs.Sorts.{HasSort}
-use Rattle.mz_logic.proofs.Rules.{sort_is}
+use Rattle.mz_logic.proofs.Offered.{sort_is}
 use Rattle.mz_unification.specs.Profile.{plain, strict, draft, Item, expr, proof, obligation, conversion}
 use Rattle.mz_unification.specs.UnifyMachine.{Matching}
-use Rattle.mz_unification.proofs.PlainRuns.{unify_steps-plain}
+use Rattle.mz_unification.proofs.Offered.{unify_steps-plain}
 use Rattle.mz_soundness.specs.Tables.{Tables, State, signatures_in, Kind, Heading}
 use Rattle.mz_soundness.specs.Premises.{pop, is_provable_sort}
 use Rattle.mz_soundness.specs.ProofMachine.{proof_row, citation, unfolding_of, ends_with}
@@ -22,8 +22,7 @@ use Rattle.mz_machine.specs.Before.{Before, tables_of, signatures_of}
 use Rattle.mz_machine.specs.OverStore.{with_stack, Gives, UnlessMem}
 use Rattle.mz_machine.specs.declared.command.Stop.{Stop}
 use Rattle.mz_machine.specs.declared.command.Stop.TheVariants.{Rule, Mem}
-use Rattle.mz_soundness.proofs.PlainRows.{citation-plain, unfolding-plain, row-plain, ends-plain, own-plain}
-use Rattle.mz_soundness.proofs.StrictRuns.{command-plain}
+use Rattle.mz_soundness.proofs.Offered.{citation-plain, unfolding-plain, row-plain, ends-plain, own-plain, command-plain}
 
 module _ (b : Before) (at n : ℕ) (st : State Tree) where
   pub gap-none : (d : K) → pop st.stack ≡ Err d → proof_row draft (tables_of b) at code.Sorry n st ≡ Err d

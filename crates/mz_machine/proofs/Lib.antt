@@ -19,3 +19,4 @@ pub mod BodyRunning
 pub mod Dummies
 pub mod Machines
 pub mod Beginning
+pub mod Offered

@@ -12,7 +12,7 @@ use Rattle.mz_store.specs.declared.item.Item.{Item as Kept}
 use Rattle.mz_store.specs.declared.item.DepsMode.TheVariants.{All}
 use Rattle.mz_unification.specs.Profile.{strict}
 use Rattle.mz_unify.specs.Stored.{AreItemsIn}
-use Rattle.mz_unify.proofs.StoredIds.{still-in}
+use Rattle.mz_unify.proofs.Offered.{still-in}
 use Rattle.mz_soundness.specs.Tables.{Kind, is_axiom, is_theorem, is_definition, signatures_in}
 use Rattle.mz_soundness.specs.Bodies.{BodyCommand, ends, proves, stands_in, if_allowed, body_command}
 use Rattle.mz_machine.specs.Before.{Before, heading_of, tables_before}

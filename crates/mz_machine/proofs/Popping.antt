@@ -11,7 +11,7 @@ use Rattle.mz_store.specs.declared.item.Item.{Item as Kept}
 use Rattle.mz_store.specs.declared.item.Item.TheVariants.{Expr, Proof, Obligation, Conversion}
 use Rattle.mz_unification.specs.Profile.{Item}
 use Rattle.mz_unify.specs.Stored.{item_at, items_at, trees_at, IsItemIn, AreItemsIn}
-use Rattle.mz_unify.proofs.StoredIds.{items-in-left, items-in-right, items-in-both, items-push, still-in}
+use Rattle.mz_unify.proofs.Offered.{items-in-left, items-in-right, items-in-both, items-push, still-in}
 use Rattle.mz_soundness.specs.Premises.{is_conversion}
 use Rattle.mz_machine.specs.Steps.{is_conversion_at}
 use Rattle.mz_machine.specs.OverStore.{heap_at}

@@ -7,12 +7,12 @@ use Rattle.mz_cmd.specs.declared.code.ProofCode.TheVariants as code
 use Rattle.mz_logic.specs.Tree.{Tree, var}
 use Rattle.mz_logic.specs.Sorts.{HasSort}
 use Rattle.mz_logic.specs.declared.binder.Binder.{Binder}
-use Rattle.mz_logic.proofs.Rules.{sort_is}
+use Rattle.mz_logic.proofs.Offered.{sort_is}
 use Rattle.mz_store.specs.Bits.{bound_from, bound_vars}
 use Rattle.mz_unification.specs.Spells.{dummy_of}
 use Rattle.mz_unification.specs.Profile.{strict, Item, expr, proof, obligation, conversion}
 use Rattle.mz_unification.specs.Tests.{same_tree}
-use Rattle.mz_unification.proofs.Trees.{same_tree-true, same_tree-refl}
+use Rattle.mz_unification.proofs.Offered.{same_tree-true, same_tree-refl}
 use Rattle.mz_soundness.specs.Tables.{Tables, State}
 use Rattle.mz_soundness.specs.Premises.{pop, pop_expr, pop_obligation, is_conversion, is_obligation, may_be_dummy_sort, is_provable_sort, bound_count}
 use Rattle.mz_soundness.specs.ProofMachine.{proof_row, referred, has_provable_sort}

@@ -23,13 +23,13 @@ use Rattle.mz_unify.specs.Stored.{trees_at, item_at, items_at, IsItemIn, AreItem
 use Rattle.mz_unification.specs.Steps.{◌>>=◌}
 use Rattle.std.specs.Prelude.{reverse}
 use Rattle.std.proofs.lemmas.List.{length-map, reverse-append}
-use Rattle.mz_unify.proofs.StoredIds.{items-in-both, still-in}
+use Rattle.mz_unify.proofs.Offered.{items-in-both, still-in}
 use Rattle.mz_soundness.specs.Tables.{Tables, signatures_in, State}
 use Rattle.mz_soundness.specs.Premises.{pop_operands, operands_fit}
 use Rattle.mz_soundness.specs.ProofMachine.{proof_row, built, push, saved}
 use Rattle.mz_machine.specs.Before.{Before, signatures_of, words_before}
 use Rattle.mz_soundness.specs.FileRows.{term_of_file}
-use Rattle.mz_soundness.proofs.Operands.{fits-from}
+use Rattle.mz_soundness.proofs.Offered.{fits-from}
 use Rattle.mz_machine.proofs.BeforeLaws.{length-words, words-at, signatures-before}
 use Rattle.mz_machine.proofs.FittingOperands.{binders-many}
 

@@ -16,7 +16,7 @@ use Rattle.mz_store.specs.declared.item.Item.{Item as Kept}
 use Rattle.mz_unification.specs.Profile.{strict}
 use Rattle.mz_unification.specs.UnifyMachine.{in_definition, Matching, unify, unify_steps}
 use Rattle.mz_unify.specs.Stored.{IsItemIn, AreItemsIn, item_at, items_at, trees_at, matching_at}
-use Rattle.mz_unify.proofs.StoredIds.{items-push}
+use Rattle.mz_unify.proofs.Offered.{items-push}
 use Rattle.mz_unify.specs.declared.unified.UnifyMode.TheVariants.{Body}
 use Rattle.mz_soundness.specs.Tables.{State}
 use Rattle.mz_soundness.specs.ProofMachine.{stream_of}

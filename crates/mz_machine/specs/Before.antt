@@ -1,4 +1,4 @@
--- The rows before a statement, and what a body is run for.
+-- The rows before a statement, and what a body is run for (the .mmb format, its list of statements).
 use Rattle.std.specs.Prelude.{◌≡◌, ◌<◌, ◌≤◌, ◌⊎◌, ℕ, true, false, ◌==◌, if◌then◌else◌, List, map, drop}
 use Rattle.std.specs.List.{range_with_len}
 use Rattle.mz_checks.specs.Checks.{AllHold}

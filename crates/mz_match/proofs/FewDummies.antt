@@ -4,7 +4,7 @@ use Rattle.std.specs.Prelude.{if◌then◌else◌, Contains, ◌&&◌, ◌==◌}
 use Rattle.std.specs.List.{filter}
 use Rattle.std.proofs.lemmas.Bool.{false≢true, ltb-true}
 use Rattle.mz_checks.specs.Checks.{AllHold}
-use Rattle.mz_checks.proofs.InOrder.{all_hold-rest}
+use Rattle.mz_checks.proofs.Offered.{all_hold-rest}
 use Rattle.mz_cmd.specs.declared.rule.K.TheVariants as k
 use Rattle.mz_cmd.specs.declared.command.Cmd.{Cmd}
 use Rattle.mz_cmd.specs.declared.command.CmdFault.{CmdFault}
@@ -28,11 +28,7 @@ use Rattle.mz_unification.specs.Spells.{trees_of, dummy_of, variables_from, Spel
 use Rattle.mz_unification.specs.Profile.{plain, strict, Item, expr, proof, obligation, conversion}
 use Rattle.mz_unification.specs.Sorted.{Sorted, ItemsSorted}
 use Rattle.mz_unification.specs.UnifyMachine.{in_definition, is_empty}
-use Rattle.mz_unification.proofs.Inverting.{from_bind, from_need, from_want, taken, taken-is, place-ok}
-use Rattle.mz_unification.proofs.Spelled.{place_from, renamed}
-use Rattle.mz_unification.proofs.OwnStream.{definition-spelled}
-use Rattle.mz_unification.proofs.Unfolding.{unfolding-is}
-use Rattle.mz_unification.proofs.OneSpelling.{one-text}
+use Rattle.mz_unification.proofs.Offered.{from_bind, from_need, from_want, taken, taken-is, place-ok, place_from, renamed, definition-spelled, unfolding-is, one-text}
 use Rattle.mz_soundness.specs.Tables.{Tables, signatures_in, State, Kind, is_definition, Heading, Declares}
 use Rattle.mz_logic.specs.Legality.{sort_of}
 use Rattle.mz_soundness.specs.FreeVars.{free_within}
@@ -42,17 +38,12 @@ use Rattle.mz_soundness.specs.Lists.{definition_of}
 use Rattle.mz_soundness.specs.FileRows.{taken_by, rows_taken, term_of_file, body_bytes}
 use Rattle.mz_soundness.specs.ProofMachine.{ends_with, matched_by, built, referred, proof_row, proof_end, last_item, ending, own_stream}
 use Rattle.mz_soundness.specs.Bodies.{BodyCommand, ends, proves, stands_in, if_allowed, body_command, body_turn, body_turn_by, body_from, body_start, Runs}
-use Rattle.mz_soundness.proofs.Outcomes.{bodies-checked}
-use Rattle.mz_soundness.proofs.WholeBody.{body-fact}
-use Rattle.mz_soundness.proofs.Assertions.{end-ran, own-run}
-use Rattle.mz_soundness.proofs.RightWords.{right-words}
+use Rattle.mz_soundness.proofs.Offered.{bodies-checked, body-fact, end-ran, own-run, right-words}
 use Rattle.mz_binary.specs.Chains.{IsGoodStatement, GoodTo}
 use Rattle.mz_binary.specs.Checking.{checks_of, kind_checks, term_checks, term_body_checks}
 use Rattle.mz_binary.specs.Laws.{HasRow}
 use Rattle.mz_binary.specs.Spelling.{IsKindOf, SpellsRow}
-use Rattle.mz_binary.proofs.LegalChains.{well-chain}
-use Rattle.mz_binary.proofs.RowLaws.{good-rows}
-use Rattle.mz_binary.proofs.ByTable.{runs-by-table}
+use Rattle.mz_binary.proofs.Offered.{well-chain, good-rows, runs-by-table}
 use Rattle.mz_binary.specs.Standards.{lets_gaps, profile_of}
 use Rattle.mz_binary.specs.declared.standard.Standard.{Standard}
 

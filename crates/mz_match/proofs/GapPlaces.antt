@@ -3,18 +3,14 @@ use Rattle.std.proofs.Common.{◌≡◌, ◌∙◌, ◌<◌, ◌≤◌, ◌+◌,
 use Rattle.std.specs.Prelude.{◌↔◌, MatchBool, not, ◌&&◌, if◌then◌else◌}
 use Rattle.mz_logic.specs.Declaration.{Declaration, Assertion, sort_decl, term_decl, assertion_decl, assertions}
 use Rattle.mz_logic.specs.LegalLists.{Statement, declarations}
-use Rattle.mz_logic.proofs.Extend.{assertions-append}
+use Rattle.mz_logic.proofs.Offered.{assertions-append}
 use Rattle.mz_layout.specs.Tables.{list_at}
 use Rattle.mz_binary.specs.declared.statement.Statement.{Statement as Told}
 use Rattle.mz_binary.specs.Chains.{IsGoodStatement}
 use Rattle.mz_binary.specs.Gapped.{body_of, bodies_of, IsGapped, GappedIn}
 use Rattle.mz_binary.specs.Judging.{Passes}
 use Rattle.mz_binary.specs.Progress.{Progress}
-use Rattle.mz_binary.proofs.ChainLaws.{chain-declares}
-use Rattle.mz_binary.proofs.GapFree.{ungapped-free}
-use Rattle.mz_binary.proofs.GapMarks.{bodies-more, bodies-many, gapped-on, gapped-back, gapped-within}
-use Rattle.mz_binary.proofs.LegalChains.{good-legal}
-use Rattle.mz_binary.proofs.WholeFiles.{good-spelled}
+use Rattle.mz_binary.proofs.Offered.{chain-declares, ungapped-free, bodies-more, bodies-many, gapped-on, gapped-back, gapped-within, good-legal, good-spelled}
 use Rattle.mz_match.specs.declared.draft.Draft.{Draft}
 use Rattle.mz_match.specs.declared.draft.Draft.TheVariants as drafts
 use Rattle.mz_match.specs.declared.matching.Matching.{Matching}

@@ -17,3 +17,4 @@ pub mod Pairing
 mod ProvingTheorems
 pub mod SomeVerdict
 pub mod GapPlaces
+pub mod Offered

@@ -1,7 +1,7 @@
 -- Two files have one verdict at most.
 use Rattle.std.proofs.Common.{◌≡◌, ◌⊎◌, ◌+◌, ◌∙◌, ℕ, false, List, [], ◌∷◌, ◌++◌, length, Ok, refl, sym, ap, subst, inl, inr}
 use Rattle.mz_checks.specs.Checks.{AllHold, FailsFirst}
-use Rattle.mz_checks.proofs.CheckLaws.{all_hold-excludes, fails_first-unique}
+use Rattle.mz_checks.proofs.Offered.{all_hold-excludes, fails_first-unique}
 use Rattle.mz_cmd.specs.declared.rule.K.{K}
 use Rattle.mz_cmd.specs.declared.rule.Refusal.{Refusal}
 use Rattle.mz_cmd.specs.declared.statement.StmtAt.TheVariants.{End, Head}
@@ -11,11 +11,11 @@ use Rattle.mz_layout.specs.Layout.{Layout, layout_checks}
 use Rattle.mz_layout.specs.Tables.{list_at}
 use Rattle.mz_binary.specs.Checking.{list_checks}
 use Rattle.mz_binary.specs.Chains.{IsGoodStatement, GoodTo, EndsAt}
-use Rattle.mz_binary.proofs.SpellingLaws.{one-good}
+use Rattle.mz_binary.proofs.Offered.{one-good}
 use Rattle.mz_spec.specs.Spec.{SpecOf, SpecFault}
 use Rattle.mz_spec.specs.State.{env_of}
 use Rattle.mz_spec.specs.declared.refusal.SpecRefusal.{SpecRefusal}
-use Rattle.mz_spec.proofs.OneSpec.{one-reading, one-fault, not-both}
+use Rattle.mz_spec.proofs.Offered.{one-reading, one-fault, not-both}
 use Rattle.mz_match.specs.declared.rule.M.{M}
 use Rattle.mz_match.specs.declared.verdict.Counts.{Counts}
 use Rattle.mz_match.specs.declared.verdict.Verdict.{Verdict}

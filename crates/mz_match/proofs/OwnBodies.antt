@@ -6,7 +6,7 @@ use Rattle.std.proofs.lemmas.Bool.{ltb-true, ltb-false}
 use Rattle.std.proofs.lemmas.Option.{slice_get_within, slice_get-get_or}
 use Rattle.mz_logic.specs.Legality.{binder_at}
 use Rattle.mz_logic.specs.declared.binder.Binder.{Binder}
-use Rattle.mz_layout.proofs.TableLists.{slice_get-rows}
+use Rattle.mz_layout.proofs.Offered.{slice_get-rows}
 use Rattle.mz_match.specs.Trees.{Pairs, IsPaired}
 
 module _ (params dummies : List Binder) where

@@ -5,11 +5,11 @@ use Rattle.mz_checks.specs.Checks.{AllHold, FailsFirst}
 use Rattle.mz_cmd.specs.declared.rule.Refusal.{Refusal}
 use Rattle.mz_cmd.specs.declared.statement.StmtAt.TheVariants.{End}
 use Rattle.mz_logic.specs.Declaration.{Declaration, sort_decl, term_decl, assertion_decl, terms}
-use Rattle.mz_logic.proofs.Closing.{legal_list_is_closed}
+use Rattle.mz_logic.proofs.Offered.{legal_list_is_closed}
 use Rattle.mz_logic.specs.LegalLists.{Statement, declarations}
 use Rattle.mz_layout.specs.Layout.{Layout}
 use Rattle.mz_layout.specs.Tables.{list_at}
-use Rattle.mz_layout.proofs.Parts.{parts-of_layout}
+use Rattle.mz_layout.proofs.Offered.{parts-of_layout}
 use Rattle.mz_binary.specs.declared.statement.Statement.{Statement as Told}
 use Rattle.mz_soundness.specs.FileRows.{taken_by}
 use Rattle.mz_binary.specs.Checking.{AllTaken, checks_of}
@@ -18,9 +18,7 @@ use Rattle.mz_binary.specs.Good.{Good, FailsAfter}
 use Rattle.mz_binary.specs.Progress.{Progress, HasPassed, Tells, kind_code, row_after}
 use Rattle.mz_binary.specs.Judging.{Passes}
 use Rattle.mz_binary.specs.FileRun.{file_steps}
-use Rattle.mz_binary.proofs.ChainLaws.{chain-declares}
-use Rattle.mz_binary.proofs.LegalChains.{good-legal}
-use Rattle.mz_binary.proofs.WholeFiles.{good-spelled}
+use Rattle.mz_binary.proofs.Offered.{chain-declares, good-legal, good-spelled}
 use Rattle.mz_spec.specs.Spec.{SpecMakes}
 use Rattle.mz_spec.specs.State.{Entry, env_of}
 use Rattle.mz_match.specs.declared.matching.Matching.{Matching}

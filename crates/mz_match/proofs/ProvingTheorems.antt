@@ -5,7 +5,7 @@ use Rattle.mz_checks.specs.Checks.{AllHold}
 use Rattle.mz_logic.specs.Declaration.{Declaration, Assertion, Form, plain_form, abstract_form, defined, sort_decl, term_decl, assertion_decl}
 use Rattle.mz_logic.specs.Derivations.{Derivation}
 use Rattle.mz_logic.specs.LegalLists.{Statement, gap_free, MayBeLocal, LegalAfter, Legal}
-use Rattle.mz_logic.proofs.Closing.{legal_at, legal_list_is_closed}
+use Rattle.mz_logic.proofs.Offered.{legal_at, legal_list_is_closed}
 use Rattle.mz_match.specs.declared.kind.Kind.TheVariants as kinds
 use Rattle.mz_match.specs.Match.{Partner, partner_of, publics_after, publics, kind_of, kind_of_form, match_checks, Agrees}
 use Rattle.mz_match.specs.Proved.{AxiomsAreDeclared, TheoremsAreProved}

@@ -3,8 +3,7 @@ use Rattle.std.proofs.Common.{◌≡◌, ◌⊎◌, ◌+◌, ◌∙◌, ℕ, Boo
 use Rattle.std.specs.Prelude.{◌==◌, if◌then◌else◌}
 use Rattle.std.proofs.lemmas.Bool.{cases_eq}
 use Rattle.mz_checks.specs.Checks.{AreDecided}
-use Rattle.mz_checks.proofs.CheckLaws.{all_hold-or_fails}
-use Rattle.mz_checks.proofs.InOrder.{bytes-decided}
+use Rattle.mz_checks.proofs.Offered.{all_hold-or_fails, bytes-decided}
 use Rattle.mz_cmd.specs.declared.rule.Refusal.{Refusal}
 use Rattle.mz_logic.specs.Declaration.{Declaration, sort_decl, term_decl, assertion_decl, Assertion, Form, plain_form, abstract_form, defined}
 use Rattle.mz_logic.specs.declared.binder.Binder.{Binder}
@@ -15,12 +14,11 @@ use Rattle.mz_layout.specs.Layout.{Layout}
 use Rattle.mz_layout.specs.Tables.{list_at}
 use Rattle.mz_binary.specs.Chains.{IsGoodStatement, GoodTo}
 use Rattle.mz_binary.specs.Good.{Good, FailsAfter, BinaryFault}
-use Rattle.mz_binary.proofs.ChainLaws.{chain-more}
-use Rattle.mz_binary.proofs.WholeFiles.{good-or-fault}
+use Rattle.mz_binary.proofs.Offered.{chain-more, good-or-fault}
 use Rattle.mz_spec.specs.Spec.{SpecOf, SpecMakes, SpecFault}
 use Rattle.mz_spec.specs.State.{Entry, env_of}
 use Rattle.mz_spec.specs.declared.refusal.SpecRefusal.{SpecRefusal}
-use Rattle.mz_spec.proofs.SomeSpec.{one-of-both}
+use Rattle.mz_spec.proofs.Offered.{one-of-both}
 use Rattle.mz_match.specs.declared.kind.Kind.{Kind}
 use Rattle.mz_match.specs.declared.kind.Kind.TheVariants as kinds
 use Rattle.mz_match.specs.declared.rule.M.{M}

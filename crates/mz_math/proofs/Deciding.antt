@@ -1,7 +1,7 @@
 -- A list of tokens has a tree or none.
 use Rattle.std.proofs.Common.{◌≡◌, ◌≢◌, ◌≤◌, ◌⊎◌, ◌++◌, ◌∙◌, ℕ, zero, suc, List, [], ◌∷◌, length, Bool, true, false, not, Some, None, Option, slice_get, drop, ap, ap₂, sym, refl, subst, inl, inr, arith, Contains, length-append}
 use Rattle.std.specs.Prelude.{codes}
-use Rattle.mz_checks.proofs.InOrder.{at_most-decided, both-decided, bytes-decided}
+use Rattle.mz_checks.proofs.Offered.{at_most-decided, both-decided, bytes-decided}
 use Rattle.mz_logic.specs.Tree.{Tree, Trees, var, app, none, more, followed_by}
 use Rattle.mz_logic.specs.Signature.{Signature}
 use Rattle.mz_notation.specs.Notation.{max_level, above}

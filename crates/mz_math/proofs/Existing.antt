@@ -3,8 +3,7 @@ use Rattle.std.proofs.Common.{Some, slice_get, ◌≡◌, ◌≢◌, ◌≤◌, 
 use Rattle.std.specs.Prelude.{codes, slice_index}
 use Rattle.std.proofs.lemmas.Option.{slice_get_within, get_or_from_slice_get}
 use Rattle.mz_checks.specs.Checks.{AreDecided, AllHold, FailsFirst}
-use Rattle.mz_checks.proofs.CheckLaws.{all_hold-or_fails}
-use Rattle.mz_checks.proofs.InOrder.{at_most-decided, bytes-decided, both-decided, are_decided-both, are_decided-rows, all_hold-rest}
+use Rattle.mz_checks.proofs.Offered.{all_hold-or_fails, at_most-decided, bytes-decided, both-decided, are_decided-both, are_decided-rows, all_hold-rest}
 use Rattle.mz_lex.specs.Kinds.{is_space}
 use Rattle.mz_logic.specs.Tree.{Tree}
 use Rattle.mz_logic.specs.Declaration.{signatures}
@@ -24,7 +23,7 @@ use Rattle.mz_math.specs.Formula.{Reader, words, most, StandsFor, Means, Misread
 use Rattle.mz_tokens.specs.Answers.{EndsAt, IsWhole}
 use Rattle.mz_math.specs.Answers.{settled}
 use Rattle.mz_math.proofs.Readable.{table-readable}
-use Rattle.mz_tokens.proofs.Strings.{next-first, whole-first, whole-more, whole-piece}
+use Rattle.mz_tokens.proofs.Offered.{next-first, whole-first, whole-more, whole-piece}
 use Rattle.mz_math.proofs.Judging.{parts, stands, same}
 use Rattle.mz_math.proofs.Deciding.{Decided, found, placed, equal-decided, either-decided, tree-decided}
 use Rattle.mz_math.proofs.Standing.{path-decided, coerced-decided, claimed-decided}

@@ -1,7 +1,7 @@
 -- The first rule that a math string breaks.
 use Rattle.std.proofs.Common.{◌≡◌, ◌<◌, ◌≤◌, ◌+◌, ◌∙◌, ℕ, List, [], length, Some, None, Option, ap, sym, refl, subst, inl, inr, arith}
 use Rattle.mz_checks.specs.Checks.{AllHold, FailsFirst}
-use Rattle.mz_checks.proofs.InOrder.{all_hold-both, fails-before, fails-after}
+use Rattle.mz_checks.proofs.Offered.{all_hold-both, fails-before, fails-after}
 use Rattle.mz_lex.specs.declared.rule.S.TheVariants as rules
 use Rattle.mz_logic.specs.Tree.{Tree}
 use Rattle.mz_logic.specs.View.{tree}
@@ -25,7 +25,7 @@ use Rattle.mz_math.proofs.Unique.{one-expression}
 use Rattle.mz_math.proofs.Readable.{table-readable}
 use Rattle.mz_math.proofs.OneMeaning.{coerced-one}
 use Rattle.mz_math.proofs.Meanings.{wrapped-height}
-use Rattle.mz_coercions.proofs.Paths.{length-one, path-reaches, last-end}
+use Rattle.mz_coercions.proofs.Offered.{length-one, path-reaches, last-end}
 
 -- ---- before the whole's own rule
 

@@ -17,3 +17,4 @@ pub mod Statements
 pub mod StayingClear
 pub mod MadeNotations
 pub mod Lawful
+pub mod Offered

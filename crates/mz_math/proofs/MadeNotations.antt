@@ -4,8 +4,7 @@ use Rattle.std.specs.Prelude.{⊤, ◌==◌, codes, slice_range}
 use Rattle.std.specs.List.{count_by}
 use Rattle.std.proofs.lemmas.Option.{slice_get_within}
 use Rattle.mz_checks.specs.Checks.{AllHold, FailsFirst}
-use Rattle.mz_checks.proofs.CheckLaws.{all_hold-or_fails}
-use Rattle.mz_checks.proofs.InOrder.{at_most-decided, both-decided, bytes-decided}
+use Rattle.mz_checks.proofs.Offered.{all_hold-or_fails, at_most-decided, both-decided, bytes-decided}
 use Rattle.mz_logic.specs.Signature.{Signature}
 use Rattle.mz_logic.specs.declared.binder.Binder.{Binder}
 use Rattle.mz_logic.specs.declared.binder.ResultType.{ResultType}
@@ -24,8 +23,8 @@ use Rattle.mz_notation.specs.declared.form.Literal.TheVariants.{Constant as cons
 use Rattle.mz_notation.specs.declared.form.Tail.{Tail}
 use Rattle.mz_notation.specs.declared.table.NoteFault.{NoteFault}
 use Rattle.mz_notation.specs.Answers.{IsClearTable}
-use Rattle.mz_tokens.proofs.Cutting.{pieces-one}
-use Rattle.mz_notation.proofs.Tables.{none-some, some-same, constant-one, infix-one, prefix-one, begins-one}
+use Rattle.mz_tokens.proofs.Offered.{pieces-one}
+use Rattle.mz_notation.proofs.Offered.{none-some, some-same, constant-one, infix-one, prefix-one, begins-one}
 use Rattle.mz_math.proofs.Deciding.{Decided, equal-decided, not-decided, true-decided, three-decided, some-decided}
 use Rattle.mz_math.proofs.Existing.{some-pieces}
 use Rattle.mz_math.proofs.StayingClear.{clear-decided}

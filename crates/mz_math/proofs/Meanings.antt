@@ -15,7 +15,7 @@ use Rattle.mz_math.specs.Meaning.{Coerced, CoercedAll, height, trees_height}
 use Rattle.mz_math.specs.Answers.{FitsParam}
 use Rattle.mz_coercions.specs.Answers.{HasLength}
 use Rattle.mz_math.proofs.OneMeaning.{coerced-one, coerced-all}
-use Rattle.mz_coercions.proofs.Paths.{length-one}
+use Rattle.mz_coercions.proofs.Offered.{length-one}
 use Rattle.mz_math.proofs.TreeLists.{followed_by_push}
 
 some-same : {A : Type 0} {x y : A} → Some x ≡ Some y → x ≡ y

@@ -2,8 +2,7 @@
 use Rattle.std.proofs.Common.{◌≡◌, ◌⊎◌, ◌++◌, ◌∙◌, ℕ, List, [], ◌∷◌, Option, Some, None, false, ap, sym, refl, subst, inl, inr, map, slice_get, Contains}
 use Rattle.std.proofs.lemmas.Option.{slice_get_within, get_or_from_slice_get}
 use Rattle.mz_checks.specs.Checks.{AllHold, FailsFirst}
-use Rattle.mz_checks.proofs.CheckLaws.{all_hold-or_fails}
-use Rattle.mz_checks.proofs.InOrder.{both-decided}
+use Rattle.mz_checks.proofs.Offered.{all_hold-or_fails, both-decided}
 use Rattle.mz_logic.specs.Signature.{Signature}
 use Rattle.mz_logic.specs.declared.binder.Binder.{Binder}
 use Rattle.mz_tokens.specs.Pieces.{no_delimiters, Pieces, piece_texts, AreCharacters, AreDelimiters}
@@ -16,8 +15,8 @@ use Rattle.mz_notation.specs.Kept.{IsTable}
 use Rattle.mz_notation.specs.Forms.{IsCoercion, coercion_checks, delimiter_checks}
 use Rattle.mz_notation.specs.declared.table.NoteFault.{NoteFault}
 use Rattle.mz_coercions.specs.Answers.{MayStart, MayEnd, IsClashAt}
-use Rattle.mz_tokens.proofs.Cutting.{pieces-one}
-use Rattle.mz_coercions.proofs.Paths.{stays-one, clash-two, clash-parts, clash-made}
+use Rattle.mz_tokens.proofs.Offered.{pieces-one}
+use Rattle.mz_coercions.proofs.Offered.{stays-one, clash-two, clash-parts, clash-made}
 use Rattle.mz_math.proofs.Deciding.{Decided, found, equal-decided, some-decided, true-decided}
 use Rattle.mz_math.proofs.Standing.{path-decided}
 use Rattle.mz_math.proofs.Existing.{some-pieces}

@@ -11,7 +11,7 @@ use Rattle.mz_math.specs.Grammar.{Item, token, expr, items, level_before, operan
 use Rattle.mz_math.specs.Readable.{IsReadable}
 use Rattle.mz_math.specs.Reading as Reading
 use Rattle.mz_math.specs.Reading.{Step, build, step_tokens}
-use Rattle.mz_tokens.proofs.Lists.{at_of}
+use Rattle.mz_tokens.proofs.Offered.{at_of}
 use Rattle.mz_math.proofs.Chains.{base, base_parts, steps_of, rebuilt, tokens-build, above-more, le_last, last_left, inner, level-falls}
 
 -- ---- lists

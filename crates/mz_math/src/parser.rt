@@ -11,7 +11,8 @@ ghost use Rattle.mz_math.specs.Lookups.{NoTermName, NoVariable, NoLeading, NoInf
 ghost use Rattle.mz_math.specs.Reading.{NoReading, NoParts, NotJoined};
 
 use crate::words::Vocabulary;
-use mz_logic::{Expr, Exprs, copy_of};
+use mz_copies::copy_of;
+use mz_logic::{Expr, Exprs};
 use mz_notation::{Element, MAX, Notation};
 use mz_tokens::Tokens;
 use std::alloc::Global;

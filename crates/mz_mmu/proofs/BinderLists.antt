@@ -1,11 +1,11 @@
 -- Variables, binders and hypotheses, one after another.
 use Rattle.std.proofs.Common.{◌≡◌, ◌∙◌, ℕ, List, [], ◌∷◌, ◌++◌, sym, ap, refl, subst, append_assoc}
 use Rattle.mz_checks.specs.Checks.{Checks, AllHold}
-use Rattle.mz_checks.proofs.InOrder.{Decides, decides-after}
+use Rattle.mz_checks.proofs.Offered.{Decides, decides-after}
 use Rattle.mz_sexpr.specs.Node.{Node, Nodes, node, parts}
 use Rattle.mz_logic.specs.Tree.{Tree, Trees, more, none, followed_by}
 use Rattle.mz_logic.specs.declared.binder.Binder.{Binder}
-use Rattle.mz_logic.proofs.Follow.{followed_by_push}
+use Rattle.mz_logic.proofs.Offered.{followed_by_push}
 use Rattle.mz_mmu.specs.declared.fault.Fault.{Fault}
 use Rattle.mz_mmu.specs.Name.{Scope, HasNumber}
 use Rattle.mz_mmu.specs.Expressions.{AreVariables, AreBinders}

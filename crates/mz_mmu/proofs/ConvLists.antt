@@ -1,6 +1,6 @@
 -- Conversions, one after another.
 use Rattle.std.proofs.Common.{◌≡◌, ◌∙◌, List, [], ◌∷◌, ◌++◌, sym, ap, refl, subst}
-use Rattle.mz_checks.proofs.InOrder.{Decides, decides-after}
+use Rattle.mz_checks.proofs.Offered.{Decides, decides-after}
 use Rattle.mz_sexpr.specs.Node.{Node, Nodes, node}
 use Rattle.mz_logic.specs.Conversions.{Conversions, no_convs, more_convs}
 use Rattle.mz_mmu.specs.ConvView.{conversion, conversions}

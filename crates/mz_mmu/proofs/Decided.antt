@@ -2,7 +2,7 @@
 use Rattle.std.proofs.Common.{ℕ, suc, ◌≡◌, ◌⊎◌, inl, inr, Bool, true, false, true≢false, List, [], ◌∷◌, ◌++◌, Option, Some, None, refl, sym}
 use Rattle.std.specs.Prelude.{⊤, IsTrue, unwrap_or}
 use Rattle.mz_checks.specs.Checks.{Checks, nothing, ask, ◌>>◌, retold, AreDecided}
-use Rattle.mz_checks.proofs.InOrder.{are_decided-both, bytes-decided}
+use Rattle.mz_checks.proofs.Offered.{are_decided-both, bytes-decided}
 use Rattle.mz_sexpr.specs.Node.{Node, Nodes, atom, list, no_nodes, node, word, parts}
 use Rattle.mz_mmu.specs.declared.fault.Fault.{Fault}
 use Rattle.mz_mmu.specs.Name.{Names, Scope, hidden, number_of, is_identifier}

@@ -1,9 +1,9 @@
 -- Expressions, one after another.
 use Rattle.std.proofs.Common.{◌≡◌, ◌∙◌, sym, ap, refl, subst}
-use Rattle.mz_checks.proofs.InOrder.{Decides, decides-after}
+use Rattle.mz_checks.proofs.Offered.{Decides, decides-after}
 use Rattle.mz_sexpr.specs.Node.{Node, Nodes, node}
 use Rattle.mz_logic.specs.Tree.{Tree, Trees, more, none, followed_by}
-use Rattle.mz_logic.proofs.Follow.{followed_by_push}
+use Rattle.mz_logic.proofs.Offered.{followed_by_push}
 use Rattle.mz_mmu.specs.Name.{Scope}
 use Rattle.mz_mmu.specs.Expressions.{IsExpr, AreExprs}
 use Rattle.mz_mmu.specs.Order.{expr_asked, exprs_asked}

@@ -2,7 +2,7 @@
 -- conversion, a proof.
 use Rattle.std.proofs.Common.{ℕ, ◌≡◌, ◌⊎◌, inl, inr, true, false, List, [], ◌∷◌, ◌++◌, Option, Some, None, refl, sym, ◌∙◌, subst, append_assoc, append-nil}
 use Rattle.mz_checks.specs.Checks.{Checks, ◌>>◌, AllHold}
-use Rattle.mz_checks.proofs.InOrder.{all_hold-first, all_hold-rest}
+use Rattle.mz_checks.proofs.Offered.{all_hold-first, all_hold-rest}
 use Rattle.mz_sexpr.specs.Node.{Node, Nodes, atom, list, no_nodes, node, word, parts}
 use Rattle.mz_logic.specs.Tree.{Tree, Trees, var, app, none, more}
 use Rattle.mz_logic.specs.Conversions.{Conversion, Conversions, refl_conv, sym_conv, cong_conv, unfold_conv, gap_conv, no_convs, more_convs}

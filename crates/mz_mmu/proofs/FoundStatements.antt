@@ -2,7 +2,7 @@
 use Rattle.std.proofs.Common.{ℕ, suc, ◌≡◌, Bool, true, false, List, [], ◌∷◌, ◌++◌, Some, None, refl, ap, subst, append_assoc, append-nil}
 use Rattle.std.specs.Prelude.{unwrap_or}
 use Rattle.mz_checks.specs.Checks.{Checks, nothing, ask, ◌>>◌, retold, AllHold}
-use Rattle.mz_checks.proofs.InOrder.{all_hold-first, all_hold-rest}
+use Rattle.mz_checks.proofs.Offered.{all_hold-first, all_hold-rest}
 use Rattle.mz_sexpr.specs.Node.{Node, Nodes, atom, list, no_nodes, node, word, parts}
 use Rattle.mz_logic.specs.Tree.{Tree, Trees, none, more}
 use Rattle.mz_logic.specs.Declaration.{sort_decl, term_decl, assertion_decl, plain_form, defined}

@@ -2,7 +2,7 @@
 -- conversion, a proof.
 use Rattle.std.proofs.Common.{ℕ, suc, ◌≡◌, ◌≤◌, length, arith, ◌⊎◌, inl, inr, Bool, true, false, List, [], ◌∷◌, ◌++◌, Option, Some, None, refl, sym, ap, ◌∙◌, subst, append_assoc, append-nil}
 use Rattle.mz_checks.specs.Checks.{Checks, ◌>>◌, AllHold}
-use Rattle.mz_checks.proofs.InOrder.{all_hold-both}
+use Rattle.mz_checks.proofs.Offered.{all_hold-both}
 use Rattle.mz_sexpr.specs.Node.{Node, Nodes, atom, list, no_nodes, node, word, place, parts}
 use Rattle.mz_logic.specs.Tree.{Tree, Trees}
 use Rattle.mz_logic.specs.Conversions.{Conversion, Conversions}

@@ -2,7 +2,7 @@
 use Rattle.std.proofs.Common.{ℕ, ◌≡◌, inl, List, [], ◌∷◌, ◌++◌, Some, None, refl, sym, ap, ◌∙◌, subst, append_assoc, append-nil}
 use Rattle.std.specs.Prelude.{unwrap_or}
 use Rattle.mz_checks.specs.Checks.{Checks, demand, AllHold}
-use Rattle.mz_checks.proofs.InOrder.{all_hold-both, Decides, decides-after}
+use Rattle.mz_checks.proofs.Offered.{all_hold-both, Decides, decides-after}
 use Rattle.mz_sexpr.specs.Node.{Node, Nodes, atom, list, no_nodes, node, word, parts, place}
 use Rattle.mz_logic.specs.Tree.{Tree, Trees}
 use Rattle.mz_sexpr.specs.declared.rule.U.{U}

@@ -21,3 +21,4 @@ pub mod OneReading
 pub mod OneStatement
 pub mod Whole
 pub mod OnlyDrafts
+pub mod Offered

@@ -1,12 +1,11 @@
 -- A text has one answer.
 use Rattle.std.proofs.Common.{ℕ, suc, ◌≡◌, ◌⊎◌, inl, inr, Bool, List, sym, subst}
 use Rattle.mz_checks.specs.Checks.{AllHold, FailsFirst, retold}
-use Rattle.mz_checks.proofs.InOrder.{all_hold-both}
-use Rattle.mz_checks.proofs.CheckLaws.{fails_first-unique, all_hold-excludes, all_hold-or_fails}
+use Rattle.mz_checks.proofs.Offered.{all_hold-both, fails_first-unique, all_hold-excludes, all_hold-or_fails}
 use Rattle.mz_sexpr.specs.declared.rule.TextRefusal.{TextRefusal}
 use Rattle.mz_sexpr.specs.Grammar.{Reads as Spells}
 use Rattle.mz_sexpr.specs.Node.{Nodes, no_nodes, node}
-use Rattle.mz_sexpr.proofs.Readings.{one_reading_only, is_read_or_refused}
+use Rattle.mz_sexpr.proofs.Offered.{one_reading_only, is_read_or_refused}
 use Rattle.mz_mmu.specs.Name.{Names}
 use Rattle.mz_mmu.specs.Proof.{Statement}
 use Rattle.mz_mmu.specs.Statements.{no_names, names_with, AreStatements, Reads}

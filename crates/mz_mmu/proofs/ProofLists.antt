@@ -1,6 +1,6 @@
 -- Proofs, one after another.
 use Rattle.std.proofs.Common.{◌≡◌, ◌∙◌, ℕ, List, [], ◌∷◌, ◌++◌, sym, ap, refl, subst}
-use Rattle.mz_checks.proofs.InOrder.{Decides, decides-after}
+use Rattle.mz_checks.proofs.Offered.{Decides, decides-after}
 use Rattle.mz_sexpr.specs.Node.{Node, Nodes, node}
 use Rattle.mz_mmu.specs.Proof.{Proofs, no_proofs, more_proofs}
 use Rattle.mz_mmu.specs.ProofView.{proof_view, proofs_view}

@@ -3,7 +3,7 @@ use Rattle.std.proofs.Common.{◌≡◌, Result, Ok, Err, sym, subst}
 use Rattle.std.specs.Prelude.{IfErr}
 use Rattle.std.specs.Result.{IsErrAnd}
 use Rattle.mz_checks.specs.Checks.{Checks, ◌>>◌, AllHold}
-use Rattle.mz_checks.proofs.InOrder.{fails-before, fails-after, Decides}
+use Rattle.mz_checks.proofs.Offered.{fails-before, fails-after, Decides}
 use Rattle.mz_mmu.specs.declared.fault.Fault.{Fault}
 use Rattle.mz_mmu.specs.declared.fault.Stop.{Stop}
 use Rattle.mz_mmu.specs.declared.fault.Stop.TheVariants.{Refused, Mem}

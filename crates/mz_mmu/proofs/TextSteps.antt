@@ -2,7 +2,7 @@
 use Rattle.std.proofs.Common.{ℕ, suc, ◌≡◌, ◌≤◌, ◌<◌, ◌+◌, ◌-◌, ◌∙◌, inl, inr, Bool, true, false, List, [], ◌∷◌, ◌++◌, length, Option, Some, None, sym, ap, refl, subst, arith, append_assoc, append-nil}
 use Rattle.std.specs.Prelude.{option_map, bytes_eq, if◌then◌else◌}
 use Rattle.mz_checks.specs.Checks.{Checks, nothing, ask, retold, AllHold, FailsFirst}
-use Rattle.mz_checks.proofs.InOrder.{Decides, decides-after, fails-before}
+use Rattle.mz_checks.proofs.Offered.{Decides, decides-after, fails-before}
 use Rattle.mz_sexpr.specs.Node.{Node, Nodes, no_nodes, node}
 use Rattle.mz_sexpr.specs.Number.{node_count, node_at}
 use Rattle.mz_sexpr.specs.declared.rule.TextRefusal.{TextRefusal}
@@ -12,7 +12,7 @@ use Rattle.mz_sexpr.specs.Grammar.{Reads as Spells}
 use Rattle.mz_sexpr.specs.Node.{atom, list}
 use Rattle.mz_sexpr.specs.Rows.{entries}
 use Rattle.mz_sexpr.specs.Token.{Token, close, spelled, spelled_node}
-use Rattle.mz_sexpr.proofs.Readings.{few_rows, tokens_when_read}
+use Rattle.mz_sexpr.proofs.Offered.{few_rows, tokens_when_read}
 use Rattle.mz_mmu.specs.Cursor.{node_size, nodes_size}
 use Rattle.mz_mmu.specs.Stops.{Stops}
 use Rattle.mz_mmu.specs.TextStops.{IsStopped, TextStops}

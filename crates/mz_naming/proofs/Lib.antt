@@ -2,3 +2,4 @@ pub mod Named
 mod Listing
 mod Runs
 mod Walking
+pub mod Offered

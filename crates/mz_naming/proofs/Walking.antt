@@ -11,11 +11,10 @@ use Rattle.mz_binary.specs.Spelling.{IsKindOf, is_local_code}
 use Rattle.mz_binary.specs.Chains.{GoodTo}
 use Rattle.mz_binary.specs.Good.{Good}
 use Rattle.mz_binary.specs.Standards.{strict_standard}
-use Rattle.mz_binary.proofs.Heads.{head-at}
-use Rattle.mz_binary.proofs.WholeFiles.{one-list, good-spelled}
+use Rattle.mz_binary.proofs.Offered.{head-at, one-list, good-spelled}
 use Rattle.mz_spec.specs.State.{Entry}
 use Rattle.mz_spec.specs.Spec.{SpecMakes}
-use Rattle.mz_spec.proofs.OneSpec.{one-reading}
+use Rattle.mz_spec.proofs.Offered.{one-reading}
 use Rattle.mz_axioms.specs.Places.{past_public}
 use Rattle.mz_axioms.specs.Text.{name_at}
 use Rattle.mz_wording.specs.Wording.{sort_name, term_name}

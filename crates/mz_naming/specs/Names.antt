@@ -14,7 +14,7 @@ abbrev pub longest_run : List (List ℕ) → ℕ
 longest_run [] = 0
 longest_run (w ∷ ws) = max (underscores w) (longest_run ws)
 
--- one underscore more: so none of these begins
+-- one underscore more: none of these begins with it
 abbrev pub prefix_beside : List (List ℕ) → List ℕ
 prefix_beside names = replicate (suc (longest_run names)) 95
 

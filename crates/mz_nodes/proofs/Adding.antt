@@ -4,12 +4,11 @@ use Rattle.std.proofs.lemmas.List.{length-append}
 use Rattle.std.proofs.lemmas.Option.{slice_get_within}
 use mir.Val.{bool_byte}
 use Rattle.mz_logic.specs.Signature.{Signature}
-use Rattle.mz_logic.proofs.Instance.{none_some}
-use Rattle.mz_logic.proofs.Scoped.{DepsInside}
+use Rattle.mz_logic.proofs.Offered.{none_some, DepsInside}
 use Rattle.mz_store.specs.Bits.{bound_vars}
 use Rattle.mz_store.specs.Nodes.{binder_after, IsVariableWord}
 use Rattle.mz_store.specs.declared.item.DepsMode.{DepsMode}
-use Rattle.mz_store.proofs.Places.{bound-push}
+use Rattle.mz_store.proofs.Offered.{bound-push}
 use Rattle.mz_numbered.specs.Numbered.{Numbered, Operands, a_variable, an_application}
 use Rattle.mz_nodes.specs.Numbering.{Entry, Numbering, expr_of, exprs_of, IsIn, AreIn, IsMadeBefore, IsOver}
 use Rattle.mz_nodes.specs.Entering.{entered, context_with, expr_with, next_with, numbering_of, no_expressions, IsNewIn}

@@ -6,7 +6,7 @@ use Rattle.mz_store.specs.Bits.{Tells, bound_vars}
 use Rattle.mz_nodes.specs.Numbering.{Numbering, tree_of, trees_of}
 use Rattle.mz_store.specs.declared.item.Id.{Id}
 use Rattle.mz_nodes.proofs.Gathering.{Gathers, gather-step, gather-end}
-use Rattle.mz_store.proofs.Params.{nothing, next-id}
+use Rattle.mz_store.proofs.Offered.{nothing, next-id}
 
 pub drop-past : {A : Type 0} (xs : List A) (j : ℕ) → length xs ≤ j → drop j xs ≡ []
 drop-past [] zero h = refl

@@ -11,7 +11,7 @@ use Rattle.mz_nodes.specs.Numbering.{Entry, Numbering, expr_of}
 use Rattle.mz_nodes.specs.Entering.{entered, entered_all, variable_node}
 use Rattle.mz_nodes.specs.declared.node.Node.{Node}
 use Rattle.mz_nodes.specs.declared.node.Form.TheVariants.{Variable}
-use Rattle.mz_store.proofs.Places.{bound-push}
+use Rattle.mz_store.proofs.Offered.{bound-push}
 use Rattle.mz_nodes.proofs.Growing.{Begins, entry_with, entry-new, entry-kept, last-in}
 
 pub node-is : (w : Word) (sort deps : ℕ) (bound : Bool) → sort ≡ word_sort w → deps ≡ word_deps w → bound ≡ word_bound w

@@ -11,16 +11,14 @@ use Rattle.mz_logic.specs.Variables.{IsBoundAt, IsOperandAt}
 use Rattle.mz_logic.specs.Words.{word_bound, bound_places, places_set, binder_of, binders_of}
 use Rattle.mz_logic.specs.declared.word.Word.{Word}
 use Rattle.mz_logic.specs.declared.binder.Binder.{Binder}
-use Rattle.mz_logic.proofs.Compose.{contains_cases}
-use Rattle.mz_logic.proofs.Instance.{one_at, none_some}
+use Rattle.mz_logic.proofs.Offered.{contains_cases, one_at, none_some}
 use Rattle.mz_store.specs.Bits.{Tells, bound_vars}
 use Rattle.mz_store.specs.Sharing.{IsTold}
 use Rattle.mz_nodes.specs.Numbering.{Numbering, tree_of, trees_of}
 use Rattle.mz_store.specs.declared.item.Id.{Id}
 use Rattle.mz_nodes.proofs.Gathering.{Gathers, gather-step, gather-end, tells-same}
-use Rattle.mz_store.proofs.Params.{nothing, binder-at, operand-none, operand-zero, operand-split, operand-here, operand-later, tells-bound}
 use Rattle.mz_nodes.proofs.Params.{fits-many, bound-at, operand-at}
-use Rattle.mz_store.proofs.Places.{none-in}
+use Rattle.mz_store.proofs.Offered.{nothing, binder-at, operand-none, operand-zero, operand-split, operand-here, operand-later, tells-bound, none-in}
 
 -- the operands at those of the places whose bits are set
 abbrev pub At : Numbering → List Id → List Binder → ℕ → List ℕ → ℕ → Type 0

@@ -8,10 +8,7 @@ use Rattle.mz_logic.specs.Tree.{var}
 use Rattle.mz_logic.specs.Signature.{Signature}
 use Rattle.mz_logic.specs.Variables.{InV}
 use Rattle.mz_logic.specs.declared.binder.Binder.{Binder}
-use Rattle.mz_logic.proofs.Instance.{one_at, none_some}
-use Rattle.mz_logic.proofs.Extend.{Extends, extends_append, extends_itself, sort_extends}
-use Rattle.mz_logic.proofs.Fresh.{split_at, slice_get-append_add}
-use Rattle.mz_logic.proofs.Scoped.{DepsInside}
+use Rattle.mz_logic.proofs.Offered.{one_at, none_some, Extends, extends_append, extends_itself, sort_extends, split_at, slice_get-append_add, DepsInside}
 use Rattle.mz_store.specs.Bits.{Tells, HasAt, bound_vars}
 use Rattle.mz_store.specs.Sharing.{Shared, IsRight, IsTold}
 use Rattle.mz_nodes.specs.Numbering.{Numbering, entry_of, by_vars, by_deps, IsRightEntry, IsOver}
@@ -21,7 +18,7 @@ use Rattle.mz_store.specs.declared.item.DepsMode.{DepsMode}
 use Rattle.mz_store.specs.declared.item.DepsMode.TheVariants as of
 use Rattle.mz_nodes.specs.declared.node.Node.{Node}
 use Rattle.mz_nodes.specs.declared.node.Form.TheVariants.{Variable}
-use Rattle.mz_store.proofs.Places.{none-in, bound-push, bound-within, bound-once, set-to, set-from}
+use Rattle.mz_store.proofs.Offered.{none-in, bound-push, bound-within, bound-once, set-to, set-from}
 use Rattle.mz_nodes.proofs.Longer.{told-extends, told-back, told-below}
 use Rattle.mz_nodes.proofs.Growing.{entered-begins, entry-kept, entry-new, in-cases}
 

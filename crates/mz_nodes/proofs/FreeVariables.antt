@@ -6,7 +6,7 @@ use Rattle.mz_logic.specs.Signature.{Signature}
 use Rattle.mz_logic.specs.Variables.{InFV, InSomeFV, IsOperandAt}
 use Rattle.mz_logic.specs.Words.{TermWords, term_at, word_bound, word_deps, bound_places, places_set, binder_of, binders_of, signature_of, signatures_of}
 use Rattle.mz_logic.specs.declared.word.Word.{Word}
-use Rattle.mz_logic.proofs.Instance.{one_at}
+use Rattle.mz_logic.proofs.Offered.{one_at}
 use Rattle.mz_store.specs.Bits.{Tells, bound_vars}
 use Rattle.mz_store.specs.Sharing.{IsTold, CanTake}
 use Rattle.mz_nodes.specs.Numbering.{Numbering, tree_of, trees_of}
@@ -15,7 +15,7 @@ use Rattle.mz_store.specs.declared.item.Id.{Id}
 use Rattle.mz_nodes.proofs.Gathering.{Gathers, gather-first, gather-step, gather-skip, gather-end, tells-same, tells-without}
 use Rattle.mz_nodes.proofs.OverTerms.{signature-at}
 use Rattle.mz_nodes.proofs.AllVariables.{drop-past}
-use Rattle.mz_store.proofs.Params.{nothing, next-id, next-binder, taken-all}
+use Rattle.mz_store.proofs.Offered.{nothing, next-id, next-binder, taken-all}
 
 -- the operands of bound parameters among the first `end` that the bits name
 abbrev pub Named : Numbering → List Id → List Word → ℕ → ℕ → ℕ → Type 0

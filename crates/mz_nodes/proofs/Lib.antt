@@ -10,3 +10,4 @@ mod AllVariables
 mod BoundOperands
 mod FreeVariables
 pub mod Meeting
+pub mod Offered

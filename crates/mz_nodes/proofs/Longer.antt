@@ -6,9 +6,7 @@ use Rattle.mz_logic.specs.Signature.{Signature}
 use Rattle.mz_logic.specs.Sorts.{HasSort, Fits}
 use Rattle.mz_logic.specs.Variables.{InV, InSomeV, InFV, InSomeFV}
 use Rattle.mz_logic.specs.declared.binder.Binder.{Binder}
-use Rattle.mz_logic.proofs.Extend.{Extends, in_v_extends, in_v_back}
-use Rattle.mz_logic.proofs.Rules.{range_of_sort}
-use Rattle.mz_logic.proofs.Scoped.{DepsInside, free_below}
+use Rattle.mz_logic.proofs.Offered.{Extends, in_v_extends, in_v_back, range_of_sort, DepsInside, free_below}
 use Rattle.mz_store.specs.Sharing.{IsTold}
 use Rattle.mz_store.specs.declared.item.DepsMode.{DepsMode}
 use Rattle.mz_store.specs.declared.item.DepsMode.TheVariants as of

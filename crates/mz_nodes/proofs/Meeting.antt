@@ -8,10 +8,9 @@ use Rattle.mz_logic.specs.Tree.{var}
 use Rattle.mz_logic.specs.Signature.{Signature}
 use Rattle.mz_logic.specs.Variables.{InV, IsBoundAt}
 use Rattle.mz_logic.specs.declared.binder.Binder.{Binder}
-use Rattle.mz_logic.proofs.Instance.{one_at}
+use Rattle.mz_logic.proofs.Offered.{one_at}
 use Rattle.mz_store.specs.Bits.{Tells, bound_vars}
-use Rattle.mz_store.proofs.Meeting.{bound-has}
-use Rattle.mz_store.proofs.Places.{bound-once}
+use Rattle.mz_store.proofs.Offered.{bound-has, bound-once}
 use Rattle.mz_nodes.specs.Numbering.{Numbering, tree_of, vars_of, IsIn, IsOver}
 use Rattle.mz_nodes.proofs.Gathering.{zero-or-one}
 

@@ -6,9 +6,9 @@ use Rattle.mz_logic.specs.Sorts.{Fits, IsBoundVar}
 use Rattle.mz_logic.specs.Words.{binders_of}
 use Rattle.mz_logic.specs.declared.word.Word.{Word}
 use Rattle.mz_logic.specs.declared.binder.Binder.{Binder}
-use Rattle.mz_logic.proofs.Instance.{one_at, none_some}
+use Rattle.mz_logic.proofs.Offered.{one_at, none_some}
 use Rattle.mz_store.specs.declared.item.Id.{Id}
-use Rattle.mz_store.proofs.Params.{nothing, binders-many}
+use Rattle.mz_store.proofs.Offered.{nothing, binders-many}
 use Rattle.mz_nodes.specs.Numbering.{Numbering, tree_of, trees_of, IsIn, AreIn}
 
 pub in-at : (s : Numbering) (is : List Id) (i : ℕ) → AreIn s is → i < length is → IsIn s (get_or is i nothing).0

@@ -4,7 +4,7 @@ use Rattle.std.proofs.lemmas.Option.{slice_get_within}
 use Rattle.mz_notation.specs.Notation.{max_level, fixed, Notation}
 use Rattle.mz_notation.specs.Clear.{HasConstant, LedBy, JoinedBy, IsOne, IsClear}
 use Rattle.mz_notation.specs.Answers.{KeepsLevels, KeepsOwnLevels, GroupsWith, NoOtherLed, NoOtherJoined}
-use Rattle.mz_tokens.proofs.Lists.{at_of, contains_at, contains_first, contains_last, contains_either, place_first, place_last, place_either}
+use Rattle.mz_tokens.proofs.Offered.{at_of, contains_at, contains_first, contains_last, contains_either, place_first, place_last, place_either}
 
 -- ---- one notation a constant
 

@@ -10,7 +10,7 @@ use Rattle.std.specs.BTreeMap.{BTreeMap, is_at}
 use Rattle.std.specs.Map.{lookup}
 use Rattle.mz_notation.specs.Notation.{Notation}
 use Rattle.mz_notation.specs.Headed.{AreLevelled, place_at}
-use Rattle.mz_tokens.proofs.Lists.{at_of, contains_at, contains_either, place_first, place_last}
+use Rattle.mz_tokens.proofs.Offered.{at_of, contains_at, contains_either, place_first, place_last}
 
 none-some : {A : Type 0} {y : A} → None ≡ Some y → ⊥
 none-some e = cc

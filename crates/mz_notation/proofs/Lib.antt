@@ -5,3 +5,4 @@ pub mod Clearing
 pub mod Literals
 pub mod Tables
 pub mod Naming
+pub mod Offered

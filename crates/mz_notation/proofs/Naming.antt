@@ -3,7 +3,7 @@ use Rattle.std.proofs.Common.{◌≡◌, ◌≢◌, ◌∙◌, ◌↔◌, ℕ, L
 use Rattle.std.specs.Prelude.{IsTrue, MatchOption}
 use Rattle.std.specs.Option.{is_some}
 use Rattle.std.proofs.lemmas.Bool.{true≢false}
-use Rattle.mz_tokens.proofs.Lists.{contains_at}
+use Rattle.mz_tokens.proofs.Offered.{contains_at}
 use Rattle.mz_notation.specs.Notation.{TermName}
 use Rattle.mz_notation.specs.Names.{IsFoundAs}
 

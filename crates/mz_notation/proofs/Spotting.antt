@@ -10,7 +10,7 @@ use Rattle.mz_notation.specs.Answers.{NoOtherJoined, NoOtherLed}
 use Rattle.mz_notation.specs.Headed.{AreFound, IsHeadedBy, IsNoted, StandsAt}
 use Rattle.mz_tokens.specs.Places.{place_of}
 use Rattle.mz_notation.specs.declared.notations.Spot.{Spot}
-use Rattle.mz_tokens.proofs.Lists.{at_of, contains_at, place_first, place_last, place_either}
+use Rattle.mz_tokens.proofs.Offered.{at_of, contains_at, place_first, place_last, place_either}
 
 fixed-word : {w v : List ℕ} {q p : ℕ} → Some (fixed w q) ≡ Some (fixed v p) → w ≡ v
 fixed-word e = cc

@@ -13,10 +13,9 @@ use Rattle.mz_tokens.specs.Pieces.{IsConstant}
 use Rattle.mz_notation.specs.Forms.{IsInfix, IsPrefix, IsElement, AreElements, IsGeneral, General, Begins, Literal, constant, name, Tail, NoteFault, notation_checks, delimiter_checks, IsAnswer, AddsNotation}
 use Rattle.mz_notation.specs.declared.table.NoteFault.TheVariants as faults
 use Rattle.mz_notation.specs.Answers.{IsShaped, IsAdded, IsMade, IsClearTable}
-use Rattle.mz_tokens.proofs.Cutting.{pieces-one}
 use Rattle.mz_notation.proofs.Constants.{fixed-same}
 use Rattle.mz_notation.proofs.Clearing.{constant-either}
-use Rattle.mz_tokens.proofs.Lists.{contains_either, contains_at, place_either}
+use Rattle.mz_tokens.proofs.Offered.{pieces-one, contains_either, contains_at, place_either}
 
 no-member : {A : Type 0} {x : A} → Contains [] x → ⊥
 no-member (k, below, is) = absurd (omega (arith, below))

@@ -20,8 +20,7 @@ use Rattle.mz_unification.specs.Streams.{StreamKind, of_assertion, UnifyCommand,
 use Rattle.mz_unification.specs.Tests.{same_tree}
 use Rattle.mz_unification.specs.Profile.{strict, tree_parts, Item, expr, proof, obligation, conversion}
 use Rattle.mz_unification.specs.UnifyMachine.{UnifyMode, in_citation, at_end, kind_of, Matching, UnifyState, top_target, is_empty, next_hypothesis, operands_of, nothing_left, unify_row, unify_turn_by, unify_turn, unify_from, at_start, unify}
-use Rattle.mz_unification.proofs.Inverting.{from_bind, from_then, from_want, taken-is}
-use Rattle.mz_unification.proofs.PlainRuns.{bind-same}
+use Rattle.mz_unification.proofs.Offered.{from_bind, from_then, from_want, taken-is, bind-same}
 use Rattle.mz_soundness.specs.Tables.{Tables, signatures_in, State, Kind, is_axiom, is_theorem, is_definition, Heading}
 use Rattle.mz_soundness.specs.Premises.{pop_expr, pop_operands, is_conversion, operands_fit, are_apart}
 use Rattle.mz_soundness.specs.ProofMachine.{push, saved, built, citation, matched_by, cited, referred, has_provable_sort, proof_row, last_item, as_proofs, own_variables, own_stream, ending, ends_with, proof_end}

@@ -1,7 +1,6 @@
 -- A body that runs in one machine runs in another that has its expressions.
 use Rattle.std.proofs.Common.{◌≡◌, ℕ, zero, suc, ◌+◌, Bool, true, false, not, cond, List, [], ◌∷◌, ◌++◌, length, drop, map, reverse, Option, Some, None, Result, Ok, Err, refl, sym, ap, ap₂, subst, ◌∙◌}
 use Rattle.std.specs.Prelude.{⊤, ◌==◌}
-use Rattle.std.proofs.lemmas.List.{map-append, reverse-append}
 use Rattle.mz_cmd.specs.declared.rule.K.{K}
 use Rattle.mz_cmd.specs.declared.rule.K.TheVariants as k
 use Rattle.mz_cmd.specs.declared.command.Cmd.{Cmd}
@@ -17,6 +16,7 @@ use Rattle.mz_logic.specs.declared.binder.Binder.{Binder}
 use Rattle.mz_unification.specs.Steps.{◌>>◌, need, goes_on}
 use Rattle.mz_unification.specs.Profile.{Profile, Item, expr, proof, obligation, conversion}
 use Rattle.mz_unification.specs.UnifyMachine.{UnifyMode, at_end, in_definition, Matching, UnifyState, unify, is_empty}
+use Rattle.mz_unification.proofs.Offered.{map-reverse}
 use Rattle.mz_soundness.specs.Tables.{Tables, signatures_in, State, Kind, is_axiom, is_theorem, is_definition, Heading}
 use Rattle.mz_soundness.specs.FreeVars.{free_within}
 use Rattle.mz_soundness.specs.ProofMachine.{matched_by, has_provable_sort, proof_row, last_item, as_proofs, own_variables, own_stream, ending, ends_with, proof_end}
@@ -26,11 +26,6 @@ use Rattle.mz_numbered.proofs.Going.{Goes, Is, TurnIs, goes-to, goes-bind, goes-
 use Rattle.mz_numbered.proofs.Embeds.{Embeds}
 use Rattle.mz_numbered.proofs.UnifyGoes.{Shows, unify-goes}
 use Rattle.mz_numbered.proofs.RowsGo.{matched-goes, provable-too, MakesRight, row-goes}
-
-map-reverse : {A B : Type 0} (f : A → B) (xs : List A) → map f (reverse xs) ≡ reverse (map f xs)
-map-reverse f [] = refl
-map-reverse {B = B} f (x ∷ xs) =
-    ap (map f) (reverse-append (x ∷ []) xs) ∙ map-append f (reverse xs) (x ∷ []) ∙ ap (λ (z : List B). z ++ f x ∷ []) (map-reverse f xs) ∙ sym (reverse-append (f x ∷ []) (map f xs))
 
 no-more : (b c : Bool) → (c ≡ true → b ≡ true) → not b ≡ true → not c ≡ true
 no-more true c less h = absurd cc

@@ -12,7 +12,7 @@ use Rattle.mz_unification.specs.Steps.{Turn}
 use Rattle.mz_unification.specs.Spells.{trees_of}
 use Rattle.mz_unification.specs.Profile.{tree_parts}
 use Rattle.mz_unification.specs.Tests.{same_tree}
-use Rattle.mz_unification.proofs.Trees.{same_tree-true, same_tree-refl}
+use Rattle.mz_unification.proofs.Offered.{same_tree-true, same_tree-refl}
 use Rattle.mz_soundness.specs.Tables.{Tables, State, Heading}
 use Rattle.mz_soundness.specs.ProofMachine.{built}
 use Rattle.mz_soundness.specs.Bodies.{BodyCommand, ends, proves, body_command, body_turn, body_start}

@@ -10,7 +10,7 @@ use Rattle.mz_logic.specs.Tree.{Tree, app, more, listed}
 use Rattle.mz_unification.specs.Spells.{trees_of}
 use Rattle.mz_unification.specs.Profile.{strict, tree_parts}
 use Rattle.mz_unification.specs.Tests.{same_tree}
-use Rattle.mz_unification.proofs.Trees.{same_tree-refl}
+use Rattle.mz_unification.proofs.Offered.{same_tree-refl}
 use Rattle.mz_soundness.specs.Tables.{Tables, State, Heading}
 use Rattle.mz_soundness.specs.Bodies.{BodyCommand, ends, proves, body_command}
 use Rattle.mz_numbered.specs.Numbered.{Numbered, Operands, a_variable, an_application, no_more, one_more, operands_from, operand_list, tree_of, operand_trees, equal, parts_of, portable}

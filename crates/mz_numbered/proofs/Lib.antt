@@ -8,3 +8,4 @@ pub mod ByTable
 pub mod ByAddress
 pub mod AskedAlone
 pub mod WholeSaves
+pub mod Offered

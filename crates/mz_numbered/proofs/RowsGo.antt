@@ -12,7 +12,7 @@ use Rattle.mz_unification.specs.Steps.{◌>>=◌}
 use Rattle.mz_unification.specs.Spells.{dummy_of}
 use Rattle.mz_unification.specs.Profile.{Profile, Item, expr, proof, obligation, conversion}
 use Rattle.mz_unification.specs.UnifyMachine.{in_citation, in_definition, Matching, UnifyState, unify}
-use Rattle.mz_unification.proofs.Inverting.{both-true}
+use Rattle.mz_unification.proofs.Offered.{both-true}
 use Rattle.mz_soundness.specs.Tables.{Tables, signatures_in, State}
 use Rattle.mz_soundness.specs.Premises.{pop, pop_expr, pop_proof, pop_obligation, pop_conversion, pop_exprs, pop_operands, pop_sides, is_conversion, is_obligation, may_be_dummy_sort, is_provable_sort, bound_count, operands_fit, are_apart}
 use Rattle.mz_soundness.specs.ProofMachine.{push, saved, built, citation, matched_by, cited, referred, sides, same_term, stream_of, unfolding_of, gapped, has_provable_sort, proof_row}

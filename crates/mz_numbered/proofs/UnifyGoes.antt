@@ -16,8 +16,7 @@ use Rattle.mz_unification.specs.Streams.{UnifyCommand, u_term, u_term_save, u_re
 use Rattle.mz_unification.specs.Tests.{var_within, is_bound_var}
 use Rattle.mz_unification.specs.Profile.{Profile, Item, expr, proof, obligation, conversion}
 use Rattle.mz_unification.specs.UnifyMachine.{UnifyMode, in_citation, at_end, in_definition, kind_of, Matching, UnifyState, top_target, is_empty, proved_by, next_hypothesis, operands_of, within_any, is_fresh, nothing_left, unify_row, unify_turn_by, unify_turn, unify_from, at_start, unify}
-use Rattle.mz_unification.proofs.Inverting.{both-true}
-use Rattle.mz_unification.proofs.TestLaws.{neither-of}
+use Rattle.mz_unification.proofs.Offered.{both-true, neither-of}
 use Rattle.mz_numbered.specs.Mapping.{item_onto, items_onto, matching_onto}
 use Rattle.mz_numbered.proofs.Going.{Goes, Is, TurnIs, goes-to, goes-on, goes-need, goes-want, goes-over, goes-further, goes-follow}
 use Rattle.mz_numbered.proofs.Embeds.{Embeds, get-mapped, operands-are}

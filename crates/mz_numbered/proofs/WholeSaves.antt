@@ -12,18 +12,14 @@ use Rattle.mz_logic.specs.Signature.{Signature}
 use Rattle.mz_logic.specs.Legality.{sort_of}
 use Rattle.mz_logic.specs.Variables.{InV, InSomeV}
 use Rattle.mz_logic.specs.declared.binder.Binder.{Binder}
-use Rattle.mz_logic.proofs.Apart.{in_instance}
-use Rattle.mz_logic.proofs.Fresh.{split_at}
+use Rattle.mz_logic.proofs.Offered.{in_instance, split_at}
 use Rattle.mz_unification.specs.Steps.{◌>>=◌, at_place, Turn, over, goes_on, follow}
 use Rattle.mz_unification.specs.Streams.{UnifyCommand, u_term, u_term_save, u_ref, u_dummy, u_hyp, u_end, unify_command}
 use Rattle.mz_unification.specs.Spells.{trees_of}
 use Rattle.mz_unification.specs.Tests.{same_tree, is_bound_var, in_v}
 use Rattle.mz_unification.specs.Profile.{strict, tree_parts}
 use Rattle.mz_unification.specs.UnifyMachine.{UnifyMode, in_definition, kind_of, UnifyState, top_target, is_empty, next_hypothesis, operands_of, within_any, is_fresh, nothing_left, unify_row, unify_turn_by, unify_turn, unify_from, unify}
-use Rattle.mz_unification.proofs.Inverting.{from_bind, from_need, from_want, taken-is}
-use Rattle.mz_unification.proofs.TestLaws.{in-v-true, neither-of, not-in-v}
-use Rattle.mz_unification.proofs.FreshVars.{in-some}
-use Rattle.mz_unification.proofs.Exact.{unfoldings-exact}
+use Rattle.mz_unification.proofs.Offered.{from_bind, from_need, from_want, taken-is, in-v-true, neither-of, not-in-v, in-some, unfoldings-exact}
 use Rattle.mz_numbered.specs.Making.{portable_trees}
 use Rattle.mz_numbered.specs.Saving.{AreWhole}
 use Rattle.mz_numbered.specs.Laws.{WholeStreamsRunToo}

@@ -11,7 +11,7 @@ use Rattle.mz_logic.specs.Variables.{IsBoundAt}
 use Rattle.mz_logic.specs.declared.binder.Binder.{Binder}
 use Rattle.mz_logic.specs.declared.binder.ResultType.{ResultType}
 use Rattle.mz_logic.specs.declared.binder.SortMods.{SortMods}
-use Rattle.mz_logic.proofs.Lists.{each_from_all}
+use Rattle.mz_logic.proofs.Offered.{each_from_all}
 use Rattle.mz_mmu.specs.Name.{Names, IsParamName}
 use Rattle.mz_mmu.specs.Expressions.{AreDeps, IsParam, IsDummy, AreBinders, AreParams, AreDummies, IsResult}
 use Rattle.mz_mmu.specs.Statements.{AreHyps, AreNamedHyps, scope_of}

@@ -11,7 +11,7 @@ use Rattle.mz_logic.specs.LegalLists.{AreDummies as HasRightDummies}
 use Rattle.mz_logic.specs.Variables.{IsBoundAt}
 use Rattle.mz_logic.specs.declared.binder.Binder.{Binder}
 use Rattle.mz_logic.specs.declared.binder.SortMods.{SortMods}
-use Rattle.mz_logic.proofs.Lists.{each_from_all}
+use Rattle.mz_logic.proofs.Offered.{each_from_all}
 use Rattle.mz_mmu.specs.Name.{Names, IsName, IsNew}
 use Rattle.mz_mmu.specs.Gaps.{LeavesOnly}
 use Rattle.mz_mmu.specs.Proof.{Proof, Statement}

@@ -11,8 +11,7 @@ use Rattle.mz_mmu.specs.Name.{Names, IsName}
 use Rattle.mz_mmu.specs.Gaps.{SomeLeavesOnly}
 use Rattle.mz_mmu.specs.Proof.{Proof, Statement}
 use Rattle.mz_mmu.specs.Statements.{IsStatement, AreStatements, no_names, names_with}
-use Rattle.mz_mmu.proofs.Declared.{Agrees}
-use Rattle.mz_mmu.proofs.TextSteps.{agrees_more, agrees_first}
+use Rattle.mz_mmu.proofs.Offered.{Agrees, agrees_more, agrees_first}
 use Rattle.mz_type.specs.Meaning.{IsLegalAsStated, LegalAsStatedAfter}
 use Rattle.mz_phrasing.specs.Phrases.{depth, depth_of_all}
 use Rattle.mz_phrasing.specs.Phrasing.{Vocabulary, list_of, marked_parts, declared_parts, statement, statements}

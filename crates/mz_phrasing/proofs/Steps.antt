@@ -11,7 +11,7 @@ use Rattle.mz_logic.specs.Legality.{InRange}
 use Rattle.mz_logic.specs.Conversions.{Conversion, Conversions, refl_conv, sym_conv, cong_conv, unfold_conv, gap_conv, no_convs, more_convs, AreFresh, Between, AllBetween, GapsOnly, AllGapsOnly}
 use Rattle.mz_logic.specs.Derivations.{Derivations, Derives, AllDerive}
 use Rattle.mz_logic.specs.declared.binder.Binder.{Binder}
-use Rattle.mz_logic.proofs.Rules.{range_of_sort, ranges_of_fits}
+use Rattle.mz_logic.proofs.Offered.{range_of_sort, ranges_of_fits}
 use Rattle.mz_mmu.specs.Name.{Names, Scope, HasNumber, IsName, IsNew}
 use Rattle.mz_mmu.specs.Expressions.{IsExprList}
 use Rattle.mz_mmu.specs.Gaps.{LeavesOnly, AllLeaveOnly}
@@ -19,7 +19,7 @@ use Rattle.mz_mmu.specs.Proof.{Proof, Proofs, by_hyp, by_name, by_citation, by_c
 use Rattle.mz_mmu.specs.Proofs.{IsConv, IsConvBy, AreConvs, IsProof, IsProofBy, AreProofs}
 use Rattle.mz_mmu.specs.declared.keyword.Keyword.TheVariants.{Other as no_word}
 use Rattle.mz_mmu.specs.Statements.{scope_of}
-use Rattle.mz_mmu.proofs.Hold.{new_both}
+use Rattle.mz_mmu.proofs.Offered.{new_both}
 use Rattle.mz_type.specs.Meaning.{derivation, derivations, then_deriv, LetsDerive, AllLetsDerive}
 use Rattle.mz_phrasing.specs.Phrasing.{Vocabulary, conversion, conversions, proof, proofs}
 use Rattle.mz_phrasing.specs.Phrasable.{HasNames, SeesLets, AllSeeLets}

@@ -1,5 +1,5 @@
 -- The names of a text that is written by a program: those that its statements have, and for what is numbered in a statement
--- a prefix with which no name begins, a letter and the number (this project's own).
+-- a prefix, a letter and the number (this project's own).
 use Rattle.std.specs.Prelude.{ℕ, ◌++◌, List, [], get_or, codes, decimal}
 use Rattle.mz_phrasing.specs.Phrasing.{Vocabulary}
 

@@ -37,7 +37,7 @@ abbrev pub followed_by : List Phrase → Phrases → Phrases
 followed_by [] qs = qs
 followed_by (p ∷ ps) qs = one_more p (followed_by ps qs)
 
--- a literal word
+-- words as parts
 abbrev pub word_list : List (List ℕ) → Phrases
 word_list [] = no_phrases
 word_list (w ∷ ws) = one_more (a_word w) (word_list ws)

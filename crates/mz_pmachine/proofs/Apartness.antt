@@ -9,14 +9,13 @@ use Rattle.mz_logic.specs.Words.{word_bound, word_deps, bound_places, binders_of
 use Rattle.mz_logic.specs.declared.word.Word.{Word}
 use Rattle.mz_store.specs.declared.item.Id.{Id}
 use Rattle.mz_unification.specs.Tests.{is_bound_var, in_v, var_within}
-use Rattle.mz_unification.proofs.Inverting.{some_is}
-use Rattle.mz_unification.proofs.TestLaws.{bound-is, in-v-true, v-in}
+use Rattle.mz_unification.proofs.Offered.{some_is, bound-is, in-v-true, v-in}
 use Rattle.mz_soundness.specs.Premises.{operands_fit}
 use Rattle.mz_nodes.specs.Numbering.{Numbering, IsIn, AreIn, IsOver, tree_of, vars_of}
-use Rattle.mz_nodes.proofs.Meeting.{words-meet}
+use Rattle.mz_nodes.proofs.Offered.{words-meet}
 use Rattle.mz_punify.specs.Stored.{trees_at}
-use Rattle.mz_punify.proofs.StoredIds.{is-in-at, length-trees, tree-at}
-use Rattle.mz_machine.proofs.ApartPlaces.{is-there, place-below, place-fits, apart-none, whole_row, decides-first}
+use Rattle.mz_punify.proofs.Offered.{is-in-at, length-trees, tree-at}
+use Rattle.mz_machine.proofs.Offered.{is-there, place-below, place-fits, apart-none, whole_row, decides-first}
 use Rattle.mz_pmachine.specs.OperandRows.{AreAmong}
 
 -- a bound variable is in V of an expression where their words share a bit

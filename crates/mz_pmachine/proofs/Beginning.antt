@@ -11,9 +11,7 @@ use Rattle.mz_machine.specs.Before.{kind_at, heading_of, MayRun, tables_before}
 use Rattle.mz_machine.specs.OverStore.{mode_for}
 use Rattle.mz_machine.specs.Stepping.{own_words, first_items}
 use Rattle.mz_machine.specs.declared.earlier.Rows.{Rows}
-use Rattle.mz_machine.proofs.BeforeLaws.{binders_many}
-use Rattle.mz_machine.proofs.Beginning.{own-binders}
-use Rattle.mz_machine.proofs.Dummies.{no-dummies}
+use Rattle.mz_machine.proofs.Offered.{binders_many, own-binders, no-dummies}
 use Rattle.mz_numbered.specs.Numbered.{Numbered, a_variable, portable}
 use Rattle.mz_nodes.specs.Numbering.{Numbering, expr_of, IsIn, IsOver}
 use Rattle.mz_punify.specs.Stored.{AreItemsIn}

@@ -14,9 +14,9 @@ use Rattle.mz_numbered.specs.Numbered.{Numbered, a_variable, an_application, ope
 use Rattle.mz_unification.specs.Profile.{Item, expr, proof, obligation, conversion}
 use Rattle.mz_unification.specs.UnifyMachine.{in_definition, Matching, UnifyState, unify, unify_steps}
 use Rattle.mz_punify.specs.Stored.{IsItemIn, AreItemsIn, exprs_at}
-use Rattle.mz_unification.proofs.Inverting.{taken-is}
-use Rattle.mz_punify.proofs.StoredIds.{items-in-both, listed-exprs}
-use Rattle.mz_numbered.proofs.Equal.{equal-same, equal-refl}
+use Rattle.mz_unification.proofs.Offered.{taken-is}
+use Rattle.mz_punify.proofs.Offered.{items-in-both, listed-exprs}
+use Rattle.mz_numbered.proofs.Offered.{equal-same, equal-refl}
 use Rattle.mz_soundness.specs.Tables.{Tables, State, signatures_in}
 use Rattle.mz_soundness.specs.Premises.{pop_expr, pop_obligation, pop_sides}
 use Rattle.mz_soundness.specs.ProofMachine.{proof_row, sides, same_term, stream_of, unfolding_of}

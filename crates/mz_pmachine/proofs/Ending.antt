@@ -13,7 +13,7 @@ use Rattle.mz_numbered.specs.Numbered.{Numbered, a_variable, portable}
 use Rattle.mz_unification.specs.Profile.{Item, proof}
 use Rattle.mz_unification.specs.UnifyMachine.{Matching, unify, unify_steps}
 use Rattle.mz_punify.specs.Stored.{item_at, items_at, exprs_at, matching_at}
-use Rattle.mz_punify.proofs.StoredIds.{exprs-append}
+use Rattle.mz_punify.proofs.Offered.{exprs-append}
 use Rattle.mz_soundness.specs.Tables.{Tables, State, Kind, is_axiom, is_theorem, is_definition, Heading, signatures_in}
 use Rattle.mz_soundness.specs.ProofMachine.{last_item, as_proofs, own_variables, ending, ends_with, proof_end}
 use Rattle.mz_soundness.specs.Bodies.{match_steps}

@@ -9,10 +9,10 @@ use Rattle.mz_logic.specs.declared.word.Word.{Word}
 use Rattle.mz_store.specs.declared.item.Id.{Id}
 use Rattle.mz_unification.specs.Steps.{◌>>◌}
 use Rattle.mz_soundness.specs.Premises.{operands_fit}
-use Rattle.mz_machine.proofs.FittingOperands.{next-at, none-left, next-binder, fit-next}
+use Rattle.mz_machine.proofs.Offered.{next-at, none-left, next-binder, fit-next}
 use Rattle.mz_nodes.specs.Numbering.{Numbering, tree_of}
 use Rattle.mz_punify.specs.Stored.{trees_at}
-use Rattle.mz_punify.proofs.StoredIds.{tree-at, length-trees}
+use Rattle.mz_punify.proofs.Offered.{tree-at, length-trees}
 
 -- the j-th operand decides, or leaves it to those after it
 pub fit-step : (sigs : List Signature) (s : Numbering) (is : List Id) (ws : List Word) (j : ℕ) (i : Id) (w : Word) (r : Result (Unit {0}) K)

@@ -17,9 +17,9 @@ use Rattle.mz_logic.specs.Words.{word_bound, word_deps, bound_places, places_set
 use Rattle.mz_logic.specs.declared.binder.Binder.{Binder}
 use Rattle.mz_logic.specs.declared.binder.SortMods.{SortMods}
 use Rattle.mz_logic.specs.declared.word.Word.{Word}
-use Rattle.mz_logic.proofs.Instance.{one_at}
+use Rattle.mz_logic.proofs.Offered.{one_at}
 use Rattle.mz_checks.specs.Checks.{Checks, demand, AllHold}
-use Rattle.mz_checks.proofs.InOrder.{all_hold-first, all_hold-rest, all_hold-rows}
+use Rattle.mz_checks.proofs.Offered.{all_hold-first, all_hold-rest, all_hold-rows}
 use Rattle.mz_cmd.specs.declared.rule.K.{K}
 use Rattle.mz_cmd.specs.declared.rule.K.TheVariants as rules
 use Rattle.mz_layout.specs.Tables.{term_row}
@@ -28,16 +28,14 @@ use Rattle.mz_store.specs.Sharing.{IsTold}
 use Rattle.mz_nodes.specs.Numbering.{Numbering, IsIn, IsOver, tree_of, entry_of}
 use Rattle.mz_store.specs.declared.item.DepsMode.TheVariants.{Free}
 use Rattle.mz_store.specs.Bits.{Tells, bound_from, bound_vars}
-use Rattle.mz_store.proofs.Places.{bound-once, set-to, set-from}
 use Rattle.mz_unification.specs.Tests.{is_member}
-use Rattle.mz_store.proofs.Meeting.{bound-has}
-use Rattle.mz_unification.proofs.TestLaws.{contains-member, not-both}
+use Rattle.mz_store.proofs.Offered.{bound-once, set-to, set-from, bound-has}
+use Rattle.mz_unification.proofs.Offered.{contains-member, not-both}
 use Rattle.mz_soundness.specs.FreeVars.{in_fv, free_within}
 use Rattle.mz_machine.specs.Before.{Before, signatures_of, HasRightWords}
 use Rattle.mz_machine.specs.OverStore.{IsContextOf}
 use Rattle.mz_soundness.specs.RowWords.{bound_count, first_sorts, IsResultWord, param_check, param_checks, word_checks}
-use Rattle.mz_soundness.proofs.RightWords.{right-words}
-use Rattle.mz_soundness.proofs.FreeVarLaws.{in-fv-true, free-within}
+use Rattle.mz_soundness.proofs.Offered.{right-words, in-fv-true, free-within}
 
 -- ---- free variables are bound variables of the context
 

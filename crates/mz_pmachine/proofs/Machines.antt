@@ -15,7 +15,7 @@ use Rattle.mz_nodes.specs.Numbering.{Numbering, AreIn}
 use Rattle.mz_punify.specs.Stored.{AreItemsIn}
 use Rattle.mz_punify.specs.declared.command.Stop.{Stop}
 use Rattle.mz_punify.specs.declared.command.Stop.TheVariants.{Rule, Mem}
-use Rattle.mz_punify.proofs.StoredIds.{still-in}
+use Rattle.mz_punify.proofs.Offered.{still-in}
 use Rattle.mz_pmachine.specs.OverNodes.{Gives, UnlessMem, Grows, IsUnderway}
 use Rattle.mz_pmachine.proofs.TermResults.{expr-kept}
 

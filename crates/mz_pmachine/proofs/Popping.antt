@@ -9,7 +9,7 @@ use Rattle.mz_nodes.specs.Numbering.{Numbering}
 use Rattle.mz_store.specs.declared.item.Item.{Item as Kept}
 use Rattle.mz_unification.specs.Profile.{Item}
 use Rattle.mz_punify.specs.Stored.{item_at, items_at, IsItemIn, AreItemsIn}
-use Rattle.mz_punify.proofs.StoredIds.{items-in-left, items-in-right, items-push}
+use Rattle.mz_punify.proofs.Offered.{items-in-left, items-in-right, items-push}
 use Rattle.mz_pmachine.specs.OverNodes.{heap_at}
 
 pub popped : (s : Numbering) (old new : List Kept) (x : Kept) → old ≡ new ++ x ∷ [] → AreItemsIn s old → IsItemIn s x × AreItemsIn s new

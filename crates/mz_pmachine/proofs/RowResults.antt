@@ -6,11 +6,11 @@ use Rattle.mz_cmd.specs.declared.rule.K.TheVariants as k
 use Rattle.mz_cmd.specs.declared.code.ProofCode.TheVariants as code
 use Rattle.mz_logic.specs.Sorts.{HasSort}
 use Rattle.mz_logic.specs.declared.binder.Binder.{Binder}
-use Rattle.mz_logic.proofs.Rules.{sort_is}
+use Rattle.mz_logic.proofs.Offered.{sort_is}
 use Rattle.mz_unification.specs.Spells.{dummy_of}
 use Rattle.mz_numbered.specs.Numbered.{Numbered, a_variable, tree_of, equal, portable}
 use Rattle.mz_unification.specs.Profile.{Item, expr, proof, obligation, conversion}
-use Rattle.mz_numbered.proofs.Equal.{equal-same, equal-refl}
+use Rattle.mz_numbered.proofs.Offered.{equal-same, equal-refl}
 use Rattle.mz_soundness.specs.Tables.{Tables, State}
 use Rattle.mz_soundness.specs.Premises.{pop_expr, pop_obligation, is_conversion, is_obligation, may_be_dummy_sort, is_provable_sort, bound_count}
 use Rattle.mz_soundness.specs.ProofMachine.{proof_row, referred, has_provable_sort}

@@ -9,7 +9,7 @@ use Rattle.mz_nodes.specs.Numbering.{Numbering}
 use Rattle.mz_store.specs.declared.item.Item.{Item as Kept}
 use Rattle.mz_unification.specs.Profile.{Item, expr, proof, obligation, conversion}
 use Rattle.mz_punify.specs.Stored.{item_at, items_at}
-use Rattle.mz_unification.proofs.Inverting.{taken-is}
+use Rattle.mz_unification.proofs.Offered.{taken-is}
 use Rattle.mz_soundness.specs.Premises.{pop_expr, pop_exprs, pop_operands}
 
 pub pop-next : (m : ℕ) (xs : List (Item Numbered)) (es : List Numbered) (e : Numbered) (rest : List (Item Numbered)) → pop_expr xs ≡ Ok (e, rest) → pop_exprs (suc m) xs es ≡ pop_exprs m rest (e ∷ es)

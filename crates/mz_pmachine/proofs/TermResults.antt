@@ -23,16 +23,15 @@ use Rattle.mz_punify.specs.Stored.{exprs_at, trees_at, item_at, items_at, IsItem
 use Rattle.mz_unification.specs.Steps.{◌>>=◌}
 use Rattle.std.specs.Prelude.{reverse}
 use Rattle.std.proofs.lemmas.List.{reverse-append}
-use Rattle.mz_punify.proofs.StoredIds.{items-in-both, still-in, length-trees, trees-of}
+use Rattle.mz_punify.proofs.Offered.{items-in-both, still-in, length-trees, trees-of}
 use Rattle.mz_soundness.specs.Tables.{Tables, signatures_in, State}
 use Rattle.mz_soundness.specs.Premises.{pop_operands, operands_fit}
 use Rattle.mz_soundness.specs.ProofMachine.{proof_row, built, push, saved}
 use Rattle.mz_machine.specs.Before.{Before, signatures_of, words_before}
 use Rattle.mz_soundness.specs.FileRows.{term_of_file}
-use Rattle.mz_soundness.proofs.Operands.{fits-from}
-use Rattle.mz_machine.proofs.BeforeLaws.{length-words, words-at, signatures-before}
-use Rattle.mz_machine.proofs.FittingOperands.{binders-many}
-use Rattle.mz_nodes.proofs.Growing.{entry-kept}
+use Rattle.mz_soundness.proofs.Offered.{fits-from}
+use Rattle.mz_machine.proofs.Offered.{length-words, words-at, signatures-before, binders-many}
+use Rattle.mz_nodes.proofs.Offered.{entry-kept}
 
 module _ (tables : Tables) (at t : ℕ) (st : State Numbered) where
   -- ---- what is made decides

@@ -15,14 +15,14 @@ use Rattle.mz_store.specs.declared.item.Item.{Item as Kept}
 use Rattle.mz_numbered.specs.Numbered.{Numbered, a_variable, an_application, operand_list, tree_of, portable}
 use Rattle.mz_unification.specs.UnifyMachine.{in_definition, Matching, unify, unify_steps}
 use Rattle.mz_punify.specs.Stored.{IsItemIn, AreItemsIn, item_at, items_at, exprs_at, matching_at}
-use Rattle.mz_punify.proofs.StoredIds.{items-push}
+use Rattle.mz_punify.proofs.Offered.{items-push}
 use Rattle.mz_unify.specs.declared.unified.UnifyMode.TheVariants.{Body}
 use Rattle.mz_soundness.specs.ProofMachine.{stream_of}
 use Rattle.mz_pmachine.specs.OverNodes.{UnlessMem}
 use Rattle.mz_punify.specs.declared.command.Stop.{Stop}
 use Rattle.mz_punify.specs.declared.command.Stop.TheVariants.{Rule, Mem}
 use Rattle.mz_machine.specs.Before.{Before, tables_of, signatures_of, words_before}
-use Rattle.mz_machine.proofs.BeforeLaws.{signatures-before, length-words, term-before}
+use Rattle.mz_machine.proofs.Offered.{signatures-before, length-words, term-before}
 use Rattle.mz_pmachine.proofs.Converting.{put_in}
 
 -- ---- terms of expressions

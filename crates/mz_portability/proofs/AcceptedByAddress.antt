@@ -1,7 +1,7 @@
 -- A written file is accepted by address where the text's public statements agree with the specification.
 use Rattle.std.proofs.Common.{false}
-use Rattle.mz_writing.proofs.SameLists.{written-same}
-use Rattle.mz_accepting.proofs.Agreeing.{same-lists-agree}
+use Rattle.mz_writing.proofs.Offered.{written-same}
+use Rattle.mz_accepting.proofs.Offered.{same-lists-agree}
 use Rattle.mz_portability.specs.Laws.{WrittenFilesAreAcceptedByAddress}
 use Rattle.mz_portability.proofs.FilesByAddress.{files-by-address}
 

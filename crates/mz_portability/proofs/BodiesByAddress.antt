@@ -2,7 +2,7 @@
 use Rattle.std.proofs.Common.{◌≡◌, ◌⊎◌, ℕ, Bool, true, false, List, Option, None, Some, refl, sym, subst, inl, inr}
 use Rattle.std.specs.Prelude.{MatchBool, ⊤}
 use Rattle.mz_checks.specs.Checks.{Checks, AllHold}
-use Rattle.mz_checks.proofs.InOrder.{all_hold-both, all_hold-first, all_hold-rest}
+use Rattle.mz_checks.proofs.Offered.{all_hold-both, all_hold-first, all_hold-rest}
 use Rattle.mz_cmd.specs.declared.rule.K.{K}
 use Rattle.mz_cmd.specs.Codes.{statement_code}
 use Rattle.mz_logic.specs.Declaration.{Declaration, sort_decl, term_decl, assertion_decl}
@@ -13,7 +13,7 @@ use Rattle.mz_soundness.specs.FileRows.{Taken, term_of_file, thm_of_file, rows_t
 use Rattle.mz_soundness.specs.Lists.{definition_of, assertion_of}
 use Rattle.mz_soundness.specs.RowWords.{param_checks, word_checks}
 use Rattle.mz_soundness.specs.Tables.{Tables, Heading}
-use Rattle.mz_soundness.proofs.Outcomes.{bodies-checked}
+use Rattle.mz_soundness.proofs.Offered.{bodies-checked}
 use Rattle.mz_numbered.specs.Numbered.{portable}
 use Rattle.mz_binary.specs.declared.standard.Standard.TheVariants.{Portable}
 use Rattle.mz_binary.specs.Standards.{strict_standard}

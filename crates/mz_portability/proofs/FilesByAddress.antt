@@ -11,8 +11,7 @@ use Rattle.mz_logic.specs.LegalLists.{Statement, LegalAfter, gap_free}
 use Rattle.mz_layout.specs.Normal.{Written, Parts, file_of}
 use Rattle.mz_layout.specs.Standing.{Fit, AreListed, body_place, next_place}
 use Rattle.mz_layout.specs.Tables.{list_at}
-use Rattle.mz_layout.proofs.ListRead.{all-listed}
-use Rattle.mz_layout.proofs.PartsStand.{counts-said}
+use Rattle.mz_layout.proofs.Offered.{all-listed, counts-said}
 use Rattle.mz_soundness.specs.FileRows.{taken_by, rows_taken, body_bytes}
 use Rattle.mz_soundness.specs.Tables.{Declares}
 use Rattle.mz_binary.specs.declared.standard.Standard.{Standard}
@@ -21,14 +20,13 @@ use Rattle.mz_binary.specs.Standards.{strict_standard}
 use Rattle.mz_binary.specs.Chains.{IsGoodStatement, GoodTo, EndsAt}
 use Rattle.mz_binary.specs.Checking.{checks_of}
 use Rattle.mz_binary.specs.Good.{Good}
-use Rattle.mz_binary.proofs.LegalChains.{well-chain}
+use Rattle.mz_binary.proofs.Offered.{well-chain}
 use Rattle.mz_steps.specs.Sameness.{IsSameEnv}
-use Rattle.mz_steps.proofs.Joining.{same-at-first}
+use Rattle.mz_steps.proofs.Offered.{same-at-first}
 use Rattle.mz_by_address.specs.SharedRows.{AreSharedRows}
-use Rattle.mz_by_address.proofs.LongerRows.{shared-at-first}
+use Rattle.mz_by_address.proofs.Offered.{shared-at-first}
 use Rattle.mz_writing.specs.Writing.{AreWritten}
-use Rattle.mz_writing.proofs.ListsHold.{body-is, same-after}
-use Rattle.mz_writing.proofs.FilesHold.{files-good}
+use Rattle.mz_writing.proofs.Offered.{body-is, same-after, files-good}
 use Rattle.mz_portability.specs.Laws.{WrittenFilesAreGoodByAddress}
 use Rattle.mz_portability.proofs.BodiesByAddress.{BodyRunsToo, holds-too}
 use Rattle.mz_portability.proofs.StatementsByAddress.{GoesOn, goes-on}

@@ -9,25 +9,22 @@ use Rattle.mz_logic.specs.Legality.{Each, IsLegalDecl, IsDummy}
 use Rattle.mz_logic.specs.Modifiers.{MayBeDummySort}
 use Rattle.mz_logic.specs.declared.binder.Binder.{Binder}
 use Rattle.mz_logic.specs.declared.word.Word.{Word}
-use Rattle.mz_logic.proofs.Lists.{each_from_all}
-use Rattle.mz_logic.proofs.PlainLegality.{assertions_are_sorted, terms_are_sorted}
+use Rattle.mz_logic.proofs.Offered.{each_from_all, assertions_are_sorted, terms_are_sorted}
 use Rattle.mz_layout.specs.Normal.{Parts, row_of_term, file_of}
 use Rattle.mz_layout.specs.Standing.{Fit}
 use Rattle.mz_unification.specs.Spells.{TermRow, ThmRow, SpellsForm}
-use Rattle.mz_unification.proofs.Inverting.{some_is}
+use Rattle.mz_unification.proofs.Offered.{some_is}
 use Rattle.mz_soundness.specs.FileRows.{taken_by, term_of_file, thm_of_file, rows_taken, body_bytes}
 use Rattle.mz_soundness.specs.Lists.{definition_of, assertion_of}
 use Rattle.mz_soundness.specs.Tables.{Tables, Declares}
-use Rattle.mz_soundness.proofs.Declared.{pairs-long}
+use Rattle.mz_soundness.proofs.Offered.{pairs-long}
 use Rattle.mz_binary.specs.Spelling.{SpellsRow}
-use Rattle.mz_binary.proofs.Declared.{terms-many}
-use Rattle.mz_binary.proofs.Following.{rows-after}
+use Rattle.mz_binary.proofs.Offered.{terms-many, rows-after}
 use Rattle.mz_steps.specs.Sameness.{IsSameTerm, IsSameEnv}
 use Rattle.mz_by_address.specs.SharedRows.{AreSharedRows}
-use Rattle.mz_by_address.proofs.LongerRows.{shared-with-term}
-use Rattle.mz_by_address.proofs.Statements.{assertions-run, definitions-run}
+use Rattle.mz_by_address.proofs.Offered.{shared-with-term, assertions-run, definitions-run}
 use Rattle.mz_writing.specs.Writing.{SaySignature, IsWrittenForm, IsWrittenAssertion, IsWrittenDeclaration}
-use Rattle.mz_writing.proofs.RowsHold.{definition-row}
+use Rattle.mz_writing.proofs.Offered.{definition-row}
 use Rattle.mz_portability.proofs.BodiesByAddress.{RunsToo, BodyRunsToo}
 
 -- a plain term's row has no stream

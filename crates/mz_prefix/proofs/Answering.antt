@@ -1,7 +1,7 @@
 -- Which answer comes.
 use Rattle.std.proofs.Common.{false, ◌≡◌, ◌≤◌, ◌<◌, ◌∙◌, ℕ, List, length, ap, subst, inl, arith}
 use Rattle.mz_checks.specs.Checks.{AllHold, FailsFirst}
-use Rattle.mz_checks.proofs.InOrder.{fails-before, fails-after, all_hold-both}
+use Rattle.mz_checks.proofs.Offered.{fails-before, fails-after, all_hold-both}
 use Rattle.mz_mmu.specs.Proof.{Statement}
 use Rattle.mz_type.specs.TextOf.{TextOf}
 use Rattle.mz_agreeing.specs.Laws.{SpecificationsOfTextsDeclare}

@@ -1,8 +1,7 @@
 -- Each text has a specification, or one first fault, or one thing that stands first against a specification.
 use Rattle.std.proofs.Common.{◌≡◌, ◌≤◌, ℕ, suc, ◌⊎◌, inl, inr, Bool, true, false, List, [], ◌∷◌, length, refl, sym, ap, subst, ◌∙◌}
 use Rattle.mz_checks.specs.Checks.{AllHold, FailsFirst, AreDecided}
-use Rattle.mz_checks.proofs.CheckLaws.{fails_first-unique, all_hold-excludes, all_hold-or_fails}
-use Rattle.mz_checks.proofs.InOrder.{are_decided-both, at_most-decided, implied-decided, both-decided}
+use Rattle.mz_checks.proofs.Offered.{fails_first-unique, all_hold-excludes, all_hold-or_fails, are_decided-both, at_most-decided, implied-decided, both-decided}
 use Rattle.mz_logic.specs.Tree.{Tree, Trees, none, more}
 use Rattle.mz_logic.specs.Declaration.{Declaration, sort_decl, term_decl, assertion_decl}
 use Rattle.mz_math.specs.Meaning.{height}

@@ -7,8 +7,7 @@ use Rattle.std.proofs.lemmas.Bool.{false≢true, and_left, and_right, and_parts,
 use Rattle.mz_lex.specs.Kinds.{is_space, is_between, is_digit, is_name_start, is_name_byte, is_number_start, is_symbol_byte, is_of_kind, ends_math}
 use Rattle.mz_lex.specs.declared.token.TokenKind.{TokenKind}
 use Rattle.mz_lex.specs.declared.token.TokenKind.TheVariants as kinds
-use Rattle.mz_lex.proofs.Names.{among, longest-symbol, longest-name, two-bytes, starts-no_digit}
-use Rattle.mz_lex.proofs.OneLexeme.{math-once}
+use Rattle.mz_lex.proofs.Offered.{among, longest-symbol, longest-name, two-bytes, starts-no_digit, math-once}
 use Rattle.mz_printing.specs.Words.{ends}
 
 -- a test that each symbol but `_` fails

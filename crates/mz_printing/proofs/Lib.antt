@@ -5,3 +5,4 @@ pub mod PlainLines
 pub mod Tokens
 pub mod Prefix
 pub mod Formulas
+pub mod Offered

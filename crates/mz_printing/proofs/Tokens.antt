@@ -5,8 +5,7 @@ use Rattle.std.specs.List.{list_all}
 use Rattle.std.proofs.lemmas.List.{append_cancel_left, append_cancel_right}
 use Rattle.std.proofs.lemmas.Bool.{and_parts, and_from, not-true}
 use Rattle.mz_lex.specs.Kinds.{is_space, is_math_byte, inside_of}
-use Rattle.mz_lex.proofs.MathStrings.{has-inside}
-use Rattle.mz_lex.proofs.OneLexeme.{part-at}
+use Rattle.mz_lex.proofs.Offered.{has-inside, part-at}
 use Rattle.mz_tokens.specs.Pieces.{IsSpaces, IsPiece, PiecesFrom, Pieces, no_delimiters, piece_text, piece_texts}
 use Rattle.mz_tokens.specs.declared.pieces.Piece.{Piece}
 use Rattle.mz_printing.specs.Lines.{Tokens, spaced, math_text}

@@ -7,7 +7,7 @@ use Rattle.mz_logic.specs.Signature.{Signature}
 use Rattle.mz_logic.specs.Declaration.{Term, Assertion, Declaration, sort_decl, term_decl, assertion_decl, sorts, signatures}
 use Rattle.mz_logic.specs.Legality.{InRange, AllInRange}
 use Rattle.mz_logic.specs.declared.binder.SortMods.{SortMods}
-use Rattle.mz_logic.proofs.Extend.{extends_append, sorts-append}
+use Rattle.mz_logic.proofs.Offered.{extends_append, sorts-append}
 use Rattle.mz_publics.specs.PublicPart.{public_number, is_local_term, mentions_local, any_mentions_local}
 use Rattle.mz_publics.proofs.Numbers.{local-number, public-number}
 use Rattle.mz_publics.proofs.Renaming.{AllTerms, AllTermsIn, IsKept, Kept, AllKept}

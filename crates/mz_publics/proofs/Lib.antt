@@ -2,3 +2,4 @@ pub mod Renaming
 pub mod Numbers
 pub mod Beside
 pub mod Legal
+pub mod Offered

@@ -7,7 +7,7 @@ use Rattle.mz_logic.specs.Signature.{Signature}
 use Rattle.mz_logic.specs.Variables.{InFV, InSomeFV, IsOperandAt}
 use Rattle.mz_logic.specs.Legality.{EachTree, SortsFit, BoundFit, sort_of, signature_at, InRange, AllInRange, Operands, OperandsOf}
 use Rattle.mz_logic.specs.declared.binder.Binder.{Binder}
-use Rattle.mz_logic.proofs.Rules.{signature_is}
+use Rattle.mz_logic.proofs.Offered.{signature_is}
 use Rattle.mz_publics.specs.PublicPart.{renamed, all_renamed}
 
 -- the term t of the one list of signatures is f t of the other

@@ -3,3 +3,4 @@ mod VariableWords
 pub mod RowValues
 mod UnifyTurns
 mod Underway
+pub mod Offered

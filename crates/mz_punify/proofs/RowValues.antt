@@ -17,7 +17,7 @@ use Rattle.mz_unification.specs.UnifyMachine.{UnifyMode, UnifyState, is_empty, o
 use Rattle.mz_punify.specs.Stored.{stack_at}
 use Rattle.mz_punify.specs.Rows.{with_targets}
 use Rattle.mz_punify.proofs.StoredIds.{listed-exprs, stack-operands}
-use Rattle.mz_numbered.proofs.Equal.{equal-same, equal-refl}
+use Rattle.mz_numbered.proofs.Offered.{equal-same, equal-refl}
 
 module _ (sigs : List Signature) (ctx : List Binder) (mode : UnifyMode) (st : UnifyState Numbered) where
   -- ---- UTerm and UTermSave

@@ -11,8 +11,7 @@ use Rattle.mz_unification.specs.Steps.{at_place, over, goes_on, follow, goes_to,
 use Rattle.mz_unification.specs.Streams.{UnifyCommand, u_end, IsEnd, unify_command}
 use Rattle.mz_numbered.specs.Numbered.{Numbered, portable}
 use Rattle.mz_unification.specs.UnifyMachine.{UnifyMode, kind_of, UnifyState, unify_row, unify_turn_by, unify_turn, unify_from, unify_steps_from}
-use Rattle.mz_unification.proofs.Turning.{follow-same, goes_to-same, if_read-same, drop-less}
-use Rattle.mz_unification.proofs.UnifyRuns.{went-on, bound-never-ends, count-is-whole}
+use Rattle.mz_unification.proofs.Offered.{follow-same, goes_to-same, if_read-same, drop-less, went-on, bound-never-ends, count-is-whole}
 
 module _ (sigs : List Signature) (ctx : List Binder) (mode : UnifyMode) where
   -- what is left of a run, and of its count

@@ -5,7 +5,7 @@ use Rattle.std.specs.List.Sorted.{IsStrictlyIncreasing}
 use Rattle.std.proofs.lemmas.Bool.{cases_Bool, cases_order}
 use Rattle.std.proofs.lemmas.Option.{slice_get_within, slice_get-get_or}
 use Rattle.mz_checks.specs.Checks.{AllHold, each_in_order, ◌>>◌}
-use Rattle.mz_checks.proofs.InOrder.{all_hold-both}
+use Rattle.mz_checks.proofs.Offered.{all_hold-both}
 use Rattle.mz_lex.specs.Lexemes.{Lexeme}
 use Rattle.mz_logic.specs.Declaration.{sorts}
 use Rattle.mz_logic.specs.Modifiers.{IsPure, IsStrict, IsFree, MayBeResultSort, MayBeDummySort}
@@ -14,7 +14,7 @@ use Rattle.mz_logic.specs.Legality.{IsParam, AreParams, AreBindersThere, IsDummy
 use Rattle.mz_logic.specs.declared.binder.Binder.{Binder}
 use Rattle.mz_logic.specs.declared.binder.ResultType.{ResultType}
 use Rattle.mz_logic.specs.declared.binder.SortMods.{SortMods}
-use Rattle.mz_logic.proofs.Instance.{one_at}
+use Rattle.mz_logic.proofs.Offered.{one_at}
 use Rattle.mz_grammar.specs.Statement.{TypeText}
 use Rattle.mz_printing.specs.Lines.{binders_at, binder_words, opening_words, naming_words, type_at}
 use Rattle.mz_printing.specs.Words.{stop}

@@ -5,14 +5,14 @@ use Rattle.std.specs.List.{list_all}
 use Rattle.std.proofs.lemmas.Bool.{and_parts, and_from, or_cases, or_left, eqb-true, ne_eqb, leb-true, le-leb, false≢true}
 use Rattle.std.proofs.lemmas.Option.{get_or_from_slice_get}
 use Rattle.mz_checks.specs.Checks.{Checks, nothing, ask, AllHold, retold, each_in_order, ◌>>◌}
-use Rattle.mz_checks.proofs.InOrder.{all_hold-both}
+use Rattle.mz_checks.proofs.Offered.{all_hold-both}
 use Rattle.mz_lex.specs.Kinds.{is_name, is_name_start, is_name_byte, is_between, is_space, is_math_byte, is_allowed, inside_of}
 use Rattle.mz_logic.specs.Tree.{Tree, Trees, var, app, none, more}
 use Rattle.mz_logic.specs.Declaration.{sorts, signatures}
 use Rattle.mz_logic.specs.Sorts.{HasSort}
 use Rattle.mz_logic.specs.Legality.{InRange, AllInRange}
 use Rattle.mz_logic.specs.declared.binder.Binder.{Binder}
-use Rattle.mz_logic.proofs.Rules.{range_of_sort}
+use Rattle.mz_logic.proofs.Offered.{range_of_sort}
 use Rattle.mz_notation.specs.declared.table.TermName.{TermName}
 use Rattle.mz_tokens.specs.declared.pieces.Piece.{Piece}
 use Rattle.mz_math.specs.declared.formula.Wanted.{Wanted}
@@ -22,7 +22,7 @@ use Rattle.mz_grammar.specs.declared.refusal.Fault.{Fault}
 use Rattle.mz_printing.specs.Lines.{Tokens, math_text}
 use Rattle.mz_printing.specs.Plain.{is_token_byte, IsToken, AreTokens as AllTokens}
 use Rattle.mz_printing.specs.Prefix.{tokens_of, operand_tokens, enclosed, IsSpoken, IsOfWanted, IsShort}
-use Rattle.mz_printing.proofs.Formulas.{prefix-meant}
+use Rattle.mz_printing.proofs.Offered.{prefix-meant}
 use Rattle.mz_spec.specs.Names.{number_of}
 use Rattle.mz_spec.specs.View.{Variable, Formula, claim, body}
 use Rattle.mz_spec.specs.State.{State, scope_of, reader_of}

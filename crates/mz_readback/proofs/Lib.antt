@@ -5,3 +5,4 @@ pub mod Binding
 pub mod Formulas
 pub mod Statements
 pub mod Printed
+pub mod Offered

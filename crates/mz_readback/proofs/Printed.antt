@@ -16,7 +16,7 @@ use Rattle.mz_logic.specs.Modifiers.{MayBeClaimSort, MayBeDummySort}
 use Rattle.mz_logic.specs.Legality.{AreBindersThere, IsBinderThere, IsDummy, IsLegalDecl, IsClaim, EachTree, AllInRange, InRange, HasOperandSorts, HasBoundOperands}
 use Rattle.mz_logic.specs.declared.binder.Binder.{Binder}
 use Rattle.mz_logic.specs.declared.binder.SortMods.{SortMods}
-use Rattle.mz_logic.proofs.Extend.{sorts-append}
+use Rattle.mz_logic.proofs.Offered.{sorts-append}
 use Rattle.mz_notation.specs.declared.table.TermName.{TermName}
 use Rattle.mz_grammar.specs.declared.kind.AssertKind.{AssertKind}
 use Rattle.mz_grammar.specs.declared.kind.AssertKind.TheVariants.{Axiom, Theorem}
@@ -39,9 +39,8 @@ use Rattle.mz_readback.proofs.Names.{number-more, number-last, all-others}
 use Rattle.mz_printing.specs.Plain.{AreNames, IsPlainType, ArePlainBinders, AreFormulas}
 use Rattle.mz_printing.specs.Lines.{name_word}
 use Rattle.mz_grammar.specs.Statement.{keyword_of}
-use Rattle.mz_printing.proofs.Spelling.{lines-spell}
-use Rattle.mz_printing.proofs.PlainLines.{lines-lex}
-use Rattle.mz_spec.proofs.Marked.{entries-decls}
+use Rattle.mz_printing.proofs.Offered.{lines-spell, lines-lex}
+use Rattle.mz_spec.proofs.Offered.{entries-decls}
 use Rattle.mz_readback.specs.Declared.{term_line_of, plain_dummies}
 use Rattle.mz_readback.proofs.Places.{AllBelow, below-all}
 use Rattle.mz_readback.proofs.Formulas.{IsBehind, tokens-are}

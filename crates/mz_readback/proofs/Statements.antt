@@ -6,7 +6,7 @@ use Rattle.std.proofs.lemmas.List.{get_or_append_left}
 use Rattle.std.proofs.lemmas.Option.{slice_get_within, slice_get-get_or, get_or_from_slice_get}
 use Rattle.std.proofs.lemmas.Bool.{cases_Bool}
 use Rattle.mz_checks.specs.Checks.{AllHold, Checks, nothing, each_in_order, ◌>>◌}
-use Rattle.mz_checks.proofs.InOrder.{all_hold-both}
+use Rattle.mz_checks.proofs.Offered.{all_hold-both}
 use Rattle.mz_lex.specs.Lexemes.{Lexeme}
 use Rattle.mz_lex.specs.Kinds.{is_name}
 use Rattle.mz_logic.specs.Tree.{Tree, Trees, none, more}
@@ -22,7 +22,7 @@ use Rattle.mz_logic.specs.Legality.{IsLegalDecl, IsClaim, AreBindersThere, ArePa
 use Rattle.mz_logic.specs.declared.binder.Binder.{Binder}
 use Rattle.mz_logic.specs.declared.binder.ResultType.{ResultType}
 use Rattle.mz_logic.specs.declared.binder.SortMods.{SortMods}
-use Rattle.mz_logic.proofs.Rules.{sort_by_rules}
+use Rattle.mz_logic.proofs.Offered.{sort_by_rules}
 use Rattle.mz_tokens.specs.declared.pieces.Piece.{Piece}
 use Rattle.mz_grammar.specs.declared.refusal.Fault.{Fault}
 use Rattle.mz_grammar.specs.declared.kind.AssertKind.{AssertKind}

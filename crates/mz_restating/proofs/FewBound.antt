@@ -28,21 +28,16 @@ use Rattle.mz_unification.specs.Spells.{trees_of, dummy_of, variables_from, Spel
 use Rattle.mz_unification.specs.Profile.{strict, tree_parts, Item, expr, proof, obligation, conversion}
 use Rattle.mz_unification.specs.Sorted.{Sorted, ItemsSorted}
 use Rattle.mz_unification.specs.UnifyMachine.{in_definition, is_empty}
-use Rattle.mz_unification.proofs.Inverting.{from_bind, from_need, from_want, taken, taken-is, place-ok}
-use Rattle.mz_unification.proofs.Spelled.{place_from, renamed}
-use Rattle.mz_unification.proofs.OwnStream.{definition-spelled}
-use Rattle.mz_unification.proofs.Unfolding.{unfolding-is}
-use Rattle.mz_unification.proofs.OneSpelling.{one-text}
+use Rattle.mz_unification.proofs.Offered.{from_bind, from_need, from_want, taken, taken-is, place-ok, place_from, renamed, definition-spelled, unfolding-is, one-text}
 use Rattle.mz_soundness.specs.Tables.{Tables, signatures_in, State, Kind, is_definition, Heading, Declares}
 use Rattle.mz_soundness.specs.FreeVars.{free_within}
 use Rattle.mz_soundness.specs.Premises.{bound_count, pop, pop_expr, pop_proof, pop_obligation, pop_conversion, is_conversion, is_obligation, may_be_dummy_sort}
 use Rattle.mz_soundness.specs.RowWords.{bound_count as bound_words}
 use Rattle.mz_soundness.specs.ProofMachine.{ends_with, matched_by, built, cited, referred, same_term, unfolding_of, has_provable_sort, proof_row, proof_end, last_item, ending, own_stream}
 use Rattle.mz_soundness.specs.Bodies.{BodyCommand, ends, proves, body_command, body_turn, body_turn_by, body_from, body_start, Runs}
-use Rattle.mz_soundness.proofs.WholeBody.{body-fact}
-use Rattle.mz_soundness.proofs.Assertions.{end-ran, own-run}
+use Rattle.mz_soundness.proofs.Offered.{body-fact, end-ran, own-run}
 use Rattle.mz_tracing.specs.Traces.{Trace, traced, trace_turn, trace_command, trace_from, trace_start, Made}
-use Rattle.mz_tracing.proofs.Following.{from_follow}
+use Rattle.mz_tracing.proofs.Offered.{from_follow}
 
 -- ---- a command adds at most one bound variable, where there are fewer than 55
 

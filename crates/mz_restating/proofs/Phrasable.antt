@@ -20,7 +20,7 @@ use Rattle.mz_soundness.specs.Premises.{bound_count}
 use Rattle.mz_soundness.specs.FileRows.{taken_by, rows_taken}
 use Rattle.mz_binary.specs.Chains.{IsGoodStatement, GoodTo}
 use Rattle.mz_binary.specs.Standards.{strict_standard}
-use Rattle.mz_binary.proofs.Heads.{head-at}
+use Rattle.mz_binary.proofs.Offered.{head-at}
 use Rattle.mz_tracing.specs.Laws.{MadeProofsProve}
 use Rattle.mz_phrasing.specs.Phrases.{depth}
 use Rattle.mz_phrasing.specs.Phrasing.{Vocabulary, statement}

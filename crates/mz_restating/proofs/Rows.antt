@@ -18,21 +18,20 @@ use Rattle.mz_logic.specs.declared.binder.SortMods.{SortMods}
 use Rattle.mz_logic.specs.declared.word.Word.{Word}
 use Rattle.mz_layout.specs.Numbers.{number_at}
 use Rattle.mz_layout.specs.Tables.{param_count, params_of, term_record, thm_record, term_row, thm_row}
-use Rattle.mz_layout.proofs.TableLists.{length-params}
+use Rattle.mz_layout.proofs.Offered.{length-params}
 use Rattle.mz_unification.specs.Spells.{SpellsForm}
 use Rattle.mz_soundness.specs.Tables.{Heading, Declares}
 use Rattle.mz_soundness.specs.Premises.{bound_count}
 use Rattle.mz_soundness.specs.RowWords.{AreParamWords}
 use Rattle.mz_soundness.specs.Lists.{definition_of, BodyIsGood}
 use Rattle.mz_soundness.specs.FileRows.{taken_by, rows_taken, body_bytes, term_of_file, thm_of_file}
-use Rattle.mz_soundness.proofs.RightWords.{right-words}
+use Rattle.mz_soundness.proofs.Offered.{right-words}
 use Rattle.mz_binary.specs.Checking.{checks_of, kind_checks}
 use Rattle.mz_binary.specs.Chains.{IsGoodStatement}
 use Rattle.mz_binary.specs.Laws.{HasRow}
 use Rattle.mz_binary.specs.Spelling.{IsKindOf, SpellsRow}
 use Rattle.mz_binary.specs.Standards.{strict_standard}
-use Rattle.mz_binary.proofs.Entries.{body_of, entry-good}
-use Rattle.mz_binary.proofs.RowLaws.{good-rows}
+use Rattle.mz_binary.proofs.Offered.{body_of, entry-good, good-rows}
 use Rattle.mz_phrasing.specs.Phrasable.{DepsAscend, HasForm}
 use Rattle.mz_restating.specs.Laws.{AreBytes}
 use Rattle.mz_restating.proofs.Ascending.{params-ascend, result-ascends}

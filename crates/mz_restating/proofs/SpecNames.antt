@@ -14,12 +14,7 @@ use Rattle.mz_spec.specs.Rules.{Every}
 use Rattle.mz_spec.specs.State.{State, Entry, nothing, mark_at, env_of, with_table}
 use Rattle.mz_spec.specs.Declaring.{After}
 use Rattle.mz_spec.specs.Spec.{IsGood, Stand, SpecMakes}
-use Rattle.mz_spec.proofs.Naming.{IsOfKind, every-front}
-use Rattle.mz_spec.proofs.Places.{is_new-other}
-use Rattle.mz_spec.proofs.Good.{good-new}
-use Rattle.mz_spec.proofs.Marked.{entries-decls, entries-marks}
-use Rattle.mz_spec.proofs.Keeping.{kept-nothing}
-use Rattle.mz_spec.proofs.OneSpec.{lexes-kinds, stand-kept}
+use Rattle.mz_spec.proofs.Offered.{IsOfKind, every-front, is_new-other, good-new, entries-decls, entries-marks, kept-nothing, lexes-kinds, stand-kept}
 use Rattle.mz_axioms.specs.Text.{bytes_between, name_at}
 use Rattle.mz_naming.specs.Names.{names_from, declared_names}
 use Rattle.mz_restating.proofs.Seen.{Seen, none_seen, seen_in, seen_with, IsOther, AreNew}

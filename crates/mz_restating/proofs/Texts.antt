@@ -2,7 +2,7 @@
 use Rattle.std.proofs.Common.{◌≡◌, ◌≤◌, ◌+◌, ◌^◌, ◌∙◌, ℕ, suc, List, [], ◌∷◌, length, map, refl, sym, ap, subst, arith, false}
 use Rattle.std.specs.Prelude.{Result}
 use Rattle.mz_checks.specs.Checks.{AllHold}
-use Rattle.mz_checks.proofs.InOrder.{all_hold-both, all_hold-first, all_hold-rest}
+use Rattle.mz_checks.proofs.Offered.{all_hold-both, all_hold-first, all_hold-rest}
 use Rattle.mz_cmd.specs.declared.statement.StmtAt.{StmtAt}
 use Rattle.mz_cmd.specs.declared.statement.StmtFault.{StmtFault}
 use Rattle.mz_logic.specs.Declaration.{Declaration, sort_decl, term_decl, assertion_decl, sorts}
@@ -12,15 +12,14 @@ use Rattle.mz_type.specs.Meaning.{marked}
 use Rattle.mz_type.specs.TextOf.{TextOf}
 use Rattle.mz_type.specs.Weight.{sort_count, byte_bound, parameter_limit, bound_limit, byte_limit, parameter_count, bound_count, within, each_within, IsWithinLimits}
 use Rattle.mz_layout.specs.Tables.{list_at}
-use Rattle.mz_layout.proofs.Parts.{parts-of_layout}
+use Rattle.mz_layout.proofs.Offered.{parts-of_layout}
 use Rattle.mz_soundness.specs.FileRows.{taken_by}
 use Rattle.mz_binary.specs.Checking.{checks_of}
 use Rattle.mz_binary.specs.Chains.{Statements, IsGoodStatement}
 use Rattle.mz_binary.specs.Good.{Good}
 use Rattle.mz_binary.specs.WholeLaws.{GoodFilesSpell}
 use Rattle.mz_binary.specs.Standards.{strict_standard}
-use Rattle.mz_binary.proofs.ChainLaws.{chain-declares}
-use Rattle.mz_binary.proofs.LegalChains.{good-legal}
+use Rattle.mz_binary.proofs.Offered.{chain-declares, good-legal}
 use Rattle.mz_spec.specs.State.{env_of}
 use Rattle.mz_spec.specs.Laws.{OneReading}
 use Rattle.mz_match.specs.Match.{publics, Agrees}

@@ -23,8 +23,7 @@ use Rattle.mz_binary.specs.Checking.{checks_of, kind_checks}
 use Rattle.mz_binary.specs.Chains.{IsGoodStatement}
 use Rattle.mz_binary.specs.Spelling.{IsKindOf, SpellsRow}
 use Rattle.mz_binary.specs.Standards.{strict_standard}
-use Rattle.mz_binary.proofs.Entries.{entry-good}
-use Rattle.mz_binary.proofs.LegalChains.{well-chain}
+use Rattle.mz_binary.proofs.Offered.{entry-good, well-chain}
 
 -- the heading of the next theorem's row
 abbrev pub next_heading : List ℕ → List Declaration → Heading

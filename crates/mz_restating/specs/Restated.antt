@@ -60,7 +60,8 @@ pub record Restates (spec bin : List ℕ) (prefix : List ℕ) (ts : List Stateme
 
 -- ---- what stands against the text
 
--- a statement, by its number, in whose text too many lists stand in one another; or the length of the text or of its binary
+-- a statement, by its number, in whose text too many lists stand in one another; or the greater of the text's length and the
+-- bound on its binary's, as it is told
 pub data Unstated : Type 0 where
   deep : ℕ → Unstated
   too_long : ℕ → Unstated

@@ -11,3 +11,4 @@ pub mod Asked
 pub mod Pieces
 pub mod AskedOfPieces
 pub mod Readings
+pub mod Offered

@@ -2,7 +2,7 @@
 use Rattle.std.proofs.Common.{ℕ, zero, suc, ◌≡◌, ◌<◌, ◌≤◌, ◌+◌, ◌-◌, List, [], ◌∷◌, length, length-append, sym, ap, ◌∙◌, subst, arith, inl, inr}
 use Rattle.std.specs.Prelude.{◌⊎◌}
 use Rattle.mz_checks.specs.Checks.{Checks, nothing, ask, AllHold, FailsFirst, AreDecided, ◌>>◌}
-use Rattle.mz_checks.proofs.CheckLaws.{fails_first-unique, all_hold-excludes, all_hold-or_fails}
+use Rattle.mz_checks.proofs.Offered.{fails_first-unique, all_hold-excludes, all_hold-or_fails}
 use Rattle.mz_sexpr.specs.declared.scan.Class.{Class}
 use Rattle.mz_sexpr.specs.declared.scan.Class.TheVariants.{Space, Note, Opening, Closing, Letter}
 use Rattle.mz_sexpr.specs.declared.scan.Seen.{Seen}

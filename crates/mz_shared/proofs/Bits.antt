@@ -13,7 +13,7 @@ use Rattle.mz_logic.specs.WordsWritten.{is_among, bits_of, bound_from, word_of, 
 use Rattle.mz_logic.specs.declared.binder.SortMods.{SortMods}
 use Rattle.mz_logic.specs.declared.binder.Binder.{Binder}
 use Rattle.mz_logic.specs.declared.word.Word.{Word}
-use Rattle.mz_logic.proofs.WordsWritten.{bits-few, params-back}
+use Rattle.mz_logic.proofs.Offered.{bits-few, params-back}
 use Rattle.mz_shared.specs.Bits.{place_bits}
 
 -- ---- one dependency more

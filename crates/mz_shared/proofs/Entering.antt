@@ -6,8 +6,7 @@ use Rattle.mz_logic.specs.Legality.{Each, IsDummy}
 use Rattle.mz_logic.specs.Words.{binders_from, binders_of}
 use Rattle.mz_logic.specs.declared.binder.Binder.{Binder}
 use Rattle.mz_logic.specs.declared.word.Word.{Word}
-use Rattle.mz_logic.proofs.Instance.{one_at, none_some}
-use Rattle.mz_logic.proofs.Fresh.{split_at}
+use Rattle.mz_logic.proofs.Offered.{one_at, none_some, split_at}
 use Rattle.mz_store.specs.Bits.{bound_from, bound_vars}
 use Rattle.mz_store.specs.Sharing.{Sharing, AreIn, Holds, IsOver, KeepsIds, tree_of, trees_of, dummy_binder}
 use Rattle.mz_store.specs.declared.item.DepsMode.TheVariants as of

@@ -3,3 +3,4 @@ pub mod Making
 pub mod Owned
 mod Entering
 mod Bits
+pub mod Offered

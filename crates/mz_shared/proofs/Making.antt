@@ -8,7 +8,7 @@ use Rattle.mz_logic.specs.Sorts.{HasSort, Fits}
 use Rattle.mz_logic.specs.Words.{TermWords, signature_of, signatures_of, term_at}
 use Rattle.mz_logic.specs.declared.binder.Binder.{Binder}
 use Rattle.mz_logic.specs.declared.expr.Expr.{Expr}
-use Rattle.mz_logic.proofs.Follow.{followed_by_push}
+use Rattle.mz_logic.proofs.Offered.{followed_by_push}
 use Rattle.mz_store.specs.Sharing.{Shared, Sharing, tree_of, trees_of, IsIn, AreIn, Holds, IsOver, CanTake}
 use Rattle.mz_store.specs.declared.item.Id.{Id}
 use Rattle.mz_shared.specs.Instances.{Grows, InReach, AllInReach, AreSorted}

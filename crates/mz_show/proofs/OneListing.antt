@@ -1,13 +1,13 @@
 -- Each file is listed with exactly one text.
 use Rattle.std.proofs.Common.{◌≡◌, ◌≤◌, ◌+◌, ◌++◌, ℕ, zero, suc, List, [], ◌∷◌, length, codes, refl, sym, ap, ◌∙◌, subst, arith, inl, inr, append_assoc}
 use Rattle.mz_checks.specs.Checks.{AllHold}
-use Rattle.mz_checks.proofs.CheckLaws.{all_hold-excludes, all_hold-or_fails, fails_first-unique}
+use Rattle.mz_checks.proofs.Offered.{all_hold-excludes, all_hold-or_fails, fails_first-unique}
 use Rattle.mz_cmd.specs.declared.code.StatementCode.{StatementCode}
 use Rattle.mz_cmd.specs.declared.code.StatementCode.TheVariants as codes_of
 use Rattle.mz_cmd.specs.declared.rule.K.{K}
 use Rattle.mz_cmd.specs.declared.rule.Refusal.{Refusal}
 use Rattle.mz_layout.specs.Layout.{Layout, layout_checks}
-use Rattle.mz_layout.proofs.Decided.{layout-decided}
+use Rattle.mz_layout.proofs.Offered.{layout-decided}
 use Rattle.mz_show.specs.declared.place.Place.{Place}
 use Rattle.mz_show.specs.Statements.{Statement, Stands, first_place, place_after, after, statement_checks, statement_text}
 use Rattle.mz_show.specs.Listing.{Chain, chain_text, EndsAt, StopsAt, IsListing, IsListedUpTo, IsListed}

@@ -3,8 +3,7 @@ use Rattle.std.proofs.Common.{◌≡◌, ◌⊎◌, ◌<◌, ◌+◌, ℕ, Bool,
 use Rattle.std.specs.Prelude.{IsTrue}
 use Rattle.std.proofs.lemmas.Bool.{cases_eq, cases_lt}
 use Rattle.mz_checks.specs.Checks.{AllHold, FailsFirst, AreDecided}
-use Rattle.mz_checks.proofs.CheckLaws.{all_hold-excludes, all_hold-or_fails, fails_first-unique}
-use Rattle.mz_checks.proofs.InOrder.{are_decided-both}
+use Rattle.mz_checks.proofs.Offered.{all_hold-excludes, all_hold-or_fails, fails_first-unique, are_decided-both}
 use Rattle.mz_cmd.specs.declared.code.StatementCode.{StatementCode}
 use Rattle.mz_cmd.specs.declared.code.StatementCode.TheVariants as codes_of
 use Rattle.mz_cmd.specs.declared.rule.Refusal.{Refusal}

@@ -11,17 +11,13 @@ use Rattle.mz_logic.specs.Legality.{IsLegalDecl, IsLegalEnv}
 use Rattle.mz_logic.specs.Derivations.{Uses, Derives}
 use Rattle.mz_logic.specs.LegalLists.{IsProvedBy}
 use Rattle.mz_logic.specs.declared.binder.Binder.{Binder}
-use Rattle.mz_logic.proofs.PlainLegality.{assertions_are_sorted}
-use Rattle.mz_logic.proofs.Longer.{derived_has_provable}
+use Rattle.mz_logic.proofs.Offered.{assertions_are_sorted, derived_has_provable}
 use Rattle.mz_unification.specs.Streams.{of_assertion}
 use Rattle.mz_unification.specs.Spells.{trees_of, variables_from, Text, SpellsThm}
 use Rattle.mz_unification.specs.Profile.{plain, strict, Item, expr, proof}
 use Rattle.mz_unification.specs.Sorted.{Sorted, AllSorted, ItemsSorted}
 use Rattle.mz_unification.specs.UnifyMachine.{UnifyMode, at_end, Matching, UnifyState, unify}
-use Rattle.mz_unification.proofs.Inverting.{from_bind, from_need, rule_of-ok, taken-is}
-use Rattle.mz_unification.proofs.Trees.{listed-trees_of}
-use Rattle.mz_unification.proofs.OwnStream.{assertion-spelled}
-use Rattle.mz_unification.proofs.Below.{Below, EachBelow, text-met}
+use Rattle.mz_unification.proofs.Offered.{from_bind, from_need, rule_of-ok, taken-is, listed-trees_of, assertion-spelled, Below, EachBelow, text-met}
 use Rattle.mz_soundness.specs.Tables.{Tables, signatures_in, State, Kind, is_axiom, is_theorem, Heading, Declares}
 use Rattle.mz_soundness.specs.ProofMachine.{last_item, ending, own_variables, own_stream, as_proofs, has_provable_sort, matched_by, ends_with, proof_end}
 use Rattle.mz_soundness.specs.Bodies.{body_run}

@@ -12,9 +12,7 @@ use Rattle.mz_unification.specs.Steps.{◌>>=◌, ◌>>◌, need, Turn, over, go
 use Rattle.mz_unification.specs.Profile.{Profile, Item}
 use Rattle.mz_unification.specs.Spells.{TermRow}
 use Rattle.mz_unification.specs.UnifyMachine.{in_citation, at_end, in_definition, Matching, is_empty, at_start}
-use Rattle.mz_unification.proofs.Turning.{command-long, follow-same, goes_to-le, if_read-le, goes_to-same, if_read-same, drop-less}
-use Rattle.mz_unification.proofs.Inverting.{from_bind, from_then, from_want, taken-is}
-use Rattle.mz_unification.proofs.UnifyRuns.{steps-bounded}
+use Rattle.mz_unification.proofs.Offered.{command-long, follow-same, goes_to-le, if_read-le, goes_to-same, if_read-same, drop-less, from_bind, from_then, from_want, taken-is, steps-bounded}
 use Rattle.mz_soundness.specs.Tables.{Tables, signatures_in, State, Kind, is_axiom, is_theorem, is_definition, Heading}
 use Rattle.mz_soundness.specs.Bodies.{BodyCommand, ends, proves, fst_of, body_command, body_turn_by, body_turn, body_from, match_steps, row_steps, command_steps, body_steps_from}
 use Rattle.mz_soundness.specs.ProofMachine.{proof_row, proof_end, citation, unfolding_of, stream_of, last_item, ending, own_stream, as_proofs, has_provable_sort, ends_with}

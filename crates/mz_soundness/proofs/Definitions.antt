@@ -16,25 +16,13 @@ use Rattle.mz_logic.specs.Conversions.{IsBoundOf, AreFresh}
 use Rattle.mz_logic.specs.LegalLists.{AreDummies}
 use Rattle.mz_logic.specs.declared.binder.Binder.{Binder}
 use Rattle.mz_logic.specs.declared.binder.SortMods.{SortMods}
-use Rattle.mz_logic.proofs.Extend.{extends_append}
-use Rattle.mz_logic.proofs.Fresh.{split_at, slice_get-append_add}
-use Rattle.mz_logic.proofs.Lists.{all_from_each}
-use Rattle.mz_logic.proofs.PlainLegality.{terms_are_sorted}
-use Rattle.mz_logic.proofs.Rules.{sort_is, range_of_sort}
-use Rattle.mz_logic.proofs.Scoped.{DepsInside, free_below}
+use Rattle.mz_logic.proofs.Offered.{extends_append, split_at, slice_get-append_add, all_from_each, terms_are_sorted, sort_is, range_of_sort, DepsInside, free_below}
 use Rattle.mz_unification.specs.Streams.{of_definition}
 use Rattle.mz_unification.specs.Spells.{trees_of, dummy_of, variables_from, SpellsTerm}
 use Rattle.mz_unification.specs.Profile.{plain, strict, Item, expr}
 use Rattle.mz_unification.specs.Sorted.{Sorted, ItemsSorted}
 use Rattle.mz_unification.specs.UnifyMachine.{in_definition, UnifyState, unify}
-use Rattle.mz_unification.proofs.Inverting.{from_need, some_is, taken-is}
-use Rattle.mz_unification.proofs.Trees.{operand-trees_of, followed-by-variables}
-use Rattle.mz_unification.proofs.FreshVars.{fresh-at, distinct, in-some, get-mapped}
-use Rattle.mz_unification.proofs.Matching.{FreshList}
-use Rattle.mz_unification.proofs.Unfolding.{unfolding-is}
-use Rattle.mz_unification.proofs.Spelled.{place_from, renamed}
-use Rattle.mz_unification.proofs.OwnStream.{definition-spelled}
-use Rattle.mz_unification.proofs.Below.{Below, text-met}
+use Rattle.mz_unification.proofs.Offered.{from_need, some_is, taken-is, operand-trees_of, followed-by-variables, fresh-at, distinct, in-some, get-mapped, FreshList, unfolding-is, place_from, renamed, definition-spelled, Below, text-met}
 use Rattle.mz_soundness.specs.Tables.{Tables, signatures_in, State, Kind, is_definition, Heading, Declares}
 use Rattle.mz_soundness.specs.FreeVars.{free_within}
 use Rattle.mz_soundness.specs.ProofMachine.{last_item, ending, own_stream}

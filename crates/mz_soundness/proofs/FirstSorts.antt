@@ -3,7 +3,7 @@ use Rattle.std.proofs.Common.{◌≡◌, ◌<◌, ◌≤◌, ℕ, zero, suc, Lis
 use Rattle.std.proofs.lemmas.List.{length-take-le}
 use Rattle.std.proofs.lemmas.Option.{slice_get_past}
 use Rattle.mz_layout.specs.Tables.{tables_of, sort_count}
-use Rattle.mz_layout.proofs.TableLists.{length-sorts}
+use Rattle.mz_layout.proofs.Offered.{length-sorts}
 use Rattle.mz_soundness.specs.RowWords.{first_sorts}
 
 pub slice_get-take : {A : Type 0} → (n i : ℕ) (xs : List A) → i < n → slice_get (take n xs) i ≡ slice_get xs i

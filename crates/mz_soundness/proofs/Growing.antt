@@ -2,9 +2,9 @@
 use Rattle.std.proofs.Common.{◌≡◌, List, [], ◌∷◌, ◌++◌, refl, sym, ap, subst, ◌∙◌}
 use Rattle.mz_logic.specs.Declaration.{Term, Assertion, Declaration, sort_decl, term_decl, assertion_decl, sorts, terms, signatures, assertions}
 use Rattle.mz_logic.specs.declared.binder.SortMods.{SortMods}
-use Rattle.mz_logic.proofs.Extend.{Extends, env_extends_append, sorts-append, terms-append, assertions-append}
+use Rattle.mz_logic.proofs.Offered.{Extends, env_extends_append, sorts-append, terms-append, assertions-append}
 use Rattle.mz_unification.specs.Spells.{TermRow, ThmRow, SpellsTerm, SpellsThm}
-use Rattle.mz_unification.proofs.OneSpelling.{assertion-longer, term-longer}
+use Rattle.mz_unification.proofs.Offered.{assertion-longer, term-longer}
 use Rattle.mz_soundness.specs.Tables.{Tables, Pairwise, Declares}
 use Rattle.mz_soundness.specs.Laws.{with_sort, with_term, with_thm}
 

@@ -19,3 +19,4 @@ pub mod RightWords
 pub mod Ungapped
 pub mod StrictRuns
 pub mod WordsPass
+pub mod Offered

@@ -8,11 +8,9 @@ use Rattle.mz_logic.specs.Derivations.{Derivation, without_gaps}
 use Rattle.mz_logic.specs.LegalLists.{Statement, IsProvedBy, IsLegalStatement, LegalAfter, LegalBy, gap_free, any_derivation, allowed_with}
 use Rattle.mz_logic.specs.declared.binder.Binder.{Binder}
 use Rattle.mz_logic.specs.declared.binder.SortMods.{SortMods}
-use Rattle.mz_logic.proofs.Graft.{cites_more}
-use Rattle.mz_logic.proofs.LegalIsRight.{legal_push}
-use Rattle.mz_logic.proofs.PlainLegality.{terms_are_sorted}
+use Rattle.mz_logic.proofs.Offered.{cites_more, legal_push, terms_are_sorted}
 use Rattle.mz_unification.specs.Spells.{TermRow, ThmRow, SpellsForm, SpellsTerm}
-use Rattle.mz_unification.proofs.OneSpelling.{one-assertion, one-term}
+use Rattle.mz_unification.proofs.Offered.{one-assertion, one-term}
 use Rattle.mz_soundness.specs.Tables.{Tables, Declares}
 use Rattle.mz_soundness.specs.Laws.{no_tables}
 use Rattle.mz_soundness.specs.Sound.{AreRowParams, IsRowResult, used_by, cites_as}

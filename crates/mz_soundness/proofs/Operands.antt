@@ -12,13 +12,12 @@ use Rattle.mz_logic.specs.Variables.{Apart}
 use Rattle.mz_logic.specs.Legality.{sort_of}
 use Rattle.mz_logic.specs.declared.binder.Binder.{Binder}
 use Rattle.mz_logic.specs.declared.binder.SortMods.{SortMods}
-use Rattle.mz_logic.proofs.Rules.{sort_is}
+use Rattle.mz_logic.proofs.Offered.{sort_is}
 use Rattle.mz_unification.specs.Steps.{◌>>◌, need}
 use Rattle.mz_unification.specs.Spells.{trees_of}
 use Rattle.mz_unification.specs.Sorted.{AllSorted}
 use Rattle.mz_unification.specs.Tests.{has_bit, is_member, is_bound_var, in_v, var_within}
-use Rattle.mz_unification.proofs.Inverting.{from_then, from_need, need_ok, both-true}
-use Rattle.mz_unification.proofs.TestLaws.{member-contains, bit-set, bit-not-set, bound-is, v-in, not-true}
+use Rattle.mz_unification.proofs.Offered.{from_then, from_need, need_ok, both-true, member-contains, bit-set, bit-not-set, bound-is, v-in, not-true}
 use Rattle.mz_soundness.specs.Premises.{may_be_dummy_sort, is_provable_sort, operands_fit, apart_from, apart_at, are_apart}
 
 -- ---- sorts

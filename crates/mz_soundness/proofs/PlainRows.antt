@@ -11,7 +11,7 @@ use Rattle.mz_logic.specs.declared.binder.Binder.{Binder}
 use Rattle.mz_unification.specs.Steps.{◌>>=◌, ◌>>◌, need, want, rule_of}
 use Rattle.mz_unification.specs.Profile.{plain, strict, Item, expr, proof, obligation, conversion}
 use Rattle.mz_unification.specs.UnifyMachine.{UnifyMode, Matching, UnifyState}
-use Rattle.mz_unification.proofs.PlainRuns.{bind-same, bind-first, unify-plain}
+use Rattle.mz_unification.proofs.Offered.{bind-same, bind-first, unify-plain}
 use Rattle.mz_soundness.specs.Tables.{Tables, signatures_in, State, Kind, is_axiom, is_theorem, is_definition, Heading}
 use Rattle.mz_soundness.specs.FreeVars.{free_within}
 use Rattle.mz_soundness.specs.Premises.{pop_expr, pop_sides, is_conversion}

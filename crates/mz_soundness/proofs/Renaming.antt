@@ -6,10 +6,9 @@ use Rattle.mz_logic.specs.Signature.{Signature}
 use Rattle.mz_logic.specs.Sorts.{IsBoundVar, HasSort, Fits}
 use Rattle.mz_logic.specs.Variables.{InV, InFV, InSomeFV, IsOperandAt}
 use Rattle.mz_logic.specs.declared.binder.Binder.{Binder}
-use Rattle.mz_logic.proofs.Extend.{extends_append}
+use Rattle.mz_logic.proofs.Offered.{extends_append}
 use Rattle.mz_unification.specs.Spells.{trees_of, variables_from}
-use Rattle.mz_unification.proofs.Inverting.{some_is}
-use Rattle.mz_unification.proofs.Below.{Below, AllBelow}
+use Rattle.mz_unification.proofs.Offered.{some_is, Below, AllBelow}
 
 pub there : {A : Type 0} (xs : List A) (i : ℕ) → i < length xs → (x : A) × (slice_get xs i ≡ Some x)
 there [] i lt = absurd (omega arith)

@@ -7,7 +7,7 @@ use Rattle.mz_logic.specs.Laws.{BoundWordsMayBeBound}
 use Rattle.mz_logic.specs.Words.{word_bound, word_sort, word_deps, binders_from, BitsRightAfter}
 use Rattle.mz_logic.specs.declared.binder.SortMods.{SortMods}
 use Rattle.mz_logic.specs.declared.word.Word.{Word}
-use Rattle.mz_logic.proofs.WordsAsParams.{words_say_parameters}
+use Rattle.mz_logic.proofs.Offered.{words_say_parameters}
 use Rattle.mz_soundness.specs.RowWords.{bound_count, IsParamWord, AreParamWords, RightWordsSayParams}
 use Rattle.mz_soundness.proofs.ParamWords.{bound-from, regular-from, param-from}
 

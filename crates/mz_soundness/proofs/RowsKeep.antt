@@ -17,19 +17,14 @@ use Rattle.mz_logic.specs.Conversions.{refl_conv, sym_conv, cong_conv, unfold_co
 use Rattle.mz_logic.specs.Derivations.{hypothesis, cite, convert, gap, Uses, AllDerive}
 use Rattle.mz_logic.specs.LegalLists.{AreDummies}
 use Rattle.mz_logic.specs.declared.binder.Binder.{Binder}
-use Rattle.mz_logic.proofs.Extend.{extends_itself, sort_extends, fits_extends, apart_extends, fresh_extends}
-use Rattle.mz_logic.proofs.Fresh.{split_at}
-use Rattle.mz_logic.proofs.Rules.{sort_is}
+use Rattle.mz_logic.proofs.Offered.{extends_itself, sort_extends, fits_extends, apart_extends, fresh_extends, split_at, sort_is}
 use Rattle.mz_unification.specs.Streams.{of_definition}
 use Rattle.mz_unification.specs.Spells.{trees_of, dummy_of, Text, TermRow, SpellsForm, SpellsTerm, SpellsThm}
 use Rattle.mz_unification.specs.Profile.{plain, strict, tree_parts, Item, expr, proof, obligation, conversion}
 use Rattle.mz_unification.specs.Sorted.{Sorted, ItemSorted, ItemsSorted}
 use Rattle.mz_unification.specs.Tests.{same_tree}
 use Rattle.mz_unification.specs.UnifyMachine.{in_citation, in_definition, Matching, UnifyState, unify}
-use Rattle.mz_unification.proofs.Inverting.{from_bind, from_then, from_need, from_want, rule_of-ok, some_is, taken, taken-is, both-true}
-use Rattle.mz_unification.proofs.Trees.{same_tree-true, parts-are, operands-sorted}
-use Rattle.mz_unification.proofs.Citations.{citation-is}
-use Rattle.mz_unification.proofs.Unfolding.{unfolding-is}
+use Rattle.mz_unification.proofs.Offered.{from_bind, from_then, from_need, from_want, rule_of-ok, some_is, taken, taken-is, both-true, same_tree-true, parts-are, operands-sorted, citation-is, unfolding-is}
 use Rattle.mz_soundness.specs.Tables.{Tables, signatures_in, State, Declares}
 use Rattle.mz_soundness.specs.Premises.{pop, pop_expr, pop_proof, pop_obligation, pop_conversion, pop_operands, pop_sides, is_conversion, is_obligation, may_be_dummy_sort, is_provable_sort, bound_count, operands_fit, are_apart}
 use Rattle.mz_soundness.specs.ProofMachine.{built, citation, matched_by, cited, referred, sides, same_term, stream_of, unfolding_of, gapped, has_provable_sort, proof_row}

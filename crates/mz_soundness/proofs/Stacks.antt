@@ -13,8 +13,7 @@ use Rattle.mz_unification.specs.Spells.{trees_of}
 use Rattle.mz_unification.specs.Profile.{strict, Item, expr, proof, obligation, conversion}
 use Rattle.mz_unification.specs.Sorted.{Sorted, AllSorted, ItemSorted, ItemsSorted}
 use Rattle.mz_unification.specs.Tests.{same_tree}
-use Rattle.mz_unification.proofs.Inverting.{from_bind, from_need, taken-is}
-use Rattle.mz_unification.proofs.Trees.{listed-trees_of}
+use Rattle.mz_unification.proofs.Offered.{from_bind, from_need, taken-is, listed-trees_of}
 use Rattle.mz_soundness.specs.Premises.{pop_expr, pop_proof, pop_obligation, pop_conversion, pop_exprs, pop_operands, pop_sides}
 use Rattle.mz_soundness.specs.ProofMachine.{sides}
 use Rattle.mz_soundness.specs.Facts.{Derivable, Convertible, Holds, HeapHolds, StackHolds, AreProvableClaims}

@@ -12,7 +12,7 @@ use Rattle.mz_logic.specs.Tree.{Tree}
 use Rattle.mz_unification.specs.Steps.{◌>>=◌, ◌>>◌, need, at_place, Turn, over, goes_on, follow}
 use Rattle.mz_unification.specs.Profile.{plain, strict, expr}
 use Rattle.mz_unification.specs.UnifyMachine.{is_empty}
-use Rattle.mz_unification.proofs.Inverting.{from_bind, place-ok}
+use Rattle.mz_unification.proofs.Offered.{from_bind, place-ok}
 use Rattle.mz_soundness.specs.Tables.{Tables, State, Kind, is_axiom, is_theorem, is_definition, Heading}
 use Rattle.mz_soundness.specs.ProofMachine.{proof_row, proof_end, own_variables}
 use Rattle.mz_soundness.specs.Bodies.{BodyCommand, ends, proves, stands_in, if_allowed, body_command, body_turn, body_turn_by, body_from, body_run, body_start}

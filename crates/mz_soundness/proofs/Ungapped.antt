@@ -4,7 +4,7 @@ use Rattle.std.specs.Prelude.{◌<◌}
 use Rattle.mz_logic.specs.Declaration.{Assertion, Declaration, sort_decl, term_decl, assertion_decl, assertions}
 use Rattle.mz_logic.specs.Derivations.{without_gaps}
 use Rattle.mz_logic.specs.LegalLists.{Statement, IsProvedBy}
-use Rattle.mz_logic.proofs.Graft.{cites_more}
+use Rattle.mz_logic.proofs.Offered.{cites_more}
 use Rattle.mz_soundness.specs.Lists.{Entry, a_sort, a_term, an_assertion, ProvedByBody, ProvedByBodies}
 use Rattle.mz_soundness.specs.Sound.{used_by, cites_as}
 use Rattle.mz_soundness.specs.Gapped.{IsGappedBody, gapped_with, free_of, IsFreeUnlessGapped, AreFreeUnlessGapped, UngappedAreProved}

@@ -16,7 +16,7 @@ use Rattle.mz_unification.specs.Steps.{◌>>◌, need, at_place, Turn, over, goe
 use Rattle.mz_unification.specs.Profile.{plain, strict, expr}
 use Rattle.mz_unification.specs.Sorted.{ItemsSorted}
 use Rattle.mz_unification.specs.UnifyMachine.{is_empty}
-use Rattle.mz_unification.proofs.Inverting.{from_bind, from_need, place-ok, taken, taken-is}
+use Rattle.mz_unification.proofs.Offered.{from_bind, from_need, place-ok, taken, taken-is}
 use Rattle.mz_soundness.specs.Tables.{Tables, State, Heading, Declares}
 use Rattle.mz_soundness.specs.ProofMachine.{proof_row, proof_end, ends_with, matched_by, own_variables}
 use Rattle.mz_soundness.specs.Bodies.{BodyCommand, ends, proves, stands_in, if_allowed, body_command, body_turn, body_turn_by, body_from, body_run, body_start}

@@ -4,15 +4,14 @@ use Rattle.std.specs.Prelude.{MatchBool, if◌then◌else◌}
 use Rattle.std.specs.List.{filter, range_with_len}
 use Rattle.std.proofs.lemmas.Option.{slice_get_within}
 use Rattle.mz_checks.specs.Checks.{Checks, each_in_order, AllHold}
-use Rattle.mz_checks.proofs.InOrder.{all_hold-both}
+use Rattle.mz_checks.proofs.Offered.{all_hold-both}
 use Rattle.mz_logic.specs.Modifiers.{MayBeResultSort, MayBeBoundSort}
 use Rattle.mz_logic.specs.Words.{word_bound, word_sort, word_deps, bound_places}
 use Rattle.mz_logic.specs.WordsWritten.{bits_of, word_of, words_from, words_of, bound_from, CanBeWords}
 use Rattle.mz_logic.specs.declared.binder.Binder.{Binder}
 use Rattle.mz_logic.specs.declared.binder.SortMods.{SortMods}
 use Rattle.mz_logic.specs.declared.word.Word.{Word}
-use Rattle.mz_logic.proofs.Lists.{each_from_all}
-use Rattle.mz_logic.proofs.WordsWritten.{After, at-first, next, here, says, bits-few, result-says, places-same}
+use Rattle.mz_logic.proofs.Offered.{each_from_all, After, at-first, next, here, says, bits-few, result-says, places-same}
 use Rattle.mz_soundness.specs.RowWords.{bound_count, IsParamWord, IsParamAt, param_check, param_checks, IsResultWord}
 use Rattle.mz_soundness.specs.WordsPass.{WrittenParamsPass, WrittenRowsPass}
 

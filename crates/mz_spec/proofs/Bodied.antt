@@ -6,18 +6,18 @@ use Rattle.std.proofs.lemmas.Option.{slice_get_within}
 use Rattle.mz_lex.specs.Lexemes.{Lexeme}
 use Rattle.mz_lex.specs.declared.rule.S.TheVariants as rules
 use Rattle.mz_checks.specs.Checks.{AllHold, FailsFirst, each_in_order}
-use Rattle.mz_checks.proofs.InOrder.{all_hold-both, fails-after}
+use Rattle.mz_checks.proofs.Offered.{all_hold-both, fails-after}
 use Rattle.mz_logic.specs.Tree.{Tree}
 use Rattle.mz_logic.specs.Declaration.{signatures}
 use Rattle.mz_logic.specs.Variables.{InFV}
 use Rattle.mz_logic.specs.declared.binder.ResultType.{ResultType}
-use Rattle.mz_logic.proofs.Scoped.{DepsInside}
+use Rattle.mz_logic.proofs.Offered.{DepsInside}
 use Rattle.mz_tokens.specs.declared.pieces.Piece.{Piece}
 use Rattle.mz_math.specs.declared.formula.Wanted.TheVariants.{Sort as of_sort}
 use Rattle.mz_notation.specs.Notation.{Variables}
 use Rattle.mz_tokens.specs.Pieces.{Pieces}
 use Rattle.mz_notation.specs.Kept.{IsTable, AreVariables}
-use Rattle.mz_math.proofs.Lawful.{one-meaning}
+use Rattle.mz_math.proofs.Offered.{one-meaning}
 use Rattle.mz_grammar.specs.Reading.{OnFault}
 use Rattle.mz_grammar.specs.Statement.{TypeText, Head, definition_statement}
 use Rattle.mz_grammar.specs.declared.refusal.Halt.{Halt}

@@ -9,8 +9,7 @@ use Rattle.mz_notation.specs.declared.form.Literal.TheVariants.{Constant as cons
 use Rattle.mz_notation.specs.declared.notation.Notation.{Notation}
 use Rattle.mz_notation.specs.Notation.{Table}
 use Rattle.mz_notation.specs.Forms.{General, IsGeneral, notation_checks, coercion_checks, delimiter_checks}
-use Rattle.mz_math.proofs.Statements.{delimiters-judged, coercions-judged}
-use Rattle.mz_math.proofs.MadeNotations.{infix-judged, prefix-judged, general-judged}
+use Rattle.mz_math.proofs.Offered.{delimiters-judged, coercions-judged, infix-judged, prefix-judged, general-judged}
 use Rattle.mz_grammar.specs.declared.kind.Fixity.{Fixity}
 use Rattle.mz_grammar.specs.declared.kind.Fixity.TheVariants as fixities
 use Rattle.mz_grammar.specs.Statement.{TypeText, Head, Level, LiteralText, constant_literal, name_literal, TailText, Statement, sort_statement, term_statement, assert_statement, definition_statement, operator_statement, coercion_statement, delimiter_statement, notation_statement}

@@ -1,11 +1,11 @@
 -- Whether a result depends on each free variable of a body is decided.
 use Rattle.std.proofs.Common.{◌≡◌, ◌⊎◌, ◌++◌, ℕ, zero, suc, List, [], ◌∷◌, Bool, true, false, Option, Some, None, slice_get, Contains, ap, sym, refl, subst, inl, inr, arith}
-use Rattle.mz_checks.proofs.InOrder.{both-decided, implied-decided}
+use Rattle.mz_checks.proofs.Offered.{both-decided, implied-decided}
 use Rattle.mz_logic.specs.Tree.{Tree, Trees, var, app, none, more, operand}
 use Rattle.mz_logic.specs.Signature.{Signature}
 use Rattle.mz_logic.specs.Variables.{InV, InFV, InSomeFV, IsBoundAt, IsOperandAt}
 use Rattle.mz_logic.specs.declared.binder.Binder.{Binder}
-use Rattle.mz_math.proofs.Deciding.{Decided, found, equal-decided, not-decided}
+use Rattle.mz_math.proofs.Offered.{Decided, found, equal-decided, not-decided}
 use Rattle.mz_spec.specs.Rules.{Every}
 use Rattle.mz_spec.proofs.Naming.{every-front}
 use Rattle.mz_spec.proofs.Tokens.{contains-decided}

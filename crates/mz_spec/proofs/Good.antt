@@ -1,7 +1,7 @@
 -- What a good statement's rules say, one by one.
 use Rattle.std.proofs.Common.{List, [], ℕ}
 use Rattle.mz_checks.specs.Checks.{each_in_order, ◌>>◌, AllHold}
-use Rattle.mz_checks.proofs.InOrder.{all_hold-first, all_hold-rest}
+use Rattle.mz_checks.proofs.Offered.{all_hold-first, all_hold-rest}
 use Rattle.mz_tokens.specs.declared.pieces.Piece.{Piece}
 use Rattle.mz_grammar.specs.Statement.{Statement}
 use Rattle.mz_spec.specs.View.{view, names_of, dummies_of}

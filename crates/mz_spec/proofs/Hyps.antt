@@ -1,7 +1,7 @@
 -- The hypotheses that formulas make, one after another.
 use Rattle.std.proofs.Common.{◌≡◌, ◌∙◌, ◌<◌, ◌+◌, ◌-◌, ℕ, suc, List, [], ◌∷◌, length, map, drop, get_or, ap, sym, refl, subst, arith}
 use Rattle.mz_checks.specs.Checks.{Checks, AllHold, FailsFirst}
-use Rattle.mz_checks.proofs.InOrder.{Decides, decides-after, fails-before}
+use Rattle.mz_checks.proofs.Offered.{Decides, decides-after, fails-before}
 use Rattle.mz_logic.specs.Tree.{Tree, Trees, none, more, followed_by}
 use Rattle.mz_tokens.specs.declared.pieces.Piece.{Piece}
 use Rattle.mz_tokens.specs.Pieces.{Pieces}

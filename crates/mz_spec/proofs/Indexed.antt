@@ -13,8 +13,7 @@ use Rattle.std.proofs.lemmas.Map.Keys.{IsStrictlyIncreasing-dedup}
 use Rattle.std.proofs.lemmas.Option.{slice_get_within, slice_get-get_or}
 use Rattle.std.proofs.lemmas.Slice.Eq.{bytes_eq-Decides}
 use Rattle.mz_lex.specs.Lexemes.{Lexeme}
-use Rattle.mz_logic.proofs.Compose.{contains_cases, contains_head, contains_tail}
-use Rattle.mz_logic.proofs.Instance.{one_at}
+use Rattle.mz_logic.proofs.Offered.{contains_cases, contains_head, contains_tail, one_at}
 use Rattle.mz_tokens.specs.Places.{place_of}
 use Rattle.mz_spec.specs.Code.{variable}
 use Rattle.mz_spec.specs.declared.variables.Variable.{Variable as VariableRead}

@@ -2,7 +2,7 @@
 use Rattle.std.proofs.Common.{◌≡◌, ◌∙◌, ◌<◌, ◌≤◌, ◌+◌, ◌^◌, ◌++◌, ℕ, List, [], ◌∷◌, length, map, ap, sym, subst, arith}
 use Rattle.std.proofs.lemmas.List.{length-map}
 use Rattle.mz_checks.specs.Checks.{Checks, ◌>>◌, AllHold, FailsFirst, each_in_order}
-use Rattle.mz_checks.proofs.InOrder.{all_hold-both, all_hold-first}
+use Rattle.mz_checks.proofs.Offered.{all_hold-both, all_hold-first}
 use Rattle.mz_logic.specs.Declaration.{Declaration, sort_decl, term_decl, assertion_decl, sorts, signatures}
 use Rattle.mz_grammar.specs.Reading.{OnFault}
 use Rattle.mz_grammar.specs.Statement.{TypeText, Statement}

@@ -5,7 +5,7 @@ use Rattle.mz_lex.specs.Kinds.{is_name}
 use Rattle.mz_lex.specs.Lexemes.{Lexeme}
 use Rattle.mz_logic.specs.Declaration.{Declaration, sort_decl, term_decl, assertion_decl, sorts, signatures}
 use Rattle.mz_logic.specs.Legality.{IsLegalDecl}
-use Rattle.mz_logic.proofs.LegalIsRight.{legal_push}
+use Rattle.mz_logic.proofs.Offered.{legal_push}
 use Rattle.mz_tokens.specs.declared.pieces.Delimiters.{Delimiters}
 use Rattle.mz_notation.specs.declared.notation.Element.{Element}
 use Rattle.mz_notation.specs.declared.notation.Notation.{Notation}
@@ -21,9 +21,9 @@ use Rattle.mz_notation.specs.Forms.{IsGeneral, General, IsElement, AreElements, 
 use Rattle.mz_tokens.specs.Pieces.{IsConstant}
 use Rattle.mz_math.specs.Laws.{IsNoted}
 use Rattle.mz_notation.specs.Kept.{IsTable, AreVariables}
-use Rattle.mz_math.proofs.Lawful.{notations-keep}
-use Rattle.mz_tokens.proofs.Lists.{place_first, contains_either}
-use Rattle.mz_notation.proofs.Tables.{empty-is, name-is, coercion-is, delimiters-is, infix-one, prefix-one, general-one}
+use Rattle.mz_math.proofs.Offered.{notations-keep}
+use Rattle.mz_tokens.proofs.Offered.{place_first, contains_either}
+use Rattle.mz_notation.proofs.Offered.{empty-is, name-is, coercion-is, delimiters-is, infix-one, prefix-one, general-one}
 use Rattle.mz_grammar.specs.declared.kind.Fixity.TheVariants as fixities
 use Rattle.mz_grammar.specs.Statement.{TypeText, Head, LiteralText, constant_literal, name_literal, TailText, Statement, sort_statement, term_statement, assert_statement, definition_statement, operator_statement, coercion_statement, delimiter_statement, notation_statement}
 use Rattle.mz_spec.specs.Names.{IsNew}

@@ -6,7 +6,7 @@ use Rattle.std.proofs.lemmas.Option.{slice_get_within}
 use Rattle.std.specs.Prelude.{◌||◌, unwrap_or, option_and_then}
 use Rattle.mz_lex.specs.Lexemes.{Lexeme}
 use Rattle.mz_checks.specs.Checks.{AllHold, each_in_order}
-use Rattle.mz_checks.proofs.InOrder.{all_hold-rest}
+use Rattle.mz_checks.proofs.Offered.{all_hold-rest}
 use Rattle.mz_logic.specs.Tree.{Tree, Trees, none, more, followed_by}
 use Rattle.mz_logic.specs.Declaration.{Declaration, term_decl, Form, plain_form, abstract_form, defined, dummies_of as form_dummies, body_of, sorts, signatures}
 use Rattle.mz_logic.specs.Legality.{IsLegalDecl, IsParam, AreParams, IsDummy, EachTree}
@@ -16,12 +16,11 @@ use Rattle.mz_logic.specs.Sorts.{HasSort, HasProvable, AreProvable}
 use Rattle.mz_logic.specs.Variables.{InFV, IsBoundAt}
 use Rattle.mz_logic.specs.declared.binder.Binder.{Binder}
 use Rattle.mz_logic.specs.declared.binder.SortMods.{SortMods}
-use Rattle.mz_logic.proofs.Lists.{all_from_each}
-use Rattle.mz_logic.proofs.PlainLegality.{terms_are_sorted, assertions_are_sorted}
+use Rattle.mz_logic.proofs.Offered.{all_from_each, terms_are_sorted, assertions_are_sorted}
 use Rattle.mz_tokens.specs.declared.pieces.Piece.{Piece}
 use Rattle.mz_math.specs.declared.formula.Wanted.TheVariants.{Sort as of_sort}
 use Rattle.mz_notation.specs.Kept.{IsTable, AreVariables}
-use Rattle.mz_math.proofs.Lawful.{one-meaning}
+use Rattle.mz_math.proofs.Offered.{one-meaning}
 use Rattle.mz_grammar.specs.Statement.{TypeText, Source, type_source, formula_source, NameText, Group, Head, Statement, sort_statement, term_statement, assert_statement, definition_statement, operator_statement, coercion_statement, delimiter_statement, notation_statement}
 use Rattle.mz_grammar.specs.declared.kind.AssertKind.{AssertKind}
 use Rattle.mz_spec.specs.Names.{IsKnown}

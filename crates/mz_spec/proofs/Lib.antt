@@ -25,3 +25,4 @@ pub mod Numerals
 pub mod Noted
 pub mod Spans
 pub mod Marked
+pub mod Offered

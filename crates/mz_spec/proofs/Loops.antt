@@ -4,7 +4,7 @@ use Rattle.std.specs.Prelude.{◌↔◌, ◌||◌, IsTrue, refl}
 use Rattle.std.specs.List.{list_any}
 use Rattle.std.proofs.lemmas.List.{drop_all, append-nil}
 use Rattle.mz_checks.specs.Checks.{Checks, nothing, ask, each_in_order, ◌>>◌, AllHold, FailsFirst, Judges}
-use Rattle.mz_checks.proofs.InOrder.{Decides, decides-after, fails-before, fails-after, judges-after, all_hold-first, all_hold-rest, all_hold-both}
+use Rattle.mz_checks.proofs.Offered.{Decides, decides-after, fails-before, fails-after, judges-after, all_hold-first, all_hold-rest, all_hold-both}
 use Rattle.mz_grammar.specs.declared.refusal.Fault.{Fault}
 use Rattle.mz_grammar.specs.declared.refusal.Halt.{Halt}
 use Rattle.mz_grammar.specs.declared.refusal.Halt.TheVariants as halts

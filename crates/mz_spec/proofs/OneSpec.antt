@@ -2,17 +2,16 @@
 use Rattle.std.proofs.Common.{◌≡◌, ◌⊎◌, ◌∙◌, ◌++◌, ◌+◌, ℕ, suc, List, [], ◌∷◌, length, Option, None, ap, sym, refl, subst, inl, inr}
 use Rattle.mz_lex.specs.declared.token.LexFault.{LexFault}
 use Rattle.mz_lex.specs.Lexemes.{Lexeme, IsNext, LexesFrom}
-use Rattle.mz_lex.proofs.Lexing.{one-lexing}
+use Rattle.mz_lex.proofs.Offered.{one-lexing}
 use Rattle.mz_logic.specs.Legality.{IsLegalEnv}
 use Rattle.mz_checks.specs.Checks.{FailsFirst}
-use Rattle.mz_checks.proofs.CheckLaws.{fails_first-unique, all_hold-excludes}
+use Rattle.mz_checks.proofs.Offered.{fails_first-unique, all_hold-excludes}
 use Rattle.mz_tokens.specs.declared.pieces.Piece.{Piece}
 use Rattle.mz_grammar.specs.declared.refusal.Fault.{Fault}
 use Rattle.mz_grammar.specs.Statement.{Statement, Spells}
 use Rattle.mz_grammar.specs.Stops.{Stops, StopsBy}
 use Rattle.mz_grammar.specs.Reading.{place_of_first}
-use Rattle.mz_grammar.proofs.Grammar.{statements-one, no-empty}
-use Rattle.mz_grammar.proofs.Stopping.{front-none, back-none, stops-one, stands-stops}
+use Rattle.mz_grammar.proofs.Offered.{statements-one, no-empty, front-none, back-none, stops-one, stands-stops}
 use Rattle.mz_spec.specs.declared.refusal.SpecRefusal.{SpecRefusal}
 use Rattle.mz_spec.specs.View.{view}
 use Rattle.mz_spec.specs.State.{State, nothing, entries_of, env_of}

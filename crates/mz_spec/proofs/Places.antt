@@ -10,9 +10,9 @@ use Rattle.std.specs.Prelude.{◌||◌, ◌==◌, ◌-◌, IsTrue, option_map, i
 use Rattle.mz_lex.specs.Kinds.{is_name}
 use Rattle.mz_lex.specs.Lexemes.{Lexeme}
 use Rattle.mz_checks.specs.Checks.{AllHold}
-use Rattle.mz_checks.proofs.InOrder.{all_hold-first, all_hold-rest}
+use Rattle.mz_checks.proofs.Offered.{all_hold-first, all_hold-rest}
 use Rattle.mz_notation.specs.Kept.{AreVariables}
-use Rattle.mz_tokens.proofs.Lists.{at_of, contains_at, contains_first, place_first}
+use Rattle.mz_tokens.proofs.Offered.{at_of, contains_at, contains_first, place_first}
 use Rattle.mz_spec.specs.Names.{number_of, IsNew}
 use Rattle.mz_spec.specs.View.{Variable, name_texts, is_among, params_of, dummies_of}
 use Rattle.mz_spec.specs.Rules.{are_others, is_other, Every, IsCalled, IsBoundAmong, IsBinder, AreBinders}

@@ -3,10 +3,10 @@ use Rattle.std.proofs.Common.{◌≡◌, ◌⊎◌, ◌++◌, ℕ, zero, suc, Li
 use Rattle.std.specs.Prelude.{IsBitSet, bit_and, ◌^◌, ◌≢◌}
 use Rattle.mz_lex.specs.Lexemes.{Lexeme}
 use Rattle.mz_checks.specs.Checks.{AreDecided, each_in_order}
-use Rattle.mz_checks.proofs.InOrder.{are_decided-both, are_decided-rows, both-decided, implied-decided, bytes-decided, at_most-decided}
+use Rattle.mz_checks.proofs.Offered.{are_decided-both, are_decided-rows, both-decided, implied-decided, bytes-decided, at_most-decided}
 use Rattle.mz_logic.specs.Modifiers.{IsPure, IsStrict, IsFree}
 use Rattle.mz_logic.specs.declared.binder.SortMods.{SortMods}
-use Rattle.mz_math.proofs.Deciding.{Decided, not-decided}
+use Rattle.mz_math.proofs.Offered.{Decided, not-decided}
 use Rattle.mz_grammar.specs.Statement.{TypeText, Level, number_level, max_level}
 use Rattle.mz_spec.specs.Names.{number_of}
 use Rattle.mz_spec.specs.View.{Variable, View, names_of, name_texts, params_of, dummies_of}

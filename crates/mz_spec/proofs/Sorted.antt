@@ -12,7 +12,7 @@ use Rattle.mz_coercions.specs.Coercions.{IsPath, coercion_term, wrapped}
 use Rattle.mz_notation.specs.Forms.{IsCoercion}
 use Rattle.mz_math.specs.Formula.{Reader, IsFormula}
 use Rattle.mz_math.specs.Meaning.{Coerced, CoercedAll, IsGoal}
-use Rattle.mz_tokens.proofs.Lists.{contains_at}
+use Rattle.mz_tokens.proofs.Offered.{contains_at}
 
 get-at : {X : Type 0} → (xs : List X) (i : ℕ) (x d : X) → slice_get xs i ≡ Some x → get_or xs i d ≡ x
 get-at [] i x d at = absurd cc

@@ -1,7 +1,7 @@
 -- Literals as spans of a text that grows at its end.
 use Rattle.std.proofs.Common.{◌≡◌, ◌∙◌, ◌++◌, ◌<◌, ◌≤◌, ◌+◌, ◌-◌, ℕ, zero, suc, List, [], ◌∷◌, length, map, take, drop, get_or, ap, sym, refl, subst, arith, length-append, drop-cons}
 use Rattle.mz_checks.specs.Checks.{Checks, nothing, each_in_order, ◌>>◌, AllHold, FailsFirst}
-use Rattle.mz_checks.proofs.InOrder.{Decides, decides-after, fails-before}
+use Rattle.mz_checks.proofs.Offered.{Decides, decides-after, fails-before}
 use Rattle.mz_notation.specs.declared.form.Literal.{Literal}
 use Rattle.mz_notation.specs.declared.form.Literal.TheVariants.{Constant as constant, Name as name}
 use Rattle.mz_grammar.specs.declared.refusal.Fault.{Fault}

@@ -1,7 +1,7 @@
 -- The formulas of an axiom or a theorem: those before the conclusion, then the conclusion.
 use Rattle.std.proofs.Common.{◌≡◌, ◌++◌, ℕ, List, [], ◌∷◌, map, refl, sym, subst}
 use Rattle.mz_checks.specs.Checks.{Checks, nothing, ◌>>◌, AllHold, FailsFirst, each_in_order}
-use Rattle.mz_checks.proofs.InOrder.{all_hold-both}
+use Rattle.mz_checks.proofs.Offered.{all_hold-both}
 use Rattle.mz_tokens.specs.declared.pieces.Piece.{Piece}
 use Rattle.mz_tokens.specs.Pieces.{Pieces}
 use Rattle.mz_grammar.specs.Reading.{OnFault}

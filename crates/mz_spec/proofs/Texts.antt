@@ -4,8 +4,7 @@ use Rattle.std.proofs.lemmas.List.{append-nil}
 use Rattle.std.specs.Prelude.{slice_range, IsTrue, codes}
 use Rattle.mz_lex.specs.Kinds.{is_of_kind}
 use Rattle.mz_lex.specs.Lexemes.{Lexeme, IsBlank, IsNext, LexemesTo}
-use Rattle.mz_lex.proofs.Lexing.{ended, begun, some-lexing}
-use Rattle.mz_lex.proofs.Blanks.{blank-forward}
+use Rattle.mz_lex.proofs.Offered.{ended, begun, some-lexing, blank-forward}
 use Rattle.mz_grammar.specs.declared.refusal.Fault.{Fault}
 use Rattle.mz_grammar.specs.declared.refusal.Halt.{Halt}
 use Rattle.mz_grammar.specs.declared.refusal.Halt.TheVariants as halts

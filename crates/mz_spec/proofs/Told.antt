@@ -9,7 +9,7 @@ use Rattle.mz_math.specs.declared.formula.Wanted.{Wanted}
 use Rattle.mz_tokens.specs.Pieces.{Pieces, PiecesFrom, piece_texts}
 use Rattle.mz_math.specs.Grammar.{Words}
 use Rattle.mz_math.specs.Formula.{Reader, Misreading, words, known_checks, token_checks, formula_checks, IsFormula, Misreads}
-use Rattle.mz_tokens.proofs.Cutting.{pieces-one}
+use Rattle.mz_tokens.proofs.Offered.{pieces-one}
 use Rattle.mz_spec.specs.Code.{EndsSmall}
 use Rattle.mz_spec.specs.Formulas.{inner, place_of, told}
 

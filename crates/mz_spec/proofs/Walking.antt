@@ -8,8 +8,7 @@ use Rattle.mz_logic.specs.Tree.{Tree, Trees, var, app, none, more, operand}
 use Rattle.mz_logic.specs.Signature.{Signature}
 use Rattle.mz_logic.specs.Variables.{InFV, InSomeFV, IsBoundAt, IsFreeOperand, IsOperandAt}
 use Rattle.mz_logic.specs.declared.binder.Binder.{Binder}
-use Rattle.mz_logic.proofs.Compose.{contains_cases, contains_head, contains_tail}
-use Rattle.mz_logic.proofs.Instance.{one_at}
+use Rattle.mz_logic.proofs.Offered.{contains_cases, contains_head, contains_tail, one_at}
 
 -- x is what one of the places leads to
 abbrev pub Reaches : (ℕ → ℕ → Type 0) → List ℕ → ℕ → Type 0

@@ -23,9 +23,10 @@ ghost use Rattle.mz_spec.specs.View.{Variable, group_stated, premise_stated, sta
 use crate::covered::Covered;
 use crate::free::covers;
 use crate::state::State;
+use mz_copies::copy_of;
 use mz_grammar::{Fault, Group, Halt, Lexeme, Source};
 use mz_lex::S;
-use mz_logic::{Deps, Expr, Exprs, copy_of};
+use mz_logic::{Deps, Expr, Exprs};
 use mz_math::{Parsed, Scope, Wanted, parse_formula};
 use std::alloc::{AllocError, Global};
 

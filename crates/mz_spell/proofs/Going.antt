@@ -12,8 +12,7 @@ use Rattle.mz_logic.specs.Signature.{Signature}
 use Rattle.mz_logic.specs.Sorts.{HasSort}
 use Rattle.mz_logic.specs.Variables.{InV, IsBoundAt}
 use Rattle.mz_logic.specs.declared.binder.Binder.{Binder}
-use Rattle.mz_logic.proofs.Extend.{extends_append}
-use Rattle.mz_logic.proofs.Instance.{one_at, none_some}
+use Rattle.mz_logic.proofs.Offered.{extends_append, one_at, none_some}
 use Rattle.mz_store.specs.Bits.{Tells, bound_vars}
 use Rattle.mz_store.specs.Sharing.{AreIn, Sharing, IsIn, IsOver, IsTold, head_of as head_term, operands_of, tree_of, trees_of}
 use Rattle.mz_store.specs.declared.item.Id.{Id}

@@ -3,14 +3,12 @@ use Rattle.std.proofs.Common.{ℕ, zero, suc, ◌≡◌, ◌+◌, ◌⊎◌, Lis
 use Rattle.std.proofs.lemmas.List.{length-append}
 use Rattle.mz_logic.specs.Tree.{Tree}
 use Rattle.mz_logic.specs.declared.binder.Binder.{Binder}
-use Rattle.mz_logic.proofs.Extend.{extends_append}
-use Rattle.mz_logic.proofs.Fresh.{split_at}
-use Rattle.mz_logic.proofs.Instance.{one_at, none_some}
+use Rattle.mz_logic.proofs.Offered.{extends_append, split_at, one_at, none_some}
 use Rattle.mz_store.specs.Bits.{Tells, bound_vars}
 use Rattle.mz_store.specs.Sharing.{Sharing, Holds, IsIn, tree_of}
 use Rattle.mz_steps.specs.Works.{from_to}
 use Rattle.mz_streams.specs.Writing.{Writing, place_in}
-use Rattle.mz_streams.proofs.Marking.{place-found, place-missing}
+use Rattle.mz_streams.proofs.Offered.{place-found, place-missing}
 use Rattle.mz_shared.specs.Places.{place_of}
 use Rattle.mz_spell.specs.Going.{IsMarked, IsStatement}
 

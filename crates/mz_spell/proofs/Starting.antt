@@ -9,15 +9,14 @@ use Rattle.mz_logic.specs.Legality.{AreParams, IsDummy}
 use Rattle.mz_logic.specs.Signature.{Signature}
 use Rattle.mz_logic.specs.Variables.{InV, IsBoundAt}
 use Rattle.mz_logic.specs.declared.binder.SortMods.{SortMods}
-use Rattle.mz_logic.proofs.Fresh.{split_at}
 use Rattle.mz_logic.specs.declared.binder.Binder.{Binder}
-use Rattle.mz_logic.proofs.Instance.{one_at, none_some}
+use Rattle.mz_logic.proofs.Offered.{split_at, one_at, none_some}
 use Rattle.mz_store.specs.Bits.{Tells, bound_vars}
 use Rattle.mz_store.specs.Sharing.{Sharing, Holds, IsIn, IsOver, IsTold, tree_of, trees_of}
 use Rattle.mz_store.specs.declared.item.Id.{Id}
 use Rattle.mz_unification.specs.Streams.{UnifyCommand}
 use Rattle.mz_shared.specs.Variables.{IsShared}
-use Rattle.mz_shared.proofs.Owned.{variable_id}
+use Rattle.mz_shared.proofs.Offered.{variable_id}
 use Rattle.mz_steps.specs.Works.{from_to}
 use Rattle.mz_streams.specs.Writing.{Written, and_then, assertion_written, stream_of, unify_bytes, write, write_hyps, writing_start}
 use Rattle.mz_unification.specs.Spells.{variables_from}

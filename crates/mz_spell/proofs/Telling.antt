@@ -6,13 +6,12 @@ use Rattle.std.proofs.lemmas.Nat.Bits.{bit_at_or, bit_at_and, bit_at_not, bit_at
 use Rattle.mz_logic.specs.Tree.{Tree, Trees, var, app, none, more}
 use Rattle.mz_logic.specs.Variables.{InV, InSomeV, IsBoundAt, Occurs, OccursIn}
 use Rattle.mz_logic.specs.declared.binder.Binder.{Binder}
-use Rattle.mz_logic.proofs.Instance.{one_at, none_some}
-use Rattle.mz_logic.proofs.Compose.{contains_cases, contains_head, contains_tail}
+use Rattle.mz_logic.proofs.Offered.{one_at, none_some, contains_cases, contains_head, contains_tail}
 use Rattle.mz_store.specs.Bits.{HasAt, Tells, bound_from, bound_vars}
-use Rattle.mz_store.proofs.Meeting.{bound-has}
+use Rattle.mz_store.proofs.Offered.{bound-has}
 use Rattle.mz_steps.specs.Works.{from_to}
 use Rattle.mz_streams.specs.Writing.{are_met}
-use Rattle.mz_streams.proofs.Marking.{all-met, met-all}
+use Rattle.mz_streams.proofs.Offered.{all-met, met-all}
 use Rattle.mz_shared.specs.Instances.{InReach, AllInReach}
 
 -- ---- words

@@ -5,3 +5,4 @@ mod Finding
 mod Fields
 mod Measuring
 mod Lists
+pub mod Offered

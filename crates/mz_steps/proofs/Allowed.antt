@@ -5,7 +5,7 @@ use Rattle.mz_logic.specs.Conversions.{Conversion, Conversions, refl_conv, sym_c
 use Rattle.mz_logic.specs.Declaration.{Declaration}
 use Rattle.mz_logic.specs.Derivations.{Derivation, Derivations, hypothesis, cite, convert, gap, no_derivs, more_derivs, Uses, CitesOnly, AllCiteOnly, without_gaps}
 use Rattle.mz_logic.specs.LegalLists.{allowed_with}
-use Rattle.mz_logic.proofs.Graft.{cites_more}
+use Rattle.mz_logic.proofs.Offered.{cites_more}
 
 -- every citation, and gaps where they are let through
 abbrev pub used_with : Bool → Uses

@@ -11,23 +11,18 @@ use Rattle.mz_logic.specs.Conversions.{AreFresh}
 use Rattle.mz_logic.specs.Legality.{sort_of}
 use Rattle.mz_logic.specs.declared.binder.Binder.{Binder}
 use Rattle.mz_logic.specs.declared.binder.SortMods.{SortMods}
-use Rattle.mz_logic.proofs.Rules.{sort_is}
-use Rattle.mz_logic.proofs.Extend.{extends_append}
+use Rattle.mz_logic.proofs.Offered.{sort_is, extends_append}
 use Rattle.mz_unification.specs.Streams.{of_assertion}
 use Rattle.mz_unification.specs.Spells.{trees_of, variables_from, SpellsText}
 use Rattle.mz_unification.specs.Profile.{plain, strict, Item}
 use Rattle.mz_unification.specs.UnifyMachine.{at_end, in_definition, UnifyMode, Matching, UnifyState, unify}
 use Rattle.mz_unification.specs.Laws.{instances_of}
-use Rattle.mz_unification.proofs.Trees.{fits-length, listed-trees_of}
-use Rattle.mz_unification.proofs.Below.{EachBelow, text-met, below-occurs}
-use Rattle.mz_unification.proofs.Citations.{map-reverse}
-use Rattle.mz_unification.proofs.Exact.{assertions-spelled, unfoldings-exact}
-use Rattle.mz_unification.proofs.PlainRuns.{unify-plain}
+use Rattle.mz_unification.proofs.Offered.{fits-length, listed-trees_of, EachBelow, text-met, below-occurs, map-reverse, assertions-spelled, unfoldings-exact, unify-plain}
 use Rattle.mz_soundness.specs.Tables.{Tables, signatures_in, State, Kind, is_axiom, is_theorem, is_definition, Heading, Declares}
 use Rattle.mz_soundness.specs.Premises.{is_provable_sort}
 use Rattle.mz_soundness.specs.FreeVars.{free_within}
 use Rattle.mz_soundness.specs.ProofMachine.{last_item, own_stream, as_proofs, ending, ends_with, proof_end, has_provable_sort}
-use Rattle.mz_soundness.proofs.Assertions.{own-are}
+use Rattle.mz_soundness.proofs.Offered.{own-are}
 use Rattle.mz_steps.specs.Works.{renamed, all_renamed, item_renamed, name_in, Work, machine}
 use Rattle.mz_steps.specs.Sameness.{own, IsSameEnv}
 use Rattle.mz_steps.specs.Endings.{IsAsserted, IsEnding, Ends}

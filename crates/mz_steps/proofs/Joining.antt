@@ -8,8 +8,7 @@ use Rattle.mz_logic.specs.Tree.{Tree, var, app, listed}
 use Rattle.mz_logic.specs.Declaration.{Term, Assertion, Declaration, sort_decl, term_decl, assertion_decl, sorts, terms, assertions}
 use Rattle.mz_logic.specs.declared.binder.Binder.{Binder}
 use Rattle.mz_logic.specs.declared.binder.SortMods.{SortMods}
-use Rattle.mz_logic.proofs.Extend.{Extends, extends_append, extends_itself, sorts-append, terms-append, assertions-append}
-use Rattle.mz_logic.proofs.Fresh.{split_at}
+use Rattle.mz_logic.proofs.Offered.{Extends, extends_append, extends_itself, sorts-append, terms-append, assertions-append, split_at}
 use Rattle.mz_unification.specs.Spells.{trees_of}
 use Rattle.mz_unification.specs.Profile.{Item, expr, proof, obligation, conversion}
 use Rattle.mz_soundness.specs.Tables.{Pairwise}

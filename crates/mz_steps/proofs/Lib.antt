@@ -15,3 +15,4 @@ pub mod SameLists
 pub mod Allowed
 pub mod Reaching
 pub mod Theorems
+pub mod Offered

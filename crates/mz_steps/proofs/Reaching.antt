@@ -18,17 +18,12 @@ use Rattle.mz_logic.specs.Derivations.{Derivation, Derivations, hypothesis, cite
 use Rattle.mz_logic.specs.LegalLists.{AreDummies}
 use Rattle.mz_logic.specs.declared.binder.Binder.{Binder}
 use Rattle.mz_logic.specs.declared.binder.SortMods.{SortMods}
-use Rattle.mz_logic.proofs.Extend.{Extends, extends_append, extends_itself, sort_extends}
-use Rattle.mz_logic.proofs.Fresh.{split_at}
-use Rattle.mz_logic.proofs.Longer.{derived_has_provable}
-use Rattle.mz_logic.proofs.PlainLegality.{assertions_are_sorted, terms_are_sorted}
-use Rattle.mz_logic.proofs.Lists.{each_from_all}
+use Rattle.mz_logic.proofs.Offered.{Extends, extends_append, extends_itself, sort_extends, split_at, derived_has_provable, assertions_are_sorted, terms_are_sorted, each_from_all}
 use Rattle.mz_unification.specs.Spells.{trees_of, variables_from, dummy_of}
 use Rattle.mz_unification.specs.Sorted.{Sorted}
 use Rattle.mz_unification.specs.Profile.{Item, expr, proof, obligation}
 use Rattle.mz_unification.specs.Tests.{is_member}
-use Rattle.mz_unification.proofs.TestLaws.{member-contains, contains-member, not-both}
-use Rattle.mz_unification.proofs.Trees.{trees_of-listed}
+use Rattle.mz_unification.proofs.Offered.{member-contains, contains-member, not-both, trees_of-listed}
 use Rattle.mz_soundness.specs.ProofMachine.{sides}
 use Rattle.mz_steps.specs.Works.{Work, work_start}
 use Rattle.mz_steps.specs.Steps.{stacked, above, IsCited, IsUnfolding, Step, Steps}

@@ -10,7 +10,7 @@ use Rattle.mz_unification.specs.Spells.{TermRow, ThmRow, trees_of, dummy_of}
 use Rattle.mz_unification.specs.Profile.{plain, Item, expr, proof, obligation, conversion}
 use Rattle.mz_unification.specs.UnifyMachine.{UnifyState, unify}
 use Rattle.mz_unification.specs.Laws.{citing, unfolding_by}
-use Rattle.mz_unification.proofs.Trees.{same_tree-refl, listed-trees_of}
+use Rattle.mz_unification.proofs.Offered.{same_tree-refl, listed-trees_of}
 use Rattle.mz_soundness.specs.Tables.{Tables, signatures_in, State}
 use Rattle.mz_soundness.specs.Premises.{pop_exprs, pop_operands, is_obligation, may_be_dummy_sort, is_provable_sort, bound_count, operands_fit, are_apart}
 use Rattle.mz_soundness.specs.ProofMachine.{built, citation, cited, sides, unfolding_of, proof_row}

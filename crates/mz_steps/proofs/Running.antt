@@ -17,16 +17,13 @@ use Rattle.mz_logic.specs.Conversions.{AreFresh}
 use Rattle.mz_logic.specs.Legality.{binder_at, sort_of}
 use Rattle.mz_logic.specs.declared.binder.Binder.{Binder}
 use Rattle.mz_logic.specs.declared.binder.SortMods.{SortMods}
-use Rattle.mz_logic.proofs.Rules.{sort_is}
+use Rattle.mz_logic.proofs.Offered.{sort_is}
 use Rattle.mz_unification.specs.Steps.{◌>>=◌}
 use Rattle.mz_unification.specs.Spells.{trees_of, dummy_of}
 use Rattle.mz_unification.specs.Profile.{plain, strict, Item, expr, proof, obligation, conversion}
 use Rattle.mz_unification.specs.UnifyMachine.{unify}
 use Rattle.mz_unification.specs.Laws.{citing, unfolding_by, instances_of}
-use Rattle.mz_unification.proofs.Inverting.{taken}
-use Rattle.mz_unification.proofs.Trees.{fits-length}
-use Rattle.mz_unification.proofs.Exact.{citations-exact, unfoldings-exact}
-use Rattle.mz_unification.proofs.PlainRuns.{unify-plain}
+use Rattle.mz_unification.proofs.Offered.{taken, fits-length, citations-exact, unfoldings-exact, unify-plain}
 use Rattle.mz_soundness.specs.Tables.{Tables, signatures_in, State, Declares}
 use Rattle.mz_soundness.specs.Premises.{is_obligation, may_be_dummy_sort, is_provable_sort, bound_count, operands_fit, are_apart}
 use Rattle.mz_soundness.specs.ProofMachine.{built, cited, sides, proof_row}

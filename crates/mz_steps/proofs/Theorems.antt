@@ -4,10 +4,10 @@ use Rattle.mz_logic.specs.Tree.{Tree, Trees}
 use Rattle.mz_logic.specs.Declaration.{sorts, signatures}
 use Rattle.mz_logic.specs.Legality.{AreParams}
 use Rattle.mz_logic.specs.declared.binder.Binder.{Binder}
-use Rattle.mz_logic.proofs.PlainLegality.{assertions_are_sorted}
+use Rattle.mz_logic.proofs.Offered.{assertions_are_sorted}
 use Rattle.mz_unification.specs.Streams.{of_assertion}
 use Rattle.mz_unification.specs.Spells.{trees_of, Text}
-use Rattle.mz_unification.proofs.Trees.{trees_of-listed}
+use Rattle.mz_unification.proofs.Offered.{trees_of-listed}
 use Rattle.mz_soundness.specs.Tables.{State, Kind}
 use Rattle.mz_soundness.specs.Premises.{bound_count}
 use Rattle.mz_steps.specs.Works.{work_start, machine}

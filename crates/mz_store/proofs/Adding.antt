@@ -6,10 +6,7 @@ use Rattle.std.proofs.lemmas.Option.{slice_get_within}
 use mir.Val.{bool_byte}
 use Rattle.mz_logic.specs.Signature.{Signature}
 use Rattle.mz_logic.specs.Tree.{Tree, Trees, var, app, none, more}
-use Rattle.mz_logic.proofs.Instance.{one_at, none_some}
-use Rattle.mz_logic.proofs.Extend.{extends_append}
-use Rattle.mz_logic.proofs.Fresh.{split_at}
-use Rattle.mz_logic.proofs.Scoped.{DepsInside}
+use Rattle.mz_logic.proofs.Offered.{one_at, none_some, extends_append, split_at, DepsInside}
 use Rattle.mz_store.specs.Bits.{bound_vars}
 use Rattle.mz_store.specs.Sharing.{Shared, Sharing, tree_of, trees_of, IsIn, AreIn, Holds, IsOver}
 use Rattle.mz_store.specs.Nodes.{entered, context_with, tree_with, binder_after, sharing_of, no_expressions, IsVariableWord}

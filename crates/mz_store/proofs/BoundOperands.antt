@@ -11,8 +11,7 @@ use Rattle.mz_logic.specs.Variables.{IsBoundAt, IsOperandAt}
 use Rattle.mz_logic.specs.Words.{word_bound, bound_places, places_set, binder_of, binders_of}
 use Rattle.mz_logic.specs.declared.word.Word.{Word}
 use Rattle.mz_logic.specs.declared.binder.Binder.{Binder}
-use Rattle.mz_logic.proofs.Compose.{contains_cases}
-use Rattle.mz_logic.proofs.Instance.{one_at, none_some}
+use Rattle.mz_logic.proofs.Offered.{contains_cases, one_at, none_some}
 use Rattle.mz_store.specs.Bits.{Tells, bound_vars}
 use Rattle.mz_store.specs.Sharing.{Sharing, tree_of, trees_of, IsTold}
 use Rattle.mz_store.specs.declared.item.Id.{Id}

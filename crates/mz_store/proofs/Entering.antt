@@ -8,10 +8,7 @@ use Rattle.mz_logic.specs.Tree.{var}
 use Rattle.mz_logic.specs.Signature.{Signature}
 use Rattle.mz_logic.specs.Variables.{InV}
 use Rattle.mz_logic.specs.declared.binder.Binder.{Binder}
-use Rattle.mz_logic.proofs.Instance.{one_at, none_some}
-use Rattle.mz_logic.proofs.Extend.{Extends, extends_append, extends_itself, sort_extends}
-use Rattle.mz_logic.proofs.Fresh.{split_at, slice_get-append_add}
-use Rattle.mz_logic.proofs.Scoped.{DepsInside}
+use Rattle.mz_logic.proofs.Offered.{one_at, none_some, Extends, extends_append, extends_itself, sort_extends, split_at, slice_get-append_add, DepsInside}
 use Rattle.mz_store.specs.Bits.{Tells, HasAt, bound_vars}
 use Rattle.mz_store.specs.Sharing.{Shared, Sharing, entry_of, IsOver, IsRight, IsTold}
 use Rattle.mz_store.specs.Nodes.{entered, binder_after, IsVariableWord}

@@ -6,7 +6,7 @@ use Rattle.mz_logic.specs.Signature.{Signature}
 use Rattle.mz_logic.specs.Variables.{InFV, InSomeFV, IsOperandAt}
 use Rattle.mz_logic.specs.Words.{TermWords, term_at, word_bound, word_deps, bound_places, places_set, binder_of, binders_of, signature_of, signatures_of}
 use Rattle.mz_logic.specs.declared.word.Word.{Word}
-use Rattle.mz_logic.proofs.Instance.{one_at}
+use Rattle.mz_logic.proofs.Offered.{one_at}
 use Rattle.mz_store.specs.Bits.{Tells, bound_vars}
 use Rattle.mz_store.specs.Sharing.{Sharing, tree_of, trees_of, IsTold, CanTake}
 use Rattle.mz_store.specs.declared.item.DepsMode.TheVariants as of

@@ -2,7 +2,7 @@
 use Rattle.std.proofs.Common.{ℕ, ◌≡◌, ◌<◌, ◌-◌, ◌⊎◌, ◌↔◌, min, max, List, subst, inl, inr, arith, bit_and, bit_or, w64, ◌^◌}
 use Rattle.std.specs.Int.{bit_at, bit_not}
 use Rattle.std.proofs.lemmas.Nat.Bits.{bit_at_or, bit_at_and, bit_at_not, bit_at_above, bit_at-zero, bit_at-lt}
-use Rattle.mz_logic.proofs.Instance.{one_at}
+use Rattle.mz_logic.proofs.Offered.{one_at}
 use Rattle.mz_store.specs.Bits.{HasAt, Tells}
 use Rattle.mz_store.proofs.Entering.{less-or}
 

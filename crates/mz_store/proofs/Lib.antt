@@ -13,3 +13,4 @@ mod BoundOperands
 mod FreeVariables
 pub mod Taking
 pub mod Meeting
+pub mod Offered

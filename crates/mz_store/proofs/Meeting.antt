@@ -8,7 +8,7 @@ use Rattle.mz_logic.specs.Tree.{var}
 use Rattle.mz_logic.specs.Signature.{Signature}
 use Rattle.mz_logic.specs.Variables.{IsBoundAt}
 use Rattle.mz_logic.specs.declared.binder.Binder.{Binder}
-use Rattle.mz_logic.proofs.Instance.{one_at, none_some}
+use Rattle.mz_logic.proofs.Offered.{one_at, none_some}
 use Rattle.mz_store.specs.Bits.{Tells, bound_from, bound_vars}
 use Rattle.mz_store.specs.Sharing.{Shared, tree_of, deps_of, IsTold}
 use Rattle.mz_store.specs.Laws.{OldIdsKeepTrees, OldListsKeepTrees, WordsMeet}

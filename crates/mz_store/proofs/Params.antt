@@ -9,8 +9,7 @@ use Rattle.mz_logic.specs.Variables.{IsBoundAt, IsOperandAt}
 use Rattle.mz_logic.specs.Words.{word_bound, bound_places, places_set, binder_of, binders_from, binders_of}
 use Rattle.mz_logic.specs.declared.word.Word.{Word}
 use Rattle.mz_logic.specs.declared.binder.Binder.{Binder}
-use Rattle.mz_logic.proofs.Instance.{one_at, none_some}
-use Rattle.mz_logic.proofs.Compose.{contains_cases, contains_head, contains_tail}
+use Rattle.mz_logic.proofs.Offered.{one_at, none_some, contains_cases, contains_head, contains_tail}
 use Rattle.mz_store.specs.Bits.{Tells}
 use Rattle.mz_store.specs.Sharing.{Sharing, tree_of, trees_of, IsIn, AreIn, IsTold}
 use Rattle.mz_store.specs.declared.item.DepsMode.{DepsMode}

@@ -5,8 +5,7 @@ use Rattle.std.proofs.lemmas.Bool.{eqb-true}
 use Rattle.std.proofs.lemmas.Nat.Bits.{bit_at-suc, bit_at_lowest}
 use Rattle.mz_logic.specs.Words.{places_set}
 use Rattle.mz_logic.specs.declared.binder.Binder.{Binder}
-use Rattle.mz_logic.proofs.Instance.{one_at, none_some}
-use Rattle.mz_logic.proofs.Compose.{contains_cases, contains_head, contains_tail}
+use Rattle.mz_logic.proofs.Offered.{one_at, none_some, contains_cases, contains_head, contains_tail}
 use Rattle.mz_store.specs.Bits.{bound_from, bound_vars}
 
 pub none-in : (x : ℕ) → Contains [] x → ⊥

@@ -10,3 +10,4 @@ pub mod Short
 pub mod OneBuilding
 pub mod SpelledLists
 pub mod RowsSpell
+pub mod Offered

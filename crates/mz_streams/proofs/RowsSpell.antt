@@ -7,7 +7,7 @@ use Rattle.mz_logic.specs.Legality.{IsLegalDecl}
 use Rattle.mz_logic.specs.Signature.{Signature}
 use Rattle.mz_logic.specs.Sorts.{HasProvable}
 use Rattle.mz_logic.specs.declared.binder.Binder.{Binder}
-use Rattle.mz_logic.proofs.PlainLegality.{assertions_are_sorted, terms_are_sorted}
+use Rattle.mz_logic.proofs.Offered.{assertions_are_sorted, terms_are_sorted}
 use Rattle.mz_unification.specs.Spells.{SpellsForm}
 use Rattle.mz_unification.specs.Sorted.{AllSorted}
 use Rattle.mz_streams.proofs.Texts.{assertions-written, definitions-written}

@@ -6,8 +6,7 @@ use Rattle.mz_logic.specs.LegalLists.{Statement, declarations}
 use Rattle.mz_logic.specs.Modifiers.{MayBeDummySort}
 use Rattle.mz_logic.specs.Signature.{Signature}
 use Rattle.mz_logic.specs.declared.binder.Binder.{Binder}
-use Rattle.mz_logic.proofs.PlainLegality.{terms_are_sorted}
-use Rattle.mz_logic.proofs.Lists.{each_from_all}
+use Rattle.mz_logic.proofs.Offered.{terms_are_sorted, each_from_all}
 use Rattle.mz_steps.specs.Sameness.{IsSameForm}
 use Rattle.mz_steps.specs.SameLists.{IsSameDeclaration, IsSameList}
 use Rattle.mz_streams.specs.SpelledLists.{form_spelled, decl_spelled, list_spelled, SpelledListsAreSame}

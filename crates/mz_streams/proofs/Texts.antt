@@ -10,9 +10,9 @@ use Rattle.mz_logic.specs.declared.binder.Binder.{Binder}
 use Rattle.mz_unification.specs.Streams.{StreamKind, of_assertion, of_definition, UnifyCommand}
 use Rattle.mz_unification.specs.Spells.{Marks, at_first, Text}
 use Rattle.mz_unification.specs.Sorted.{Sorted, AllSorted}
-use Rattle.mz_unification.proofs.Trees.{all-sorted-append}
+use Rattle.mz_unification.proofs.Offered.{all-sorted-append}
 use Rattle.mz_steps.specs.Works.{renamed, all_renamed, name_in, from_to, place_of}
-use Rattle.mz_steps.proofs.Naming.{place-at}
+use Rattle.mz_steps.proofs.Offered.{place-at}
 use Rattle.mz_streams.specs.Writing.{Writing, Written, writing_start, write, write_hyps, assertion_written, definition_written, body_spelled, dummies_spelled, spelled_dummies, stream_of, AreShort}
 use Rattle.mz_streams.specs.Sharing.{Built, Builds, BuildsHyps, BuildsText, IsWhole, BuildsWholeOnce}
 use Rattle.mz_streams.specs.Laws.{AssertionsAreWritten, DefinitionsAreWritten, AssertionsAreShared, DefinitionsAreShared}

@@ -6,7 +6,7 @@ use Rattle.mz_tokens.specs.Pieces.{IsConstant}
 use Rattle.mz_lex.specs.Kinds.{is_space}
 use Rattle.mz_tokens.specs.Pieces.{Delimiters, no_delimiters, Piece, IsSpaces, IsPiece, PiecesFrom, Pieces, piece_text, piece_texts, AreCharacters}
 use Rattle.mz_tokens.specs.Answers.{IsNext, EndsAt, IsWhole}
-use Rattle.mz_lex.proofs.Names.{slice-first, slice-empty}
+use Rattle.mz_lex.proofs.Offered.{slice-first, slice-empty}
 use Rattle.mz_tokens.proofs.Cutting.{piece-one, no-piece}
 
 cons_same : {A : Type 0} {x y : A} {xs ys : List A} → x ∷ xs ≡ y ∷ ys → (x ≡ y) × (xs ≡ ys)

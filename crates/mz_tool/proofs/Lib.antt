@@ -10,3 +10,4 @@ mod Specifications
 mod Rests
 mod Drafted
 mod Listed
+mod Decompiles

@@ -2,7 +2,7 @@
 use Rattle.std.proofs.Common.{◌≡◌, ◌∙◌, ◌⊎◌, ℕ, true, false, refl, List, [], ◌∷◌, ap, sym, subst, inl, inr, arith}
 use Rattle.std.specs.Prelude.{bytes_eq, codes, decimal, if◌then◌else◌}
 use Rattle.std.proofs.lemmas.Fmt.{decimal_injective}
-use Rattle.mz_tool.specs.Request.{Request, verify, show, compile, assemble, axioms, draft, portable, specify, sample, words_of, IsInRange, Asks}
+use Rattle.mz_tool.specs.Request.{Request, verify, show, compile, assemble, axioms, draft, portable, specify, decompile, sample, words_of, IsInRange, Asks}
 
 -- what words ask for: a sample of the size that is written so, or another request
 data Read : Type 0 where
@@ -39,7 +39,8 @@ read : List (List ℕ) → Read
 read [] = a_sample []
 read (name ∷ []) = a_sample []
 read (name ∷ x ∷ []) = read-one name x
-read (name ∷ x ∷ y ∷ rest) = read-two name x y
+read (name ∷ x ∷ y ∷ []) = read-two name x y
+read (name ∷ x ∷ y ∷ z ∷ rest) = another (decompile x y z)
 
 -- a request is read of its words
 abbrev IsRead : Request → Type 0
@@ -56,6 +57,7 @@ is-read (axioms spec bin) = inl refl
 is-read (draft spec bin) = inl refl
 is-read (portable spec bin) = inl refl
 is-read (specify text out) = inl refl
+is-read (decompile spec bin out) = inl refl
 is-read (sample n) = inr (n, refl)
 
 size-read : (n : ℕ) → read (words_of (sample n)) ≡ a_sample (decimal n)

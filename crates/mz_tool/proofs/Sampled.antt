@@ -1,10 +1,10 @@
 -- What comes of a sample: its text is compiled, and the binary verified.
 use Rattle.std.proofs.Common.{◌≡◌, ◌∙◌, ◌++◌, ℕ, List, [], Option, Some, None, sym, subst, inl, inr, refl, ap, false}
 use Rattle.mz_logic.specs.LegalLists.{Statement}
-use Rattle.mz_binary.proofs.WholeFiles.{one-list, good-spelled}
+use Rattle.mz_binary.proofs.Offered.{one-list, good-spelled}
 use Rattle.mz_match.specs.Match.{publics, Agrees}
 use Rattle.mz_match.specs.Verdict.{Accepts, IsSound, counts_of}
-use Rattle.mz_match.proofs.OneVerdict.{accepted-excludes}
+use Rattle.mz_match.proofs.Offered.{accepted-excludes}
 use Rattle.mz_type.specs.Laws.{IsTypedOrFaulty}
 use Rattle.mz_type.specs.Meaning.{marked}
 use Rattle.mz_emit.specs.Compiling.{CompilesTo, IsDecided}

@@ -1,6 +1,6 @@
 -- What comes of a text: it has a specification, or a first fault, or something stands first against a specification.
 use Rattle.std.proofs.Common.{false, ◌≡◌, ◌≤◌, ℕ, List, Option, length, ap, subst, inl, inr, refl, arith}
-use Rattle.mz_checks.proofs.InOrder.{all_hold-rest}
+use Rattle.mz_checks.proofs.Offered.{all_hold-rest}
 use Rattle.mz_wording.specs.Wording.{longest, local_in, long_in, too_long, local_checks, long_checks, local_terms, vocabulary_of, prefix_text, IsWordedAs}
 use Rattle.mz_prefix.specs.declared.spec_text.SpecText.{SpecText}
 use Rattle.mz_prefix.specs.declared.spec_text.SpecText.TheVariants as answers

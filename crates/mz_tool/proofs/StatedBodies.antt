@@ -7,13 +7,11 @@ use Rattle.mz_logic.specs.Tree.{Tree, Trees, var, app, none, more, operand, inst
 use Rattle.mz_logic.specs.Variables.{InSomeV}
 use Rattle.mz_logic.specs.Conversions.{IsBoundOf, AreFresh}
 use Rattle.mz_logic.specs.declared.binder.Binder.{Binder}
-use Rattle.mz_logic.proofs.Fresh.{split_at}
+use Rattle.mz_logic.proofs.Offered.{split_at}
 use Rattle.mz_unification.specs.Spells.{variables_from}
-use Rattle.mz_unification.proofs.Inverting.{some_is}
-use Rattle.mz_unification.proofs.FreshVars.{distinct, in-some}
-use Rattle.mz_unification.proofs.Trees.{operand-trees_of}
+use Rattle.mz_unification.proofs.Offered.{some_is, distinct, in-some, operand-trees_of}
 use Rattle.mz_steps.specs.Sameness.{own}
-use Rattle.mz_steps.proofs.Unfolds.{operand-front, operand-behind, operand-variables}
+use Rattle.mz_steps.proofs.Offered.{operand-front, operand-behind, operand-variables}
 use Rattle.mz_match.specs.Trees.{SameOver, AllSameOver, Pairs, IsPaired, SameBody}
 
 -- ---- parameters

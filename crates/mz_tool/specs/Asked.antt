@@ -1,8 +1,8 @@
 -- The request that a command stands for.
 use Rattle.mz_mode.specs.Gaps.{gaps_of}
-use Rattle.mz_tool.specs.Request.{Request, verify, show, compile, assemble, axioms, draft, portable, specify, sample}
+use Rattle.mz_tool.specs.Request.{Request, verify, show, compile, assemble, axioms, draft, portable, specify, decompile, sample}
 use Rattle.mz_tool.specs.declared.command.Command.{Command}
-use Rattle.mz_tool.specs.declared.command.Command.TheVariants.{Verify, Show, Compile, Assemble, Axioms, Draft, Portable, Specify, Sample}
+use Rattle.mz_tool.specs.declared.command.Command.TheVariants.{Verify, Show, Compile, Assemble, Axioms, Draft, Portable, Specify, Decompile, Sample}
 
 abbrev pub request : Command → Request
 request (Verify spec bin) = verify spec.now bin.now
@@ -13,4 +13,5 @@ request (Axioms spec bin) = axioms spec.now bin.now
 request (Draft spec bin) = draft spec.now bin.now
 request (Portable spec bin) = portable spec.now bin.now
 request (Specify text out) = specify text.now out.now
+request (Decompile spec bin out) = decompile spec.now bin.now out.now
 request (Sample size) = sample size.number

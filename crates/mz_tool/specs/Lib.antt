@@ -5,6 +5,7 @@ pub mod Judging
 pub mod Outcomes
 pub mod Run
 pub mod Specified
+pub mod Decompiled
 pub mod Asked
 pub mod Reported
 pub mod Ending

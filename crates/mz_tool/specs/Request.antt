@@ -14,6 +14,7 @@ pub data Request : Type 0 where
   draft : (spec bin : List ℕ) → Request
   portable : (spec bin : List ℕ) → Request
   specify : (text out : List ℕ) → Request
+  decompile : (spec bin out : List ℕ) → Request
   sample : (n : ℕ) → Request
 
 abbrev pub compile_word : Bool → List ℕ
@@ -29,6 +30,7 @@ words_of (axioms spec bin) = codes "axioms" ∷ spec ∷ bin ∷ []
 words_of (draft spec bin) = codes "draft" ∷ spec ∷ bin ∷ []
 words_of (portable spec bin) = codes "portable" ∷ spec ∷ bin ∷ []
 words_of (specify text out) = codes "spec" ∷ text ∷ out ∷ []
+words_of (decompile spec bin out) = codes "decompile" ∷ spec ∷ bin ∷ out ∷ []
 words_of (sample n) = codes "sample" ∷ decimal n ∷ []
 
 -- a sample has 1 to 10,000 definitions
@@ -41,6 +43,7 @@ IsInRange (axioms spec bin) = Unit {0}
 IsInRange (draft spec bin) = Unit {0}
 IsInRange (portable spec bin) = Unit {0}
 IsInRange (specify text out) = Unit {0}
+IsInRange (decompile spec bin out) = Unit {0}
 IsInRange (sample n) = (1 ≤ n) × (n ≤ 10000)
 
 -- the words ask for it
@@ -57,6 +60,7 @@ names_read (axioms spec bin) = spec ∷ bin ∷ []
 names_read (draft spec bin) = spec ∷ bin ∷ []
 names_read (portable spec bin) = spec ∷ bin ∷ []
 names_read (specify text out) = text ∷ []
+names_read (decompile spec bin out) = spec ∷ bin ∷ []
 names_read (sample n) = []
 
 -- the name under which it puts a file, where it puts one
@@ -69,6 +73,7 @@ name_put (axioms spec bin) = None
 name_put (draft spec bin) = None
 name_put (portable spec bin) = None
 name_put (specify text out) = Some out
+name_put (decompile spec bin out) = Some out
 name_put (sample n) = None
 
 -- what stands under each name

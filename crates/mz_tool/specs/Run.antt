@@ -25,10 +25,15 @@ use Rattle.mz_axioms.specs.Lists.{TheoremSupport, AreSupports}
 use Rattle.mz_axioms.specs.Text.{IsTextOf}
 use Rattle.mz_axioms.specs.Gaps.{IsGapsTextOf}
 use Rattle.mz_sample.specs.Samples.{sample_specification, sample_text, sample_line}
-use Rattle.mz_tool.specs.Request.{Request, verify, show, compile, assemble, axioms, draft, portable, specify, sample, Files, Hold, names_read}
+use Rattle.mz_tool.specs.Request.{Request, verify, show, compile, assemble, axioms, draft, portable, specify, decompile, sample, Files, Hold, names_read}
 use Rattle.mz_wording.specs.Wording.{Unwritten, local_in, long_in, too_long, longest, IsWordedAs, IsUnwritten}
 use Rattle.mz_agreeing.specs.Laws.{DeclaresText}
 use Rattle.mz_prefix.specs.Told.{specified_line, local_line, long_line}
+use Rattle.mz_restating.specs.Restated.{Unstated}
+use Rattle.mz_restating.specs.Texts.{IsPlainText, IsUnstated}
+use Rattle.mz_decompile.specs.Decompiling.{IsTextFor}
+use Rattle.mz_decompile.specs.Told.{decompiled_line}
+use Rattle.mz_tool.specs.Decompiled.{unstated_line}
 use Rattle.mz_tool.specs.declared.status.Status.{Status}
 use Rattle.mz_tool.specs.declared.status.Status.TheVariants as statuses
 
@@ -106,6 +111,20 @@ IsNotSpecified text line =
     ((refusal : TextRefusal) × TextFault false text refusal × (line ≡ text_refusal_line refusal))
     ⊎ ((u : Unwritten) × IsUnwritten longest text u × (line ≡ unwritten_line u))
 
+-- the pair is accepted, and the bytes, which are put, are the text that states the binary's statements under the
+-- specification's names
+abbrev pub IsDecompiledTo : List ℕ → List ℕ → Option (List ℕ) → List ℕ → Type 0
+IsDecompiledTo spec bin put line = (text : List ℕ) × (put ≡ Some text) × IsPlainText spec bin text × (line ≡ decompiled_line (length text))
+
+-- each text of a pair is well typed and says the binary's statements; it can be compiled, and what it is compiled to is
+-- accepted against the specification
+abbrev pub AreItsTexts : List ℕ → List ℕ → Type 0
+AreItsTexts spec bin = (text : List ℕ) → IsPlainText spec bin text → IsTextFor spec bin text
+
+-- the pair is refused, or it is accepted and something stands first against its text
+abbrev pub IsNotDecompiled : List ℕ → List ℕ → List ℕ → Type 0
+IsNotDecompiled spec bin line = IsRefuted spec bin line ⊎ ((u : Unstated) × IsUnstated spec bin u × (line ≡ unstated_line u))
+
 -- a text is compiled, and the binary accepted against the specification
 abbrev pub IsUpheld : List ℕ → List ℕ → List ℕ → Type 0
 IsUpheld spec text line = (bin : List ℕ) × CompilesTo false text bin × IsVerified spec bin line
@@ -141,6 +160,7 @@ IsYesOf (axioms spec_name bin_name) (spec ∷ bin ∷ []) put text = (put ≡ No
 IsYesOf (draft spec_name bin_name) (spec ∷ bin ∷ []) put text = (put ≡ None) × IsDraftTold spec bin text
 IsYesOf (portable spec_name bin_name) (spec ∷ bin ∷ []) put text = (put ≡ None) × IsVerifiedBy Portable spec bin text
 IsYesOf (specify text_name out_name) (stated ∷ []) put text = IsSpecifiedTo stated put text
+IsYesOf (decompile spec_name bin_name out_name) (spec ∷ bin ∷ []) put text = IsDecompiledTo spec bin put text
 IsYesOf (sample n) [] put text = (put ≡ None) × IsSampleUpheld n text
 IsYesOf request contents put text = ⊥
 
@@ -154,6 +174,7 @@ IsNoOf (axioms spec_name bin_name) (spec ∷ bin ∷ []) text = IsRefuted spec b
 IsNoOf (draft spec_name bin_name) (spec ∷ bin ∷ []) text = IsRefutedBy draft_standard spec bin text
 IsNoOf (portable spec_name bin_name) (spec ∷ bin ∷ []) text = IsRefutedBy Portable spec bin text
 IsNoOf (specify text_name out_name) (stated ∷ []) text = IsNotSpecified stated text
+IsNoOf (decompile spec_name bin_name out_name) (spec ∷ bin ∷ []) text = IsNotDecompiled spec bin text
 IsNoOf (sample n) [] text = IsSampleFaulted n text
 IsNoOf request contents text = ⊥
 
@@ -162,6 +183,7 @@ IsNoOf request contents text = ⊥
 -- this cites only axioms that the specification declares before it. All of the binary's statements are legal and agree too.
 -- What is accepted with gaps agrees and is a legal draft, and each theorem that isn't gapped has a derivation without gaps,
 -- over the statements before it, that cites no gapped theorem. What verifiers accept that compare addresses is accepted.
+-- A pair whose binary is made a text is sound, and the text says the binary's statements and compiles to what is accepted again.
 abbrev pub IsProvedOf : Request → List (List ℕ) → Type 0
 IsProvedOf (verify spec_name bin_name) (spec ∷ bin ∷ []) = IsSound spec bin
 IsProvedOf (verify spec_name bin_name) contents = ⊥
@@ -176,6 +198,8 @@ IsProvedOf (portable spec_name bin_name) (spec ∷ bin ∷ []) = IsSound spec bi
 IsProvedOf (portable spec_name bin_name) contents = ⊥
 IsProvedOf (specify text_name out_name) (stated ∷ []) = AreItsSpecifications stated
 IsProvedOf (specify text_name out_name) contents = ⊥
+IsProvedOf (decompile spec_name bin_name out_name) (spec ∷ bin ∷ []) = IsSound spec bin × AreItsTexts spec bin
+IsProvedOf (decompile spec_name bin_name out_name) contents = ⊥
 IsProvedOf (sample n) contents = IsProvedByText (sample_specification n) (sample_text n)
 
 -- ---- the same over the folder's files
@@ -214,6 +238,7 @@ IsListedFor file (axioms spec_name bin_name) text = ⊥
 IsListedFor file (draft spec_name bin_name) text = ⊥
 IsListedFor file (portable spec_name bin_name) text = ⊥
 IsListedFor file (specify text_name out_name) text = ⊥
+IsListedFor file (decompile spec_name bin_name out_name) text = ⊥
 IsListedFor file (sample n) text = ⊥
 IsListedFor file (show bin_name) text = (bin : List ℕ) × (file bin_name ≡ Some bin) × IsListed bin text
 
@@ -226,6 +251,7 @@ IsShow (axioms spec bin) = ⊥
 IsShow (draft spec bin) = ⊥
 IsShow (portable spec bin) = ⊥
 IsShow (specify text out) = ⊥
+IsShow (decompile spec bin out) = ⊥
 IsShow (sample n) = ⊥
 
 -- the statuses at which a file may have been put, or spoilt

@@ -51,6 +51,12 @@ pub enum Command<'a> {
         text: &'a str,
         out: &'a str,
     },
+    /// `decompile SPEC BIN OUT`
+    Decompile {
+        spec: &'a str,
+        bin: &'a str,
+        out: &'a str,
+    },
     /// `sample N`
     Sample {
         size: SampleSize,
@@ -70,6 +76,12 @@ impl<'a> Command<'a> {
             [command, first, second] => {
                 Command::of_two(command.as_str(), first.as_str(), second.as_str())
             }
+            [command, first, second, third] => Command::of_three(
+                command.as_str(),
+                first.as_str(),
+                second.as_str(),
+                third.as_str(),
+            ),
             _ => None,
         }
     }
@@ -133,6 +145,21 @@ impl<'a> Command<'a> {
         }
     }
 
+    /// The command of this name, with three words more.
+    fn of_three(name: &str, first: &'a str, second: &'a str, third: &'a str) -> Option<Command<'a>>
+        ensures asked { IfSome result (λ command. Asks (name.now ∷ first.now ∷ second.now ∷ third.now ∷ []) (request command)) }
+        ensures usage { IfNone result ((asked : Request) → Asks (name.now ∷ first.now ∷ second.now ∷ third.now ∷ []) asked → ⊥) }
+    {
+        match name {
+            "decompile" => Some(Command::Decompile {
+                spec: first,
+                bin: second,
+                out: third,
+            }),
+            _ => None,
+        }
+    }
+
     /// The files that it reads, in order.
     pub fn inputs(self) -> Inputs<'a>
         ensures { names_of result ≡ names_read (request self.entry) }
@@ -146,6 +173,7 @@ impl<'a> Command<'a> {
             Command::Draft { spec, bin } => Inputs::Two(spec, bin),
             Command::Portable { spec, bin } => Inputs::Two(spec, bin),
             Command::Specify { text, .. } => Inputs::One(text),
+            Command::Decompile { spec, bin, .. } => Inputs::Two(spec, bin),
             Command::Sample { .. } => Inputs::Nothing,
         }
     }
@@ -163,7 +191,8 @@ impl<'a> Command<'a> {
             | Command::Sample { .. } => Output::Nothing,
             Command::Compile { out, .. }
             | Command::Assemble { out, .. }
-            | Command::Specify { out, .. } => Output::File(out),
+            | Command::Specify { out, .. }
+            | Command::Decompile { out, .. } => Output::File(out),
         }
     }
 }

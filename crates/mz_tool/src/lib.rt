@@ -1,6 +1,6 @@
 //! The program over any folder and output: verifies binaries against specifications, lists them,
 //! makes them of listings, tells what theorems rest on and which of them rest on a gap, compiles proof
-//! texts, writes specifications for them, and tries itself on samples.
+//! texts, writes specifications for them, makes texts of binaries, and tries itself on samples.
 //!
 //! `specs/Request.antt` says what the words ask for, and `specs/Run.antt` what is answered. The
 //! program itself (`mz_main`) hands [`run`] the folder and the output of the system.
@@ -10,6 +10,7 @@ mod assemble;
 mod axioms;
 mod command;
 mod compile;
+mod decompile;
 mod draft;
 mod inputs;
 mod outcome;

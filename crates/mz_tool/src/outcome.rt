@@ -10,6 +10,7 @@ use crate::assemble::assemble;
 use crate::axioms::axioms;
 use crate::command::Command;
 use crate::compile::compile;
+use crate::decompile::decompile;
 use crate::draft::draft;
 use crate::inputs::Contents;
 use crate::output::Put;
@@ -52,6 +53,9 @@ pub fn outcome_of(alloc: Global, command: Command, contents: &Contents) -> Outco
             portable(alloc, spec.as_slice(), bin)
         }
         (Command::Specify { .. }, Contents::One(text)) => specify(alloc, text),
+        (Command::Decompile { .. }, Contents::Two(spec, bin)) => {
+            decompile(alloc, spec.as_slice(), bin)
+        }
         (Command::Sample { size }, Contents::Nothing) => sample(alloc, size),
         _ => unreachable!(),
     }

@@ -134,6 +134,7 @@ pub fn answer<F: Folder, O: Sink>(
         | Command::Draft { .. }
         | Command::Portable { .. }
         | Command::Specify { .. }
+        | Command::Decompile { .. }
         | Command::Sample { .. } => answer_whole(alloc, limit, command, folder, out),
     }
 }

@@ -32,7 +32,7 @@ fn spec_line(alloc: Global, made: &SpecText) -> Result<Vec<u8>, Mem>
             };
             compiled_line(alloc, &limit)
         }
-        SpecText::Mem => Ok(Vec::new(alloc)),
+        SpecText::Mem => unreachable!(),
     }
 }
 

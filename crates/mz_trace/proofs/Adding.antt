@@ -1,11 +1,11 @@
 -- Nodes that are added, and the nodes of values.
-use Rattle.std.proofs.Common.{◌≡◌, ℕ, zero, suc, ◌+◌, List, [], ◌∷◌, ◌++◌, Option, Some, None, length, refl, sym, ap, ◌∙◌, subst, arith, length-append}
+use Rattle.std.proofs.Common.{◌≡◌, ℕ, zero, suc, ◌+◌, List, [], ◌∷◌, ◌++◌, Option, Some, length, refl, sym, ap, ◌∙◌, subst, arith, length-append}
 use Rattle.std.specs.Prelude.{slice_get}
 use Rattle.std.proofs.lemmas.List.{append-nil, append_assoc}
-use Rattle.mz_logic.specs.Tree.{Tree, Trees, var, app}
+use Rattle.mz_logic.specs.Tree.{Trees, var, app}
 use Rattle.mz_unification.specs.Spells.{trees_of}
 use Rattle.mz_soundness.specs.Tables.{Tables}
-use Rattle.mz_trace.specs.Nodes.{Value, an_expression, a_conversion, a_proof, expressions_at, value_of, values_after, values, AreExpressions, HasArity, HasParts, HavePartsAfter, HaveParts, IsApplication, Applies}
+use Rattle.mz_trace.specs.Nodes.{Value, an_expression, expressions_at, value_of, values_after, values, AreExpressions, HasArity, HasParts, HavePartsAfter, HaveParts, IsApplication, Applies}
 use Rattle.mz_trace.specs.declared.node.RunNode.{RunNode}
 use Rattle.mz_trace.specs.declared.node.RunNode.TheVariants as node
 use Rattle.mz_trace.proofs.Growing.{grown-at, last-at, grown-parts, same-value}

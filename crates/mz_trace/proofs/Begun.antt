@@ -1,25 +1,24 @@
 -- Before the first command, and behind the last one.
-use Rattle.std.proofs.Common.{Result, ◌≡◌, ℕ, zero, suc, ◌+◌, List, [], ◌∷◌, ◌++◌, Some, Ok, length, map, refl, sym, ap, ◌∙◌, subst, arith}
+use Rattle.std.proofs.Common.{◌≡◌, ℕ, zero, suc, ◌+◌, List, [], ◌∷◌, ◌++◌, Ok, length, map, refl, sym, ap, ◌∙◌, subst, arith}
 use Rattle.std.proofs.lemmas.List.{append-nil, map-append}
-use Rattle.mz_cmd.specs.declared.rule.K.{K}
 use Rattle.mz_logic.specs.Tree.{Tree, var}
 use Rattle.mz_logic.specs.declared.binder.Binder.{Binder}
 use Rattle.mz_unification.specs.Profile.{strict, expr, proof, obligation, conversion}
 use Rattle.mz_unification.specs.Profile.{Item as MachineItem}
 use Rattle.mz_unification.specs.Spells.{dummy_of}
-use Rattle.mz_unification.proofs.Inverting.{from_bind}
+use Rattle.mz_unification.proofs.Offered.{from_bind}
 use Rattle.mz_soundness.specs.Tables.{Tables, State, is_theorem, Heading}
 use Rattle.mz_soundness.specs.ProofMachine.{own_variables, last_item, ends_with, proof_end}
 use Rattle.mz_soundness.specs.Bodies.{body_start, body_from, Runs}
 use Rattle.mz_layout.specs.Tables.{thm_row}
 use Rattle.mz_machine.specs.Before.{MayRun, heading_of, tables_before}
 use Rattle.mz_machine.specs.declared.earlier.Rows.{Rows}
-use Rattle.mz_machine.proofs.BeforeLaws.{binders_many}
+use Rattle.mz_machine.proofs.Offered.{binders_many}
 use Rattle.mz_tracing.specs.Parts.{Part, expression, proved}
-use Rattle.mz_tracing.specs.Traces.{Trace, trace_start, trace_from, trace_body, Made}
+use Rattle.mz_tracing.specs.Traces.{Trace, trace_start, trace_from, trace_body}
 use Rattle.mz_trace.specs.Nodes.{Value, values, proof_at, HaveParts, AreProofs, IsProof}
 use Rattle.mz_trace.specs.Entries.{item_at, part_at, items_at, parts_at, IsStack}
-use Rattle.mz_trace.specs.Commands.{Stage, begun, values_in, context_of, state_of, trace_of, IsHeld, IsMade}
+use Rattle.mz_trace.specs.Commands.{Stage, begun, values_in, context_of, state_of, trace_of, IsHeld, IsMade, IsRead}
 use Rattle.mz_trace.specs.Runs.{IsRunOf, RunsFrom, LeadsToEnd, HasRoot, IsFinished}
 use Rattle.mz_trace.specs.declared.run.Run.{Run}
 use Rattle.mz_trace.specs.declared.node.RunNode.{RunNode}
@@ -27,8 +26,9 @@ use Rattle.mz_trace.specs.declared.node.RunNode.TheVariants as node
 use Rattle.mz_trace.specs.declared.entry.Item.TheVariants.{Expr, Proof as ProofItem, Conversion as ConversionItem}
 use Rattle.mz_trace.specs.declared.entry.Entry.{Entry}
 use Rattle.mz_trace.specs.declared.entry.Entry.TheVariants.{Held, Owed, ForProof, ForTurned, ForOperand, ForUnfolded, ForCut}
-use Rattle.mz_trace.proofs.Stages.{alike, alike-trace, state, trace, expression-added, held-still}
+use Rattle.mz_trace.proofs.Stages.{alike, alike-trace, state, expression-added, held-still}
 use Rattle.mz_trace.proofs.Growth.{heap-more, heap_parts-more, kept-more}
+use Rattle.mz_trace.proofs.Known.{known-start}
 
 -- ---- parameters
 
@@ -105,7 +105,7 @@ module _ (tables : Tables) (h : Heading) (n : ℕ) (many : length h.params ≡ n
   bare = bare-begun n
 
   pub begun-made : IsMade tables h.params (begun n)
-  begun-made = (held-begun tables n h.params many, subst (λ (xs : List Entry). IsStack (values_in (begun n)) xs) (sym bare.stack) tt)
+  begun-made = (held-begun tables n h.params many, subst (λ (xs : List Entry). IsStack tables (values_in (begun n)) xs) (sym bare.stack) tt)
 
   pub begun-state : state_of h.params (begun n) ≡ body_start strict h
   begun-state =
@@ -134,34 +134,34 @@ proof-left tables h st end kind done =
     from_bind (ends_with strict tables h st) _ end done λ m m-is e1.
     from_bind (last_item h.kind st.stack) _ m m-is λ e e-is e2. (e, last-is st.stack e (subst (λ k. last_item k st.stack ≡ Ok e) kind e-is))
 
-none-left : (vs : List Value) (xs : List Entry) → IsStack vs xs → items_at vs xs ≡ [] → xs ≡ []
-none-left vs [] h is = refl
-none-left vs (Held (Expr e) ∷ xs) h is = absurd cc
-none-left vs (Held (ProofItem e p) ∷ xs) h is = absurd cc
-none-left vs (Held (ConversionItem l r c) ∷ xs) h is = absurd cc
-none-left vs (Owed l r ∷ xs) h is = absurd cc
-none-left vs (ForProof e p ∷ xs) h is = absurd h
-none-left vs (ForTurned ∷ xs) h is = absurd h
-none-left vs (ForOperand t done left ∷ xs) h is = absurd h
-none-left vs (ForUnfolded t e es ys ∷ xs) h is = absurd h
-none-left vs (ForCut l r ∷ xs) h is = absurd h
+none-left : (tables : Tables) (vs : List Value) (xs : List Entry) → IsStack tables vs xs → items_at vs xs ≡ [] → xs ≡ []
+none-left tables vs [] h is = refl
+none-left tables vs (Held (Expr e) ∷ xs) h is = absurd cc
+none-left tables vs (Held (ProofItem e p) ∷ xs) h is = absurd cc
+none-left tables vs (Held (ConversionItem l r c) ∷ xs) h is = absurd cc
+none-left tables vs (Owed l r ∷ xs) h is = absurd cc
+none-left tables vs (ForProof e p ∷ xs) h is = absurd h
+none-left tables vs (ForTurned ∷ xs) h is = absurd h
+none-left tables vs (ForOperand t done left ∷ xs) h is = absurd h
+none-left tables vs (ForUnfolded t e es ys ∷ xs) h is = absurd h
+none-left tables vs (ForCut l r ∷ xs) h is = absurd h
 
-one-left : (vs : List Value) (xs : List Entry) (d : Tree) → IsStack vs xs → items_at vs xs ≡ one-proof d → (e p : ℕ) × (xs ≡ Held (ProofItem e p) ∷ [])
-one-left vs [] d h is = absurd cc
-one-left vs (Held (Expr e) ∷ xs) d h is = absurd cc
-one-left vs (Held (ProofItem e p) ∷ xs) d h is =
-    let none : items_at vs xs ≡ [] = cc in (e, p, ap (λ (ys : List Entry). Held (ProofItem e p) ∷ ys) (none-left vs xs h.1 none))
-one-left vs (Held (ConversionItem l r c) ∷ xs) d h is = absurd cc
-one-left vs (Owed l r ∷ xs) d h is = absurd cc
-one-left vs (ForProof e p ∷ xs) d h is = absurd h
-one-left vs (ForTurned ∷ xs) d h is = absurd h
-one-left vs (ForOperand t done left ∷ xs) d h is = absurd h
-one-left vs (ForUnfolded t e es ys ∷ xs) d h is = absurd h
-one-left vs (ForCut l r ∷ xs) d h is = absurd h
+one-left : (tables : Tables) (vs : List Value) (xs : List Entry) (d : Tree) → IsStack tables vs xs → items_at vs xs ≡ one-proof d → (e p : ℕ) × (xs ≡ Held (ProofItem e p) ∷ [])
+one-left tables vs [] d h is = absurd cc
+one-left tables vs (Held (Expr e) ∷ xs) d h is = absurd cc
+one-left tables vs (Held (ProofItem e p) ∷ xs) d h is =
+    let none : items_at vs xs ≡ [] = cc in (e, p, ap (λ (ys : List Entry). Held (ProofItem e p) ∷ ys) (none-left tables vs xs h.1 none))
+one-left tables vs (Held (ConversionItem l r c) ∷ xs) d h is = absurd cc
+one-left tables vs (Owed l r ∷ xs) d h is = absurd cc
+one-left tables vs (ForProof e p ∷ xs) d h is = absurd h
+one-left tables vs (ForTurned ∷ xs) d h is = absurd h
+one-left tables vs (ForOperand t done left ∷ xs) d h is = absurd h
+one-left tables vs (ForUnfolded t e es ys ∷ xs) d h is = absurd h
+one-left tables vs (ForCut l r ∷ xs) d h is = absurd h
 
 pub has-root : (tables : Tables) (h : Heading) (s : Stage) (end : State Tree) → h.kind ≡ is_theorem → IsMade tables h.params s → proof_end strict tables h (state_of h.params s) ≡ Ok end → HasRoot s
 has-root tables h s end kind made done =
-    let (e, is) = proof-left tables h (state_of h.params s) end kind done in one-left (values_in s) s.stack e made.1 is
+    let (e, is) = proof-left tables h (state_of h.params s) end kind done in one-left tables (values_in s) s.stack e made.1 is
 
 -- ---- the run
 
@@ -170,7 +170,7 @@ module _ (tables : Tables) (h : Heading) (bytes : List ℕ) (s : Stage) (r : Run
   vs = values_in s
 
   root-there : IsProof vs r.root
-  root-there = let there = subst (λ (xs : List Entry). IsStack vs xs) fin.root.1 made.1 in there.0.1
+  root-there = let there = subst (λ (xs : List Entry). IsStack tables vs xs) fin.root.1 made.1 in there.0.1
 
   pub run-is : trace_body tables h bytes ≡ Ok (state_of h.params s, trace_of s) → IsRunOf tables h bytes r
   run-is runs = record {
@@ -202,15 +202,18 @@ module _ (file bytes : List ℕ) (row : ℕ) (before : Rows) (may : MayRun file 
   run-begun : body_from strict rows own (length bytes) runs.0 bytes (state_of own.params (begun arity)) ≡ Ok runs.1.0
   run-begun = ap (λ (st : State Tree). body_from strict rows own (length bytes) runs.0 bytes st) (begun-state rows own arity many) ∙ runs.1.1
 
+  read-begun : IsRead file rows own.params (begun arity)
+  read-begun = ((before, may.within, refl), known-start rows own (begun arity) (begun-state rows own arity many))
+
   pub runs-from : RunsFrom file bytes start
   runs-from =
-      subst (λ (s : Stage). RunsFrom file bytes s) (sym is) (rows, own, length bytes, runs.0, runs.1.0, (before, may.within, refl), refl, begun-made rows own arity many, run-begun)
+      subst (λ (s : Stage). RunsFrom file bytes s) (sym is) (rows, own, length bytes, runs.0, runs.1.0, read-begun, refl, begun-made rows own arity many, run-begun)
 
   module _ (last : Stage) (leads : LeadsToEnd file bytes start last) where
     ended : IsMade rows own.params last × (proof_end strict rows own (state_of own.params last) ≡ Ok runs.1.0)
         × (trace_from rows own (length bytes) bytes (state_of own.params (begun arity), trace_of (begun arity)) ≡ Ok (state_of own.params last, trace_of last))
     ended =
-        subst (λ (s : Stage). LeadsToEnd file bytes s last) is leads rows own (length bytes) runs.0 runs.1.0 (before, may.within, refl) refl (begun-made rows own arity many) run-begun
+        subst (λ (s : Stage). LeadsToEnd file bytes s last) is leads rows own (length bytes) runs.0 runs.1.0 read-begun refl (begun-made rows own arity many) run-begun
 
     traced-whole : trace_body rows own bytes ≡ Ok (state_of own.params last, trace_of last)
     traced-whole =

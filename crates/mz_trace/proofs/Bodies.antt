@@ -1,6 +1,6 @@
 -- What is left of a body, command by command.
-use Rattle.std.proofs.Common.{Result, Option, ◌≡◌, ◌⊎◌, inl, inr, ℕ, zero, suc, ◌+◌, Bool, true, false, List, [], ◌∷◌, drop, Some, None, Ok, Err, refl, sym, ap, ◌∙◌, subst, eq-eqb}
-use Rattle.std.specs.Prelude.{◌==◌, if◌then◌else◌, nat_eq}
+use Rattle.std.proofs.Common.{Result, Option, ◌≡◌, ◌⊎◌, inl, inr, ℕ, zero, suc, ◌+◌, Bool, true, false, List, drop, Some, None, Ok, Err, refl, sym, ap, ◌∙◌, subst}
+use Rattle.std.specs.Prelude.{◌==◌}
 use Rattle.std.proofs.lemmas.Bool.{eqb-true}
 use Rattle.std.proofs.lemmas.List.{drop-drop}
 use Rattle.mz_cmd.specs.declared.rule.K.{K}
@@ -12,16 +12,16 @@ use Rattle.mz_cmd.specs.declared.code.ProofCode.TheVariants as code
 use Rattle.mz_cmd.specs.Codes.{proof_code}
 use Rattle.mz_cmd.specs.Reading.{first_command}
 use Rattle.mz_logic.specs.Tree.{Tree}
-use Rattle.mz_unification.specs.Steps.{◌>>=◌, ◌>>◌, need, at_place, Turn, over, goes_on, follow}
+use Rattle.mz_unification.specs.Steps.{◌>>=◌, ◌>>◌, need, at_place, over, goes_on, follow}
 use Rattle.mz_unification.specs.Profile.{strict}
 use Rattle.mz_unification.specs.UnifyMachine.{is_empty}
-use Rattle.mz_unification.proofs.Inverting.{taken-is}
-use Rattle.mz_soundness.specs.Tables.{Tables, State, Kind, is_axiom, is_theorem, is_definition, Heading}
+use Rattle.mz_soundness.specs.Tables.{Tables, State, is_theorem, Heading}
 use Rattle.mz_soundness.specs.ProofMachine.{proof_row, built, proof_end}
 use Rattle.mz_soundness.specs.Bodies.{BodyCommand, ends, proves, if_allowed, body_command, body_turn_by, body_turn, body_from}
-use Rattle.mz_trace.specs.Commands.{Stage, IsOfFile, IsMade, state_of, trace_of, Goes, Leads}
+use Rattle.mz_trace.specs.Commands.{Stage, IsRead, IsMade, state_of, trace_of, Goes, Leads}
 use Rattle.mz_trace.specs.Runs.{RunsFrom, LeadsToEnd}
-use Rattle.mz_tracing.specs.Traces.{Trace, traced, trace_turn, trace_command, trace_from}
+use Rattle.mz_tracing.specs.Traces.{Trace, traced, trace_from}
+use Rattle.mz_trace.proofs.Known.{known-kept}
 
 abbrev read-is : Cmd → Result Cmd CmdFault
 read-is c = Ok c
@@ -156,16 +156,16 @@ GoesOnBy tables h at st end c n bytes pc = (m : ℕ) × (st' : State Tree) × (p
 module _ (file bytes : List ℕ) (s0 : Stage) where
   abbrev pub IsUnderway : ℕ → Stage → Type 0
   IsUnderway at s = (tables : Tables) (h : Heading) (n p : ℕ) (end : State Tree)
-      → IsOfFile file tables → h.kind ≡ is_theorem → IsMade tables h.params s0 → body_from strict tables h n p bytes (state_of h.params s0) ≡ Ok end
-      → IsMade tables h.params s × ((m q : ℕ) × (body_from strict tables h m q (drop at bytes) (state_of h.params s) ≡ Ok end)
+      → IsRead file tables h.params s0 → h.kind ≡ is_theorem → IsMade tables h.params s0 → body_from strict tables h n p bytes (state_of h.params s0) ≡ Ok end
+      → IsRead file tables h.params s × IsMade tables h.params s × ((m q : ℕ) × (body_from strict tables h m q (drop at bytes) (state_of h.params s) ≡ Ok end)
       × (trace_from tables h n bytes (state_of h.params s0, trace_of s0) ≡ trace_from tables h m (drop at bytes) (state_of h.params s, trace_of s)))
 
   pub at-first : IsUnderway 0 s0
-  at-first tables h n p end q kind made run = (made, (n, p, run, refl))
+  at-first tables h n p end q kind made run = (q, made, (n, p, run, refl))
 
   pub runs-on : (at : ℕ) (s : Stage) → RunsFrom file bytes s0 → IsUnderway at s → RunsFrom file (drop at bytes) s
   runs-on at s (tables, h, n, p, end, q, kind, made, run) on =
-      let (made1, (m, p1, run1, same)) = on tables h n p end q kind made run in (tables, h, m, p1, end, q, kind, made1, run1)
+      let (q1, made1, (m, p1, run1, same)) = on tables h n p end q kind made run in (tables, h, m, p1, end, q1, kind, made1, run1)
 
   module _ (at : ℕ) (s : Stage) (on : IsUnderway at s) (c : Cmd) (read : first_command (drop at bytes) ≡ Ok c) where
     -- what the next command is
@@ -211,18 +211,19 @@ module _ (file bytes : List ℕ) (s0 : Stage) where
           go (inl e) = e
           go (inr (pc, value, n1, st', is, row, run1, same)) = absurd (no-proof c.code c.value pc value none (ap (λ z. body_command strict z c.code c.value) (sym kind) ∙ is))
 
-    pub goes-over : (pc : ProofCode) → proof_code c.code ≡ Some pc → RunsFrom file bytes s0 → Goes (IsOfFile file) pc c.value s
+    pub goes-over : (pc : ProofCode) → proof_code c.code ≡ Some pc → RunsFrom file bytes s0 → Goes (IsRead file) pc c.value s
     goes-over pc has (tables, h, n, p, end, q, kind, made, run) =
-        let (made1, (m, p1, run1, same)) = on tables h n p end q kind made run in
+        let (q1, made1, (m, p1, run1, same)) = on tables h n p end q kind made run in
         let (n1, st', row, run2, more) = a-row tables h kind p1 end m pc has run1 in
-        (tables, h.params, st', q, made1, row)
+        (tables, h.params, st', q1, made1, row)
 
-    pub goes-further : (pc : ProofCode) (s' : Stage) → proof_code c.code ≡ Some pc → Leads (IsOfFile file) pc c.value s s' → IsUnderway (at + c.len) s'
+    pub goes-further : (pc : ProofCode) (s' : Stage) → proof_code c.code ≡ Some pc → Leads (IsRead file) pc c.value s s' → IsUnderway (at + c.len) s'
     goes-further pc s' has leads tables h n p end q kind made run =
-        let (made1, (m, p1, run1, same)) = on tables h n p end q kind made run in
+        let (q1, made1, (m, p1, run1, same)) = on tables h n p end q kind made run in
         let (n1, st', row, run2, more) = a-row tables h kind p1 end m pc has run1 in
-        let (made2, state-is, trace-is) = leads tables h.params st' q made1 row in
+        let (made2, state-is, trace-is) = leads tables h.params st' q1 made1 row in
         let there : drop c.len (drop at bytes) ≡ drop (at + c.len) bytes = drop-drop c.len at bytes in (
+          (q1.0, known-kept tables h.params pc c.value s s' q1.1 (row ∙ ap (λ z. finished z) state-is)),
           made2,
           (
             n1,
@@ -235,7 +236,7 @@ module _ (file bytes : List ℕ) (s0 : Stage) where
 
     pub ends-there : proof_code c.code ≡ None → LeadsToEnd file bytes s0 s
     ends-there none tables h n p end q kind made run =
-        let (made1, (m, p1, run1, same)) = on tables h n p end q kind made run in
+        let (q1, made1, (m, p1, run1, same)) = on tables h n p end q kind made run in
         let (is, done, last) = an-end tables h kind p1 end m none run1 in
         (made1, done, same ∙ last (trace_of s))
 

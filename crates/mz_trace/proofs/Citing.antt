@@ -17,19 +17,19 @@ use Rattle.mz_unification.specs.Profile.{Item as MachineItem}
 use Rattle.mz_unification.specs.Laws.{citing}
 use Rattle.mz_unification.specs.Spells.{ThmRow, trees_of}
 use Rattle.mz_unification.specs.UnifyMachine.{Matching, UnifyState, unify}
-use Rattle.mz_unification.proofs.Inverting.{from_bind, from_then, from_need, from_want, rule_of-ok, taken, taken-is, some_is}
+use Rattle.mz_unification.proofs.Offered.{from_bind, from_then, from_need, from_want, rule_of-ok, taken, taken-is, some_is}
 use Rattle.mz_soundness.specs.Tables.{Tables, State, signatures_in}
 use Rattle.mz_soundness.specs.Premises.{pop_expr, pop_operands, pop_exprs, operands_fit, are_apart}
 use Rattle.mz_soundness.specs.ProofMachine.{proof_row, citation, matched_by, cited}
 use Rattle.mz_soundness.specs.FileRows.{thm_of_file}
 use Rattle.mz_machine.specs.Before.{Before}
-use Rattle.mz_machine.proofs.BeforeLaws.{thm-before, binders_many}
+use Rattle.mz_machine.proofs.Offered.{thm-before, binders_many}
 use Rattle.mz_tracing.specs.Parts.{Part, proved, proofs_above}
 use Rattle.mz_tracing.specs.Traces.{Trace, stacked, named, traced}
 use Rattle.mz_tracing.specs.Traces.{cited as cited-beside}
-use Rattle.mz_trace.specs.Nodes.{Value, a_proof, expression_at, expressions_at, proof_at, proofs_at, value_of, HasParts, IsExpression, AreExpressions, IsProof, AreProofs, Uses}
+use Rattle.mz_trace.specs.Nodes.{Value, a_proof, expression_at, expressions_at, proof_at, proofs_at, value_of, HasParts, IsExpression, AreExpressions, IsProof, AreProofs, Uses, IsClaim, conclusion_under}
 use Rattle.mz_trace.specs.Entries.{item_at, items_at, parts_at, IsStack, exprs_onto, proofs_onto, HasProofs}
-use Rattle.mz_trace.specs.Commands.{Stage, with_node, with_stack, with_name, on_stack, values_in, context_of, state_of, trace_of, IsHeld, IsMade, IsOfFile, Goes, Leads, IsCited, MayCite, TakesHyps}
+use Rattle.mz_trace.specs.Commands.{Stage, with_node, with_stack, with_name, on_stack, values_in, context_of, state_of, trace_of, IsHeld, IsMade, IsOfFile, IsRead, Goes, Leads, IsCited, MayCite, TakesHyps}
 use Rattle.mz_trace.specs.declared.node.RunNode.{RunNode}
 use Rattle.mz_trace.specs.declared.node.RunNode.TheVariants as node
 use Rattle.mz_trace.specs.declared.entry.Item.TheVariants.{Expr, Proof as ProofItem, Conversion as ConversionItem}
@@ -41,6 +41,7 @@ use Rattle.mz_trace.proofs.Having.{rest-is}
 use Rattle.mz_trace.proofs.Moves.{taken-trace}
 use Rattle.mz_trace.proofs.Keeping.{named-made, named-state, named-trace}
 use Rattle.mz_trace.proofs.CitingTaken.{many-taken, unify-takes}
+use Rattle.mz_trace.proofs.Cited.{cited-claim}
 
 -- ---- rows of the file
 
@@ -71,9 +72,9 @@ module _ (file : List ℕ) (tables : Tables) (is : IsOfFile file tables) (t : �
 more : (n p count : ℕ) (xs : List Entry) → HasProofs count xs → HasProofs (suc count) (Held (ProofItem n p) ∷ xs)
 more n p count xs (ps, ys, is, many) = ((n, p) ∷ ps, ys, ap (λ zs. Held (ProofItem n p) ∷ zs) is, ap suc many)
 
-module _ (vs : List Value) where
+module _ (tables : Tables) (vs : List Value) where
   -- proofs
-  proofs-top : (xs : List Entry) (es : List Tree) (rest : List (MachineItem Tree)) → IsStack vs xs → items_at vs xs ≡ map proof es ++ rest → HasProofs (length es) xs
+  proofs-top : (xs : List Entry) (es : List Tree) (rest : List (MachineItem Tree)) → IsStack tables vs xs → items_at vs xs ≡ map proof es ++ rest → HasProofs (length es) xs
   proofs-top xs [] rest h e = ([], xs, refl, refl)
   proofs-top [] (y ∷ es) rest h e = absurd cc
   proofs-top (Held (Expr n) ∷ xs) (y ∷ es) rest h e = absurd cc
@@ -89,6 +90,7 @@ module _ (vs : List Value) where
   proofs-top (ForUnfolded t a os ys ∷ xs) (y ∷ es) rest h e = absurd h
   proofs-top (ForCut a b ∷ xs) (y ∷ es) rest h e = absurd h
 
+module _ (vs : List Value) where
   -- what is left below them
   left-below : (ps : List (ℕ × ℕ)) (ys : List Entry) (es : List Tree) (rest : List (MachineItem Tree)) → items_at vs (proofs_onto ps ys) ≡ map proof es ++ rest → length es ≡ length ps
       → items_at vs ys ≡ rest
@@ -112,10 +114,11 @@ module _ (vs : List Value) where
 -- ---- a citation of the machine
 
 module _ (t : ℕ) (s : Stage) (tables : Tables) (params : List Binder) where
-  -- the row, the expression on top, the operands, and the last state of the stream
+  -- the row, the expression on top, the operands below it, and the last state of the stream
   abbrev Matched : ThmRow → Tree × List (MachineItem Tree) → List Tree × List (MachineItem Tree) → UnifyState Tree → Type 0
   Matched row x es u = (slice_get tables.thms t ≡ Some row)
       × (pop_expr (items_at (values_in s) s.stack) ≡ Ok x)
+      × (pop_operands (length row.params) x.1 ≡ Ok es)
       × (pop_exprs (length row.params) x.1 [] ≡ Ok es)
       × (unify strict (signatures_in tables) (context_of params s) (citing row.stream es.0 x.0 es.1) ≡ Ok u)
       × (citation strict tables t (state_of params s) ≡ Ok (citing row.stream es.0 x.0 es.1))
@@ -139,7 +142,7 @@ module _ (t : ℕ) (s : Stage) (tables : Tables) (params : List Binder) where
       let ran : unify strict (signatures_in tables) st.ctx made ≡ Ok u = subst (λ (z : Matching Tree). unify strict (signatures_in tables) st.ctx z ≡ Ok u) (sym m-is) (rule_of-ok _ u unified) in
       let citing' : citation strict tables t st ≡ taken made = citing-is ∙ ap taken (sym m-is) in
       let last : (x.0, u.items) ≡ r = ap (λ (z : Matching Tree). (z.target, u.items)) m-is ∙ taken-is (m.target, u.items) r e7 in
-      go row x es u (at, popping, popping-all, ran, citing') last
+      go row x es u (at, popping, popping-es, popping-all, ran, citing') last
 
 -- ---- before it
 
@@ -147,13 +150,13 @@ module _ (file : List ℕ) (t : ℕ) (s : Stage) where
   may-cite : (tables : Tables) (params : List Binder) → IsOfFile file tables → IsMade tables params s → (r : Tree × List (MachineItem Tree))
       → cited strict tables t (state_of params s) ≡ Ok r → MayCite file t s
   may-cite tables params q made r e =
-      from-cited t s tables params r e λ row x es u (at, popping, popping-all, ran, _) _.
+      from-cited t s tables params r e λ row x es u (at, popping, _, popping-all, ran, _) _.
       let vs = values_in s in
-      let (claim, ys, is, x-is) = expr-top vs s.stack x made.1 popping in
-      let rest : IsStack vs ys = (subst (IsStack vs) is made.1).1 in
+      let (claim, ys, is, x-is) = expr-top tables vs s.stack x made.1 popping in
+      let rest : IsStack tables vs ys = (subst (IsStack tables vs) is made.1).1 in
       let popping-ys : pop_exprs (length row.params) (items_at vs ys) [] ≡ Ok es = subst (λ (z : Tree × List (MachineItem Tree)). pop_exprs (length row.params) z.1 [] ≡ Ok es) x-is popping-all in
-      let (ns, zs, onto, many) = has-exprs vs (length row.params) ys [] es rest popping-ys in
-      let stack-is : IsStack vs zs = (exprs-below vs ns zs (subst (IsStack vs) onto rest)).1 in
+      let (ns, zs, onto, many) = has-exprs tables vs (length row.params) ys [] es rest popping-ys in
+      let stack-is : IsStack tables vs zs = (exprs-below tables vs ns zs (subst (IsStack tables vs) onto rest)).1 in
       let es-is : es.1 ≡ items_at vs zs = below-operands vs (length row.params) ns ys zs es onto many popping-ys in
       let (fs, items-are) = unify-takes (signatures_in tables) (context_of params s) row.stream es.0 x.0 es.1 u ran in (
         thm-there file tables q t row at,
@@ -171,18 +174,18 @@ module _ (file : List ℕ) (t : ℕ) (s : Stage) where
             refl,
             thm-stream file tables q t row at,
             ran,
-            λ n fewer. subst (λ m. HasProofs m zs) (many-taken fs es.1 u.items n items-are fewer) (proofs-top vs zs fs u.items stack-is (sym es-is ∙ items-are)),
+            λ n fewer. subst (λ m. HasProofs m zs) (many-taken fs es.1 u.items n items-are fewer) (proofs-top tables vs zs fs u.items stack-is (sym es-is ∙ items-are)),
           ),
         ),
       )
 
-  pub may-thm : Goes (IsOfFile file) code.Thm t s → MayCite file t s
+  pub may-thm : Goes (IsRead file) code.Thm t s → MayCite file t s
   unfolding proof_row
-  may-thm (tables, params, st, q, made, row) = from_bind (cited strict tables t (state_of params s)) _ st row λ r making e1. may-cite tables params q made r making
+  may-thm (tables, params, st, q, made, row) = from_bind (cited strict tables t (state_of params s)) _ st row λ r making e1. may-cite tables params q.0 made r making
 
-  pub may-thm_save : Goes (IsOfFile file) code.ThmSave t s → MayCite file t s
+  pub may-thm_save : Goes (IsRead file) code.ThmSave t s → MayCite file t s
   unfolding proof_row
-  may-thm_save (tables, params, st, q, made, row) = from_bind (cited strict tables t (state_of params s)) _ st row λ r making e1. may-cite tables params q made r making
+  may-thm_save (tables, params, st, q, made, row) = from_bind (cited strict tables t (state_of params s)) _ st row λ r making e1. may-cite tables params q.0 made r making
 
 same-onto : (ns ms : List ℕ) (xs ys : List Entry) → exprs_onto ns xs ≡ exprs_onto ms ys → length ns ≡ length ms → xs ≡ ys
 same-onto [] [] xs ys e many = e
@@ -201,23 +204,31 @@ proofs-there file t s claim os ys zs stream n (row-there, (e, ns, xs, is, many, 
 
 -- ---- behind it
 
+same-claims : (tables : Tables) (vs : List Value) (t v e d : ℕ) (os ops : List ℕ) → t ≡ v → e ≡ d → os ≡ ops
+    → IsClaim tables t (expressions_at vs os) (expression_at vs e) → IsClaim tables v (expressions_at vs ops) (expression_at vs d)
+same-claims tables vs t v e d os ops t-is e-is os-are h =
+    let by-term : IsClaim tables v (expressions_at vs os) (expression_at vs e) = subst (λ i. IsClaim tables i (expressions_at vs os) (expression_at vs e)) t-is h in
+    let by-claim : IsClaim tables v (expressions_at vs os) (expression_at vs d) = subst (λ i. IsClaim tables v (expressions_at vs os) (expression_at vs i)) e-is by-term in
+    subst (λ (ns : List ℕ). IsClaim tables v (expressions_at vs ns) (expression_at vs d)) os-are by-claim
+
 use-node : (tables : Tables) (vs : List Value) (t e : ℕ) (os ps : List ℕ) (n : RunNode) → Uses (Some n) t e os ps → IsExpression vs e → AreExpressions vs os → AreProofs vs ps
+    → IsClaim tables t (expressions_at vs os) (expression_at vs e)
     → HasParts tables vs n × (value_of vs n ≡ a_proof (by_citation t (trees_of (expressions_at vs os)) (proofs_at vs ps)))
-use-node tables vs t e os ps (node.Var x) u he hos hps = absurd u
-use-node tables vs t e os ps (node.App v ops) u he hos hps = absurd u
-use-node tables vs t e os ps (node.Hyp i) u he hos hps = absurd u
-use-node tables vs t e os ps (node.Let i) u he hos hps = absurd u
-use-node tables vs t e os ps (node.Use v d ops qs) u he hos hps = (
-  (subst (IsExpression vs) u.1 he, subst (AreExpressions vs) u.2 hos, subst (AreProofs vs) u.3 hps),
+use-node tables vs t e os ps (node.Var x) u he hos hps hc = absurd u
+use-node tables vs t e os ps (node.App v ops) u he hos hps hc = absurd u
+use-node tables vs t e os ps (node.Hyp i) u he hos hps hc = absurd u
+use-node tables vs t e os ps (node.Let i) u he hos hps hc = absurd u
+use-node tables vs t e os ps (node.Use v d ops qs) u he hos hps hc = (
+  (subst (IsExpression vs) u.1 he, subst (AreExpressions vs) u.2 hos, subst (AreProofs vs) u.3 hps, same-claims tables vs t v e d os ops.items u.0 u.1 u.2 hc),
   ap (λ i. a_proof (by_citation i (trees_of (expressions_at vs ops.items)) (proofs_at vs qs.items))) (sym u.0)
       ∙ ap (λ (ns : List ℕ). a_proof (by_citation t (trees_of (expressions_at vs ns)) (proofs_at vs qs.items))) (sym u.2)
       ∙ ap (λ (ns : List ℕ). a_proof (by_citation t (trees_of (expressions_at vs os)) (proofs_at vs ns))) (sym u.3),
 )
-use-node tables vs t e os ps (node.Conv d c p) u he hos hps = absurd u
-use-node tables vs t e os ps (node.Refl d) u he hos hps = absurd u
-use-node tables vs t e os ps (node.Sym c) u he hos hps = absurd u
-use-node tables vs t e os ps (node.Cong v cs) u he hos hps = absurd u
-use-node tables vs t e os ps (node.Unfold v d ops ys c) u he hos hps = absurd u
+use-node tables vs t e os ps (node.Conv d c p) u he hos hps hc = absurd u
+use-node tables vs t e os ps (node.Refl d) u he hos hps hc = absurd u
+use-node tables vs t e os ps (node.Sym c) u he hos hps hc = absurd u
+use-node tables vs t e os ps (node.Cong v cs) u he hos hps hc = absurd u
+use-node tables vs t e os ps (node.Unfold v d ops ys c) u he hos hps hc = absurd u
 
 abbrev with-below : Proof → List Part → Result (Proof × List Part) K
 with-below p xs = Ok (p, xs)
@@ -246,26 +257,24 @@ module _ (file : List ℕ) (t : ℕ) (s s' : Stage) (claim made-at : ℕ) (c : I
   abbrev lower : List Entry
   lower = proofs_onto c.proofs s'.stack
 
-  module _ (tables : Tables) (params : List Binder) (q : IsOfFile file tables) (made : IsMade tables params s) where
+  module _ (tables : Tables) (params : List Binder) (q : IsRead file tables params s) (made : IsMade tables params s) where
     abbrev Split : Type 0
-    Split = IsExpression vs claim × AreExpressions vs c.operands × AreProofs vs c.parts × IsStack vs s'.stack
+    Split = IsExpression vs claim × AreExpressions vs c.operands × AreProofs vs c.parts × IsStack tables vs s'.stack
 
     split : Split
     split =
-        let all = subst (IsStack vs) c.taken made.1 in
-        let (es, rest) = exprs-below vs (reverse c.operands) lower all.1 in
-        let (ps, last) = proofs-below vs c.proofs s'.stack rest in
+        let all = subst (IsStack tables vs) c.taken made.1 in
+        let (es, rest) = exprs-below tables vs (reverse c.operands) lower all.1 in
+        let (ps, last) = proofs-below tables vs c.proofs s'.stack rest in
         (all.0, unturned vs c.operands es, unturned-proofs vs c.parts (subst (AreProofs vs) c.parts_are ps), last)
 
-    bare-held : IsHeld tables params bare
-    bare-held = held-of tables params s s.stack s'.stack made.0
-
-    node-is : HasParts tables vs c.node × (value_of vs c.node ≡ a_proof tree)
-    node-is = let (e, os, ps, last) = split in use-node tables vs t claim c.operands c.parts c.node c.uses e os ps
+    -- the expression is what the assertion claims
+    abbrev Claims : Type 0
+    Claims = IsClaim tables t (expressions_at vs c.operands) (expression_at vs claim)
 
     -- what the machine gives, and what is made beside it
     abbrev GivesBoth : Tree × List (MachineItem Tree) → Type 0
-    GivesBoth r = (r ≡ (expression_at vs claim, items_at vs s'.stack)) × (cited-beside tables t (state_of params s) (trace_of s) ≡ with-below tree (parts_at vs s'.stack))
+    GivesBoth r = (r ≡ (expression_at vs claim, items_at vs s'.stack)) × (cited-beside tables t (state_of params s) (trace_of s) ≡ with-below tree (parts_at vs s'.stack)) × Claims
 
     cited-made : (m : Matching Tree) (u : UnifyState Tree) → citation strict tables t (state_of params s) ≡ Ok m → matched_by strict tables (context_of params s) m ≡ Ok u
         → cited-beside tables t (state_of params s) (trace_of s)
@@ -286,7 +295,7 @@ module _ (file : List ℕ) (t : ℕ) (s s' : Stage) (claim made-at : ℕ) (c : I
     matched-both row es e items u at es-is items-are ran citing-is =
         let (fs, taking) = unify-takes (signatures_in tables) (context_of params s) row.stream es e items u ran in
         let many : length items ≡ length u.items + length c.proofs =
-        c.hyps (signatures_in tables) (context_of params s) (citing row.stream es e items) u refl (thm-stream file tables q t row at) ran in
+        c.hyps (signatures_in tables) (context_of params s) (citing row.stream es e items) u refl (thm-stream file tables q.0 t row at) ran in
         let left : items_at vs s'.stack ≡ u.items = left-below vs c.proofs s'.stack fs u.items (sym items-are ∙ taking) (many-taken fs items u.items (length c.proofs) taking many) in
         let count : length items - length u.items ≡ length c.proofs = omega (arith, many) in
         let unified : matched_by strict tables (context_of params s) (citing row.stream es e items) ≡ Ok u = rw ran refl in (
@@ -301,10 +310,10 @@ module _ (file : List ℕ) (t : ℕ) (s s' : Stage) (claim made-at : ℕ) (c : I
 
     gives-both : (r : Tree × List (MachineItem Tree)) → cited strict tables t (state_of params s) ≡ Ok r → GivesBoth r
     gives-both r e =
-        from-cited t s tables params r e λ row x es u (at, popping, popping-all, ran, citing-is) last.
+        from-cited t s tables params r e λ row x es u (at, popping, popping-es, popping-all, ran, citing-is) last.
         let x-is : (expression_at vs claim, items_at vs (exprs_onto (reverse c.operands) lower)) ≡ x =
         taken-is (expression_at vs claim, items_at vs (exprs_onto (reverse c.operands) lower)) x (sym (ap (λ xs. pop_expr (items_at vs xs)) c.taken) ∙ popping) in
-        let many : length row.params ≡ length c.operands = thm-arity file tables q t row at ∙ sym c.many in
+        let many : length row.params ≡ length c.operands = thm-arity file tables q.0 t row at ∙ sym c.many in
         let top : List (MachineItem Tree) = items_at vs (exprs_onto (reverse c.operands) lower) in
         let popping-row : pop_exprs (length row.params) top [] ≡ Ok es = subst (λ (z : Tree × List (MachineItem Tree)). pop_exprs (length row.params) z.1 [] ≡ Ok es) (sym x-is) popping-all in
         let popping-ops : pop_exprs (length c.operands) top [] ≡ Ok es = subst (λ n. pop_exprs n top [] ≡ Ok es) many popping-row in
@@ -314,54 +323,66 @@ module _ (file : List ℕ) (t : ℕ) (s s' : Stage) (claim made-at : ℕ) (c : I
         let (items-are, beside) = matched-both row es.0 x.0 es.1 u at operands-are lower-are ran citing-is in
         let claim-is : x.0 ≡ expression_at vs claim = ap (λ (z : Tree × List (MachineItem Tree)). z.0) (sym x-is) in
         let given : (x.0, u.items) ≡ (expression_at vs claim, items_at vs s'.stack) = rw (items-are, claim-is) refl in
-        (subst (λ (z : Tree × List (MachineItem Tree)). z ≡ (expression_at vs claim, items_at vs s'.stack)) last given, beside)
+        let ctx : List Binder = context_of params s in
+        let claims : Claims = λ env declares.
+        let fact = q.1 env declares ctx (λ i b there. there) in
+        sym claim-is ∙ cited-claim tables env declares params ctx (state_of params s) fact t row x es u at popping popping-es ran
+        ∙ ap (λ (z : List Tree). conclusion_under env t z) operands-are in
+        (subst (λ (z : Tree × List (MachineItem Tree)). z ≡ (expression_at vs claim, items_at vs s'.stack)) last given, beside, claims)
 
-    -- the stage with the node
-    noded-held : IsHeld tables params noded
-    noded-held = held-of tables params (with_node s c.node) s'.stack s'.stack (held-still tables params bare c.node bare-held node-is.0)
+    -- with the node, which claims this
+    module _ (claims : Claims) where
+      bare-held : IsHeld tables params bare
+      bare-held = held-of tables params s s.stack s'.stack made.0
 
-    noded-made : IsMade tables params noded
-    noded-made = (noded-held, stack-still tables params bare c.node bare-held node-is.0 s'.stack split.3)
+      node-is : HasParts tables vs c.node × (value_of vs c.node ≡ a_proof tree)
+      node-is = let (e, os, ps, last) = split in use-node tables vs t claim c.operands c.parts c.node c.uses e os ps claims
 
-    claim-still : IsExpression (values_in noded) claim
-    claim-still = expression-still tables params bare c.node bare-held node-is.0 claim split.0
+      noded-held : IsHeld tables params noded
+      noded-held = held-of tables params (with_node s c.node) s'.stack s'.stack (held-still tables params bare c.node bare-held node-is.0)
 
-    same-claim : expression_at (values_in noded) claim ≡ expression_at vs claim
-    same-claim = same-expression-still tables params bare c.node bare-held node-is.0 claim split.0
+      noded-made : IsMade tables params noded
+      noded-made = (noded-held, stack-still tables params bare c.node bare-held node-is.0 s'.stack split.3)
 
-    new-proof : IsProof (values_in noded) new × (proof_at (values_in noded) new ≡ tree)
-    new-proof = proof-added tables params bare c.node bare-held node-is.0 tree node-is.1
+      claim-still : IsExpression (values_in noded) claim
+      claim-still = expression-still tables params bare c.node bare-held node-is.0 claim split.0
 
-    noded-state : state_of params noded ≡ state_of params bare
-    noded-state = state-same tables params bare c.node bare-held node-is.0 split.3
+      same-claim : expression_at (values_in noded) claim ≡ expression_at vs claim
+      same-claim = same-expression-still tables params bare c.node bare-held node-is.0 claim split.0
 
-    noded-trace : trace_of noded ≡ trace_of bare
-    noded-trace = trace-same tables params bare c.node bare-held node-is.0 split.3
+      new-proof : IsProof (values_in noded) new × (proof_at (values_in noded) new ≡ tree)
+      new-proof = proof-added tables params bare c.node bare-held node-is.0 tree node-is.1
 
-    -- Thm
-    cited-state : state_of params (on_stack noded (Held (ProofItem claim new))) ≡ record (state_of params s) { stack = proof (expression_at vs claim) ∷ items_at vs s'.stack }
-    cited-state =
-        ap (λ e. record (state_of params noded) { stack = proof e ∷ items_at (values_in noded) s'.stack }) same-claim
-        ∙ ap (λ (z : State Tree). record z { stack = proof (expression_at vs claim) ∷ z.stack }) noded-state
+      noded-state : state_of params noded ≡ state_of params bare
+      noded-state = state-same tables params bare c.node bare-held node-is.0 split.3
 
-    cited-trace : trace_of (on_stack noded (Held (ProofItem claim new))) ≡ stacked (trace_of s) (proved tree ∷ parts_at vs s'.stack)
-    cited-trace =
-        ap (λ p. stacked (trace_of noded) (proved p ∷ parts_at (values_in noded) s'.stack)) new-proof.1
-        ∙ ap (λ (z : Trace). stacked z (proved tree ∷ z.stack)) noded-trace
+      noded-trace : trace_of noded ≡ trace_of bare
+      noded-trace = trace-same tables params bare c.node bare-held node-is.0 split.3
 
-    -- ThmSave
-    saved-state : state_of params (with_name noded claim new)
-        ≡ record (state_of params s) { heap = map (item_at vs) s.heap ++ proof (expression_at vs claim) ∷ []; stack = proof (expression_at vs claim) ∷ items_at vs s'.stack }
-    saved-state =
-        named-state tables params noded claim new noded-made claim-still new-proof.0
-        ∙ ap (λ e. record (state_of params noded) { heap = map (item_at (values_in noded)) s.heap ++ proof e ∷ []; stack = proof e ∷ items_at (values_in noded) s'.stack }) same-claim
-        ∙ ap (λ (z : State Tree). record z { heap = z.heap ++ proof (expression_at vs claim) ∷ []; stack = proof (expression_at vs claim) ∷ z.stack }) noded-state
+      -- Thm
+      cited-state : state_of params (on_stack noded (Held (ProofItem claim new))) ≡ record (state_of params s) { stack = proof (expression_at vs claim) ∷ items_at vs s'.stack }
+      cited-state =
+          ap (λ e. record (state_of params noded) { stack = proof e ∷ items_at (values_in noded) s'.stack }) same-claim
+          ∙ ap (λ (z : State Tree). record z { stack = proof (expression_at vs claim) ∷ z.stack }) noded-state
 
-    saved-trace : trace_of (with_name noded claim new) ≡ named tree (parts_at vs s'.stack) (trace_of s)
-    saved-trace =
-        named-trace tables params noded claim new noded-made claim-still new-proof.0
-        ∙ ap (λ p. named p (parts_at (values_in noded) s'.stack) (trace_of noded)) new-proof.1
-        ∙ ap (λ (z : Trace). named tree z.stack z) noded-trace
+      cited-trace : trace_of (on_stack noded (Held (ProofItem claim new))) ≡ stacked (trace_of s) (proved tree ∷ parts_at vs s'.stack)
+      cited-trace =
+          ap (λ p. stacked (trace_of noded) (proved p ∷ parts_at (values_in noded) s'.stack)) new-proof.1
+          ∙ ap (λ (z : Trace). stacked z (proved tree ∷ z.stack)) noded-trace
+
+      -- ThmSave
+      saved-state : state_of params (with_name noded claim new)
+          ≡ record (state_of params s) { heap = map (item_at vs) s.heap ++ proof (expression_at vs claim) ∷ []; stack = proof (expression_at vs claim) ∷ items_at vs s'.stack }
+      saved-state =
+          named-state tables params noded claim new noded-made claim-still new-proof.0
+          ∙ ap (λ e. record (state_of params noded) { heap = map (item_at (values_in noded)) s.heap ++ proof e ∷ []; stack = proof e ∷ items_at (values_in noded) s'.stack }) same-claim
+          ∙ ap (λ (z : State Tree). record z { heap = z.heap ++ proof (expression_at vs claim) ∷ []; stack = proof (expression_at vs claim) ∷ z.stack }) noded-state
+
+      saved-trace : trace_of (with_name noded claim new) ≡ named tree (parts_at vs s'.stack) (trace_of s)
+      saved-trace =
+          named-trace tables params noded claim new noded-made claim-still new-proof.0
+          ∙ ap (λ p. named p (parts_at (values_in noded) s'.stack) (trace_of noded)) new-proof.1
+          ∙ ap (λ (z : Trace). named tree z.stack z) noded-trace
 
   abbrev pub cites : Stage
   cites = on_stack noded (Held (ProofItem claim new))
@@ -369,29 +390,29 @@ module _ (file : List ℕ) (t : ℕ) (s s' : Stage) (claim made-at : ℕ) (c : I
   abbrev pub names : Stage
   names = with_name noded claim new
 
-  pub thm-leads : Leads (IsOfFile file) code.Thm t s cites
+  pub thm-leads : Leads (IsRead file) code.Thm t s cites
   unfolding proof_row traced
   thm-leads tables params st q made row =
       from_bind (cited strict tables t (state_of params s)) _ st row λ r making e1.
-      let (r-is, beside) = gives-both tables params q made r making in
+      let (r-is, beside, claims) = gives-both tables params q made r making in
       let pushed : Tree × List (MachineItem Tree) → State Tree = λ z. record (state_of params s) { stack = proof z.0 ∷ z.1 } in (
         (
-          held-of tables params noded s'.stack (Held (ProofItem claim new) ∷ s'.stack) (noded-held tables params q made),
-          ((claim-still tables params q made, (new-proof tables params q made).0), (noded-made tables params q made).1),
+          held-of tables params noded s'.stack (Held (ProofItem claim new) ∷ s'.stack) (noded-held tables params q made claims),
+          ((claim-still tables params q made claims, (new-proof tables params q made claims).0), (noded-made tables params q made claims).1),
         ),
-        sym (taken-is (pushed r) st e1) ∙ ap pushed r-is ∙ sym (cited-state tables params q made),
-        rw beside refl ∙ ap taken-trace (sym (cited-trace tables params q made)),
+        sym (taken-is (pushed r) st e1) ∙ ap pushed r-is ∙ sym (cited-state tables params q made claims),
+        rw beside refl ∙ ap taken-trace (sym (cited-trace tables params q made claims)),
       )
 
-  pub thm_save-leads : Leads (IsOfFile file) code.ThmSave t s names
+  pub thm_save-leads : Leads (IsRead file) code.ThmSave t s names
   unfolding proof_row traced
   thm_save-leads tables params st q made row =
       from_bind (cited strict tables t (state_of params s)) _ st row λ r making e1.
-      let (r-is, beside) = gives-both tables params q made r making in
+      let (r-is, beside, claims) = gives-both tables params q made r making in
       let pushed : Tree × List (MachineItem Tree) → State Tree = λ z. record (state_of params s) { stack = proof z.0 ∷ z.1; heap = map (item_at vs) s.heap ++ proof z.0 ∷ [] } in (
-        named-made tables params noded claim new (noded-made tables params q made) (claim-still tables params q made) (new-proof tables params q made).0,
-        sym (taken-is (pushed r) st e1) ∙ ap pushed r-is ∙ sym (saved-state tables params q made),
-        rw beside refl ∙ ap taken-trace (sym (saved-trace tables params q made)),
+        named-made tables params noded claim new (noded-made tables params q made claims) (claim-still tables params q made claims) (new-proof tables params q made claims).0,
+        sym (taken-is (pushed r) st e1) ∙ ap pushed r-is ∙ sym (saved-state tables params q made claims),
+        rw beside refl ∙ ap taken-trace (sym (saved-trace tables params q made claims)),
       )
 
   pub cites-is : on_stack s' (Held (ProofItem claim made-at)) ≡ cites

@@ -16,8 +16,7 @@ use Rattle.mz_unification.specs.Profile.{strict, tree_parts, Item, proof}
 use Rattle.mz_unification.specs.Tests.{same_tree}
 use Rattle.mz_unification.specs.Laws.{citing}
 use Rattle.mz_unification.specs.UnifyMachine.{in_citation, UnifyState, top_target, is_empty, next_hypothesis, operands_of, is_fresh, unify_row, unify_turn_by, unify_turn, unify_from, unify}
-use Rattle.mz_unification.proofs.Inverting.{from_bind, from_need, from_want, taken, taken-is}
-use Rattle.mz_unification.proofs.Citations.{hypothesis-is}
+use Rattle.mz_unification.proofs.Offered.{from_bind, from_need, from_want, taken, taken-is, hypothesis-is}
 
 -- of the items, proofs of some expressions are taken, and these are left
 abbrev pub Takes : List (Item Tree) → List (Item Tree) → Type 0

@@ -6,32 +6,37 @@ use Rattle.mz_cmd.specs.declared.rule.K.TheVariants as k
 use Rattle.mz_cmd.specs.declared.code.ProofCode.{ProofCode}
 use Rattle.mz_cmd.specs.declared.code.ProofCode.TheVariants as code
 use Rattle.mz_logic.specs.Tree.{Tree}
+use Rattle.mz_logic.specs.declared.binder.Binder.{Binder}
 use Rattle.mz_unification.specs.Profile.{strict, Item}
 use Rattle.mz_unification.specs.Steps.{◌>>=◌, ◌>>◌, need, want}
 use Rattle.mz_soundness.specs.Tables.{Tables, State}
 use Rattle.mz_soundness.specs.Premises.{is_conversion}
 use Rattle.mz_soundness.specs.ProofMachine.{proof_row, referred}
 use Rattle.mz_tracing.specs.Traces.{Trace, traced}
-use Rattle.mz_trace.specs.Commands.{Stage, IsOfFile, state_of, trace_of, Goes, Leads}
+use Rattle.mz_trace.specs.Commands.{Stage, Known, IsRead, state_of, trace_of, Goes, Leads}
 
 -- c over n does what d over m does, wherever c goes through
 abbrev pub DoesAs : (c : ProofCode) (n : ℕ) (d : ProofCode) (m : ℕ) → Type 0
 DoesAs c n d m = ((tables : Tables) (st st' : State Tree) → proof_row strict tables 0 c n st ≡ Ok st' → proof_row strict tables 0 d m st ≡ Ok st')
     × ((tables : Tables) (st : State Tree) (tr : Trace) → traced tables d m st tr ≡ traced tables c n st tr)
 
-module _ (file : List ℕ) (Q : Tables → Type 0) (lift : (tables : Tables) → IsOfFile file tables → Q tables) (b c d : ProofCode) (n m : ℕ) (is : b ≡ c) (as_d : DoesAs c n d m) (s : Stage) where
-  pub goes-as : Goes (IsOfFile file) b n s → Goes Q d m s
-  goes-as goes =
-      let (tables, params, st, q, made, row) = subst (λ z. Goes (IsOfFile file) z n s) is goes in
-      (tables, params, st, lift tables q, made, as_d.0 tables (state_of params s) st row)
+-- what is known carries over to Q
+abbrev pub Lifts : List ℕ → Known → Type 0
+Lifts file Q = (tables : Tables) (params : List Binder) (s : Stage) → IsRead file tables params s → Q tables params s
 
-  leads-c : (s' : Stage) → Leads Q d m s s' → Leads (IsOfFile file) c n s s'
+module _ (file : List ℕ) (Q : Known) (lift : Lifts file Q) (b c d : ProofCode) (n m : ℕ) (is : b ≡ c) (as_d : DoesAs c n d m) (s : Stage) where
+  pub goes-as : Goes (IsRead file) b n s → Goes Q d m s
+  goes-as goes =
+      let (tables, params, st, q, made, row) = subst (λ z. Goes (IsRead file) z n s) is goes in
+      (tables, params, st, lift tables params s q, made, as_d.0 tables (state_of params s) st row)
+
+  leads-c : (s' : Stage) → Leads Q d m s s' → Leads (IsRead file) c n s s'
   leads-c s' leads tables params st q made row =
-      let (made1, state-is, trace-is) = leads tables params st (lift tables q) made (as_d.0 tables (state_of params s) st row) in
+      let (made1, state-is, trace-is) = leads tables params st (lift tables params s q) made (as_d.0 tables (state_of params s) st row) in
       (made1, state-is, sym (as_d.1 tables (state_of params s) (trace_of s)) ∙ trace-is)
 
-  pub leads-as : (s' : Stage) → Leads Q d m s s' → Leads (IsOfFile file) b n s s'
-  leads-as s' leads = subst (λ z. Leads (IsOfFile file) z n s s') (sym is) (leads-c s' leads)
+  pub leads-as : (s' : Stage) → Leads Q d m s s' → Leads (IsRead file) b n s s'
+  leads-as s' leads = subst (λ z. Leads (IsRead file) z n s s') (sym is) (leads-c s' leads)
 
 -- the same command
 pub itself : (c : ProofCode) (n : ℕ) → DoesAs c n c n
@@ -56,9 +61,9 @@ no-sorry : (tables : Tables) (st st' : State Tree) (n : ℕ) → proof_row stric
 unfolding proof_row
 no-sorry tables st st' n row = absurd cc
 
-pub never-sorry : (file : List ℕ) (b : ProofCode) (n : ℕ) (s : Stage) → b ≡ code.Sorry → Goes (IsOfFile file) b n s → ⊥
+pub never-sorry : (file : List ℕ) (b : ProofCode) (n : ℕ) (s : Stage) → b ≡ code.Sorry → Goes (IsRead file) b n s → ⊥
 never-sorry file b n s is goes =
-    let (tables, params, st, q, made, row) = subst (λ z. Goes (IsOfFile file) z n s) is goes in no-sorry tables (state_of params s) st n row
+    let (tables, params, st, q, made, row) = subst (λ z. Goes (IsRead file) z n s) is goes in no-sorry tables (state_of params s) st n row
 
 -- ---- commands that look at no operand
 

@@ -1,17 +1,14 @@
 -- More values behind: what was named stays what it was.
 use Rattle.std.proofs.Common.{◌≡◌, ℕ, zero, suc, List, [], ◌∷◌, ◌++◌, Some, length, map, refl, sym, ap, ◌∙◌}
 use Rattle.std.specs.Prelude.{slice_get, reverse}
-use Rattle.std.proofs.lemmas.List.{reverse-append, map-append}
-use Rattle.mz_logic.specs.Tree.{Tree, app}
-use Rattle.mz_logic.specs.Conversions.{Conversion, Conversions, cong_conv, sym_conv, refl_conv, unfold_conv, more_convs}
-use Rattle.mz_mmu.specs.Proof.{Proof, Proofs, by_citation, by_conv, more_proofs}
-use Rattle.mz_unification.specs.Profile.{expr, proof, obligation, conversion}
-use Rattle.mz_unification.specs.Profile.{Item as MachineItem}
+use Rattle.std.proofs.lemmas.List.{reverse-append}
+use Rattle.mz_logic.specs.Tree.{app}
+use Rattle.mz_unification.specs.Profile.{expr, proof}
 use Rattle.mz_unification.specs.Spells.{trees_of}
 use Rattle.mz_soundness.specs.Tables.{Tables}
-use Rattle.mz_tracing.specs.Parts.{Part, proved, converted, for_proof, for_operand, for_unfolded}
-use Rattle.mz_trace.specs.Nodes.{Value, an_expression, a_conversion, a_proof, expression_of, conversion_of, proof_of, expression_at, conversion_at, proof_at, expressions_at, conversions_at, proofs_at, value_of, IsExpression, IsConversion, IsProof, AreExpressions, AreConversions, AreProofs, HasParts}
-use Rattle.mz_trace.specs.Entries.{item_at, part_at, IsItem, AreItems, owed_at, items_of, items_at, part_of, parts_at, ArePairs, IsStack, IsWaiting}
+use Rattle.mz_tracing.specs.Parts.{proved, converted}
+use Rattle.mz_trace.specs.Nodes.{Value, an_expression, a_conversion, a_proof, expression_of, conversion_of, proof_of, expression_at, conversion_at, proof_at, expressions_at, conversions_at, proofs_at, value_of, IsExpression, IsConversion, IsProof, AreExpressions, AreConversions, AreProofs, conclusion_under, body_under, IsClaim, IsBody, HasParts}
+use Rattle.mz_trace.specs.Entries.{item_at, part_at, IsItem, AreItems, owed_at, items_at, parts_at, ArePairs, IsStack, IsWaiting}
 use Rattle.mz_trace.specs.declared.node.RunNode.{RunNode}
 use Rattle.mz_trace.specs.declared.node.RunNode.TheVariants as node
 use Rattle.mz_trace.specs.declared.entry.Item.{Item}
@@ -79,6 +76,16 @@ module _ (vs ws : List Value) where
   same-named [] h = refl
   same-named (n ∷ ns) h = rw (same-proof n h.0, same-named ns h.1) refl
 
+  -- ---- what was matched
+
+  pub grown-claim : (tables : Tables) (t : ℕ) (es : List ℕ) (e : ℕ) → AreExpressions vs es → IsExpression vs e
+      → IsClaim tables t (expressions_at vs es) (expression_at vs e) → IsClaim tables t (expressions_at (vs ++ ws) es) (expression_at (vs ++ ws) e)
+  grown-claim tables t es e are is h env declares = same-expression e is ∙ h env declares ∙ ap (conclusion_under env t) (sym (same-expressions es are))
+
+  pub grown-body : (tables : Tables) (t : ℕ) (es ys : List ℕ) (e : ℕ) → AreExpressions vs es → IsExpression vs e
+      → IsBody tables t (expressions_at vs es) ys (expression_at vs e) → IsBody tables t (expressions_at (vs ++ ws) es) ys (expression_at (vs ++ ws) e)
+  grown-body tables t es ys e are is h env declares = same-expression e is ∙ h env declares ∙ ap (λ ts. body_under env t ts ys) (sym (same-expressions es are))
+
   -- ---- nodes
 
   pub grown-parts : (tables : Tables) (n : RunNode) → HasParts tables vs n → HasParts tables (vs ++ ws) n
@@ -86,12 +93,12 @@ module _ (vs ws : List Value) where
   grown-parts tables (node.App t es) h = (grown-expressions es.items h.0, h.1)
   grown-parts tables (node.Hyp i) h = tt
   grown-parts tables (node.Let i) h = tt
-  grown-parts tables (node.Use t e es ps) h = (grown-expression e h.0, grown-expressions es.items h.1, grown-proofs ps.items h.2)
+  grown-parts tables (node.Use t e es ps) h = (grown-expression e h.0, grown-expressions es.items h.1, grown-proofs ps.items h.2, grown-claim tables t es.items e h.1 h.0 h.3)
   grown-parts tables (node.Conv e c p) h = (grown-expression e h.0, grown-conversion c h.1, grown-proof p h.2)
   grown-parts tables (node.Refl e) h = grown-expression e h
   grown-parts tables (node.Sym c) h = grown-conversion c h
   grown-parts tables (node.Cong t cs) h = grown-conversions cs.items h
-  grown-parts tables (node.Unfold t e es ys c) h = (grown-expression e h.0, grown-expressions es.items h.1, grown-conversion c h.2)
+  grown-parts tables (node.Unfold t e es ys c) h = (grown-expression e h.0, grown-expressions es.items h.1, grown-conversion c h.2, grown-body tables t es.items ys.items e h.1 h.0 h.3)
 
   pub same-value : (tables : Tables) (n : RunNode) → HasParts tables vs n → value_of (vs ++ ws) n ≡ value_of vs n
   same-value tables (node.Var x) h = refl
@@ -153,9 +160,9 @@ pub pairs-turned : (vs : List Value) (ps : List (ℕ × ℕ)) → ArePairs vs ps
 pairs-turned vs [] h = tt
 pairs-turned vs (p ∷ ps) h = rw (reverse-append (p ∷ []) ps) (pairs-both vs (reverse ps) (p ∷ []) (pairs-turned vs ps h.2) (h.0, h.1, tt))
 
-module _ (vs ws : List Value) where
+module _ (tables : Tables) (vs ws : List Value) where
   mutual
-    pub grown-stack : (xs : List Entry) → IsStack vs xs → IsStack (vs ++ ws) xs
+    pub grown-stack : (xs : List Entry) → IsStack tables vs xs → IsStack tables (vs ++ ws) xs
     grown-stack [] h = tt
     grown-stack (Held (Expr e) ∷ xs) h = (grown-expression vs ws e h.0, grown-stack xs h.1)
     grown-stack (Held (ProofItem e p) ∷ xs) h = (grown-item vs ws (ProofItem e p) h.0, grown-stack xs h.1)
@@ -167,18 +174,19 @@ module _ (vs ws : List Value) where
     grown-stack (ForUnfolded t e es ys ∷ xs) h = absurd h
     grown-stack (ForCut l r ∷ xs) h = absurd h
 
-    pub grown-waiting : (xs : List Entry) → IsWaiting vs xs → IsWaiting (vs ++ ws) xs
+    pub grown-waiting : (xs : List Entry) → IsWaiting tables vs xs → IsWaiting tables (vs ++ ws) xs
     grown-waiting [] h = absurd h
     grown-waiting (Held x ∷ xs) h = absurd h
     grown-waiting (Owed l r ∷ xs) h = absurd h
     grown-waiting (ForProof e p ∷ xs) h = (grown-expression vs ws e h.0, grown-proof vs ws p h.1, grown-stack xs h.2)
     grown-waiting (ForTurned ∷ xs) h = grown-waiting xs h
     grown-waiting (ForOperand t done left ∷ xs) h = (grown-conversions vs ws done.items h.0, grown-pairs vs ws left.items h.1, grown-waiting xs h.2)
-    grown-waiting (ForUnfolded t e es ys ∷ xs) h = (grown-expression vs ws e h.0, grown-expressions vs ws es.items h.1, grown-waiting xs h.2)
+    grown-waiting (ForUnfolded t e es ys ∷ xs) h =
+        (grown-expression vs ws e h.0, grown-expressions vs ws es.items h.1, grown-body vs ws tables t es.items ys.items e h.1 h.0 h.2, grown-waiting xs h.3)
     grown-waiting (ForCut l r ∷ xs) h = (grown-expression vs ws l h.0, grown-expression vs ws r h.1, grown-waiting xs h.2)
 
   mutual
-    pub same-items : (xs : List Entry) → IsStack vs xs → items_at (vs ++ ws) xs ≡ items_at vs xs
+    pub same-items : (xs : List Entry) → IsStack tables vs xs → items_at (vs ++ ws) xs ≡ items_at vs xs
     same-items [] h = refl
     same-items (Held (Expr e) ∷ xs) h = rw (same-expression vs ws e h.0, same-items xs h.1) refl
     same-items (Held (ProofItem e p) ∷ xs) h = rw (same-expression vs ws e h.0.0, same-items xs h.1) refl
@@ -190,18 +198,18 @@ module _ (vs ws : List Value) where
     same-items (ForUnfolded t e es ys ∷ xs) h = absurd h
     same-items (ForCut l r ∷ xs) h = absurd h
 
-    pub same-items_below : (xs : List Entry) → IsWaiting vs xs → items_at (vs ++ ws) xs ≡ items_at vs xs
+    pub same-items_below : (xs : List Entry) → IsWaiting tables vs xs → items_at (vs ++ ws) xs ≡ items_at vs xs
     same-items_below [] h = absurd h
     same-items_below (Held x ∷ xs) h = absurd h
     same-items_below (Owed l r ∷ xs) h = absurd h
     same-items_below (ForProof e p ∷ xs) h = rw (same-expression vs ws e h.0, same-items xs h.2) refl
     same-items_below (ForTurned ∷ xs) h = same-items_below xs h
     same-items_below (ForOperand t done left ∷ xs) h = rw (same-pairs vs ws (reverse left.items) (pairs-turned vs left.items h.1), same-items_below xs h.2) refl
-    same-items_below (ForUnfolded t e es ys ∷ xs) h = same-items_below xs h.2
+    same-items_below (ForUnfolded t e es ys ∷ xs) h = same-items_below xs h.3
     same-items_below (ForCut l r ∷ xs) h = rw (same-expression vs ws l h.0, same-expression vs ws r h.1, same-items_below xs h.2) refl
 
   mutual
-    pub same-parts : (xs : List Entry) → IsStack vs xs → parts_at (vs ++ ws) xs ≡ parts_at vs xs
+    pub same-parts : (xs : List Entry) → IsStack tables vs xs → parts_at (vs ++ ws) xs ≡ parts_at vs xs
     same-parts [] h = refl
     same-parts (Held (Expr e) ∷ xs) h = rw (same-parts xs h.1) refl
     same-parts (Held (ProofItem e p) ∷ xs) h = rw (same-proof vs ws p h.0.1, same-parts xs h.1) refl
@@ -213,12 +221,12 @@ module _ (vs ws : List Value) where
     same-parts (ForUnfolded t e es ys ∷ xs) h = absurd h
     same-parts (ForCut l r ∷ xs) h = absurd h
 
-    pub same-parts_below : (xs : List Entry) → IsWaiting vs xs → parts_at (vs ++ ws) xs ≡ parts_at vs xs
+    pub same-parts_below : (xs : List Entry) → IsWaiting tables vs xs → parts_at (vs ++ ws) xs ≡ parts_at vs xs
     same-parts_below [] h = absurd h
     same-parts_below (Held x ∷ xs) h = absurd h
     same-parts_below (Owed l r ∷ xs) h = absurd h
     same-parts_below (ForProof e p ∷ xs) h = rw (same-expression vs ws e h.0, same-proof vs ws p h.1, same-parts xs h.2) refl
     same-parts_below (ForTurned ∷ xs) h = rw (same-parts_below xs h) refl
     same-parts_below (ForOperand t done left ∷ xs) h = rw (same-conversions vs ws done.items h.0, same-parts_below xs h.2) refl
-    same-parts_below (ForUnfolded t e es ys ∷ xs) h = rw (same-expressions vs ws es.items h.1, same-parts_below xs h.2) refl
+    same-parts_below (ForUnfolded t e es ys ∷ xs) h = rw (same-expressions vs ws es.items h.1, same-parts_below xs h.3) refl
     same-parts_below (ForCut l r ∷ xs) h = rw (same-parts_below xs h.2) refl

@@ -1,42 +1,40 @@
 -- What commands lead to that make an expression or a proof, or keep one.
-use Rattle.std.proofs.Common.{Result, Option, ◌≡◌, ◌<◌, ℕ, suc, ◌+◌, List, [], ◌∷◌, ◌++◌, Some, Ok, length, map, refl, sym, ap, ◌∙◌, subst, arith, length-append}
-use Rattle.std.specs.Prelude.{reverse, slice_get, drop, nat_lt, nat_le}
-use Rattle.std.proofs.lemmas.List.{map-append, append_assoc, length-reverse}
+use Rattle.std.proofs.Common.{Result, Option, ◌≡◌, ◌<◌, ℕ, List, [], ◌∷◌, ◌++◌, Some, Ok, length, map, refl, sym, ap, ◌∙◌, subst, arith}
+use Rattle.std.specs.Prelude.{reverse, slice_get, drop, nat_le}
+use Rattle.std.proofs.lemmas.List.{map-append, length-reverse}
 use Rattle.std.specs.List.{range_with_len}
 use Rattle.std.proofs.lemmas.Option.{slice_get_within}
 use Rattle.std.proofs.lemmas.List.FromFn.{length-map-range_with_len}
 use Rattle.mz_cmd.specs.declared.rule.K.{K}
 use Rattle.mz_cmd.specs.declared.rule.K.TheVariants as k
 use Rattle.mz_cmd.specs.declared.code.ProofCode.TheVariants as code
-use Rattle.mz_logic.specs.Tree.{Tree, var, app}
+use Rattle.mz_logic.specs.Tree.{Tree, app}
 use Rattle.mz_logic.specs.declared.binder.Binder.{Binder}
-use Rattle.mz_mmu.specs.Proof.{by_hyp}
-use Rattle.mz_layout.specs.Tables.{term_row, thm_row, term_count, thm_count}
-use Rattle.mz_unification.specs.Profile.{strict, expr, proof}
+use Rattle.mz_layout.specs.Tables.{term_row, term_count}
+use Rattle.mz_unification.specs.Profile.{strict, expr}
 use Rattle.mz_unification.specs.Profile.{Item as MachineItem}
-use Rattle.mz_unification.specs.Spells.{TermRow, dummy_of, trees_of}
+use Rattle.mz_unification.specs.Spells.{TermRow, trees_of}
 use Rattle.mz_unification.specs.Steps.{◌>>=◌, want}
-use Rattle.mz_unification.proofs.Inverting.{from_bind, from_then, from_need, from_want, taken-is, some_is}
+use Rattle.mz_unification.proofs.Offered.{from_bind, from_then, from_need, from_want, taken-is, some_is}
 use Rattle.mz_soundness.specs.Tables.{Tables, State, signatures_in}
-use Rattle.mz_soundness.specs.Premises.{pop_expr, pop_operands, pop_exprs, operands_fit, may_be_dummy_sort, bound_count}
-use Rattle.mz_soundness.specs.ProofMachine.{proof_row, built, has_provable_sort}
+use Rattle.mz_soundness.specs.Premises.{pop_operands, pop_exprs, operands_fit}
+use Rattle.mz_soundness.specs.ProofMachine.{proof_row, built}
 use Rattle.mz_soundness.specs.FileRows.{term_of_file}
 use Rattle.mz_machine.specs.Before.{Before}
-use Rattle.mz_machine.proofs.BeforeLaws.{term-before, binders_many}
-use Rattle.mz_tracing.specs.Parts.{Part, expression, proved}
+use Rattle.mz_machine.proofs.Offered.{term-before, binders_many}
+use Rattle.mz_tracing.specs.Parts.{Part, expression}
 use Rattle.mz_tracing.specs.Traces.{Trace, stacked, kept, traced}
-use Rattle.mz_trace.specs.Nodes.{Value, an_expression, a_proof, expression_at, expressions_at, proof_at, value_of, HasParts, HasArity, IsExpression, AreExpressions, IsProof, Applies}
-use Rattle.mz_trace.specs.Entries.{item_at, part_at, items_at, parts_at, AreItems, IsItem, IsStack, exprs_onto, HasExprs}
-use Rattle.mz_trace.specs.Commands.{Stage, with_node, with_stack, with_variable, on_stack, values_in, context_of, state_of, trace_of, IsHeld, IsMade, IsOfFile, IsAny, Goes, Leads, IsBuilt, MayBuild}
+use Rattle.mz_trace.specs.Nodes.{Value, an_expression, expression_at, expressions_at, value_of, HasParts, HasArity, IsExpression, AreExpressions, Applies}
+use Rattle.mz_trace.specs.Entries.{item_at, part_at, items_at, parts_at, AreItems, IsItem, IsStack, HasExprs}
+use Rattle.mz_trace.specs.Commands.{Stage, with_node, with_stack, on_stack, values_in, context_of, state_of, trace_of, IsHeld, IsMade, IsOfFile, IsRead, Goes, Leads, IsBuilt, MayBuild}
 use Rattle.mz_trace.specs.declared.node.RunNode.{RunNode}
 use Rattle.mz_trace.specs.declared.node.RunNode.TheVariants as node
 use Rattle.mz_trace.specs.declared.entry.Item.{Item}
-use Rattle.mz_trace.specs.declared.entry.Item.TheVariants.{Expr, Proof}
-use Rattle.mz_trace.specs.declared.entry.Entry.{Entry}
+use Rattle.mz_trace.specs.declared.entry.Item.TheVariants.{Expr}
 use Rattle.mz_trace.specs.declared.entry.Entry.TheVariants.{Held}
-use Rattle.mz_trace.proofs.Stages.{state, trace, alike, alike-trace, held-of, held-still, stack-still, expression-added, proof-added, expression-still, same-expression-still, heap-still, heap_parts-still, hyps-still, lets-still, items-still, parts-still}
+use Rattle.mz_trace.proofs.Stages.{alike, alike-trace, held-of, held-still, stack-still, expression-added, heap-still, heap_parts-still, hyps-still, lets-still, items-still, parts-still}
 use Rattle.mz_trace.proofs.Tops.{has-exprs, exprs-below, pop-operands, drop-exprs, unturned}
-use Rattle.mz_trace.proofs.Moves.{items-both, leads-to}
+use Rattle.mz_trace.proofs.Moves.{items-both}
 
 -- ---- rows of the file
 
@@ -107,7 +105,7 @@ module _ (file : List ℕ) (t : ℕ) (s : Stage) where
       from_bind (pop_operands (length row.signature.params) (items_at (values_in s) s.stack)) _ r e1 λ es popping e2.
       from_need (nat_le (length row.signature.params) (length (items_at (values_in s) s.stack))) k.Underflow _ es popping λ many popping2. (
         term-there file tables q t row at,
-        subst (λ n. HasExprs n s.stack) (term-arity file tables q t row at) (has-exprs (values_in s) (length row.signature.params) s.stack [] es made.1 popping2),
+        subst (λ n. HasExprs n s.stack) (term-arity file tables q t row at) (has-exprs tables (values_in s) (length row.signature.params) s.stack [] es made.1 popping2),
       )
 
 -- what a built application is
@@ -116,8 +114,8 @@ module _ (file : List ℕ) (t : ℕ) (s s' : Stage) (made-at : ℕ) (b : IsBuilt
   bare = with_stack s s'.stack
 
   module _ (tables : Tables) (params : List Binder) (q : IsOfFile file tables) (made : IsMade tables params s) where
-    split : AreExpressions (values_in s) (reverse b.operands) × IsStack (values_in s) s'.stack
-    split = exprs-below (values_in s) (reverse b.operands) s'.stack (subst (IsStack (values_in s)) b.taken made.1)
+    split : AreExpressions (values_in s) (reverse b.operands) × IsStack tables (values_in s) s'.stack
+    split = exprs-below tables (values_in s) (reverse b.operands) s'.stack (subst (IsStack tables (values_in s)) b.taken made.1)
 
     pub bare-made : IsMade tables params bare
     bare-made = (held-of tables params s s.stack s'.stack made.0, split.1)
@@ -163,7 +161,7 @@ module _ (file : List ℕ) (t : ℕ) (s s' : Stage) (made-at : ℕ) (b : IsBuilt
   tree = app t (trees_of (expressions_at (values_in s) b.operands))
 
   abbrev pub term-made : Tables → List Binder → Type 0
-  term-made tables params = IsHeld tables params (with_node bare b.node) × IsExpression (values_in whole) new × (expression_at (values_in whole) new ≡ tree) × IsStack (values_in whole) s'.stack
+  term-made tables params = IsHeld tables params (with_node bare b.node) × IsExpression (values_in whole) new × (expression_at (values_in whole) new ≡ tree) × IsStack tables (values_in whole) s'.stack
       × HasParts tables (values_in s) b.node
 
   module _ (tables : Tables) (params : List Binder) (q : IsOfFile file tables) (made : IsMade tables params s) where
@@ -194,29 +192,29 @@ module _ (file : List ℕ) (t : ℕ) (s s' : Stage) (made-at : ℕ) (b : IsBuilt
   want-is : {A B : Type 0} (o : Option A) (rule : K) (f : A → Result B K) (x : A) → o ≡ Some x → (want o rule >>= f) ≡ f x
   want-is o rule f x is = rw is refl
 
-  pub term-leads : Leads (IsOfFile file) code.Term t s whole
+  pub term-leads : Leads (IsRead file) code.Term t s whole
   unfolding proof_row traced
   term-leads tables params st q made row =
       from_bind (built strict tables 0 t (state_of params s)) _ st row λ r making e1.
-      built-row tables params q made r making λ row1 at r-is.
-      let h = term-facts tables params q made row1 at in
+      built-row tables params q.0 made r making λ row1 at r-is.
+      let h = term-facts tables params q.0 made row1 at in
       let pushed : Tree × List (MachineItem Tree) → State Tree = λ z. record (state_of params s) { stack = expr z.0 ∷ z.1 } in (
         (held-of tables params (with_node s b.node) s'.stack (Held (Expr new) ∷ s'.stack) h.0, (h.1, h.3)),
-        sym (taken-is (pushed r) st e1) ∙ ap pushed r-is ∙ sym (term-state tables params q made h),
+        sym (taken-is (pushed r) st e1) ∙ ap pushed r-is ∙ sym (term-state tables params q.0 made h),
         want-is (slice_get tables.terms t) k.TermIndex _ row1 at
-            ∙ ap (λ ps. kept-trace (stacked (trace_of s) (expression ∷ ps))) (dropped tables params q made row1 at) ∙ ap kept-trace (sym (term-trace tables params q made h)),
+            ∙ ap (λ ps. kept-trace (stacked (trace_of s) (expression ∷ ps))) (dropped tables params q.0 made row1 at) ∙ ap kept-trace (sym (term-trace tables params q.0 made h)),
       )
 
   abbrev pub whole_saved : Stage
   whole_saved = record whole { heap = s.heap ++ Expr new ∷ [] }
 
-  pub term_save-leads : Leads (IsOfFile file) code.TermSave t s whole_saved
+  pub term_save-leads : Leads (IsRead file) code.TermSave t s whole_saved
   unfolding proof_row traced
   term_save-leads tables params st q made row =
       from_bind (built strict tables 0 t (state_of params s)) _ st row λ r making e1.
-      built-row tables params q made r making λ row1 at r-is.
-      let h = term-facts tables params q made row1 at in
-      let below = bare-made tables params q made in
+      built-row tables params q.0 made r making λ row1 at r-is.
+      let h = term-facts tables params q.0 made row1 at in
+      let below = bare-made tables params q.0 made in
       let pushed : Tree × List (MachineItem Tree) → State Tree = λ z. record (state_of params s) { stack = expr z.0 ∷ z.1; heap = map (item_at (values_in s)) s.heap ++ expr z.0 ∷ [] } in (
         (
           record {
@@ -229,10 +227,10 @@ module _ (file : List ℕ) (t : ℕ) (s s' : Stage) (made-at : ℕ) (b : IsBuilt
           (h.1, h.3),
         ),
         sym (taken-is (pushed r) st e1) ∙ ap pushed r-is
-            ∙ sym (alike (context_of params s) (heap-more tables params bare b.node below.0 h.4 (Expr new) (expr tree) (ap expr h.2)) (stack-is tables params q made h) (hyps-still tables params bare b.node below.0 h.4)),
+            ∙ sym (alike (context_of params s) (heap-more tables params bare b.node below.0 h.4 (Expr new) (expr tree) (ap expr h.2)) (stack-is tables params q.0 made h) (hyps-still tables params bare b.node below.0 h.4)),
         want-is (slice_get tables.terms t) k.TermIndex _ row1 at
-            ∙ ap (λ ps. kept-trace (kept (stacked (trace_of s) (expression ∷ ps)) expression)) (dropped tables params q made row1 at)
-            ∙ ap kept-trace (sym (alike-trace (heap_parts-more tables params bare b.node below.0 h.4 (Expr new) expression refl) (parts-are tables params q made h) (lets-still tables params bare b.node below.0 h.4))),
+            ∙ ap (λ ps. kept-trace (kept (stacked (trace_of s) (expression ∷ ps)) expression)) (dropped tables params q.0 made row1 at)
+            ∙ ap kept-trace (sym (alike-trace (heap_parts-more tables params bare b.node below.0 h.4 (Expr new) expression refl) (parts-are tables params q.0 made h) (lets-still tables params bare b.node below.0 h.4))),
       )
 
   pub whole-is : on_stack s' (Held (Expr made-at)) ≡ whole
@@ -245,10 +243,10 @@ module _ (file : List ℕ) (t : ℕ) (s s' : Stage) (made-at : ℕ) (b : IsBuilt
       ∙ ap (λ n. record (with_stack (with_node s b.node) (Held (Expr n) ∷ s'.stack)) { heap = s.heap ++ Expr n ∷ [] }) b.last
 
 module _ (file : List ℕ) (t : ℕ) (s : Stage) where
-  pub may-term : Goes (IsOfFile file) code.Term t s → MayBuild file t s
+  pub may-term : Goes (IsRead file) code.Term t s → MayBuild file t s
   unfolding proof_row
-  may-term (tables, params, st, q, made, row) = from_bind (built strict tables 0 t (state_of params s)) _ st row λ r making e1. may-build file t s (tables, params, q, made, (r, making))
+  may-term (tables, params, st, q, made, row) = from_bind (built strict tables 0 t (state_of params s)) _ st row λ r making e1. may-build file t s (tables, params, q.0, made, (r, making))
 
-  pub may-term_save : Goes (IsOfFile file) code.TermSave t s → MayBuild file t s
+  pub may-term_save : Goes (IsRead file) code.TermSave t s → MayBuild file t s
   unfolding proof_row
-  may-term_save (tables, params, st, q, made, row) = from_bind (built strict tables 0 t (state_of params s)) _ st row λ r making e1. may-build file t s (tables, params, q, made, (r, making))
+  may-term_save (tables, params, st, q, made, row) = from_bind (built strict tables 0 t (state_of params s)) _ st row λ r making e1. may-build file t s (tables, params, q.0, made, (r, making))

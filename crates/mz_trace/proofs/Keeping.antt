@@ -1,37 +1,36 @@
 -- What commands lead to that keep something in the heap, or take it from there.
-use Rattle.std.proofs.Common.{Result, Option, ◌≡◌, ℕ, suc, zero, ◌+◌, Bool, true, false, List, [], ◌∷◌, ◌++◌, Some, None, Ok, length, map, refl, sym, ap, ◌∙◌, subst, arith, length-append}
+use Rattle.std.proofs.Common.{Result, Option, ◌≡◌, ℕ, suc, zero, Bool, true, false, List, [], ◌∷◌, ◌++◌, Some, Ok, length, map, refl, sym, ap, ◌∙◌, subst, arith, length-append}
 use Rattle.std.specs.Prelude.{slice_get, drop, nat_lt, not, ◌&&◌}
 use Rattle.std.specs.Option.{option_map}
-use Rattle.std.proofs.lemmas.Option.{slice_get-map}
 use Rattle.std.proofs.lemmas.List.{map-append, append_assoc, length-map}
 use Rattle.mz_cmd.specs.declared.rule.K.{K}
 use Rattle.mz_cmd.specs.declared.rule.K.TheVariants as k
 use Rattle.mz_cmd.specs.declared.code.ProofCode.TheVariants as code
 use Rattle.mz_logic.specs.Tree.{Tree, var}
 use Rattle.mz_logic.specs.declared.binder.Binder.{Binder}
-use Rattle.mz_mmu.specs.Proof.{Proof, by_hyp, by_name}
-use Rattle.mz_unification.specs.Profile.{strict, expr, proof, obligation, conversion}
+use Rattle.mz_mmu.specs.Proof.{by_hyp, by_name}
+use Rattle.mz_unification.specs.Profile.{strict, expr, proof, obligation}
 use Rattle.mz_unification.specs.Profile.{Item as MachineItem}
 use Rattle.mz_unification.specs.Spells.{dummy_of}
 use Rattle.mz_unification.specs.Steps.{◌>>=◌, want}
 use Rattle.mz_unification.specs.Tests.{same_tree}
-use Rattle.mz_unification.proofs.Inverting.{from_bind, from_then, from_need, from_want, taken-is, some_is}
-use Rattle.mz_soundness.specs.Tables.{Tables, State}
-use Rattle.mz_soundness.specs.Premises.{pop, pop_expr, pop_obligation, may_be_dummy_sort, bound_count, is_obligation}
+use Rattle.mz_unification.proofs.Offered.{from_bind, from_need, from_want, taken-is}
+use Rattle.mz_soundness.specs.Tables.{Tables}
+use Rattle.mz_soundness.specs.Premises.{pop, pop_obligation, may_be_dummy_sort, bound_count, is_obligation}
 use Rattle.mz_soundness.specs.ProofMachine.{proof_row, has_provable_sort, referred}
-use Rattle.mz_tracing.specs.Parts.{Part, expression, proved, converted, paid}
-use Rattle.mz_tracing.specs.Traces.{Trace, stacked, kept, named, traced}
+use Rattle.mz_tracing.specs.Parts.{expression, proved, paid}
+use Rattle.mz_tracing.specs.Traces.{stacked, kept, named, traced}
 use Rattle.mz_tracing.specs.Traces.{referred as referred-part}
-use Rattle.mz_trace.specs.Nodes.{Value, an_expression, a_proof, expression_at, expressions_at, conversion_at, proof_at, value_of, HasParts, IsExpression, AreExpressions, IsProof, AreProofs, IsConversion}
+use Rattle.mz_trace.specs.Nodes.{Value, expression_at, expressions_at, conversion_at, proof_at, IsExpression, AreExpressions, IsProof, AreProofs, IsConversion}
 use Rattle.mz_trace.specs.Entries.{item_at, part_at, items_at, parts_at, AreItems, IsItem, IsStack, HasHeld, HasOwed}
-use Rattle.mz_trace.specs.Commands.{Stage, with_node, with_stack, with_variable, with_kept, with_name, on_stack, values_in, context_of, state_of, trace_of, IsHeld, IsMade, IsMadeBelow, IsAny, Goes, Leads, MayPay, Pays}
+use Rattle.mz_trace.specs.Commands.{Stage, with_node, with_stack, with_variable, with_kept, with_name, on_stack, values_in, context_of, state_of, trace_of, IsHeld, IsMade, IsMadeBelow, Known, IsAny, Goes, Leads, MayPay, Pays}
 use Rattle.mz_trace.specs.declared.node.RunNode.{RunNode}
 use Rattle.mz_trace.specs.declared.node.RunNode.TheVariants as node
 use Rattle.mz_trace.specs.declared.entry.Item.{Item}
 use Rattle.mz_trace.specs.declared.entry.Item.TheVariants.{Expr, Proof as ProofItem, Conversion as ConversionItem}
 use Rattle.mz_trace.specs.declared.entry.Entry.{Entry}
 use Rattle.mz_trace.specs.declared.entry.Entry.TheVariants.{Held, Owed, ForProof, ForTurned, ForOperand, ForUnfolded, ForCut}
-use Rattle.mz_trace.proofs.Stages.{state, trace, proof-still, same-proof-still, alike, alike-trace, held-of, held-still, stack-still, expression-added, proof-added, expression-still, same-expression-still, heap-still, heap_parts-still, hyps-still, lets-still, items-still, parts-still}
+use Rattle.mz_trace.proofs.Stages.{state, trace, proof-still, same-proof-still, alike, alike-trace, held-of, held-still, stack-still, expression-added, proof-added, expression-still, same-expression-still, hyps-still, lets-still, items-still, parts-still}
 use Rattle.mz_trace.proofs.Tops.{owed-top}
 use Rattle.mz_trace.proofs.Moves.{items-both, paying, taken-trace}
 use Rattle.mz_trace.proofs.Growth.{heap-more, heap_parts-more, kept-more}
@@ -217,8 +216,8 @@ module _ (n : ℕ) (s : Stage) (xs : List Entry) where
   )
 
 -- an item stands on top
-module _ (vs : List Value) where
-  held-top : (xs : List Entry) (r : MachineItem Tree × List (MachineItem Tree)) → IsStack vs xs → pop (items_at vs xs) ≡ Ok r → is_obligation r.0 ≡ false → HasHeld xs
+module _ (tables : Tables) (vs : List Value) where
+  held-top : (xs : List Entry) (r : MachineItem Tree × List (MachineItem Tree)) → IsStack tables vs xs → pop (items_at vs xs) ≡ Ok r → is_obligation r.0 ≡ false → HasHeld xs
   held-top [] r h e other = absurd cc
   held-top (Held x ∷ xs) r h e other = (x, xs, refl)
   held-top (Owed a b ∷ xs) r h e other = absurd (let is : true ≡ false = ap (λ (z : MachineItem Tree × List (MachineItem Tree)). is_obligation z.0) (taken-is (obligation (expression_at vs a) (expression_at vs b), items_at vs xs) r e) ∙ other in cc)
@@ -232,12 +231,12 @@ not-true : (b : Bool) → not b ≡ true → b ≡ false
 not-true true h = absurd cc
 not-true false h = refl
 
-pub save-has : (Q : Tables → Type 0) (n : ℕ) (s : Stage) → Goes Q code.Save n s → HasHeld s.stack
+pub save-has : (Q : Known) (n : ℕ) (s : Stage) → Goes Q code.Save n s → HasHeld s.stack
 unfolding proof_row
 save-has Q n s (tables, params, st, q, made, row) =
     from_bind (pop (items_at (values_in s) s.stack)) _ st row λ x popping e1.
     from_need (not (is_obligation x.0)) k.SaveKind _ st e1 λ other e2.
-    held-top (values_in s) s.stack x made.1 popping (not-true (is_obligation x.0) other)
+    held-top tables (values_in s) s.stack x made.1 popping (not-true (is_obligation x.0) other)
 
 -- ---- Ref
 
@@ -260,7 +259,7 @@ want-is : {A B : Type 0} (o : Option A) (rule : K) (f : A → Result B K) (x : A
 want-is o rule f x is = rw is refl
 
 module _ (n : ℕ) (s : Stage) where
-  pub ref-has : (Q : Tables → Type 0) → Goes Q code.Ref n s → (x : Item) × (slice_get s.heap n ≡ Some x)
+  pub ref-has : (Q : Known) → Goes Q code.Ref n s → (x : Item) × (slice_get s.heap n ≡ Some x)
   unfolding proof_row
   ref-has Q (tables, params, st, q, made, row) =
       from_want (slice_get (map (item_at (values_in s)) s.heap) n) k.HeapIndex _ st row λ y at e1.
@@ -290,18 +289,18 @@ module _ (n : ℕ) (s : Stage) where
   )
 
   module _ (a b c : ℕ) (at : slice_get s.heap n ≡ Some (ConversionItem a b c)) where
-    pub ref-owed : (Q : Tables → Type 0) → Goes Q code.Ref n s → HasOwed s.stack
+    pub ref-owed : (Q : Known) → Goes Q code.Ref n s → HasOwed s.stack
     ref-owed Q (tables, params, st, q, made, row) =
         from_bind (pop_obligation (items_at (values_in s) s.stack)) _ st (sym (item-row (ConversionItem a b c) at tables params) ∙ row) λ o popping e1.
-        let (l, r, ys, is, of) = owed-top (values_in s) s.stack o made.1 popping in (l, r, ys, is)
+        let (l, r, ys, is, of) = owed-top tables (values_in s) s.stack o made.1 popping in (l, r, ys, is)
 
     module _ (l r : ℕ) (xs : List Entry) (top : s.stack ≡ Owed l r ∷ xs) where
       below-made : (tables : Tables) (params : List Binder) → IsMade tables params s → IsMadeBelow tables params (with_stack s xs) × IsConversion (values_in s) c
       below-made tables params made =
-          let h = subst (IsStack (values_in s)) top made.1 in
+          let h = subst (IsStack tables (values_in s)) top made.1 in
           ((held-of tables params s s.stack xs made.0, h.2), (item-in (values_in s) s.heap n (ConversionItem a b c) made.0.heap at).2)
 
-      pub ref-may : (Q : Tables → Type 0) → Goes Q code.Ref n s → MayPay (with_stack s xs) c
+      pub ref-may : (Q : Known) → Goes Q code.Ref n s → MayPay (with_stack s xs) c
       ref-may Q (tables, params, st, q, made, row) = let (below, is) = below-made tables params made in (tables, params, below, is)
 
       pub ref_conversion-leads : (s' : Stage) → Pays (with_stack s xs) c s' → Leads IsAny code.Ref n s s'

@@ -6,6 +6,9 @@ pub mod Tops
 pub mod Paying
 pub mod Moves
 pub mod Having
+pub mod Known
+pub mod Cited
+pub mod Claimed
 pub mod Growth
 pub mod Keeping
 pub mod Bodies
@@ -17,6 +20,8 @@ pub mod StreamsMet
 pub mod CitingTaken
 pub mod Citing
 pub mod UnfoldingSides
+pub mod Bodied
 pub mod UnfoldingBodies
 pub mod Dispatch
 pub mod Begun
+mod StatementAt

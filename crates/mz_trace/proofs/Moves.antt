@@ -10,15 +10,14 @@ use Rattle.mz_logic.specs.Conversions.{Conversion, refl_conv}
 use Rattle.mz_logic.specs.declared.binder.Binder.{Binder}
 use Rattle.mz_unification.specs.Profile.{strict}
 use Rattle.mz_unification.specs.Tests.{same_tree}
-use Rattle.mz_unification.proofs.Inverting.{from_bind, from_need, from_want, taken-is}
+use Rattle.mz_unification.proofs.Offered.{from_need, taken-is}
 use Rattle.mz_soundness.specs.Tables.{Tables, State}
-use Rattle.mz_soundness.specs.Premises.{pop_expr, pop_proof, pop_obligation, pop_conversion}
 use Rattle.mz_soundness.specs.ProofMachine.{proof_row}
 use Rattle.mz_tracing.specs.Parts.{paid}
 use Rattle.mz_tracing.specs.Traces.{Trace, stacked, traced}
-use Rattle.mz_trace.specs.Nodes.{Value, a_conversion, expression_at, conversion_at, value_of, HasParts, IsExpression, IsConversion}
-use Rattle.mz_trace.specs.Entries.{item_at, part_at, AreItems, items_at, parts_at, IsStack, IsWaiting}
-use Rattle.mz_trace.specs.Commands.{Stage, with_node, with_stack, with_kept, values_in, state_of, trace_of, IsHeld, IsMade, IsMadeBelow, IsAny, Goes, Leads, MayPay, IsPaid, Pays}
+use Rattle.mz_trace.specs.Nodes.{Value, a_conversion, expression_at, conversion_at, value_of, HasParts, IsConversion}
+use Rattle.mz_trace.specs.Entries.{item_at, part_at, AreItems, parts_at, IsWaiting}
+use Rattle.mz_trace.specs.Commands.{Stage, with_node, with_stack, with_kept, values_in, state_of, trace_of, IsHeld, IsMade, IsMadeBelow, Known, IsAny, Goes, Leads, MayPay, Pays}
 use Rattle.mz_trace.specs.declared.node.RunNode.{RunNode}
 use Rattle.mz_trace.specs.declared.node.RunNode.TheVariants as node
 use Rattle.mz_trace.specs.declared.entry.Item.{Item}
@@ -26,10 +25,9 @@ use Rattle.mz_trace.specs.declared.entry.Item.TheVariants.{Expr, Proof, Conversi
 use Rattle.mz_trace.specs.declared.entry.Entry.{Entry}
 use Rattle.mz_trace.specs.declared.entry.Entry.TheVariants.{Held, Owed, ForProof, ForTurned, ForCut}
 use Rattle.mz_trace.proofs.Stages.{held-of, state-below, trace-below, held-still, waiting-still, conversion-added}
-use Rattle.mz_trace.proofs.Tops.{expr-top, proof-top, owed-top, conversion-top}
 
 -- a stage whose stack is known
-pub leads-to : (Q : Tables → Type 0) (c : ProofCode) (n : ℕ) (s : Stage) (b : List Entry) (s' t : Stage) → s.stack ≡ b → s' ≡ t → Leads Q c n (with_stack s b) t → Leads Q c n s s'
+pub leads-to : (Q : Known) (c : ProofCode) (n : ℕ) (s : Stage) (b : List Entry) (s' t : Stage) → s.stack ≡ b → s' ≡ t → Leads Q c n (with_stack s b) t → Leads Q c n s s'
 leads-to Q c n s b s' t h h' go = subst (λ z. Leads Q c n (with_stack s z) s') (sym h) (subst (λ z. Leads Q c n (with_stack s b) z) (sym h') go)
 
 -- ---- moves
@@ -82,7 +80,7 @@ paying c n s t k s' pays first tables params st q made row =
 
 -- a node for the conversion
 module _ (tables : Tables) (params : List Binder) (s : Stage) (n : RunNode) (d : Conversion) where
-  with-conversion : IsHeld tables params s → HasParts tables (values_in s) n → IsWaiting (values_in s) s.stack → value_of (values_in s) n ≡ a_conversion d
+  with-conversion : IsHeld tables params s → HasParts tables (values_in s) n → IsWaiting tables (values_in s) s.stack → value_of (values_in s) n ≡ a_conversion d
       → IsMadeBelow tables params (with_node s n) × IsConversion (values_in (with_node s n)) (length s.nodes) × (state_of params (with_node s n) ≡ state_of params s)
       × (stacked (trace_of (with_node s n)) (paid (conversion_at (values_in (with_node s n)) (length s.nodes)) (trace_of (with_node s n)).stack) ≡ stacked (trace_of s) (paid d (trace_of s).stack))
   with-conversion held parts w value =

@@ -1,23 +1,23 @@
 -- A conversion goes into what waits for it.
-use Rattle.std.proofs.Common.{Vec, Global, ◌≡◌, ◌<◌, ℕ, suc, ◌+◌, List, [], ◌∷◌, ◌++◌, length, map, refl, sym, ap, ◌∙◌, subst, arith, length-append}
+use Rattle.std.proofs.Common.{Vec, Global, ◌≡◌, ◌<◌, ℕ, suc, List, [], ◌∷◌, ◌++◌, length, map, refl, sym, ap, ◌∙◌, subst, arith, length-append}
 use Rattle.std.specs.Prelude.{reverse}
 use Rattle.std.proofs.lemmas.List.{reverse-append}
-use Rattle.mz_logic.specs.Conversions.{Conversion, Conversions, sym_conv, cong_conv, unfold_conv, no_convs, more_convs}
+use Rattle.mz_logic.specs.Conversions.{Conversion, sym_conv, cong_conv, unfold_conv, more_convs}
 use Rattle.mz_logic.specs.declared.binder.Binder.{Binder}
 use Rattle.mz_mmu.specs.Proof.{by_conv}
 use Rattle.mz_unification.specs.Spells.{trees_of}
 use Rattle.mz_soundness.specs.Tables.{Tables}
-use Rattle.mz_tracing.specs.Parts.{Part, then_conv, paid, for_operand, owed, proved}
+use Rattle.mz_tracing.specs.Parts.{Part, then_conv, paid, for_operand, owed}
 use Rattle.mz_tracing.specs.Traces.{Trace, stacked}
-use Rattle.mz_trace.specs.Nodes.{Value, a_conversion, a_proof, expression_at, expressions_at, conversion_at, conversions_at, proof_at, value_of, HasParts, IsConversion, AreConversions, IsProof}
+use Rattle.mz_trace.specs.Nodes.{Value, a_conversion, expression_at, expressions_at, conversion_at, conversions_at, proof_at, value_of, HasParts, IsConversion, AreConversions}
 use Rattle.mz_trace.specs.Entries.{owed_at, items_at, parts_at, ArePairs, IsStack, IsWaiting}
-use Rattle.mz_trace.specs.Commands.{Stage, with_node, with_stack, values_in, context_of, state_of, trace_of, IsHeld, IsMade, IsMadeBelow, MayPay, IsPaid, Pays, IsPassedOn, PassesOn}
+use Rattle.mz_trace.specs.Commands.{Stage, with_node, with_stack, values_in, context_of, state_of, trace_of, IsHeld, IsMadeBelow, MayPay, IsPaid, Pays, IsPassedOn, PassesOn}
 use Rattle.mz_trace.specs.declared.node.RunNode.{RunNode}
 use Rattle.mz_trace.specs.declared.node.RunNode.TheVariants as node
 use Rattle.mz_trace.specs.declared.entry.Item.TheVariants.{Proof, Conversion as ConversionItem}
 use Rattle.mz_trace.specs.declared.entry.Entry.{Entry}
 use Rattle.mz_trace.specs.declared.entry.Entry.TheVariants.{Held, Owed, ForProof, ForTurned, ForOperand, ForUnfolded, ForCut}
-use Rattle.mz_trace.proofs.Stages.{same-expression-still, alike, alike-trace, held-of, state-below, trace-below, state-same, trace-same, held-still, waiting-still, stack-still, expression-still, conversion-added, proof-added, heap-still, heap_parts-still, items-still, hyps-still, parts-still, lets-still}
+use Rattle.mz_trace.proofs.Stages.{same-expression-still, alike, alike-trace, held-of, state-below, trace-below, held-still, waiting-still, stack-still, expression-still, conversion-added, proof-added, heap-still, heap_parts-still, items-still, hyps-still, parts-still, lets-still}
 
 abbrev atop : Trace → Part → List Part → Trace
 atop tr x xs = stacked tr (x ∷ xs)
@@ -26,7 +26,7 @@ atop tr x xs = stacked tr (x ∷ xs)
 
 module _ (tables : Tables) (params : List Binder) (s : Stage) (xs : List Entry) (x : Entry) (c : ℕ) (n : RunNode) where
   -- the entry stands for no items, and the node's conversion is what is paid below it
-  pub passed : IsHeld tables params (with_stack s xs) → HasParts tables (values_in s) n → IsWaiting (values_in s) xs
+  pub passed : IsHeld tables params (with_stack s xs) → HasParts tables (values_in s) n → IsWaiting tables (values_in s) xs
       → items_at (values_in s) (x ∷ xs) ≡ items_at (values_in s) xs
       → (d : Conversion) → value_of (values_in s) n ≡ a_conversion d → paid (conversion_at (values_in s) c) (parts_at (values_in s) (x ∷ xs)) ≡ paid d (parts_at (values_in s) xs)
       → IsPassedOn tables params (with_stack s (x ∷ xs)) c (with_node (with_stack s xs) n) (length s.nodes)
@@ -78,7 +78,7 @@ module _ (tables : Tables) (params : List Binder) (s : Stage) (xs : List Entry) 
       let below = with_stack s xs in
       let held = held-of tables params s (ForProof e p ∷ xs) xs made.0 in
       let parts : HasParts tables (values_in s) n = (made.1.0, is, made.1.1) in
-      let w : IsStack (values_in s) xs = made.1.2 in
+      let w : IsStack tables (values_in s) xs = made.1.2 in
       let (there, at) = proof-added tables params below n held parts (by_conv (expression_at (values_in s) e) (conversion_at (values_in s) c) (proof_at (values_in s) p)) refl in
       let still = expression-still tables params below n held parts e made.1.0 in
       record {
@@ -101,7 +101,7 @@ module _ (tables : Tables) (params : List Binder) (s : Stage) (xs : List Entry) 
 module _ (s : Stage) (xs : List Entry) (c t : ℕ) where
   pub through-unfolded : (e : ℕ) (es ys : Vec ℕ Global) → PassesOn (with_stack s (ForUnfolded t e es ys ∷ xs)) c (with_node (with_stack s xs) (node.Unfold t e es ys c)) (length s.nodes)
   through-unfolded e es ys tables params made is =
-      passed tables params s xs (ForUnfolded t e es ys) c (node.Unfold t e es ys c) (held-of tables params s (ForUnfolded t e es ys ∷ xs) xs made.0) (made.1.0, made.1.1, is) made.1.2 refl
+      passed tables params s xs (ForUnfolded t e es ys) c (node.Unfold t e es ys c) (held-of tables params s (ForUnfolded t e es ys ∷ xs) xs made.0) (made.1.0, made.1.1, is, made.1.2) made.1.3 refl
       (unfold_conv t (trees_of (expressions_at (values_in s) es.items)) ys.items (conversion_at (values_in s) c)) refl refl
 
   module _ (done more : Vec ℕ Global) (longer : more.items ≡ done.items ++ c ∷ []) where

@@ -1,5 +1,5 @@
 -- Expressions and proofs taken from the top, one after another.
-use Rattle.std.proofs.Common.{◌≡◌, ◌<◌, ℕ, suc, ◌+◌, List, [], ◌∷◌, ◌++◌, length, map, refl, sym, ap, ◌∙◌, arith}
+use Rattle.std.proofs.Common.{◌≡◌, ◌<◌, ℕ, ◌+◌, List, [], ◌∷◌, ◌++◌, length, map, refl, sym, ap, ◌∙◌, arith}
 use Rattle.std.proofs.lemmas.List.{map-append}
 use Rattle.mz_trace.specs.Entries.{HasExpr, HasProof, exprs_onto, proofs_onto}
 use Rattle.mz_trace.specs.declared.entry.Item.TheVariants.{Expr, Proof}

@@ -9,13 +9,12 @@ use Rattle.mz_unification.specs.Profile.{Item as MachineItem}
 use Rattle.mz_soundness.specs.Tables.{Tables, State}
 use Rattle.mz_tracing.specs.Parts.{Part}
 use Rattle.mz_tracing.specs.Traces.{Trace}
-use Rattle.mz_trace.specs.Nodes.{Value, an_expression, a_conversion, a_proof, expression_of, conversion_of, proof_of, expression_at, conversion_at, proof_at, expressions_at, value_of, values, HasParts, HaveParts, IsExpression, IsConversion, IsProof, AreExpressions, AreProofs}
-use Rattle.mz_trace.specs.Entries.{item_at, part_at, items_at, parts_at, AreItems, IsItem, IsStack, IsWaiting}
+use Rattle.mz_trace.specs.Nodes.{Value, an_expression, a_conversion, a_proof, expression_of, conversion_of, proof_of, expression_at, conversion_at, proof_at, expressions_at, value_of, HasParts, IsExpression, IsConversion, IsProof, AreExpressions, AreProofs}
+use Rattle.mz_trace.specs.Entries.{item_at, part_at, items_at, parts_at, AreItems, IsStack, IsWaiting}
 use Rattle.mz_trace.specs.Commands.{Stage, with_node, with_stack, values_in, context_of, state_of, trace_of, IsHeld}
 use Rattle.mz_trace.specs.declared.node.RunNode.{RunNode}
-use Rattle.mz_trace.specs.declared.entry.Item.{Item}
 use Rattle.mz_trace.specs.declared.entry.Entry.{Entry}
-use Rattle.mz_trace.proofs.Growing.{grown-expression, same-expression, grown-conversion, grown-proof, same-proof, grown-expressions, grown-proofs, same-expressions, same-named, grown-heap, same-heap, same-heap_parts, grown-stack, grown-waiting, same-items, same-items_below, same-parts, same-parts_below}
+use Rattle.mz_trace.proofs.Growing.{grown-expression, same-expression, grown-proof, same-proof, grown-expressions, grown-proofs, same-expressions, same-named, grown-heap, same-heap, same-heap_parts, grown-stack, grown-waiting, same-items, same-items_below, same-parts, same-parts_below}
 use Rattle.mz_trace.proofs.Adding.{after-push, parts-push, new-value}
 
 -- ---- states and traces field by field
@@ -62,11 +61,11 @@ module _ (tables : Tables) (params : List Binder) (s : Stage) (n : RunNode) (hel
   pub same-proof-still : (k : ℕ) → IsProof before k → proof_at after k ≡ proof_at before k
   same-proof-still k h = subst (λ vs. proof_at vs k ≡ proof_at before k) (sym grows) (same-proof before (new ∷ []) k h)
 
-  pub stack-still : (xs : List Entry) → IsStack before xs → IsStack after xs
-  stack-still xs h = subst (λ vs. IsStack vs xs) (sym grows) (grown-stack before (new ∷ []) xs h)
+  pub stack-still : (xs : List Entry) → IsStack tables before xs → IsStack tables after xs
+  stack-still xs h = subst (λ vs. IsStack tables vs xs) (sym grows) (grown-stack tables before (new ∷ []) xs h)
 
-  pub waiting-still : (xs : List Entry) → IsWaiting before xs → IsWaiting after xs
-  waiting-still xs h = subst (λ vs. IsWaiting vs xs) (sym grows) (grown-waiting before (new ∷ []) xs h)
+  pub waiting-still : (xs : List Entry) → IsWaiting tables before xs → IsWaiting tables after xs
+  waiting-still xs h = subst (λ vs. IsWaiting tables vs xs) (sym grows) (grown-waiting tables before (new ∷ []) xs h)
 
   pub held-still : IsHeld tables params (with_node s n)
   held-still = record {
@@ -89,17 +88,17 @@ module _ (tables : Tables) (params : List Binder) (s : Stage) (n : RunNode) (hel
   pub lets-still : map (proof_at after) s.lets ≡ map (proof_at before) s.lets
   lets-still = subst (λ vs. map (proof_at vs) s.lets ≡ map (proof_at before) s.lets) (sym grows) (same-named before (new ∷ []) s.lets held.lets)
 
-  pub items-still : (xs : List Entry) → IsStack before xs → items_at after xs ≡ items_at before xs
-  items-still xs h = subst (λ vs. items_at vs xs ≡ items_at before xs) (sym grows) (same-items before (new ∷ []) xs h)
+  pub items-still : (xs : List Entry) → IsStack tables before xs → items_at after xs ≡ items_at before xs
+  items-still xs h = subst (λ vs. items_at vs xs ≡ items_at before xs) (sym grows) (same-items tables before (new ∷ []) xs h)
 
-  pub items_below-still : (xs : List Entry) → IsWaiting before xs → items_at after xs ≡ items_at before xs
-  items_below-still xs h = subst (λ vs. items_at vs xs ≡ items_at before xs) (sym grows) (same-items_below before (new ∷ []) xs h)
+  pub items_below-still : (xs : List Entry) → IsWaiting tables before xs → items_at after xs ≡ items_at before xs
+  items_below-still xs h = subst (λ vs. items_at vs xs ≡ items_at before xs) (sym grows) (same-items_below tables before (new ∷ []) xs h)
 
-  pub parts-still : (xs : List Entry) → IsStack before xs → parts_at after xs ≡ parts_at before xs
-  parts-still xs h = subst (λ vs. parts_at vs xs ≡ parts_at before xs) (sym grows) (same-parts before (new ∷ []) xs h)
+  pub parts-still : (xs : List Entry) → IsStack tables before xs → parts_at after xs ≡ parts_at before xs
+  parts-still xs h = subst (λ vs. parts_at vs xs ≡ parts_at before xs) (sym grows) (same-parts tables before (new ∷ []) xs h)
 
-  pub parts_below-still : (xs : List Entry) → IsWaiting before xs → parts_at after xs ≡ parts_at before xs
-  parts_below-still xs h = subst (λ vs. parts_at vs xs ≡ parts_at before xs) (sym grows) (same-parts_below before (new ∷ []) xs h)
+  pub parts_below-still : (xs : List Entry) → IsWaiting tables before xs → parts_at after xs ≡ parts_at before xs
+  parts_below-still xs h = subst (λ vs. parts_at vs xs ≡ parts_at before xs) (sym grows) (same-parts_below tables before (new ∷ []) xs h)
 
   -- ---- the new one, by its kind
 
@@ -118,14 +117,14 @@ abbrev pub held-of : (tables : Tables) (params : List Binder) (s : Stage) (xs ys
 held-of tables params s xs ys h = record { nodes = h.nodes; heap = h.heap; hyps = h.hyps; lets = h.lets; variables = h.variables }
 
 module _ (tables : Tables) (params : List Binder) (s : Stage) (n : RunNode) (held : IsHeld tables params s) (parts : HasParts tables (values_in s) n) where
-  pub state-below : IsWaiting (values_in s) s.stack → state_of params (with_node s n) ≡ state_of params s
+  pub state-below : IsWaiting tables (values_in s) s.stack → state_of params (with_node s n) ≡ state_of params s
   state-below w = alike (context_of params s) (heap-still tables params s n held parts) (items_below-still tables params s n held parts s.stack w) (hyps-still tables params s n held parts)
 
-  pub trace-below : IsWaiting (values_in s) s.stack → trace_of (with_node s n) ≡ trace_of s
+  pub trace-below : IsWaiting tables (values_in s) s.stack → trace_of (with_node s n) ≡ trace_of s
   trace-below w = alike-trace (heap_parts-still tables params s n held parts) (parts_below-still tables params s n held parts s.stack w) (lets-still tables params s n held parts)
 
-  pub state-same : IsStack (values_in s) s.stack → state_of params (with_node s n) ≡ state_of params s
+  pub state-same : IsStack tables (values_in s) s.stack → state_of params (with_node s n) ≡ state_of params s
   state-same w = alike (context_of params s) (heap-still tables params s n held parts) (items-still tables params s n held parts s.stack w) (hyps-still tables params s n held parts)
 
-  pub trace-same : IsStack (values_in s) s.stack → trace_of (with_node s n) ≡ trace_of s
+  pub trace-same : IsStack tables (values_in s) s.stack → trace_of (with_node s n) ≡ trace_of s
   trace-same w = alike-trace (heap_parts-still tables params s n held parts) (parts-still tables params s n held parts s.stack w) (lets-still tables params s n held parts)

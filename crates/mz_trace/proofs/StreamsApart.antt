@@ -14,9 +14,7 @@ use Rattle.mz_unification.specs.Spells.{trees_of}
 use Rattle.mz_unification.specs.Streams.{u_term, u_term_save, u_ref, u_dummy}
 use Rattle.mz_unification.specs.Tests.{same_tree, is_bound_var}
 use Rattle.mz_unification.specs.UnifyMachine.{in_definition, UnifyState, top_target, operands_of, within_any, is_fresh, unify_row}
-use Rattle.mz_unification.proofs.Inverting.{from_bind, from_need, from_want, some_is, taken-is, both-true}
-use Rattle.mz_unification.proofs.Matching.{top-is}
-use Rattle.mz_unification.proofs.Trees.{apart-is, listed-trees_of}
+use Rattle.mz_unification.proofs.Offered.{from_bind, from_need, from_want, some_is, taken-is, both-true, top-is, apart-is, listed-trees_of}
 use Rattle.mz_soundness.specs.Tables.{Tables}
 use Rattle.mz_tracing.specs.Traces.{variable_in, variables_in}
 use Rattle.mz_trace.specs.Nodes.{Value, an_expression, expression_of, expression_at, expressions_at, value_of, values, IsExpression, AreExpressions, HaveParts, IsApplication, Applies, IsVariable, IsVariableAt}

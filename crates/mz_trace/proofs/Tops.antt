@@ -1,5 +1,5 @@
 -- What stands on top where the machine takes something.
-use Rattle.std.proofs.Common.{◌≡◌, ℕ, zero, suc, ◌+◌, List, [], ◌∷◌, ◌++◌, Ok, Result, length, map, refl, sym, ap, ◌∙◌, subst, arith, inl, inr}
+use Rattle.std.proofs.Common.{◌≡◌, ℕ, zero, suc, List, [], ◌∷◌, ◌++◌, Ok, Result, length, map, refl, sym, ap, ◌∙◌, subst, inl, inr}
 use Rattle.std.specs.Prelude.{reverse, drop}
 use Rattle.std.proofs.lemmas.List.{reverse-append, map-append, append_assoc, length-reverse, reverse-reverse}
 use Rattle.mz_cmd.specs.declared.rule.K.{K}
@@ -9,17 +9,21 @@ use Rattle.mz_mmu.specs.Proof.{Proofs, no_proofs, more_proofs}
 use Rattle.mz_unification.specs.Profile.{strict}
 use Rattle.mz_unification.specs.Profile.{Item as MachineItem}
 use Rattle.mz_unification.specs.Tests.{same_tree}
-use Rattle.mz_unification.proofs.Inverting.{from_bind, from_need, taken-is}
+use Rattle.mz_unification.proofs.Offered.{from_bind, from_need, taken-is}
+use Rattle.mz_soundness.specs.Tables.{Tables}
 use Rattle.mz_soundness.specs.Premises.{pop_expr, pop_proof, pop_obligation, pop_conversion, pop_sides, pop_exprs}
-use Rattle.mz_tracing.specs.Parts.{Part, proofs_above}
-use Rattle.mz_trace.specs.Nodes.{Value, expression_at, expressions_at, proof_at, proofs_at, IsExpression, AreExpressions, IsProof, AreProofs}
+use Rattle.mz_tracing.specs.Parts.{proofs_above}
+use Rattle.mz_trace.specs.Nodes.{Value, expression_at, expressions_at, proof_at, proofs_at, AreExpressions, AreProofs}
 use Rattle.mz_trace.specs.Entries.{items_at, parts_at, IsStack, exprs_onto, proofs_onto, HasExprs, TookSides}
 use Rattle.mz_trace.specs.declared.entry.Item.TheVariants.{Expr, Proof, Conversion}
 use Rattle.mz_trace.specs.declared.entry.Entry.{Entry}
 use Rattle.mz_trace.specs.declared.entry.Entry.TheVariants.{Held, Owed, ForProof, ForTurned, ForOperand, ForUnfolded, ForCut}
 
-module _ (vs : List Value) where
-  pub expr-top : (xs : List Entry) (r : Tree × List (MachineItem Tree)) → IsStack vs xs → pop_expr (items_at vs xs) ≡ Ok r
+abbrev pub second : ℕ × ℕ → ℕ
+second p = p.1
+
+module _ (tables : Tables) (vs : List Value) where
+  pub expr-top : (xs : List Entry) (r : Tree × List (MachineItem Tree)) → IsStack tables vs xs → pop_expr (items_at vs xs) ≡ Ok r
       → (n : ℕ) × (ys : List Entry) × (xs ≡ Held (Expr n) ∷ ys) × (r ≡ (expression_at vs n, items_at vs ys))
   expr-top [] r h e = absurd cc
   expr-top (Held (Expr n) ∷ xs) r h e = (n, xs, refl, sym (taken-is (expression_at vs n, items_at vs xs) r e))
@@ -32,7 +36,7 @@ module _ (vs : List Value) where
   expr-top (ForUnfolded t a es ys ∷ xs) r h e = absurd h
   expr-top (ForCut a b ∷ xs) r h e = absurd h
 
-  pub proof-top : (xs : List Entry) (r : Tree × List (MachineItem Tree)) → IsStack vs xs → pop_proof (items_at vs xs) ≡ Ok r
+  pub proof-top : (xs : List Entry) (r : Tree × List (MachineItem Tree)) → IsStack tables vs xs → pop_proof (items_at vs xs) ≡ Ok r
       → (n p : ℕ) × (ys : List Entry) × (xs ≡ Held (Proof n p) ∷ ys) × (r ≡ (expression_at vs n, items_at vs ys))
   proof-top [] r h e = absurd cc
   proof-top (Held (Expr n) ∷ xs) r h e = absurd cc
@@ -45,7 +49,7 @@ module _ (vs : List Value) where
   proof-top (ForUnfolded t a es ys ∷ xs) r h e = absurd h
   proof-top (ForCut a b ∷ xs) r h e = absurd h
 
-  pub owed-top : (xs : List Entry) (r : Tree × Tree × List (MachineItem Tree)) → IsStack vs xs → pop_obligation (items_at vs xs) ≡ Ok r
+  pub owed-top : (xs : List Entry) (r : Tree × Tree × List (MachineItem Tree)) → IsStack tables vs xs → pop_obligation (items_at vs xs) ≡ Ok r
       → (a b : ℕ) × (ys : List Entry) × (xs ≡ Owed a b ∷ ys) × (r ≡ (expression_at vs a, expression_at vs b, items_at vs ys))
   owed-top [] r h e = absurd cc
   owed-top (Held (Expr n) ∷ xs) r h e = absurd cc
@@ -58,7 +62,7 @@ module _ (vs : List Value) where
   owed-top (ForUnfolded t a es ys ∷ xs) r h e = absurd h
   owed-top (ForCut a b ∷ xs) r h e = absurd h
 
-  pub conversion-top : (xs : List Entry) (r : Tree × Tree × List (MachineItem Tree)) → IsStack vs xs → pop_conversion (items_at vs xs) ≡ Ok r
+  pub conversion-top : (xs : List Entry) (r : Tree × Tree × List (MachineItem Tree)) → IsStack tables vs xs → pop_conversion (items_at vs xs) ≡ Ok r
       → (a b c : ℕ) × (ys : List Entry) × (xs ≡ Held (Conversion a b c) ∷ ys) × (r ≡ (expression_at vs a, expression_at vs b, items_at vs ys))
   conversion-top [] r h e = absurd cc
   conversion-top (Held (Expr n) ∷ xs) r h e = absurd cc
@@ -71,7 +75,7 @@ module _ (vs : List Value) where
   conversion-top (ForUnfolded t a es ys ∷ xs) r h e = absurd h
   conversion-top (ForCut a b ∷ xs) r h e = absurd h
 
-  pub sides-top : (xs : List Entry) (r : Tree × Tree × List (MachineItem Tree)) → IsStack vs xs → pop_sides strict (items_at vs xs) ≡ Ok r
+  pub sides-top : (xs : List Entry) (r : Tree × Tree × List (MachineItem Tree)) → IsStack tables vs xs → pop_sides strict (items_at vs xs) ≡ Ok r
       → (a b : ℕ) × (ys : List Entry) × TookSides xs a b ys × (r ≡ (expression_at vs a, expression_at vs b, items_at vs ys))
   sides-top [] r h e = absurd cc
   sides-top (Held (Expr n) ∷ xs) r h e =
@@ -88,9 +92,7 @@ module _ (vs : List Value) where
   sides-top (ForUnfolded t a es ys ∷ xs) r h e = absurd h
   sides-top (ForCut a b ∷ xs) r h e = absurd h
 
-  -- ---- expressions one after another
-
-  pub has-exprs : (n : ℕ) (xs : List Entry) (acc : List Tree) (r : List Tree × List (MachineItem Tree)) → IsStack vs xs → pop_exprs n (items_at vs xs) acc ≡ Ok r → HasExprs n xs
+  pub has-exprs : (n : ℕ) (xs : List Entry) (acc : List Tree) (r : List Tree × List (MachineItem Tree)) → IsStack tables vs xs → pop_exprs n (items_at vs xs) acc ≡ Ok r → HasExprs n xs
   has-exprs zero xs acc r h e = ([], xs, refl, refl)
   has-exprs (suc n) [] acc r h e = absurd cc
   has-exprs (suc n) (Held (Expr m) ∷ xs) acc r h e = let (ns, ys, is, many) = has-exprs n xs (expression_at vs m ∷ acc) r h.1 e in (m ∷ ns, ys, ap (λ zs. Held (Expr m) ∷ zs) is, ap suc many)
@@ -103,10 +105,17 @@ module _ (vs : List Value) where
   has-exprs (suc n) (ForUnfolded t a es ys ∷ xs) acc r h e = absurd h
   has-exprs (suc n) (ForCut a b ∷ xs) acc r h e = absurd h
 
-  pub exprs-below : (ns : List ℕ) (ys : List Entry) → IsStack vs (exprs_onto ns ys) → AreExpressions vs ns × IsStack vs ys
+  pub exprs-below : (ns : List ℕ) (ys : List Entry) → IsStack tables vs (exprs_onto ns ys) → AreExpressions vs ns × IsStack tables vs ys
   exprs-below [] ys h = (tt, h)
   exprs-below (n ∷ ns) ys h = let (es, rest) = exprs-below ns ys h.1 in ((h.0, es), rest)
 
+  pub proofs-below : (ps : List (ℕ × ℕ)) (ys : List Entry) → IsStack tables vs (proofs_onto ps ys) → AreProofs vs (map second ps) × IsStack tables vs ys
+  proofs-below [] ys h = (tt, h)
+  proofs-below (p ∷ ps) ys h = let (es, rest) = proofs-below ps ys h.1 in ((h.0.1, es), rest)
+
+-- ---- expressions one after another
+
+module _ (vs : List Value) where
   exprs-turn : (n : ℕ) (ns : List ℕ) (acc : List Tree) → expressions_at vs (reverse ns) ++ (expression_at vs n ∷ acc) ≡ expressions_at vs (reverse (n ∷ ns)) ++ acc
   exprs-turn n ns acc =
       sym (append_assoc (expressions_at vs (reverse ns)) (expression_at vs n ∷ []) acc)
@@ -146,13 +155,6 @@ module _ (vs : List Value) where
   unturned ns h = subst (AreExpressions vs) (reverse-reverse ns) (turned (reverse ns) h)
 
   -- ---- proofs one after another
-
-  abbrev pub second : ℕ × ℕ → ℕ
-  second p = p.1
-
-  pub proofs-below : (ps : List (ℕ × ℕ)) (ys : List Entry) → IsStack vs (proofs_onto ps ys) → AreProofs vs (map second ps) × IsStack vs ys
-  proofs-below [] ys h = (tt, h)
-  proofs-below (p ∷ ps) ys h = let (es, rest) = proofs-below ps ys h.1 in ((h.0.1, es), rest)
 
   pub drop-proofs : (ps : List (ℕ × ℕ)) (ys : List Entry) → drop (length ps) (parts_at vs (proofs_onto ps ys)) ≡ parts_at vs ys
   drop-proofs [] ys = refl

@@ -1,19 +1,16 @@
 -- What is left of a unify stream that runs, command by command.
-use Rattle.std.proofs.Common.{Result, Option, ◌≡◌, ◌⊎◌, inl, inr, ℕ, zero, suc, ◌+◌, Bool, true, false, List, [], ◌∷◌, drop, length, Some, None, Ok, Err, refl, sym, ap, ◌∙◌, subst, arith}
-use Rattle.std.specs.Prelude.{◌==◌, ◌&&◌}
+use Rattle.std.proofs.Common.{Result, Option, ◌≡◌, ◌⊎◌, inl, inr, ℕ, zero, suc, ◌+◌, List, drop, Some, None, Ok, Err, refl, ap, ◌∙◌}
 use Rattle.mz_cmd.specs.declared.rule.K.{K}
-use Rattle.mz_cmd.specs.declared.rule.K.TheVariants as k
 use Rattle.mz_cmd.specs.declared.command.Cmd.{Cmd}
 use Rattle.mz_cmd.specs.declared.command.CmdFault.{CmdFault}
 use Rattle.mz_cmd.specs.Reading.{first_command}
 use Rattle.mz_logic.specs.Tree.{Tree}
 use Rattle.mz_logic.specs.Signature.{Signature}
 use Rattle.mz_logic.specs.declared.binder.Binder.{Binder}
-use Rattle.mz_unification.specs.Steps.{◌>>=◌, ◌>>◌, need, want, at_place, Turn, over, goes_on, follow}
+use Rattle.mz_unification.specs.Steps.{◌>>=◌, at_place, over, goes_on, follow}
 use Rattle.mz_unification.specs.Streams.{UnifyCommand, u_term, u_term_save, u_ref, u_dummy, u_hyp, u_end, IsEnd, unify_command}
 use Rattle.mz_unification.specs.Profile.{strict}
-use Rattle.mz_unification.specs.UnifyMachine.{UnifyMode, in_citation, at_end, in_definition, kind_of, UnifyState, unify_row, unify_turn_by, unify_turn, unify_from, is_empty, next_hypothesis, top_target, operands_of, proved_by}
-use Rattle.mz_unification.proofs.Inverting.{from_bind, from_need, from_want, taken-is}
+use Rattle.mz_unification.specs.UnifyMachine.{UnifyMode, kind_of, UnifyState, unify_row, unify_turn_by, unify_turn, unify_from}
 
 abbrev left : UnifyState Tree → Result (UnifyState Tree) K
 left z = Ok z

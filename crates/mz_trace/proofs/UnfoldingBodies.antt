@@ -5,27 +5,31 @@ use Rattle.mz_cmd.specs.declared.rule.K.{K}
 use Rattle.mz_cmd.specs.declared.rule.K.TheVariants as k
 use Rattle.mz_cmd.specs.declared.code.ProofCode.TheVariants as code
 use Rattle.mz_layout.specs.Tables.{term_row, term_count}
-use Rattle.mz_logic.specs.Tree.{Tree, Trees, var, app, listed}
+use Rattle.mz_logic.specs.Tree.{Tree, Trees, var, app, listed, instance, followed_by, variables}
+use Rattle.mz_logic.specs.Signature.{Signature}
+use Rattle.mz_logic.specs.Declaration.{signatures}
 use Rattle.mz_logic.specs.declared.binder.Binder.{Binder}
+use Rattle.mz_type.specs.Sides.{term_at, body_tree}
 use Rattle.mz_unification.specs.Profile.{strict, tree_parts, obligation}
 use Rattle.mz_unification.specs.Profile.{Item as MachineItem}
 use Rattle.mz_unification.specs.Spells.{TermRow, trees_of}
 use Rattle.mz_unification.specs.Steps.{◌>>=◌, want}
+use Rattle.mz_unification.specs.Sorted.{Sorted, ItemsSorted}
 use Rattle.mz_unification.specs.Tests.{same_tree}
 use Rattle.mz_unification.specs.UnifyMachine.{Matching, UnifyState, unify}
-use Rattle.mz_unification.proofs.Inverting.{from_bind, from_need, from_want, taken-is, rule_of-ok}
-use Rattle.mz_unification.proofs.Trees.{trees_of-listed}
+use Rattle.mz_unification.proofs.Offered.{from_bind, from_need, from_want, taken-is, rule_of-ok, trees_of-listed}
 use Rattle.mz_soundness.specs.Tables.{Tables, State, signatures_in}
 use Rattle.mz_soundness.specs.Premises.{pop_expr, pop_sides}
 use Rattle.mz_soundness.specs.ProofMachine.{proof_row, unfolding_of, matched_by, stream_of}
 use Rattle.mz_tracing.specs.Parts.{owed, for_unfolded}
 use Rattle.mz_tracing.specs.Traces.{stacked, traced, below_sides, variables_in}
-use Rattle.mz_trace.specs.Nodes.{Value, an_expression, expression_of, expression_at, expressions_at, IsExpression, IsApplication, Applies}
+use Rattle.mz_trace.specs.Nodes.{Value, an_expression, expression_of, expression_at, expressions_at, IsExpression, body_under, IsBody, IsApplication, Applies}
 use Rattle.mz_trace.specs.Entries.{items_at, parts_at, IsStack, IsWaiting, HasSides, TookSides}
-use Rattle.mz_trace.specs.Commands.{Stage, with_stack, values_in, context_of, state_of, trace_of, IsMade, IsOfFile, Goes, Leads, in_body, MayMeet, Meets}
+use Rattle.mz_trace.specs.Commands.{Stage, with_stack, values_in, context_of, state_of, trace_of, IsMade, Known, IsRead, Goes, Leads, in_body, MayMeet, Meets}
 use Rattle.mz_trace.specs.declared.entry.Item.TheVariants.{Expr}
 use Rattle.mz_trace.specs.declared.entry.Entry.{Entry}
 use Rattle.mz_trace.specs.declared.entry.Entry.TheVariants.{Held, Owed, ForUnfolded}
+use Rattle.mz_trace.proofs.Bodied.{bodied}
 use Rattle.mz_trace.proofs.Adding.{IsApplicationOf, application-at}
 use Rattle.mz_trace.proofs.Growth.{term-there, term-stream}
 use Rattle.mz_trace.proofs.Stages.{held-of}
@@ -34,15 +38,15 @@ use Rattle.mz_trace.proofs.Moves.{taken-trace}
 
 -- ---- what stands there
 
-pub unfold-has : (Q : Tables → Type 0) (n : ℕ) (s : Stage) → Goes Q code.Unfold n s → (e : ℕ) × (ys : List Entry) × (s.stack ≡ Held (Expr e) ∷ ys) × HasSides ys
+pub unfold-has : (Q : Known) (n : ℕ) (s : Stage) → Goes Q code.Unfold n s → (e : ℕ) × (ys : List Entry) × (s.stack ≡ Held (Expr e) ∷ ys) × HasSides ys
 unfolding proof_row unfolding_of
 unfold-has Q n s (tables, params, st, q, made, row) =
     let vs = values_in s in
     from_bind (unfolding_of strict tables (state_of params s)) _ st row λ m making e1.
     from_bind (pop_expr (items_at vs s.stack)) _ m making λ a popping e2.
     from_bind (pop_sides strict a.1) _ m e2 λ o next e3.
-    let (e, ys, is, a-is) = expr-top vs s.stack a made.1 popping in
-    let (l, r, zs, took, o-is) = sides-top vs ys o (subst (IsStack vs) is made.1).1 (subst (λ (z : Tree × List (MachineItem Tree)). pop_sides strict z.1 ≡ Ok o) a-is next) in
+    let (e, ys, is, a-is) = expr-top tables vs s.stack a made.1 popping in
+    let (l, r, zs, took, o-is) = sides-top tables vs ys o (subst (IsStack tables vs) is made.1).1 (subst (λ (z : Tree × List (MachineItem Tree)). pop_sides strict z.1 ≡ Ok o) a-is next) in
     (e, ys, is, (l, r, zs, took))
 
 -- ---- the row
@@ -109,9 +113,13 @@ module _ (vs : List Value) (ys : List Entry) (l r : ℕ) (zs : List Entry) where
   parts-below (inl is) = rw is refl
   parts-below (inr (n, is)) = rw is refl
 
-  took-stack : TookSides ys l r zs → IsStack vs ys → IsExpression vs l × IsExpression vs r × IsWaiting vs zs
-  took-stack (inl is) h = subst (IsStack vs) is h
-  took-stack (inr (n, is)) h = (subst (IsStack vs) is h).1
+  took-stack : (tables : Tables) → TookSides ys l r zs → IsStack tables vs ys → IsExpression vs l × IsExpression vs r × IsWaiting tables vs zs
+  took-stack tables (inl is) h = subst (IsStack tables vs) is h
+  took-stack tables (inr (n, is)) h = (subst (IsStack tables vs) is h).1
+
+  took-sorted : (sigs : List Signature) (ctx : List Binder) → TookSides ys l r zs → ItemsSorted sigs ctx (items_at vs ys) → Sorted sigs ctx (expression_at vs l)
+  took-sorted sigs ctx (inl is) h = let (sides, rest) = subst (λ (z : List Entry). ItemsSorted sigs ctx (items_at vs z)) is h in sides.0
+  took-sorted sigs ctx (inr (n, is)) h = let (over, (sides, rest)) = subst (λ (z : List Entry). ItemsSorted sigs ctx (items_at vs z)) is h in sides.0
 
 -- ---- Unfold
 
@@ -154,7 +162,7 @@ module _ (n : ℕ) (s : Stage) (ys zs : List Entry) (e l r : ℕ) (took : TookSi
         matching = matching;
         popping = popping ∙ ap taken-sides o-is;
         state = sym (taken-is (state-with params (obligation m.0.target m.1 ∷ m.2)) st e2);
-        unfolds = unfolds-by tables vs e l r zs m (took-stack vs ys l r zs took made.1.1).0 (subst (λ z. steps-on tables vs e l r zs z ≡ Ok m) o-is e3);
+        unfolds = unfolds-by tables vs e l r zs m (took-stack vs ys l r zs tables took made.1.1).0 (subst (λ z. steps-on tables vs e l r zs z ≡ Ok m) o-is e3);
       }
 
   -- what it makes beside
@@ -172,7 +180,7 @@ module _ (n : ℕ) (s : Stage) (ys zs : List Entry) (e l r : ℕ) (took : TookSi
       ∙ ap (λ ps. taken-trace (stacked (trace_of s) (owed ∷ for_unfolded x.unfolds.0 (trees_of (listed x.unfolds.1)) (variables_in (drop (length (listed x.unfolds.1)) x.u.apart)) ∷ ps)))
       (parts-below vs ys l r zs took)
 
-  module _ (file : List ℕ) (tables : Tables) (params : List Binder) (st : State Tree) (q : IsOfFile file tables) (made : IsMade tables params before) (x : Row tables params st) where
+  module _ (file : List ℕ) (tables : Tables) (params : List Binder) (st : State Tree) (q : IsRead file tables params before) (made : IsMade tables params before) (x : Row tables params st) where
     abbrev t' : ℕ
     t' = x.unfolds.0
 
@@ -190,12 +198,12 @@ module _ (n : ℕ) (s : Stage) (ys zs : List Entry) (e l r : ℕ) (took : TookSi
       body = drop (term_row file t).stream_at file
 
       term-within : t < term_count file
-      term-within = subst (λ v. v < term_count file) (sym same-term) (term-there file tables q t' x.unfolds.3.0 x.unfolds.3.1)
+      term-within = subst (λ v. v < term_count file) (sym same-term) (term-there file tables q.0 t' x.unfolds.3.0 x.unfolds.3.1)
 
       stream-is : x.unfolds.2 ≡ body
       stream-is =
           of-file (term_row file t').words.has_body (drop (term_row file t').stream_at file) x.unfolds.2
-          (sym (ap (λ (row : TermRow). row.stream) (term-stream file tables q t' x.unfolds.3.0 x.unfolds.3.1)) ∙ x.unfolds.3.2)
+          (sym (ap (λ (row : TermRow). row.stream) (term-stream file tables q.0 t' x.unfolds.3.0 x.unfolds.3.1)) ∙ x.unfolds.3.2)
           ∙ ap (λ v. drop (term_row file v).stream_at file) (sym same-term)
 
       runs : unify strict (signatures_in tables) (context_of params s) (in_body body (listed es') (expression_at (values_in s) e)) ≡ Ok x.u
@@ -203,27 +211,41 @@ module _ (n : ℕ) (s : Stage) (ys zs : List Entry) (e l r : ℕ) (took : TookSi
           (ap (λ (m : Unfolding). m.0) x.unfolds.4 ∙ ap (λ z. in_body z (listed es') (expression_at (values_in s) e)) stream-is)
           (rule_of-ok (unify strict (signatures_in tables) (context_of params s) x.m.0) x.u x.matching)
 
-  pub unfold-applies : (file : List ℕ) → Goes (IsOfFile file) code.Unfold n before → IsApplication (slice_get s.nodes l)
+      -- what the stream met is the body's instance: what it ran on has a sort, by what is known of the state
+      body-is : (met : List ℕ) → variables_in (drop (length (listed es')) x.u.apart) ≡ met → IsBody tables t (expressions_at (values_in s) os) met (expression_at (values_in s) e)
+      body-is met met-is env declares =
+          let vs = values_in s in
+          let ctx = context_of params s in
+          let (row, row-at, row-stream, at) = x.unfolds.3 in
+          let (e-sorted, rest-sorted) = (q.1 env declares ctx (λ y b is. is)).stack_sorted in
+          let left-is : expression_at vs l ≡ app t' (trees_of (listed es')) = ap expression_of at ∙ ap (app t') (sym (trees_of-listed es')) in
+          bodied tables env declares ctx t' row body (listed es') (expression_at vs e) x.u met row-at (row-stream ∙ ap (λ z. Some z) stream-is)
+          (subst (Sorted (signatures env) ctx) left-is (took-sorted vs ys l r zs (signatures env) ctx took rest-sorted)) e-sorted runs met-is
+          ∙ ap (λ (zs : Trees). instance (followed_by zs (variables met)) (body_tree (term_at env t').form)) (trees_of-listed es' ∙ (applied.1 t os applies).1)
+          ∙ ap (λ v. body_under env v (expressions_at vs os) met) (sym same-term)
+
+  pub unfold-applies : (file : List ℕ) → Goes (IsRead file) code.Unfold n before → IsApplication (slice_get s.nodes l)
   unfold-applies file (tables, params, st, q, made, row) = (applied file tables params st q made (unfold-row tables params st made row)).0
 
   module _ (file : List ℕ) (t : ℕ) (os : List ℕ) (applies : Applies (slice_get s.nodes l) t os) where
-    pub unfold-within : Goes (IsOfFile file) code.Unfold n before → t < term_count file
+    pub unfold-within : Goes (IsRead file) code.Unfold n before → t < term_count file
     unfold-within (tables, params, st, q, made, row) = term-within file tables params st q made (unfold-row tables params st made row) t os applies
 
-    pub unfold-meets : Goes (IsOfFile file) code.Unfold n before → MayMeet s.nodes (drop (term_row file t).stream_at file) e
+    pub unfold-meets : Goes (IsRead file) code.Unfold n before → MayMeet s.nodes (drop (term_row file t).stream_at file) e
     unfold-meets (tables, params, st, q, made, row) =
         let x = unfold-row tables params st made row in
         (tables, signatures_in tables, context_of params s, listed x.unfolds.1, x.u, made.0.nodes, made.1.0, runs file tables params st q made x t os applies)
 
   pub unfold-leads : (file : List ℕ) (t : ℕ) (os met : Vec ℕ Global) → Applies (slice_get s.nodes l) t os.items → Meets s.nodes (drop (term_row file t).stream_at file) e met.items
-      → Leads (IsOfFile file) code.Unfold n before (with_stack s (Owed e r ∷ ForUnfolded t e os met ∷ zs))
+      → Leads (IsRead file) code.Unfold n before (with_stack s (Owed e r ∷ ForUnfolded t e os met ∷ zs))
   unfold-leads file t os met applies meets tables params st q made row =
       let vs = values_in s in
       let x = unfold-row tables params st made row in
       let (t-is, es-are, os-are, arity) = (applied file tables params st q made x).1 t os.items applies in
-      let (left, right, waiting) = took-stack vs ys l r zs took made.1.1 in
-      let met-is = meets tables (signatures_in tables) (context_of params s) (listed x.unfolds.1) x.u made.0.nodes made.1.0 (runs file tables params st q made x t os.items applies) in (
-        (held-of tables params s (Held (Expr e) ∷ ys) (Owed e r ∷ ForUnfolded t e os met ∷ zs) made.0, (made.1.0, right, (made.1.0, os-are, waiting))),
+      let (left, right, waiting) = took-stack vs ys l r zs tables took made.1.1 in
+      let met-is = meets tables (signatures_in tables) (context_of params s) (listed x.unfolds.1) x.u made.0.nodes made.1.0 (runs file tables params st q made x t os.items applies) in
+      let body = body-is file tables params st q made x t os.items applies met.items met-is in (
+        (held-of tables params s (Held (Expr e) ∷ ys) (Owed e r ∷ ForUnfolded t e os met ∷ zs) made.0, (made.1.0, right, (made.1.0, os-are, body, waiting))),
         x.state ∙ ap (λ (m : Unfolding). state-with params (obligation m.0.target m.1 ∷ m.2)) x.unfolds.4,
         unfold-trace tables params st x ∙ ap (λ p. taken-trace (stacked (trace_of s) (owed ∷ p ∷ parts_at vs zs)))
             (alike x.unfolds.0 t (trees_of (listed x.unfolds.1)) (trees_of (expressions_at vs os.items)) _ met.items (sym t-is) (trees_of-listed x.unfolds.1 ∙ es-are) met-is),

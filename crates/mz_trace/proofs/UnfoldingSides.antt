@@ -14,8 +14,7 @@ use Rattle.mz_unification.specs.Profile.{Item as MachineItem}
 use Rattle.mz_unification.specs.Spells.{TermRow, trees_of}
 use Rattle.mz_unification.specs.Steps.{◌>>=◌, ◌>>◌, need, want}
 use Rattle.mz_unification.specs.Tests.{same_tree}
-use Rattle.mz_unification.proofs.Inverting.{from_want, taken-is, some_is}
-use Rattle.mz_unification.proofs.Trees.{listed-trees_of, same_tree-refl}
+use Rattle.mz_unification.proofs.Offered.{from_want, taken-is, some_is, listed-trees_of, same_tree-refl}
 use Rattle.mz_soundness.specs.Tables.{Tables, State}
 use Rattle.mz_soundness.specs.ProofMachine.{proof_row, same_term, sides}
 use Rattle.mz_tracing.specs.Parts.{owed, for_operand, paid, by_operands}
@@ -167,7 +166,7 @@ module _ (n : ℕ) (s : Stage) (xs : List Entry) (l r t : ℕ) (ps : List (ℕ �
       let pairs : ArePairs vs ((f, o) ∷ reverse left.items) = subst (ArePairs vs) order (pairs-are vs os qs os-are qs-are) in
       let count : length (expressions_at vs os) ≡ suc (length left.items) =
       omega (arith, length-map os (expression_at vs), many-paired os qs many, ap length order, length-reverse left.items) in
-      let waiting : IsWaiting vs (ForOperand t done left ∷ xs) =
+      let waiting : IsWaiting tables vs (ForOperand t done left ∷ xs) =
       (subst (AreConversions vs) (sym none-done) tt, subst (ArePairs vs) (reverse-reverse left.items) (pairs-turned vs (reverse left.items) pairs.2), made.1.2) in (
         (held-of tables params s (Owed l r ∷ xs) (Owed f o ∷ ForOperand t done left ∷ xs) made.0, (pairs.0, pairs.1, waiting)),
         sym st-is ∙ ap (state-with params) (ap (λ (z : List Tree × List Tree). sides z.0 z.1 (items_at vs xs)) p-is ∙ sides-are vs os qs (items_at vs xs) many

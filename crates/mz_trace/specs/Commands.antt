@@ -2,10 +2,13 @@
 use Rattle.std.specs.Prelude.{◌≡◌, ◌<◌, ◌+◌, ℕ, zero, suc, ⊤, List, ◌++◌, ◌∷◌, [], length, map, reverse, drop, Option, Some, None, Ok}
 use Rattle.mz_cmd.specs.declared.code.ProofCode.{ProofCode}
 use Rattle.mz_logic.specs.Tree.{Tree}
+use Rattle.mz_logic.specs.Declaration.{Declaration}
+use Rattle.mz_logic.specs.Derivations.{Uses as MayUse}
 use Rattle.mz_logic.specs.declared.binder.Binder.{Binder}
 use Rattle.mz_unification.specs.Profile.{strict}
 use Rattle.mz_unification.specs.Spells.{dummy_of}
-use Rattle.mz_soundness.specs.Tables.{Tables, State}
+use Rattle.mz_soundness.specs.Tables.{Tables, State, Declares}
+use Rattle.mz_soundness.specs.Facts.{IsFront, Fact}
 use Rattle.mz_soundness.specs.ProofMachine.{proof_row}
 use Rattle.mz_machine.specs.Before.{AreWithin, tables_before}
 use Rattle.mz_machine.specs.declared.earlier.Rows.{Rows}
@@ -92,30 +95,46 @@ pub record IsHeld (tables : Tables) (params : List Binder) (s : Stage) : Type 0 
 
 -- what is named is there
 abbrev pub IsMade : Tables → List Binder → Stage → Type 0
-IsMade tables params s = IsHeld tables params s × IsStack (values_in s) s.stack
+IsMade tables params s = IsHeld tables params s × IsStack tables (values_in s) s.stack
 
 -- the same where what is owed was taken from the stack
 abbrev pub IsMadeBelow : Tables → List Binder → Stage → Type 0
-IsMadeBelow tables params s = IsHeld tables params s × IsWaiting (values_in s) s.stack
+IsMadeBelow tables params s = IsHeld tables params s × IsWaiting tables (values_in s) s.stack
 
 -- ---- one command
+
+-- nothing is asked of derivations here
+abbrev pub anything : MayUse
+anything = record { cites = λ T. ⊤; gaps = ⊤ }
 
 -- these are rows of the file
 abbrev pub IsOfFile : List ℕ → Tables → Type 0
 IsOfFile file tables = (rows : Rows) × AreWithin file rows × (tables ≡ tables_before file rows)
 
-abbrev pub IsAny : Tables → Type 0
-IsAny tables = ⊤
+-- the state has its fact, whatever the rows declare and however the context goes on
+abbrev pub IsKnown : Tables → List Binder → Stage → Type 0
+IsKnown tables params s = (env : List Declaration) → Declares tables env → (full : List Binder)
+    → IsFront (context_of params s) full → Fact anything env params full (state_of params s)
+
+-- what is known of a stage before a command: nothing, or this
+abbrev pub Known : Type 1
+Known = Tables → List Binder → Stage → Type 0
+
+abbrev pub IsRead : List ℕ → Known
+IsRead file tables params s = IsOfFile file tables × IsKnown tables params s
+
+abbrev pub IsAny : Known
+IsAny tables params s = ⊤
 
 -- the command goes through, over such rows
-abbrev pub Goes : (Tables → Type 0) → ProofCode → ℕ → Stage → Type 0
+abbrev pub Goes : Known → ProofCode → ℕ → Stage → Type 0
 Goes Q c n s = (tables : Tables) × (params : List Binder) × (st : State Tree)
-    × Q tables × IsMade tables params s × (proof_row strict tables 0 c n (state_of params s) ≡ Ok st)
+    × Q tables params s × IsMade tables params s × (proof_row strict tables 0 c n (state_of params s) ≡ Ok st)
 
 -- it leads from s to s'
-abbrev pub Leads : (Tables → Type 0) → ProofCode → ℕ → Stage → Stage → Type 0
+abbrev pub Leads : Known → ProofCode → ℕ → Stage → Stage → Type 0
 Leads Q c n s s' = (tables : Tables) (params : List Binder) (st : State Tree)
-    → Q tables → IsMade tables params s → proof_row strict tables 0 c n (state_of params s) ≡ Ok st
+    → Q tables params s → IsMade tables params s → proof_row strict tables 0 c n (state_of params s) ≡ Ok st
     → IsMade tables params s' × (st ≡ state_of params s') × (traced tables c n (state_of params s) (trace_of s) ≡ Ok (trace_of s'))
 
 -- ---- parts of commands

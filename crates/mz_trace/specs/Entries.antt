@@ -4,8 +4,9 @@ use Rattle.mz_unification.specs.Profile.{expr, proof, obligation, conversion}
 use Rattle.mz_unification.specs.Profile.{Item as MachineItem}
 use Rattle.mz_logic.specs.Tree.{Tree}
 use Rattle.mz_unification.specs.Spells.{trees_of}
+use Rattle.mz_soundness.specs.Tables.{Tables}
 use Rattle.mz_tracing.specs.Parts.{Part, expression, proved, owed, converted, for_proof, for_turned, for_operand, for_unfolded, for_cut}
-use Rattle.mz_trace.specs.Nodes.{Value, expression_at, expressions_at, conversion_at, conversions_at, proof_at, IsExpression, AreExpressions, IsConversion, AreConversions, IsProof}
+use Rattle.mz_trace.specs.Nodes.{Value, expression_at, expressions_at, conversion_at, conversions_at, proof_at, IsExpression, AreExpressions, IsConversion, AreConversions, IsProof, IsBody}
 use Rattle.mz_trace.specs.declared.entry.Item.{Item}
 use Rattle.mz_trace.specs.declared.entry.Item.TheVariants.{Expr, Proof, Conversion}
 use Rattle.mz_trace.specs.declared.entry.Entry.{Entry}
@@ -72,27 +73,28 @@ ArePairs vs (p ∷ ps) = IsExpression vs p.0 × IsExpression vs p.1 × ArePairs 
 -- Expressions and proofs stand free. Below what is owed stands what waits for it, down to a proof; there may be cuts between,
 -- and a conversion that was cut stands above what waits for it.
 abbrev mutual
-  pub IsStack : List Value → List Entry → Type 0
-  IsStack vs [] = ⊤
-  IsStack vs (Held (Expr e) ∷ xs) = IsExpression vs e × IsStack vs xs
-  IsStack vs (Held (Proof e p) ∷ xs) = (IsExpression vs e × IsProof vs p) × IsStack vs xs
-  IsStack vs (Held (Conversion l r c) ∷ xs) = (IsExpression vs l × IsExpression vs r × IsConversion vs c) × IsWaiting vs xs
-  IsStack vs (Owed l r ∷ xs) = IsExpression vs l × IsExpression vs r × IsWaiting vs xs
-  IsStack vs (ForProof e p ∷ xs) = ⊥
-  IsStack vs (ForTurned ∷ xs) = ⊥
-  IsStack vs (ForOperand t done left ∷ xs) = ⊥
-  IsStack vs (ForUnfolded t e es ys ∷ xs) = ⊥
-  IsStack vs (ForCut l r ∷ xs) = ⊥
+  pub IsStack : Tables → List Value → List Entry → Type 0
+  IsStack tables vs [] = ⊤
+  IsStack tables vs (Held (Expr e) ∷ xs) = IsExpression vs e × IsStack tables vs xs
+  IsStack tables vs (Held (Proof e p) ∷ xs) = (IsExpression vs e × IsProof vs p) × IsStack tables vs xs
+  IsStack tables vs (Held (Conversion l r c) ∷ xs) = (IsExpression vs l × IsExpression vs r × IsConversion vs c) × IsWaiting tables vs xs
+  IsStack tables vs (Owed l r ∷ xs) = IsExpression vs l × IsExpression vs r × IsWaiting tables vs xs
+  IsStack tables vs (ForProof e p ∷ xs) = ⊥
+  IsStack tables vs (ForTurned ∷ xs) = ⊥
+  IsStack tables vs (ForOperand t done left ∷ xs) = ⊥
+  IsStack tables vs (ForUnfolded t e es ys ∷ xs) = ⊥
+  IsStack tables vs (ForCut l r ∷ xs) = ⊥
 
-  pub IsWaiting : List Value → List Entry → Type 0
-  IsWaiting vs [] = ⊥
-  IsWaiting vs (Held x ∷ xs) = ⊥
-  IsWaiting vs (Owed l r ∷ xs) = ⊥
-  IsWaiting vs (ForProof e p ∷ xs) = IsExpression vs e × IsProof vs p × IsStack vs xs
-  IsWaiting vs (ForTurned ∷ xs) = IsWaiting vs xs
-  IsWaiting vs (ForOperand t done left ∷ xs) = AreConversions vs done.items × ArePairs vs left.items × IsWaiting vs xs
-  IsWaiting vs (ForUnfolded t e es ys ∷ xs) = IsExpression vs e × AreExpressions vs es.items × IsWaiting vs xs
-  IsWaiting vs (ForCut l r ∷ xs) = IsExpression vs l × IsExpression vs r × IsWaiting vs xs
+  pub IsWaiting : Tables → List Value → List Entry → Type 0
+  IsWaiting tables vs [] = ⊥
+  IsWaiting tables vs (Held x ∷ xs) = ⊥
+  IsWaiting tables vs (Owed l r ∷ xs) = ⊥
+  IsWaiting tables vs (ForProof e p ∷ xs) = IsExpression vs e × IsProof vs p × IsStack tables vs xs
+  IsWaiting tables vs (ForTurned ∷ xs) = IsWaiting tables vs xs
+  IsWaiting tables vs (ForOperand t done left ∷ xs) = AreConversions vs done.items × ArePairs vs left.items × IsWaiting tables vs xs
+  IsWaiting tables vs (ForUnfolded t e es ys ∷ xs) =
+      IsExpression vs e × AreExpressions vs es.items × IsBody tables t (expressions_at vs es.items) ys.items (expression_at vs e) × IsWaiting tables vs xs
+  IsWaiting tables vs (ForCut l r ∷ xs) = IsExpression vs l × IsExpression vs r × IsWaiting tables vs xs
 
 -- ---- what is taken from the top
 

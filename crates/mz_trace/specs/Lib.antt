@@ -1,5 +1,6 @@
 pub mod Nodes
 pub mod Entries
+pub mod Claims
 pub mod Commands
 pub mod Runs
 pub mod Streams

@@ -1,11 +1,13 @@
 -- What the nodes of a proof stand for: trees, none of which is written out (this project's own form of proofs that share
 -- their parts).
 use Rattle.std.specs.Prelude.{ℕ, ◌≡◌, ⊤, List, [], ◌∷◌, ◌++◌, length, map, Option, Some, None, slice_get}
-use Rattle.mz_logic.specs.Tree.{Tree, Trees, var, app, none}
+use Rattle.mz_logic.specs.Tree.{Tree, var, app, none, instance, followed_by, variables}
+use Rattle.mz_logic.specs.Declaration.{Declaration}
 use Rattle.mz_logic.specs.Conversions.{Conversion, Conversions, refl_conv, sym_conv, cong_conv, unfold_conv, no_convs, more_convs}
 use Rattle.mz_mmu.specs.Proof.{Proof, Proofs, by_hyp, by_name, by_citation, by_conv, no_proofs, more_proofs}
+use Rattle.mz_type.specs.Sides.{assertion_at, term_at, body_tree}
 use Rattle.mz_unification.specs.Spells.{TermRow, trees_of}
-use Rattle.mz_soundness.specs.Tables.{Tables}
+use Rattle.mz_soundness.specs.Tables.{Tables, Declares}
 use Rattle.mz_trace.specs.declared.node.RunNode.{RunNode}
 use Rattle.mz_trace.specs.declared.node.RunNode.TheVariants as node
 
@@ -103,18 +105,36 @@ AreProofs vs (n ∷ ns) = IsProof vs n × AreProofs vs ns
 abbrev pub HasArity : Tables → ℕ → ℕ → Type 0
 HasArity tables t n = (row : TermRow) × (slice_get tables.terms t ≡ Some row) × (length row.signature.params ≡ n)
 
--- the parts of the node are among these values, each of its kind
+-- ---- what was matched
+
+-- the instance of the assertion's conclusion, and of the definition's body
+abbrev pub conclusion_under : List Declaration → ℕ → List Tree → Tree
+conclusion_under env t es = instance (trees_of es) (assertion_at env t).conclusion
+
+abbrev pub body_under : List Declaration → ℕ → List Tree → List ℕ → Tree
+body_under env t es ys = instance (followed_by (trees_of es) (variables ys)) (body_tree (term_at env t).form)
+
+-- this expression, whatever the rows declare
+abbrev pub IsClaim : Tables → ℕ → List Tree → Tree → Type 0
+IsClaim tables t es e = (env : List Declaration) → Declares tables env → e ≡ conclusion_under env t es
+
+abbrev pub IsBody : Tables → ℕ → List Tree → List ℕ → Tree → Type 0
+IsBody tables t es ys e = (env : List Declaration) → Declares tables env → e ≡ body_under env t es ys
+
+-- the parts of the node are among these values, each of its kind, and what was matched is what it stands for
 abbrev pub HasParts : Tables → List Value → RunNode → Type 0
 HasParts tables vs (node.Var x) = ⊤
 HasParts tables vs (node.App t es) = AreExpressions vs es.items × HasArity tables t (length es.items)
 HasParts tables vs (node.Hyp i) = ⊤
 HasParts tables vs (node.Let i) = ⊤
-HasParts tables vs (node.Use t e es ps) = IsExpression vs e × AreExpressions vs es.items × AreProofs vs ps.items
+HasParts tables vs (node.Use t e es ps) =
+    IsExpression vs e × AreExpressions vs es.items × AreProofs vs ps.items × IsClaim tables t (expressions_at vs es.items) (expression_at vs e)
 HasParts tables vs (node.Conv e c p) = IsExpression vs e × IsConversion vs c × IsProof vs p
 HasParts tables vs (node.Refl e) = IsExpression vs e
 HasParts tables vs (node.Sym c) = IsConversion vs c
 HasParts tables vs (node.Cong t cs) = AreConversions vs cs.items
-HasParts tables vs (node.Unfold t e es ys c) = IsExpression vs e × AreExpressions vs es.items × IsConversion vs c
+HasParts tables vs (node.Unfold t e es ys c) =
+    IsExpression vs e × AreExpressions vs es.items × IsConversion vs c × IsBody tables t (expressions_at vs es.items) ys.items (expression_at vs e)
 
 abbrev pub HavePartsAfter : Tables → List Value → List RunNode → Type 0
 HavePartsAfter tables vs [] = ⊤

@@ -1,5 +1,6 @@
 -- The proof that a run has.
 use Rattle.std.specs.Prelude.{◌≡◌, ⊤, ℕ, List, [], ◌∷◌, map, Ok}
+use Rattle.mz_logic.specs.Declaration.{Declaration}
 use Rattle.mz_logic.specs.declared.binder.Binder.{Binder}
 use Rattle.mz_mmu.specs.Proof.{Proof}
 use Rattle.mz_unification.specs.Spells.{dummy_of}
@@ -7,9 +8,15 @@ use Rattle.mz_soundness.specs.Tables.{Tables, State, is_theorem, Heading}
 use Rattle.mz_logic.specs.Tree.{Tree}
 use Rattle.mz_unification.specs.Profile.{strict}
 use Rattle.mz_soundness.specs.ProofMachine.{proof_end}
-use Rattle.mz_soundness.specs.Bodies.{body_from}
+use Rattle.mz_soundness.specs.Bodies.{body_from, Runs}
+use Rattle.mz_soundness.specs.FileRows.{body_bytes}
+use Rattle.mz_machine.specs.Before.{MayRun, heading_of, tables_before}
+use Rattle.mz_machine.specs.declared.earlier.Rows.{Rows}
+use Rattle.mz_cmd.specs.declared.statement.StmtAt.TheVariants.{Head}
+use Rattle.mz_cmd.specs.StatementList.{statement_at}
 use Rattle.mz_tracing.specs.Traces.{Made, trace_from}
-use Rattle.mz_trace.specs.Commands.{Stage, IsOfFile, IsMade, state_of, trace_of}
+use Rattle.mz_trace.specs.Commands.{Stage, IsRead, IsMade, state_of, trace_of}
+use Rattle.mz_trace.specs.Claims.{HasClaims}
 use Rattle.mz_trace.specs.Nodes.{Value, values, proof_at, HaveParts, AreProofs, IsProof}
 use Rattle.mz_trace.specs.declared.entry.Item.TheVariants.{Proof as ProofItem}
 use Rattle.mz_trace.specs.declared.entry.Entry.TheVariants.{Held}
@@ -29,7 +36,7 @@ lets_in r = map (proof_at (values_in r)) r.lets.items
 abbrev pub root_in : Run → Proof
 root_in r = proof_at (values_in r) r.root
 
--- the body makes what the nodes stand for, and all that they name is there
+-- the body makes what the nodes stand for, and each part of a node is an earlier one of its kind
 pub record IsRunOf (tables : Tables) (h : Heading) (bytes : List ℕ) (r : Run) : Type 0 where
   pub nodes : HaveParts tables r.nodes.items
   pub lets : AreProofs (values_in r) r.lets.items
@@ -41,17 +48,36 @@ abbrev pub IsTraced : Tables → Heading → List ℕ → Traced → Type 0
 IsTraced tables h bytes (traced.Run r) = IsRunOf tables h bytes r
 IsTraced tables h bytes traced.Mem = ⊤
 
+-- each citation and unfolding stands beside the expression that it stands for
+abbrev pub ClaimsIn : List Declaration → Traced → Type 0
+ClaimsIn env (traced.Run r) = HasClaims env r.nodes.items
+ClaimsIn env traced.Mem = ⊤
+
+-- ---- what is traced
+
+-- the theorem's body runs over these rows before it
+abbrev pub RunsOver : List ℕ → ℕ → ℕ → List ℕ → Rows → Type 0
+RunsOver file row at bytes before = MayRun file 0x06 row before × Runs strict (tables_before file before) (heading_of file 0x06 row) at bytes
+
+-- the theorem's statement stands at this place, behind these rows
+pub record IsTheoremAt (file : List ℕ) (at row : ℕ) (before : Rows) : Type 0 where
+  pub code : ℕ
+  pub body : ℕ
+  pub next : ℕ
+  pub stands : statement_at file at ≡ Ok (Head code body next)
+  pub runs : RunsOver file row body (body_bytes file body next) before
+
 -- ---- what is left of a body
 
 -- it runs to its END from here
 abbrev pub RunsFrom : List ℕ → List ℕ → Stage → Type 0
 RunsFrom file bytes s = (tables : Tables) × (h : Heading) × (n at : ℕ) × (end : State Tree)
-    × IsOfFile file tables × (h.kind ≡ is_theorem) × IsMade tables h.params s × (body_from strict tables h n at bytes (state_of h.params s) ≡ Ok end)
+    × IsRead file tables h.params s × (h.kind ≡ is_theorem) × IsMade tables h.params s × (body_from strict tables h n at bytes (state_of h.params s) ≡ Ok end)
 
 -- and what it makes leads there
 abbrev pub LeadsToEnd : List ℕ → List ℕ → Stage → Stage → Type 0
 LeadsToEnd file bytes s s' = (tables : Tables) (h : Heading) (n at : ℕ) (end : State Tree)
-    → IsOfFile file tables → h.kind ≡ is_theorem → IsMade tables h.params s → body_from strict tables h n at bytes (state_of h.params s) ≡ Ok end
+    → IsRead file tables h.params s → h.kind ≡ is_theorem → IsMade tables h.params s → body_from strict tables h n at bytes (state_of h.params s) ≡ Ok end
     → IsMade tables h.params s' × (proof_end strict tables h (state_of h.params s') ≡ Ok end)
     × (trace_from tables h n bytes (state_of h.params s, trace_of s) ≡ Ok (state_of h.params s', trace_of s'))
 

@@ -1,7 +1,7 @@
 //! The proof that a theorem's body makes, as numbered nodes.
 //!
 //! A body is gone through once. What it makes is said in `mz_tracing`; here each expression, conversion and
-//! proof is a node whose parts are earlier nodes, so that a tree which is used many times is kept once, and
+//! proof is a node whose parts are earlier nodes, so that a tree which the body keeps is there once, and
 //! nothing is gone through by its depth. `specs/Nodes.antt` says what nodes stand for.
 #![tactic(auto)]
 
@@ -13,4 +13,4 @@ mod stack;
 mod streams;
 
 pub use node::RunNode;
-pub use run::{Run, Traced, trace};
+pub use run::{Run, Traced, trace, trace_body};

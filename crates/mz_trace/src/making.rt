@@ -4,7 +4,7 @@ ghost use Rattle.mz_cmd.specs.declared.code.ProofCode.TheVariants as code;
 ghost use Rattle.mz_layout.specs.Tables.{thm_count};
 ghost use Rattle.mz_trace.specs.Nodes.{IsConversion};
 ghost use Rattle.mz_trace.specs.Entries.{HasOwed};
-ghost use Rattle.mz_trace.specs.Commands.{stage_of, Stage, IsAny, IsOfFile, Goes, Leads, with_variable, with_kept, on_stack, with_name, MayBuild, IsBuilt, MayCite, IsCited, MayPay, Pays, PaysOne, no_stage};
+ghost use Rattle.mz_trace.specs.Commands.{stage_of, Stage, IsAny, IsRead, Goes, Leads, with_variable, with_kept, on_stack, with_name, MayBuild, IsBuilt, MayCite, IsCited, MayPay, Pays, PaysOne, no_stage};
 ghost use Rattle.mz_trace.specs.Sides.{paired, AreApplications, HaveSides};
 ghost use Rattle.mz_trace.specs.declared.node.RunNode.TheVariants as node;
 ghost use Rattle.mz_trace.specs.declared.entry.Entry.TheVariants.{Held, ForOperand};
@@ -79,8 +79,8 @@ impl Making {
         value: u32,
         steps: &mut Steps<L>,
     ) -> Result<(), AllocError>
-        requires { Goes (IsOfFile mmb.now) code value (stage_of self.old) }
-        ensures leads { OnOk result (Leads (IsOfFile mmb.now) code value (stage_of self.old) (stage_of self.new)) }
+        requires { Goes (IsRead mmb.now) code value (stage_of self.old) }
+        ensures leads { OnOk result (Leads (IsRead mmb.now) code value (stage_of self.old) (stage_of self.new)) }
         ensures most { steps.new ≤ steps.old + length mmb.now }
     {
         match code {
@@ -113,16 +113,16 @@ impl Making {
     }
 
     fn term(&mut self, mmb: &Mmb, t: u32) -> Result<(), AllocError>
-        requires { Goes (IsOfFile mmb.now) code.Term t (stage_of self.old) }
-        ensures { OnOk result (Leads (IsOfFile mmb.now) code.Term t (stage_of self.old) (stage_of self.new)) }
+        requires { Goes (IsRead mmb.now) code.Term t (stage_of self.old) }
+        ensures { OnOk result (Leads (IsRead mmb.now) code.Term t (stage_of self.old) (stage_of self.new)) }
     {
         let made = self.build(mmb, t)?;
         self.hold(Item::Expr(made))
     }
 
     fn term_save(&mut self, mmb: &Mmb, t: u32) -> Result<(), AllocError>
-        requires { Goes (IsOfFile mmb.now) code.TermSave t (stage_of self.old) }
-        ensures { OnOk result (Leads (IsOfFile mmb.now) code.TermSave t (stage_of self.old) (stage_of self.new)) }
+        requires { Goes (IsRead mmb.now) code.TermSave t (stage_of self.old) }
+        ensures { OnOk result (Leads (IsRead mmb.now) code.TermSave t (stage_of self.old) (stage_of self.new)) }
     {
         let made = self.build(mmb, t)?;
         keep(&mut self.heap, Item::Expr(made))?;
@@ -185,8 +185,8 @@ impl Making {
     }
 
     fn thm<L: Ledger>(&mut self, mmb: &Mmb, t: u32, steps: &mut Steps<L>) -> Result<(), AllocError>
-        requires { Goes (IsOfFile mmb.now) code.Thm t (stage_of self.old) }
-        ensures leads { OnOk result (Leads (IsOfFile mmb.now) code.Thm t (stage_of self.old) (stage_of self.new)) }
+        requires { Goes (IsRead mmb.now) code.Thm t (stage_of self.old) }
+        ensures leads { OnOk result (Leads (IsRead mmb.now) code.Thm t (stage_of self.old) (stage_of self.new)) }
         ensures most { steps.new ≤ steps.old + length mmb.now }
     {
         let (claim, proof) = self.cite(mmb, t, steps)?;
@@ -199,8 +199,8 @@ impl Making {
         t: u32,
         steps: &mut Steps<L>,
     ) -> Result<(), AllocError>
-        requires { Goes (IsOfFile mmb.now) code.ThmSave t (stage_of self.old) }
-        ensures leads { OnOk result (Leads (IsOfFile mmb.now) code.ThmSave t (stage_of self.old) (stage_of self.new)) }
+        requires { Goes (IsRead mmb.now) code.ThmSave t (stage_of self.old) }
+        ensures leads { OnOk result (Leads (IsRead mmb.now) code.ThmSave t (stage_of self.old) (stage_of self.new)) }
         ensures most { steps.new ≤ steps.old + length mmb.now }
     {
         let (claim, proof) = self.cite(mmb, t, steps)?;
@@ -280,8 +280,8 @@ impl Making {
     }
 
     fn unfold<L: Ledger>(&mut self, mmb: &Mmb, steps: &mut Steps<L>) -> Result<(), AllocError>
-        requires { Goes (IsOfFile mmb.now) code.Unfold 0 (stage_of self.old) }
-        ensures leads { OnOk result (Leads (IsOfFile mmb.now) code.Unfold 0 (stage_of self.old) (stage_of self.new)) }
+        requires { Goes (IsRead mmb.now) code.Unfold 0 (stage_of self.old) }
+        ensures leads { OnOk result (Leads (IsRead mmb.now) code.Unfold 0 (stage_of self.old) (stage_of self.new)) }
         ensures most { steps.new ≤ steps.old + length mmb.now }
     {
         let target = pop_expr(&mut self.stack);

@@ -1,19 +1,20 @@
 //! A whole body, read in place.
-ghost use Rattle.std.specs.Prelude.{ℕ, ◌≡◌, ◌≤◌, ◌<◌, ◌+◌, ◌-◌, ◌*◌, ◌^◌, IfOk, length};
+ghost use Rattle.std.specs.Prelude.{ℕ, Some, slice_get, ◌≡◌, ◌≤◌, ◌<◌, ◌+◌, ◌-◌, ◌*◌, ◌^◌, IfOk, List, length};
 ghost use Rattle.mz_layout.specs.Tables.{thm_count, thm_row};
-ghost use Rattle.mz_unification.specs.Profile.{strict};
-ghost use Rattle.mz_soundness.specs.Bodies.{Runs};
+ghost use Rattle.mz_logic.specs.Declaration.{Declaration};
+ghost use Rattle.mz_soundness.specs.Tables.{Declares};
 ghost use Rattle.mz_soundness.specs.FileRows.{body_bytes};
-ghost use Rattle.mz_machine.specs.Before.{MayRun, heading_of, tables_before};
+ghost use Rattle.mz_machine.specs.Before.{heading_of, tables_before};
+ghost use Rattle.mz_machine.specs.declared.earlier.Rows.{Rows};
 ghost use Rattle.mz_trace.specs.Commands.{stage_of, begun};
-ghost use Rattle.mz_trace.specs.Runs.{IsTraced, IsRunOf, RunsFrom, LeadsToEnd, HasRoot, IsFinished};
+ghost use Rattle.mz_trace.specs.Runs.{IsTraced, ClaimsIn, IsTheoremAt, RunsOver, IsRunOf, RunsFrom, LeadsToEnd, HasRoot, IsFinished};
 
 use crate::entry::{Entry, Item};
 use crate::making::Making;
 use crate::node::RunNode;
-use mz_cmd::{ProofCode, Steps, cmd_at};
+use mz_binary::Statement;
+use mz_cmd::{ProofCode, Steps, StmtAt, cmd_at, stmt_at};
 use mz_layout::Mmb;
-use mz_machine::Rows;
 use std::alloc::{AllocError, Global};
 use std::sync::ledger::Ledger;
 
@@ -27,6 +28,45 @@ pub struct Run {
     pub dummies: Vec<u32>,
 }
 
+impl Run {
+    /// The proof that is left behind those with names.
+    pub fn root(&self) -> u32
+        ensures { result ≡ self.now.root }
+    {
+        self.root
+    }
+
+    /// The node with this number.
+    pub fn node(&self, n: u32) -> &RunNode
+        requires { n < length self.now.nodes.items }
+        ensures { slice_get self.now.nodes.items n ≡ Some result.now }
+    {
+        &self.nodes[n as usize]
+    }
+
+    /// How many proofs have got a name.
+    pub fn let_count(&self) -> usize
+        ensures { result ≡ length self.now.lets.items }
+    {
+        self.lets.len()
+    }
+
+    /// The proof with this name.
+    pub fn let_root(&self, i: usize) -> u32
+        requires { i < length self.now.lets.items }
+        ensures { slice_get self.now.lets.items i ≡ Some result }
+    {
+        self.lets[i]
+    }
+
+    /// The sorts of the dummies, in order.
+    pub fn dummies(&self) -> &[u32]
+        ensures { result.now ≡ self.now.dummies.items }
+    {
+        self.dummies.as_slice()
+    }
+}
+
 /// What became of a body that runs.
 #[derive(Drop)]
 pub enum Traced {
@@ -35,28 +75,52 @@ pub enum Traced {
     Mem,
 }
 
-/// The proof that the body of a theorem makes, which runs; its bytes are those from the first place of
-/// `body` up to the second. `row` is the theorem's, and `before` counts the rows that were declared before.
+/// The proof that the body of a theorem makes, whose statement stands behind rows over which the body runs.
 ///
-/// A step is counted for each command that is read, of the body and of the streams that it runs; never more
-/// than one for each byte of the body and of a stream at each.
+/// Steps are counted as by `trace_body`.
 pub fn trace<L: Ledger>(
     alloc: Global,
     mmb: &Mmb,
+    statement: &Statement,
+    steps: &mut Steps<L>,
+) -> Traced
+    requires { (before : Rows) × IsTheoremAt mmb.now statement.now.at statement.now.row before }
+    ensures made { (before : Rows) (t : IsTheoremAt mmb.now statement.now.at statement.now.row before)
+        → IsTraced (tables_before mmb.now before) (heading_of mmb.now 0x06 statement.now.row) (body_bytes mmb.now t.body t.next) result }
+    ensures claims { (before : Rows) → IsTheoremAt mmb.now statement.now.at statement.now.row before
+        → (env : List Declaration) → Declares (tables_before mmb.now before) env → ClaimsIn env result }
+    ensures most { (before : Rows) (t : IsTheoremAt mmb.now statement.now.at statement.now.row before)
+        → steps.new ≤ steps.old + (t.next - t.body) * (length mmb.now + 1) }
+{
+    let Ok(StmtAt::Head { body, next, .. }) = stmt_at(mmb.file(), statement.at) else {
+        unreachable!();
+    };
+    trace_body(alloc, mmb, statement.row, (body, next), steps)
+}
+
+/// The same of the theorem with this row, where the bytes of the body are those from the first place of `body`
+/// up to the second.
+///
+/// A step is counted for each command that is read, of the body and of the streams that it runs: for each byte of
+/// the body at most one, and one for each byte of the file.
+pub fn trace_body<L: Ledger>(
+    alloc: Global,
+    mmb: &Mmb,
     row: u32,
-    before: Rows,
     body: (u32, u32),
     steps: &mut Steps<L>,
 ) -> Traced
-    requires may_run { MayRun mmb.now 0x06 row before }
     requires order { body.0 ≤ body.1 }
     requires within { body.1 ≤ length mmb.now }
-    requires runs { Runs strict (tables_before mmb.now before) (heading_of mmb.now 0x06 row) body.0 (body_bytes mmb.now body.0 body.1) }
-    ensures made { IsTraced (tables_before mmb.now before) (heading_of mmb.now 0x06 row) (body_bytes mmb.now body.0 body.1) result }
+    requires runs { (before : Rows) × RunsOver mmb.now row body.0 (body_bytes mmb.now body.0 body.1) before }
+    ensures made { (before : Rows) → RunsOver mmb.now row body.0 (body_bytes mmb.now body.0 body.1) before
+        → IsTraced (tables_before mmb.now before) (heading_of mmb.now 0x06 row) (body_bytes mmb.now body.0 body.1) result }
+    ensures claims { (before : Rows) → RunsOver mmb.now row body.0 (body_bytes mmb.now body.0 body.1) before
+        → (env : List Declaration) → Declares (tables_before mmb.now before) env → ClaimsIn env result }
     ensures most { steps.new ≤ steps.old + (body.1 - body.0) * (length mmb.now + 1) }
 {
     let bytes = &mmb.file()[body.0 as usize..body.1 as usize];
-    match made_of(alloc, mmb, row, before, bytes, steps) {
+    match made_of(alloc, mmb, row, bytes, steps) {
         Ok(run) => Traced::Run(run),
         Err(_) => Traced::Mem,
     }
@@ -66,14 +130,13 @@ fn made_of<L: Ledger>(
     alloc: Global,
     mmb: &Mmb,
     row: u32,
-    before: Rows,
     bytes: &[u8],
     steps: &mut Steps<L>,
 ) -> Result<Run, AllocError>
-    requires may_run { MayRun mmb.now 0x06 row before }
     requires fits { length bytes.now < 2 ^ 32 }
-    requires runs { (at : ℕ) × Runs strict (tables_before mmb.now before) (heading_of mmb.now 0x06 row) at bytes.now }
-    ensures made { IfOk result (λ run. IsRunOf (tables_before mmb.now before) (heading_of mmb.now 0x06 row) bytes.now run) }
+    requires runs { (before : Rows) × (at : ℕ) × RunsOver mmb.now row at bytes.now before }
+    ensures made { IfOk result (λ run. (before : Rows) (at : ℕ) → RunsOver mmb.now row at bytes.now before
+        → IsRunOf (tables_before mmb.now before) (heading_of mmb.now 0x06 row) bytes.now run) }
     ensures most { steps.new ≤ steps.old + length bytes.now * (length mmb.now + 1) }
 {
     let start = begin(alloc, mmb.thm_arity(row))?;

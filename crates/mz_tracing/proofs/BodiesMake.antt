@@ -6,7 +6,7 @@ use Rattle.mz_logic.specs.Tree.{Tree}
 use Rattle.mz_logic.specs.declared.binder.Binder.{Binder}
 use Rattle.mz_mmu.specs.Proof.{Proof}
 use Rattle.mz_unification.specs.Profile.{strict, Item, proof}
-use Rattle.mz_unification.proofs.Inverting.{from_bind, taken-is}
+use Rattle.mz_unification.proofs.Offered.{from_bind, taken-is}
 use Rattle.mz_soundness.specs.Tables.{Tables, State, Kind, is_theorem, Heading}
 use Rattle.mz_soundness.specs.ProofMachine.{last_item, own_variables, ends_with, proof_end}
 use Rattle.mz_soundness.specs.Bodies.{body_start}

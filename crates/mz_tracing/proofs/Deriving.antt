@@ -11,7 +11,7 @@ use Rattle.mz_logic.specs.Variables.{Apart}
 use Rattle.mz_logic.specs.Conversions.{Conversions, unfold_conv, no_convs, more_convs, Between, AllBetween, GapsOnly, AllGapsOnly, AreFresh}
 use Rattle.mz_logic.specs.Derivations.{Uses, no_derivs, AllDerive}
 use Rattle.mz_logic.specs.declared.binder.Binder.{Binder}
-use Rattle.mz_logic.proofs.Extend.{extends_itself, sort_extends, fits_extends, apart_extends, fresh_extends}
+use Rattle.mz_logic.proofs.Offered.{extends_itself, sort_extends, fits_extends, apart_extends, fresh_extends}
 use Rattle.mz_mmu.specs.Proof.{Proof, Proofs, no_proofs, more_proofs}
 use Rattle.mz_type.specs.Meaning.{derivations}
 use Rattle.mz_unification.specs.Streams.{of_definition}
@@ -20,18 +20,12 @@ use Rattle.mz_unification.specs.Profile.{strict, Item, expr}
 use Rattle.mz_unification.specs.Sorted.{Sorted, AllSorted, ItemsSorted}
 use Rattle.mz_unification.specs.Laws.{citing, unfolding_by}
 use Rattle.mz_unification.specs.UnifyMachine.{unify}
-use Rattle.mz_unification.proofs.Inverting.{some_is}
-use Rattle.mz_unification.proofs.Trees.{parts-are, operands-sorted}
-use Rattle.mz_unification.proofs.Citations.{citation-is}
-use Rattle.mz_unification.proofs.Unfolding.{unfolding-is}
+use Rattle.mz_unification.proofs.Offered.{some_is, parts-are, operands-sorted, citation-is, unfolding-is}
 use Rattle.mz_soundness.specs.Tables.{Tables, State, Declares}
 use Rattle.mz_soundness.specs.Premises.{operands_fit}
 use Rattle.mz_soundness.specs.ProofMachine.{stream_of, proof_row}
 use Rattle.mz_soundness.specs.Facts.{IsFront, Fact}
-use Rattle.mz_soundness.proofs.Declared.{pair-at, signatures-are, signature-at}
-use Rattle.mz_soundness.proofs.Operands.{fits-from, apart-from-test}
-use Rattle.mz_soundness.proofs.Stacks.{expr-top, sides-top, operands-top}
-use Rattle.mz_soundness.proofs.RowsKeep.{keeps}
+use Rattle.mz_soundness.proofs.Offered.{pair-at, signatures-are, signature-at, fits-from, apart-from-test, expr-top, sides-top, operands-top, keeps}
 use Rattle.mz_tracing.specs.Traces.{Trace, variables_in, traced}
 use Rattle.mz_tracing.proofs.Standing.{Asked, EachIs, EachFrom, EachProves}
 use Rattle.mz_tracing.proofs.RowsStand.{Closed, Standing, Unfolds, Cites, goes}

@@ -8,3 +8,4 @@ pub mod BodiesMake
 pub mod PlainProofs
 pub mod Deriving
 pub mod Proving
+pub mod Offered

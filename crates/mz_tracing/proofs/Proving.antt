@@ -9,22 +9,19 @@ use Rattle.mz_logic.specs.LegalLists.{AreDummies}
 use Rattle.mz_logic.specs.declared.binder.Binder.{Binder}
 use Rattle.mz_mmu.specs.Proof.{Proof}
 use Rattle.mz_type.specs.Meaning.{IsProofOf}
-use Rattle.mz_type.proofs.GapFree.{allowed}
+use Rattle.mz_type.proofs.Offered.{allowed}
 use Rattle.mz_unification.specs.Streams.{of_assertion}
 use Rattle.mz_unification.specs.Spells.{trees_of, Text, SpellsThm}
 use Rattle.mz_unification.specs.Profile.{strict, proof}
 use Rattle.mz_unification.specs.Sorted.{Sorted, AllSorted, ItemsSorted}
 use Rattle.mz_unification.specs.UnifyMachine.{at_end}
-use Rattle.mz_unification.proofs.Inverting.{taken-is}
-use Rattle.mz_unification.proofs.OneSpelling.{one-assertion}
-use Rattle.mz_unification.proofs.OwnStream.{assertion-spelled}
+use Rattle.mz_unification.proofs.Offered.{taken-is, one-assertion, assertion-spelled}
 use Rattle.mz_soundness.specs.Tables.{Tables, State, Kind, is_theorem, Heading, Declares}
 use Rattle.mz_soundness.specs.ProofMachine.{last_item, ending, own_variables, own_stream, as_proofs, proof_row, proof_end}
 use Rattle.mz_soundness.specs.Bodies.{body_start}
 use Rattle.mz_soundness.specs.Facts.{AreProvableClaims, Fact}
 use Rattle.mz_soundness.specs.Sound.{thm_row}
-use Rattle.mz_soundness.proofs.Assertions.{end-ran, own-run, made}
-use Rattle.mz_soundness.proofs.WholeBody.{start-fact}
+use Rattle.mz_soundness.proofs.Offered.{end-ran, own-run, made, start-fact}
 use Rattle.mz_tracing.specs.Traces.{Trace, traced, trace_start, trace_body, under_lets}
 use Rattle.mz_tracing.specs.Laws.{MadeProofsProve}
 use Rattle.mz_tracing.proofs.Standing.{EachIs}

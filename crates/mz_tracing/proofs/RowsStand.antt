@@ -15,13 +15,12 @@ use Rattle.mz_unification.specs.Profile.{strict, tree_parts, Item, expr, proof, 
 use Rattle.mz_unification.specs.Tests.{same_tree}
 use Rattle.mz_unification.specs.Laws.{citing, unfolding_by}
 use Rattle.mz_unification.specs.UnifyMachine.{Matching, UnifyState, unify}
-use Rattle.mz_unification.proofs.Inverting.{from_bind, from_then, from_need, from_want, rule_of-ok, taken, taken-is, both-true}
-use Rattle.mz_unification.proofs.Trees.{same_tree-true, trees_of-listed, listed-trees_of}
+use Rattle.mz_unification.proofs.Offered.{from_bind, from_then, from_need, from_want, rule_of-ok, taken, taken-is, both-true, same_tree-true, trees_of-listed, listed-trees_of}
 use Rattle.mz_soundness.specs.Tables.{Tables, signatures_in, State, Pairwise}
 use Rattle.mz_soundness.specs.Premises.{pop, pop_expr, pop_proof, pop_obligation, pop_conversion, pop_operands, pop_sides}
 use Rattle.mz_soundness.specs.Premises.{is_conversion, is_obligation, may_be_dummy_sort, bound_count, operands_fit, are_apart}
 use Rattle.mz_soundness.specs.ProofMachine.{built, citation, matched_by, cited, referred, sides, same_term, stream_of, unfolding_of, has_provable_sort, proof_row}
-use Rattle.mz_soundness.proofs.Declared.{pair-at}
+use Rattle.mz_soundness.proofs.Offered.{pair-at}
 use Rattle.mz_tracing.specs.Parts.{Part, expression, proved, owed, converted, for_proof, for_turned, for_unfolded, for_cut, paid, by_operands, proofs_above}
 use Rattle.mz_tracing.specs.Traces.{Trace, stacked, kept, named, conversion_saved, to_convert, below_sides, variables_in, traced}
 use Rattle.mz_tracing.specs.Traces as making

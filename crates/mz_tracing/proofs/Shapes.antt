@@ -8,8 +8,7 @@ use Rattle.mz_logic.specs.Tree.{Tree, Trees, var, app, none, more, listed}
 use Rattle.mz_logic.specs.declared.binder.Binder.{Binder}
 use Rattle.mz_unification.specs.Spells.{trees_of, TermRow}
 use Rattle.mz_unification.specs.Profile.{strict, Item, proof}
-use Rattle.mz_unification.proofs.Inverting.{some_is}
-use Rattle.mz_unification.proofs.Trees.{listed-trees_of}
+use Rattle.mz_unification.proofs.Offered.{some_is, listed-trees_of}
 use Rattle.mz_soundness.specs.Tables.{Tables, signatures_in, State}
 use Rattle.mz_soundness.specs.ProofMachine.{proof_row}
 use Rattle.mz_tracing.specs.Traces.{Trace, traced}

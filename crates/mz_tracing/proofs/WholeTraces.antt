@@ -13,7 +13,7 @@ use Rattle.mz_mmu.specs.Proof.{Proof}
 use Rattle.mz_unification.specs.Steps.{◌>>◌, need, at_place, Turn, over, goes_on, follow}
 use Rattle.mz_unification.specs.Profile.{strict, expr}
 use Rattle.mz_unification.specs.UnifyMachine.{is_empty}
-use Rattle.mz_unification.proofs.Inverting.{from_bind, from_need, place-ok, taken, taken-is}
+use Rattle.mz_unification.proofs.Offered.{from_bind, from_need, place-ok, taken, taken-is}
 use Rattle.mz_soundness.specs.Tables.{Tables, State, Heading, Pairwise}
 use Rattle.mz_soundness.specs.ProofMachine.{built, proof_row, own_variables, ends_with, matched_by, proof_end}
 use Rattle.mz_soundness.specs.Bodies.{BodyCommand, ends, proves, body_command, body_turn_by, body_turn, body_from}

@@ -33,6 +33,10 @@ const SPECIFIED: &str = "specified: 19 bytes\n";
 
 const MADE_SPEC: &str = "provable sort wff;\n";
 
+const DECOMPILING: &str = "decompile spec bin out";
+
+const DECOMPILED: &str = "decompiled: 20 bytes\n";
+
 const SAMPLE_ONE: &str =
     "sample: 367 bytes of specification, 514 bytes of text\naccepted: 2 sorts, 2 terms, 3 axioms, 1 definitions, 2 theorems\n";
 
@@ -48,6 +52,7 @@ pub const RUNS: &[(&str, u8, u8, &str)] = &[
     ("draft open gap", 6, 0, OPEN),
     ("portable spec bin", 6, 0, ACCEPTED_ONE),
     (SPECIFYING, 3, 1, SPECIFIED),
+    (DECOMPILING, 6, 1, DECOMPILED),
     ("sample 1", 0, 0, SAMPLE_ONE),
 ];
 
@@ -76,12 +81,13 @@ pub fn smallest(alloc: Global) -> Result<MemFolder, AllocError> {
     Ok(folder)
 }
 
-/// What a command puts that puts a file: the smallest binary, or the specification of the smallest text.
+/// What a command puts that puts a file: the smallest binary, its text, or the specification of this.
 fn made_by(line: &str) -> &[u8] {
-    if line == SPECIFYING {
-        return MADE_SPEC.as_bytes();
+    match line {
+        SPECIFYING => MADE_SPEC.as_bytes(),
+        DECOMPILING => SORT.as_bytes(),
+        _ => ONE,
     }
-    ONE
 }
 
 /// Asserts that the files are as they were, and whether one was put.
@@ -253,6 +259,8 @@ const LIMITS: &[(u32, &str, Option<&str>)] = &[
     (90, "draft open gap", Some(OPEN)),
     (19, SPECIFYING, None),
     (20, SPECIFYING, Some(SPECIFIED)),
+    (50, DECOMPILING, None),
+    (51, DECOMPILING, Some(DECOMPILED)),
     (0, "sample 1", Some(SAMPLE_ONE)),
 ];
 

@@ -3,7 +3,11 @@
 #![tactic(auto)]
 
 #[cfg(test)]
+mod binaries;
+#[cfg(test)]
 mod compiling;
+#[cfg(test)]
+mod decompiling;
 #[cfg(test)]
 mod failing;
 #[cfg(test)]

@@ -15,7 +15,7 @@ pub fn words_of(alloc: Global, line: &str) -> Result<Vec<String>, AllocError> {
 }
 
 /// A room for each binary of these tests.
-const ROOM: u64 = 4096;
+const ROOM: u64 = 20_000;
 
 /// How compiling a text ends, the folder after it, and what was written.
 pub fn compiled(alloc: Global, text: &[u8]) -> Result<(Status, MemFolder, MemSink), AllocError> {

@@ -1,9 +1,10 @@
 ghost use Rattle.std.specs.Prelude.{ℕ, suc, ◌≡◌, ◌<◌, ◌∷◌, [], Some, length, slice_get, false};
 ghost use Rattle.mz_logic.specs.Words.{term_at};
 
+use mz_copies::copy_of;
 use mz_logic::{
     Binder, Binders, Decl, DeclFault, Deps, Env, Expr, Exprs, ResultType, SortMods, TermDecl,
-    TermForm, Terms, ThmDecl, ThmForm, Word, check_decl, copy_of, same_expr,
+    TermForm, Terms, ThmDecl, ThmForm, Word, check_decl, same_expr,
 };
 use std::alloc::{AllocError, Global};
 use std::test::Fail;

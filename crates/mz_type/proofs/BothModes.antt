@@ -17,7 +17,7 @@ use Rattle.mz_mmu.specs.declared.keyword.Kind.{Kind}
 use Rattle.mz_mmu.specs.declared.keyword.Kind.TheVariants.{Sort as sort_kind, Term as term_kind, Axiom as axiom_kind, Def as def_kind, Theorem as theorem_kind, Other as no_kind}
 use Rattle.mz_mmu.specs.Proofs.{conv_keyword, proof_keyword, IsConv, IsConvBy, AreConvs, IsProof, IsProofBy, AreProofs}
 use Rattle.mz_mmu.specs.Statements.{kind_of, is_local_word, IsHyp, AreHyps, AreNamedHyps, scope_of, IsDeclared, IsLocal, IsMarked, IsStatement, AreStatements, no_names, names_with}
-use Rattle.mz_mmu.proofs.OnlyDrafts.{only_drafts}
+use Rattle.mz_mmu.proofs.Offered.{only_drafts}
 use Rattle.mz_type.specs.Laws.{ModesAgree}
 use Rattle.mz_type.specs.Meaning.{IsProvedAsStated, LegalAsStatedAfter}
 use Rattle.mz_type.specs.TextOf.{TextOf}

@@ -1,7 +1,7 @@
 -- One part more of what is built.
 use Rattle.std.proofs.Common.{ℕ, ◌≡◌, ◌<◌, ◌≤◌, ◌+◌, List, length, get_or, drop, sym, ap, ◌∙◌, arith}
 use Rattle.mz_logic.specs.Tree.{Tree, Trees, none, more, followed_by}
-use Rattle.mz_logic.proofs.Follow.{followed_by_none, followed_by_push}
+use Rattle.mz_logic.proofs.Offered.{followed_by_none, followed_by_push}
 use Rattle.mz_mmu.specs.ConvCode.{conv_steps, convs_steps}
 use Rattle.mz_mmu.specs.ConvView.{conversion, conversions}
 use Rattle.mz_mmu.specs.declared.conv.Conv.{Conv}

@@ -4,7 +4,7 @@ use Rattle.std.proofs.lemmas.List.{drop_more}
 use Rattle.mz_logic.specs.Tree.{Trees, var, app, none, more, listed, operand, instances, followed_by, variables}
 use Rattle.mz_logic.specs.View.{trees}
 use Rattle.mz_logic.specs.declared.expr.Expr.{Expr}
-use Rattle.mz_logic.proofs.Trees.{length-trees}
+use Rattle.mz_logic.proofs.Offered.{length-trees}
 use Rattle.mz_mmu.specs.ConvView.{conversions}
 use Rattle.mz_mmu.specs.declared.conv.Conv.{Conv}
 use Rattle.mz_type.specs.Claims.{all_put_in, claim_tree, claim_trees}

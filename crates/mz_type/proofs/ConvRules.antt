@@ -4,7 +4,7 @@ use Rattle.std.proofs.lemmas.Option.{slice_get-get_or, get_or_from_slice_get}
 use Rattle.mz_checks.specs.Checks.{AllHold}
 use Rattle.mz_sexpr.specs.Node.{Node, Nodes, parts}
 use Rattle.mz_sexpr.specs.Number.{first, rest}
-use Rattle.mz_checks.proofs.InOrder.{all_hold-first, all_hold-rest, all_hold-both}
+use Rattle.mz_checks.proofs.Offered.{all_hold-first, all_hold-rest, all_hold-both}
 use Rattle.mz_logic.specs.Tree.{Tree, Trees, app, none, more, listed, instance, followed_by, variables}
 use Rattle.mz_logic.specs.Signature.{Signature}
 use Rattle.mz_logic.specs.Declaration.{Form, plain_form, abstract_form, defined, Term, Declaration, sort_decl, term_decl, assertion_decl, dummies_of, terms, signatures}
@@ -12,8 +12,7 @@ use Rattle.mz_logic.specs.Sorts.{HasSort, Fits, IsSorted}
 use Rattle.mz_logic.specs.Legality.{signature_at, sort_of}
 use Rattle.mz_logic.specs.Conversions.{Conversion, Conversions, refl_conv, sym_conv, cong_conv, unfold_conv, gap_conv, no_convs, more_convs, AreFresh, Between, AllBetween}
 use Rattle.mz_logic.specs.declared.binder.Binder.{Binder}
-use Rattle.mz_logic.proofs.Rules.{sort_is, signature_is, many_of_fits}
-use Rattle.mz_logic.proofs.Sound.{signature_of_term}
+use Rattle.mz_logic.proofs.Offered.{sort_is, signature_is, many_of_fits, signature_of_term}
 use Rattle.mz_type.specs.Parts.{part, is_list}
 use Rattle.mz_type.specs.Sides.{left, right, lefts, rights, term_at, is_defined, body_tree}
 use Rattle.mz_type.specs.Rules.{expr_rules, exprs_rules, operand_rules, conv_rules, convs_rules, unfold_rules, side_rules, variable_rules, conv_count, AreNew, refl_node}

@@ -1,7 +1,7 @@
 -- Steps of the checks of conversions.
 use Rattle.std.proofs.Common.{ℕ, suc, ◌≡◌, ◌<◌, ◌+◌, true≢false, IsTrue, List, [], ◌∷◌, length, get_or, drop, slice_get, None, Result, refl, sym, ap, subst, inl, inr}
 use Rattle.mz_checks.specs.Checks.{Checks, demand, ◌>>◌, AllHold, FailsFirst}
-use Rattle.mz_checks.proofs.InOrder.{fails-after, all_hold-both}
+use Rattle.mz_checks.proofs.Offered.{fails-after, all_hold-both}
 use Rattle.mz_sexpr.specs.declared.rule.U.{U}
 use Rattle.mz_sexpr.specs.Node.{Node, Nodes, place, parts}
 use Rattle.mz_sexpr.specs.Number.{first, rest}
@@ -11,7 +11,7 @@ use Rattle.mz_logic.specs.Declaration.{Form, plain_form, abstract_form, defined,
 use Rattle.mz_logic.specs.Legality.{signature_at, AllInRange}
 use Rattle.mz_logic.specs.Conversions.{Conversion, Conversions, unfold_conv}
 use Rattle.mz_logic.specs.declared.binder.Binder.{Binder}
-use Rattle.mz_logic.proofs.Rules.{ranges_of_fits}
+use Rattle.mz_logic.proofs.Offered.{ranges_of_fits}
 use Rattle.mz_mmu.specs.Order.{fault}
 use Rattle.mz_mmu.specs.Stops.{Stops}
 use Rattle.mz_mmu.specs.declared.fault.Fault.{Fault}

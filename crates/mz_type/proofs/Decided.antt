@@ -2,7 +2,7 @@
 use Rattle.std.proofs.Common.{ℕ, zero, suc, ◌≡◌, ◌<◌, ◌⊎◌, inl, inr, Bool, true, false, true≢false, List, [], ◌∷◌, length, slice_get, All, Contains, Some, None, Option, refl, sym, ap, ◌∙◌, subst, arith}
 use Rattle.std.specs.Prelude.{IsBitSet}
 use Rattle.std.proofs.lemmas.Bool.{cases_eq, cases_lt}
-use Rattle.mz_checks.proofs.InOrder.{implied-decided, both-decided}
+use Rattle.mz_checks.proofs.Offered.{implied-decided, both-decided}
 use Rattle.mz_logic.specs.Tree.{Tree, Trees, var, app, none, more, operand}
 use Rattle.mz_logic.specs.Signature.{Signature}
 use Rattle.mz_logic.specs.Modifiers.{IsPure, IsStrict, IsProvable, IsFree, MayBeResultSort, MayBeBoundSort, MayBeDummySort, MayBeClaimSort}
@@ -12,9 +12,7 @@ use Rattle.mz_logic.specs.Legality.{IsParam, InRange}
 use Rattle.mz_logic.specs.Conversions.{IsBoundOf}
 use Rattle.mz_logic.specs.declared.binder.Binder.{Binder}
 use Rattle.mz_logic.specs.declared.binder.SortMods.{SortMods}
-use Rattle.mz_logic.proofs.Instance.{one_at, none_some}
-use Rattle.mz_logic.proofs.Lists.{each_from_all, all_from_each}
-use Rattle.mz_logic.proofs.Scoped.{DepsInside, free_below}
+use Rattle.mz_logic.proofs.Offered.{one_at, none_some, each_from_all, all_from_each, DepsInside, free_below}
 use Rattle.mz_type.specs.Rules.{AreNew}
 
 abbrev pub Decided : Type 0 → Type 0

@@ -5,7 +5,7 @@ use Rattle.mz_checks.specs.Checks.{AllHold, demand, ◌>>◌}
 use Rattle.mz_sexpr.specs.Node.{Node, Nodes, place, parts}
 use Rattle.mz_sexpr.specs.Number.{first, rest}
 use Rattle.mz_sexpr.specs.declared.rule.U.{U}
-use Rattle.mz_checks.proofs.InOrder.{all_hold-first, all_hold-rest, all_hold-both}
+use Rattle.mz_checks.proofs.Offered.{all_hold-first, all_hold-rest, all_hold-both}
 use Rattle.mz_logic.specs.Tree.{Tree, Trees, var, app, none, more, listed}
 use Rattle.mz_logic.specs.Signature.{Signature}
 use Rattle.mz_logic.specs.Declaration.{Declaration, sorts, signatures}
@@ -13,7 +13,7 @@ use Rattle.mz_logic.specs.Modifiers.{MayBeClaimSort}
 use Rattle.mz_logic.specs.Sorts.{HasSort, Fits, HasProvable}
 use Rattle.mz_logic.specs.Legality.{binder_at, signature_at, sort_of}
 use Rattle.mz_logic.specs.declared.binder.Binder.{Binder}
-use Rattle.mz_logic.proofs.Rules.{sort_is, signature_is, many_of_fits}
+use Rattle.mz_logic.proofs.Offered.{sort_is, signature_is, many_of_fits}
 use Rattle.mz_mmu.specs.Order.{fault}
 use Rattle.mz_type.specs.Rules.{expr_rules, exprs_rules, operand_rules, claim_rules}
 use Rattle.mz_type.specs.Names.{ExprThere, ExprsThere}

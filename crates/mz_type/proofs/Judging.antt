@@ -2,7 +2,7 @@
 use Rattle.std.proofs.Common.{◌≡◌, Result, Ok, Err, Vec, inr, sym, subst}
 use Rattle.std.specs.Result.{IsErrAnd}
 use Rattle.mz_checks.specs.Checks.{Checks, ask, ◌>>◌, AllHold, FailsFirst, Judges}
-use Rattle.mz_checks.proofs.InOrder.{fails-before, fails-after, all_hold-both, Decides, decides-after}
+use Rattle.mz_checks.proofs.Offered.{fails-before, fails-after, all_hold-both, Decides, decides-after}
 use Rattle.mz_mmu.specs.Stops.{Stops}
 use Rattle.mz_mmu.specs.declared.fault.Fault.{Fault}
 use Rattle.mz_mmu.specs.declared.fault.Stop.{Stop}

@@ -26,3 +26,4 @@ mod WeightBound
 mod Written
 mod TextFaults
 mod Readying
+pub mod Offered

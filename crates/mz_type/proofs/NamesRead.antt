@@ -4,7 +4,7 @@ use Rattle.std.specs.Prelude.{bytes_eq, option_map, if◌then◌else◌}
 use Rattle.mz_sexpr.specs.Node.{Node, Nodes, atom, list, no_nodes, node}
 use Rattle.mz_logic.specs.Tree.{Tree, Trees}
 use Rattle.mz_logic.specs.Conversions.{Conversion, Conversions}
-use Rattle.mz_logic.proofs.Instance.{none_some}
+use Rattle.mz_logic.proofs.Offered.{none_some}
 use Rattle.mz_mmu.specs.Name.{Scope, number_of, HasNumber}
 use Rattle.mz_mmu.specs.Expressions.{IsExpr, AreExprs, IsExprList}
 use Rattle.mz_mmu.specs.Proof.{Proof, Proofs}

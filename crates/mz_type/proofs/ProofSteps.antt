@@ -3,7 +3,7 @@ use Rattle.std.proofs.Common.{ℕ, ◌≡◌, ◌<◌, ◌≤◌, ◌+◌, List,
 use Rattle.std.proofs.lemmas.List.{drop_more}
 use Rattle.std.proofs.lemmas.Option.{slice_get-get_or}
 use Rattle.mz_checks.specs.Checks.{Checks, demand, ◌>>◌, AllHold, FailsFirst}
-use Rattle.mz_checks.proofs.InOrder.{fails-after, all_hold-both}
+use Rattle.mz_checks.proofs.Offered.{fails-after, all_hold-both}
 use Rattle.mz_sexpr.specs.declared.rule.U.{U}
 use Rattle.mz_sexpr.specs.Node.{Node, Nodes, place, parts}
 use Rattle.mz_sexpr.specs.Number.{first, rest}
@@ -15,7 +15,7 @@ use Rattle.mz_logic.specs.Variables.{Apart}
 use Rattle.mz_logic.specs.View.{tree, trees}
 use Rattle.mz_logic.specs.declared.binder.Binder.{Binder}
 use Rattle.mz_logic.specs.declared.expr.Expr.{Expr}
-use Rattle.mz_logic.proofs.Instance.{none_some}
+use Rattle.mz_logic.proofs.Offered.{none_some}
 use Rattle.mz_mmu.specs.Order.{fault}
 use Rattle.mz_mmu.specs.Stops.{Stops}
 use Rattle.mz_mmu.specs.declared.fault.Fault.{Fault}

@@ -5,7 +5,7 @@ use Rattle.std.proofs.lemmas.Bool.{cases_eq}
 use Rattle.std.proofs.lemmas.Option.{slice_get_within}
 use Rattle.std.proofs.lemmas.List.Elements.{All-contains}
 use Rattle.mz_checks.specs.Checks.{Checks, nothing, ask, retold, AreDecided}
-use Rattle.mz_checks.proofs.InOrder.{are_decided-both, implied-decided, both-decided}
+use Rattle.mz_checks.proofs.Offered.{are_decided-both, implied-decided, both-decided}
 use Rattle.mz_sexpr.specs.Node.{Node, Nodes, parts}
 use Rattle.mz_sexpr.specs.Number.{first, rest}
 use Rattle.mz_logic.specs.Tree.{Tree, Trees, var, app, none, more, listed, instance, instances, followed_by, variables}
@@ -15,10 +15,7 @@ use Rattle.mz_logic.specs.Variables.{IsBoundAt}
 use Rattle.mz_logic.specs.Legality.{signature_at, sort_of, AreParams, IsDummy}
 use Rattle.mz_logic.specs.Conversions.{Conversion, Conversions, refl_conv, sym_conv, cong_conv, unfold_conv, gap_conv, no_convs, more_convs}
 use Rattle.mz_logic.specs.declared.binder.Binder.{Binder}
-use Rattle.mz_logic.proofs.Fresh.{split_at}
-use Rattle.mz_logic.proofs.Lists.{each_from_all}
-use Rattle.mz_logic.proofs.Rules.{range_of_sort}
-use Rattle.mz_logic.proofs.Scoped.{DepsInside}
+use Rattle.mz_logic.proofs.Offered.{split_at, each_from_all, range_of_sort, DepsInside}
 use Rattle.mz_mmu.specs.Order.{in_statement}
 use Rattle.mz_mmu.specs.Proof.{Proof, Proofs, by_hyp, by_name, by_citation, by_conv, by_let, by_gap, no_proofs, more_proofs, Statement}
 use Rattle.mz_type.specs.Parts.{is_list, after, part, declared_parts}

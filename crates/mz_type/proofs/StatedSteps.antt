@@ -2,7 +2,7 @@
 use Rattle.std.proofs.Common.{ℕ, zero, suc, ◌≡◌, ◌<◌, ◌+◌, ◌^◌, List, [], ◌∷◌, ◌++◌, length, get_or, refl, sym, ap, ◌∙◌, subst, arith, Bool, Some, None, length-append, append-nil}
 use Rattle.std.specs.Prelude.{option_map, slice_get}
 use Rattle.mz_checks.specs.Checks.{AllHold}
-use Rattle.mz_checks.proofs.InOrder.{Decides, decides-whole}
+use Rattle.mz_checks.proofs.Offered.{Decides, decides-whole}
 use Rattle.mz_sexpr.specs.Node.{Nodes}
 use Rattle.mz_sexpr.specs.Number.{first, rest, node_count}
 use Rattle.mz_logic.specs.Declaration.{Declaration}

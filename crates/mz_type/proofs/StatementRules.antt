@@ -1,7 +1,7 @@
 -- The rules of a statement hold exactly where it is legal by its proof.
 use Rattle.std.proofs.Common.{ℕ, zero, suc, ◌≡◌, ◌+◌, Bool, true, true≢false, List, [], ◌∷◌, ◌++◌, slice_get, length, All, Contains, Option, Some, None, refl, sym, ◌∙◌, subst, arith, add-zero, add-suc, suc-add}
 use Rattle.mz_checks.specs.Checks.{AllHold}
-use Rattle.mz_checks.proofs.InOrder.{all_hold-first, all_hold-rest, all_hold-both}
+use Rattle.mz_checks.proofs.Offered.{all_hold-first, all_hold-rest, all_hold-both}
 use Rattle.mz_sexpr.specs.Node.{Node, Nodes, parts}
 use Rattle.mz_sexpr.specs.Number.{first, rest}
 use Rattle.mz_logic.specs.Tree.{Trees, none, more}
@@ -14,11 +14,7 @@ use Rattle.mz_logic.specs.Legality.{EachTree, IsParam, AreParams, IsDummy, IsLeg
 use Rattle.mz_logic.specs.LegalLists.{AreDummies}
 use Rattle.mz_logic.specs.Derivations.{Derives, no_derivs}
 use Rattle.mz_logic.specs.declared.binder.Binder.{Binder}
-use Rattle.mz_logic.proofs.Instance.{one_at, none_some}
-use Rattle.mz_logic.proofs.Rules.{sort_is}
-use Rattle.mz_logic.proofs.Lists.{each_from_all, all_from_each}
-use Rattle.mz_logic.proofs.EightRules.{legal_by_rules}
-use Rattle.mz_logic.proofs.PlainLegality.{terms_are_sorted, assertions_are_sorted}
+use Rattle.mz_logic.proofs.Offered.{one_at, none_some, sort_is, each_from_all, all_from_each, legal_by_rules, terms_are_sorted, assertions_are_sorted}
 use Rattle.mz_mmu.specs.Gaps.{SomeLeavesOnly, HasGapsOnly}
 use Rattle.mz_mmu.specs.Proof.{Proof, Statement}
 use Rattle.mz_type.specs.Parts.{part, declared_parts}

@@ -7,9 +7,7 @@ use Rattle.mz_logic.specs.Legality.{IsDummy}
 use Rattle.mz_logic.specs.LegalLists.{MayBeLocal}
 use Rattle.mz_logic.specs.Laws.{SortsThere}
 use Rattle.mz_logic.specs.declared.binder.Binder.{Binder}
-use Rattle.mz_logic.proofs.Extend.{sorts-append, assertions-append}
-use Rattle.mz_logic.proofs.Instance.{one_at, none_some}
-use Rattle.mz_logic.proofs.Lists.{all_from_each}
+use Rattle.mz_logic.proofs.Offered.{sorts-append, assertions-append, one_at, none_some, all_from_each}
 use Rattle.mz_mmu.specs.Name.{Names}
 use Rattle.mz_mmu.specs.Expressions.{IsParam as IsParamNode, IsDummy as IsDummyNode, AreBinders, AreParams, AreDummies}
 use Rattle.mz_mmu.specs.Proof.{Proof, Statement}

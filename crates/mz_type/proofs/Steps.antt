@@ -2,7 +2,7 @@
 use Rattle.std.proofs.Common.{ℕ, zero, suc, ◌≡◌, ◌<◌, ◌≤◌, ◌+◌, ◌-◌, Contains, List, [], ◌∷◌, length, get_or, drop, slice_get, Some, None, refl, sym, ap, ◌∙◌, subst, arith}
 use Rattle.std.proofs.lemmas.List.{drop_more, drop_all, get_or-drop, length-drop}
 use Rattle.mz_checks.specs.Checks.{Checks, AllHold, demand, ◌>>◌}
-use Rattle.mz_checks.proofs.InOrder.{Decides, decides-after}
+use Rattle.mz_checks.proofs.Offered.{Decides, decides-after}
 use Rattle.mz_sexpr.specs.Node.{Nodes}
 use Rattle.mz_sexpr.specs.Number.{first, rest}
 use Rattle.mz_sexpr.specs.declared.rule.U.{U}

@@ -2,8 +2,7 @@
 use Rattle.std.proofs.Common.{ℕ, suc, ◌≡◌, inl, inr, Bool, true, List, [], ◌∷◌, ◌++◌, All, Option}
 use Rattle.std.proofs.lemmas.List.Elements.{All-head, All-tail}
 use Rattle.mz_checks.specs.Checks.{Checks, nothing, ask, retold, AllHold}
-use Rattle.mz_checks.proofs.CheckLaws.{fails_first-unique, all_hold-excludes, all_hold-or_fails}
-use Rattle.mz_checks.proofs.InOrder.{all_hold-first, all_hold-rest, all_hold-both}
+use Rattle.mz_checks.proofs.Offered.{fails_first-unique, all_hold-excludes, all_hold-or_fails, all_hold-first, all_hold-rest, all_hold-both}
 use Rattle.mz_sexpr.specs.Node.{Nodes}
 use Rattle.mz_sexpr.specs.Number.{first, rest}
 use Rattle.mz_logic.specs.Declaration.{Declaration, sort_decl, term_decl, assertion_decl}
@@ -14,7 +13,7 @@ use Rattle.mz_mmu.specs.Gaps.{HasGapsOnly}
 use Rattle.mz_mmu.specs.Order.{in_statement}
 use Rattle.mz_mmu.specs.Proof.{Proof, Statement}
 use Rattle.mz_mmu.specs.Statements.{no_names}
-use Rattle.mz_mmu.proofs.OnlyDrafts.{only_drafts}
+use Rattle.mz_mmu.proofs.Offered.{only_drafts}
 use Rattle.mz_type.specs.Rules.{statement_rules, rules_from, text_rules}
 use Rattle.mz_type.specs.Meaning.{derivation, IsProvedAsStated, LegalAsStatedAfter, marked}
 use Rattle.mz_type.specs.Names.{StatementsThere}

@@ -2,7 +2,7 @@
 use Rattle.std.proofs.Common.{ℕ, suc, ◌≡◌, ◌+◌, Bool, true, false, List, [], ◌∷◌, ◌++◌, sym, ap, ◌∙◌, subst}
 use Rattle.std.specs.Prelude.{⊤}
 use Rattle.mz_checks.specs.Checks.{Checks, ◌>>◌, retold, AllHold}
-use Rattle.mz_checks.proofs.InOrder.{Decides}
+use Rattle.mz_checks.proofs.Offered.{Decides}
 use Rattle.mz_sexpr.specs.Node.{Node, Nodes, atom, list, no_nodes, node, parts}
 use Rattle.mz_sexpr.specs.Number.{first, rest}
 use Rattle.mz_sexpr.specs.declared.rule.TextRefusal.{TextRefusal}
@@ -14,7 +14,7 @@ use Rattle.mz_mmu.specs.Statements.{is_local_word, names_with, IsMarked, IsState
 use Rattle.mz_mmu.specs.Stops.{Stops}
 use Rattle.mz_mmu.specs.declared.fault.Stop.{Stop}
 use Rattle.mz_mmu.specs.declared.fault.Stop.TheVariants as stop
-use Rattle.mz_mmu.proofs.TextSteps.{retold_fails}
+use Rattle.mz_mmu.proofs.Offered.{retold_fails}
 use Rattle.mz_type.specs.Names.{StatementThere, StatementsThere}
 use Rattle.mz_type.specs.Rules.{statement_rules, rules_from}
 use Rattle.mz_type.specs.Typing.{TextStops, IsStopped}

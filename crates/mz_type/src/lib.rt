@@ -5,7 +5,6 @@
 mod binders;
 mod claim;
 mod convs;
-mod copies;
 mod cursor;
 mod exprs;
 mod laws;
@@ -17,7 +16,6 @@ mod taking;
 mod typed;
 mod weigh;
 
-pub use copies::copy_of_decl;
 pub use laws::{
     limits_are_decided, modes_agree, rules_are_the_meaning, statements_can_be_words,
     typed_or_faulty, typed_or_refused,

@@ -41,10 +41,10 @@ start-agrees ps es all m len (extra, all-are) i p at small =
 
 -- ---- the hypotheses
 
-pub map-reverse : (g : Tree → Tree) (xs : List Tree) → map g (reverse xs) ≡ reverse (map g xs)
-map-reverse g [] = refl
-map-reverse g (x ∷ xs) =
-    ap (map g) (reverse-append (x ∷ []) xs) ∙ map-append g (reverse xs) (x ∷ []) ∙ ap (λ (z : List Tree). z ++ g x ∷ []) (map-reverse g xs) ∙ sym (reverse-append (g x ∷ []) (map g xs))
+pub map-reverse : {A B : Type 0} (f : A → B) (xs : List A) → map f (reverse xs) ≡ reverse (map f xs)
+map-reverse f [] = refl
+map-reverse {B = B} f (x ∷ xs) =
+    ap (map f) (reverse-append (x ∷ []) xs) ∙ map-append f (reverse xs) (x ∷ []) ∙ ap (λ (z : List B). z ++ f x ∷ []) (map-reverse f xs) ∙ sym (reverse-append (f x ∷ []) (map f xs))
 
 pub hypothesis-is : (items : List (Item Tree)) (r : Tree × List (Item Tree)) → next_hypothesis in_citation items ≡ Ok r → items ≡ proof r.0 ∷ r.1
 hypothesis-is [] r e = absurd cc

@@ -5,7 +5,7 @@ use Rattle.mz_logic.specs.Tree.{Tree, Trees, var, none, listed, operand, followe
 use Rattle.mz_logic.specs.Signature.{Signature}
 use Rattle.mz_logic.specs.Conversions.{AreFresh}
 use Rattle.mz_logic.specs.declared.binder.Binder.{Binder}
-use Rattle.mz_logic.proofs.Fresh.{slice_get-append_add}
+use Rattle.mz_logic.proofs.Offered.{slice_get-append_add}
 use Rattle.mz_unification.specs.Streams.{StreamKind, of_assertion, of_definition, StreamIs}
 use Rattle.mz_unification.specs.Spells.{trees_of, Marks, variables_from, at_first, SpellsText}
 use Rattle.mz_unification.specs.Profile.{strict, Item, proof}

@@ -8,7 +8,7 @@ use Rattle.mz_logic.specs.Legality.{sort_of}
 use Rattle.mz_logic.specs.Variables.{InV, InSomeV}
 use Rattle.mz_logic.specs.Conversions.{IsBoundOf, AreFresh}
 use Rattle.mz_logic.specs.declared.binder.Binder.{Binder}
-use Rattle.mz_logic.proofs.Fresh.{split_at}
+use Rattle.mz_logic.proofs.Offered.{split_at}
 use Rattle.mz_unification.specs.Spells.{trees_of}
 use Rattle.mz_unification.specs.Profile.{strict}
 use Rattle.mz_unification.specs.Tests.{is_bound_var, in_v}

@@ -18,3 +18,4 @@ pub mod SomeText
 pub mod Exact
 pub mod TwoOperands
 pub mod PlainRuns
+pub mod Offered

@@ -8,7 +8,7 @@ use Rattle.mz_logic.specs.Tree.{Tree, Trees, var, app, none, more, listed, size,
 use Rattle.mz_logic.specs.Signature.{Signature}
 use Rattle.mz_logic.specs.Declaration.{Form, plain_form, abstract_form, defined, Term, Assertion}
 use Rattle.mz_logic.specs.declared.binder.Binder.{Binder}
-use Rattle.mz_logic.proofs.Extend.{Extends}
+use Rattle.mz_logic.proofs.Offered.{Extends}
 use Rattle.mz_unification.specs.Streams.{StreamKind, of_assertion, of_definition, UnifyCommand, u_term, u_term_save, u_ref, u_dummy, u_hyp, u_end, unify_command, IsEnd, StreamIs}
 use Rattle.mz_unification.specs.Spells.{trees_of, dummy_of, Marks, marked, Spells, SpellsAll, SpellsHyps, at_first, Text, TermRow, ThmRow, SpellsThm, SpellsForm, SpellsTerm}
 use Rattle.mz_unification.proofs.Inverting.{some_is}

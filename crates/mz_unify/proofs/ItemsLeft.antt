@@ -17,7 +17,7 @@ use Rattle.mz_unification.specs.Streams.{of_definition, UnifyCommand, u_term, u_
 use Rattle.mz_unification.specs.Profile.{strict, Item, tree_parts}
 use Rattle.mz_unification.specs.Tests.{same_tree}
 use Rattle.mz_unification.specs.UnifyMachine.{at_end, in_definition, kind_of, UnifyState, top_target, operands_of, is_fresh, is_empty, unify_row, unify_turn_by, unify_turn, unify_from}
-use Rattle.mz_unification.proofs.Inverting.{from_need, taken-is, both-true}
+use Rattle.mz_unification.proofs.Offered.{from_need, taken-is, both-true}
 
 module _ (sigs : List Signature) (ctx : List Binder) where
   abbrev turned : Turn (UnifyState Tree) → Result (Turn (UnifyState Tree)) K

@@ -5,3 +5,4 @@ pub mod UnifyTurns
 pub mod Underway
 pub mod ItemsLeft
 pub mod RunsExact
+pub mod Offered

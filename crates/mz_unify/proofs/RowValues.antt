@@ -18,7 +18,7 @@ use Rattle.mz_unification.specs.UnifyMachine.{UnifyMode, UnifyState, is_empty, o
 use Rattle.mz_unify.specs.Stored.{stack_at}
 use Rattle.mz_unify.specs.Rows.{with_targets}
 use Rattle.mz_unify.proofs.StoredIds.{listed-trees, stack-operands}
-use Rattle.mz_unification.proofs.Trees.{same_tree-true, same_tree-refl}
+use Rattle.mz_unification.proofs.Offered.{same_tree-true, same_tree-refl}
 
 module _ (sigs : List Signature) (ctx : List Binder) (mode : UnifyMode) (st : UnifyState Tree) where
   -- ---- UTerm and UTermSave

@@ -21,8 +21,7 @@ use Rattle.mz_unify.specs.declared.unified.UnifyMode.{UnifyMode}
 use Rattle.mz_unify.specs.declared.unified.UnifyMode.TheVariants.{Use, Final, Body}
 use Rattle.mz_unify.specs.declared.unified.Unified.{Unified}
 use Rattle.mz_unify.specs.declared.unified.Unified.TheVariants.{Done, Refused, Mem}
-use Rattle.mz_unification.proofs.Exact.{citations-exact, unfoldings-exact, assertions-spelled}
-use Rattle.mz_unification.proofs.SomeText.{cited-spells, unfolded-spells}
+use Rattle.mz_unification.proofs.Offered.{citations-exact, unfoldings-exact, assertions-spelled, cited-spells, unfolded-spells}
 use Rattle.mz_unify.proofs.ItemsLeft.{ends-empty, with_items, put, run-items}
 
 -- ---- counting

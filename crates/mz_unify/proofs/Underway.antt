@@ -22,7 +22,7 @@ use Rattle.mz_unify.specs.declared.command.Command.{Command}
 use Rattle.mz_unify.specs.declared.command.Command.TheVariants.{Term, TermSave, Ref, Dummy, Hyp, End}
 use Rattle.mz_unify.specs.declared.command.Stop.{Stop}
 use Rattle.mz_unify.specs.declared.command.Stop.TheVariants.{Rule, Mem}
-use Rattle.mz_unification.proofs.Turning.{command-long}
+use Rattle.mz_unification.proofs.Offered.{command-long}
 use Rattle.mz_unify.proofs.UnifyTurns.{run_left, count_left, cut-run, cut-count, other-run, other-count, stopped-run, stopped-count, ended-run, ended-count, went-run, went-count}
 
 -- from here, at a place of the stream, what is left gives the whole

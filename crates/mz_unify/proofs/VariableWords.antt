@@ -21,7 +21,7 @@ use Rattle.mz_logic.specs.Sorts.{HasSort, IsBoundVar}
 use Rattle.mz_logic.specs.Legality.{sort_of}
 use Rattle.mz_unification.specs.Tests.{in_v, is_bound_var}
 use Rattle.mz_unification.specs.UnifyMachine.{within_any, is_fresh}
-use Rattle.mz_unification.proofs.TestLaws.{bound-is, is-bound, or-cases, or-left, or-right, in-v-true, v-in}
+use Rattle.mz_unification.proofs.Offered.{bound-is, is-bound, or-cases, or-left, or-right, in-v-true, v-in}
 use Rattle.mz_unify.proofs.StoredIds.{trees-append}
 
 pub tells-none : (places : List ℕ) (P : ℕ → Type 0) → ((x : ℕ) → P x → ⊥) → Tells places 0 P

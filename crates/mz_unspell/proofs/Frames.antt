@@ -3,7 +3,7 @@ use Rattle.std.proofs.Common.{ℕ, suc, ◌≡◌, ◌<◌, ◌≤◌, ◌⊎◌
 use Rattle.std.proofs.lemmas.Bool.{cases_eq}
 use Rattle.std.proofs.lemmas.List.{length-map}
 use Rattle.std.proofs.lemmas.Option.{slice_get_within}
-use Rattle.mz_layout.proofs.ListLaws.{slice_get-left}
+use Rattle.mz_layout.proofs.Offered.{slice_get-left}
 use Rattle.mz_logic.specs.Tree.{Tree, Trees, var, none, more, listed, size, trees_size}
 use Rattle.mz_logic.specs.Signature.{Signature}
 use Rattle.mz_logic.specs.declared.binder.Binder.{Binder}

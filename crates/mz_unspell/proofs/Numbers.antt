@@ -5,7 +5,7 @@ use Rattle.std.proofs.lemmas.Bool.{cases_eq, eqb-true}
 use Rattle.std.proofs.lemmas.List.{map-append, nil_from_length, reverse-append}
 use Rattle.std.proofs.lemmas.List.Elements.{All-nil, All-cons}
 use Rattle.std.proofs.lemmas.Option.{get_or_from_slice_get, slice_get_within}
-use Rattle.mz_layout.proofs.ListLaws.{slice_get-left}
+use Rattle.mz_layout.proofs.Offered.{slice_get-left}
 use Rattle.mz_logic.specs.Tree.{Tree, app, var}
 use Rattle.mz_logic.specs.declared.binder.Binder.{Binder}
 use Rattle.mz_unification.specs.Spells.{trees_of, variables_from}

@@ -9,13 +9,11 @@ use Rattle.mz_logic.specs.Modifiers.{MayBeDummySort}
 use Rattle.mz_logic.specs.Sorts.{HasProvable}
 use Rattle.mz_logic.specs.Variables.{IsBoundAt}
 use Rattle.mz_logic.specs.declared.binder.Binder.{Binder}
-use Rattle.mz_logic.proofs.Extend.{extends_append, extends_itself, sort_extends}
-use Rattle.mz_logic.proofs.Lists.{each_from_all}
-use Rattle.mz_logic.proofs.PlainLegality.{assertions_are_sorted, terms_are_sorted}
+use Rattle.mz_logic.proofs.Offered.{extends_append, extends_itself, sort_extends, each_from_all, assertions_are_sorted, terms_are_sorted}
 use Rattle.mz_unification.specs.Profile.{plain}
 use Rattle.mz_unification.specs.Spells.{Text, trees_of}
 use Rattle.mz_unification.specs.Streams.{of_assertion, of_definition}
-use Rattle.mz_unification.proofs.Trees.{trees_of-listed}
+use Rattle.mz_unification.proofs.Offered.{trees_of-listed}
 use Rattle.mz_soundness.specs.Bodies.{Runs}
 use Rattle.mz_soundness.specs.Lists.{kind_of, assertion_of, definition_of}
 use Rattle.mz_soundness.specs.Tables.{Tables, Heading, is_definition, Declares}
@@ -23,8 +21,7 @@ use Rattle.mz_steps.specs.Endings.{IsAsserted, IsEnding}
 use Rattle.mz_steps.specs.Laws.{DependOnFirst}
 use Rattle.mz_steps.specs.Sameness.{IsSameEnv, IsSameForm}
 use Rattle.mz_steps.specs.Works.{Work}
-use Rattle.mz_steps.proofs.Joining.{contexts-depend}
-use Rattle.mz_steps.proofs.WholeBodies.{bodies-run}
+use Rattle.mz_steps.proofs.Offered.{contexts-depend, bodies-run}
 use Rattle.mz_steps.specs.Bodies.{last_item, IsBody}
 
 ends-asserted : (env : List Declaration) (ctx : List Binder) (h : Heading) (w : Work) (e : Tree) (without_proof : Bool) → w.stack ≡ last_item (kind_of without_proof) e ∷ [] → IsAsserted (signatures env) h w.hyps e → HasProvable env ctx e

@@ -9,8 +9,7 @@ use Rattle.mz_logic.specs.LegalLists.{Statement}
 use Rattle.mz_layout.specs.Normal.{Written, Parts, file_of}
 use Rattle.mz_layout.specs.Standing.{AreListed, next_place}
 use Rattle.mz_layout.specs.Tables.{list_at}
-use Rattle.mz_layout.proofs.ListRead.{all-listed}
-use Rattle.mz_layout.proofs.PartsStand.{counts-said}
+use Rattle.mz_layout.proofs.Offered.{all-listed, counts-said}
 use Rattle.mz_soundness.specs.Lists.{kind_of}
 use Rattle.mz_machine.specs.BodyAnswers.{HasGap}
 use Rattle.mz_binary.specs.Gapped.{AssertionBody, body_there, place_after, body_of, bodies_from, IsGapped, leaves_gap, rests_on}

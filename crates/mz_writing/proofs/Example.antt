@@ -16,7 +16,7 @@ use Rattle.mz_logic.specs.Variables.{InFV, InSomeFV, IsOperandAt}
 use Rattle.mz_logic.specs.declared.binder.Binder.{Binder}
 use Rattle.mz_logic.specs.declared.binder.SortMods.{SortMods}
 use Rattle.mz_logic.specs.declared.word.Word.{Word}
-use Rattle.mz_logic.proofs.PlainLegality.{assertions_are_sorted, terms_are_sorted}
+use Rattle.mz_logic.proofs.Offered.{assertions_are_sorted, terms_are_sorted}
 use Rattle.mz_layout.specs.Normal.{Written}
 use Rattle.mz_layout.specs.Standing.{Fit, HasRoom}
 use Rattle.mz_unification.specs.Streams.{StreamKind, of_assertion, of_definition, UnifyCommand, u_term, u_dummy, StreamIs}
@@ -35,7 +35,7 @@ use Rattle.mz_steps.specs.SharedBodies.{AreDistinct, IsSharedBody}
 use Rattle.mz_streams.specs.SharedTexts.{IsSharedText}
 use Rattle.mz_streams.specs.Writing.{stream_of, AreShort}
 use Rattle.mz_streams.specs.Sharing.{Built, BuildsText, BuildsWholeOnce}
-use Rattle.mz_streams.proofs.Forgetting.{building-spells}
+use Rattle.mz_streams.proofs.Offered.{building-spells}
 use Rattle.mz_writing.proofs.Drafts.{body-too}
 use Rattle.mz_writing.specs.Writing.{IsWrittenAssertion, SayParams, SaySignature, IsWrittenAs}
 

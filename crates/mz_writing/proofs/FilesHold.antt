@@ -4,14 +4,10 @@ use Rattle.mz_logic.specs.LegalLists.{LegalBy, allowed_with}
 use Rattle.mz_layout.specs.Normal.{file_of}
 use Rattle.mz_layout.specs.Standing.{AreListed}
 use Rattle.mz_layout.specs.Tables.{list_at}
-use Rattle.mz_layout.proofs.LayoutHolds.{layout-holds}
-use Rattle.mz_layout.proofs.ListRead.{all-listed}
-use Rattle.mz_layout.proofs.PartsStand.{counts-said}
-use Rattle.mz_steps.proofs.Joining.{same-at-first}
+use Rattle.mz_layout.proofs.Offered.{layout-holds, all-listed, counts-said}
+use Rattle.mz_steps.proofs.Offered.{same-at-first}
 use Rattle.mz_binary.specs.Standards.{by_table}
-use Rattle.mz_binary.proofs.ByTable.{lets-with}
-use Rattle.mz_binary.proofs.LegalChains.{good-legal}
-use Rattle.mz_binary.proofs.WholeFiles.{good-spelled}
+use Rattle.mz_binary.proofs.Offered.{lets-with, good-legal, good-spelled}
 use Rattle.mz_writing.specs.Laws.{WrittenFilesAreGood, WrittenFilesSpell, WrittenListsAreLegal}
 use Rattle.mz_writing.proofs.ListsHold.{rest-good}
 

@@ -10,3 +10,4 @@ pub mod WordsSay
 pub mod Gaps
 pub mod BodiesWritten
 pub mod Drafts
+pub mod Offered

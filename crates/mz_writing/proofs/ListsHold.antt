@@ -16,17 +16,16 @@ use Rattle.mz_logic.specs.declared.binder.SortMods.{SortMods}
 use Rattle.mz_logic.specs.declared.word.Word.{Word}
 use Rattle.mz_layout.specs.Normal.{Written, Parts, file_of}
 use Rattle.mz_layout.specs.Standing.{Fit, Stands, AreListed, body_place, next_place}
-use Rattle.mz_layout.proofs.PartsStand.{counts-said}
-use Rattle.mz_layout.proofs.StandingLaws.{stands-bytes}
+use Rattle.mz_layout.proofs.Offered.{counts-said, stands-bytes}
 use Rattle.mz_soundness.specs.FileRows.{taken_by, rows_taken, body_bytes}
 use Rattle.mz_soundness.specs.Tables.{Declares}
-use Rattle.mz_soundness.proofs.Declared.{pairs-long}
+use Rattle.mz_soundness.proofs.Offered.{pairs-long}
 use Rattle.mz_binary.specs.Chains.{IsGoodStatement, GoodTo, EndsAt}
 use Rattle.mz_binary.specs.Checking.{AllTaken, term_checks, thm_checks, kind_checks, checks_of}
 use Rattle.mz_binary.specs.Spelling.{IsKindOf, is_local_code}
-use Rattle.mz_binary.proofs.LegalChains.{well-chain}
+use Rattle.mz_binary.proofs.Offered.{well-chain}
 use Rattle.mz_steps.specs.Sameness.{IsSameTerm, IsSameEnv}
-use Rattle.mz_steps.proofs.Joining.{same-with-sort, same-with-term, same-with-assertion}
+use Rattle.mz_steps.proofs.Offered.{same-with-sort, same-with-term, same-with-assertion}
 use Rattle.mz_writing.specs.Writing.{SaySignature, IsWrittenForm, IsWrittenDeclaration, IsWrittenStatement, HaveNoMore, AreWritten}
 use Rattle.mz_writing.proofs.RowsHold.{IsGoodRow, sort-good, plain-good, definition-good, assertion-good}
 use Rattle.mz_binary.specs.Standards.{by_table}

@@ -3,7 +3,7 @@ use Rattle.std.proofs.Common.{◌≡◌, ◌<◌, ◌∙◌, ℕ, Bool, true, fa
 use Rattle.std.specs.Prelude.{◌+◌, ◌*◌}
 use Rattle.std.proofs.lemmas.Option.{slice_get_within}
 use Rattle.mz_checks.specs.Checks.{Checks, AllHold}
-use Rattle.mz_checks.proofs.InOrder.{all_hold-both}
+use Rattle.mz_checks.proofs.Offered.{all_hold-both}
 use Rattle.mz_cmd.specs.declared.rule.K.{K}
 use Rattle.mz_logic.specs.Tree.{Tree, none}
 use Rattle.mz_logic.specs.Signature.{Signature}
@@ -17,9 +17,7 @@ use Rattle.mz_layout.specs.Normal.{Parts, row_of_term, row_of_thm, file_of}
 use Rattle.mz_layout.specs.NormalLaws.{written_term, written_thm, term_place, thm_place}
 use Rattle.mz_layout.specs.Standing.{Fit, Stands}
 use Rattle.mz_layout.specs.Tables.{TermRow as TermRecord, ThmRow as ThmRecord, sort_count, term_count, thm_count, term_row, thm_row}
-use Rattle.mz_layout.proofs.PartsStand.{SaysCounts, counts-said}
-use Rattle.mz_layout.proofs.TableLists.{slice_get-sorts}
-use Rattle.mz_layout.proofs.TablesRead.{mods-read, term-read, thm-read, term-stream, thm-stream}
+use Rattle.mz_layout.proofs.Offered.{SaysCounts, counts-said, slice_get-sorts, mods-read, term-read, thm-read, term-stream, thm-stream}
 use Rattle.mz_unification.specs.Profile.{plain}
 use Rattle.mz_unification.specs.Spells.{Text, TermRow, ThmRow, SpellsTerm, SpellsThm}
 use Rattle.mz_unification.specs.Streams.{of_assertion, of_definition}
@@ -28,18 +26,17 @@ use Rattle.mz_soundness.specs.FileRows.{taken_by, stream_of, term_of_file, thm_o
 use Rattle.mz_soundness.specs.Lists.{assertion_of, definition_of}
 use Rattle.mz_soundness.specs.RowWords.{IsResultWord, param_checks, word_checks}
 use Rattle.mz_soundness.specs.Tables.{Tables, Heading, is_definition, Declares}
-use Rattle.mz_soundness.proofs.Declared.{pairs-long}
-use Rattle.mz_soundness.proofs.Outcomes.{bodies-checked}
+use Rattle.mz_soundness.proofs.Offered.{pairs-long, bodies-checked}
 use Rattle.mz_binary.specs.Checking.{MayStand, term_body_checks, sort_checks, term_checks, thm_checks}
 use Rattle.mz_binary.specs.Spelling.{SpellsRow}
 use Rattle.mz_steps.specs.Sameness.{IsSameTerm, IsSameForm, IsSameEnv}
-use Rattle.mz_steps.proofs.SameTables.{same-signatures}
+use Rattle.mz_steps.proofs.Offered.{same-signatures}
 use Rattle.mz_steps.specs.Bodies.{IsBody}
 use Rattle.mz_streams.specs.SpellsBefore.{SpellsBefore}
 use Rattle.mz_writing.specs.Writing.{SayParams, SaySignature, IsWrittenAssertion}
 use Rattle.mz_writing.proofs.BodiesRun.{assertion-runs, definition-runs}
 use Rattle.mz_writing.proofs.WordsHold.{params-hold, words-hold}
-use Rattle.mz_binary.proofs.ByTable.{runs-with}
+use Rattle.mz_binary.proofs.Offered.{runs-with}
 use Rattle.mz_binary.specs.Standards.{profile_of, by_table}
 
 may-stand : (l b : Bool) → b ≡ true → MayStand l b

@@ -7,9 +7,9 @@ use Rattle.mz_logic.specs.Words.{word_deps, result_of}
 use Rattle.mz_logic.specs.WordsWritten.{words_of, result_word, bound_from}
 use Rattle.mz_logic.specs.declared.binder.Binder.{Binder}
 use Rattle.mz_logic.specs.declared.binder.ResultType.{ResultType}
-use Rattle.mz_logic.proofs.WordsWritten.{at-first, bits-few, result-says, places-same, params-back, results-back}
+use Rattle.mz_logic.proofs.Offered.{at-first, bits-few, result-says, places-same, params-back, results-back}
 use Rattle.mz_soundness.specs.RowWords.{bound_count}
-use Rattle.mz_soundness.proofs.WordsPass.{param-at, bound-words}
+use Rattle.mz_soundness.proofs.Offered.{param-at, bound-words}
 use Rattle.mz_writing.specs.WordsSay.{WordsSayParams, WordsSaySignatures}
 
 pub words-say-params : WordsSayParams

@@ -39,6 +39,11 @@ const OTHER_WORDS: &[&str] = &[
     "portable spec",
     "portable spec bin bin",
     "Portable spec bin",
+    "decompile",
+    "decompile spec",
+    "decompile spec bin",
+    "decompile spec bin out out",
+    "Decompile spec bin out",
     "sample 1 1",
     "spec bin",
 ];
@@ -81,11 +86,14 @@ const MISSING: &[(&str, Status, u64)] = &[
     ("draft bin other", Status::ReadFault, 4),
     ("portable other bin", Status::ReadFault, 1),
     ("portable bin other", Status::ReadFault, 4),
+    ("decompile other bin out", Status::ReadFault, 1),
+    ("decompile bin other out", Status::ReadFault, 4),
     ("verify bin", Status::Usage, 0),
     ("compile bin", Status::Usage, 0),
     ("assemble bin", Status::Usage, 0),
     ("axioms bin", Status::Usage, 0),
     ("draft bin", Status::Usage, 0),
+    ("decompile bin out", Status::Usage, 0),
 ];
 
 /// A file that is missing is the last one that is started; words of no command start none.
@@ -145,6 +153,7 @@ const COMMANDS: &[&str] = &[
     "axioms spec bin",
     "draft spec bin",
     "portable spec bin",
+    "decompile spec bin out",
     "sample 1",
 ];
 

@@ -1,8 +1,8 @@
 use Rattle.std.proofs.Common.{◌<◌, ◌^◌, ◌∙◌, List, [], ℕ, length, ap, arith, inl, sym, subst}
-use Rattle.mz_layout.proofs.PartsStand.{file-length}
+use Rattle.mz_layout.proofs.Offered.{file-length}
 use Rattle.mz_show.specs.Listing.{IsListing}
 use Rattle.mz_show.specs.Words.{texts}
-use Rattle.mz_show.proofs.OneListing.{text-unique}
+use Rattle.mz_show.proofs.Offered.{text-unique}
 use Rattle.mz_asm.specs.Assembling.{IsNormal, IsBinaryOf}
 use Rattle.mz_asm.specs.Rows.{no_rows}
 use Rattle.mz_asm.specs.Statements.{listing_lines, parts_of}

@@ -1,5 +1,5 @@
 use Rattle.std.proofs.Common.{ℕ, List, [], sym, subst, arith}
-use Rattle.mz_binary.proofs.Heads.{head-at}
+use Rattle.mz_binary.proofs.Offered.{head-at}
 use Rattle.mz_axioms.specs.declared.rows.Row.{Row}
 use Rattle.mz_axioms.proofs.Telling.{Walked, walked-first, walked-more, walked-last, walked-order}
 use Rattle.mz_axioms.proofs.walk.rows_of.Goals as goal

@@ -1,4 +1,4 @@
-use Rattle.mz_logic.proofs.Closing.{legal_list_is_closed}
+use Rattle.mz_logic.proofs.Offered.{legal_list_is_closed}
 use Rattle.mz_binary.specs.Standards.{strict_standard}
 use Rattle.mz_binary.proofs.ByTable.{good-by-table}
 use Rattle.mz_binary.proofs.LegalChains.{good-legal, cite-as-bodies}

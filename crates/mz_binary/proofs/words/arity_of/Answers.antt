@@ -1,6 +1,6 @@
 use Rattle.std.proofs.Common.{◌<◌, subst, arith}
 use Rattle.mz_layout.specs.Tables.{term_count}
-use Rattle.mz_layout.proofs.TableLists.{length-term_words}
+use Rattle.mz_layout.proofs.Offered.{length-term_words}
 use Rattle.mz_binary.specs.RowParams.{RowExists}
 use Rattle.mz_binary.proofs.words.arity_of.Goals as goal
 

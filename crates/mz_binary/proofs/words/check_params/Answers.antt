@@ -5,7 +5,7 @@ use Rattle.mz_cmd.specs.declared.rule.K.TheVariants.{Binder}
 use Rattle.mz_logic.specs.Words.{word_bound}
 use Rattle.mz_binary.specs.RowParams.{params_of, words_at_of}
 use Rattle.mz_soundness.specs.RowWords.{first_sorts, param_checks, IsParamWord}
-use Rattle.mz_soundness.proofs.ParamWords.{bound-from, one-bound-more, none-bound-more, param-passes, param-fails}
+use Rattle.mz_soundness.proofs.Offered.{bound-from, one-bound-more, none-bound-more, param-passes, param-fails}
 use Rattle.mz_binary.proofs.words.check_params.Goals as goal
 use Rattle.mz_binary.proofs.words.check_params.Goals.{then-bound, else-bound}
 

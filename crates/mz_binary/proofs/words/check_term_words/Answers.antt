@@ -2,10 +2,10 @@ use Rattle.std.proofs.Common.{◌≡◌, ◌+◌, ◌*◌, ◌∙◌, length, re
 use Rattle.std.proofs.lemmas.Bool.{false≢true}
 use Rattle.std.proofs.lemmas.Result.{err_from_is_err_and}
 use Rattle.mz_checks.specs.Checks.{FailsFirst, demand}
-use Rattle.mz_checks.proofs.InOrder.{all_hold-both, fails-after, fails-before}
+use Rattle.mz_checks.proofs.Offered.{all_hold-both, fails-after, fails-before}
 use Rattle.mz_cmd.specs.declared.rule.K.TheVariants.{Result}
 use Rattle.mz_layout.specs.Tables.{term_row}
-use Rattle.mz_layout.proofs.TableLists.{length-term_words}
+use Rattle.mz_layout.proofs.Offered.{length-term_words}
 use Rattle.mz_soundness.specs.RowWords.{first_sorts, param_checks, word_checks, IsResultWord}
 use Rattle.mz_binary.proofs.words.check_term_words.Goals as goal
 

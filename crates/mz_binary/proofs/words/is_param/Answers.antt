@@ -1,8 +1,7 @@
 use Rattle.std.proofs.Common.{◌≡◌, ◌<◌, false, length, sym, ◌∙◌, arith}
 use Rattle.mz_logic.specs.Words.{word_bound, word_sort}
 use Rattle.mz_soundness.specs.RowWords.{first_sorts}
-use Rattle.mz_soundness.proofs.FirstSorts.{length-first_sorts}
-use Rattle.mz_soundness.proofs.ParamWords.{regular-to, regular-from}
+use Rattle.mz_soundness.proofs.Offered.{length-first_sorts, regular-to, regular-from}
 use Rattle.mz_binary.proofs.words.is_param.Goals as goal
 
 pub returns-else-bound : goal.returns-else-bound

@@ -1,6 +1,6 @@
 use Rattle.std.proofs.Common.{sym, ◌∙◌, arith}
-use Rattle.mz_layout.proofs.TableLists.{length-sorts}
-use Rattle.mz_soundness.proofs.FirstSorts.{slice_get-first_sorts, slice_get-further}
+use Rattle.mz_layout.proofs.Offered.{length-sorts}
+use Rattle.mz_soundness.proofs.Offered.{slice_get-first_sorts, slice_get-further}
 use Rattle.mz_binary.proofs.words.mods_of.Goals as goal
 
 pub mods-requires : goal.mods-requires

@@ -1,7 +1,7 @@
 use Rattle.std.proofs.Common.{◌<◌, length, sym, subst, arith}
 use Rattle.mz_logic.specs.Words.{TermWords}
 use Rattle.mz_layout.specs.Tables.{term_count, term_row, term_words}
-use Rattle.mz_layout.proofs.TableLists.{length-term_words, term_at-words}
+use Rattle.mz_layout.proofs.Offered.{length-term_words, term_at-words}
 use Rattle.mz_binary.specs.RowParams.{RowExists, params_of}
 use Rattle.mz_binary.proofs.words.param_of.Goals as goal
 

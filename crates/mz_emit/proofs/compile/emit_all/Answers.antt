@@ -3,7 +3,7 @@ use Rattle.mz_logic.specs.DeclView.{declaration}
 use Rattle.mz_mmu.specs.Proof.{Statement}
 use Rattle.mz_type.specs.StatedView.{statements_of}
 use Rattle.mz_type.specs.declared.typed.Beside.{Beside}
-use Rattle.mz_type.proofs.Turned.{taken, fewer, turned}
+use Rattle.mz_type.proofs.Offered.{taken, fewer, turned}
 use Rattle.mz_emit.specs.Emitting.{IsNext}
 use Rattle.mz_emit.proofs.Looping.{own_mode, next_there, emitted_all, AreLeft, within, is_there, others_left, written_more, is_declared, all_taken}
 use Rattle.mz_emit.proofs.compile.emit_all.Goals as goal

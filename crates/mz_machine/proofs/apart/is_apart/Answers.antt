@@ -7,8 +7,8 @@ use Rattle.mz_logic.specs.declared.word.Word.{Word}
 use Rattle.mz_store.specs.Sharing.{tree_of}
 use Rattle.mz_store.specs.declared.item.Id.{Id}
 use Rattle.mz_unify.specs.Stored.{trees_at}
-use Rattle.mz_unify.proofs.StoredIds.{is-in-at, tree-at}
-use Rattle.mz_unification.proofs.Inverting.{some_is}
+use Rattle.mz_unify.proofs.Offered.{is-in-at, tree-at}
+use Rattle.mz_unification.proofs.Offered.{some_is}
 use Rattle.mz_machine.specs.Before.{signatures_of}
 use Rattle.mz_machine.specs.OperandRows.{params_of}
 use Rattle.mz_machine.proofs.ApartPlaces.{is-there, place-below, place-fits, decides-first, decides-end, decides-not, decides-next, row-asked}

@@ -2,7 +2,7 @@ use Rattle.std.proofs.Common.{arith, add-one}
 use Rattle.std.proofs.lemmas.Option.{slice_get-get_or}
 use Rattle.mz_store.specs.declared.item.Id.{Id}
 use Rattle.mz_store.specs.Sharing.{deps_of}
-use Rattle.mz_unify.proofs.StoredIds.{is-in-at}
+use Rattle.mz_unify.proofs.Offered.{is-in-at}
 use Rattle.mz_machine.proofs.ApartPlaces.{among-none, among-next, among-all}
 use Rattle.mz_machine.proofs.apart.variables_at.Goals as goal
 

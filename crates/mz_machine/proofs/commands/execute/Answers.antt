@@ -1,5 +1,5 @@
 use Rattle.std.proofs.lemmas.Result.{err_from_is_err_and}
-use Rattle.mz_unify.proofs.StoredIds.{are-still-in}
+use Rattle.mz_unify.proofs.Offered.{are-still-in}
 use Rattle.mz_machine.proofs.commands.execute.Goals as goal
 
 pub returns-in_err-make-in-Makes-clause-row : goal.returns-in_err-make-in-Makes-clause-row

@@ -2,7 +2,7 @@ use Rattle.std.proofs.Common.{◌≡◌, ◌∙◌, true, [], ◌∷◌, refl, s
 use Rattle.std.specs.Prelude.{slice_get}
 use Rattle.std.proofs.lemmas.Result.{err_from_is_err_and}
 use Rattle.mz_store.specs.declared.item.Item.TheVariants.{Expr, Proof}
-use Rattle.mz_unify.proofs.StoredIds.{items-in-both, are-in-both, items-push, are-still-in}
+use Rattle.mz_unify.proofs.Offered.{items-in-both, are-in-both, items-push, are-still-in}
 use Rattle.mz_machine.specs.Steps.{takes_none}
 use Rattle.mz_machine.specs.OverStore.{state_at, code_of_keeping}
 use Rattle.mz_machine.proofs.Popping.{heap-push, conversion-there}

@@ -1,6 +1,6 @@
 use Rattle.std.proofs.Common.{[], ◌∷◌, refl}
 use Rattle.mz_store.specs.declared.item.Item.TheVariants.{Expr, Proof}
-use Rattle.mz_unify.proofs.StoredIds.{items-in-both}
+use Rattle.mz_unify.proofs.Offered.{items-in-both}
 use Rattle.mz_machine.specs.OverStore.{state_at}
 use Rattle.mz_machine.proofs.Popping.{heap-push}
 use Rattle.mz_machine.proofs.TermResults.{items-still, heap-kept, hyps-kept}

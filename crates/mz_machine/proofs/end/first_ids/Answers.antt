@@ -2,7 +2,7 @@ use Rattle.std.proofs.Common.{◌≡◌, ◌∙◌, sym, ap, subst}
 use Rattle.mz_logic.specs.Tree.{var}
 use Rattle.mz_store.specs.Sharing.{AreIn, IsIn, tree_of}
 use Rattle.mz_unify.specs.Stored.{trees_at, AreVariables}
-use Rattle.mz_unify.proofs.StoredIds.{are-in-both}
+use Rattle.mz_unify.proofs.Offered.{are-in-both}
 use Rattle.mz_machine.proofs.Ending.{variables-next, variables-more}
 use Rattle.mz_machine.proofs.end.first_ids.Goals as goal
 

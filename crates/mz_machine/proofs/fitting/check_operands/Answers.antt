@@ -2,7 +2,7 @@ use Rattle.std.proofs.Common.{◌≡◌, ◌<◌, ◌≤◌, length, refl, sym, 
 use Rattle.std.proofs.lemmas.Option.{slice_get-get_or}
 use Rattle.std.proofs.lemmas.Result.{err_from_is_err_and}
 use Rattle.mz_logic.specs.Words.{binders_of}
-use Rattle.mz_unify.proofs.StoredIds.{is-in-at}
+use Rattle.mz_unify.proofs.Offered.{is-in-at}
 use Rattle.mz_machine.specs.Before.{signatures_of}
 use Rattle.mz_machine.specs.OperandRows.{params_of}
 use Rattle.mz_machine.proofs.FittingOperands.{fit-step, fit-end}

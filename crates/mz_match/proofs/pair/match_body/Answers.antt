@@ -10,7 +10,7 @@ use Rattle.mz_logic.specs.View.{tree}
 use Rattle.mz_logic.specs.DeclView.{form}
 use Rattle.mz_logic.specs.declared.decl.TermForm.{TermForm}
 use Rattle.mz_layout.specs.Tables.{term_row}
-use Rattle.mz_layout.proofs.TableLists.{length-term_words}
+use Rattle.mz_layout.proofs.Offered.{length-term_words}
 use Rattle.mz_binary.specs.Laws.{is_defined}
 use Rattle.mz_match.proofs.BesideRows.{not-body, body-there, first-stream, body-judged, exact-for}
 use Rattle.mz_match.proofs.pair.match_body.Goals as goal

@@ -1,7 +1,7 @@
 use Rattle.std.proofs.Common.{◌≡◌, ◌∙◌, Bool, true, false, nat_eq, not, sym, ap, arith}
 use Rattle.std.proofs.lemmas.Bool.{eqb-true, eqb-false}
 use Rattle.mz_logic.specs.declared.binder.SortMods.{SortMods}
-use Rattle.mz_layout.proofs.TableLists.{length-sorts}
+use Rattle.mz_layout.proofs.Offered.{length-sorts}
 use Rattle.mz_match.proofs.RowPairs.{sort-mods-differ, sort-same, sort-row}
 use Rattle.mz_match.proofs.pair.match_sort.Goals as goal
 

@@ -8,7 +8,7 @@ use Rattle.mz_binary.specs.Progress.{most_left}
 use Rattle.mz_logic.specs.Declaration.{Declaration}
 use Rattle.mz_logic.specs.LegalLists.{Statement}
 use Rattle.mz_match.specs.Told.{IsMatched}
-use Rattle.mz_binary.proofs.Counting.{most-of-file}
+use Rattle.mz_binary.proofs.Offered.{most-of-file}
 use Rattle.mz_match.specs.declared.verdict.Verdict.{Verdict}
 use Rattle.mz_match.specs.declared.verdict.Verdict.TheVariants as verdicts
 use Rattle.mz_match.specs.Drafts.{IsJudged, ListsGapsOf, places_past}

@@ -1,6 +1,6 @@
 use Rattle.std.proofs.Common.{◌≤◌, ◌+◌, ◌*◌, List, ℕ, length, refl, subst, inl, arith}
 use Rattle.mz_spec.specs.State.{env_of}
-use Rattle.mz_binary.proofs.Counting.{no-steps}
+use Rattle.mz_binary.proofs.Offered.{no-steps}
 use Rattle.mz_match.specs.Drafts.{IsJudged}
 use Rattle.mz_match.proofs.verify.judge.Goals as goal
 

@@ -10,7 +10,7 @@ use Rattle.mz_math.specs.Grammar.{Words, Exp}
 use Rattle.mz_math.specs.Readable.{IsReadable}
 use Rattle.mz_math.specs.Formula.{Reader, words, most, known_checks, IsParsed, breaks}
 use Rattle.mz_math.specs.Answers.{IsFirstUnknown}
-use Rattle.mz_tokens.proofs.Strings.{pieces-within}
+use Rattle.mz_tokens.proofs.Offered.{pieces-within}
 use Rattle.mz_math.proofs.Readable.{table-readable}
 use Rattle.mz_math.proofs.Judging.{unknown-first, known-then, known-all}
 use Rattle.mz_math.proofs.formula.parse_formula.Goals as goal

@@ -6,7 +6,7 @@ use Rattle.mz_math.specs.Meaning.{CoercedAll, height, trees_height}
 use Rattle.mz_math.specs.Answers.{FitsParam}
 use Rattle.mz_math.proofs.Meanings.{all-length, take-one, put-one, size-one, none-left, trees_height-push}
 use Rattle.mz_math.proofs.Meanings.{fits-path, fits-height, fits-again, again-height, operand-low, pushed-all}
-use Rattle.mz_coercions.proofs.Paths.{path-reaches}
+use Rattle.mz_coercions.proofs.Offered.{path-reaches}
 use Rattle.mz_math.proofs.TreeLists.{followed_by_none}
 use Rattle.mz_math.proofs.meaning.+build.Goals as goal
 

@@ -1,5 +1,5 @@
 use Rattle.std.proofs.Common.{◌≡◌, ◌+◌, ◌∙◌, suc, [], ◌∷◌, ◌++◌, length, map, append-nil, ap, sym, subst, refl, arith}
-use Rattle.mz_checks.proofs.InOrder.{Decides, decides-whole}
+use Rattle.mz_checks.proofs.Offered.{Decides, decides-whole}
 use Rattle.mz_sexpr.specs.Number.{node_at, nodes_after}
 use Rattle.mz_mode.specs.Gaps.{gaps_of}
 use Rattle.mz_mmu.specs.Cursor.{nodes_from, IsThere, nodes_size}

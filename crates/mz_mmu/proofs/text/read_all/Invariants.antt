@@ -1,5 +1,5 @@
 use Rattle.std.proofs.Common.{ℕ, suc, ◌+◌, ◌<◌, ◌^◌, List, ◌++◌, length, map}
-use Rattle.mz_checks.proofs.InOrder.{Decides}
+use Rattle.mz_checks.proofs.Offered.{Decides}
 use Rattle.mz_mode.specs.Gaps.{gaps_of}
 use Rattle.mz_mmu.specs.Cursor.{nodes_from, IsThere, nodes_size}
 use Rattle.mz_mmu.specs.EntryView.{entry, root, AreNumbers}

@@ -1,4 +1,4 @@
-use Rattle.mz_spec.proofs.OneSpec.{not-both}
+use Rattle.mz_spec.proofs.Offered.{not-both}
 use Rattle.mz_naming.proofs.source.declared_by.Goals as goal
 
 pub unreachable-requires : goal.unreachable-requires

@@ -1,7 +1,7 @@
 use Rattle.std.proofs.Common.{◌≡◌, ◌∙◌, ℕ, Contains, sym, subst, refl}
 use Rattle.std.proofs.lemmas.Bool.{true≢false, false≢true}
 use Rattle.mz_notation.specs.Notation.{Element, fixed}
-use Rattle.mz_tokens.proofs.Lists.{all_so_far_more, all-members}
+use Rattle.mz_tokens.proofs.Offered.{all_so_far_more, all-members}
 use Rattle.mz_notation.proofs.clear.has_level.Goals as goal
 
 pub returns-then-not-has_level : goal.returns-then-not-has_level

@@ -1,7 +1,7 @@
 use Rattle.std.proofs.Common.{◌≡◌, ◌∙◌, ℕ, List, Contains, sym, subst, refl}
 use Rattle.std.proofs.lemmas.Bool.{true≢false, false≢true}
 use Rattle.mz_notation.specs.Notation.{Element, fixed}
-use Rattle.mz_tokens.proofs.Lists.{all_so_far_more, all-members}
+use Rattle.mz_tokens.proofs.Offered.{all_so_far_more, all-members}
 use Rattle.mz_notation.proofs.clear.keeps_own_levels.Goals as goal
 
 pub returns-then-not-keeps_level_beside : goal.returns-then-not-keeps_level_beside

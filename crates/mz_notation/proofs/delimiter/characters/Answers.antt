@@ -1,7 +1,7 @@
 use Rattle.std.proofs.Common.{sym, subst}
 use Rattle.mz_tokens.specs.declared.pieces.Delimiters.{Delimiters}
 use Rattle.mz_tokens.specs.Answers.{IsNext}
-use Rattle.mz_tokens.proofs.Strings.{SoFar, so-far-none, so-far-more, so-far-all, so-far-never}
+use Rattle.mz_tokens.proofs.Offered.{SoFar, so-far-none, so-far-more, so-far-all, so-far-never}
 use Rattle.mz_notation.proofs.delimiter.characters.Goals as goal
 
 pub tokens-init : goal.tokens-init

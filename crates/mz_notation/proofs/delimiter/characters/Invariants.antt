@@ -1,5 +1,5 @@
 use Rattle.std.proofs.Common.{◌-◌, length}
-use Rattle.mz_tokens.proofs.Strings.{SoFar}
+use Rattle.mz_tokens.proofs.Offered.{SoFar}
 use Rattle.mz_notation.proofs.delimiter.characters.Given as goal
 
 abbrev pub decreases-tokens : goal.decreases-tokens

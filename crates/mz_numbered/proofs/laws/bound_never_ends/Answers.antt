@@ -1,4 +1,4 @@
-use Rattle.mz_soundness.proofs.BodyRuns.{bound-never-ends, count-is-whole}
+use Rattle.mz_soundness.proofs.Offered.{bound-never-ends, count-is-whole}
 use Rattle.mz_numbered.specs.Numbered.{portable}
 use Rattle.mz_numbered.proofs.laws.bound_never_ends.Goals as goal
 

@@ -1,4 +1,4 @@
-use Rattle.mz_soundness.proofs.Outcomes.{one-outcome}
+use Rattle.mz_soundness.proofs.Offered.{one-outcome}
 use Rattle.mz_numbered.specs.Numbered.{portable}
 use Rattle.mz_numbered.proofs.laws.one_outcome.Goals as goal
 

@@ -1,5 +1,5 @@
 use Rattle.std.proofs.Common.{length, arith}
-use Rattle.mz_soundness.proofs.BodyRuns.{steps-le}
+use Rattle.mz_soundness.proofs.Offered.{steps-le}
 use Rattle.mz_numbered.specs.Numbered.{portable}
 use Rattle.mz_numbered.proofs.laws.steps_bounded.Goals as goal
 

@@ -1,7 +1,7 @@
 use Rattle.std.proofs.Common.{◌+◌, ◌++◌, List, ℕ, drop, sym, ap, ◌∙◌, arith, add-one}
 use Rattle.mz_logic.specs.Words.{bound_places}
 use Rattle.mz_pmachine.specs.OperandRows.{params_of}
-use Rattle.mz_machine.proofs.ApartPlaces.{places-take, places-skip, places-all}
+use Rattle.mz_machine.proofs.Offered.{places-take, places-skip, places-all}
 use Rattle.mz_pmachine.proofs.apart.bound_places.Goals as goal
 use Rattle.mz_pmachine.proofs.apart.bound_places.Goals.{then-bound+in_ok-push, else-bound}
 

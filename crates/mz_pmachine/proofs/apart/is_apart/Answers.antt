@@ -4,11 +4,11 @@ use Rattle.std.proofs.lemmas.Option.{slice_get-get_or}
 use Rattle.mz_logic.specs.Words.{word_bound, word_deps}
 use Rattle.mz_logic.specs.declared.word.Word.{Word}
 use Rattle.mz_punify.specs.Stored.{trees_at}
-use Rattle.mz_punify.proofs.StoredIds.{is-in-at, length-trees, tree-at}
-use Rattle.mz_unification.proofs.Inverting.{some_is}
+use Rattle.mz_punify.proofs.Offered.{is-in-at, length-trees, tree-at}
+use Rattle.mz_unification.proofs.Offered.{some_is}
 use Rattle.mz_machine.specs.Before.{signatures_of}
 use Rattle.mz_pmachine.specs.OperandRows.{params_of}
-use Rattle.mz_machine.proofs.ApartPlaces.{is-there, place-below, place-fits, decides-first, decides-end, decides-not, decides-next, row-asked}
+use Rattle.mz_machine.proofs.Offered.{is-there, place-below, place-fits, decides-first, decides-end, decides-not, decides-next, row-asked}
 use Rattle.mz_pmachine.proofs.Apartness.{apart-at-once}
 use Rattle.mz_pmachine.proofs.apart.is_apart.Goals as goal
 

@@ -1,6 +1,6 @@
 use Rattle.std.proofs.Common.{◌∙◌, ◌++◌, ◌∷◌, [], ap}
 use Rattle.mz_store.specs.declared.item.Item.TheVariants.{Expr}
-use Rattle.mz_machine.proofs.Beginning.{items-next}
+use Rattle.mz_machine.proofs.Offered.{items-next}
 use Rattle.mz_pmachine.proofs.begin.first_items.Goals as goal
 
 pub ids-preserved : goal.ids-preserved

@@ -2,7 +2,7 @@ use Rattle.std.proofs.Common.{◌∙◌, ◌++◌, ◌∷◌, [], List, ap, arit
 use Rattle.mz_logic.specs.declared.word.Word.{Word}
 use Rattle.mz_pmachine.specs.OverNodes.{kind_of}
 use Rattle.mz_machine.specs.Stepping.{own_words}
-use Rattle.mz_machine.proofs.Beginning.{take-next, take-all}
+use Rattle.mz_machine.proofs.Offered.{take-next, take-all}
 use Rattle.mz_pmachine.proofs.begin.read_words.Goals as goal
 
 pub params-preserved : goal.params-preserved

@@ -1,6 +1,6 @@
 use Rattle.std.proofs.Common.{[], ◌∷◌, refl}
 use Rattle.mz_store.specs.declared.item.Item.TheVariants.{Expr, Proof}
-use Rattle.mz_punify.proofs.StoredIds.{items-in-both, are-in-both, items-push, are-still-in}
+use Rattle.mz_punify.proofs.Offered.{items-in-both, are-in-both, items-push, are-still-in}
 use Rattle.mz_pmachine.specs.OverNodes.{state_at}
 use Rattle.mz_pmachine.proofs.Popping.{heap-push}
 use Rattle.mz_pmachine.proofs.TermResults.{items-still, items-kept, heap-kept, hyps-kept}

@@ -1,6 +1,6 @@
 use Rattle.std.proofs.Common.{[], ◌∷◌, refl}
 use Rattle.mz_store.specs.declared.item.Item.TheVariants.{Expr, Proof}
-use Rattle.mz_punify.proofs.StoredIds.{items-in-both}
+use Rattle.mz_punify.proofs.Offered.{items-in-both}
 use Rattle.mz_pmachine.specs.OverNodes.{state_at}
 use Rattle.mz_pmachine.proofs.Popping.{heap-push}
 use Rattle.mz_pmachine.proofs.TermResults.{items-still, heap-kept, hyps-kept}

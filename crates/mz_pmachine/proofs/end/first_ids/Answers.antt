@@ -2,7 +2,7 @@ use Rattle.std.proofs.Common.{◌≡◌, ◌∙◌, sym, ap, subst}
 use Rattle.mz_numbered.specs.Numbered.{a_variable}
 use Rattle.mz_nodes.specs.Numbering.{AreIn, IsIn, expr_of}
 use Rattle.mz_punify.specs.Stored.{exprs_at}
-use Rattle.mz_punify.proofs.StoredIds.{are-in-both}
+use Rattle.mz_punify.proofs.Offered.{are-in-both}
 use Rattle.mz_pmachine.proofs.Ending.{variables-next}
 use Rattle.mz_pmachine.proofs.end.first_ids.Goals as goal
 

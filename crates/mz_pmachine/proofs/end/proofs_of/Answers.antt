@@ -4,7 +4,7 @@ use Rattle.mz_store.specs.declared.item.Id.{Id}
 use Rattle.mz_store.specs.declared.item.Item.{Item as Kept}
 use Rattle.mz_store.specs.declared.item.Item.TheVariants.{Proof}
 use Rattle.mz_punify.specs.Stored.{items_at}
-use Rattle.mz_punify.proofs.StoredIds.{is-in-at}
+use Rattle.mz_punify.proofs.Offered.{is-in-at}
 use Rattle.mz_pmachine.proofs.Converting.{put_in}
 use Rattle.mz_pmachine.proofs.Ending.{proofs-are, taken-next, taken-all}
 use Rattle.mz_pmachine.proofs.end.proofs_of.Goals as goal

@@ -1,7 +1,7 @@
 use Rattle.std.proofs.Common.{◌<◌, ◌≤◌, length, refl, sym, ◌∙◌, arith, add-one}
 use Rattle.std.proofs.lemmas.Option.{slice_get-get_or}
 use Rattle.std.proofs.lemmas.Result.{err_from_is_err_and}
-use Rattle.mz_punify.proofs.StoredIds.{is-in-at}
+use Rattle.mz_punify.proofs.Offered.{is-in-at}
 use Rattle.mz_machine.specs.Before.{signatures_of}
 use Rattle.mz_pmachine.specs.OperandRows.{params_of}
 use Rattle.mz_pmachine.proofs.FittingOperands.{fit-step, fit-end}

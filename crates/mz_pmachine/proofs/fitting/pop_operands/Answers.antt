@@ -1,7 +1,7 @@
 use Rattle.std.proofs.Common.{ℕ, zero, suc, ◌≡◌, ◌+◌, ◌-◌, ◌∷◌, [], length, refl, sym, ap, ◌∙◌, arith, length-append}
 use Rattle.std.proofs.lemmas.List.{length-reverse}
 use Rattle.mz_punify.specs.Stored.{stack_at}
-use Rattle.mz_punify.proofs.StoredIds.{stack-push, are-in-both, are-in-reverse}
+use Rattle.mz_punify.proofs.Offered.{stack-push, are-in-both, are-in-reverse}
 use Rattle.mz_pmachine.proofs.TakenOperands.{pop-next, pop-stop, pop-enough}
 use Rattle.mz_pmachine.proofs.fitting.pop_operands.Goals as goal
 

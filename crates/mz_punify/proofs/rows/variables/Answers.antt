@@ -3,7 +3,7 @@ use Rattle.std.proofs.lemmas.Option.{slice_get-get_or}
 use Rattle.std.proofs.Math.Seq.{take-length}
 use Rattle.mz_store.specs.Bits.{bound_vars}
 use Rattle.mz_unify.specs.Rows.{InAnyV, TellsAny}
-use Rattle.mz_unify.proofs.VariableWords.{tells-none}
+use Rattle.mz_unify.proofs.Offered.{tells-none}
 use Rattle.mz_numbered.specs.Numbered.{tree_of}
 use Rattle.mz_punify.specs.Stored.{exprs_at}
 use Rattle.mz_punify.proofs.StoredIds.{is-in-at}

@@ -6,7 +6,7 @@ use Rattle.mz_unify.specs.Rows.{TellsAny}
 use Rattle.mz_numbered.specs.Numbered.{tree_of}
 use Rattle.mz_punify.specs.Rows.{command_of, state_at}
 use Rattle.mz_punify.proofs.Underway.{further, not-end, left-none, left-both, cut-whole, cut-many, other-whole, other-many, stopped-whole, stopped-many, ended-whole, ended-many, goes-on}
-use Rattle.mz_unification.proofs.Turning.{command-long}
+use Rattle.mz_unification.proofs.Offered.{command-long}
 use Rattle.mz_punify.proofs.running.run.Goals as goal
 
 pub commands-init : goal.commands-init

@@ -4,7 +4,7 @@ use Rattle.mz_logic.specs.Sorts.{HasSort}
 use Rattle.mz_logic.specs.Tree.{followed_by, instance, instances}
 use Rattle.mz_logic.specs.View.{tree, trees}
 use Rattle.mz_logic.specs.Words.{signatures_of}
-use Rattle.mz_logic.proofs.Follow.{followed_by_none}
+use Rattle.mz_logic.proofs.Offered.{followed_by_none}
 use Rattle.mz_store.specs.Sharing.{trees_of}
 use Rattle.mz_shared.specs.Instances.{InReach}
 use Rattle.mz_shared.proofs.Making.{Making, can_make, made, trees_cut, size_step, operand_held, can_take, all_sorted}

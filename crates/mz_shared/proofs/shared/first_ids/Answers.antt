@@ -1,7 +1,7 @@
 use Rattle.std.proofs.Common.{◌≡◌, length, ap, arith, sym, ◌∙◌, subst}
 use Rattle.std.proofs.lemmas.List.{length-append}
 use Rattle.mz_logic.specs.Legality.{Each}
-use Rattle.mz_logic.proofs.Instance.{none_some}
+use Rattle.mz_logic.proofs.Offered.{none_some}
 use Rattle.mz_shared.proofs.Entering.{number_push}
 use Rattle.mz_shared.proofs.shared.first_ids.Goals as goal
 

@@ -9,7 +9,7 @@ use Rattle.mz_logic.specs.Variables.{InV, InFV, InSomeFV, IsBoundAt, IsFreeOpera
 use Rattle.mz_logic.specs.View.{tree, trees}
 use Rattle.mz_logic.specs.declared.binder.Binder.{Binder}
 use Rattle.mz_logic.specs.declared.expr.Expr.{Expr}
-use Rattle.mz_logic.proofs.Rules.{signature_is}
+use Rattle.mz_logic.proofs.Offered.{signature_is}
 use Rattle.mz_spec.proofs.Walking.{IsCoveredAt, app-out, app-in, operand-in, operands-out, operands-step, left-item}
 use Rattle.mz_spec.proofs.free.+covers.Goals as goal
 

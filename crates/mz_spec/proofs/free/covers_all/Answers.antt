@@ -1,5 +1,5 @@
 use Rattle.std.proofs.Common.{◌∙◌, ◌<◌, length, ℕ, List, Contains, get_or, refl, subst, sym, true≢false}
-use Rattle.mz_logic.proofs.Lists.{all_so_far_more, all_at_end}
+use Rattle.mz_logic.proofs.Offered.{all_so_far_more, all_at_end}
 use Rattle.mz_spec.proofs.free.covers_all.Goals as goal
 
 pub returns-then-not-has : goal.returns-then-not-has

@@ -1,5 +1,5 @@
 use Rattle.std.proofs.Common.{Contains}
-use Rattle.mz_logic.proofs.Lists.{AllSoFar}
+use Rattle.mz_logic.proofs.Offered.{AllSoFar}
 use Rattle.mz_spec.proofs.free.covers_all.Given as goal
 
 abbrev pub invariant-loop-place : goal.invariant-loop-place

@@ -1,6 +1,6 @@
 use Rattle.std.proofs.Common.{map, drop}
 use Rattle.mz_checks.specs.Checks.{each_in_order}
-use Rattle.mz_checks.proofs.InOrder.{Decides}
+use Rattle.mz_checks.proofs.Offered.{Decides}
 use Rattle.mz_grammar.specs.Code.{lexeme}
 use Rattle.mz_spec.specs.Rules.{is_known}
 use Rattle.mz_spec.proofs.rules.check_all_known.Given as goal

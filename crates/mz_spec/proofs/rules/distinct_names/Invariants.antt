@@ -1,5 +1,5 @@
 use Rattle.std.proofs.Common.{◌≡◌, ◌++◌, [], map, drop}
-use Rattle.mz_checks.proofs.InOrder.{Decides}
+use Rattle.mz_checks.proofs.Offered.{Decides}
 use Rattle.mz_spec.specs.Code.{variable}
 use Rattle.mz_spec.specs.Rules.{are_others}
 use Rattle.mz_spec.specs.View.{names_of}

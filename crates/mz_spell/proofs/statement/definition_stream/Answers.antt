@@ -2,7 +2,7 @@ use Rattle.std.proofs.Common.{ℕ, ◌++◌, ◌∷◌, [], List, length, ap, sy
 use Rattle.mz_logic.specs.declared.binder.Binder.{Binder}
 use Rattle.mz_store.specs.Sharing.{sort_of, tree_of}
 use Rattle.mz_shared.specs.Instances.{InReach}
-use Rattle.mz_shared.proofs.Owned.{reach_of_sort}
+use Rattle.mz_shared.proofs.Offered.{reach_of_sort}
 use Rattle.mz_streams.specs.Writing.{definition_written, stream_of, writing_start}
 use Rattle.mz_spell.specs.Going.{spelled}
 use Rattle.mz_spell.proofs.Starting.{ended, one_cut, statement_of}

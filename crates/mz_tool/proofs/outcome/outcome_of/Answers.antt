@@ -2,7 +2,7 @@ use Rattle.std.proofs.Common.{ap, [], ◌∷◌}
 use Rattle.mz_mode.specs.Gaps.{gaps_of}
 use Rattle.mz_tool.specs.Asked.{request}
 use Rattle.mz_tool.specs.Inputs.{contents_of}
-use Rattle.mz_tool.specs.Request.{assemble, axioms, draft, portable, specify}
+use Rattle.mz_tool.specs.Request.{assemble, axioms, draft, portable, specify, decompile}
 use Rattle.mz_tool.proofs.Answered.{two-read, verify-yes, verify-no, verify-proved, verify-only_yes, verify-only_no, one-read, compile-yes, compile-no, compile-proved, compile-only_yes, compile-only_no, same-yes, same-no, same-proved, same-sound, same-only_yes, same-only_no}
 use Rattle.mz_tool.proofs.Sampled.{sample-yes, sample-no, sample-proved, sample-only_yes, sample-only_no}
 use Rattle.mz_tool.proofs.outcome.outcome_of.Goals as goal
@@ -166,3 +166,38 @@ returns-in-Portable-Two-clause-only_no c = same-only_no (request c.args.command)
 pub returns-in-Portable-Two-clause-proved : goal.returns-in-Portable-Two-clause-proved
 returns-in-Portable-Two-clause-proved c = same-sound (request c.args.command) (portable c.in-Portable-Two.spec-0.now c.in-Portable-Two.bin-0.now) (contents_of c.args.contents.now) (c.as_slice-in-Portable-Two.result.now ∷ c.deref-in-Portable-Two.result.now ∷ [])
     (ap request c.in-Portable-Two.is-0) (two-read (contents_of c.args.contents.now) c.in-Portable-Two.spec.items c.in-Portable-Two.bin.items c.as_slice-in-Portable-Two.result.now c.deref-in-Portable-Two.result.now (ap contents_of c.in-Portable-Two.is-1) c.as_slice-in-Portable-Two.ensures.value c.deref-in-Portable-Two.ensures.value) c.portable.result c.portable.ensures.sound
+
+pub returns-in-Decompile-Two-clause-yes : goal.returns-in-Decompile-Two-clause-yes
+returns-in-Decompile-Two-clause-yes c = same-yes (request c.args.command) (decompile c.in-Decompile-Two.spec-0.now c.in-Decompile-Two.bin-0.now c.in-Decompile-Two.out-0.now) (contents_of c.args.contents.now)
+    (c.as_slice-in-Decompile-Two.result.now ∷ c.deref-in-Decompile-Two.result.now ∷ []) (ap request c.in-Decompile-Two.is-0)
+    (two-read (contents_of c.args.contents.now) c.in-Decompile-Two.spec.items c.in-Decompile-Two.bin.items c.as_slice-in-Decompile-Two.result.now c.deref-in-Decompile-Two.result.now
+    (ap contents_of c.in-Decompile-Two.is-1) c.as_slice-in-Decompile-Two.ensures.value c.deref-in-Decompile-Two.ensures.value)
+    c.decompile.result c.decompile.ensures.yes
+
+pub returns-in-Decompile-Two-clause-no : goal.returns-in-Decompile-Two-clause-no
+returns-in-Decompile-Two-clause-no c = same-no (request c.args.command) (decompile c.in-Decompile-Two.spec-0.now c.in-Decompile-Two.bin-0.now c.in-Decompile-Two.out-0.now) (contents_of c.args.contents.now)
+    (c.as_slice-in-Decompile-Two.result.now ∷ c.deref-in-Decompile-Two.result.now ∷ []) (ap request c.in-Decompile-Two.is-0)
+    (two-read (contents_of c.args.contents.now) c.in-Decompile-Two.spec.items c.in-Decompile-Two.bin.items c.as_slice-in-Decompile-Two.result.now c.deref-in-Decompile-Two.result.now
+    (ap contents_of c.in-Decompile-Two.is-1) c.as_slice-in-Decompile-Two.ensures.value c.deref-in-Decompile-Two.ensures.value)
+    c.decompile.result c.decompile.ensures.no
+
+pub returns-in-Decompile-Two-clause-only_yes : goal.returns-in-Decompile-Two-clause-only_yes
+returns-in-Decompile-Two-clause-only_yes c = same-only_yes (request c.args.command) (decompile c.in-Decompile-Two.spec-0.now c.in-Decompile-Two.bin-0.now c.in-Decompile-Two.out-0.now) (contents_of c.args.contents.now)
+    (c.as_slice-in-Decompile-Two.result.now ∷ c.deref-in-Decompile-Two.result.now ∷ []) (ap request c.in-Decompile-Two.is-0)
+    (two-read (contents_of c.args.contents.now) c.in-Decompile-Two.spec.items c.in-Decompile-Two.bin.items c.as_slice-in-Decompile-Two.result.now c.deref-in-Decompile-Two.result.now
+    (ap contents_of c.in-Decompile-Two.is-1) c.as_slice-in-Decompile-Two.ensures.value c.deref-in-Decompile-Two.ensures.value)
+    c.decompile.result c.decompile.ensures.only_yes
+
+pub returns-in-Decompile-Two-clause-only_no : goal.returns-in-Decompile-Two-clause-only_no
+returns-in-Decompile-Two-clause-only_no c = same-only_no (request c.args.command) (decompile c.in-Decompile-Two.spec-0.now c.in-Decompile-Two.bin-0.now c.in-Decompile-Two.out-0.now) (contents_of c.args.contents.now)
+    (c.as_slice-in-Decompile-Two.result.now ∷ c.deref-in-Decompile-Two.result.now ∷ []) (ap request c.in-Decompile-Two.is-0)
+    (two-read (contents_of c.args.contents.now) c.in-Decompile-Two.spec.items c.in-Decompile-Two.bin.items c.as_slice-in-Decompile-Two.result.now c.deref-in-Decompile-Two.result.now
+    (ap contents_of c.in-Decompile-Two.is-1) c.as_slice-in-Decompile-Two.ensures.value c.deref-in-Decompile-Two.ensures.value)
+    c.decompile.result c.decompile.ensures.only_no
+
+pub returns-in-Decompile-Two-clause-proved : goal.returns-in-Decompile-Two-clause-proved
+returns-in-Decompile-Two-clause-proved c = same-sound (request c.args.command) (decompile c.in-Decompile-Two.spec-0.now c.in-Decompile-Two.bin-0.now c.in-Decompile-Two.out-0.now) (contents_of c.args.contents.now)
+    (c.as_slice-in-Decompile-Two.result.now ∷ c.deref-in-Decompile-Two.result.now ∷ []) (ap request c.in-Decompile-Two.is-0)
+    (two-read (contents_of c.args.contents.now) c.in-Decompile-Two.spec.items c.in-Decompile-Two.bin.items c.as_slice-in-Decompile-Two.result.now c.deref-in-Decompile-Two.result.now
+    (ap contents_of c.in-Decompile-Two.is-1) c.as_slice-in-Decompile-Two.ensures.value c.deref-in-Decompile-Two.ensures.value)
+    c.decompile.result c.decompile.ensures.sound

@@ -1,18 +1,19 @@
-use Rattle.std.proofs.Common.{◌≡◌}
 use Rattle.mz_trace.specs.Commands.{stage_of}
 use Rattle.mz_trace.proofs.Begun.{runs-from, root-of, run-of}
 use Rattle.mz_trace.proofs.run.made_of.Goals as goal
 
 pub make-requires-clause-runs : goal.make-requires-clause-runs
 make-requires-clause-runs g c =
-    runs-from c.args.mmb.now c.args.bytes.now c.args.row c.args.before c.requires.may_run c.requires.runs (stage_of c.in_ok-start.start) c.thm_arity.result c.thm_arity.ensures c.in_ok-start.ensures
+    let (before, at, own) = c.requires.runs in
+    runs-from c.args.mmb.now c.args.bytes.now c.args.row before own.0 (at, own.1) (stage_of c.in_ok-start.start) c.thm_arity.result c.thm_arity.ensures c.in_ok-start.ensures
 
 pub finish-requires : goal.finish-requires
 finish-requires g c =
-    root-of c.args.mmb.now c.args.bytes.now c.args.row c.args.before c.requires.may_run c.requires.runs (stage_of c.in_ok-start.start) c.thm_arity.result c.thm_arity.ensures c.in_ok-start.ensures
+    let (before, at, own) = c.requires.runs in
+    root-of c.args.mmb.now c.args.bytes.now c.args.row before own.0 (at, own.1) (stage_of c.in_ok-start.start) c.thm_arity.result c.thm_arity.ensures c.in_ok-start.ensures
     (stage_of c.in_ok-last.last) c.in_ok-last.ensures.leads
 
 pub returns-clause-made : goal.returns-clause-made
-returns-clause-made g c =
-    run-of c.args.mmb.now c.args.bytes.now c.args.row c.args.before c.requires.may_run c.requires.runs (stage_of c.in_ok-start.start) c.thm_arity.result c.thm_arity.ensures c.in_ok-start.ensures
+returns-clause-made g c before at own =
+    run-of c.args.mmb.now c.args.bytes.now c.args.row before own.0 (at, own.1) (stage_of c.in_ok-start.start) c.thm_arity.result c.thm_arity.ensures c.in_ok-start.ensures
     (stage_of c.in_ok-last.last) c.in_ok-last.ensures.leads c.finish.result c.finish.ensures

@@ -1,8 +1,8 @@
-use Rattle.std.proofs.Common.{◌∙◌, ◌+◌, ◌≤◌, ◌≡◌, ℕ, List, length, arith, sym, ap, subst}
-use Rattle.mz_unify.proofs.Underway.{further}
-use Rattle.mz_machine.proofs.BodyRunning.{more-steps, within-steps}
+use Rattle.std.proofs.Common.{◌∙◌, ◌+◌, ◌≤◌, length, arith, sym}
+use Rattle.mz_unify.proofs.Offered.{further}
+use Rattle.mz_machine.proofs.Offered.{more-steps, within-steps}
 use Rattle.mz_trace.specs.Commands.{stage_of}
-use Rattle.mz_trace.proofs.Bodies.{IsUnderway, at-first, goes-over, goes-further, ends-there, reads-on}
+use Rattle.mz_trace.proofs.Bodies.{goes-over, goes-further, ends-there, reads-on}
 use Rattle.mz_trace.proofs.run.make.Goals as goal
 
 pub unreachable-requires : goal.unreachable-requires

@@ -1,4 +1,4 @@
-use Rattle.std.proofs.Common.{◌≡◌, ◌≤◌, ◌+◌, ◌*◌, ◌-◌, length}
+use Rattle.std.proofs.Common.{◌≤◌, ◌+◌, ◌*◌, ◌-◌, length}
 use Rattle.mz_trace.specs.Commands.{stage_of}
 use Rattle.mz_trace.proofs.Bodies.{IsUnderway}
 use Rattle.mz_trace.proofs.run.make.Given as goal

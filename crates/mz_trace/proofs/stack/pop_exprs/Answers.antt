@@ -2,7 +2,6 @@ use Rattle.std.proofs.Common.{◌≡◌, ℕ, ◌+◌, ◌++◌, ◌∷◌, [], 
 use Rattle.std.specs.Prelude.{reverse}
 use Rattle.std.proofs.lemmas.List.{length-reverse, reverse-reverse}
 use Rattle.mz_trace.specs.Entries.{exprs_onto}
-use Rattle.mz_trace.specs.declared.entry.Entry.{Entry}
 use Rattle.mz_trace.proofs.Popping.{has-expr, exprs-left, exprs-more}
 use Rattle.mz_trace.proofs.stack.pop_exprs.Goals as goal
 

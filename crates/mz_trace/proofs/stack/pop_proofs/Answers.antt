@@ -1,8 +1,7 @@
-use Rattle.std.proofs.Common.{◌≡◌, ℕ, ◌+◌, ◌++◌, ◌∷◌, [], List, length, map, refl, sym, ap, ◌∙◌, arith, length-append}
+use Rattle.std.proofs.Common.{◌≡◌, ℕ, ◌+◌, ◌++◌, ◌∷◌, [], List, length, refl, sym, ap, ◌∙◌, arith, length-append}
 use Rattle.std.specs.Prelude.{reverse}
 use Rattle.std.proofs.lemmas.List.{reverse-reverse}
 use Rattle.mz_trace.specs.Entries.{proofs_onto}
-use Rattle.mz_trace.specs.declared.entry.Entry.{Entry}
 use Rattle.mz_trace.proofs.Popping.{has-proof, proofs-left, proofs-more, seconds-more}
 use Rattle.mz_trace.proofs.stack.pop_proofs.Goals as goal
 

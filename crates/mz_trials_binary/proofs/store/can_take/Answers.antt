@@ -1,7 +1,7 @@
 use Rattle.std.proofs.Common.{arith, refl, subst}
 use Rattle.mz_logic.specs.Sorts.{HasSort}
 use Rattle.mz_logic.specs.Words.{signatures_of, term_at}
-use Rattle.mz_store.proofs.Taking.{in-next, fit-next, in-all, fit-all}
+use Rattle.mz_store.proofs.Offered.{in-next, fit-next, in-all, fit-all}
 use Rattle.mz_trials_binary.proofs.store.can_take.Goals as goal
 
 pub loop-i-preserved : goal.loop-i-preserved

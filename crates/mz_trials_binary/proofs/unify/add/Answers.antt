@@ -1,4 +1,4 @@
-use Rattle.mz_unify.proofs.StoredIds.{are-in-both, are-still-in}
+use Rattle.mz_unify.proofs.Offered.{are-in-both, are-still-in}
 use Rattle.mz_trials_binary.proofs.unify.add.Goals as goal
 
 pub returns-in-Ok-push-clause-ids : goal.returns-in-Ok-push-clause-ids

@@ -1,7 +1,7 @@
 use Rattle.std.proofs.Common.{◌∙◌, sym, arith}
 use Rattle.mz_logic.specs.Words.{signatures_of, term_at}
 use Rattle.mz_store.specs.Sharing.{tree_of}
-use Rattle.mz_unification.proofs.TwoOperands.{two-fit}
+use Rattle.mz_unification.proofs.Offered.{two-fit}
 use Rattle.mz_trials_binary.proofs.unify.can_take.Goals as goal
 
 pub returns : goal.returns

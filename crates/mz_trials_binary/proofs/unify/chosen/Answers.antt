@@ -1,4 +1,4 @@
-use Rattle.mz_unify.proofs.StoredIds.{are-in-both}
+use Rattle.mz_unify.proofs.Offered.{are-in-both}
 use Rattle.mz_trials_binary.proofs.unify.chosen.Goals as goal
 
 pub loop-place-preserved : goal.loop-place-preserved

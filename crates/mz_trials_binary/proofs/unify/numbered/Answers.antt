@@ -1,6 +1,6 @@
 use Rattle.std.proofs.Common.{refl, sym, length, ltb-true}
 use Rattle.std.proofs.lemmas.Option.{slice_get_read}
-use Rattle.mz_unify.proofs.StoredIds.{is-in-at}
+use Rattle.mz_unify.proofs.Offered.{is-in-at}
 use Rattle.mz_trials_binary.proofs.unify.numbered.Goals as goal
 
 pub returns-in-Some : goal.returns-in-Some

@@ -1,4 +1,4 @@
-use Rattle.mz_unify.proofs.StoredIds.{items-in-both}
+use Rattle.mz_unify.proofs.Offered.{items-in-both}
 use Rattle.mz_trials_binary.proofs.unify.proofs.Goals as goal
 
 pub loop-place-preserved : goal.loop-place-preserved

@@ -1,5 +1,5 @@
 use Rattle.std.proofs.Common.{drop}
-use Rattle.mz_checks.proofs.InOrder.{Decides}
+use Rattle.mz_checks.proofs.Offered.{Decides}
 use Rattle.mz_type.specs.Rules.{dummy_rules}
 use Rattle.mz_type.proofs.binders.check_dummies.Given as goal
 

@@ -1,6 +1,6 @@
 use Rattle.std.proofs.Common.{subst}
 use Rattle.mz_checks.specs.Checks.{AllHold, FailsFirst, Judges}
-use Rattle.mz_checks.proofs.InOrder.{judges-after}
+use Rattle.mz_checks.proofs.Offered.{judges-after}
 use Rattle.mz_sexpr.specs.Node.{parts}
 use Rattle.mz_sexpr.specs.Number.{first}
 use Rattle.mz_logic.specs.Declaration.{signatures}

@@ -1,5 +1,5 @@
 use Rattle.std.proofs.Common.{◌≤◌, drop, length}
-use Rattle.mz_checks.proofs.InOrder.{Decides}
+use Rattle.mz_checks.proofs.Offered.{Decides}
 use Rattle.mz_type.specs.Rules.{variable_rules}
 use Rattle.mz_type.proofs.convs.check_variables.Given as goal
 

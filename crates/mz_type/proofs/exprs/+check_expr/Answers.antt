@@ -1,6 +1,6 @@
 use Rattle.std.proofs.Common.{◌+◌, drop, sym, ap, ◌∙◌, subst, length, inl}
 use Rattle.mz_checks.specs.Checks.{FailsFirst, Judges}
-use Rattle.mz_checks.proofs.InOrder.{fails-before, fails-after, judges-after, Decides}
+use Rattle.mz_checks.proofs.Offered.{fails-before, fails-after, judges-after, Decides}
 use Rattle.mz_sexpr.specs.Node.{place}
 use Rattle.mz_sexpr.specs.Number.{first}
 use Rattle.mz_logic.specs.Declaration.{signatures}

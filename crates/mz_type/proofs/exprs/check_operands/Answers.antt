@@ -1,5 +1,5 @@
 use Rattle.std.proofs.Common.{◌<◌, drop, arith, length}
-use Rattle.mz_checks.proofs.InOrder.{fails-before}
+use Rattle.mz_checks.proofs.Offered.{fails-before}
 use Rattle.mz_sexpr.specs.Number.{first}
 use Rattle.mz_logic.specs.Declaration.{signatures}
 use Rattle.mz_logic.specs.View.{tree, trees}

@@ -1,6 +1,6 @@
 use Rattle.std.proofs.Common.{ap, ◌∙◌, subst}
 use Rattle.mz_checks.specs.Checks.{AllHold, FailsFirst, Judges}
-use Rattle.mz_checks.proofs.InOrder.{fails-before, judges-after}
+use Rattle.mz_checks.proofs.Offered.{fails-before, judges-after}
 use Rattle.mz_sexpr.specs.Node.{parts}
 use Rattle.mz_sexpr.specs.Number.{first}
 use Rattle.mz_logic.specs.DeclView.{assertion_view}

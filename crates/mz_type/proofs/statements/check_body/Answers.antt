@@ -1,6 +1,6 @@
 use Rattle.std.proofs.Common.{◌++◌, ℕ, Contains, true≢false, refl, sym, ap, ◌∙◌, subst, inl, inr}
 use Rattle.mz_checks.specs.Checks.{AllHold, FailsFirst}
-use Rattle.mz_checks.proofs.InOrder.{fails-before, fails-after, all_hold-both}
+use Rattle.mz_checks.proofs.Offered.{fails-before, fails-after, all_hold-both}
 use Rattle.mz_sexpr.specs.Node.{parts, place}
 use Rattle.mz_sexpr.specs.Number.{first}
 use Rattle.mz_sexpr.specs.declared.rule.U.{U}
@@ -10,7 +10,7 @@ use Rattle.mz_logic.specs.Legality.{DependOnBound, sort_of}
 use Rattle.mz_logic.specs.Sorts.{HasSort}
 use Rattle.mz_logic.specs.Variables.{InFV}
 use Rattle.mz_logic.specs.View.{tree}
-use Rattle.mz_logic.proofs.Bound.{depends_on_bound}
+use Rattle.mz_logic.proofs.Offered.{depends_on_bound}
 use Rattle.mz_type.specs.Parts.{part}
 use Rattle.mz_type.specs.Rules.{dummy_rules, expr_rules}
 use Rattle.mz_type.proofs.ExprRules.{sort_by_checks}

@@ -1,7 +1,7 @@
 use Rattle.std.proofs.Common.{sym, subst}
 use Rattle.std.specs.Prelude.{Some, None}
 use Rattle.mz_checks.specs.Checks.{AllHold, nothing, ◌>>◌}
-use Rattle.mz_checks.proofs.InOrder.{all_hold-both}
+use Rattle.mz_checks.proofs.Offered.{all_hold-both}
 use Rattle.mz_logic.specs.DeclView.{assertion_view, declaration}
 use Rattle.mz_mmu.specs.ProofView.{proof_view}
 use Rattle.mz_type.specs.Answers.{Judged, stated}

@@ -1,6 +1,6 @@
 use Rattle.std.proofs.Common.{true≢false, refl, sym, ap, ◌∙◌, subst, inl}
 use Rattle.mz_checks.specs.Checks.{AllHold, FailsFirst}
-use Rattle.mz_checks.proofs.InOrder.{fails-after, judges-after}
+use Rattle.mz_checks.proofs.Offered.{fails-after, judges-after}
 use Rattle.mz_sexpr.specs.Node.{parts, place}
 use Rattle.mz_sexpr.specs.Number.{first}
 use Rattle.mz_sexpr.specs.declared.rule.U.{U}

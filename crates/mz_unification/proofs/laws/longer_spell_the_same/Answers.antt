@@ -1,5 +1,5 @@
 use Rattle.std.proofs.Common.{◌++◌}
-use Rattle.mz_logic.proofs.Extend.{extends_append}
+use Rattle.mz_logic.proofs.Offered.{extends_append}
 use Rattle.mz_unification.proofs.OneSpelling.{assertion-longer, term-longer}
 use Rattle.mz_unification.proofs.laws.longer_spell_the_same.Goals as goal
 

@@ -3,7 +3,7 @@ use Rattle.mz_unification.specs.Streams.{IsEnd}
 use Rattle.mz_unify.specs.Stored.{mode_of, trees_at}
 use Rattle.mz_unify.specs.Rows.{command_of, TellsAny, state_at}
 use Rattle.mz_unify.proofs.Underway.{further, not-end, left-none, left-both, cut-whole, cut-many, other-whole, other-many, stopped-whole, stopped-many, ended-whole, ended-many, goes-on}
-use Rattle.mz_unification.proofs.Turning.{command-long}
+use Rattle.mz_unification.proofs.Offered.{command-long}
 use Rattle.mz_unify.proofs.running.run.Goals as goal
 
 pub commands-init : goal.commands-init

@@ -4,7 +4,7 @@ use Rattle.mz_logic.specs.Tree.{listed}
 use Rattle.mz_layout.specs.Tables.{thm_row}
 use Rattle.mz_unification.specs.Spells.{at_first}
 use Rattle.mz_unification.specs.Streams.{StreamIs, of_assertion}
-use Rattle.mz_unification.proofs.Trees.{trees_of-listed}
+use Rattle.mz_unification.proofs.Offered.{trees_of-listed}
 use Rattle.mz_phrasing.specs.Naming.{vocabulary_by}
 use Rattle.mz_phrasing.specs.Phrasing.{expression, expressions}
 use Rattle.mz_unspell.specs.Numbers.{AreAt}

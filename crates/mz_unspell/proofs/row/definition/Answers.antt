@@ -1,6 +1,6 @@
 use Rattle.std.proofs.Common.{◌≡◌, ◌∙◌, [], ap, arith, drop, length, subst, sym}
 use Rattle.mz_layout.specs.Tables.{term_row}
-use Rattle.mz_layout.proofs.TableLists.{length-term_words}
+use Rattle.mz_layout.proofs.Offered.{length-term_words}
 use Rattle.mz_unification.specs.Spells.{Marks, at_first}
 use Rattle.mz_unification.specs.Streams.{StreamIs, of_definition}
 use Rattle.mz_phrasing.specs.Naming.{vocabulary_by}

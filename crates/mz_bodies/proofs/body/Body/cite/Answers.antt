@@ -7,7 +7,7 @@ use Rattle.mz_store.specs.Sharing.{trees_of}
 use Rattle.mz_shared.specs.Instances.{AreSorted}
 use Rattle.mz_bodies.specs.Pushing.{pushes}
 use Rattle.mz_bodies.specs.Owes.{push, to_do}
-use Rattle.mz_shared.proofs.Making.{fits_sorted, grows_on, are_in_grown, trees_grown}
+use Rattle.mz_shared.proofs.Offered.{fits_sorted, grows_on, are_in_grown, trees_grown}
 use Rattle.mz_bodies.proofs.Growing.{cite_done, cite_cost, cite_reach, concl_is, shared_as, vars_as}
 use Rattle.mz_bodies.proofs.body.Body.cite.Goals as goal
 

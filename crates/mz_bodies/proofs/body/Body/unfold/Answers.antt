@@ -8,7 +8,7 @@ use Rattle.mz_mmu.specs.ConvView.{conversion}
 use Rattle.mz_store.specs.Sharing.{trees_of}
 use Rattle.mz_shared.specs.Instances.{InReach, AreSorted}
 use Rattle.mz_bodies.specs.Owes.{push, give, to_do}
-use Rattle.mz_shared.proofs.Making.{fits_sorted, grows_on, in_grown, tree_grown, are_in_grown, trees_grown}
+use Rattle.mz_shared.proofs.Offered.{fits_sorted, grows_on, in_grown, tree_grown, are_in_grown, trees_grown}
 use Rattle.mz_bodies.proofs.Growing.{many_ids, shared_as, vars_as}
 use Rattle.mz_bodies.proofs.Paying.{body_found, fresh_below, unfold_reach, left_sorted, unfolded_sorted, sorted_as, unfold_done, unfold_cost}
 use Rattle.mz_bodies.proofs.body.Body.unfold.Goals as goal

@@ -4,7 +4,7 @@ use Rattle.std.proofs.lemmas.Option.{slice_get-get_or}
 use Rattle.mz_store.specs.Sharing.{tree_of}
 use Rattle.mz_store.specs.declared.item.Id.{Id}
 use Rattle.mz_unification.specs.Profile.{obligation}
-use Rattle.mz_unify.proofs.StoredIds.{items-push, is-in-at}
+use Rattle.mz_unify.proofs.Offered.{items-push, is-in-at}
 use Rattle.mz_machine.proofs.Converting.{put_in, sides_from, no-sides, next-side, least, one-before}
 use Rattle.mz_machine.proofs.commands.conversions.push_sides.Goals as goal
 

@@ -3,7 +3,7 @@ use Rattle.mz_logic.specs.Words.{signatures_of as signatures_by}
 use Rattle.mz_store.specs.Sharing.{IsOver, tree_of}
 use Rattle.mz_unification.specs.Profile.{obligation}
 use Rattle.mz_unify.specs.Stored.{items_at, trees_at}
-use Rattle.mz_unify.proofs.StoredIds.{items-push}
+use Rattle.mz_unify.proofs.Offered.{items-push}
 use Rattle.mz_machine.specs.Before.{tables_of, words_before}
 use Rattle.mz_machine.specs.OverStore.{pop_unfolding}
 use Rattle.mz_machine.proofs.BeforeLaws.{signatures-before}

@@ -10,7 +10,7 @@ use Rattle.mz_soundness.specs.Premises.{pop}
 use Rattle.mz_machine.proofs.Converting.{pop-is, put_in}
 use Rattle.mz_store.specs.declared.item.Item.TheVariants.{Proof}
 use Rattle.mz_machine.specs.OverStore.{with_stack}
-use Rattle.mz_unify.proofs.StoredIds.{items-push}
+use Rattle.mz_unify.proofs.Offered.{items-push}
 use Rattle.mz_machine.proofs.GapRows.{gap-none, gap-proof, gap-conversion, gap-claim, gap-other, gap-sides, gap-sorts}
 use Rattle.mz_machine.proofs.commands.gaps.gap.Goals as goal
 

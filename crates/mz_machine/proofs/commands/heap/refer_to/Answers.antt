@@ -1,6 +1,6 @@
 use Rattle.std.proofs.Common.{◌≡◌, ◌∙◌, true, false, ◌∷◌, [], sym, ap}
 use Rattle.mz_unify.specs.Stored.{item_at}
-use Rattle.mz_unify.proofs.StoredIds.{items-in-both}
+use Rattle.mz_unify.proofs.Offered.{items-in-both}
 use Rattle.mz_soundness.specs.Premises.{is_conversion}
 use Rattle.mz_machine.proofs.commands.heap.refer_to.Goals as goal
 

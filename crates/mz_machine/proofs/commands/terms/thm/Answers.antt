@@ -4,7 +4,7 @@ use Rattle.mz_cmd.specs.declared.code.ProofCode.TheVariants as code
 use Rattle.mz_store.specs.Sharing.{IsOver, tree_of}
 use Rattle.mz_store.specs.declared.item.Item.TheVariants.{Proof}
 use Rattle.mz_unification.specs.Profile.{strict, proof}
-use Rattle.mz_unify.proofs.StoredIds.{items-push, items-in-both}
+use Rattle.mz_unify.proofs.Offered.{items-push, items-in-both}
 use Rattle.mz_soundness.specs.ProofMachine.{proof_row}
 use Rattle.mz_soundness.specs.Bodies.{row_steps}
 use Rattle.mz_machine.specs.Before.{tables_of}

@@ -16,7 +16,7 @@ use Rattle.mz_machine.specs.Steps.{Underway, heading_for, tables_for, end_steps}
 use Rattle.mz_machine.specs.Stepping.{IsFinished}
 use Rattle.mz_machine.specs.declared.machine.Finished.TheVariants.{Body, Refused}
 use Rattle.mz_machine.proofs.GapRows.{ends-steps}
-use Rattle.mz_soundness.proofs.PlainRows.{end-plain}
+use Rattle.mz_soundness.proofs.Offered.{end-plain}
 use Rattle.mz_machine.proofs.Dummies.{bound-more, context-longer}
 use Rattle.mz_machine.proofs.Machines.{before-is, same-four}
 use Rattle.mz_machine.proofs.Stopping.{stopped}

@@ -1,5 +1,5 @@
 use Rattle.std.proofs.Common.{subst, arith}
-use Rattle.mz_layout.proofs.TableLists.{length-term_words}
+use Rattle.mz_layout.proofs.Offered.{length-term_words}
 use Rattle.mz_match.specs.RowWords.{IsRow}
 use Rattle.mz_match.proofs.signature.RowOf.arity.Goals as goal
 

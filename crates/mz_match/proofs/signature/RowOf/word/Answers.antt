@@ -1,6 +1,6 @@
 use Rattle.std.proofs.Common.{◌<◌, ap, subst, length, arith}
 use Rattle.mz_logic.specs.Words.{TermWords}
-use Rattle.mz_layout.proofs.TableLists.{length-term_words, term_at-words}
+use Rattle.mz_layout.proofs.Offered.{length-term_words, term_at-words}
 use Rattle.mz_match.specs.declared.signature.RowOf.{RowOf}
 use Rattle.mz_match.specs.RowWords.{IsRow, words_of}
 use Rattle.mz_match.proofs.signature.RowOf.word.Goals as goal

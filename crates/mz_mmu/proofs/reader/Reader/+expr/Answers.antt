@@ -1,7 +1,7 @@
 use Rattle.std.proofs.Common.{◌∙◌, ap, sym, subst, refl, arith}
 use Rattle.mz_logic.specs.Tree.{app, none}
 use Rattle.mz_logic.specs.View.{tree}
-use Rattle.mz_logic.proofs.Follow.{followed_by_none}
+use Rattle.mz_logic.proofs.Offered.{followed_by_none}
 use Rattle.mz_sexpr.specs.Number.{node_at, nodes_after}
 use Rattle.mz_mmu.specs.Cursor.{nodes_from, nodes_size}
 use Rattle.mz_mmu.specs.Expressions.{IsExpr, AreExprs}

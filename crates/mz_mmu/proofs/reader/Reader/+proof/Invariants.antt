@@ -1,5 +1,5 @@
 use Rattle.std.proofs.Common.{◌≡◌, ◌≤◌, ◌+◌, ◌*◌}
-use Rattle.mz_checks.proofs.InOrder.{Decides}
+use Rattle.mz_checks.proofs.Offered.{Decides}
 use Rattle.mz_mmu.specs.Proof.{Proofs}
 use Rattle.mz_sexpr.specs.Number.{node_at}
 use Rattle.mz_mmu.specs.Cursor.{nodes_from, IsThere, node_size, nodes_size}

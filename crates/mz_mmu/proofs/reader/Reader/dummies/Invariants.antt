@@ -1,5 +1,5 @@
 use Rattle.std.proofs.Common.{◌+◌, ◌<◌, ◌^◌, ℕ, List, ◌++◌, length}
-use Rattle.mz_checks.proofs.InOrder.{Decides}
+use Rattle.mz_checks.proofs.Offered.{Decides}
 use Rattle.mz_logic.specs.declared.binder.Binder.{Binder}
 use Rattle.mz_sexpr.specs.Number.{node_at}
 use Rattle.mz_mmu.specs.Cursor.{nodes_from, IsThere, nodes_size}

@@ -1,4 +1,4 @@
-use Rattle.mz_checks.proofs.InOrder.{Decides}
+use Rattle.mz_checks.proofs.Offered.{Decides}
 use Rattle.mz_mmu.specs.Cursor.{nodes_from, IsThere, nodes_size}
 use Rattle.mz_mmu.specs.Statements.{Modifiers, no_modifiers, AreModifiers}
 use Rattle.mz_mmu.specs.StatementView.{modifiers}

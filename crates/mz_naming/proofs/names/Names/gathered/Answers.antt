@@ -1,6 +1,6 @@
 use Rattle.std.proofs.Common.{◌≡◌, ◌∙◌, ◌+◌, ℕ, ap, sym, subst, arith}
 use Rattle.mz_phrasing.specs.Naming.{Naming}
-use Rattle.mz_binary.proofs.Heads.{head-at}
+use Rattle.mz_binary.proofs.Offered.{head-at}
 use Rattle.mz_naming.specs.Names.{declared_names, prefix_beside}
 use Rattle.mz_naming.proofs.Walking.{Walked, no-names, walked-first, walked-more, walked-last}
 use Rattle.mz_naming.proofs.names.Names.gathered.Goals as goal

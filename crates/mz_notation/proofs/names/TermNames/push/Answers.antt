@@ -3,7 +3,7 @@ use Rattle.std.specs.Prelude.{bytes_eq, if◌then◌else◌}
 use Rattle.mz_notation.specs.Names.{HasName}
 use Rattle.mz_tokens.specs.Places.{LeadsTo, place_of}
 use Rattle.mz_notation.specs.declared.table.TermName.{TermName}
-use Rattle.mz_tokens.proofs.Placing.{leads-kept, leads-more}
+use Rattle.mz_tokens.proofs.Offered.{leads-kept, leads-more}
 use Rattle.mz_notation.proofs.names.TermNames.push.Goals as goal
 
 pub invariant_of-self-in_err-push : goal.invariant_of-self-in_err-push

@@ -3,7 +3,7 @@ use Rattle.std.specs.Prelude.{bytes_eq, if◌then◌else◌}
 use Rattle.mz_notation.specs.Notation.{Notation}
 use Rattle.mz_notation.specs.Headed.{AreFound, AreLevelled, IsHeadedBy}
 use Rattle.mz_tokens.specs.Places.{LeadsTo, place_of}
-use Rattle.mz_tokens.proofs.Placing.{leads-kept, leads-more}
+use Rattle.mz_tokens.proofs.Offered.{leads-kept, leads-more}
 use Rattle.mz_notation.proofs.Spotting.{headed-one}
 use Rattle.mz_notation.proofs.notations.NotationList.push.Goals as goal
 

@@ -1,5 +1,5 @@
 use Rattle.std.proofs.Common.{◌∷◌, []}
-use Rattle.mz_punify.proofs.StoredIds.{items-in-both}
+use Rattle.mz_punify.proofs.Offered.{items-in-both}
 use Rattle.mz_pmachine.proofs.commands.heap.refer_to.Goals as goal
 
 pub returns-in_default-clause-ids : goal.returns-in_default-clause-ids

@@ -5,17 +5,16 @@ use Rattle.mz_layout.specs.Tables.{term_row}
 use Rattle.mz_store.specs.Sharing.{CanTake}
 use Rattle.mz_nodes.specs.Numbering.{expr_of, exprs_of}
 use Rattle.mz_nodes.specs.Numbering.{trees_of as trees_in}
-use Rattle.mz_punify.proofs.StoredIds.{from-exprs}
+use Rattle.mz_punify.proofs.Offered.{from-exprs}
 use Rattle.mz_punify.specs.Stored.{exprs_at, trees_at}
 use Rattle.mz_numbered.specs.Numbered.{an_application, operands_from, portable}
 use Rattle.mz_soundness.specs.ProofMachine.{built}
 use Rattle.mz_soundness.specs.Premises.{operands_fit}
 use Rattle.mz_machine.specs.Before.{tables_of, signatures_of, words_before}
 use Rattle.mz_soundness.specs.FileRows.{term_of_file}
-use Rattle.mz_machine.proofs.BeforeLaws.{term-before, no-term-before}
 use Rattle.mz_pmachine.proofs.Stopping.{stops-as}
 use Rattle.mz_pmachine.proofs.TermResults.{built-none, built-few, built-unfit, built-row, can-take, over-words, over-rows, items-kept, items-still, takes-its-own}
-use Rattle.mz_machine.proofs.Dummies.{no-dummies}
+use Rattle.mz_machine.proofs.Offered.{term-before, no-term-before, no-dummies}
 use Rattle.mz_pmachine.proofs.commands.terms.build.Goals as goal
 
 pub returns-then-t-terms-clause-built : goal.returns-then-t-terms-clause-built

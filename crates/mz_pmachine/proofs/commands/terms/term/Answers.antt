@@ -3,7 +3,7 @@ use Rattle.std.proofs.lemmas.Result.{err_from_is_err_and}
 use Rattle.mz_cmd.specs.declared.code.ProofCode.TheVariants as code
 use Rattle.mz_store.specs.declared.item.Item.TheVariants.{Expr}
 use Rattle.mz_numbered.specs.Numbered.{portable}
-use Rattle.mz_punify.proofs.StoredIds.{items-push, items-in-both}
+use Rattle.mz_punify.proofs.Offered.{items-push, items-in-both}
 use Rattle.mz_soundness.specs.ProofMachine.{proof_row}
 use Rattle.mz_machine.specs.Before.{tables_of}
 use Rattle.mz_pmachine.proofs.Stopping.{stops-as}

@@ -1,6 +1,6 @@
 use Rattle.std.proofs.Common.{◌<◌, sym, subst}
 use Rattle.mz_layout.specs.Tables.{term_count}
-use Rattle.mz_machine.proofs.BeforeLaws.{row-in-file}
+use Rattle.mz_machine.proofs.Offered.{row-in-file}
 use Rattle.mz_machine.specs.Before.{Before}
 use Rattle.mz_pmachine.proofs.earlier.Earlier.own_term_param.Goals as goal
 

@@ -1,6 +1,6 @@
 use Rattle.std.proofs.Common.{◌<◌, length, sym, subst}
 use Rattle.mz_machine.specs.Before.{words_before}
-use Rattle.mz_machine.proofs.BeforeLaws.{words-in-file}
+use Rattle.mz_machine.proofs.Offered.{words-in-file}
 use Rattle.mz_pmachine.proofs.earlier.EarlierTerms.result.Goals as goal
 
 pub result-requires : goal.result-requires

@@ -5,7 +5,7 @@ use Rattle.mz_soundness.specs.Tables.{signatures_in}
 use Rattle.mz_machine.specs.Before.{kind_at, tables_before}
 use Rattle.mz_machine.specs.OverStore.{mode_for}
 use Rattle.mz_machine.specs.Stepping.{first_items}
-use Rattle.mz_machine.proofs.Beginning.{own-bits, words-are}
+use Rattle.mz_machine.proofs.Offered.{own-bits, words-are}
 use Rattle.mz_pmachine.proofs.Beginning.{params-are, is-begun, state-begun, AreVars}
 use Rattle.mz_pmachine.proofs.machine.Machine.begin.Goals as goal
 

@@ -14,8 +14,7 @@ use Rattle.mz_pmachine.specs.OverNodes.{kind_of, state_at}
 use Rattle.mz_pmachine.specs.Steps.{Underway, heading_for, tables_for, end_steps}
 use Rattle.mz_pmachine.specs.Stepping.{IsFinished}
 use Rattle.mz_pmachine.specs.declared.machine.Finished.TheVariants.{Body, Refused}
-use Rattle.mz_machine.proofs.Dummies.{bound-more, context-longer}
-use Rattle.mz_machine.proofs.Machines.{before-is, same-four}
+use Rattle.mz_machine.proofs.Offered.{bound-more, context-longer, before-is, same-four}
 use Rattle.mz_pmachine.proofs.Stopping.{stopped}
 use Rattle.mz_pmachine.proofs.machine.Machine.finish.Goals as goal
 

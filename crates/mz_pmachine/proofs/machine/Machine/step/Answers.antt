@@ -10,7 +10,7 @@ use Rattle.mz_pmachine.specs.Steps.{Underway, row_by, steps_by, steps_for, table
 use Rattle.mz_pmachine.specs.Stepping.{IsStepped}
 use Rattle.mz_pmachine.specs.declared.machine.Stepped.TheVariants as stepped
 use Rattle.mz_pmachine.proofs.Ending.{kind-is}
-use Rattle.mz_machine.proofs.Machines.{before-is}
+use Rattle.mz_machine.proofs.Offered.{before-is}
 use Rattle.mz_pmachine.proofs.Machines.{goes-on}
 use Rattle.mz_pmachine.proofs.Stopping.{stopped}
 use Rattle.mz_pmachine.proofs.machine.Machine.step.Goals as goal

@@ -1,5 +1,5 @@
 use Rattle.std.proofs.Common.{◌≡◌, ◌++◌, ◌∷◌, [], List, map, drop}
-use Rattle.mz_checks.proofs.InOrder.{Decides}
+use Rattle.mz_checks.proofs.Offered.{Decides}
 use Rattle.mz_grammar.specs.Code.{literal}
 use Rattle.mz_grammar.specs.Statement.{LiteralText}
 use Rattle.mz_spec.specs.Forms.{AreLiterals}

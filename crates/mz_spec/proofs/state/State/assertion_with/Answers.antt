@@ -10,7 +10,7 @@ use Rattle.mz_spec.proofs.Judged.{parts-halt, rest-halt, parts-hold, few-sorts, 
 use Rattle.mz_spec.proofs.Naming.{stated-small}
 use Rattle.mz_spec.proofs.Strung.{stated-to_formulas, free-none}
 use Rattle.mz_spec.proofs.Loops.{mem-before}
-use Rattle.mz_checks.proofs.InOrder.{all_hold-both}
+use Rattle.mz_checks.proofs.Offered.{all_hold-both}
 use Rattle.mz_spec.specs.Formulas.{strings_checks, free_checks}
 use Rattle.mz_spec.proofs.state.State.assertion_with.Goals as goal
 

@@ -1,7 +1,7 @@
 use Rattle.std.proofs.Common.{◌∙◌, map, Err, ap, subst, sym}
 use Rattle.std.proofs.lemmas.Result.{err_from_is_err_and}
 use Rattle.mz_checks.specs.Checks.{AllHold, FailsFirst}
-use Rattle.mz_checks.proofs.InOrder.{all_hold-both}
+use Rattle.mz_checks.proofs.Offered.{all_hold-both}
 use Rattle.mz_grammar.specs.Code.{lexeme, type_text}
 use Rattle.mz_grammar.specs.Reading.{OnFault}
 use Rattle.mz_spec.specs.Answers.{JudgesOrMem}

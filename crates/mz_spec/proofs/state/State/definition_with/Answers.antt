@@ -1,7 +1,7 @@
 use Rattle.std.proofs.Common.{◌∙◌, List, length, map, option_map, Err, ap, subst, sym, arith}
 use Rattle.std.proofs.lemmas.Result.{err_from_is_err_and}
 use Rattle.mz_checks.specs.Checks.{nothing, ◌>>◌}
-use Rattle.mz_checks.proofs.InOrder.{all_hold-both}
+use Rattle.mz_checks.proofs.Offered.{all_hold-both}
 use Rattle.mz_grammar.specs.Code.{definition, head, lexeme, type_text}
 use Rattle.mz_logic.specs.Declaration.{Declaration, term_decl}
 use Rattle.mz_logic.specs.DeclView.{form}

@@ -5,7 +5,7 @@ use Rattle.mz_logic.specs.Legality.{InRange}
 use Rattle.mz_logic.specs.Variables.{InFV}
 use Rattle.mz_logic.specs.View.{tree}
 use Rattle.mz_logic.specs.declared.binder.Binder.{Binder}
-use Rattle.mz_logic.proofs.Rules.{range_of_sort}
+use Rattle.mz_logic.proofs.Offered.{range_of_sort}
 use Rattle.mz_spec.proofs.state.State.has_free_variables.Goals as goal
 
 pub covers-requires : goal.covers-requires

@@ -1,5 +1,5 @@
 use Rattle.std.proofs.Common.{◌≡◌, List, map, drop}
-use Rattle.mz_checks.proofs.InOrder.{Decides}
+use Rattle.mz_checks.proofs.Offered.{Decides}
 use Rattle.mz_logic.specs.Tree.{Trees, followed_by}
 use Rattle.mz_tokens.specs.declared.pieces.Piece.{Piece}
 use Rattle.mz_spec.specs.Code.{EndsSmall, stated}

@@ -2,7 +2,7 @@ use Rattle.std.proofs.Common.{◌∙◌, [], ℕ, map, Err, ap, subst, sym}
 use Rattle.std.specs.Prelude.{option_map}
 use Rattle.std.proofs.lemmas.Result.{err_from_is_err_and}
 use Rattle.mz_checks.specs.Checks.{each_in_order, ◌>>◌}
-use Rattle.mz_checks.proofs.InOrder.{all_hold-first}
+use Rattle.mz_checks.proofs.Offered.{all_hold-first}
 use Rattle.mz_grammar.specs.Code.{head, literal, notation, tail, type_text}
 use Rattle.mz_spec.specs.Answers.{JudgesStatement}
 use Rattle.mz_spec.specs.Entries.{state}

@@ -1,11 +1,11 @@
-use Rattle.std.proofs.Common.{◌≡◌, ◌∷◌, List, refl, sym, ap, subst}
+use Rattle.std.proofs.Common.{◌∷◌, refl, sym, subst}
 use Rattle.std.proofs.lemmas.Result.{on_ok_weaker}
 use Rattle.std.specs.Prelude.{reverse}
 use Rattle.mz_cmd.specs.declared.code.ProofCode.TheVariants as code
-use Rattle.mz_trace.specs.Commands.{Stage, stage_of, with_stack, IsAny, Goes, MayPay, Pays}
+use Rattle.mz_trace.specs.Commands.{stage_of, with_stack, IsAny, Goes, MayPay, Pays}
 use Rattle.mz_trace.specs.declared.entry.Item.TheVariants.{Conversion}
 use Rattle.mz_trace.specs.declared.entry.Entry.TheVariants.{Held}
-use Rattle.mz_trace.proofs.Moves.{leads-to, saving, conv_save-may, conv_save-leads}
+use Rattle.mz_trace.proofs.Moves.{leads-to, conv_save-may, conv_save-leads}
 use Rattle.mz_trace.proofs.Having.{conv_save-has}
 use Rattle.mz_trace.proofs.making.Making.conv_save.Goals as goal
 

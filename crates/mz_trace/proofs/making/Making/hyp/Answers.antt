@@ -1,8 +1,8 @@
-use Rattle.std.proofs.Common.{◌≡◌, ◌∷◌, length, sym, subst, arith}
+use Rattle.std.proofs.Common.{◌≡◌, ◌∷◌, length, arith}
 use Rattle.std.specs.Prelude.{reverse}
 use Rattle.std.proofs.lemmas.Result.{on_ok_weaker}
 use Rattle.mz_cmd.specs.declared.code.ProofCode.TheVariants as code
-use Rattle.mz_trace.specs.Commands.{Stage, stage_of, IsAny}
+use Rattle.mz_trace.specs.Commands.{stage_of, IsAny}
 use Rattle.mz_trace.specs.declared.entry.Item.TheVariants.{Expr}
 use Rattle.mz_trace.specs.declared.entry.Entry.TheVariants.{Held}
 use Rattle.mz_trace.proofs.Having.{hyp-has}

@@ -1,4 +1,4 @@
-use Rattle.std.proofs.Common.{◌≡◌, refl, subst, arith}
+use Rattle.std.proofs.Common.{subst, arith}
 use Rattle.std.proofs.lemmas.List.{length-reverse}
 use Rattle.mz_trace.specs.Commands.{stage_of, PaysOne}
 use Rattle.mz_trace.proofs.Paying.{itself, then-paid, then-passed, may-pay}

@@ -1,8 +1,5 @@
-use Rattle.std.proofs.Common.{◌≡◌, ℕ, List, length}
-use Rattle.mz_logic.specs.declared.binder.Binder.{Binder}
-use Rattle.mz_soundness.specs.Tables.{Tables}
-use Rattle.mz_trace.specs.Nodes.{IsConversion}
-use Rattle.mz_trace.specs.Commands.{stage_of, values_in, IsMadeBelow, IsPassedOn, PassesOn}
+use Rattle.std.proofs.Common.{length}
+use Rattle.mz_trace.specs.Commands.{stage_of, PassesOn}
 use Rattle.mz_trace.proofs.making.Making.pay.Given as goal
 
 abbrev pub invariant-frames : goal.invariant-frames

@@ -1,9 +1,8 @@
-use Rattle.std.proofs.Common.{◌≡◌, ◌∷◌, List, length, refl, ap, ◌∙◌, sym, subst}
+use Rattle.std.proofs.Common.{◌≡◌, ◌∷◌, length, refl, ◌∙◌, subst}
 use Rattle.std.specs.Prelude.{reverse}
-use Rattle.mz_trace.specs.Commands.{Stage, stage_of, MayPay, with_stack, with_node}
+use Rattle.mz_trace.specs.Commands.{stage_of, MayPay, with_stack, with_node}
 use Rattle.mz_trace.specs.declared.node.RunNode.TheVariants as node
 use Rattle.mz_trace.specs.declared.entry.Item.TheVariants.{Proof}
-use Rattle.mz_trace.specs.declared.entry.Entry.{Entry}
 use Rattle.mz_trace.specs.declared.entry.Entry.TheVariants.{Held, ForProof, ForTurned, ForOperand, ForUnfolded}
 use Rattle.mz_trace.proofs.Paying.{paid-by, passed-on, into-proof, through-turned, through-unfolded, with_both-is, shorter, top-of}
 use Rattle.mz_trace.proofs.making.Making.pay_one.Goals as goal

@@ -1,8 +1,7 @@
-use Rattle.std.proofs.Common.{◌≡◌, ◌∷◌, List, refl, ap, ◌∙◌, sym, subst}
+use Rattle.std.proofs.Common.{◌≡◌, ◌∷◌, refl, ap, ◌∙◌}
 use Rattle.std.specs.Prelude.{reverse}
-use Rattle.mz_trace.specs.Commands.{Stage, stage_of, on_stack, with_stack, with_node, PassesOn}
+use Rattle.mz_trace.specs.Commands.{stage_of, on_stack, with_stack, with_node}
 use Rattle.mz_trace.specs.declared.node.RunNode.TheVariants as node
-use Rattle.mz_trace.specs.declared.entry.Entry.{Entry}
 use Rattle.mz_trace.specs.declared.entry.Entry.TheVariants.{Owed, ForOperand}
 use Rattle.mz_trace.proofs.Paying.{paid-by, passed-on, next-operand, through-operands, with_both-is, shorter}
 use Rattle.mz_trace.proofs.making.Making.pay_operand.Goals as goal

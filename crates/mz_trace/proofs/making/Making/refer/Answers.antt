@@ -1,11 +1,9 @@
-use Rattle.std.proofs.Common.{◌≡◌, refl, ap, ◌∙◌, sym, subst}
+use Rattle.std.proofs.Common.{ap, ◌∙◌, sym, subst}
 use Rattle.std.specs.Prelude.{reverse, slice_get, Some}
 use Rattle.std.proofs.lemmas.Result.{on_ok_weaker}
 use Rattle.mz_cmd.specs.declared.code.ProofCode.TheVariants as code
 use Rattle.mz_trace.specs.Entries.{IsKept}
-use Rattle.mz_trace.specs.Commands.{Stage, stage_of, on_stack, IsAny, Leads}
-use Rattle.mz_trace.specs.declared.entry.Item.TheVariants.{Conversion}
-use Rattle.mz_trace.specs.declared.entry.Entry.TheVariants.{Held}
+use Rattle.mz_trace.specs.Commands.{stage_of, IsAny, Leads}
 use Rattle.mz_trace.proofs.Keeping.{ref-has, ref-owed, ref-may, ref_conversion-leads, ref_other-leads}
 use Rattle.mz_trace.proofs.making.Making.refer.Goals as goal
 

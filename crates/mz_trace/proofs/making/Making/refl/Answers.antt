@@ -1,4 +1,4 @@
-use Rattle.std.proofs.Common.{◌≡◌, ◌∷◌, List, length, refl, sym, subst}
+use Rattle.std.proofs.Common.{◌∷◌, length, refl, sym, subst}
 use Rattle.std.proofs.lemmas.Result.{on_ok_weaker}
 use Rattle.std.specs.Prelude.{reverse}
 use Rattle.mz_cmd.specs.declared.code.ProofCode.TheVariants as code
@@ -6,7 +6,7 @@ use Rattle.mz_trace.specs.Commands.{Stage, stage_of, with_stack, IsAny, Goes, Ma
 use Rattle.mz_trace.specs.declared.node.RunNode.TheVariants as node
 use Rattle.mz_trace.specs.declared.entry.Entry.TheVariants.{Owed}
 use Rattle.mz_trace.proofs.Paying.{with_both-is}
-use Rattle.mz_trace.proofs.Moves.{leads-to, reflected, refl-may, refl-leads}
+use Rattle.mz_trace.proofs.Moves.{leads-to, refl-may, refl-leads}
 use Rattle.mz_trace.proofs.Having.{refl-has}
 use Rattle.mz_trace.proofs.making.Making.refl.Goals as goal
 

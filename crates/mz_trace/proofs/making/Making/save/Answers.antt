@@ -1,8 +1,8 @@
-use Rattle.std.proofs.Common.{◌≡◌, ◌∷◌, ap, ◌∙◌, sym, subst}
+use Rattle.std.proofs.Common.{◌∷◌, ap, ◌∙◌}
 use Rattle.std.specs.Prelude.{reverse}
 use Rattle.std.proofs.lemmas.Result.{on_ok_weaker}
 use Rattle.mz_cmd.specs.declared.code.ProofCode.TheVariants as code
-use Rattle.mz_trace.specs.Commands.{Stage, stage_of, with_stack, with_name, on_stack, IsAny}
+use Rattle.mz_trace.specs.Commands.{stage_of, with_stack, with_name, on_stack, IsAny}
 use Rattle.mz_trace.specs.declared.entry.Item.TheVariants.{Proof}
 use Rattle.mz_trace.specs.declared.entry.Entry.TheVariants.{Held}
 use Rattle.mz_trace.proofs.Moves.{leads-to}

@@ -1,5 +1,5 @@
 use Rattle.mz_logic.specs.Words.{signatures_of}
-use Rattle.mz_store.proofs.Taking.{over-grown}
+use Rattle.mz_store.proofs.Offered.{over-grown}
 use Rattle.mz_trials_binary.proofs.store.Bench.dummy.Goals as goal
 
 pub invariant_of-self : goal.invariant_of-self

@@ -1,6 +1,6 @@
 use Rattle.std.proofs.Common.{◌+◌, drop, sym, ap, ◌∙◌, subst, length, inl}
 use Rattle.mz_checks.specs.Checks.{Judges, AllHold, FailsFirst}
-use Rattle.mz_checks.proofs.InOrder.{fails-after, Decides}
+use Rattle.mz_checks.proofs.Offered.{fails-after, Decides}
 use Rattle.mz_sexpr.specs.Number.{first, rest}
 use Rattle.mz_sexpr.specs.Node.{parts, place}
 use Rattle.mz_logic.specs.Conversions.{unfold_conv}

@@ -2,7 +2,7 @@ use Rattle.std.proofs.Common.{◌+◌, ◌++◌, true≢false, [], ◌∷◌, dr
 use Rattle.std.proofs.lemmas.List.{drop_all}
 use Rattle.std.proofs.lemmas.Option.{get_or_from_slice_get}
 use Rattle.mz_checks.specs.Checks.{Judges, AllHold}
-use Rattle.mz_checks.proofs.InOrder.{all_hold-both, Decides}
+use Rattle.mz_checks.proofs.Offered.{all_hold-both, Decides}
 use Rattle.mz_sexpr.specs.Number.{first, rest}
 use Rattle.mz_sexpr.specs.Node.{parts}
 use Rattle.mz_logic.specs.Tree.{none, more, listed, followed_by, instance}

@@ -1,5 +1,5 @@
 use Rattle.std.proofs.Common.{◌≡◌, ◌≤◌, ◌+◌, ◌*◌, drop, length}
-use Rattle.mz_checks.proofs.InOrder.{Decides}
+use Rattle.mz_checks.proofs.Offered.{Decides}
 use Rattle.mz_logic.specs.Declaration.{signatures, assertions}
 use Rattle.mz_logic.specs.Tree.{listed}
 use Rattle.mz_mmu.specs.ProofCode.{proof_steps, proofs_steps}

@@ -1,7 +1,7 @@
 use Rattle.std.proofs.Common.{◌≡◌, ◌<◌, ◌+◌, true≢false, drop, length, refl, sym, ◌∙◌, subst, inl, arith}
 use Rattle.std.proofs.lemmas.List.{drop_all}
 use Rattle.mz_checks.specs.Checks.{demand, AllHold}
-use Rattle.mz_checks.proofs.InOrder.{Decides}
+use Rattle.mz_checks.proofs.Offered.{Decides}
 use Rattle.mz_sexpr.specs.Node.{place}
 use Rattle.mz_sexpr.specs.Number.{first, rest}
 use Rattle.mz_sexpr.specs.declared.rule.U.{U}

@@ -1,5 +1,5 @@
 use Rattle.std.proofs.Common.{◌≡◌, drop, length}
-use Rattle.mz_checks.proofs.InOrder.{Decides}
+use Rattle.mz_checks.proofs.Offered.{Decides}
 use Rattle.mz_logic.specs.Tree.{instances}
 use Rattle.mz_logic.specs.View.{trees}
 use Rattle.mz_type.specs.Claims.{claim_trees}

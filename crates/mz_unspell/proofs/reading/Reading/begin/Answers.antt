@@ -1,6 +1,6 @@
 use Rattle.std.proofs.Common.{None, arith, subst}
 use Rattle.std.proofs.lemmas.Result.{IfOk-weaker}
-use Rattle.mz_layout.proofs.TableLists.{length-term_words}
+use Rattle.mz_layout.proofs.Offered.{length-term_words}
 use Rattle.mz_phrasing.specs.Naming.{vocabulary_by}
 use Rattle.mz_unspell.specs.Reading.{IsOpened}
 use Rattle.mz_unspell.proofs.Steps.{begin_done, term_there}

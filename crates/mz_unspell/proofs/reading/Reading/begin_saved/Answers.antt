@@ -1,7 +1,7 @@
 use Rattle.std.proofs.Common.{◌≡◌, Some, arith, length, refl, subst}
 use Rattle.std.proofs.lemmas.Result.{IfOk-weaker}
 use Rattle.mz_layout.specs.Tables.{term_row}
-use Rattle.mz_layout.proofs.TableLists.{length-term_words}
+use Rattle.mz_layout.proofs.Offered.{length-term_words}
 use Rattle.mz_phrasing.specs.Naming.{vocabulary_by}
 use Rattle.mz_unspell.specs.Reading.{IsOpened}
 use Rattle.mz_unspell.proofs.Steps.{save_done, save_there}

@@ -1,0 +1,327 @@
+-- Statements that restate a good binary's stand in its list, one after another.
+use Rattle.std.proofs.Common.{◌≡◌, ◌∙◌, ◌⊎◌, ◌<◌, ◌≤◌, ◌+◌, ◌++◌, ℕ, suc, Bool, true, false, inl, inr, List}
+use Rattle.std.proofs.Common.{[], ◌∷◌, length, get_or, Option, Some, None, Ok, refl, sym, ap, subst, arith, append_assoc, length-append}
+use Rattle.std.specs.Prelude.{Result, MatchBool}
+use Rattle.std.proofs.lemmas.List.{append-nil, get_or_at}
+use Rattle.std.proofs.lemmas.Option.{slice_get_within}
+use Rattle.mz_checks.specs.Checks.{AllHold}
+use Rattle.mz_cmd.specs.declared.code.StatementCode.TheVariants as codes
+use Rattle.mz_cmd.specs.declared.statement.StmtAt.{StmtAt}
+use Rattle.mz_cmd.specs.declared.statement.StmtAt.TheVariants as stands
+use Rattle.mz_cmd.specs.declared.statement.StmtFault.{StmtFault}
+use Rattle.mz_cmd.specs.Codes.{statement_code}
+use Rattle.mz_cmd.specs.StatementList.{statement_at}
+use Rattle.mz_logic.specs.Signature.{Signature}
+use Rattle.mz_logic.specs.Declaration.{Term, Assertion, Declaration, sort_decl, term_decl, assertion_decl, sorts, terms, signatures, assertions}
+use Rattle.mz_logic.specs.Legality.{IsLegalEnv}
+use Rattle.mz_logic.specs.LegalLists.{Statement as Marked}
+use Rattle.mz_logic.specs.declared.binder.Binder.{Binder}
+use Rattle.mz_logic.specs.declared.binder.SortMods.{SortMods}
+use Rattle.mz_layout.specs.Tables.{list_at, term_count, thm_count, term_row, thm_row, tables_of}
+use Rattle.mz_layout.proofs.Offered.{slice_get-rows, length-sorts}
+use Rattle.mz_unification.specs.Profile.{strict}
+use Rattle.mz_soundness.specs.Bodies.{Runs}
+use Rattle.mz_soundness.specs.FileRows.{Taken, taken_by, rows_taken, body_bytes, term_of_file}
+use Rattle.mz_soundness.specs.RowWords.{first_sorts, param_checks}
+use Rattle.mz_soundness.specs.Tables.{Declares}
+use Rattle.mz_soundness.proofs.Offered.{signature-at}
+use Rattle.mz_machine.specs.Before.{AreWithin, MayRun, HasRightParams, heading_of, taken_before}
+use Rattle.mz_machine.specs.declared.earlier.Rows.{Rows}
+use Rattle.mz_binary.specs.Chains.{IsGoodStatement, GoodTo, IsListEnd}
+use Rattle.mz_binary.specs.Checking.{checks_of, kind_checks}
+use Rattle.mz_binary.specs.Spelling.{IsKindOf, SpellsRow, is_local_code}
+use Rattle.mz_binary.specs.Standards.{strict_standard}
+use Rattle.mz_binary.proofs.Offered.{chain-more, sorts-many, terms-many, assertions-many, were-right, entry-good, same-taken, head-at, well-chain, HasRightRow, right-row, HasSorts, chain-sorts}
+use Rattle.mz_match.proofs.Offered.{length-binders}
+use Rattle.mz_mmu.specs.Proof.{Proof, Statement}
+use Rattle.mz_wording.specs.Wording.{sort_name, term_name, sort_names, term_names}
+use Rattle.mz_tracing.specs.Laws.{BodiesMakeOne}
+use Rattle.mz_tracing.specs.Traces.{Made, under_lets}
+use Rattle.mz_phrasing.specs.Naming.{Naming, vocabulary_by}
+use Rattle.mz_naming.specs.Names.{assertion_name, assertion_names, naming_of}
+use Rattle.mz_unspell.specs.Rows.{AreArities}
+use Rattle.mz_restating.specs.Restated.{IsProofMade, IsRestated, AreRestated}
+use Rattle.mz_telling.specs.Naming.{next_name}
+use Rattle.mz_telling.specs.Telling.{Counts, HasProof, MakesProof, Stands}
+use Rattle.mz_telling.specs.declared.head.Head.{Head}
+use Rattle.mz_decompile.specs.Standing.{AreStanding, counted, no_rows, AreAll}
+
+-- ---- names by their places
+
+module _ (part : Declaration → List ℕ → List (List ℕ)) (all : List Statement → List (List ℕ)) (nothing : all [] ≡ [])
+    (cut : (t : Statement) (ts : List Statement) → all (t ∷ ts) ≡ part t.decl t.name ++ all ts) where
+  all-append : (a b : List Statement) → all (a ++ b) ≡ all a ++ all b
+  all-append [] b = sym (ap (λ (x : List (List ℕ)). x ++ all b) nothing)
+  all-append (t ∷ a) b =
+      cut t (a ++ b) ∙ ap (λ (x : List (List ℕ)). part t.decl t.name ++ x) (all-append a b) ∙ sym (append_assoc (part t.decl t.name) (all a) (all b))
+      ∙ ap (λ (x : List (List ℕ)). x ++ all b) (sym (cut t a))
+
+  found : (a : List Statement) (t : Statement) (b : List Statement) (n : ℕ) → part t.decl t.name ≡ t.name ∷ [] → length (all a) ≡ n → t.name ≡ get_or (all (a ++ t ∷ b)) n []
+  found a t b n is many =
+      sym (ap (λ (x : List (List ℕ)). get_or x n [])
+      (all-append a (t ∷ b) ∙ ap (λ (x : List (List ℕ)). all a ++ x) (cut t b ∙ ap (λ (x : List (List ℕ)). x ++ all b) is))
+      ∙ get_or_at (all a) t.name (all b) [] n many)
+
+  grown : (a : List Statement) (t : Statement) → length (all (a ++ t ∷ [])) ≡ length (all a) + length (part t.decl t.name)
+  grown a t =
+      ap length (all-append a (t ∷ []) ∙ ap (λ (x : List (List ℕ)). all a ++ x) (cut t [] ∙ ap (λ (x : List (List ℕ)). part t.decl t.name ++ x) nothing ∙ append-nil (part t.decl t.name)))
+      ∙ length-append (all a) (part t.decl t.name)
+
+-- as many of each kind are named as declared
+record ArePlaced (ts : List Statement) (env : List Declaration) : Type 0 where
+  sorts-are : length (sort_names ts) ≡ length (sorts env)
+  terms-are : length (term_names ts) ≡ length (terms env)
+  thms-are : length (assertion_names ts) ≡ length (assertions env)
+
+placed-more : (ts : List Statement) (env : List Declaration) (t : Statement) → ArePlaced ts env → ArePlaced (ts ++ t ∷ []) (env ++ t.decl ∷ [])
+placed-more ts env t are =
+    let x = are.sorts-are in let y = are.terms-are in let z = are.thms-are in record {
+      sorts-are = omega (arith, x, grown sort_name sort_names refl (λ t ts. refl) ts t, sorts-many env (t.decl ∷ []), one-sort t.decl);
+      terms-are = omega (arith, y, grown term_name term_names refl (λ t ts. refl) ts t, terms-many env (t.decl ∷ []), one-term t.decl);
+      thms-are = omega (arith, z, grown assertion_name assertion_names refl (λ t ts. refl) ts t, assertions-many env (t.decl ∷ []), one-thm t.decl);
+    }
+  where
+    one-sort : (d : Declaration) → length (sort_name d t.name) ≡ length (sorts (d ∷ []))
+    one-sort (sort_decl m) = refl
+    one-sort (term_decl d) = refl
+    one-sort (assertion_decl a) = refl
+
+    one-term : (d : Declaration) → length (term_name d t.name) ≡ length (terms (d ∷ []))
+    one-term (sort_decl m) = refl
+    one-term (term_decl d) = refl
+    one-term (assertion_decl a) = refl
+
+    one-thm : (d : Declaration) → length (assertion_name d t.name) ≡ length (assertions (d ∷ []))
+    one-thm (sort_decl m) = refl
+    one-thm (term_decl d) = refl
+    one-thm (assertion_decl a) = refl
+
+named : (prefix : List ℕ) (before : List Statement) (t : Statement) (after : List Statement) (env : List Declaration) → ArePlaced before env
+    → t.name ≡ next_name (vocabulary_by (naming_of prefix (before ++ t ∷ after))) env t.decl
+named prefix before t after env are = by t.decl refl
+  where
+    by : (d : Declaration) → t.decl ≡ d → t.name ≡ next_name (vocabulary_by (naming_of prefix (before ++ t ∷ after))) env d
+    by (sort_decl m) is = found sort_name sort_names refl (λ t ts. refl) before t after (length (sorts env)) (ap (λ (d : Declaration). sort_name d t.name) is) are.sorts-are
+    by (term_decl d) is = found term_name term_names refl (λ t ts. refl) before t after (length (terms env)) (ap (λ (d : Declaration). term_name d t.name) is) are.terms-are
+    by (assertion_decl a) is = found assertion_name assertion_names refl (λ t ts. refl) before t after (length (assertions env)) (ap (λ (d : Declaration). assertion_name d t.name) is) are.thms-are
+
+-- ---- signatures
+
+signatures-many : (env : List Declaration) → length (signatures env) ≡ length (terms env)
+signatures-many [] = refl
+signatures-many (sort_decl m ∷ env) = signatures-many env
+signatures-many (term_decl d ∷ env) = ap suc (signatures-many env)
+signatures-many (assertion_decl a ∷ env) = signatures-many env
+
+arities : (file : List ℕ) (env : List Declaration) → Declares (rows_taken file (taken_by env)) env → length (terms env) ≤ term_count file → AreArities file (signatures env)
+arities file env declares few t d is =
+    let within = slice_get_within (signatures env) t d is in
+    let many = signatures-many env in
+    let there : t < length (terms env) = omega (arith, within, many) in
+    let sig = signature-at (rows_taken file (taken_by env)) env declares t (term_of_file file t) (slice_get-rows (term_of_file file) (length (terms env)) t there) in
+    let both : Some (term_of_file file t).signature ≡ Some d = sym sig ∙ is in
+    let same : (term_of_file file t).signature ≡ d = cc in
+    (omega (arith, there, few), sym (ap (λ (s : Signature). length s.params) same) ∙ length-binders 0 [] (term_row file t).words.params)
+
+-- ---- a statement at its place
+
+theorem-asked : (file : List ℕ) (env : List Declaration) (at code body next : ℕ) → (code ≡ 0x06) ⊎ (code ≡ 0x0E)
+    → AllHold (kind_checks strict_standard file (taken_by env) at body next (statement_code code))
+    → AllHold (kind_checks strict_standard file (taken_by env) at body next (Some codes.Theorem))
+theorem-asked file env at code body next (inl is) all = subst (λ (c : ℕ). AllHold (kind_checks strict_standard file (taken_by env) at body next (statement_code c))) is all
+theorem-asked file env at code body next (inr is) all = subst (λ (c : ℕ). AllHold (kind_checks strict_standard file (taken_by env) at body next (statement_code c))) is all
+
+module _ (one : BodiesMakeOne) (file : List ℕ) (env : List Declaration) (at : ℕ) (s : Marked) (next : ℕ) (good : IsGoodStatement strict_standard file env at s next)
+    (done : List Marked) (chain : GoodTo strict_standard file [] (list_at file) done env at) (before : Rows) (counts : Counts env before) (within : AreWithin file before) where
+  so-far : IsLegalEnv env × Declares (rows_taken file (taken_by env)) env
+  so-far = well-chain strict_standard file [] (list_at file) done env at chain tt (record { sorts_are = refl; terms_are = tt; thms_are = tt })
+
+  sorts-are : HasSorts file env
+  sorts-are = chain-sorts strict_standard file [] (list_at file) done env at chain refl
+
+  first-are : first_sorts file before.sorts ≡ sorts env
+  first-are = ap (first_sorts file) counts.sorts_are ∙ sym sorts-are
+
+  taken-are : taken_by env ≡ taken_before file before
+  taken-are = same-taken (taken_by env) (taken_before file before) (sym first-are) (sym counts.terms_are) (sym counts.thms_are)
+
+  module _ (a : Assertion) (is : s.decl ≡ assertion_decl a) (theorem : a.is_axiom ≡ false) where
+    row-here : SpellsRow file env (assertion_decl a)
+    row-here = subst (SpellsRow file env) is good.spelled.row
+
+    body-runs : Runs strict (rows_taken file (taken_by env)) (heading_of file 0x06 (length (assertions env))) good.spelled.body (body_bytes file good.spelled.body next)
+    body-runs =
+        let kind : IsKindOf good.spelled.code (assertion_decl a) = subst (IsKindOf good.spelled.code) is good.spelled.kind.0 in
+        let asked = theorem-asked file env at good.spelled.code good.spelled.body next
+        (subst (λ b. MatchBool b (good.spelled.code ≡ 0x02) ((good.spelled.code ≡ 0x06) ⊎ (good.spelled.code ≡ 0x0E))) theorem kind)
+        (subst (λ (r : Result StmtAt StmtFault). AllHold (checks_of strict_standard file (taken_by env) at r)) good.spelled.stands good.passes) in
+        (entry-good strict_standard file (taken_by env) at good.spelled.body next codes.Theorem asked).2
+
+    right-params : HasRightParams file before.sorts before.thms
+    right-params =
+        let here : AllHold (param_checks (sorts env) (thm_row file (length (assertions env))).words_at (thm_row file (length (assertions env))).params) =
+        right-by (s.decl) is (right-row strict_standard file env at s next good) in
+        subst (λ (ss : List SortMods). AllHold (param_checks ss (thm_row file before.thms).words_at (thm_row file before.thms).params)) (sym first-are)
+        (subst (λ (i : ℕ). AllHold (param_checks (sorts env) (thm_row file i).words_at (thm_row file i).params)) (sym counts.thms_are) here)
+      where
+        right-by : (d : Declaration) → d ≡ assertion_decl a → HasRightRow file env d
+            → AllHold (param_checks (sorts env) (thm_row file (length (assertions env))).words_at (thm_row file (length (assertions env))).params)
+        right-by d same right = subst (HasRightRow file env) same right
+
+    may-run : MayRun file 0x06 before.thms before
+    may-run =
+        let right = were-right strict_standard file (list_at file) done env at chain in
+        let x = counts.sorts_are in let y = counts.terms_are in let z = counts.thms_are in record {
+          kinds = inr (inr refl);
+          within = within;
+          next = (refl, subst (λ (i : ℕ). i < thm_count file) (sym z) row-here.0, right-params);
+          terms_right = λ t below. let (n, few, words) = right.of_terms t (omega (arith, below, y)) in (n, omega (arith, few, x), words);
+          thms_right = λ i below. let (n, few, words) = right.of_thms i (omega (arith, below, z)) in (n, omega (arith, few, x), words);
+        }
+
+    makes : (dummies : List Binder) (p : Option Proof) (lets : List Proof) (root : Proof) → p ≡ Some (under_lets lets root)
+        → Made (rows_taken file (taken_by env)) (heading_of file 0x06 (length (assertions env))) (body_bytes file good.spelled.body next) dummies lets root
+        → MakesProof file before env good.spelled.body next dummies p
+    makes dummies p lets root is-proof made =
+        let command = head-at file at good.spelled.code good.spelled.body next good.spelled.stands in
+        let z = sym counts.thms_are in record {
+          may_run = may-run;
+          order = command.order;
+          within = command.within;
+          runs = subst (λ (t : Taken). Runs strict (rows_taken file t) (heading_of file 0x06 before.thms) good.spelled.body (body_bytes file good.spelled.body next)) taken-are
+              (subst (λ (i : ℕ). Runs strict (rows_taken file (taken_by env)) (heading_of file 0x06 i) good.spelled.body (body_bytes file good.spelled.body next)) z body-runs);
+          declares = subst (λ (t : Taken). Declares (rows_taken file t) env) taken-are so-far.1;
+          one = λ ds others last other-made.
+              let back = subst (λ (i : ℕ). Made (rows_taken file (taken_by env)) (heading_of file 0x06 i) (body_bytes file good.spelled.body next) ds others last) counts.thms_are
+              (subst (λ (t : Taken). Made (rows_taken file t) (heading_of file 0x06 before.thms) (body_bytes file good.spelled.body next) ds others last) (sym taken-are) other-made) in
+              let same = one (rows_taken file (taken_by env)) (heading_of file 0x06 (length (assertions env))) (body_bytes file good.spelled.body next) dummies ds lets others root last made back in
+              (same.0, is-proof ∙ ap (λ (ps : List Proof). Some (under_lets ps root)) same.1 ∙ ap (λ (r : Proof). Some (under_lets others r)) same.2);
+        }
+
+  has-proof : (dummies : List Binder) (p : Option Proof) (d : Declaration) → s.decl ≡ d → IsProofMade file env good.spelled.body next d dummies p
+      → HasProof file before env good.spelled.body next d dummies p
+  has-proof dummies p (sort_decl m) is made = made
+  has-proof dummies p (term_decl d) is made = made
+  has-proof dummies p (assertion_decl a) is made = by a.is_axiom refl made
+    where
+      by : (b : Bool) → a.is_axiom ≡ b
+          → MatchBool b ((dummies ≡ []) × (p ≡ None)) ((lets : List Proof) × (root : Proof) × (p ≡ Some (under_lets lets root))
+          × Made (rows_taken file (taken_by env)) (heading_of file 0x06 (length (assertions env))) (body_bytes file good.spelled.body next) dummies lets root)
+          → MatchBool b ((dummies ≡ []) × (p ≡ None)) (MakesProof file before env good.spelled.body next dummies p)
+      by true same made = made
+      by false same (lets, root, is-proof, made) = makes a is same dummies p lets root is-proof made
+
+  abbrev head-of : (name : List ℕ) (t : Statement) → IsRestated file env at s next name t → Head
+  head-of name t r = record { code = r.code; body = r.body; next = next }
+
+  stands-here : (naming : Naming) (name : List ℕ) (t : Statement) (r : IsRestated file env at s next name t) → t.name ≡ next_name (vocabulary_by naming) env t.decl
+      → Stands file naming before env (head-of name t r) t
+  stands-here naming name t r named-so =
+      let both : Ok (stands.Head good.spelled.code good.spelled.body next) ≡ Ok (stands.Head r.code r.body next) = sym good.spelled.stands ∙ r.stands in
+      let code-is : good.spelled.code ≡ r.code = cc in
+      let body-is : good.spelled.body ≡ r.body = cc in
+      let made = subst (λ (b : ℕ). IsProofMade file env b next s.decl t.dummies t.proof) (sym body-is) r.proof in
+      record {
+        kind = subst (λ (d : Declaration). IsKindOf r.code d) (sym r.declares) (subst (λ (c : ℕ). IsKindOf c s.decl) code-is good.spelled.kind.0);
+        mark = r.mark ∙ good.spelled.kind.1 ∙ ap is_local_code code-is;
+        counts = counts;
+        named = named-so;
+        row = subst (SpellsRow file env) (sym r.declares) good.spelled.row;
+        arities = arities file env so-far.1 (let x = within.terms_within in let y = counts.terms_are in omega (arith, x, y));
+        proof = subst (λ (d : Declaration). HasProof file before env r.body next d t.dummies t.proof) (sym r.declares)
+            (subst (λ (b : ℕ). HasProof file before env b next s.decl t.dummies t.proof) body-is (has-proof t.dummies t.proof s.decl refl made));
+      }
+
+-- ---- one row more
+
+record Next (file : List ℕ) (env : List Declaration) (before : Rows) : Type 0 where
+  counts : Counts env before
+  within : AreWithin file before
+
+module _ (file : List ℕ) (env : List Declaration) (before : Rows) (counts : Counts env before) (within : AreWithin file before) where
+  abbrev Goes : ℕ → Declaration → Type 0
+  Goes code d = Next file (env ++ d ∷ []) (counted before (statement_code code))
+
+  sort-next : (m : SortMods) → SpellsRow file env (sort_decl m) → Next file (env ++ sort_decl m ∷ []) (record before { sorts = before.sorts + 1 })
+  sort-next m row =
+      let x = counts.sorts_are in let y = counts.terms_are in let z = counts.thms_are in
+      let there = slice_get_within (tables_of file).sorts (length (sorts env)) m row in
+      let all = length-sorts file in
+      let a = sorts-many env (sort_decl m ∷ []) in let b = terms-many env (sort_decl m ∷ []) in let c = assertions-many env (sort_decl m ∷ []) in
+      record {
+        counts = record { sorts_are = omega (arith, x, a); terms_are = omega (arith, y, b); thms_are = omega (arith, z, c) };
+        within = record { sorts_within = omega (arith, x, there, all); terms_within = within.terms_within; thms_within = within.thms_within };
+      }
+
+  term-next : (d : Term) → SpellsRow file env (term_decl d) → Next file (env ++ term_decl d ∷ []) (record before { terms = before.terms + 1 })
+  term-next d row =
+      let x = counts.sorts_are in let y = counts.terms_are in let z = counts.thms_are in
+      let there = row.0 in
+      let a = sorts-many env (term_decl d ∷ []) in let b = terms-many env (term_decl d ∷ []) in let c = assertions-many env (term_decl d ∷ []) in
+      record {
+        counts = record { sorts_are = omega (arith, x, a); terms_are = omega (arith, y, b); thms_are = omega (arith, z, c) };
+        within = record { sorts_within = within.sorts_within; terms_within = omega (arith, y, there); thms_within = within.thms_within };
+      }
+
+  thm-next : (t : Assertion) → SpellsRow file env (assertion_decl t) → Next file (env ++ assertion_decl t ∷ []) (record before { thms = before.thms + 1 })
+  thm-next t row =
+      let x = counts.sorts_are in let y = counts.terms_are in let z = counts.thms_are in
+      let there = row.0 in
+      let a = sorts-many env (assertion_decl t ∷ []) in let b = terms-many env (assertion_decl t ∷ []) in let c = assertions-many env (assertion_decl t ∷ []) in
+      record {
+        counts = record { sorts_are = omega (arith, x, a); terms_are = omega (arith, y, b); thms_are = omega (arith, z, c) };
+        within = record { sorts_within = within.sorts_within; terms_within = within.terms_within; thms_within = omega (arith, z, there) };
+      }
+
+  next-of : (code : ℕ) (d : Declaration) → IsKindOf code d → SpellsRow file env d → Goes code d
+  next-of code (sort_decl m) is row = subst (λ (c : ℕ). Goes c (sort_decl m)) (sym is) (sort-next m row)
+  next-of code (term_decl d) (inl is) row = subst (λ (c : ℕ). Goes c (term_decl d)) (sym is) (term-next d row)
+  next-of code (term_decl d) (inr is) row = subst (λ (c : ℕ). Goes c (term_decl d)) (sym is) (term-next d row)
+  next-of code (assertion_decl t) is row = by t.is_axiom is
+    where
+      by : (b : Bool) → MatchBool b (code ≡ 0x02) ((code ≡ 0x06) ⊎ (code ≡ 0x0E)) → Goes code (assertion_decl t)
+      by true is = subst (λ (c : ℕ). Goes c (assertion_decl t)) (sym is) (thm-next t row)
+      by false (inl is) = subst (λ (c : ℕ). Goes c (assertion_decl t)) (sym is) (thm-next t row)
+      by false (inr is) = subst (λ (c : ℕ). Goes c (assertion_decl t)) (sym is) (thm-next t row)
+
+-- ---- the whole list
+
+module _ (one : BodiesMakeOne) (file : List ℕ) (prefix : List ℕ) where
+  all-standing : (done : List Marked) (env : List Declaration) (at : ℕ) → GoodTo strict_standard file [] (list_at file) done env at → (before : Rows) → Counts env before → AreWithin file before
+      → (told : List Statement) → ArePlaced told env → (ss : List Marked) (env' : List Declaration) (to : ℕ) → GoodTo strict_standard file env at ss env' to → IsListEnd file to
+      → (names : List (List ℕ)) (ts : List Statement) → AreRestated file env at ss names ts → AreStanding file (naming_of prefix (told ++ ts)) before env at ts
+  all-standing done env at chain before counts within told placed [] env' to (_, same) end [] [] are =
+      λ head is. (let e : Ok (stands.Head head.code head.body head.next) ≡ Ok stands.End = sym is ∙ ap (statement_at file) (sym same) ∙ end in cc)
+  all-standing done env at chain before counts within told placed [] env' to left end [] (t ∷ ts) are = absurd are
+  all-standing done env at chain before counts within told placed [] env' to left end (name ∷ names) ts are = absurd are
+  all-standing done env at chain before counts within told placed (s ∷ ss) env' to left end [] ts are = absurd are
+  all-standing done env at chain before counts within told placed (s ∷ ss) env' to left end (name ∷ names) [] are = absurd are
+  all-standing done env at chain before counts within told placed (s ∷ ss) env' to (next, good, left) end (name ∷ names) (t ∷ ts) (next', restated', rest') =
+      let both : Ok (stands.Head restated'.code restated'.body next') ≡ Ok (stands.Head good.spelled.code good.spelled.body next) = sym restated'.stands ∙ good.spelled.stands in
+      let next-is : next' ≡ next = cc in
+      let restated = subst (λ (n : ℕ). IsRestated file env at s n name t) next-is restated' in
+      let rest = subst (λ (n : ℕ). AreRestated file (env ++ s.decl ∷ []) n ss names ts) next-is rest' in
+      let naming = naming_of prefix (told ++ t ∷ ts) in
+      let here = stands-here one file env at s next good done chain before counts within naming name t restated (named prefix told t ts env placed) in
+      let head = head-of one file env at s next good done chain before counts within name t restated in
+      let after = next-of file env before counts within head.code t.decl here.kind here.row in
+      let grown-chain = chain-more (IsGoodStatement strict_standard file) [] (list_at file) done env at s next chain good in
+      let decl-is = restated.declares in
+      let more-placed = subst (λ (d : Declaration). ArePlaced (told ++ t ∷ []) (env ++ d ∷ [])) decl-is (placed-more told env t placed) in
+      let behind = all-standing (done ++ s ∷ []) (env ++ s.decl ∷ []) next grown-chain (counted before (statement_code head.code))
+      (subst (λ (d : Declaration). Counts (env ++ d ∷ []) (counted before (statement_code head.code))) decl-is after.counts) after.within
+      (told ++ t ∷ []) more-placed ss env' to left end names ts rest in (
+        head,
+        restated.stands,
+        here,
+        subst (λ (d : Declaration). AreStanding file naming (counted before (statement_code head.code)) (env ++ d ∷ []) next ts) (sym decl-is)
+            (subst (λ (x : List Statement). AreStanding file (naming_of prefix x) (counted before (statement_code head.code)) (env ++ s.decl ∷ []) next ts) (append_assoc told (t ∷ []) ts) behind),
+      )
+
+  -- all statements of a good binary
+  pub good-standing : (ss : List Marked) (env' : List Declaration) (to : ℕ) → GoodTo strict_standard file [] (list_at file) ss env' to → IsListEnd file to
+      → (names : List (List ℕ)) (ts : List Statement) → AreRestated file [] (list_at file) ss names ts → AreAll file (naming_of prefix ts) ts
+  good-standing ss env' to chain end names ts are =
+      all-standing [] [] (list_at file) (refl, refl) no_rows (record { sorts_are = refl; terms_are = refl; thms_are = refl })
+      (record { sorts_within = omega arith; terms_within = omega arith; thms_within = omega arith })
+      [] (record { sorts-are = refl; terms-are = refl; thms-are = refl }) ss env' to chain end names ts are

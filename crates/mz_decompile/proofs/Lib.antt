@@ -1,0 +1,6 @@
+mod Decided
+mod Texts
+mod Walking
+mod Sizing
+mod Bridging
+mod Answered

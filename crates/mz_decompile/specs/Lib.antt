@@ -1,0 +1,4 @@
+pub mod Decompiling
+pub mod Told
+pub mod Standing
+pub mod Passes

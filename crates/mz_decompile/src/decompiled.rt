@@ -1,0 +1,79 @@
+// A binary as a text.
+ghost use Rattle.std.specs.Prelude.{◌≡◌, ◌≤◌, ◌<◌, ◌+◌, ◌*◌, ◌^◌, IfOk, length};
+ghost use Rattle.mz_match.specs.Verdict.{Accepts};
+ghost use Rattle.mz_decompile.specs.Decompiling.{IsDecompilation, IsTextForPair, TicksAs};
+ghost use Rattle.mz_decompile.specs.Passes.{IsOfAccepted};
+
+use crate::answering::answer;
+use mz_cmd::{Mem, Steps};
+use mz_layout::Mmb;
+use mz_match::{Verdict, verify_bytes};
+use mz_naming::Names;
+use mz_restating::{accepted_are_restated, plain_texts_are_texts};
+use mz_tracing::bodies_make_proofs;
+use mz_type::typed_or_faulty;
+use std::alloc::Global;
+use std::sync::ledger::Ledger;
+
+/// What making a text of a binary answers.
+#[derive(Drop)]
+pub enum Decompiled {
+    /// The pair is accepted, and nothing stands against the text: this.
+    Text(Vec<u8>),
+    /// The pair's first refusal.
+    Refused(Verdict),
+    /// The number of the first statement in whose text more than 4,096 lists stand in one another.
+    Deep(u32),
+    /// The text's length, or the bound on that of what it would compile to, is more than 4,294,967,295 bytes: the greater of
+    /// both, or the greatest number that can be told.
+    Limit { count: u128 },
+    /// Want of memory.
+    Mem,
+}
+
+/// Verifies a binary against a specification, and makes the text that states its statements, under the specification's
+/// names and with the proofs that its bodies make.
+///
+/// The steps counted are those of the verification; that the bodies are read again, in both passes, isn't counted.
+pub fn decompile_bytes<L: Ledger>(
+    alloc: Global,
+    spec: &[u8],
+    bin: &[u8],
+    steps: &mut Steps<L>,
+) -> Decompiled
+    requires spec { length spec.now < 2 ^ 32 }
+    requires bin { length bin.now < 2 ^ 32 }
+    ensures answer { IsDecompilation spec.now bin.now result }
+    ensures text { IsTextForPair spec.now bin.now result }
+    ensures steps { TicksAs bin.now steps.old steps.new result }
+    ensures bound { steps.new ≤ steps.old + (length bin.now * length bin.now + length bin.now) }
+{
+    match verify_bytes(alloc, spec, bin, steps) {
+        Verdict::Accepted(_) => match of_accepted(alloc, spec, bin) {
+            Ok(answer) => answer,
+            Err(_) => Decompiled::Mem,
+        },
+        Verdict::Mem => Decompiled::Mem,
+        verdict => Decompiled::Refused(verdict),
+    }
+}
+
+/// The text of a pair that is accepted, or what stands first against it.
+fn of_accepted(alloc: Global, spec: &[u8], bin: &[u8]) -> Result<Decompiled, Mem>
+    requires spec { length spec.now < 2 ^ 32 }
+    requires bin { length bin.now < 2 ^ 32 }
+    requires accepted { Accepts spec.now bin.now }
+    ensures answer { IfOk result (λ d. IsDecompilation spec.now bin.now d) }
+    ensures text { IfOk result (λ d. IsTextForPair spec.now bin.now d) }
+    ensures own { IfOk result IsOfAccepted }
+{
+    typed_or_faulty();
+    bodies_make_proofs();
+    accepted_are_restated();
+    plain_texts_are_texts();
+    let Ok(mmb) = Mmb::read(bin) else {
+        unreachable!();
+    };
+    let names = Names::of(alloc, spec, &mmb)?;
+    answer(alloc, &mmb, &names)
+}

@@ -1,0 +1,15 @@
+// Laws on the definitions.
+ghost use Rattle.std.specs.Prelude.{ℕ, List};
+ghost use Rattle.mz_decompile.specs.Decompiling.{IsDecided};
+
+use mz_match::each_pair_has_one_verdict;
+use mz_restating::accepted_are_restated;
+
+/// Each pair that is accepted has one text, or one thing that stands first against it, and never both; and no other pair has
+/// either.
+pub fn decompilation_is_decided()
+    ensures { (spec bin : List ℕ) → IsDecided spec bin }
+{
+    each_pair_has_one_verdict();
+    accepted_are_restated();
+}

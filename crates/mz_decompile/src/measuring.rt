@@ -1,0 +1,110 @@
+// The first pass: how long and how heavy the text is, and whether a statement is too deep.
+ghost use Rattle.std.specs.Prelude.{◌≡◌, ◌+◌, ℕ, IfOk, List};
+ghost use Rattle.mz_logic.specs.Declaration.{Declaration};
+ghost use Rattle.mz_mmu.specs.Proof.{Statement};
+ghost use Rattle.mz_phrasing.specs.Naming.{vocabulary_by};
+ghost use Rattle.mz_stating.specs.Measures.{capped};
+ghost use Rattle.mz_telling.specs.Telling.{SomeStands, Stands};
+ghost use Rattle.mz_decompile.specs.Standing.{AreAll, SomeAreAll};
+ghost use Rattle.mz_decompile.specs.Passes.{IsLine, IsMeasured};
+
+use crate::walk::{head_at, rows_with};
+use mz_cmd::Mem;
+use mz_layout::Mmb;
+use mz_machine::Rows;
+use mz_naming::Names;
+use mz_stating::Phrases;
+use mz_telling::{Head, statement};
+use std::alloc::Global;
+
+/// A length and a weight, or the largest number in place of one that is larger.
+#[derive(Clone, Copy)]
+pub struct Sizes {
+    pub len: u128,
+    pub weight: u128,
+}
+
+impl Sizes {
+    /// Nothing.
+    const NONE: Sizes = Sizes { len: 0, weight: 0 };
+
+    /// The sums of both.
+    fn plus(self, other: Sizes) -> Sizes
+        ensures len { (a b : ℕ) → self.len ≡ capped a → other.len ≡ capped b → result.len ≡ capped (a + b) }
+        ensures weight { (a b : ℕ) → self.weight ≡ capped a → other.weight ≡ capped b → result.weight ≡ capped (a + b) }
+    {
+        Sizes {
+            len: self.len.saturating_add(other.len),
+            weight: self.weight.saturating_add(other.weight),
+        }
+    }
+}
+
+/// What is measured of a statement's line: its sizes, and whether the statement is too deep.
+#[derive(Clone, Copy)]
+pub struct Line {
+    pub sizes: Sizes,
+    pub deep: bool,
+}
+
+/// What the first pass gives.
+#[derive(Clone, Copy)]
+pub enum Measured {
+    /// The length of the text and its weight.
+    Whole(Sizes),
+    /// The number of the first statement that is too deep.
+    Deep(u32),
+}
+
+/// How deep lists may stand in one another.
+const DEPTH_LIMIT: usize = 4096;
+
+/// Measures the text of a binary's statements.
+pub(crate) fn measure(alloc: Global, mmb: &Mmb, names: &Names) -> Result<Measured, Mem>
+    requires { SomeAreAll mmb.now names.now }
+    ensures { IfOk result (λ m. (ts : List Statement) → AreAll mmb.now names.now ts → IsMeasured (vocabulary_by names.now) ts m) }
+{
+    let mut phrases = Phrases::new(alloc);
+    let mut at = mmb.proof_at();
+    let mut before = Rows {
+        sorts: 0,
+        terms: 0,
+        thms: 0,
+    };
+    let mut number = 0;
+    let mut so_far = Sizes::NONE;
+    'statements: while let Some(head) = head_at(mmb, at) {
+        number += 1;
+        let line = line_of(alloc, mmb, names, head, before, &mut phrases)?;
+        if line.deep {
+            return Ok(Measured::Deep(number));
+        }
+        so_far = so_far.plus(line.sizes);
+        before = rows_with(head.code, before);
+        at = head.next;
+    }
+    Ok(Measured::Whole(so_far))
+}
+
+/// How long and how heavy the line of a statement is, and whether it is too deep.
+fn line_of(
+    alloc: Global,
+    mmb: &Mmb,
+    names: &Names,
+    head: Head,
+    before: Rows,
+    phrases: &mut Phrases,
+) -> Result<Line, Mem>
+    requires { SomeStands mmb.now names.now before head }
+    ensures { IfOk result (λ line. (env : List Declaration) (t : Statement) → Stands mmb.now names.now before env head t
+        → IsLine (vocabulary_by names.now) env t line) }
+{
+    phrases.clear();
+    let told = statement(alloc, mmb, names, head, before, phrases)?;
+    let sizes = Sizes {
+        len: phrases.length(told.phrase).saturating_add(1),
+        weight: told.weight,
+    };
+    let deep = phrases.depth(told.phrase) > DEPTH_LIMIT;
+    Ok(Line { sizes, deep })
+}

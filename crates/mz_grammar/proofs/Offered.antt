@@ -1,0 +1,3 @@
+-- What crates above may use of these proofs; all else is this crate's own, and may change.
+pub use Rattle.mz_grammar.proofs.Grammar.{no-empty, statements-one}
+pub use Rattle.mz_grammar.proofs.Stopping.{back-none, front-none, one-of-all, stands-stops, stops-one}

@@ -1,0 +1,7 @@
+pub mod Sizes
+mod Longer
+mod Values
+mod Progress
+mod Behind
+mod Lowering
+mod Wholes

@@ -1,0 +1,4 @@
+pub mod Growing
+pub mod Telling
+pub mod Gathering
+pub mod Retelling

@@ -1,0 +1,4 @@
+mod Adding
+mod Lists
+mod Statements
+mod Standing

@@ -1,0 +1,4 @@
+pub mod Adding
+pub mod Rows
+pub mod Naming
+pub mod Telling

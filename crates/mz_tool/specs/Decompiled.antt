@@ -1,0 +1,31 @@
+-- The line of what making a text of a binary answers (this project's own).
+use Rattle.std.specs.Prelude.{⊤, ℕ, List, [], length}
+use Rattle.mz_match.specs.Verdict.{line_of}
+use Rattle.mz_emit.specs.declared.rule.L.TheVariants.{Bytes}
+use Rattle.mz_emit.specs.Lines.{limit_line}
+use Rattle.mz_restating.specs.Restated.{Unstated, deep, too_long}
+use Rattle.mz_decompile.specs.declared.decompiled.Decompiled.{Decompiled}
+use Rattle.mz_decompile.specs.declared.decompiled.Decompiled.TheVariants as answers
+use Rattle.mz_decompile.specs.Told.{decompiled_line, deep_line}
+use Rattle.mz_tool.specs.Judging.{IsRefusal}
+
+-- the line of what stands against a text
+abbrev pub unstated_line : Unstated → List ℕ
+unstated_line (deep statement) = deep_line statement
+unstated_line (too_long count) = limit_line Bytes count
+
+-- want of memory has none
+abbrev pub text_line : Decompiled → List ℕ
+text_line (answers.Text text) = decompiled_line (length text.items)
+text_line (answers.Refused verdict) = line_of verdict
+text_line (answers.Deep statement) = unstated_line (deep statement)
+text_line (answers.Limit count) = unstated_line (too_long count)
+text_line answers.Mem = []
+
+-- an answer that has a line
+abbrev pub HasLine : Decompiled → Type 0
+HasLine (answers.Text text) = ⊤
+HasLine (answers.Refused verdict) = IsRefusal verdict
+HasLine (answers.Deep statement) = ⊤
+HasLine (answers.Limit count) = ⊤
+HasLine answers.Mem = ⊥
