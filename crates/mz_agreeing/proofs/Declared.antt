@@ -8,9 +8,9 @@ use Rattle.mz_logic.specs.Tree.{Tree}
 use Rattle.mz_logic.specs.LegalLists.{Legal}
 use Rattle.mz_math.specs.Meaning.{height}
 use Rattle.mz_math.specs.Formula.{most}
-use Rattle.mz_mmu.specs.Proof.{Statement}
+use Rattle.mz_forms.specs.Proof.{Statement}
+use Rattle.mz_forms.specs.Statements.{no_names}
 use Rattle.mz_mmu.specs.Laws.{IsWhole}
-use Rattle.mz_mmu.specs.Statements.{no_names}
 use Rattle.mz_mmu.proofs.Offered.{one_reading, are_whole}
 use Rattle.mz_type.specs.Meaning.{marked}
 use Rattle.mz_type.proofs.Offered.{stated_is_legal}

@@ -9,7 +9,7 @@ use Rattle.std.proofs.lemmas.Str.Parse.{digit_from_value}
 use Rattle.std.proofs.lemmas.List.{append_cancel_left}
 use Rattle.mz_lex.specs.Kinds.{is_name, is_name_start, is_name_byte, is_digit}
 use Rattle.mz_logic.specs.Declaration.{Declaration, sort_decl, term_decl, assertion_decl}
-use Rattle.mz_mmu.specs.Proof.{Statement}
+use Rattle.mz_forms.specs.Proof.{Statement}
 use Rattle.mz_wording.specs.Wording.{underscores, longest_run, variable_prefix, term_name, term_names, vocabulary_of}
 
 -- ---- how they begin

@@ -12,12 +12,12 @@ use Rattle.mz_logic.specs.Legality.{InRange, AllInRange, NamesThere}
 use Rattle.mz_logic.specs.declared.binder.SortMods.{SortMods}
 use Rattle.mz_logic.specs.LegalLists.{Statement as Marked, LegalAfter, Legal, gap_free, MayBeLocal, declarations}
 use Rattle.mz_logic.proofs.Offered.{sorts-append}
-use Rattle.mz_mmu.specs.Name.{Names, IsNew}
-use Rattle.mz_mmu.specs.Proof.{Statement}
-use Rattle.mz_mmu.specs.Statements.{no_names, names_with}
+use Rattle.mz_forms.specs.Name.{Names, IsNew}
+use Rattle.mz_forms.specs.Proof.{Statement}
+use Rattle.mz_forms.specs.Statements.{no_names, names_with}
 use Rattle.mz_mmu.specs.Laws.{IsWhole, Ascends}
 use Rattle.mz_type.specs.Meaning.{marked}
-use Rattle.mz_spec.specs.Names as spec
+use Rattle.mz_variables.specs.Names as spec
 use Rattle.mz_printing.specs.Prefix.{IsShort}
 use Rattle.mz_readback.specs.Declared.{Named, Vocabulary, formula_of, AreShort, HasNewName, HasShortBody, IsWithin, used_with, ArePrintable}
 use Rattle.mz_readback.proofs.Offered.{new-more}

@@ -7,11 +7,11 @@ use Rattle.std.proofs.lemmas.Slice.Eq.{bytes_eq-Decides}
 use Rattle.mz_lex.specs.Kinds as kinds
 use Rattle.mz_logic.specs.Declaration.{Declaration, sort_decl, term_decl, assertion_decl}
 use Rattle.mz_sexpr.specs.Node.{Node, Nodes, atom, list, no_nodes, node}
-use Rattle.mz_mmu.specs.Name.{Names, is_name_start, is_name_byte, are_name_bytes, is_between, IsName, number_of, IsNew, IsNewName}
-use Rattle.mz_mmu.specs.Proof.{Statement}
-use Rattle.mz_mmu.specs.declared.keyword.Kind.{Kind}
-use Rattle.mz_mmu.specs.declared.keyword.Kind.TheVariants.{Sort as sort_kind, Term as term_kind, Axiom as axiom_kind, Def as def_kind, Theorem as theorem_kind}
-use Rattle.mz_mmu.specs.Statements.{kind_of, is_local_word, Modifiers, bit, modifier_bits, IsDeclared, IsLocal, IsMarked, IsStatement, AreStatements, names_with}
+use Rattle.mz_forms.specs.Name.{Names, is_name_start, is_name_byte, are_name_bytes, is_between, IsName, number_of, IsNew, IsNewName}
+use Rattle.mz_forms.specs.Proof.{Statement}
+use Rattle.mz_forms.specs.declared.keyword.Kind.{Kind}
+use Rattle.mz_forms.specs.declared.keyword.Kind.TheVariants.{Sort as sort_kind, Term as term_kind, Axiom as axiom_kind, Def as def_kind, Theorem as theorem_kind}
+use Rattle.mz_forms.specs.Statements.{kind_of, is_local_word, Modifiers, bit, modifier_bits, IsDeclared, IsLocal, IsMarked, IsStatement, AreStatements, names_with}
 
 -- ---- what each statement has
 

@@ -2,7 +2,7 @@
 -- project's own).
 use Rattle.std.specs.Prelude.{◌<◌, ◌^◌, ℕ, false, List}
 use Rattle.mz_logic.specs.Declaration.{Declaration}
-use Rattle.mz_mmu.specs.Proof.{Statement}
+use Rattle.mz_forms.specs.Proof.{Statement}
 use Rattle.mz_type.specs.Meaning.{marked}
 use Rattle.mz_type.specs.TextOf.{TextOf}
 use Rattle.mz_spec.specs.Spec.{SpecOf}

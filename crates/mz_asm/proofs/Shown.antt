@@ -1,8 +1,8 @@
 -- The binary of a text is listed with the text.
-use Rattle.std.proofs.Common.{◌≡◌, ◌≤◌, ◌<◌, ◌+◌, ◌^◌, inl, ℕ, true, false, cond, List, [], ◌∷◌, ◌++◌, length, map, take, slice_get, codes, Some, None, Ok, refl, sym, ap, subst, ◌∙◌, arith, append_assoc, append-nil, length-append}
+use Rattle.std.proofs.Common.{◌≡◌, ◌≤◌, ◌<◌, ◌+◌, ◌-◌, ◌^◌, inl, ℕ, true, false, cond, List, [], ◌∷◌, ◌++◌, length, map, take, drop, slice_get, codes, Some, None, Ok, refl, sym, ap, subst, ◌∙◌, arith, append_assoc, append-nil, length-append}
 use Rattle.std.specs.Prelude.{IsTrue, All}
 use Rattle.std.proofs.lemmas.List.Elements.{All-nil, All-cons, All-append}
-use Rattle.mz_checks.specs.Checks.{AllHold, ◌>>◌}
+use Rattle.mz_checks.specs.Checks.{AllHold}
 use Rattle.mz_cmd.specs.declared.code.StatementCode.TheVariants as codes_of
 use Rattle.mz_cmd.specs.declared.code.ProofCode.{ProofCode}
 use Rattle.mz_cmd.specs.declared.code.ProofCode.TheVariants as proofs
@@ -16,14 +16,15 @@ use Rattle.mz_logic.specs.declared.binder.SortMods.{SortMods}
 use Rattle.mz_layout.specs.Normal.{Row, Written, Parts, no_parts, row_of_term, row_of_thm, file_of, file_length}
 use Rattle.mz_layout.specs.Standing.{Stands, HasRoom, HaveRoom, Fit, AreListed, body_place, next_place}
 use Rattle.mz_layout.specs.Tables.{TermRow, ThmRow, list_at, term_row as term_row_of, thm_row as thm_row_of}
+use Rattle.mz_layout.specs.Heads.{body_bytes}
 use Rattle.mz_layout.proofs.Offered.{layout-holds, all-listed, counts-said, mods-read, term-read, thm-read, term-stream, thm-stream}
 use Rattle.mz_show.specs.declared.place.Place.{Place}
 use Rattle.mz_show.specs.declared.stream.Stream.TheVariants as streams
 use Rattle.mz_show.specs.Words.{texts, numbered, param_line, result_line}
 use Rattle.mz_show.specs.Streams.{belongs, command_line, stream_text}
 use Rattle.mz_show.specs.Listing.{Chain, chain_text, EndsAt, IsListing}
-use Rattle.mz_show.specs.Statements.{Stands as StandsThere, Statement as Shown, after, has_streams as shown_streams, unify_at, statement_checks, part_checks, row_checks, statement_text, streams_text}
-use Rattle.mz_show.proofs.Offered.{longest-some, texts-append}
+use Rattle.mz_show.specs.Statements.{Stands as StandsThere, Statement as Shown, after, has_streams as shown_streams, unify_at, statement_checks, part_checks, statement_text, streams_text}
+use Rattle.mz_show.proofs.Offered.{longest-some, statement-holds, texts-append}
 use Rattle.mz_asm.specs.declared.kind.Kind.{Kind}
 use Rattle.mz_asm.specs.declared.kind.Kind.TheVariants as kinds
 use Rattle.mz_asm.specs.declared.line.Line.{Line}
@@ -180,7 +181,7 @@ extends-all q (s ∷ ss) = extends-before s.kind q _ s.row s.mods s.params s.out
 -- ---- the statements, one by one
 
 abbrev pub place_at : ℕ → ℕ → Parts → Place
-place_at number at q = record { number = number; at = at; sorts = length q.sorts; terms = length q.terms; thms = length q.thms }
+place_at number at q = record { number = number; at = at; rows = record { sorts = length q.sorts; terms = length q.terms; thms = length q.thms } }
 
 -- a statement that is listed at a place, with its lines
 pub record IsShown (p q : Parts) (number at : ℕ) (s : Statement) : Type 0 where
@@ -197,6 +198,9 @@ one-more xs x = sym (length-append xs (x ∷ []))
 row-parts : (h w r s : List ℕ) → (h ++ (w ++ r)) ++ s ≡ h ++ (w ++ (r ++ s))
 row-parts h w r s = append_assoc h (w ++ r) s ∙ ap (λ z. h ++ z) (append_assoc w r s)
 
+no-bytes : (file : List ℕ) (body next : ℕ) → next ≡ body → body_bytes file body next ≡ []
+no-bytes file body next e = let none : next - body ≡ 0 = omega arith in ap (λ (n : ℕ). take n (drop body file)) none
+
 module _ (p : Parts) (fit : Fit p) (q : Parts) (number at row mods : ℕ) (ps : List Word) (o : Word) (us : List (UnifyCode × ℕ)) (qs : List (ProofCode × ℕ)) where
   sort-shown : Extends (with_statement q (st kinds.Sort row mods ps o us qs)) p → row ≡ length q.sorts → statement_at (file_of p) at ≡ Ok (Head 0x04 (body_place at (written (st kinds.Sort row mods ps o us qs))) (next_place at (written (st kinds.Sort row mods ps o us qs))))
       → IsShown p q number at (st kinds.Sort row mods ps o us qs)
@@ -210,16 +214,18 @@ module _ (p : Parts) (fit : Fit p) (q : Parts) (number at row mods : ℕ) (ps : 
       let inside = below q.sorts e.sorts.0 p.sorts mods e.sorts.1 in
       let found : slice_get p.sorts (length q.sorts) ≡ Some mods = ap (λ (l : List ℕ). slice_get l (length q.sorts)) e.sorts.1 ∙ slice-at q.sorts e.sorts.0 mods in
       let read = mods-read p fit (length q.sorts) mods found in
+      let it : Shown = record { head = record { code = codes_of.Sort; at = at; body = body; next = next }; unify = u.0; proof = v.0 } in
+      let here : StandsThere (file_of p) (place_at number at q) it = record { head = record { stands = head; at_is = refl }; unify = u.1; proof = v.1 } in
       record {
-        shown = record { code = codes_of.Sort; body = body; next = next; unify = u.0; proof = v.0 };
-        stands = record { head = (0x04, head, refl); unify = u.1; proof = v.1 };
-        right = (omega (arith, many, inside), (tt, (inl (omega arith), tt)));
+        shown = it;
+        stands = here;
+        right = statement-holds (file_of p) (place_at number at q) it here (omega (arith, many, inside), tt) (inl (no-bytes (file_of p) body next (omega arith)), tt);
         text =
             append-nil _ ∙ append-nil _
             ∙ ap (λ (m : SortMods). numbered (numbered (codes "sort") (length q.sorts)) m.0 ++ codes "\n") read
             ∙ ap (λ (r : ℕ). numbered (numbered (codes "sort") r) mods ++ codes "\n") (sym is)
             ∙ sym (append-nil (numbered (numbered (codes "sort") row) mods ++ codes "\n"));
-        goes = ap (λ (n : ℕ). record { number = number + 1; at = next; sorts = n; terms = length q.terms; thms = length q.thms }) (one-more q.sorts mods);
+        goes = ap (λ (n : ℕ). record { number = number + 1; at = next; rows = record { sorts = n; terms = length q.terms; thms = length q.thms } }) (one-more q.sorts mods);
       }
 
   term-shown : Extends (with_statement q (st kinds.Term row mods ps o us qs)) p → row ≡ length q.terms
@@ -238,18 +244,19 @@ module _ (p : Parts) (fit : Fit p) (q : Parts) (number at row mods : ℕ) (ps : 
       let u = longest-some streams.Unify (file_of p) (length (file_of p)) (unify_at (file_of p) pl codes_of.Term) (omega arith) in
       let v = longest-some streams.Proof (take next (file_of p)) (length (take next (file_of p))) body (omega arith) in
       let none : shown_streams (file_of p) pl codes_of.Term ≡ false = ap (λ (r : TermRow). r.words.has_body) read in
-      let it : Shown = record { code = codes_of.Term; body = body; next = next; unify = u.0; proof = v.0 } in
       let h : List ℕ = numbered (numbered (codes "term") t) (length ps) ++ codes "\n" in
+      let it : Shown = record { head = record { code = codes_of.Term; at = at; body = body; next = next }; unify = u.0; proof = v.0 } in
+      let here : StandsThere (file_of p) (place_at number at q) it = record { head = record { stands = head; at_is = refl }; unify = u.1; proof = v.1 } in
       record {
         shown = it;
-        stands = record { head = (0x05, head, refl); unify = u.1; proof = v.1 };
-        right = subst (λ b. AllHold (row_checks (file_of p) pl codes_of.Term >> part_checks b (file_of p) pl it)) (sym none) (omega (arith, many, inside), (tt, (inl (omega arith), tt)));
+        stands = here;
+        right = statement-holds (file_of p) (place_at number at q) it here (omega (arith, many, inside), (tt, tt)) (subst (λ b. AllHold (part_checks b (file_of p) pl it)) (sym none) (inl (no-bytes (file_of p) body next (omega arith)), tt));
         text =
             ap (λ (r : TermRow). ((numbered (numbered (cond r.words.has_body (codes "def") (codes "term")) t) (length r.words.params) ++ codes "\n") ++ (texts param_line r.words.params ++ result_line r.words.result)) ++ streams_text r.words.has_body it) read
             ∙ row-parts h (texts param_line ps) (result_line o) []
             ∙ ap (λ z. h ++ z) (sym (words-text ps (lines.Outcome o ∷ [])))
             ∙ ap (λ (r : ℕ). (numbered (numbered (codes "term") r) (length ps) ++ codes "\n") ++ texts line_text (map lines.Param ps ++ (lines.Outcome o ∷ []))) (sym is);
-        goes = ap (λ (n : ℕ). record { number = number + 1; at = next; sorts = length q.sorts; terms = n; thms = length q.thms }) (one-more q.terms (row_of_term ps o None));
+        goes = ap (λ (n : ℕ). record { number = number + 1; at = next; rows = record { sorts = length q.sorts; terms = n; thms = length q.thms } }) (one-more q.terms (row_of_term ps o None));
       }
 
   axiom-shown : Extends (with_statement q (st kinds.Axiom row mods ps o us qs)) p → row ≡ length q.thms → AreShort us → AreShort qs
@@ -269,26 +276,22 @@ module _ (p : Parts) (fit : Fit p) (q : Parts) (number at row mods : ℕ) (ps : 
       let from : ℕ = (thm_row_of (file_of p) i).stream_at in
       let cut = stands-cut (file_of p) body (proof_bytes qs ++ (0 ∷ [])) next refl stands in
       let s-text : List ℕ = stream_text streams.Unify (map (cmd_of unify_byte) us) ++ stream_text streams.Proof (map (cmd_of proof_byte) qs) in
+      let it : Shown = record { head = record { code = codes_of.Axiom; at = at; body = body; next = next }; unify = run_of unify_byte from us; proof = run_of proof_byte body qs } in
+      let here : StandsThere (file_of p) (place_at number at q) it = record {
+        head = record { stands = head; at_is = refl };
+        unify = longest streams.Unify unify_byte unify-here unify-known refl (file_of p) us from short-u there;
+        proof = longest streams.Proof proof_byte proof-here proof-known refl (take next (file_of p)) qs body short-q cut;
+      } in
       record {
-        shown = record { code = codes_of.Axiom; body = body; next = next; unify = run_of unify_byte from us; proof = run_of proof_byte body qs };
-        stands = record {
-          head = (0x02, head, refl);
-          unify = longest streams.Unify unify_byte unify-here unify-known refl (file_of p) us from short-u there;
-          proof = longest streams.Proof proof_byte proof-here proof-known refl (take next (file_of p)) qs body short-q cut;
-        };
-        right = (
-          omega (arith, many, inside),
+        shown = it;
+        stands = here;
+        right = statement-holds (file_of p) (place_at number at q) it here (omega (arith, many, inside), tt) (
+          run-ends streams.Unify unify_byte unify-here unify-known refl (file_of p) us from there,
           (
-            tt,
+            run-ends streams.Proof proof_byte proof-here proof-known refl (take next (file_of p)) qs body cut,
             (
-              run-ends streams.Unify unify_byte unify-here unify-known refl (file_of p) us from there,
-              (
-                run-ends streams.Proof proof_byte proof-here proof-known refl (take next (file_of p)) qs body cut,
-                (
-                  run-leads streams.Proof proof_byte proof-here proof-known refl (take next (file_of p)) qs body next cut refl,
-                  tt,
-                ),
-              ),
+              run-leads streams.Proof proof_byte proof-here proof-known refl (take next (file_of p)) qs body next cut refl,
+              tt,
             ),
           ),
         );
@@ -297,7 +300,7 @@ module _ (p : Parts) (fit : Fit p) (q : Parts) (number at row mods : ℕ) (ps : 
             ∙ append_assoc (numbered (numbered (codes "axiom") i) (length ps) ++ codes "\n") (texts param_line ps) s-text
             ∙ ap (λ z. (numbered (numbered (codes "axiom") i) (length ps) ++ codes "\n") ++ z) (ap (λ z. texts param_line ps ++ z) (sym (streams-text us qs)) ∙ sym (words-text ps (both_streams us qs)))
             ∙ ap (λ (r : ℕ). (numbered (numbered (codes "axiom") r) (length ps) ++ codes "\n") ++ texts line_text (map lines.Param ps ++ both_streams us qs)) (sym is);
-        goes = ap (λ (n : ℕ). record { number = number + 1; at = next; sorts = length q.sorts; terms = length q.terms; thms = n }) (one-more q.thms (row_of_thm ps stream));
+        goes = ap (λ (n : ℕ). record { number = number + 1; at = next; rows = record { sorts = length q.sorts; terms = length q.terms; thms = n } }) (one-more q.thms (row_of_thm ps stream));
       }
 
   theorem-shown : Extends (with_statement q (st kinds.Theorem row mods ps o us qs)) p → row ≡ length q.thms → AreShort us → AreShort qs
@@ -317,26 +320,22 @@ module _ (p : Parts) (fit : Fit p) (q : Parts) (number at row mods : ℕ) (ps : 
       let from : ℕ = (thm_row_of (file_of p) i).stream_at in
       let cut = stands-cut (file_of p) body (proof_bytes qs ++ (0 ∷ [])) next refl stands in
       let s-text : List ℕ = stream_text streams.Unify (map (cmd_of unify_byte) us) ++ stream_text streams.Proof (map (cmd_of proof_byte) qs) in
+      let it : Shown = record { head = record { code = codes_of.Theorem; at = at; body = body; next = next }; unify = run_of unify_byte from us; proof = run_of proof_byte body qs } in
+      let here : StandsThere (file_of p) (place_at number at q) it = record {
+        head = record { stands = head; at_is = refl };
+        unify = longest streams.Unify unify_byte unify-here unify-known refl (file_of p) us from short-u there;
+        proof = longest streams.Proof proof_byte proof-here proof-known refl (take next (file_of p)) qs body short-q cut;
+      } in
       record {
-        shown = record { code = codes_of.Theorem; body = body; next = next; unify = run_of unify_byte from us; proof = run_of proof_byte body qs };
-        stands = record {
-          head = (0x06, head, refl);
-          unify = longest streams.Unify unify_byte unify-here unify-known refl (file_of p) us from short-u there;
-          proof = longest streams.Proof proof_byte proof-here proof-known refl (take next (file_of p)) qs body short-q cut;
-        };
-        right = (
-          omega (arith, many, inside),
+        shown = it;
+        stands = here;
+        right = statement-holds (file_of p) (place_at number at q) it here (omega (arith, many, inside), tt) (
+          run-ends streams.Unify unify_byte unify-here unify-known refl (file_of p) us from there,
           (
-            tt,
+            run-ends streams.Proof proof_byte proof-here proof-known refl (take next (file_of p)) qs body cut,
             (
-              run-ends streams.Unify unify_byte unify-here unify-known refl (file_of p) us from there,
-              (
-                run-ends streams.Proof proof_byte proof-here proof-known refl (take next (file_of p)) qs body cut,
-                (
-                  run-leads streams.Proof proof_byte proof-here proof-known refl (take next (file_of p)) qs body next cut refl,
-                  tt,
-                ),
-              ),
+              run-leads streams.Proof proof_byte proof-here proof-known refl (take next (file_of p)) qs body next cut refl,
+              tt,
             ),
           ),
         );
@@ -345,7 +344,7 @@ module _ (p : Parts) (fit : Fit p) (q : Parts) (number at row mods : ℕ) (ps : 
             ∙ append_assoc (numbered (numbered (codes "theorem") i) (length ps) ++ codes "\n") (texts param_line ps) s-text
             ∙ ap (λ z. (numbered (numbered (codes "theorem") i) (length ps) ++ codes "\n") ++ z) (ap (λ z. texts param_line ps ++ z) (sym (streams-text us qs)) ∙ sym (words-text ps (both_streams us qs)))
             ∙ ap (λ (r : ℕ). (numbered (numbered (codes "theorem") r) (length ps) ++ codes "\n") ++ texts line_text (map lines.Param ps ++ both_streams us qs)) (sym is);
-        goes = ap (λ (n : ℕ). record { number = number + 1; at = next; sorts = length q.sorts; terms = length q.terms; thms = n }) (one-more q.thms (row_of_thm ps stream));
+        goes = ap (λ (n : ℕ). record { number = number + 1; at = next; rows = record { sorts = length q.sorts; terms = length q.terms; thms = n } }) (one-more q.thms (row_of_thm ps stream));
       }
 
   local-theorem-shown : Extends (with_statement q (st kinds.LocalTheorem row mods ps o us qs)) p → row ≡ length q.thms → AreShort us → AreShort qs
@@ -365,26 +364,22 @@ module _ (p : Parts) (fit : Fit p) (q : Parts) (number at row mods : ℕ) (ps : 
       let from : ℕ = (thm_row_of (file_of p) i).stream_at in
       let cut = stands-cut (file_of p) body (proof_bytes qs ++ (0 ∷ [])) next refl stands in
       let s-text : List ℕ = stream_text streams.Unify (map (cmd_of unify_byte) us) ++ stream_text streams.Proof (map (cmd_of proof_byte) qs) in
+      let it : Shown = record { head = record { code = codes_of.LocalTheorem; at = at; body = body; next = next }; unify = run_of unify_byte from us; proof = run_of proof_byte body qs } in
+      let here : StandsThere (file_of p) (place_at number at q) it = record {
+        head = record { stands = head; at_is = refl };
+        unify = longest streams.Unify unify_byte unify-here unify-known refl (file_of p) us from short-u there;
+        proof = longest streams.Proof proof_byte proof-here proof-known refl (take next (file_of p)) qs body short-q cut;
+      } in
       record {
-        shown = record { code = codes_of.LocalTheorem; body = body; next = next; unify = run_of unify_byte from us; proof = run_of proof_byte body qs };
-        stands = record {
-          head = (0x0E, head, refl);
-          unify = longest streams.Unify unify_byte unify-here unify-known refl (file_of p) us from short-u there;
-          proof = longest streams.Proof proof_byte proof-here proof-known refl (take next (file_of p)) qs body short-q cut;
-        };
-        right = (
-          omega (arith, many, inside),
+        shown = it;
+        stands = here;
+        right = statement-holds (file_of p) (place_at number at q) it here (omega (arith, many, inside), tt) (
+          run-ends streams.Unify unify_byte unify-here unify-known refl (file_of p) us from there,
           (
-            tt,
+            run-ends streams.Proof proof_byte proof-here proof-known refl (take next (file_of p)) qs body cut,
             (
-              run-ends streams.Unify unify_byte unify-here unify-known refl (file_of p) us from there,
-              (
-                run-ends streams.Proof proof_byte proof-here proof-known refl (take next (file_of p)) qs body cut,
-                (
-                  run-leads streams.Proof proof_byte proof-here proof-known refl (take next (file_of p)) qs body next cut refl,
-                  tt,
-                ),
-              ),
+              run-leads streams.Proof proof_byte proof-here proof-known refl (take next (file_of p)) qs body next cut refl,
+              tt,
             ),
           ),
         );
@@ -393,7 +388,7 @@ module _ (p : Parts) (fit : Fit p) (q : Parts) (number at row mods : ℕ) (ps : 
             ∙ append_assoc (numbered (numbered (codes "local theorem") i) (length ps) ++ codes "\n") (texts param_line ps) s-text
             ∙ ap (λ z. (numbered (numbered (codes "local theorem") i) (length ps) ++ codes "\n") ++ z) (ap (λ z. texts param_line ps ++ z) (sym (streams-text us qs)) ∙ sym (words-text ps (both_streams us qs)))
             ∙ ap (λ (r : ℕ). (numbered (numbered (codes "local theorem") r) (length ps) ++ codes "\n") ++ texts line_text (map lines.Param ps ++ both_streams us qs)) (sym is);
-        goes = ap (λ (n : ℕ). record { number = number + 1; at = next; sorts = length q.sorts; terms = length q.terms; thms = n }) (one-more q.thms (row_of_thm ps stream));
+        goes = ap (λ (n : ℕ). record { number = number + 1; at = next; rows = record { sorts = length q.sorts; terms = length q.terms; thms = n } }) (one-more q.thms (row_of_thm ps stream));
       }
 
   definition-shown : Extends (with_statement q (st kinds.Definition row mods ps o us qs)) p → row ≡ length q.terms → AreShort us → AreShort qs
@@ -414,38 +409,33 @@ module _ (p : Parts) (fit : Fit p) (q : Parts) (number at row mods : ℕ) (ps : 
       let cut = stands-cut (file_of p) body (proof_bytes qs ++ (0 ∷ [])) next refl stands in
       let pl : Place = place_at number at q in
       let has : (term_row_of (file_of p) t).words.has_body ≡ true = ap (λ (r : TermRow). r.words.has_body) read in
-      let it : Shown = record { code = codes_of.Term; body = body; next = next; unify = run_of unify_byte from us; proof = run_of proof_byte body qs } in
       let s-text : List ℕ = stream_text streams.Unify (map (cmd_of unify_byte) us) ++ stream_text streams.Proof (map (cmd_of proof_byte) qs) in
       let h : List ℕ = numbered (numbered (codes "def") t) (length ps) ++ codes "\n" in
+      let it : Shown = record { head = record { code = codes_of.Term; at = at; body = body; next = next }; unify = run_of unify_byte from us; proof = run_of proof_byte body qs } in
+      let here : StandsThere (file_of p) (place_at number at q) it = record {
+        head = record { stands = head; at_is = refl };
+        unify = longest streams.Unify unify_byte unify-here unify-known refl (file_of p) us from short-u there;
+        proof = longest streams.Proof proof_byte proof-here proof-known refl (take next (file_of p)) qs body short-q cut;
+      } in
       record {
         shown = it;
-        stands = record {
-          head = (0x05, head, refl);
-          unify = longest streams.Unify unify_byte unify-here unify-known refl (file_of p) us from short-u there;
-          proof = longest streams.Proof proof_byte proof-here proof-known refl (take next (file_of p)) qs body short-q cut;
-        };
-        right = subst (λ b. AllHold (row_checks (file_of p) pl codes_of.Term >> part_checks b (file_of p) pl it)) (sym has) (
-          omega (arith, many, inside),
+        stands = here;
+        right = statement-holds (file_of p) (place_at number at q) it here (omega (arith, many, inside), (tt, tt)) (subst (λ b. AllHold (part_checks b (file_of p) pl it)) (sym has) (
+          run-ends streams.Unify unify_byte unify-here unify-known refl (file_of p) us from there,
           (
-            tt,
+            run-ends streams.Proof proof_byte proof-here proof-known refl (take next (file_of p)) qs body cut,
             (
-              run-ends streams.Unify unify_byte unify-here unify-known refl (file_of p) us from there,
-              (
-                run-ends streams.Proof proof_byte proof-here proof-known refl (take next (file_of p)) qs body cut,
-                (
-                  run-leads streams.Proof proof_byte proof-here proof-known refl (take next (file_of p)) qs body next cut refl,
-                  tt,
-                ),
-              ),
+              run-leads streams.Proof proof_byte proof-here proof-known refl (take next (file_of p)) qs body next cut refl,
+              tt,
             ),
           ),
-        );
+        ));
         text =
             ap (λ (r : TermRow). ((numbered (numbered (cond r.words.has_body (codes "def") (codes "term")) t) (length r.words.params) ++ codes "\n") ++ (texts param_line r.words.params ++ result_line r.words.result)) ++ streams_text r.words.has_body it) read
             ∙ row-parts h (texts param_line ps) (result_line o) s-text
             ∙ ap (λ z. h ++ z) (ap (λ z. texts param_line ps ++ (result_line o ++ z)) (sym (streams-text us qs)) ∙ sym (words-text ps (lines.Outcome o ∷ both_streams us qs)))
             ∙ ap (λ (r : ℕ). (numbered (numbered (codes "def") r) (length ps) ++ codes "\n") ++ texts line_text (map lines.Param ps ++ (lines.Outcome o ∷ both_streams us qs))) (sym is);
-        goes = ap (λ (n : ℕ). record { number = number + 1; at = next; sorts = length q.sorts; terms = n; thms = length q.thms }) (one-more q.terms (row_of_term ps o (Some stream)));
+        goes = ap (λ (n : ℕ). record { number = number + 1; at = next; rows = record { sorts = length q.sorts; terms = n; thms = length q.thms } }) (one-more q.terms (row_of_term ps o (Some stream)));
       }
 
   local-definition-shown : Extends (with_statement q (st kinds.LocalDefinition row mods ps o us qs)) p → row ≡ length q.terms → AreShort us → AreShort qs
@@ -466,29 +456,24 @@ module _ (p : Parts) (fit : Fit p) (q : Parts) (number at row mods : ℕ) (ps : 
       let cut = stands-cut (file_of p) body (proof_bytes qs ++ (0 ∷ [])) next refl stands in
       let pl : Place = place_at number at q in
       let has : (term_row_of (file_of p) t).words.has_body ≡ true = ap (λ (r : TermRow). r.words.has_body) read in
-      let it : Shown = record { code = codes_of.LocalDefinition; body = body; next = next; unify = run_of unify_byte from us; proof = run_of proof_byte body qs } in
       let s-text : List ℕ = stream_text streams.Unify (map (cmd_of unify_byte) us) ++ stream_text streams.Proof (map (cmd_of proof_byte) qs) in
       let h : List ℕ = numbered (numbered (codes "local def") t) (length ps) ++ codes "\n" in
+      let it : Shown = record { head = record { code = codes_of.LocalDefinition; at = at; body = body; next = next }; unify = run_of unify_byte from us; proof = run_of proof_byte body qs } in
+      let here : StandsThere (file_of p) (place_at number at q) it = record {
+        head = record { stands = head; at_is = refl };
+        unify = longest streams.Unify unify_byte unify-here unify-known refl (file_of p) us from short-u there;
+        proof = longest streams.Proof proof_byte proof-here proof-known refl (take next (file_of p)) qs body short-q cut;
+      } in
       record {
         shown = it;
-        stands = record {
-          head = (0x0D, head, refl);
-          unify = longest streams.Unify unify_byte unify-here unify-known refl (file_of p) us from short-u there;
-          proof = longest streams.Proof proof_byte proof-here proof-known refl (take next (file_of p)) qs body short-q cut;
-        };
-        right = (
-          omega (arith, many, inside),
+        stands = here;
+        right = statement-holds (file_of p) (place_at number at q) it here (omega (arith, many, inside), (has, tt)) (
+          run-ends streams.Unify unify_byte unify-here unify-known refl (file_of p) us from there,
           (
-            has,
+            run-ends streams.Proof proof_byte proof-here proof-known refl (take next (file_of p)) qs body cut,
             (
-              run-ends streams.Unify unify_byte unify-here unify-known refl (file_of p) us from there,
-              (
-                run-ends streams.Proof proof_byte proof-here proof-known refl (take next (file_of p)) qs body cut,
-                (
-                  run-leads streams.Proof proof_byte proof-here proof-known refl (take next (file_of p)) qs body next cut refl,
-                  tt,
-                ),
-              ),
+              run-leads streams.Proof proof_byte proof-here proof-known refl (take next (file_of p)) qs body next cut refl,
+              tt,
             ),
           ),
         );
@@ -497,7 +482,7 @@ module _ (p : Parts) (fit : Fit p) (q : Parts) (number at row mods : ℕ) (ps : 
             ∙ row-parts h (texts param_line ps) (result_line o) s-text
             ∙ ap (λ z. h ++ z) (ap (λ z. texts param_line ps ++ (result_line o ++ z)) (sym (streams-text us qs)) ∙ sym (words-text ps (lines.Outcome o ∷ both_streams us qs)))
             ∙ ap (λ (r : ℕ). (numbered (numbered (codes "local def") r) (length ps) ++ codes "\n") ++ texts line_text (map lines.Param ps ++ (lines.Outcome o ∷ both_streams us qs))) (sym is);
-        goes = ap (λ (n : ℕ). record { number = number + 1; at = next; sorts = length q.sorts; terms = n; thms = length q.thms }) (one-more q.terms (row_of_term ps o (Some stream)));
+        goes = ap (λ (n : ℕ). record { number = number + 1; at = next; rows = record { sorts = length q.sorts; terms = n; thms = length q.thms } }) (one-more q.terms (row_of_term ps o (Some stream)));
       }
 
 -- each statement is listed at its place
@@ -613,7 +598,7 @@ chain-shown p fit q [] number at rows more e r good listed =
       shown = [];
       last = place_at number at q;
       chain = refl;
-      ends = (listed, (record { sorts_taken = ap (λ (x : Parts). length x.sorts) e ∙ sym many.sorts; terms_taken = ap (λ (x : Parts). length x.terms) e ∙ sym many.terms; thms_taken = ap (λ (x : Parts). length x.thms) e ∙ sym many.thms }, tt));
+      ends = (listed, record { sorts_taken = ap (λ (x : Parts). length x.sorts) e ∙ sym many.sorts; terms_taken = ap (λ (x : Parts). length x.terms) e ∙ sym many.terms; thms_taken = ap (λ (x : Parts). length x.thms) e ∙ sym many.thms });
       text = refl;
     }
 chain-shown p fit q (s ∷ ss) number at rows more e r good (head, stands, listed) =

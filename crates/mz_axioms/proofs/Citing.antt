@@ -8,7 +8,7 @@ use Rattle.mz_cmd.specs.declared.command.CmdFault.{CmdFault}
 use Rattle.mz_cmd.specs.Reading.{first_command}
 use Rattle.mz_unification.proofs.Offered.{command-long}
 use Rattle.mz_soundness.specs.Sound.{IsCitation, CitesWithin}
-use Rattle.mz_soundness.specs.FileRows.{body_bytes}
+use Rattle.mz_layout.specs.Heads.{body_bytes}
 use Rattle.mz_axioms.specs.Commands.{StandThere, length_of, IsCiting, IsCitedIn}
 use Rattle.mz_axioms.specs.Citations.{IsFirstCitation, CiteNothing, IsFirstIn}
 

@@ -9,7 +9,7 @@ use Rattle.mz_logic.specs.Closed.{AreSupports, by_number, on_support}
 use Rattle.mz_logic.proofs.Offered.{one_at, none_some, assertions-append, cites_more, legal_at, legal_by_supports}
 use Rattle.mz_layout.specs.Tables.{list_at}
 use Rattle.mz_soundness.specs.Sound.{IsCited, used_by, cites_as}
-use Rattle.mz_soundness.specs.FileRows.{body_bytes}
+use Rattle.mz_layout.specs.Heads.{body_bytes}
 use Rattle.mz_binary.specs.Chains.{IsGoodStatement, GoodTo}
 use Rattle.mz_binary.specs.Good.{Good}
 use Rattle.mz_binary.proofs.Offered.{chain-more, good-legal, cite-as-bodies}

@@ -11,7 +11,7 @@ use Rattle.mz_logic.specs.Declaration.{Declaration, sort_decl, term_decl, assert
 use Rattle.mz_logic.specs.LegalLists.{Statement, declarations}
 use Rattle.mz_logic.proofs.Offered.{one_at, none_some, split_at}
 use Rattle.mz_layout.specs.Tables.{list_at}
-use Rattle.mz_soundness.specs.FileRows.{body_bytes}
+use Rattle.mz_layout.specs.Heads.{body_bytes}
 use Rattle.mz_binary.specs.Spelling.{is_local_code}
 use Rattle.mz_binary.specs.Chains.{IsGoodStatement, GoodTo}
 use Rattle.mz_binary.specs.Good.{Good}

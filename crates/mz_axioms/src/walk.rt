@@ -4,7 +4,7 @@ ghost use Rattle.std.specs.List.Sorted.{IsStrictlyIncreasing};
 ghost use Rattle.mz_cmd.specs.declared.statement.StmtAt.TheVariants as stands;
 ghost use Rattle.mz_cmd.specs.Codes.{statement_code};
 ghost use Rattle.mz_cmd.specs.StatementList.{statement_at};
-ghost use Rattle.mz_soundness.specs.FileRows.{body_bytes};
+ghost use Rattle.mz_layout.specs.Heads.{body_bytes};
 ghost use Rattle.mz_axioms.specs.Places.{place_by};
 ghost use Rattle.mz_axioms.specs.Rows.{AreInOrder, Gives, IsGood, IsNoted, Reaches, TellsFile};
 

@@ -15,7 +15,7 @@ use Rattle.mz_logic.specs.LegalLists.{Statement}
 use Rattle.mz_layout.specs.Tables.{list_at, term_row, thm_row}
 use Rattle.mz_unification.specs.Profile.{plain, strict}
 use Rattle.mz_soundness.specs.Bodies.{Runs, body_checks}
-use Rattle.mz_soundness.specs.FileRows.{Taken, taken_by, term_of_file, thm_of_file, rows_taken, body_bytes}
+use Rattle.mz_soundness.specs.FileRows.{Taken, taken_by, term_of_file, thm_of_file, rows_taken}
 use Rattle.mz_soundness.specs.Lists.{definition_of, assertion_of}
 use Rattle.mz_soundness.specs.RowWords.{param_checks, word_checks}
 use Rattle.mz_soundness.specs.Tables.{Tables, Heading}
@@ -25,7 +25,9 @@ use Rattle.mz_numbered.proofs.Offered.{bodies-strict}
 use Rattle.mz_binary.specs.declared.standard.Standard.{Standard}
 use Rattle.mz_binary.specs.declared.standard.Standard.TheVariants.{Published, Portable}
 use Rattle.mz_binary.specs.Standards.{profile_of, lets_gaps, strict_standard, by_table}
-use Rattle.mz_binary.specs.Checking.{term_body_checks, term_checks, thm_checks, kind_checks, checks_of}
+use Rattle.mz_layout.specs.Heads.{body_bytes}
+use Rattle.mz_layout.specs.Heads as heads
+use Rattle.mz_binary.specs.Checking.{counts, term_body_checks, term_checks, thm_checks, parts_of, rest_checks, checks_of}
 use Rattle.mz_binary.specs.Chains.{IsGoodStatement}
 use Rattle.mz_binary.specs.WholeLaws.{PortableFilesAreGood}
 use Rattle.mz_binary.proofs.ChainLaws.{chain-weaker}
@@ -51,34 +53,40 @@ module _ (file : List ℕ) (taken : Taken) (at from next : ℕ) where
   term-body None all = all
   term-body (Some stream) all = body (rows_taken file taken) (definition_of (term_of_file file taken.terms) stream) from (body_bytes file from next) all
 
-  term : (is_local : Bool) → AllHold (term_checks Portable file taken at from next is_local) → AllHold (term_checks strict_standard file taken at from next is_local)
-  term is_local (row, (mark, all)) =
+  term : AllHold (term_checks Portable file taken at from next) → AllHold (term_checks strict_standard file taken at from next)
+  term all =
       let words : Checks (ℕ × K) = word_checks taken.sorts (term_row file taken.terms) in
       let stream : Option (List ℕ) = (term_of_file file taken.terms).stream in
       let run : Checks (ℕ × K) = term_body_checks Portable file taken at from next stream in
-      (row, (mark, all_hold-both words (term_body_checks strict_standard file taken at from next stream) (all_hold-first words run all) (term-body stream (all_hold-rest words run all))))
+      all_hold-both words (term_body_checks strict_standard file taken at from next stream) (all_hold-first words run all) (term-body stream (all_hold-rest words run all))
 
-  thm : (without_proof : Bool) → AllHold (thm_checks Portable file taken at from next without_proof) → AllHold (thm_checks strict_standard file taken at from next without_proof)
-  thm without_proof (row, all) =
+  thm : (without_proof : Bool) → AllHold (thm_checks Portable file taken from next without_proof) → AllHold (thm_checks strict_standard file taken from next without_proof)
+  thm without_proof all =
       let words : Checks (ℕ × K) = param_checks taken.sorts (thm_row file taken.thms).words_at (thm_row file taken.thms).params in
       let h : Heading = assertion_of without_proof (thm_of_file file taken.thms) in
       let tables : Tables = rows_taken file taken in
       let bytes : List ℕ = body_bytes file from next in
-      (row, all_hold-both words (body_checks strict tables h from bytes) (all_hold-first words (body_checks portable tables h from bytes) all) (body tables h from bytes (all_hold-rest words (body_checks portable tables h from bytes) all)))
+      all_hold-both words (body_checks strict tables h from bytes) (all_hold-first words (body_checks portable tables h from bytes) all) (body tables h from bytes (all_hold-rest words (body_checks portable tables h from bytes) all))
 
-  kind : (o : Option StatementCode) → AllHold (kind_checks Portable file taken at from next o) → AllHold (kind_checks strict_standard file taken at from next o)
-  kind None all = all
-  kind (Some codes.Sort) all = all
-  kind (Some codes.Term) all = term false all
-  kind (Some codes.LocalDefinition) all = term true all
-  kind (Some codes.Axiom) all = thm true all
-  kind (Some codes.Theorem) all = thm false all
-  kind (Some codes.LocalTheorem) all = thm false all
+  parts : (o : Option StatementCode) → AllHold (parts_of Portable file taken at from next o) → AllHold (parts_of strict_standard file taken at from next o)
+  parts None all = all
+  parts (Some codes.Sort) all = all
+  parts (Some codes.Term) all = term all
+  parts (Some codes.LocalDefinition) all = term all
+  parts (Some codes.Axiom) all = thm true all
+  parts (Some codes.Theorem) all = thm false all
+  parts (Some codes.LocalTheorem) all = thm false all
 
-place : (file : List ℕ) (taken : Taken) (at : ℕ) (there : Result StmtAt StmtFault) → AllHold (checks_of Portable file taken at there) → AllHold (checks_of strict_standard file taken at there)
-place file taken at (Err f) all = all
-place file taken at (Ok End) all = all
-place file taken at (Ok (Head code from next)) all = kind file taken at from next (statement_code code) all
+module _ (file : List ℕ) (taken : Taken) (at : ℕ) where
+  rest : (there : Result StmtAt StmtFault) → AllHold (rest_checks Portable file taken at there) → AllHold (rest_checks strict_standard file taken at there)
+  rest (Err f) all = all
+  rest (Ok End) all = all
+  rest (Ok (Head code from next)) all = parts file taken at from next (statement_code code) all
+
+  place : (there : Result StmtAt StmtFault) → AllHold (checks_of Portable file taken at there) → AllHold (checks_of strict_standard file taken at there)
+  place there all =
+      let head : Checks (ℕ × K) = heads.checks_of file (counts taken) at there in
+      all_hold-both head (rest_checks strict_standard file taken at there) (all_hold-first head (rest_checks Portable file taken at there) all) (rest there (all_hold-rest head (rest_checks Portable file taken at there) all))
 
 pub statement-by-table : (file : List ℕ) (env : List Declaration) (at : ℕ) (s : Statement) (next : ℕ) → IsGoodStatement Portable file env at s next → IsGoodStatement strict_standard file env at s next
 statement-by-table file env at s next good = record { spelled = good.spelled; passes = place file (taken_by env) at (statement_at file at) good.passes }

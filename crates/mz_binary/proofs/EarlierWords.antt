@@ -7,7 +7,7 @@ use Rattle.mz_logic.specs.LegalLists.{Statement}
 use Rattle.mz_logic.specs.declared.binder.SortMods.{SortMods}
 use Rattle.mz_layout.specs.Tables.{term_row, thm_row}
 use Rattle.mz_soundness.specs.RowWords.{param_checks, word_checks}
-use Rattle.mz_machine.specs.Before.{HasRightWords, HasRightParams}
+use Rattle.mz_earlier.specs.Before.{HasRightWords, HasRightParams}
 use Rattle.mz_binary.specs.Chains.{GoodTo}
 use Rattle.mz_binary.proofs.Declared.{sorts-many, terms-many, assertions-many}
 use Rattle.mz_binary.proofs.SortsSoFar.{HasSorts, sorts-more}

@@ -17,7 +17,8 @@ use Rattle.mz_soundness.specs.Bodies.{Runs, body_checks}
 use Rattle.mz_soundness.specs.Sound.{AreRowParams, IsRowResult}
 use Rattle.mz_soundness.specs.Lists.{Body, Entry, a_sort, a_term, an_assertion, definition_of, assertion_of, BodyIsGood, IsGoodEntry}
 use Rattle.mz_soundness.specs.RowWords.{param_check, param_checks, word_checks, IsResultWord}
-use Rattle.mz_soundness.specs.FileRows.{Taken, stream_of, term_of_file, thm_of_file, rows_taken, body_bytes}
+use Rattle.mz_layout.specs.Heads.{body_bytes}
+use Rattle.mz_soundness.specs.FileRows.{Taken, stream_of, term_of_file, thm_of_file, rows_taken}
 use Rattle.mz_binary.specs.Checking.{term_body_checks, term_checks, thm_checks, kind_checks}
 use Rattle.mz_soundness.proofs.Offered.{bodies-checked, right-words}
 use Rattle.mz_binary.specs.declared.standard.Standard.{Standard}
@@ -70,16 +71,16 @@ module _ (standard : Standard) (file : List ℕ) (taken : Taken) (at body next :
   body-good true false stream all mark = absurd (let bad : false ≡ true = mark in cc)
   body-good false false stream all mark = refl
 
-  term-good : (is_local : Bool) → AllHold (term_checks standard file taken at body next is_local) → IsGoodEntry (lets_gaps standard) (rows_taken file taken) (a_term is_local (term_of_file file taken.terms) (body_of file body next))
-  term-good is_local (_, (mark, all)) =
+  term-good : (is_local : Bool) → MatchBool is_local ((term_row file taken.terms).words.has_body ≡ true) ⊤ → AllHold (term_checks standard file taken at body next) → IsGoodEntry (lets_gaps standard) (rows_taken file taken) (a_term is_local (term_of_file file taken.terms) (body_of file body next))
+  term-good is_local mark all =
       let row : TermRecord = term_row file taken.terms in
       let words = all_hold-first (word_checks taken.sorts row) (term_body_checks standard file taken at body next (stream_of file row)) all in
       let run = all_hold-rest (word_checks taken.sorts row) (term_body_checks standard file taken at body next (stream_of file row)) all in
       (term-params taken.sorts row words, term-result taken.sorts row words, body-good is_local row.words.has_body (drop row.stream_at file) run mark)
 
-  thm-good : (is_local without_proof : Bool) → (is_local ≡ true → without_proof ≡ false) → AllHold (thm_checks standard file taken at body next without_proof)
+  thm-good : (is_local without_proof : Bool) → (is_local ≡ true → without_proof ≡ false) → AllHold (thm_checks standard file taken body next without_proof)
       → IsGoodEntry (lets_gaps standard) (rows_taken file taken) (an_assertion is_local without_proof (thm_of_file file taken.thms) (body_of file body next))
-  thm-good is_local without_proof mark (_, all) =
+  thm-good is_local without_proof mark all =
       let row = thm_row file taken.thms in
       let run : Checks (ℕ × K) = body_checks (profile_of standard) (rows_taken file taken) (assertion_of without_proof (thm_of_file file taken.thms)) body (body_bytes file body next) in
       let words = all_hold-first (param_checks taken.sorts row.words_at row.params) run all in
@@ -87,8 +88,8 @@ module _ (standard : Standard) (file : List ℕ) (taken : Taken) (at body next :
 
   pub entry-good : (k : StatementCode) → AllHold (kind_checks standard file taken at body next (Some k)) → IsGoodEntry (lets_gaps standard) (rows_taken file taken) (entry_of file taken body next k)
   entry-good codes.Sort all = tt
-  entry-good codes.Term all = term-good false all
-  entry-good codes.LocalDefinition all = term-good true all
-  entry-good codes.Axiom all = thm-good false true (λ e. absurd cc) all
-  entry-good codes.Theorem all = thm-good false false (λ e. refl) all
-  entry-good codes.LocalTheorem all = thm-good true false (λ e. refl) all
+  entry-good codes.Term all = term-good false tt all.1.1
+  entry-good codes.LocalDefinition all = term-good true all.1.0 all.1.1
+  entry-good codes.Axiom all = thm-good false true (λ e. absurd cc) all.1
+  entry-good codes.Theorem all = thm-good false false (λ e. refl) all.1
+  entry-good codes.LocalTheorem all = thm-good true false (λ e. refl) all.1

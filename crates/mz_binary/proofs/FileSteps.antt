@@ -1,6 +1,6 @@
 -- The commands executed in a whole file are bounded.
 use Rattle.std.proofs.Common.{◌≡◌, ◌≤◌, ◌+◌, ◌-◌, ◌*◌, ℕ, zero, suc, Bool, true, false, cond, List, [], ◌∷◌, length, map, drop, Option, Some, None, Result, Ok, Err, refl, sym, ap, subst, ◌∙◌, arith, suc-mul, mul-suc}
-use Rattle.std.specs.Prelude.{slice_get, nat_lt}
+use Rattle.std.specs.Prelude.{slice_get}
 use Rattle.std.specs.List.{range_with_len}
 use Rattle.std.proofs.lemmas.List.{length-drop, length-take}
 use Rattle.mz_cmd.specs.declared.code.StatementCode.{StatementCode}
@@ -12,7 +12,8 @@ use Rattle.mz_cmd.specs.declared.statement.StmtAt.TheVariants.{End, Head}
 use Rattle.mz_cmd.specs.declared.statement.StmtFault.{StmtFault}
 use Rattle.mz_cmd.specs.Codes.{statement_code}
 use Rattle.mz_cmd.specs.StatementList.{statement_at}
-use Rattle.mz_layout.specs.Tables.{TermRow as TermRecord, list_at, sort_count, term_count, thm_count, term_row, thm_row}
+use Rattle.mz_layout.specs.Tables.{TermRow as TermRecord, list_at, term_row, thm_row}
+use Rattle.mz_layout.specs.Heads.{body_bytes}
 use Rattle.mz_unification.specs.Steps.{◌>>=◌, ◌>>◌ as ◌then◌}
 use Rattle.mz_unification.specs.Spells.{TermRow, ThmRow}
 use Rattle.mz_soundness.specs.Tables.{Heading}
@@ -20,8 +21,9 @@ use Rattle.mz_soundness.specs.Bodies.{body_run, body_steps, body_start}
 use Rattle.mz_soundness.specs.Laws.{StreamsWithin}
 use Rattle.mz_soundness.specs.Lists.{assertion_of}
 use Rattle.mz_soundness.proofs.Offered.{steps-le}
-use Rattle.mz_soundness.specs.FileRows.{Taken, nothing_taken, stream_of, term_of_file, thm_of_file, rows_taken, body_bytes}
-use Rattle.mz_binary.specs.FileRun.{Passing, test, test_params, test_words, is_empty_body, with_sort, with_term, with_thm, all_taken, may_stand, Found, list_ends, stands_alone, has_body, onward, if_runs, run_found, find_sort, find_term_body, find_term, find_thm, find_kind, find_of, find_at, test_layout, found_steps, follow_steps, list_steps, steps_after}
+use Rattle.mz_soundness.specs.FileRows.{Taken, nothing_taken, stream_of, term_of_file, thm_of_file, rows_taken}
+use Rattle.mz_binary.specs.Checking.{counts}
+use Rattle.mz_binary.specs.FileRun.{Passing, test, test_params, test_words, is_empty_body, with_sort, with_term, with_thm, all_taken, test_row, Found, list_ends, stands_alone, has_body, onward, if_runs, run_found, find_empty, find_term_body, find_term_parts, find_thm_parts, find_parts, find_kind, find_of, find_at, test_layout, found_steps, follow_steps, list_steps, steps_after}
 use Rattle.mz_binary.specs.WholeLaws.{StepsOfAFile}
 use Rattle.mz_binary.proofs.Heads.{head-at}
 use Rattle.mz_binary.specs.declared.standard.Standard.{Standard}
@@ -75,40 +77,34 @@ module _ (file : List ℕ) (body next : ℕ) where
   then-within (Ok p) y w = w
   then-within (Err r) y w = tt
 
+  empty-within : (after : Taken) (at : ℕ) → Within file body next (find_empty file after at body next)
+  empty-within after at = then-within (test (is_empty_body (body_bytes file body next)) (at, rules.StatementLength)) (Ok (stands_alone after next)) refl
+
   term-body-within : (taken : Taken) (at : ℕ) (b : Bool) (s : ℕ) → Within file body next (find_term_body file taken at body next (cond b (Some (drop s file)) None))
   term-body-within taken at true s = (refl, refl, dropped s file)
-  term-body-within taken at false s = then-within (test (is_empty_body (body_bytes file body next)) (at, rules.StatementLength)) (Ok (stands_alone (with_term taken) next)) refl
+  term-body-within taken at false s = empty-within (with_term taken) at
 
-  sort-within : (taken : Taken) (at : ℕ) → Within file body next (find_sort file taken at body next)
-  sort-within taken at =
-      let last : Result Found (ℕ × K) = Ok (stands_alone (with_sort file taken) next) in
-      let empty : Passing = test (is_empty_body (body_bytes file body next)) (at, rules.StatementLength) in
-      then-within (test (nat_lt (length taken.sorts) (sort_count file)) (at, rules.NoRow)) (empty then last) (then-within empty last refl)
-
-  term-within : (taken : Taken) (at : ℕ) (l : Bool) → Within file body next (find_term file taken at body next l)
-  term-within taken at l =
+  term-within : (taken : Taken) (at : ℕ) → Within file body next (find_term_parts file taken at body next)
+  term-within taken at =
       let row : TermRecord = term_row file taken.terms in
-      let run : Result Found (ℕ × K) = find_term_body file taken at body next (stream_of file row) in
-      let words : Passing = test_words taken.sorts row in
-      let mark : Passing = test (may_stand l row.words.has_body) (at, rules.StatementKind) in
-      then-within (test (nat_lt taken.terms (term_count file)) (at, rules.NoRow)) (mark then (words then run))
-      (then-within mark (words then run) (then-within words run (term-body-within taken at row.words.has_body row.stream_at)))
+      then-within (test_words taken.sorts row) (find_term_body file taken at body next (stream_of file row)) (term-body-within taken at row.words.has_body row.stream_at)
 
-  thm-within : (taken : Taken) (at : ℕ) (w : Bool) → Within file body next (find_thm file taken at body next w)
-  thm-within taken at w =
+  thm-within : (taken : Taken) (w : Bool) → Within file body next (find_thm_parts file taken body next w)
+  thm-within taken w =
       let row = thm_row file taken.thms in
-      let run : Result Found (ℕ × K) = Ok (has_body (with_thm taken) next (assertion_of w (thm_of_file file taken.thms)) body (body_bytes file body next)) in
-      let words : Passing = test_params taken.sorts row.words_at row.params in
-      then-within (test (nat_lt taken.thms (thm_count file)) (at, rules.NoRow)) (words then run) (then-within words run (refl, refl, dropped row.stream_at file))
+      then-within (test_params taken.sorts row.words_at row.params) (Ok (has_body (with_thm taken) next (assertion_of w (thm_of_file file taken.thms)) body (body_bytes file body next))) (refl, refl, dropped row.stream_at file)
+
+  parts-within : (taken : Taken) (at : ℕ) (k : StatementCode) → Within file body next (find_parts file taken at body next k)
+  parts-within taken at codes.Sort = empty-within (with_sort file taken) at
+  parts-within taken at codes.Term = term-within taken at
+  parts-within taken at codes.LocalDefinition = term-within taken at
+  parts-within taken at codes.Axiom = thm-within taken true
+  parts-within taken at codes.Theorem = thm-within taken false
+  parts-within taken at codes.LocalTheorem = thm-within taken false
 
   kind-within : (taken : Taken) (at : ℕ) (o : Option StatementCode) → Within file body next (find_kind file taken at body next o)
   kind-within taken at None = tt
-  kind-within taken at (Some codes.Sort) = sort-within taken at
-  kind-within taken at (Some codes.Term) = term-within taken at false
-  kind-within taken at (Some codes.LocalDefinition) = term-within taken at true
-  kind-within taken at (Some codes.Axiom) = thm-within taken at true
-  kind-within taken at (Some codes.Theorem) = thm-within taken at false
-  kind-within taken at (Some codes.LocalTheorem) = thm-within taken at false
+  kind-within taken at (Some k) = then-within (test_row file (counts taken) at k) (find_parts file taken at body next k) (parts-within taken at k)
 
 -- ---- a place
 
@@ -146,7 +142,7 @@ module _ (standard : Standard) (file : List ℕ) (taken : Taken) (rest : Taken �
 
   by-place : (at : ℕ) (there : Result StmtAt StmtFault) → statement_at file at ≡ there → Steps standard file taken rest (find_of file taken at there) ≤ (n - at) * (n + 1)
   by-place at (Err f) is = omega arith
-  by-place at (Ok End) is = ends-le (test (all_taken file taken) (at, rules.RowsLeft))
+  by-place at (Ok End) is = ends-le (test (all_taken file (counts taken)) (at, rules.RowsLeft))
     where
       ends-le : (x : Passing) → Steps standard file taken rest (x then Ok list_ends) ≤ (n - at) * (n + 1)
       ends-le (Ok p) = omega arith

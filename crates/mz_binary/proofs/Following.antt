@@ -13,16 +13,16 @@ use Rattle.mz_logic.specs.Legality.{IsLegalEnv}
 use Rattle.mz_logic.specs.LegalLists.{Statement, IsProvedBy, IsLegalStatement, allowed_with}
 use Rattle.mz_logic.specs.declared.binder.SortMods.{SortMods}
 use Rattle.mz_layout.specs.Tables.{mods_of}
-use Rattle.mz_layout.proofs.Offered.{slice_get-sorts}
+use Rattle.mz_layout.proofs.Offered.{code-is, slice_get-sorts}
 use Rattle.mz_soundness.specs.Tables.{Tables, Declares}
 use Rattle.mz_soundness.specs.Sound.{cites_as}
 use Rattle.mz_soundness.specs.Lists.{Entry, with_entry, SpellsEntry, an_assertion, ProvedByBody}
 use Rattle.mz_soundness.proofs.Offered.{follows}
-use Rattle.mz_soundness.specs.FileRows.{Taken, taken_by, term_of_file, thm_of_file, rows_taken, body_bytes}
+use Rattle.mz_layout.specs.Heads.{body_bytes}
+use Rattle.mz_soundness.specs.FileRows.{Taken, taken_by, term_of_file, thm_of_file, rows_taken}
 use Rattle.mz_binary.specs.Spelling.{IsKindOf, is_local_code, SpellsRow, IsSpelled}
 use Rattle.mz_binary.specs.Checking.{kind_checks}
 use Rattle.mz_binary.specs.FileRun.{with_sort, with_term, with_thm, after_kind}
-use Rattle.mz_binary.proofs.Heads.{code-is}
 use Rattle.mz_binary.proofs.Declared.{sorts-append, terms-append, assertions-append}
 use Rattle.mz_binary.proofs.Entries.{body_of, entry_of, entry-good}
 use Rattle.mz_binary.specs.declared.standard.Standard.{Standard}

@@ -6,7 +6,7 @@ use Rattle.mz_logic.specs.Derivations.{without_gaps}
 use Rattle.mz_logic.specs.LegalLists.{Statement, declarations, IsProvedBy, LegalBy, allowed_with}
 use Rattle.mz_logic.proofs.Offered.{legal_list_is_closed, cites_more}
 use Rattle.mz_layout.specs.Tables.{list_at}
-use Rattle.mz_soundness.specs.FileRows.{body_bytes}
+use Rattle.mz_layout.specs.Heads.{body_bytes}
 use Rattle.mz_soundness.specs.Gapped.{free_of}
 use Rattle.mz_soundness.specs.Sound.{used_by, cites_as}
 use Rattle.mz_binary.specs.Chains.{IsGoodStatement, GoodTo}

@@ -1,8 +1,6 @@
 -- The marks of gapped theorems, as the list of statements goes on.
 use Rattle.std.proofs.Common.{◌≡◌, ◌∙◌, ◌<◌, ◌+◌, ◌⊎◌, ℕ, zero, suc, Bool, true, false, not, List, [], ◌∷◌, ◌++◌, length, slice_get, Some, Ok, refl, sym, ap, subst, inl, inr, arith, length-append, append_assoc, append-nil}
-use Rattle.std.specs.Prelude.{◌↔◌, MatchBool, Result, nat_lt}
-use Rattle.mz_cmd.specs.declared.rule.K.{K}
-use Rattle.mz_cmd.specs.declared.rule.K.TheVariants as rules
+use Rattle.std.specs.Prelude.{◌↔◌, MatchBool}
 use Rattle.mz_cmd.specs.declared.code.StatementCode.{StatementCode}
 use Rattle.mz_cmd.specs.declared.code.StatementCode.TheVariants as codes
 use Rattle.mz_cmd.specs.declared.statement.StmtAt.TheVariants.{Head}
@@ -11,12 +9,13 @@ use Rattle.mz_cmd.specs.StatementList.{statement_at}
 use Rattle.mz_logic.specs.Declaration.{Declaration, Assertion, sort_decl, term_decl, assertion_decl, assertions}
 use Rattle.mz_logic.specs.LegalLists.{Statement}
 use Rattle.mz_logic.proofs.Offered.{one_at, none_some, assertions-append}
-use Rattle.mz_layout.specs.Tables.{list_at, thm_count, thm_row}
-use Rattle.mz_unification.specs.Steps.{◌>>◌ as ◌then◌}
+use Rattle.mz_layout.specs.Tables.{list_at, thm_row}
+use Rattle.mz_layout.specs.Heads.{body_bytes}
 use Rattle.mz_soundness.specs.Lists.{assertion_of}
 use Rattle.mz_machine.specs.BodyAnswers.{HasGap}
-use Rattle.mz_soundness.specs.FileRows.{Taken, thm_of_file, body_bytes}
-use Rattle.mz_binary.specs.FileRun.{test, test_params, Found, stands_alone, has_body, with_thm, find_thm, find_kind}
+use Rattle.mz_soundness.specs.FileRows.{Taken, thm_of_file}
+use Rattle.mz_binary.specs.Checking.{counts}
+use Rattle.mz_binary.specs.FileRun.{test_params, test_row, Found, stands_alone, has_body, with_thm, find_thm_parts, find_parts, find_kind}
 use Rattle.mz_binary.proofs.Inverting.{then-ok, found-is}
 use Rattle.mz_binary.specs.Chains.{GoodTo}
 use Rattle.mz_binary.specs.Gapped.{AssertionBody, body_there, place_after, body_of, bodies_from, bodies_of, IsTheoremBody, IsGapped, leaves_gap, rests_on, GappedIn, IsMarked, AreMarks, CitesMarked}
@@ -269,23 +268,24 @@ module _ (standard : Standard) (file : List ℕ) (ss : List Statement) (env : Li
 -- ---- without a body
 
 -- no axiom or theorem stands without one
-alone-thm : (file : List ℕ) (taken : Taken) (at body next : ℕ) (w : Bool) (after : Taken) (to : ℕ) → find_thm file taken at body next w ≡ Ok (stands_alone after to) → ⊥
-alone-thm file taken at body next w after to e =
-    let last : Result Found (ℕ × K) = Ok (has_body (with_thm taken) next (assertion_of w (thm_of_file file taken.thms)) body (body_bytes file body next)) in
-    let words : Result Found (ℕ × K) = test_params taken.sorts (thm_row file taken.thms).words_at (thm_row file taken.thms).params then last in
-    let same : has_body (with_thm taken) next (assertion_of w (thm_of_file file taken.thms)) body (body_bytes file body next) ≡ stands_alone after to =
-    found-is (has_body (with_thm taken) next (assertion_of w (thm_of_file file taken.thms)) body (body_bytes file body next)) (stands_alone after to)
-    (then-ok (test_params taken.sorts (thm_row file taken.thms).words_at (thm_row file taken.thms).params) last (stands_alone after to)
-    (then-ok (test (nat_lt taken.thms (thm_count file)) (at, rules.NoRow)) words (stands_alone after to) e)) in
+alone-thm : (file : List ℕ) (taken : Taken) (body next : ℕ) (w : Bool) (after : Taken) (to : ℕ) → find_thm_parts file taken body next w ≡ Ok (stands_alone after to) → ⊥
+alone-thm file taken body next w after to e =
+    let runs : Found = has_body (with_thm taken) next (assertion_of w (thm_of_file file taken.thms)) body (body_bytes file body next) in
+    let same : runs ≡ stands_alone after to =
+    found-is runs (stands_alone after to) (then-ok (test_params taken.sorts (thm_row file taken.thms).words_at (thm_row file taken.thms).params) (Ok runs) (stands_alone after to) e) in
     cc
 
+alone-parts : (file : List ℕ) (taken : Taken) (at body next : ℕ) (after : Taken) (to : ℕ) (k : StatementCode) → find_parts file taken at body next k ≡ Ok (stands_alone after to) → is_assertion_kind k ≡ false
+alone-parts file taken at body next after to codes.Sort e = refl
+alone-parts file taken at body next after to codes.Term e = refl
+alone-parts file taken at body next after to codes.LocalDefinition e = refl
+alone-parts file taken at body next after to codes.Axiom e = absurd (alone-thm file taken body next true after to e)
+alone-parts file taken at body next after to codes.Theorem e = absurd (alone-thm file taken body next false after to e)
+alone-parts file taken at body next after to codes.LocalTheorem e = absurd (alone-thm file taken body next false after to e)
+
 pub alone-kind : (file : List ℕ) (taken : Taken) (at body next : ℕ) (after : Taken) (to : ℕ) (k : StatementCode) → find_kind file taken at body next (Some k) ≡ Ok (stands_alone after to) → is_assertion_kind k ≡ false
-alone-kind file taken at body next after to codes.Sort e = refl
-alone-kind file taken at body next after to codes.Term e = refl
-alone-kind file taken at body next after to codes.LocalDefinition e = refl
-alone-kind file taken at body next after to codes.Axiom e = absurd (alone-thm file taken at body next true after to e)
-alone-kind file taken at body next after to codes.Theorem e = absurd (alone-thm file taken at body next false after to e)
-alone-kind file taken at body next after to codes.LocalTheorem e = absurd (alone-thm file taken at body next false after to e)
+alone-kind file taken at body next after to k e =
+    alone-parts file taken at body next after to k (then-ok (test_row file (counts taken) at k) (find_parts file taken at body next k) (stands_alone after to) e)
 
 pub theorem-too : (k : StatementCode) → is_assertion_kind k ≡ false → is_theorem_kind k ≡ true → ⊥
 theorem-too codes.Sort no_ is = absurd cc

@@ -1,6 +1,5 @@
 -- What stands at a place that passes, from what is computed there.
-use Rattle.std.proofs.Common.{◌≡◌, ◌⊎◌, ℕ, Bool, true, false, List, length, Option, Some, None, Result, Ok, Err, refl, sym, ap, ◌∙◌, inl, inr}
-use Rattle.std.specs.Prelude.{nat_lt}
+use Rattle.std.proofs.Common.{◌≡◌, ◌⊎◌, ℕ, Bool, true, false, List, Option, Some, None, Result, Ok, Err, refl, sym, ap, ◌∙◌, inl, inr}
 use Rattle.mz_cmd.specs.declared.rule.K.{K}
 use Rattle.mz_cmd.specs.declared.rule.K.TheVariants as rules
 use Rattle.mz_cmd.specs.declared.code.StatementCode.{StatementCode}
@@ -11,9 +10,11 @@ use Rattle.mz_cmd.specs.declared.statement.StmtFault.{StmtFault}
 use Rattle.mz_cmd.specs.Codes.{statement_code}
 use Rattle.mz_cmd.specs.StatementList.{statement_at}
 use Rattle.mz_unification.specs.Steps.{◌>>=◌, ◌>>◌ as ◌then◌}
-use Rattle.mz_soundness.specs.FileRows.{Taken, term_of_file, body_bytes}
-use Rattle.mz_layout.specs.Tables.{TermRow as TermRecord, sort_count, term_count, thm_count, term_row, thm_row}
-use Rattle.mz_binary.specs.FileRun.{Passing, test, test_params, test_words, is_empty_body, Found, list_ends, stands_alone, has_body, Onward, ended, onward, if_runs, run_found, run_place, find_term_body, find_term, find_thm, find_kind, find_of, find_at, may_stand, with_sort, with_term, with_thm, after_kind}
+use Rattle.mz_soundness.specs.FileRows.{Taken, term_of_file}
+use Rattle.mz_layout.specs.Heads.{body_bytes}
+use Rattle.mz_layout.specs.Tables.{term_row, thm_row}
+use Rattle.mz_binary.specs.Checking.{counts}
+use Rattle.mz_binary.specs.FileRun.{Passing, test, test_params, test_words, is_empty_body, Found, list_ends, stands_alone, has_body, Onward, ended, onward, if_runs, run_found, run_place, find_empty, find_term_body, find_term_parts, find_thm_parts, find_parts, test_row, find_kind, find_of, find_at, with_sort, with_term, with_thm, after_kind}
 use Rattle.mz_binary.specs.declared.standard.Standard.{Standard}
 
 abbrev found : Found → Result Found (ℕ × K)
@@ -56,34 +57,31 @@ runs-to standard file taken (stands_alone after next) o e = ap leads (on-is (onw
 runs-to standard file taken (has_body after next h body bytes) o e = ap leads (if-runs _ (onward after next) o e)
 
 module _ (file : List ℕ) (taken : Taken) (at body next : ℕ) where
+  empty : (after : Taken) (f : Found) → find_empty file after at body next ≡ Ok f → goes_to f ≡ Some (after, next)
+  empty after f e = ap goes_to (sym (found-is (stands_alone after next) f (then-ok (test (is_empty_body (body_bytes file body next)) (at, rules.StatementLength)) _ f e)))
+
   term-body : (o : Option (List ℕ)) (f : Found) → find_term_body file taken at body next o ≡ Ok f → goes_to f ≡ Some (with_term taken, next)
-  term-body None f e = ap goes_to (sym (found-is (stands_alone (with_term taken) next) f (then-ok _ _ f e)))
+  term-body None f e = empty (with_term taken) f e
   term-body (Some stream) f e = ap goes_to (sym (found-is _ f e))
 
-  term : (is_local : Bool) (f : Found) → find_term file taken at body next is_local ≡ Ok f → goes_to f ≡ Some (with_term taken, next)
-  term is_local f e =
-      let row : TermRecord = term_row file taken.terms in
-      term-body (term_of_file file taken.terms).stream f
-      (then-ok (test_words taken.sorts row) _ f
-      (then-ok (test (may_stand is_local row.words.has_body) (at, rules.StatementKind)) _ f
-      (then-ok (test (nat_lt taken.terms (term_count file)) (at, rules.NoRow)) _ f e)))
+  term : (f : Found) → find_term_parts file taken at body next ≡ Ok f → goes_to f ≡ Some (with_term taken, next)
+  term f e = term-body (term_of_file file taken.terms).stream f (then-ok (test_words taken.sorts (term_row file taken.terms)) _ f e)
 
-  thm : (without_proof : Bool) (f : Found) → find_thm file taken at body next without_proof ≡ Ok f → goes_to f ≡ Some (with_thm taken, next)
+  thm : (without_proof : Bool) (f : Found) → find_thm_parts file taken body next without_proof ≡ Ok f → goes_to f ≡ Some (with_thm taken, next)
   thm without_proof f e =
       let row = thm_row file taken.thms in
-      ap goes_to (sym (found-is _ f
-      (then-ok (test_params taken.sorts row.words_at row.params) _ f
-      (then-ok (test (nat_lt taken.thms (thm_count file)) (at, rules.NoRow)) _ f e))))
+      ap goes_to (sym (found-is _ f (then-ok (test_params taken.sorts row.words_at row.params) _ f e)))
+
+  parts : (k : StatementCode) (f : Found) → find_parts file taken at body next k ≡ Ok f → goes_to f ≡ Some (after_kind file taken k, next)
+  parts codes.Sort f e = empty (with_sort file taken) f e
+  parts codes.Term f e = term f e
+  parts codes.LocalDefinition f e = term f e
+  parts codes.Axiom f e = thm true f e
+  parts codes.Theorem f e = thm false f e
+  parts codes.LocalTheorem f e = thm false f e
 
   kind : (k : StatementCode) (f : Found) → find_kind file taken at body next (Some k) ≡ Ok f → goes_to f ≡ Some (after_kind file taken k, next)
-  kind codes.Sort f e = ap goes_to (sym (found-is (stands_alone (with_sort file taken) next) f
-      (then-ok (test (is_empty_body (body_bytes file body next)) (at, rules.StatementLength)) _ f
-      (then-ok (test (nat_lt (length taken.sorts) (sort_count file)) (at, rules.NoRow)) _ f e))))
-  kind codes.Term f e = term false f e
-  kind codes.LocalDefinition f e = term true f e
-  kind codes.Axiom f e = thm true f e
-  kind codes.Theorem f e = thm false f e
-  kind codes.LocalTheorem f e = thm false f e
+  kind k f e = parts k f (then-ok (test_row file (counts taken) at k) (find_parts file taken at body next k) f e)
 
 -- a statement stands there, after which the list goes on
 pub record GoesOn (file : List ℕ) (taken : Taken) (at : ℕ) (to : Option (Taken × ℕ)) : Type 0 where

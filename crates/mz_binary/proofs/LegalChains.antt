@@ -14,7 +14,8 @@ use Rattle.mz_logic.proofs.Offered.{legal_push}
 use Rattle.mz_layout.specs.Tables.{list_at}
 use Rattle.mz_soundness.specs.Tables.{Declares}
 use Rattle.mz_soundness.specs.Sound.{cites_as}
-use Rattle.mz_soundness.specs.FileRows.{taken_by, rows_taken, body_bytes}
+use Rattle.mz_layout.specs.Heads.{body_bytes}
+use Rattle.mz_soundness.specs.FileRows.{taken_by, rows_taken}
 use Rattle.mz_binary.specs.Checking.{kind_checks, checks_of}
 use Rattle.mz_binary.specs.Chains.{IsGoodStatement, GoodTo}
 use Rattle.mz_binary.specs.Good.{Good}

@@ -8,7 +8,7 @@ pub use Rattle.mz_binary.proofs.Entries.{body_of, entry-good}
 pub use Rattle.mz_binary.proofs.Following.{rows-after, same-taken}
 pub use Rattle.mz_binary.proofs.GapFree.{ungapped-free}
 pub use Rattle.mz_binary.proofs.GapMarks.{bodies-many, bodies-more, gapped-back, gapped-on, gapped-within}
-pub use Rattle.mz_binary.proofs.Heads.{head-at, stands-here}
+pub use Rattle.mz_binary.proofs.Heads.{head-at}
 pub use Rattle.mz_binary.proofs.LegalChains.{cite-as-bodies, good-legal, well-chain}
 pub use Rattle.mz_binary.proofs.RowLaws.{HasRightRow, good-rows, right-row}
 pub use Rattle.mz_binary.proofs.SortsSoFar.{HasSorts, chain-sorts}

@@ -7,7 +7,7 @@ use Rattle.mz_cmd.specs.declared.code.StatementCode.TheVariants as codes
 use Rattle.mz_cmd.specs.declared.rule.K.{K}
 use Rattle.mz_cmd.specs.declared.rule.Refusal.{Refusal}
 use Rattle.mz_cmd.specs.declared.statement.StmtAt.TheVariants as there
-use Rattle.mz_cmd.specs.Codes.{statement_byte, statement_code}
+use Rattle.mz_cmd.specs.Codes.{statement_byte}
 use Rattle.mz_cmd.specs.StatementList.{statement_at}
 use Rattle.mz_logic.specs.Declaration.{Declaration, sort_decl, term_decl, assertion_decl, sorts, assertions}
 use Rattle.mz_logic.specs.LegalLists.{Statement}
@@ -16,21 +16,23 @@ use Rattle.mz_layout.specs.Layout.{IsBinary}
 use Rattle.mz_unification.specs.Steps.{◌>>=◌}
 use Rattle.mz_soundness.specs.Tables.{Heading, State}
 use Rattle.mz_soundness.specs.Bodies.{body_run}
-use Rattle.mz_machine.specs.Before.{heading_of, tables_before, taken_before}
-use Rattle.mz_binary.specs.declared.place.Head.{Head}
+use Rattle.mz_earlier.specs.OwnRow.{heading_of}
+use Rattle.mz_earlier.specs.Before.{tables_before, taken_before}
 use Rattle.mz_binary.specs.declared.place.Found.TheVariants as seen
-use Rattle.mz_machine.specs.declared.earlier.Rows.{Rows}
+use Rattle.mz_layout.specs.declared.head.Head.{Head}
+use Rattle.mz_layout.specs.declared.taken.Rows.{Rows}
+use Rattle.mz_layout.specs.Heads.{IsHead, body_bytes, next_row, rows_after}
 use Rattle.mz_binary.specs.declared.statement.Statement.{Statement as Told}
-use Rattle.mz_soundness.specs.FileRows.{Taken, taken_by, body_bytes}
+use Rattle.mz_soundness.specs.FileRows.{Taken, taken_by}
 use Rattle.mz_binary.specs.Spelling.{IsKindOf, HasKind, IsSpelled, is_local_code}
 use Rattle.mz_binary.specs.Checking.{kind_checks, place_checks}
 use Rattle.mz_binary.specs.FileRun.{with_term, with_thm, Found, list_ends, has_body, Onward, ended, onward, if_runs, after_kind, find_at, run_found, run_place, RunsBody}
 use Rattle.mz_binary.specs.Chains.{IsGoodStatement, GoodTo}
 use Rattle.mz_binary.specs.Good.{Good, FailsAfter}
-use Rattle.mz_binary.specs.Progress.{Progress, HasPassed, found_of, CountsRows, IsReached, IsHead, RestsOnGap, marks_past, kind_byte, next_row, rows_past, is_local_kind, kind_code, row_after}
+use Rattle.mz_binary.specs.Progress.{Progress, HasPassed, found_of, CountsRows, IsReached, RestsOnGap, marks_past, kind_byte, is_local_kind, kind_code, row_after}
 use Rattle.mz_binary.specs.Gapped.{AreMarks}
 use Rattle.mz_binary.specs.Judging.{Passes}
-use Rattle.mz_binary.proofs.Heads.{head-at, IsHeadAt}
+use Rattle.mz_binary.proofs.Heads.{code-of, head-at, IsHeadAt}
 use Rattle.mz_binary.proofs.ChainLaws.{chain-more}
 use Rattle.mz_binary.proofs.GapMarks.{kind-tells, NewMark, new-mark}
 use Rattle.mz_binary.proofs.SortsSoFar.{taken}
@@ -43,14 +45,6 @@ use Rattle.mz_binary.specs.declared.standard.Standard.{Standard}
 use Rattle.mz_binary.specs.Standards.{lets_gaps, profile_of}
 
 -- ---- kinds
-
-pub code-of : (k : StatementCode) → statement_code (statement_byte k) ≡ Some k
-code-of codes.Axiom = refl
-code-of codes.Sort = refl
-code-of codes.Term = refl
-code-of codes.Theorem = refl
-code-of codes.LocalDefinition = refl
-code-of codes.LocalTheorem = refl
 
 mark-of : (k : StatementCode) → is_local_kind k ≡ is_local_code (statement_byte k)
 mark-of codes.Axiom = refl
@@ -113,28 +107,28 @@ module _ (rows : Rows) (env : List Declaration) (counts : CountsRows rows env) w
 
   -- ---- rows
 
-  counts-sort : (file : List ℕ) (env' : List Declaration) → taken_by env' ≡ after_kind file (taken_by env) codes.Sort → CountsRows (rows_past rows codes.Sort) env'
+  counts-sort : (file : List ℕ) (env' : List Declaration) → taken_by env' ≡ after_kind file (taken_by env) codes.Sort → CountsRows (rows_after rows codes.Sort) env'
   counts-sort file env' e = record {
     sorts_are = omega (arith, counts.sorts_are, ap (λ (t : Taken). length t.sorts) e, length-append (sorts env) (mods_of file (length (sorts env)) ∷ []));
     terms_are = counts.terms_are ∙ sym (ap (λ (t : Taken). t.terms) e);
     thms_are = counts.thms_are ∙ sym (ap (λ (t : Taken). t.thms) e);
   }
 
-  counts-term : (env' : List Declaration) → taken_by env' ≡ with_term (taken_by env) → CountsRows (rows_past rows codes.Term) env'
+  counts-term : (env' : List Declaration) → taken_by env' ≡ with_term (taken_by env) → CountsRows (rows_after rows codes.Term) env'
   counts-term env' e = record {
     sorts_are = counts.sorts_are ∙ sym (ap (λ (t : Taken). length t.sorts) e);
     terms_are = ap (λ (n : ℕ). n + 1) counts.terms_are ∙ sym (ap (λ (t : Taken). t.terms) e);
     thms_are = counts.thms_are ∙ sym (ap (λ (t : Taken). t.thms) e);
   }
 
-  counts-thm : (env' : List Declaration) → taken_by env' ≡ with_thm (taken_by env) → CountsRows (rows_past rows codes.Axiom) env'
+  counts-thm : (env' : List Declaration) → taken_by env' ≡ with_thm (taken_by env) → CountsRows (rows_after rows codes.Axiom) env'
   counts-thm env' e = record {
     sorts_are = counts.sorts_are ∙ sym (ap (λ (t : Taken). length t.sorts) e);
     terms_are = counts.terms_are ∙ sym (ap (λ (t : Taken). t.terms) e);
     thms_are = ap (λ (n : ℕ). n + 1) counts.thms_are ∙ sym (ap (λ (t : Taken). t.thms) e);
   }
 
-  counts-past : (file : List ℕ) (k : StatementCode) (env' : List Declaration) → taken_by env' ≡ after_kind file (taken_by env) k → CountsRows (rows_past rows k) env'
+  counts-past : (file : List ℕ) (k : StatementCode) (env' : List Declaration) → taken_by env' ≡ after_kind file (taken_by env) k → CountsRows (rows_after rows k) env'
   counts-past file codes.Sort env' e = counts-sort file env' e
   counts-past file codes.Term env' e = counts-term env' e
   counts-past file codes.LocalDefinition env' e = counts-term env' e
@@ -150,7 +144,7 @@ pub record RowsWithin (file : List ℕ) (rows : Rows) (passed : ℕ) : Type 0 wh
   pub many : passed ≡ rows.sorts + rows.terms + rows.thms
 
 module _ (standard : Standard) (file : List ℕ) (rows : Rows) (env : List Declaration) (counts : CountsRows rows env) (at body next passed : ℕ) (before : RowsWithin file rows passed) where
-  pub within-past : (k : StatementCode) → AllHold (kind_checks standard file (taken_by env) at body next (Some k)) → RowsWithin file (rows_past rows k) (passed + 1)
+  pub within-past : (k : StatementCode) → AllHold (kind_checks standard file (taken_by env) at body next (Some k)) → RowsWithin file (rows_after rows k) (passed + 1)
   within-past codes.Sort all = record { sorts_within = omega (arith, all.0, counts.sorts_are); terms_within = before.terms_within; thms_within = before.thms_within; many = omega (arith, before.many) }
   within-past codes.Term all = record { sorts_within = before.sorts_within; terms_within = omega (arith, all.0, counts.terms_are); thms_within = before.thms_within; many = omega (arith, before.many) }
   within-past codes.LocalDefinition all = record { sorts_within = before.sorts_within; terms_within = omega (arith, all.0, counts.terms_are); thms_within = before.thms_within; many = omega (arith, before.many) }
@@ -241,7 +235,7 @@ pub record IsPast (p after : Progress) (told : Told) (head : Head) : Type 0 wher
   pub same_standard : after.standard ≡ p.standard
   pub goes_on : after.at ≡ head.next
   pub one_more : after.passed ≡ p.passed + 1
-  pub rows_are : after.rows ≡ rows_past p.rows head.code
+  pub rows_are : after.rows ≡ rows_after p.rows head.code
   pub number : told.number ≡ p.passed + 1
   pub place : told.at ≡ p.at
   pub kind : told.kind ≡ kind_byte head.code
@@ -320,15 +314,15 @@ module _ (p after : Progress) (told : Told) (head : Head) (past : IsPast p after
   pub reached : IsReached p → IsReached after
   reached r =
       let (ss, env, before) = r.before in
-      let enough : RowsWithin p.file (rows_past p.rows head.code) (p.passed + 1) = within-past p.standard p.file p.rows env before.rows p.at head.body head.next p.passed
+      let enough : RowsWithin p.file (rows_after p.rows head.code) (p.passed + 1) = within-past p.standard p.file p.rows env before.rows p.at head.body head.next p.passed
       (record { sorts_within = r.sorts_within; terms_within = r.terms_within; thms_within = r.thms_within; many = r.many }) head.code (kind-holds p ss env before head stands place ran) in
       let files : length after.file ≡ length p.file = ap length past.same_file in
       let sort_counts : sort_count after.file ≡ sort_count p.file = ap sort_count past.same_file in
       let term_counts : term_count after.file ≡ term_count p.file = ap term_count past.same_file in
       let thm_counts : thm_count after.file ≡ thm_count p.file = ap thm_count past.same_file in
-      let sort_rows : after.rows.sorts ≡ (rows_past p.rows head.code).sorts = ap (λ (x : Rows). x.sorts) past.rows_are in
-      let term_rows : after.rows.terms ≡ (rows_past p.rows head.code).terms = ap (λ (x : Rows). x.terms) past.rows_are in
-      let thm_rows : after.rows.thms ≡ (rows_past p.rows head.code).thms = ap (λ (x : Rows). x.thms) past.rows_are in
+      let sort_rows : after.rows.sorts ≡ (rows_after p.rows head.code).sorts = ap (λ (x : Rows). x.sorts) past.rows_are in
+      let term_rows : after.rows.terms ≡ (rows_after p.rows head.code).terms = ap (λ (x : Rows). x.terms) past.rows_are in
+      let thm_rows : after.rows.thms ≡ (rows_after p.rows head.code).thms = ap (λ (x : Rows). x.thms) past.rows_are in
       record {
         binary = subst IsBinary (sym past.same_file) r.binary;
         within = omega (arith, past.goes_on, (head-is ss env before).within, files);

@@ -19,28 +19,30 @@ use Rattle.mz_cmd.specs.declared.statement.StmtAt.TheVariants.{End, Head}
 use Rattle.mz_cmd.specs.declared.statement.StmtFault.{StmtFault}
 use Rattle.mz_cmd.specs.Codes.{statement_code}
 use Rattle.mz_cmd.specs.StatementList.{statement_at}
+use Rattle.mz_layout.specs.Heads.{AllTaken, IsEmptyBody, body_bytes, empty_checks, next_row, row_count, suits_checks}
+use Rattle.mz_layout.specs.Heads as heads
 use Rattle.mz_layout.specs.Numbers.{byte_at}
-use Rattle.mz_layout.specs.Tables.{term_row, thm_row, sort_count, term_count, thm_count, terms_at, thms_at, list_at, term_record, thm_record, words_at, param_count}
+use Rattle.mz_layout.specs.declared.taken.Rows.{Rows}
+use Rattle.mz_layout.specs.Tables.{term_row, thm_row, sort_count, term_count, thm_count, terms_at, thms_at, list_at, term_record, thm_record, words_at, param_count, TermRow as TermRecord}
 use Rattle.mz_layout.specs.Layout.{HoldsRecords, HoldsWords, header_checks, table_checks, row_checks, term_check, thm_check, layout_checks}
 use Rattle.mz_logic.specs.Words.{word_bound, word_sort, word_deps}
 use Rattle.mz_logic.specs.declared.binder.SortMods.{SortMods}
 use Rattle.mz_logic.specs.declared.word.Word.{Word}
-use Rattle.mz_layout.specs.Tables.{TermRow as TermRecord}
 use Rattle.mz_unification.specs.Tests.{has_bit}
 use Rattle.mz_unification.proofs.Offered.{bit-set, bit-not-set}
 use Rattle.mz_soundness.specs.Bodies.{body_run, body_checks}
 use Rattle.mz_soundness.specs.Bodies as bodies
 use Rattle.mz_soundness.specs.Lists.{definition_of, assertion_of}
-use Rattle.mz_soundness.specs.FileRows.{Taken, term_of_file, thm_of_file, rows_taken, body_bytes}
-use Rattle.mz_binary.specs.Checking.{MayStand, IsEmptyBody, term_body_checks, sort_checks, term_checks, thm_checks, kind_checks, AllTaken, checks_of, place_checks}
+use Rattle.mz_soundness.specs.FileRows.{Taken, term_of_file, thm_of_file, rows_taken}
+use Rattle.mz_binary.specs.Checking.{counts, term_body_checks, term_checks, thm_checks, part_checks, kind_checks, checks_of, place_checks}
 use Rattle.mz_soundness.specs.RowWords.{bound_count, IsParamWord, IsParamAt, IsResultWord, param_check, param_checks, word_checks}
-use Rattle.mz_binary.specs.FileRun.{Passing, test, test_each, holds_records, test_header, test_tables, test_rows, test_layout, may_be, is_param_word, is_param_at, test_params, is_result_word, test_words, Found, list_ends, stands_alone, has_body, is_empty_body, find_sort, find_term_body, find_term, find_thm, find_kind, all_taken, find_of, may_stand, find_at, Onward, onward, if_runs, run_found, run_place}
+use Rattle.mz_binary.specs.FileRun.{Passing, with_sort, with_term, test, test_each, holds_records, test_header, test_tables, test_rows, test_layout, may_be, is_param_word, is_param_at, test_params, is_result_word, test_words, Found, list_ends, stands_alone, has_body, is_empty_body, find_empty, find_term_body, find_term_parts, find_thm_parts, find_parts, suits_row, test_row, find_kind, all_taken, find_of, find_at, Onward, onward, if_runs, run_found, run_place}
 use Rattle.mz_binary.specs.declared.standard.Standard.{Standard}
 use Rattle.mz_binary.specs.Standards.{profile_of}
 
 -- ---- tests, one after another
 
-judges-test : (b : Bool) (P : Type 0) (r : ℕ × K) → IsDecidedBy b P → Judges (test b r) (demand r P)
+pub judges-test : (b : Bool) (P : Type 0) (r : ℕ × K) → IsDecidedBy b P → Judges (test b r) (demand r P)
 judges-test true P r d = (d.0 refl, tt)
 judges-test false P r d = inl ((λ p. let bad : false ≡ true = d.1 p in cc), refl)
 
@@ -156,6 +158,32 @@ result-decides ss row =
 pub words-judged : (ss : List SortMods) (row : TermRecord) → Judges (test_words ss row) (word_checks ss row)
 words-judged ss row = judges-then _ _ (param_checks ss row.words_at row.words.params) _ (params-judged ss row.words_at row.words.params) λ _. judges-test _ _ _ (result-decides ss row)
 
+-- ---- heads
+
+pub empty-decides : (bytes : List ℕ) → IsDecidedBy (is_empty_body bytes) (IsEmptyBody bytes)
+empty-decides bytes = Decides-or _ _ (bytes_eq-Decides bytes []) (bytes_eq-Decides bytes (0 ∷ []))
+
+module _ (file : List ℕ) (rows : Rows) where
+  suits-judged : (at : ℕ) (code : StatementCode) → Judges (test (suits_row file rows code) (at, rules.StatementKind)) (suits_checks file rows at code)
+  suits-judged at codes.LocalDefinition = judges-test _ _ _ ((λ h. h), λ h. h)
+  suits-judged at codes.Term = (tt, tt)
+  suits-judged at codes.Sort = tt
+  suits-judged at codes.Axiom = tt
+  suits-judged at codes.Theorem = tt
+  suits-judged at codes.LocalTheorem = tt
+
+  pub row-judged : (at : ℕ) (code : StatementCode) → Judges (test_row file rows at code) (heads.row_checks file rows at code)
+  row-judged at code =
+      judges-then _ _ (demand (at, rules.NoRow) (next_row rows code < row_count file code)) (suits_checks file rows at code)
+      (judges-test _ _ _ (Decides-ltb (next_row rows code) (row_count file code))) λ _. suits-judged at code
+
+  pub taken-decides : IsDecidedBy (all_taken file rows) (AllTaken file rows)
+  taken-decides =
+      let all = Decides-and _ _ (Decides-eqb rows.sorts (sort_count file)) (Decides-and _ _ (Decides-eqb rows.terms (term_count file)) (Decides-eqb rows.thms (thm_count file))) in (
+        (λ h. let (sorts, (terms, thms)) = all.0 h in record { sorts_taken = sorts; terms_taken = terms; thms_taken = thms }),
+        (λ r. all.1 (r.sorts_taken, (r.terms_taken, r.thms_taken))),
+      )
+
 -- ---- what stands at a place
 
 -- what is found answers the checks, but for a body that is to run: this decides what is left
@@ -185,56 +213,41 @@ module _ (standard : Standard) (file : List ℕ) (taken : Taken) where
   test-end true P r d = (d.0 refl, tt)
   test-end false P r d = inl ((λ p. let bad : false ≡ true = d.1 p in cc), refl)
 
-  pub empty-decides : (bytes : List ℕ) → IsDecidedBy (is_empty_body bytes) (IsEmptyBody bytes)
-  empty-decides bytes = Decides-or _ _ (bytes_eq-Decides bytes []) (bytes_eq-Decides bytes (0 ∷ []))
-
-  sort-found : (at body next : ℕ) → JudgesFound standard file taken (find_sort file taken at body next) (sort_checks file (length taken.sorts) at body next)
-  sort-found at body next =
-      found-then _ _ (demand (at, rules.NoRow) (length taken.sorts < sort_count file)) _ (judges-test _ _ _ (Decides-ltb (length taken.sorts) (sort_count file))) λ _.
-      test-alone _ _ _ _ _ (empty-decides (body_bytes file body next))
+  empty-found : (after : Taken) (at body next : ℕ) → JudgesFound standard file taken (find_empty file after at body next) (empty_checks file at body next)
+  empty-found after at body next = test-alone _ _ _ _ _ (empty-decides (body_bytes file body next))
 
   term-body-found : (at body next : ℕ) (o : Option (List ℕ)) → JudgesFound standard file taken (find_term_body file taken at body next o) (term_body_checks standard file taken at body next o)
-  term-body-found at body next None = test-alone _ _ _ _ _ (empty-decides (body_bytes file body next))
+  term-body-found at body next None = empty-found (with_term taken) at body next
   term-body-found at body next (Some stream) = decides-whole (body_checks (profile_of standard) (rows_taken file taken) (definition_of (term_of_file file taken.terms) stream) body (body_bytes file body next))
 
-  stand-decides : (l b : Bool) → IsDecidedBy (may_stand l b) (MayStand l b)
-  stand-decides true b = ((λ h. h), λ h. h)
-  stand-decides false b = ((λ h. tt), λ h. refl)
-
-  term-found : (at body next : ℕ) (is_local : Bool) → JudgesFound standard file taken (find_term file taken at body next is_local) (term_checks standard file taken at body next is_local)
-  term-found at body next is_local =
+  term-found : (at body next : ℕ) → JudgesFound standard file taken (find_term_parts file taken at body next) (term_checks standard file taken at body next)
+  term-found at body next =
       let row = term_row file taken.terms in
-      found-then _ _ (demand (at, rules.NoRow) (taken.terms < term_count file)) _ (judges-test _ _ _ (Decides-ltb taken.terms (term_count file))) λ _.
-      found-then _ _ (demand (at, rules.StatementKind) (MayStand is_local row.words.has_body)) _ (judges-test _ _ _ (stand-decides is_local row.words.has_body)) λ _.
-      found-then _ _ (word_checks taken.sorts row) _ (words-judged taken.sorts row) λ _.
-      term-body-found at body next (term_of_file file taken.terms).stream
+      found-then _ _ (word_checks taken.sorts row) _ (words-judged taken.sorts row) λ _. term-body-found at body next (term_of_file file taken.terms).stream
 
-  thm-found : (at body next : ℕ) (without_proof : Bool) → JudgesFound standard file taken (find_thm file taken at body next without_proof) (thm_checks standard file taken at body next without_proof)
-  thm-found at body next without_proof =
+  thm-found : (body next : ℕ) (without_proof : Bool) → JudgesFound standard file taken (find_thm_parts file taken body next without_proof) (thm_checks standard file taken body next without_proof)
+  thm-found body next without_proof =
       let row = thm_row file taken.thms in
-      found-then _ _ (demand (at, rules.NoRow) (taken.thms < thm_count file)) _ (judges-test _ _ _ (Decides-ltb taken.thms (thm_count file))) λ _.
       found-then _ _ (param_checks taken.sorts row.words_at row.params) _ (params-judged taken.sorts row.words_at row.params) λ _.
       decides-whole (body_checks (profile_of standard) (rows_taken file taken) (assertion_of without_proof (thm_of_file file taken.thms)) body (body_bytes file body next))
 
+  part-found : (at body next : ℕ) (code : StatementCode) → JudgesFound standard file taken (find_parts file taken at body next code) (part_checks standard file taken at body next code)
+  part-found at body next codes.Sort = empty-found (with_sort file taken) at body next
+  part-found at body next codes.Term = term-found at body next
+  part-found at body next codes.LocalDefinition = term-found at body next
+  part-found at body next codes.Axiom = thm-found body next true
+  part-found at body next codes.Theorem = thm-found body next false
+  part-found at body next codes.LocalTheorem = thm-found body next false
+
   kind-found : (at body next : ℕ) (kind : Option StatementCode) → JudgesFound standard file taken (find_kind file taken at body next kind) (kind_checks standard file taken at body next kind)
   kind-found at body next None = inl ((λ h. h), refl)
-  kind-found at body next (Some codes.Sort) = sort-found at body next
-  kind-found at body next (Some codes.Term) = term-found at body next false
-  kind-found at body next (Some codes.LocalDefinition) = term-found at body next true
-  kind-found at body next (Some codes.Axiom) = thm-found at body next true
-  kind-found at body next (Some codes.Theorem) = thm-found at body next false
-  kind-found at body next (Some codes.LocalTheorem) = thm-found at body next false
-
-  pub taken-decides : IsDecidedBy (all_taken file taken) (AllTaken file taken)
-  taken-decides =
-      let all = Decides-and _ _ (Decides-eqb (length taken.sorts) (sort_count file)) (Decides-and _ _ (Decides-eqb taken.terms (term_count file)) (Decides-eqb taken.thms (thm_count file))) in (
-        (λ h. let (sorts, (terms, thms)) = all.0 h in record { sorts_taken = sorts; terms_taken = terms; thms_taken = thms }),
-        (λ r. all.1 (r.sorts_taken, (r.terms_taken, r.thms_taken))),
-      )
+  kind-found at body next (Some code) =
+      found-then (test_row file (counts taken) at code) (find_parts file taken at body next code) (heads.row_checks file (counts taken) at code) (part_checks standard file taken at body next code)
+      (row-judged file (counts taken) at code) λ _. part-found at body next code
 
   of-found : (at : ℕ) (there : Result StmtAt StmtFault) → JudgesFound standard file taken (find_of file taken at there) (checks_of standard file taken at there)
   of-found at (Err f) = inl ((λ h. h), refl)
-  of-found at (Ok End) = test-end _ _ _ taken-decides
+  of-found at (Ok End) = test-end _ _ _ (taken-decides file (counts taken))
   of-found at (Ok (Head code body next)) = kind-found at body next (statement_code code)
 
   pub place-found : (at : ℕ) → JudgesFound standard file taken (find_at file taken at) (place_checks standard file taken at)

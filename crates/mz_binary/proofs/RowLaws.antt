@@ -18,17 +18,17 @@ use Rattle.mz_logic.specs.declared.binder.Binder.{Binder}
 use Rattle.mz_logic.specs.declared.binder.SortMods.{SortMods}
 use Rattle.mz_logic.specs.declared.word.Word.{Word}
 use Rattle.mz_layout.specs.Tables.{TermRow, tables_of, sort_count, term_row, thm_row}
-use Rattle.mz_layout.proofs.Offered.{length-sorts, slice_get-sorts}
+use Rattle.mz_layout.proofs.Offered.{code-is, length-sorts, slice_get-sorts}
 use Rattle.mz_unification.specs.Spells.{SpellsForm}
 use Rattle.mz_soundness.specs.Bodies.{body_checks}
 use Rattle.mz_soundness.specs.Lists.{assertion_of}
-use Rattle.mz_soundness.specs.FileRows.{taken_by, rows_taken, term_of_file, thm_of_file, body_bytes}
+use Rattle.mz_layout.specs.Heads.{body_bytes}
+use Rattle.mz_soundness.specs.FileRows.{taken_by, rows_taken, term_of_file, thm_of_file}
 use Rattle.mz_soundness.specs.RowWords.{IsResultWord, param_check, param_checks, word_checks, AreParamWords}
 use Rattle.mz_binary.specs.Spelling.{IsKindOf, SpellsRow}
 use Rattle.mz_binary.specs.Checking.{term_body_checks, term_checks, thm_checks, kind_checks, checks_of}
 use Rattle.mz_binary.specs.Chains.{IsGoodStatement}
 use Rattle.mz_binary.specs.Laws.{is_defined, HasRow, GoodStatementsHaveRows}
-use Rattle.mz_binary.proofs.Heads.{code-is}
 use Rattle.mz_binary.specs.declared.standard.Standard.{Standard}
 use Rattle.mz_binary.specs.Standards.{profile_of}
 
@@ -80,20 +80,20 @@ HasRightRow file env (assertion_decl a) =
     AllHold (param_checks (sorts env) (thm_row file (length (assertions env))).words_at (thm_row file (length (assertions env))).params)
 
 module _ (standard : Standard) (file : List ℕ) (env : List Declaration) (at body next : ℕ) where
-  term-right : (l : Bool) → AllHold (term_checks standard file (taken_by env) at body next l) → AllHold (word_checks (sorts env) (term_row file (length (terms env))))
-  term-right l (_, (_, all)) =
+  term-right : AllHold (term_checks standard file (taken_by env) at body next) → AllHold (word_checks (sorts env) (term_row file (length (terms env))))
+  term-right all =
       all_hold-first (word_checks (sorts env) (term_row file (length (terms env)))) (term_body_checks standard file (taken_by env) at body next (term_of_file file (length (terms env))).stream) all
 
-  thm-right : (w : Bool) → AllHold (thm_checks standard file (taken_by env) at body next w) → AllHold (param_checks (sorts env) (thm_row file (length (assertions env))).words_at (thm_row file (length (assertions env))).params)
-  thm-right w (_, all) =
+  thm-right : (w : Bool) → AllHold (thm_checks standard file (taken_by env) body next w) → AllHold (param_checks (sorts env) (thm_row file (length (assertions env))).words_at (thm_row file (length (assertions env))).params)
+  thm-right w all =
       let row = thm_row file (length (assertions env)) in
       let run : Checks (ℕ × K) = body_checks (profile_of standard) (rows_taken file (taken_by env)) (assertion_of w (thm_of_file file (length (assertions env)))) body (body_bytes file body next) in
       all_hold-first (param_checks (sorts env) row.words_at row.params) run all
 
   by-kind : (k : StatementCode) (d : Declaration) → IsKindOf (statement_byte k) d → AllHold (kind_checks standard file (taken_by env) at body next (Some k)) → HasRightRow file env d
   by-kind k (sort_decl m) kind all = tt
-  by-kind codes.Term (term_decl d) kind all = term-right false all
-  by-kind codes.LocalDefinition (term_decl d) kind all = term-right true all
+  by-kind codes.Term (term_decl d) kind all = term-right all.1.1
+  by-kind codes.LocalDefinition (term_decl d) kind all = term-right all.1.1
   by-kind codes.Axiom (term_decl d) (inl e) all = absurd cc
   by-kind codes.Axiom (term_decl d) (inr e) all = absurd cc
   by-kind codes.Sort (term_decl d) (inl e) all = absurd cc
@@ -102,9 +102,9 @@ module _ (standard : Standard) (file : List ℕ) (env : List Declaration) (at bo
   by-kind codes.Theorem (term_decl d) (inr e) all = absurd cc
   by-kind codes.LocalTheorem (term_decl d) (inl e) all = absurd cc
   by-kind codes.LocalTheorem (term_decl d) (inr e) all = absurd cc
-  by-kind codes.Axiom (assertion_decl a) kind all = thm-right true all
-  by-kind codes.Theorem (assertion_decl a) kind all = thm-right false all
-  by-kind codes.LocalTheorem (assertion_decl a) kind all = thm-right false all
+  by-kind codes.Axiom (assertion_decl a) kind all = thm-right true all.1
+  by-kind codes.Theorem (assertion_decl a) kind all = thm-right false all.1
+  by-kind codes.LocalTheorem (assertion_decl a) kind all = thm-right false all.1
   by-kind codes.Sort (assertion_decl a) kind all = absurd (no-assertion 0x04 a.is_axiom (inl refl) kind)
   by-kind codes.Term (assertion_decl a) kind all = absurd (no-assertion 0x05 a.is_axiom (inr (inl refl)) kind)
   by-kind codes.LocalDefinition (assertion_decl a) kind all = absurd (no-assertion 0x0D a.is_axiom (inr (inr refl)) kind)

@@ -16,6 +16,8 @@ use Rattle.mz_logic.specs.Words.{word_bound, word_sort, word_deps}
 use Rattle.mz_logic.specs.declared.binder.SortMods.{SortMods}
 use Rattle.mz_logic.specs.declared.word.Word.{Word}
 use Rattle.mz_layout.specs.Numbers.{byte_at}
+use Rattle.mz_layout.specs.Heads.{body_bytes, next_row, row_count, rule_of}
+use Rattle.mz_layout.specs.declared.taken.Rows.{Rows}
 use Rattle.mz_layout.specs.Tables.{TermRow as TermRecord, sort_count, term_count, thm_count, terms_at, thms_at, list_at, term_record, thm_record, param_count, words_at, mods_of, term_row, thm_row}
 use Rattle.mz_unification.specs.Steps.{◌>>=◌, ◌>>◌}
 use Rattle.mz_unification.specs.Tests.{has_bit}
@@ -23,8 +25,8 @@ use Rattle.mz_soundness.specs.Tables.{Heading}
 use Rattle.mz_soundness.specs.Bodies.{body_run, body_steps}
 use Rattle.mz_soundness.specs.Lists.{definition_of, assertion_of}
 use Rattle.mz_soundness.specs.RowWords.{bound_count}
-use Rattle.mz_soundness.specs.FileRows.{Taken, nothing_taken, term_of_file, thm_of_file, rows_taken, body_bytes}
-use Rattle.mz_binary.specs.Checking.{rule_of}
+use Rattle.mz_soundness.specs.FileRows.{Taken, nothing_taken, term_of_file, thm_of_file, rows_taken}
+use Rattle.mz_binary.specs.Checking.{counts}
 use Rattle.mz_binary.specs.declared.standard.Standard.{Standard}
 use Rattle.mz_binary.specs.Standards.{profile_of}
 
@@ -131,51 +133,58 @@ after_kind file taken codes.Axiom = with_thm taken
 after_kind file taken codes.Theorem = with_thm taken
 after_kind file taken codes.LocalTheorem = with_thm taken
 
-abbrev pub find_sort : List ℕ → Taken → ℕ → ℕ → ℕ → Result Found (ℕ × K)
-find_sort file taken at body next = do
-  test (nat_lt (length taken.sorts) (sort_count file)) (at, rules.NoRow)
+abbrev pub find_empty : List ℕ → Taken → ℕ → ℕ → ℕ → Result Found (ℕ × K)
+find_empty file after at body next = do
   test (is_empty_body (body_bytes file body next)) (at, rules.StatementLength)
-  Ok (stands_alone (with_sort file taken) next)
+  Ok (stands_alone after next)
 
 abbrev pub find_term_body : List ℕ → Taken → ℕ → ℕ → ℕ → Option (List ℕ) → Result Found (ℕ × K)
-find_term_body file taken at body next None = do
-  test (is_empty_body (body_bytes file body next)) (at, rules.StatementLength)
-  Ok (stands_alone (with_term taken) next)
+find_term_body file taken at body next None = find_empty file (with_term taken) at body next
 find_term_body file taken at body next (Some stream) =
     Ok (has_body (with_term taken) next (definition_of (term_of_file file taken.terms) stream) body (body_bytes file body next))
 
-abbrev pub may_stand : (is_local defined : Bool) → Bool
-may_stand is_local defined = not is_local || defined
-
-abbrev pub find_term : List ℕ → Taken → ℕ → ℕ → ℕ → Bool → Result Found (ℕ × K)
-find_term file taken at body next is_local = do
-  test (nat_lt taken.terms (term_count file)) (at, rules.NoRow)
-  test (may_stand is_local (term_row file taken.terms).words.has_body) (at, rules.StatementKind)
+abbrev pub find_term_parts : List ℕ → Taken → ℕ → ℕ → ℕ → Result Found (ℕ × K)
+find_term_parts file taken at body next = do
   test_words taken.sorts (term_row file taken.terms)
   find_term_body file taken at body next (term_of_file file taken.terms).stream
 
-abbrev pub find_thm : List ℕ → Taken → ℕ → ℕ → ℕ → Bool → Result Found (ℕ × K)
-find_thm file taken at body next without_proof = do
-  test (nat_lt taken.thms (thm_count file)) (at, rules.NoRow)
+abbrev pub find_thm_parts : List ℕ → Taken → ℕ → ℕ → Bool → Result Found (ℕ × K)
+find_thm_parts file taken body next without_proof = do
   test_params taken.sorts (thm_row file taken.thms).words_at (thm_row file taken.thms).params
   Ok (has_body (with_thm taken) next (assertion_of without_proof (thm_of_file file taken.thms)) body (body_bytes file body next))
 
+-- what is found where the statement takes the next row of its kind
+abbrev pub find_parts : List ℕ → Taken → ℕ → ℕ → ℕ → StatementCode → Result Found (ℕ × K)
+find_parts file taken at body next codes.Sort = find_empty file (with_sort file taken) at body next
+find_parts file taken at body next codes.Term = find_term_parts file taken at body next
+find_parts file taken at body next codes.LocalDefinition = find_term_parts file taken at body next
+find_parts file taken at body next codes.Axiom = find_thm_parts file taken body next true
+find_parts file taken at body next codes.Theorem = find_thm_parts file taken body next false
+find_parts file taken at body next codes.LocalTheorem = find_thm_parts file taken body next false
+
+-- the row is there, and suits the statement
+abbrev pub suits_row : List ℕ → Rows → StatementCode → Bool
+suits_row file rows codes.LocalDefinition = (term_row file rows.terms).words.has_body
+suits_row file rows k = true
+
+abbrev pub test_row : List ℕ → Rows → ℕ → StatementCode → Passing
+test_row file rows at code = do
+  test (nat_lt (next_row rows code) (row_count file code)) (at, rules.NoRow)
+  test (suits_row file rows code) (at, rules.StatementKind)
+
 abbrev pub find_kind : List ℕ → Taken → ℕ → ℕ → ℕ → Option StatementCode → Result Found (ℕ × K)
 find_kind file taken at body next None = Err (at, rules.StatementKind)
-find_kind file taken at body next (Some codes.Sort) = find_sort file taken at body next
-find_kind file taken at body next (Some codes.Term) = find_term file taken at body next false
-find_kind file taken at body next (Some codes.LocalDefinition) = find_term file taken at body next true
-find_kind file taken at body next (Some codes.Axiom) = find_thm file taken at body next true
-find_kind file taken at body next (Some codes.Theorem) = find_thm file taken at body next false
-find_kind file taken at body next (Some codes.LocalTheorem) = find_thm file taken at body next false
+find_kind file taken at body next (Some code) = do
+  test_row file (counts taken) at code
+  find_parts file taken at body next code
 
-abbrev pub all_taken : List ℕ → Taken → Bool
-all_taken file taken = length taken.sorts == sort_count file && (taken.terms == term_count file && taken.thms == thm_count file)
+abbrev pub all_taken : List ℕ → Rows → Bool
+all_taken file rows = rows.sorts == sort_count file && (rows.terms == term_count file && rows.thms == thm_count file)
 
 abbrev pub find_of : List ℕ → Taken → ℕ → Result StmtAt StmtFault → Result Found (ℕ × K)
 find_of file taken at (Err f) = Err (at, rule_of f)
 find_of file taken at (Ok End) = do
-  test (all_taken file taken) (at, rules.RowsLeft)
+  test (all_taken file (counts taken)) (at, rules.RowsLeft)
   Ok list_ends
 find_of file taken at (Ok (Head code body next)) = find_kind file taken at body next (statement_code code)
 

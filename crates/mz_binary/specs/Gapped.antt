@@ -13,7 +13,7 @@ use Rattle.mz_logic.specs.Declaration.{Declaration, Assertion, sort_decl, term_d
 use Rattle.mz_logic.specs.LegalLists.{Statement, declarations, IsProvedBy}
 use Rattle.mz_layout.specs.Tables.{list_at}
 use Rattle.mz_machine.specs.BodyAnswers.{HasGap}
-use Rattle.mz_soundness.specs.FileRows.{body_bytes}
+use Rattle.mz_layout.specs.Heads.{body_bytes}
 use Rattle.mz_soundness.specs.Gapped.{free_of}
 use Rattle.mz_soundness.specs.Sound.{CitesWithin}
 

@@ -8,7 +8,6 @@ pub mod FileRun
 pub mod WholeLaws
 pub mod Files
 pub mod WholeExamples
-pub mod RowParams
 pub mod Progress
 pub mod Judging
 pub mod RefusalLine

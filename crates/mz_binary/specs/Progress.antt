@@ -3,19 +3,18 @@ use Rattle.std.specs.Prelude.{◌≡◌, ◌≤◌, ◌⊎◌, ℕ, ◌+◌, ◌
 use Rattle.mz_cmd.specs.declared.code.StatementCode.{StatementCode}
 use Rattle.mz_cmd.specs.declared.code.StatementCode.TheVariants as codes
 use Rattle.mz_cmd.specs.declared.rule.K.{K}
-use Rattle.mz_cmd.specs.declared.statement.StmtAt.TheVariants as stands
 use Rattle.mz_cmd.specs.Codes.{statement_byte}
-use Rattle.mz_cmd.specs.StatementList.{statement_at}
 use Rattle.mz_logic.specs.Declaration.{Declaration, sort_decl, term_decl, assertion_decl, sorts, terms, assertions}
 use Rattle.mz_logic.specs.LegalLists.{Statement}
 use Rattle.mz_layout.specs.Tables.{list_at, sort_count, term_count, thm_count}
 use Rattle.mz_layout.specs.Layout.{IsBinary}
-use Rattle.mz_soundness.specs.FileRows.{body_bytes}
-use Rattle.mz_machine.specs.Before.{taken_before, heading_of}
+use Rattle.mz_layout.specs.Heads.{IsHeadAt, body_bytes, next_row}
+use Rattle.mz_layout.specs.declared.head.Head.{Head}
+use Rattle.mz_layout.specs.declared.taken.Rows.{Rows}
+use Rattle.mz_earlier.specs.OwnRow.{heading_of}
+use Rattle.mz_earlier.specs.Before.{taken_before}
 use Rattle.mz_binary.specs.FileRun.{Found, list_ends, stands_alone, has_body, after_kind, find_at, found_steps, list_steps}
-use Rattle.mz_machine.specs.declared.earlier.Rows.{Rows}
 use Rattle.mz_binary.specs.declared.statement.Statement.{Statement as Told}
-use Rattle.mz_binary.specs.declared.place.Head.{Head}
 use Rattle.mz_binary.specs.declared.place.Found.{Found as Seen}
 use Rattle.mz_binary.specs.declared.place.Found.TheVariants as seen
 use Rattle.mz_machine.specs.BodyAnswers.{HasGap}
@@ -32,23 +31,11 @@ pub record CountsRows (rows : Rows) (env : List Declaration) : Type 0 where
 
 -- ---- what is found at a place
 
--- the code of the kind without the mark, the next row of the kind, and the rows with one more of it
+-- the code of the kind without the mark
 abbrev pub kind_byte : StatementCode → ℕ
 kind_byte codes.LocalDefinition = 0x05
 kind_byte codes.LocalTheorem = 0x06
 kind_byte k = statement_byte k
-
-abbrev pub next_row : Rows → StatementCode → ℕ
-next_row rows codes.Sort = rows.sorts
-next_row rows codes.Term = rows.terms
-next_row rows codes.LocalDefinition = rows.terms
-next_row rows k = rows.thms
-
-abbrev pub rows_past : Rows → StatementCode → Rows
-rows_past rows codes.Sort = record rows { sorts = rows.sorts + 1 }
-rows_past rows codes.Term = record rows { terms = rows.terms + 1 }
-rows_past rows codes.LocalDefinition = record rows { terms = rows.terms + 1 }
-rows_past rows k = record rows { thms = rows.thms + 1 }
 
 abbrev pub is_local_kind : StatementCode → Bool
 is_local_kind codes.LocalDefinition = true
@@ -75,10 +62,6 @@ IsTermKind k = (k ≡ codes.Term) ⊎ (k ≡ codes.LocalDefinition)
 abbrev pub IsAssertionKind : StatementCode → Type 0
 IsAssertionKind k = (k ≡ codes.Axiom) ⊎ ((k ≡ codes.Theorem) ⊎ (k ≡ codes.LocalTheorem))
 
--- the statement's command stands there
-abbrev pub IsHead : List ℕ → Head → Type 0
-IsHead file head = statement_at file head.at ≡ Ok (stands.Head (statement_byte head.code) head.body head.next)
-
 -- what was seen is found after so many rows
 abbrev pub found_of : List ℕ → Rows → Seen → Found
 found_of file rows seen.End = list_ends
@@ -98,8 +81,8 @@ IsOf head (seen.WithBody other) = other ≡ head
 -- and stands at the place
 abbrev pub StandsAt : List ℕ → ℕ → Seen → Type 0
 StandsAt file at seen.End = IsListEnd file at
-StandsAt file at (seen.Alone head) = IsHead file head × (head.at ≡ at)
-StandsAt file at (seen.WithBody head) = IsHead file head × (head.at ≡ at)
+StandsAt file at (seen.Alone head) = IsHeadAt file at head
+StandsAt file at (seen.WithBody head) = IsHeadAt file at head
 
 -- ---- how far the checker has come
 

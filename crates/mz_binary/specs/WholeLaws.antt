@@ -8,7 +8,8 @@ use Rattle.mz_logic.specs.LegalLists.{Statement, IsProvedBy, LegalBy, allowed_wi
 use Rattle.mz_logic.specs.Closed.{TheoremsClosed}
 use Rattle.mz_layout.specs.Tables.{list_at}
 use Rattle.mz_soundness.specs.Sound.{cites_as}
-use Rattle.mz_soundness.specs.FileRows.{Taken, body_bytes}
+use Rattle.mz_layout.specs.Heads.{body_bytes}
+use Rattle.mz_soundness.specs.FileRows.{Taken}
 use Rattle.mz_binary.specs.Chains.{Statements, IsGoodStatement, GoodTo}
 use Rattle.mz_binary.specs.Good.{Good, BinaryFault}
 use Rattle.mz_binary.specs.Gapped.{AreFreeUnlessGapped}

@@ -1,9 +1,10 @@
 // A body, run as its binary is held to.
 ghost use Rattle.std.specs.Prelude.{◌≡◌, ◌≤◌, ◌+◌, ◌-◌, ◌*◌, length};
-ghost use Rattle.mz_machine.specs.Before.{MayRun, heading_of, tables_before};
+ghost use Rattle.mz_earlier.specs.OwnRow.{MayRun, heading_of};
+ghost use Rattle.mz_earlier.specs.Before.{tables_before};
 ghost use Rattle.mz_machine.specs.BodyAnswers.{UnlessMem};
 ghost use Rattle.mz_soundness.specs.Bodies.{body_run, body_steps};
-ghost use Rattle.mz_soundness.specs.FileRows.{body_bytes};
+ghost use Rattle.mz_layout.specs.Heads.{body_bytes};
 ghost use Rattle.mz_binary.specs.Judging.{IsBodyRun};
 ghost use Rattle.mz_binary.specs.Standards.{profile_of};
 

@@ -1,22 +1,22 @@
 // The list of statements, one after another.
-ghost use Rattle.std.specs.Prelude.{◌≡◌, ◌≤◌, ◌<◌, ◌+◌, ◌-◌, ◌*◌, ◌^◌, ◌↔◌, ℕ, List, [], length, Ok, Err, true, OnOk, OnErr};
+ghost use Rattle.std.specs.Prelude.{◌≡◌, ◌≤◌, ◌+◌, ◌-◌, ◌*◌, ◌↔◌, ℕ, List, [], length, Ok, Err, true, OnOk, OnErr};
 ghost use Rattle.mz_logic.specs.Declaration.{Declaration};
 ghost use Rattle.mz_logic.specs.LegalLists.{Statement as Declared};
-ghost use Rattle.mz_machine.specs.Before.{taken_before};
+ghost use Rattle.mz_earlier.specs.Before.{taken_before};
 ghost use Rattle.mz_machine.specs.BodyAnswers.{HasGap};
-ghost use Rattle.mz_soundness.specs.FileRows.{body_bytes};
+ghost use Rattle.mz_layout.specs.Heads.{IsHead, body_bytes};
 ghost use Rattle.mz_binary.specs.FileRun.{after_kind, file_steps, find_at, onward, run_place, RunsBody};
-ghost use Rattle.mz_binary.specs.Progress.{HasPassed, IsHead, RestsOnGap, found_of, is_assertion_kind, is_theorem_kind, kind_byte, marks_past, next_row, next_steps, rows_past, steps_left, most_left};
+ghost use Rattle.mz_binary.specs.Progress.{HasPassed, RestsOnGap, found_of, is_assertion_kind, is_theorem_kind, kind_byte, marks_past, next_steps, steps_left, most_left};
 ghost use Rattle.mz_binary.specs.Judging.{IfTold, IsLeft, IsMost, IsNext};
 ghost use Rattle.mz_binary.specs.Standards.{lets_gaps};
 
 use crate::body::check_body_by;
 use crate::gaps::cites_marked;
-use crate::place::{Fault, Found, Head, found_at, is_local};
+use crate::place::{Found, found_at, is_local};
 use crate::standard::Standard;
 use crate::statement::{Rows, Statement};
 use mz_cmd::{Mem, Refusal, StatementCode, Steps};
-use mz_layout::Mmb;
+use mz_layout::{Fault, Head, Mmb};
 use mz_machine::BodyChecked;
 use std::alloc::Global;
 use std::marker::Model;
@@ -110,7 +110,7 @@ impl<'a> Checker<'a> {
         ensures left { IsLeft self.entry result }
     {
         let kind = kind_of(head.code);
-        let row = row_of(self.rows, head.code);
+        let row = self.rows.next(head.code);
         let body = (head.body, head.next);
         match check_body_by(
             self.alloc,
@@ -160,7 +160,7 @@ impl<'a> Checker<'a> {
             number: self.passed + 1,
             at: self.at,
             kind: kind_of(head.code),
-            row: row_of(self.rows, head.code),
+            row: self.rows.next(head.code),
             local: is_local(head.code),
             gap,
         };
@@ -179,7 +179,7 @@ impl<'a> Checker<'a> {
             alloc,
             mmb,
             standard,
-            rows: after_rows(rows, head.code),
+            rows: rows.after(head.code),
             passed: told.number,
             at: head.next,
             gapped,
@@ -252,41 +252,5 @@ fn kind_of(code: StatementCode) -> u8
         StatementCode::Sort => 0x04,
         StatementCode::Term | StatementCode::LocalDefinition => 0x05,
         StatementCode::Theorem | StatementCode::LocalTheorem => 0x06,
-    }
-}
-
-/// The next row of the kind.
-fn row_of(rows: Rows, code: StatementCode) -> u32
-    ensures { result ≡ next_row rows code }
-{
-    match code {
-        StatementCode::Sort => rows.sorts,
-        StatementCode::Term | StatementCode::LocalDefinition => rows.terms,
-        StatementCode::Axiom | StatementCode::Theorem | StatementCode::LocalTheorem => rows.thms,
-    }
-}
-
-/// The rows that are taken with one more of the kind.
-fn after_rows(rows: Rows, code: StatementCode) -> Rows
-    requires { next_row rows code < 2 ^ 32 - 1 }
-    ensures { result ≡ rows_past rows code }
-{
-    let Rows { sorts, terms, thms } = rows;
-    match code {
-        StatementCode::Sort => Rows {
-            sorts: sorts + 1,
-            terms,
-            thms,
-        },
-        StatementCode::Term | StatementCode::LocalDefinition => Rows {
-            sorts,
-            terms: terms + 1,
-            thms,
-        },
-        StatementCode::Axiom | StatementCode::Theorem | StatementCode::LocalTheorem => Rows {
-            sorts,
-            terms,
-            thms: thms + 1,
-        },
     }
 }

@@ -1,6 +1,6 @@
 // What is told of a statement.
 
-pub use mz_machine::Rows;
+pub use mz_layout::Rows;
 
 /// A good statement.
 #[derive(Clone, Copy, Debug, PartialEq, Eq)]

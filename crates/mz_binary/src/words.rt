@@ -1,25 +1,15 @@
 // The words of rows.
-ghost use Rattle.std.specs.Prelude.{◌≡◌, ◌≤◌, ◌<◌, ◌^◌, ◌↔◌, ◌+◌, ◌*◌, IsTrue, IfOk, Some, length, slice_get};
+ghost use Rattle.std.specs.Prelude.{◌≡◌, ◌≤◌, ◌<◌, ◌^◌, ◌↔◌, IsTrue, IfOk, slice_get};
 ghost use Rattle.mz_checks.specs.Checks.{Judges};
 ghost use Rattle.mz_logic.specs.Modifiers.{MayBeBoundSort, MayBeResultSort};
 ghost use Rattle.mz_logic.specs.Words.{word_deps};
+ghost use Rattle.mz_layout.specs.Rows.{IsRow, params_of, words_at_of};
 ghost use Rattle.mz_layout.specs.Tables.{sort_count, term_count, term_row, thm_count, thm_row};
-ghost use Rattle.mz_binary.specs.RowParams.{RowExists, params_of, words_at_of};
 ghost use Rattle.mz_soundness.specs.RowWords.{IsParamWord, IsResultWord, bound_count, first_sorts, param_checks, word_checks};
 
-use crate::place::Fault;
 use mz_cmd::K;
-use mz_layout::Mmb;
+use mz_layout::{Fault, Mmb, Row};
 use mz_logic::{SortMods, Terms, Word};
-
-/// A row whose parameters have words.
-#[derive(Clone, Copy)]
-pub enum Row {
-    /// Of the table of terms.
-    Term(u32),
-    /// Of the table of axioms and theorems.
-    Thm(u32),
-}
 
 /// The words of a term's row in order, where the first `sorts` sorts are declared.
 pub fn check_term_words(mmb: &Mmb, sorts: u32, term: u32) -> Result<(), Fault>
@@ -48,56 +38,21 @@ pub fn check_thm_words(mmb: &Mmb, sorts: u32, thm: u32) -> Result<(), Fault>
 /// The words of the parameters in order, and how many of them are bound.
 fn check_params(mmb: &Mmb, sorts: u32, row: Row) -> Result<u32, Fault>
     requires sorts { sorts ≤ sort_count mmb.now }
-    requires row { RowExists mmb.now row }
+    requires row { IsRow mmb.now row }
     ensures judged { Judges result (param_checks (first_sorts mmb.now sorts) (words_at_of mmb.now row) (params_of mmb.now row)) }
     ensures bound { IfOk result (λ bound. (bound ≡ bound_count (params_of mmb.now row)) × (bound ≤ 55)) }
 {
     let mut bound = 0;
-    for i in 0..arity_of(mmb, row) {
-        let word = param_of(mmb, row, i);
+    for i in 0..row.arity(mmb) {
+        let word = row.param(mmb, i);
         if !is_param(mmb, sorts, bound, word) {
-            return Err((param_at(mmb, row, i), K::Binder));
+            return Err((row.param_at(mmb, i), K::Binder));
         }
         if word.bound() {
             bound += 1;
         }
     }
     Ok(bound)
-}
-
-// ---- the parameters of a row
-
-fn arity_of(mmb: &Mmb, row: Row) -> u32
-    requires { RowExists mmb.now row }
-    ensures { result ≡ length (params_of mmb.now row) }
-{
-    match row {
-        Row::Term(term) => mmb.arity(term),
-        Row::Thm(thm) => mmb.thm_arity(thm),
-    }
-}
-
-fn param_of(mmb: &Mmb, row: Row, i: u32) -> Word
-    requires row { RowExists mmb.now row }
-    requires place { i < length (params_of mmb.now row) }
-    ensures { slice_get (params_of mmb.now row) i ≡ Some result }
-{
-    match row {
-        Row::Term(term) => mmb.param(term, i),
-        Row::Thm(thm) => mmb.thm_param(thm, i),
-    }
-}
-
-/// The place of the word in the file, in bytes.
-fn param_at(mmb: &Mmb, row: Row, i: u32) -> u32
-    requires row { RowExists mmb.now row }
-    requires place { i < length (params_of mmb.now row) }
-    ensures { result ≡ words_at_of mmb.now row + 8 * i }
-{
-    match row {
-        Row::Term(term) => mmb.term_word_at(term, i),
-        Row::Thm(thm) => mmb.thm_param_at(thm, i),
-    }
 }
 
 // ---- one word

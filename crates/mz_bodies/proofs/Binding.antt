@@ -7,7 +7,7 @@ use Rattle.mz_logic.specs.Declaration.{Declaration}
 use Rattle.mz_store.specs.Sharing.{Sharing}
 use Rattle.mz_store.specs.declared.item.Id.{Id}
 use Rattle.mz_unification.specs.Profile.{proof}
-use Rattle.mz_mmu.specs.Proof.{Proof, by_let}
+use Rattle.mz_forms.specs.Proof.{Proof, by_let}
 use Rattle.mz_bodies.specs.Claims.{proved, IsSound}
 use Rattle.mz_bodies.specs.Costs.{cost}
 use Rattle.mz_bodies.specs.Scopes.{in_sight}

@@ -15,7 +15,7 @@ use Rattle.mz_store.specs.declared.item.Id.{Id}
 use Rattle.mz_unification.specs.Profile.{Item, expr, proof, obligation}
 use Rattle.mz_unification.specs.Spells.{trees_of as listed_back}
 use Rattle.mz_unification.proofs.Offered.{trees_of-listed}
-use Rattle.mz_mmu.specs.Proof.{Proof, by_conv, by_gap}
+use Rattle.mz_forms.specs.Proof.{Proof, by_conv, by_gap}
 use Rattle.mz_steps.specs.Works.{Work}
 use Rattle.mz_steps.specs.Steps.{stacked, above, Step, IsCited}
 use Rattle.mz_shared.specs.Instances.{Grows, InReach}

@@ -10,9 +10,9 @@ use Rattle.mz_logic.specs.declared.binder.Binder.{Binder}
 use Rattle.mz_store.specs.Sharing.{Sharing, AreIn, tree_of, trees_of, head_of, operands_of}
 use Rattle.mz_store.specs.declared.item.Id.{Id}
 use Rattle.mz_unification.specs.Profile.{Item, expr, proof}
-use Rattle.mz_mmu.specs.Proof.{Proof, Proofs, by_hyp, by_citation, no_proofs, more_proofs}
-use Rattle.mz_mmu.specs.ProofView.{proof_view, proofs_view}
-use Rattle.mz_mmu.specs.declared.proof.Proof.{Proof as Code}
+use Rattle.mz_forms.specs.Proof.{Proof, Proofs, by_hyp, by_citation, no_proofs, more_proofs}
+use Rattle.mz_forms.specs.ProofView.{proof_view, proofs_view}
+use Rattle.mz_forms.specs.declared.proof.Proof.{Proof as Code}
 use Rattle.mz_steps.specs.Steps.{stacked, above, Step, command_bytes}
 use Rattle.mz_shared.specs.Instances.{Grows}
 use Rattle.mz_shared.specs.Places.{place_of}

@@ -7,7 +7,7 @@ use Rattle.mz_logic.specs.Declaration.{Declaration}
 use Rattle.mz_store.specs.Sharing.{Sharing}
 use Rattle.mz_store.specs.declared.item.Id.{Id}
 use Rattle.mz_unification.specs.Profile.{Item, proof}
-use Rattle.mz_mmu.specs.Proof.{by_name}
+use Rattle.mz_forms.specs.Proof.{by_name}
 use Rattle.mz_steps.specs.Steps.{command_bytes}
 use Rattle.mz_bodies.specs.Claims.{proved}
 use Rattle.mz_bodies.specs.Costs.{cost}

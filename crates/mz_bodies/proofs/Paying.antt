@@ -23,8 +23,8 @@ use Rattle.mz_shared.specs.Instances.{Grows, InReach}
 use Rattle.mz_shared.specs.Variables.{IsShared}
 use Rattle.mz_bodies.specs.Sight.{parts}
 use Rattle.mz_bodies.specs.Costs.{body_tree, body_at, pay_cost}
-use Rattle.mz_mmu.specs.ConvView.{conversion, conversions}
-use Rattle.mz_mmu.specs.declared.conv.Conv.{Conv}
+use Rattle.mz_forms.specs.ConvView.{conversion, conversions}
+use Rattle.mz_forms.specs.declared.conv.Conv.{Conv}
 use Rattle.mz_bodies.specs.Claims.{Goes, AllGo}
 use Rattle.mz_bodies.specs.Owes.{Task, push, pay, pay_all, give, Owes, left}
 use Rattle.mz_bodies.specs.Uses.{conv_uses, convs_use, commands_use}

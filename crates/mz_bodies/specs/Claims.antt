@@ -7,7 +7,7 @@ use Rattle.mz_logic.specs.Variables.{Apart}
 use Rattle.mz_logic.specs.Conversions.{Conversion, Conversions, Between, AllBetween, GapsOnly, AllGapsOnly}
 use Rattle.mz_logic.specs.declared.binder.Binder.{Binder}
 use Rattle.mz_unification.specs.Sorted.{Sorted}
-use Rattle.mz_mmu.specs.Proof.{Proof, Proofs, by_hyp, by_name, by_citation, by_conv, by_let, by_gap, no_proofs, more_proofs}
+use Rattle.mz_forms.specs.Proof.{Proof, Proofs, by_hyp, by_name, by_citation, by_conv, by_let, by_gap, no_proofs, more_proofs}
 use Rattle.mz_shared.specs.Instances.{InReach}
 
 -- the i-th; past the end, where nothing looks, a term without operands

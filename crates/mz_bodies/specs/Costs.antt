@@ -3,7 +3,7 @@ use Rattle.std.specs.Prelude.{ℕ, ◌+◌, ◌*◌, List, [], ◌∷◌, ◌++�
 use Rattle.mz_logic.specs.Tree.{Tree, app, none, instance, followed_by, variables, size, trees_size}
 use Rattle.mz_logic.specs.Declaration.{Form, plain_form, abstract_form, defined, Declaration, terms}
 use Rattle.mz_logic.specs.Conversions.{Conversion, Conversions, refl_conv, sym_conv, cong_conv, unfold_conv, gap_conv, no_convs, more_convs}
-use Rattle.mz_mmu.specs.Proof.{Proof, Proofs, by_hyp, by_name, by_citation, by_conv, by_let, by_gap, no_proofs, more_proofs}
+use Rattle.mz_forms.specs.Proof.{Proof, Proofs, by_hyp, by_name, by_citation, by_conv, by_let, by_gap, no_proofs, more_proofs}
 use Rattle.mz_bodies.specs.Claims.{conclusion_of}
 
 abbrev pub body_tree : Form → Tree

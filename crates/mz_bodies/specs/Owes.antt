@@ -8,9 +8,9 @@ use Rattle.mz_logic.specs.declared.binder.Binder.{Binder}
 use Rattle.mz_store.specs.Sharing.{Sharing, IsIn, tree_of, head_of, operands_of}
 use Rattle.mz_unification.specs.Profile.{Item, expr, proof, obligation}
 use Rattle.mz_soundness.specs.ProofMachine.{sides}
-use Rattle.mz_mmu.specs.Proof.{Proof, Proofs}
-use Rattle.mz_mmu.specs.ProofView.{proof_view, proofs_view}
-use Rattle.mz_mmu.specs.ConvView.{conversion, conversions}
+use Rattle.mz_forms.specs.Proof.{Proof, Proofs}
+use Rattle.mz_forms.specs.ProofView.{proof_view, proofs_view}
+use Rattle.mz_forms.specs.ConvView.{conversion, conversions}
 use Rattle.mz_steps.specs.Works.{Work}
 use Rattle.mz_steps.specs.Steps.{stacked, above, Step}
 use Rattle.mz_steps.specs.SharedBodies.{built, IsPlain}

@@ -12,7 +12,7 @@ use Rattle.mz_unification.specs.Profile.{Item, plain}
 use Rattle.mz_unification.specs.Spells.{dummy_of}
 use Rattle.mz_soundness.specs.Bodies.{stands_in}
 use Rattle.mz_soundness.specs.Tables.{Kind}
-use Rattle.mz_mmu.specs.Proof.{Proof}
+use Rattle.mz_forms.specs.Proof.{Proof}
 use Rattle.mz_bodies.specs.Claims.{IsSound}
 use Rattle.mz_shared.specs.Variables.{IsShared}
 use Rattle.mz_bodies.specs.Uses.{Use, uses}

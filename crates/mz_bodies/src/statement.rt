@@ -5,7 +5,7 @@ ghost use Rattle.mz_logic.specs.Tree.{listed, size, trees_size};
 ghost use Rattle.mz_logic.specs.declared.binder.Binder.{Binder as BinderOf};
 ghost use Rattle.mz_soundness.specs.Premises.{bound_count};
 ghost use Rattle.mz_soundness.specs.Tables.{is_axiom, is_definition, is_theorem};
-ghost use Rattle.mz_mmu.specs.ProofView.{proof_view};
+ghost use Rattle.mz_forms.specs.ProofView.{proof_view};
 ghost use Rattle.mz_steps.specs.SharedBodies.{IsSharedBody};
 ghost use Rattle.mz_store.specs.Sharing.{AreIn, IsIn, tree_of, trees_of};
 ghost use Rattle.mz_bodies.specs.Claims.{IsSound, proved};
@@ -16,7 +16,7 @@ ghost use Rattle.mz_bodies.specs.Uses.{uses, IsBodyUsing};
 
 use crate::body::{Before, Body};
 use mz_cmd::Mem;
-use mz_mmu::Proof;
+use mz_forms::Proof;
 use mz_shared::Shared;
 use mz_store::Id;
 use std::alloc::Global;

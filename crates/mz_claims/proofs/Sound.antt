@@ -11,10 +11,10 @@ use Rattle.mz_logic.specs.Derivations.{Derivation, Derivations, hypothesis, cite
 use Rattle.mz_logic.specs.declared.binder.Binder.{Binder}
 use Rattle.mz_logic.proofs.Offered.{one_at, sort_of_instance, legal_env_is_right}
 use Rattle.mz_logic.specs.Sorts.{HasProvable}
-use Rattle.mz_mmu.specs.Gaps.{LeavesOnly, AllLeaveOnly}
-use Rattle.mz_mmu.specs.Proof.{Proof, Proofs, by_hyp, by_name, by_citation, by_conv, by_let, by_gap, no_proofs, more_proofs}
+use Rattle.mz_forms.specs.Gaps.{LeavesOnly, AllLeaveOnly}
+use Rattle.mz_forms.specs.Proof.{Proof, Proofs, by_hyp, by_name, by_citation, by_conv, by_let, by_gap, no_proofs, more_proofs}
+use Rattle.mz_typing.specs.Names.{ProofThere, ProofsThere}
 use Rattle.mz_type.specs.Meaning.{derivation_at, then_deriv, derivation, derivations, LetsDerive, AllLetsDerive}
-use Rattle.mz_type.specs.Names.{ProofThere, ProofsThere}
 use Rattle.mz_shared.specs.Instances.{InReach}
 use Rattle.mz_bodies.specs.Claims.{claim_at, conclusion_of, proved, all_proved, IsCitable, IsSound, AreSound}
 use Rattle.mz_shared.proofs.Offered.{reach_of_sort}

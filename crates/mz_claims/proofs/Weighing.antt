@@ -4,8 +4,8 @@ use Rattle.std.proofs.Common.{refl, ap, arith}
 use Rattle.mz_logic.specs.Tree.{Tree, instance, followed_by, variables, size}
 use Rattle.mz_logic.specs.Declaration.{Form, plain_form, abstract_form, defined, Declaration}
 use Rattle.mz_logic.specs.Conversions.{Conversion, Conversions, refl_conv, sym_conv, cong_conv, unfold_conv, gap_conv, no_convs, more_convs}
-use Rattle.mz_mmu.specs.Proof.{Proof, Proofs, by_hyp, by_name, by_citation, by_conv, by_let, by_gap, no_proofs, more_proofs}
-use Rattle.mz_type.specs.Sides.{term_at, body_tree}
+use Rattle.mz_forms.specs.Proof.{Proof, Proofs, by_hyp, by_name, by_citation, by_conv, by_let, by_gap, no_proofs, more_proofs}
+use Rattle.mz_typing.specs.Sides.{term_at, body_tree}
 use Rattle.mz_type.specs.Weight.{conv_weight, convs_weight, proof_weight, proofs_weight}
 use Rattle.mz_bodies.specs.Costs.{body_tree as body_of_form}
 use Rattle.mz_bodies.specs.Weights as body

@@ -5,10 +5,10 @@ use Rattle.mz_logic.specs.Declaration.{Assertion, Declaration, signatures, asser
 use Rattle.mz_logic.specs.Legality.{IsLegalEnv}
 use Rattle.mz_logic.specs.Derivations.{no_derivs, Uses, CitesOnly}
 use Rattle.mz_logic.specs.declared.binder.Binder.{Binder}
-use Rattle.mz_mmu.specs.Gaps.{LeavesOnly}
-use Rattle.mz_mmu.specs.Proof.{Proof}
+use Rattle.mz_forms.specs.Gaps.{LeavesOnly}
+use Rattle.mz_forms.specs.Proof.{Proof}
+use Rattle.mz_typing.specs.Names.{ProofThere}
 use Rattle.mz_type.specs.Meaning.{derivation, IsProofOf}
-use Rattle.mz_type.specs.Names.{ProofThere}
 use Rattle.mz_type.specs.Weight.{proof_weight as text_weight}
 use Rattle.mz_bodies.specs.Claims.{proved, IsSound}
 use Rattle.mz_bodies.specs.Uses.{Use, a_gap, assertion, uses}

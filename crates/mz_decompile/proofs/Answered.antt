@@ -3,7 +3,7 @@ use Rattle.std.proofs.Common.{◌≡◌, ◌∙◌, ◌<◌, ◌^◌, ◌++◌, 
 use Rattle.mz_logic.specs.Declaration.{Declaration}
 use Rattle.mz_logic.specs.LegalLists.{Statement as Marked}
 use Rattle.mz_layout.specs.Tables.{list_at}
-use Rattle.mz_mmu.specs.Proof.{Statement}
+use Rattle.mz_forms.specs.Proof.{Statement}
 use Rattle.mz_match.specs.Verdict.{Accepts}
 use Rattle.mz_tracing.specs.Laws.{BodiesMakeOne}
 use Rattle.mz_phrasing.specs.Naming.{Naming, vocabulary_by}

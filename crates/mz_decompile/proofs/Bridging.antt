@@ -21,19 +21,21 @@ use Rattle.mz_layout.specs.Tables.{list_at, term_count, thm_count, term_row, thm
 use Rattle.mz_layout.proofs.Offered.{slice_get-rows, length-sorts}
 use Rattle.mz_unification.specs.Profile.{strict}
 use Rattle.mz_soundness.specs.Bodies.{Runs}
-use Rattle.mz_soundness.specs.FileRows.{Taken, taken_by, rows_taken, body_bytes, term_of_file}
+use Rattle.mz_layout.specs.Heads.{body_bytes}
+use Rattle.mz_soundness.specs.FileRows.{Taken, taken_by, rows_taken, term_of_file}
 use Rattle.mz_soundness.specs.RowWords.{first_sorts, param_checks}
 use Rattle.mz_soundness.specs.Tables.{Declares}
 use Rattle.mz_soundness.proofs.Offered.{signature-at}
-use Rattle.mz_machine.specs.Before.{AreWithin, MayRun, HasRightParams, heading_of, taken_before}
-use Rattle.mz_machine.specs.declared.earlier.Rows.{Rows}
+use Rattle.mz_earlier.specs.Before.{AreWithin, HasRightParams, taken_before}
+use Rattle.mz_earlier.specs.OwnRow.{MayRun, heading_of}
+use Rattle.mz_layout.specs.declared.taken.Rows.{Rows}
 use Rattle.mz_binary.specs.Chains.{IsGoodStatement, GoodTo, IsListEnd}
 use Rattle.mz_binary.specs.Checking.{checks_of, kind_checks}
 use Rattle.mz_binary.specs.Spelling.{IsKindOf, SpellsRow, is_local_code}
 use Rattle.mz_binary.specs.Standards.{strict_standard}
 use Rattle.mz_binary.proofs.Offered.{chain-more, sorts-many, terms-many, assertions-many, were-right, entry-good, same-taken, head-at, well-chain, HasRightRow, right-row, HasSorts, chain-sorts}
 use Rattle.mz_match.proofs.Offered.{length-binders}
-use Rattle.mz_mmu.specs.Proof.{Proof, Statement}
+use Rattle.mz_forms.specs.Proof.{Proof, Statement}
 use Rattle.mz_wording.specs.Wording.{sort_name, term_name, sort_names, term_names}
 use Rattle.mz_tracing.specs.Laws.{BodiesMakeOne}
 use Rattle.mz_tracing.specs.Traces.{Made, under_lets}

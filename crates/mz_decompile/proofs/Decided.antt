@@ -3,7 +3,7 @@ use Rattle.std.proofs.Common.{◌≡◌, ◌⊎◌, ◌∙◌, ℕ, suc, inl, in
 use Rattle.mz_checks.specs.Checks.{AllHold, FailsFirst, AreDecided}
 use Rattle.mz_checks.proofs.Offered.{fails_first-unique, all_hold-excludes, all_hold-or_fails, are_decided-both, at_most-decided}
 use Rattle.mz_sexpr.specs.Node.{depth_limit}
-use Rattle.mz_mmu.specs.Proof.{Statement}
+use Rattle.mz_forms.specs.Proof.{Statement}
 use Rattle.mz_match.specs.declared.verdict.Counts.{Counts}
 use Rattle.mz_match.specs.declared.verdict.Verdict.{Verdict}
 use Rattle.mz_match.specs.Verdict.{Accepts, AcceptsWith, FirstRefusal, counts_of}

@@ -3,7 +3,7 @@ use Rattle.std.proofs.Common.{◌≡◌, ◌<◌, ◌≤◌, ◌+◌, ◌*◌, �
 use Rattle.std.specs.Prelude.{max}
 use Rattle.mz_checks.specs.Checks.{AllHold, FailsFirst, demand}
 use Rattle.mz_checks.proofs.Offered.{fails-before, fails-after, all_hold-both}
-use Rattle.mz_mmu.specs.Proof.{Statement}
+use Rattle.mz_forms.specs.Proof.{Statement}
 use Rattle.mz_type.specs.Weight.{weight_of}
 use Rattle.mz_phrasing.specs.Phrasing.{Vocabulary, text_of}
 use Rattle.mz_stating.specs.Measures.{capped}

@@ -11,8 +11,8 @@ use Rattle.mz_cmd.specs.Codes.{statement_code}
 use Rattle.mz_logic.specs.Declaration.{Declaration}
 use Rattle.mz_layout.specs.Tables.{list_at}
 use Rattle.mz_sexpr.specs.Node.{depth_limit}
-use Rattle.mz_machine.specs.declared.earlier.Rows.{Rows}
-use Rattle.mz_mmu.specs.Proof.{Statement}
+use Rattle.mz_layout.specs.declared.taken.Rows.{Rows}
+use Rattle.mz_forms.specs.Proof.{Statement}
 use Rattle.mz_type.specs.Weight.{statement_weight, weight_after, weight_of}
 use Rattle.mz_phrasing.specs.Phrases.{Phrase, depth, written}
 use Rattle.mz_phrasing.specs.Phrasing.{Vocabulary, statement, text_of}

@@ -7,8 +7,8 @@ use Rattle.mz_cmd.specs.Codes.{statement_code}
 use Rattle.mz_cmd.specs.StatementList.{statement_at}
 use Rattle.mz_logic.specs.Declaration.{Declaration}
 use Rattle.mz_layout.specs.Tables.{list_at}
-use Rattle.mz_machine.specs.declared.earlier.Rows.{Rows}
-use Rattle.mz_mmu.specs.Proof.{Statement}
+use Rattle.mz_layout.specs.declared.taken.Rows.{Rows}
+use Rattle.mz_forms.specs.Proof.{Statement}
 use Rattle.mz_phrasing.specs.Naming.{Naming}
 use Rattle.mz_telling.specs.Telling.{Stands}
 use Rattle.mz_telling.specs.declared.head.Head.{Head}

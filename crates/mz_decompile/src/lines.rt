@@ -1,7 +1,7 @@
 // The second pass: the text itself.
 ghost use Rattle.std.specs.Prelude.{◌≡◌, ◌++◌, IfOk, List, OnOk, codes};
 ghost use Rattle.mz_logic.specs.Declaration.{Declaration};
-ghost use Rattle.mz_mmu.specs.Proof.{Statement};
+ghost use Rattle.mz_forms.specs.Proof.{Statement};
 ghost use Rattle.mz_phrasing.specs.Naming.{vocabulary_by};
 ghost use Rattle.mz_phrasing.specs.Phrases.{written};
 ghost use Rattle.mz_phrasing.specs.Phrasing.{statement as the_statement, text_of};
@@ -10,8 +10,7 @@ ghost use Rattle.mz_decompile.specs.Standing.{AreAll, SomeAreAll};
 
 use crate::walk::{head_at, rows_with};
 use mz_cmd::Mem;
-use mz_layout::Mmb;
-use mz_machine::Rows;
+use mz_layout::{Mmb, Rows};
 use mz_naming::Names;
 use mz_stating::Phrases;
 use mz_telling::{Head, statement};

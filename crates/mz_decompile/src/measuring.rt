@@ -1,7 +1,7 @@
 // The first pass: how long and how heavy the text is, and whether a statement is too deep.
 ghost use Rattle.std.specs.Prelude.{◌≡◌, ◌+◌, ℕ, IfOk, List};
 ghost use Rattle.mz_logic.specs.Declaration.{Declaration};
-ghost use Rattle.mz_mmu.specs.Proof.{Statement};
+ghost use Rattle.mz_forms.specs.Proof.{Statement};
 ghost use Rattle.mz_phrasing.specs.Naming.{vocabulary_by};
 ghost use Rattle.mz_stating.specs.Measures.{capped};
 ghost use Rattle.mz_telling.specs.Telling.{SomeStands, Stands};
@@ -10,8 +10,7 @@ ghost use Rattle.mz_decompile.specs.Passes.{IsLine, IsMeasured};
 
 use crate::walk::{head_at, rows_with};
 use mz_cmd::Mem;
-use mz_layout::Mmb;
-use mz_machine::Rows;
+use mz_layout::{Mmb, Rows};
 use mz_naming::Names;
 use mz_stating::Phrases;
 use mz_telling::{Head, statement};

@@ -5,8 +5,7 @@ ghost use Rattle.mz_telling.specs.declared.head.Head.{Head as TheHead};
 ghost use Rattle.mz_decompile.specs.Standing.{IsHeadAt, counted};
 
 use mz_cmd::{StatementCode, StmtAt, stmt_at};
-use mz_layout::Mmb;
-use mz_machine::Rows;
+use mz_layout::{Mmb, Rows};
 use mz_telling::Head;
 
 /// The statement that stands at a place of the list, if one does.

@@ -6,7 +6,7 @@ use Rattle.mz_layout.specs.Normal.{file_of}
 use Rattle.mz_binary.specs.Chains.{Statements}
 use Rattle.mz_binary.specs.Gapped.{GappedIn}
 use Rattle.mz_binary.proofs.Offered.{one-list}
-use Rattle.mz_mmu.specs.Proof.{Statement}
+use Rattle.mz_forms.specs.Proof.{Statement}
 use Rattle.mz_sexpr.specs.declared.rule.TextRefusal.{TextRefusal}
 use Rattle.mz_type.specs.Laws.{IsTypedOrFaulty}
 use Rattle.mz_type.specs.Meaning.{marked}

@@ -6,11 +6,11 @@ use Rattle.mz_checks.proofs.Offered.{all_hold-first, all_hold-rest}
 use Rattle.mz_logic.specs.Declaration.{Declaration, sorts}
 use Rattle.mz_logic.specs.Legality.{LegalEnvAfter}
 use Rattle.mz_logic.specs.WordsWritten.{CanBeWords}
-use Rattle.mz_mmu.specs.Gaps.{HasGapsOnly}
+use Rattle.mz_forms.specs.Gaps.{HasGapsOnly}
+use Rattle.mz_forms.specs.Proof.{Statement}
 use Rattle.mz_mmu.specs.Laws.{IsWhole}
-use Rattle.mz_mmu.specs.Proof.{Statement}
+use Rattle.mz_typing.specs.Names.{StatementThere, StatementsThere}
 use Rattle.mz_type.specs.Meaning.{IsLegalAsStated, LegalAsStatedAfter, LegalAsStated}
-use Rattle.mz_type.specs.Names.{StatementThere, StatementsThere}
 use Rattle.mz_type.specs.Ready.{CanBeWordsAfter}
 use Rattle.mz_type.specs.TypedText.{statement_at, declared}
 use Rattle.mz_type.specs.Weight.{Limit, parameter_limit, bound_limit, params_of, parameter_count, bound_count, statement_weight, weight_after, weight_of, byte_bound, each_within, IsWithinLimits}

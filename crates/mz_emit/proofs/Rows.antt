@@ -8,7 +8,7 @@ use Rattle.mz_logic.specs.Legality.{IsDummy}
 use Rattle.mz_logic.specs.declared.binder.Binder.{Binder}
 use Rattle.mz_logic.specs.declared.binder.SortMods.{SortMods}
 use Rattle.mz_logic.proofs.Offered.{sorts-append, each_from_all}
-use Rattle.mz_mmu.specs.Proof.{Proof, Statement}
+use Rattle.mz_forms.specs.Proof.{Proof, Statement}
 use Rattle.mz_type.specs.TypedText.{declared}
 use Rattle.mz_binary.specs.Spelling.{HasKind, is_local_code}
 use Rattle.mz_writing.proofs.Offered.{words-say-params}

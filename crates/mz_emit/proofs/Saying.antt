@@ -17,11 +17,11 @@ use Rattle.mz_logic.specs.declared.binder.Binder.{Binder}
 use Rattle.mz_logic.specs.declared.binder.SortMods.{SortMods}
 use Rattle.mz_logic.proofs.Offered.{each_from_all, assertions_are_sorted, terms_are_sorted}
 use Rattle.mz_soundness.specs.Premises.{bound_count as bound_in}
-use Rattle.mz_mmu.specs.Gaps.{LeavesOnly, SomeLeavesOnly}
+use Rattle.mz_forms.specs.Gaps.{LeavesOnly, SomeLeavesOnly}
+use Rattle.mz_forms.specs.Proof.{Statement, Proof}
 use Rattle.mz_mmu.specs.Laws.{Ascends, HasNoProof, HasItsProof}
-use Rattle.mz_mmu.specs.Proof.{Statement, Proof}
+use Rattle.mz_typing.specs.Names.{ProofThere, DummiesThere, TermThere, StatedProofThere, DeclThere}
 use Rattle.mz_type.specs.Meaning.{IsProofOf, IsProvedAsStated}
-use Rattle.mz_type.specs.Names.{ProofThere, DummiesThere, TermThere, StatedProofThere, DeclThere}
 use Rattle.mz_type.specs.TypedText.{declared}
 use Rattle.mz_type.specs.Weight.{params_of, dummy_count, declaration_weight, weight_after}
 use Rattle.mz_steps.specs.Sameness.{IsSameForm}

@@ -20,8 +20,8 @@ use Rattle.mz_unification.specs.Streams.{of_definition, of_assertion}
 use Rattle.mz_soundness.specs.Lists.{kind_of}
 use Rattle.mz_soundness.specs.Premises.{bound_count as bound_in}
 use Rattle.mz_soundness.specs.Tables.{is_theorem, is_definition}
-use Rattle.mz_machine.proofs.Offered.{binders_many}
-use Rattle.mz_mmu.specs.Proof.{Proof}
+use Rattle.mz_earlier.proofs.Offered.{binders_many}
+use Rattle.mz_forms.specs.Proof.{Proof}
 use Rattle.mz_steps.specs.SharedBodies.{IsSharedBody}
 use Rattle.mz_streams.specs.Laws.{IsSmall}
 use Rattle.mz_streams.specs.SharedTexts.{IsSharedText}

@@ -3,8 +3,8 @@ use Rattle.std.proofs.Common.{◌≡◌, List, Option, Some, None, refl, ap, ari
 use Rattle.mz_logic.specs.Tree.{size, instance, followed_by, variables}
 use Rattle.mz_logic.specs.Declaration.{Form, plain_form, abstract_form, defined, Declaration}
 use Rattle.mz_logic.specs.Conversions.{Conversion, Conversions, refl_conv, sym_conv, cong_conv, unfold_conv, gap_conv, no_convs, more_convs}
-use Rattle.mz_mmu.specs.Proof.{Proof, Proofs, by_hyp, by_name, by_citation, by_conv, by_let, by_gap, no_proofs, more_proofs}
-use Rattle.mz_type.specs.Sides.{term_at, body_tree}
+use Rattle.mz_forms.specs.Proof.{Proof, Proofs, by_hyp, by_name, by_citation, by_conv, by_let, by_gap, no_proofs, more_proofs}
+use Rattle.mz_typing.specs.Sides.{term_at, body_tree}
 use Rattle.mz_type.specs.Weight.{conv_weight, convs_weight, proof_weight, proofs_weight, stated_weight}
 use Rattle.mz_bodies.specs.Costs.{body_tree as body_written}
 use Rattle.mz_bodies.specs.Weights.{conv_weight as conv_written, convs_weight as convs_written, proof_weight as proof_written, proofs_weight as proofs_written}

@@ -11,8 +11,8 @@ use Rattle.mz_spec.specs.Spec.{SpecOf}
 use Rattle.mz_match.specs.Match.{publics, Agrees}
 use Rattle.mz_match.specs.Verdict.{AcceptsBy}
 use Rattle.mz_sexpr.specs.declared.rule.TextRefusal.{TextRefusal}
-use Rattle.mz_mmu.specs.Gaps.{HasGapsOnly}
-use Rattle.mz_mmu.specs.Proof.{Statement}
+use Rattle.mz_forms.specs.Gaps.{HasGapsOnly}
+use Rattle.mz_forms.specs.Proof.{Statement}
 use Rattle.mz_type.specs.Meaning.{marked}
 use Rattle.mz_type.specs.TextOf.{TextOf, TextFault}
 use Rattle.mz_type.specs.Weight.{Passed, Passes, IsWithinLimits, byte_bound}

@@ -17,11 +17,11 @@ use Rattle.mz_unification.specs.Streams.{of_assertion, of_definition}
 use Rattle.mz_soundness.specs.Lists.{kind_of}
 use Rattle.mz_soundness.specs.Premises.{bound_count as bound_in}
 use Rattle.mz_soundness.specs.Tables.{is_axiom, is_theorem, is_definition}
-use Rattle.mz_mmu.specs.Gaps.{HasGapsOnly}
+use Rattle.mz_forms.specs.Gaps.{HasGapsOnly}
+use Rattle.mz_forms.specs.Proof.{Proof, Statement}
 use Rattle.mz_mmu.specs.Laws.{IsWhole}
-use Rattle.mz_mmu.specs.Proof.{Proof, Statement}
+use Rattle.mz_typing.specs.Names.{StatementThere}
 use Rattle.mz_type.specs.Meaning.{IsLegalAsStated, LegalAsStated, marked}
-use Rattle.mz_type.specs.Names.{StatementThere}
 use Rattle.mz_type.specs.TypedText.{declared}
 use Rattle.mz_type.specs.Weight.{params_of, parameter_count, bound_count, statement_weight, weight_of}
 use Rattle.mz_steps.specs.SharedBodies.{IsSharedBody}

@@ -5,7 +5,7 @@ use Rattle.mz_logic.specs.Declaration.{Declaration, sort_decl, term_decl, assert
 use Rattle.mz_layout.specs.Normal.{Written}
 use Rattle.mz_machine.specs.BodyAnswers.{HasGap}
 use Rattle.mz_soundness.specs.Sound.{CitesWithin}
-use Rattle.mz_mmu.specs.Proof.{Proof, Statement}
+use Rattle.mz_forms.specs.Proof.{Proof, Statement}
 use Rattle.mz_bodies.specs.Uses.{a_gap, assertion, uses}
 
 -- ---- the proofs of the axioms and theorems of a text, numbered together in their order

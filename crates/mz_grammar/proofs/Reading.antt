@@ -2,9 +2,10 @@
 use Rattle.std.proofs.Common.{◌≡◌, ◌∙◌, ◌++◌, ℕ, List, [], ◌∷◌, length, Option, Some, None, sym, refl, subst, append_assoc, Ok}
 use Rattle.mz_lex.specs.declared.token.Token.{Token}
 use Rattle.mz_grammar.specs.declared.lexeme.Lexeme.{Lexeme as LexemeRead}
-use Rattle.mz_grammar.specs.declared.statement.Statement.{Statement as StatementCode}
-use Rattle.mz_grammar.specs.declared.progress.Progress.{Progress as ProgressRead}
-use Rattle.mz_grammar.specs.declared.progress.Progress.TheVariants as progresses
+use Rattle.mz_grammar.specs.declared.progress.Parts.{Parts}
+use Rattle.mz_grammar.specs.declared.progress.At.{At}
+use Rattle.mz_grammar.specs.declared.progress.At.TheVariants as places
+use Rattle.mz_grammar.specs.declared.progress.Whole.{Whole}
 use Rattle.mz_grammar.specs.declared.progress.Operator.TheVariants as operators
 use Rattle.mz_grammar.specs.declared.progress.Coercion.TheVariants as coercions
 use Rattle.mz_grammar.specs.declared.progress.Delimiter.TheVariants as delimiters
@@ -20,7 +21,7 @@ use Rattle.mz_lex.proofs.Offered.{one-more, ended, begun, one-lexing}
 use Rattle.mz_grammar.specs.declared.refusal.Fault.{Fault}
 use Rattle.mz_grammar.specs.declared.reader.StatementRead.{StatementRead}
 use Rattle.mz_grammar.specs.Code.{lexeme, statement}
-use Rattle.mz_grammar.specs.CodeProgress.{progress}
+use Rattle.mz_grammar.specs.CodeProgress.{at as at_lem}
 use Rattle.mz_grammar.specs.Statement.{IsPrefix}
 use Rattle.mz_grammar.specs.Progress.{Progress, whole, start, next, Leads}
 use Rattle.mz_grammar.specs.Stops.{StopsBy, misfit_rule}
@@ -101,42 +102,42 @@ stop-misfit text from place at p l (first, more, lexes, _, leads) is_open is non
 pub is-next : (text : List ℕ) (at : ℕ) (t : Token) (o : Option Token) (l : LexemeRead) → ComesNext text at (Ok o) → o ≡ Some t → lexeme l ≡ lexeme_at text t → IsNext text at (lexeme l)
 is-next text at t o l comes is same = subst (IsNext text at) (sym same) (subst (λ x. ComesNext text at (Ok x)) is comes)
 
-pub is-open : (p : ProgressRead) → ((s : StatementCode) → p ≡ progresses.Whole s → ⊥) → IsOpen (progress p)
-is-open (progresses.Opening m) n = λ s e. cc
-is-open (progresses.SortOpened m) n = λ s e. cc
-is-open (progresses.SortNamed m l) n = λ s e. cc
-is-open (progresses.HeadOpened k) n = λ s e. cc
-is-open (progresses.Headed k h) n = λ s e. cc
-is-open (progresses.GroupOpened g) n = λ s e. cc
-is-open (progresses.GroupDotted g) n = λ s e. cc
-is-open (progresses.Wanted s) n = λ s e. cc
-is-open (progresses.Typed s t) n = λ s e. cc
-is-open (progresses.Hypothesis g f) n = λ s e. cc
-is-open (progresses.Claimed a h ss f) n = λ s e. cc
-is-open (progresses.BodyOpened h t) n = λ s e. cc
-is-open (progresses.Defined h t f) n = λ s e. cc
-is-open (progresses.Operator f operators.Opened) n = λ s e. cc
-is-open (progresses.Operator f (operators.Named x)) n = λ s e. cc
-is-open (progresses.Operator f (operators.Colon x)) n = λ s e. cc
-is-open (progresses.Operator f (operators.Constant x y)) n = λ s e. cc
-is-open (progresses.Operator f (operators.Prec x y)) n = λ s e. cc
-is-open (progresses.Operator f (operators.Level x y z)) n = λ s e. cc
-is-open (progresses.Coercion coercions.Opened) n = λ s e. cc
-is-open (progresses.Coercion (coercions.Named x)) n = λ s e. cc
-is-open (progresses.Coercion (coercions.Colon x)) n = λ s e. cc
-is-open (progresses.Coercion (coercions.From x y)) n = λ s e. cc
-is-open (progresses.Coercion (coercions.Greater x y)) n = λ s e. cc
-is-open (progresses.Coercion (coercions.To x y z)) n = λ s e. cc
-is-open (progresses.Delimiter delimiters.Opened) n = λ s e. cc
-is-open (progresses.Delimiter (delimiters.Left x)) n = λ s e. cc
-is-open (progresses.Delimiter (delimiters.Right x y)) n = λ s e. cc
-is-open (progresses.Notation o notations.Wanted) n = λ s e. cc
-is-open (progresses.Notation o (notations.Read x)) n = λ s e. cc
-is-open (progresses.Notation o (notations.Constant constants.Opened)) n = λ s e. cc
-is-open (progresses.Notation o (notations.Constant (constants.String x))) n = λ s e. cc
-is-open (progresses.Notation o (notations.Constant (constants.Colon x))) n = λ s e. cc
-is-open (progresses.Notation o (notations.Constant (constants.Level x y))) n = λ s e. cc
-is-open (progresses.Notation o (notations.Tail x tails.Opened)) n = λ s e. cc
-is-open (progresses.Notation o (notations.Tail x (tails.Level y))) n = λ s e. cc
-is-open (progresses.Notation o (notations.Tail x (tails.Whole y))) n = λ s e. cc
-is-open (progresses.Whole s) n = absurd (n s refl)
+pub is-open : (p : Parts) (at : At) → ((w : Whole) → at ≡ places.Whole w → ⊥) → IsOpen (at_lem p at)
+is-open p (places.Opening m) n = λ s e. cc
+is-open p (places.SortOpened m) n = λ s e. cc
+is-open p (places.SortNamed m) n = λ s e. cc
+is-open p (places.HeadOpened k) n = λ s e. cc
+is-open p (places.Headed k) n = λ s e. cc
+is-open p (places.GroupOpened g) n = λ s e. cc
+is-open p (places.GroupDotted g) n = λ s e. cc
+is-open p (places.Wanted s) n = λ s e. cc
+is-open p (places.Typed s) n = λ s e. cc
+is-open p (places.Hypothesis g) n = λ s e. cc
+is-open p (places.Claimed a) n = λ s e. cc
+is-open p places.BodyOpened n = λ s e. cc
+is-open p places.Defined n = λ s e. cc
+is-open p (places.Operator f operators.Opened) n = λ s e. cc
+is-open p (places.Operator f operators.Named) n = λ s e. cc
+is-open p (places.Operator f operators.Colon) n = λ s e. cc
+is-open p (places.Operator f operators.Constant) n = λ s e. cc
+is-open p (places.Operator f operators.Prec) n = λ s e. cc
+is-open p (places.Operator f operators.Level) n = λ s e. cc
+is-open p (places.Coercion coercions.Opened) n = λ s e. cc
+is-open p (places.Coercion coercions.Named) n = λ s e. cc
+is-open p (places.Coercion coercions.Colon) n = λ s e. cc
+is-open p (places.Coercion coercions.From) n = λ s e. cc
+is-open p (places.Coercion coercions.Greater) n = λ s e. cc
+is-open p (places.Coercion coercions.To) n = λ s e. cc
+is-open p (places.Delimiter delimiters.Opened) n = λ s e. cc
+is-open p (places.Delimiter delimiters.Left) n = λ s e. cc
+is-open p (places.Delimiter delimiters.Right) n = λ s e. cc
+is-open p (places.Notation notations.Wanted) n = λ s e. cc
+is-open p (places.Notation notations.Read) n = λ s e. cc
+is-open p (places.Notation (notations.Constant constants.Opened)) n = λ s e. cc
+is-open p (places.Notation (notations.Constant constants.String)) n = λ s e. cc
+is-open p (places.Notation (notations.Constant constants.Colon)) n = λ s e. cc
+is-open p (places.Notation (notations.Constant constants.Level)) n = λ s e. cc
+is-open p (places.Notation (notations.Tail tails.Opened)) n = λ s e. cc
+is-open p (places.Notation (notations.Tail tails.Level)) n = λ s e. cc
+is-open p (places.Notation (notations.Tail (tails.Whole y))) n = λ s e. cc
+is-open p (places.Whole s) n = absurd (n s refl)

@@ -1,16 +1,18 @@
 // How far a statement has been read.
-ghost use Rattle.std.specs.Prelude.{◌≡◌, IfOk, None, Some, if◌then◌else◌, option_map};
-ghost use Rattle.mz_grammar.specs.Code.{lexeme};
-ghost use Rattle.mz_grammar.specs.CodeProgress.{progress as progress_lem};
+ghost use Rattle.std.specs.Prelude.{◌≡◌, IfOk, None, if◌then◌else◌, option_map};
+ghost use Rattle.mz_grammar.specs.Code.{head as head_lem, lexeme, statement, tail as tail_lem, type_text};
+ghost use Rattle.mz_grammar.specs.CodeProgress.{at as at_lem, notation_with as notation_lem, whole as whole_lem};
 ghost use Rattle.mz_grammar.specs.Progress.{next as next_lem};
+ghost use Rattle.mz_grammar.specs.Statement.{definition_statement};
 
 use crate::kind::{AssertKind, Fixity, Kind};
 use crate::lexeme::Lexeme;
 use crate::statement::{
-    DefinitionText, Head, Level, LiteralText, Modifiers, NameText, Source, Statement, TailText,
-    TypeText,
+    AssertText, CoercionText, DefinitionText, DelimiterText, Head, Level, LiteralText, Modifiers,
+    NameText, NotationText, OperatorText, Source, Statement, TailText, TermText, TypeText,
 };
 use std::alloc::{AllocError, Global};
+use std::mem;
 
 mod arrow;
 mod group;
@@ -18,195 +20,338 @@ mod notations;
 mod opening;
 mod operators;
 
-/// What is kept of the first lexemes of a statement.
+/// The parts of a statement that have been read so far, which stay where they are while lexemes
+/// come; those that the place in the statement doesn't speak of are of no account.
 #[derive(Drop)]
-pub enum Progress<'a> {
+pub struct Parts<'a> {
+    /// The name of the statement and its groups.
+    pub head: Head<'a>,
+    /// The names of the open group.
+    pub names: Vec<NameText<'a>>,
+    /// The type that was read last.
+    pub ty: TypeText<'a>,
+    /// The formula, body or constant that was read last.
+    pub formula: Lexeme<'a>,
+    /// The level that was read last.
+    pub level: Level<'a>,
+    /// The types of a term before each `>`.
+    pub arguments: Vec<TypeText<'a>>,
+    /// What stands before each `>` of an axiom or a theorem.
+    pub premises: Vec<Source<'a>>,
+    /// The literals of a notation but for the last one.
+    pub literals: Vec<LiteralText<'a>>,
+    /// The last of them.
+    pub last: LiteralText<'a>,
+    /// The sort from which a coercion leads, or the first string of delimiters.
+    pub left: Lexeme<'a>,
+    /// The sort to which a coercion leads, or the second string of delimiters.
+    pub right: Lexeme<'a>,
+}
+
+/// Where a statement has come to.
+#[derive(Clone, Copy)]
+pub enum At {
     /// Nothing, or modifiers.
     Opening(Modifiers),
     /// Behind `sort`.
     SortOpened(Modifiers),
     /// Behind the name of a sort.
-    SortNamed(Modifiers, Lexeme<'a>),
+    SortNamed(Modifiers),
     /// Behind the keyword of a statement with groups.
     HeadOpened(Kind),
     /// Behind its name or a group.
-    Headed(Kind, Head<'a>),
+    Headed(Kind),
     /// Behind the bracket of a group or a name.
-    GroupOpened(OpenGroup<'a>),
+    GroupOpened(OpenGroup),
     /// Behind a dot.
-    GroupDotted(OpenGroup<'a>),
+    GroupDotted(OpenGroup),
     /// Before a type or a formula.
-    Wanted(Slot<'a>),
+    Wanted(Slot),
     /// Behind a sort or a dependency.
-    Typed(Slot<'a>, TypeText<'a>),
+    Typed(Slot),
     /// Behind the formula of a group.
-    Hypothesis(OpenGroup<'a>, Lexeme<'a>),
+    Hypothesis(OpenGroup),
     /// Behind a formula of an axiom or a theorem.
-    Claimed(AssertKind, Head<'a>, Vec<Source<'a>>, Lexeme<'a>),
+    Claimed(AssertKind),
     /// Behind the `=` of a definition.
-    BodyOpened(Head<'a>, TypeText<'a>),
+    BodyOpened,
     /// Behind the body of a definition.
-    Defined(Head<'a>, TypeText<'a>, Lexeme<'a>),
+    Defined,
     /// Within an infix or prefix notation.
-    Operator(Fixity, Operator<'a>),
+    Operator(Fixity, Operator),
     /// Within a coercion.
-    Coercion(Coercion<'a>),
+    Coercion(Coercion),
     /// Within delimiters.
-    Delimiter(Delimiter<'a>),
+    Delimiter(Delimiter),
     /// Behind the `=` of a notation.
-    Notation(OpenNotation<'a>, Notation<'a>),
-    /// The whole statement.
-    Whole(Statement<'a>),
+    Notation(Notation),
+    /// Behind a whole statement.
+    Whole(Whole),
 }
 
-/// A group without its type or formula.
-#[derive(Drop)]
-pub struct OpenGroup<'a> {
+/// A group whose names are being read.
+#[derive(Clone, Copy)]
+pub struct OpenGroup {
     pub kind: Kind,
-    pub head: Head<'a>,
     pub is_bound: bool,
-    pub names: Vec<NameText<'a>>,
 }
 
 /// Where a type or a formula is wanted.
-#[derive(Drop)]
-pub enum Slot<'a> {
+#[derive(Clone, Copy)]
+pub enum Slot {
     /// In a group.
-    Group(OpenGroup<'a>),
+    Group(OpenGroup),
     /// Behind the colon or a `>` of a term.
-    Argument(Head<'a>, Vec<TypeText<'a>>),
+    Argument,
     /// Behind the colon or a `>` of an axiom or a theorem.
-    Premise(AssertKind, Head<'a>, Vec<Source<'a>>),
+    Premise(AssertKind),
     /// Behind the colon of a definition.
-    Definition(Head<'a>),
+    Definition,
     /// Behind the colon of a notation.
-    Notation(Head<'a>),
+    Notation,
 }
 
 /// Behind each lexeme of an infix or prefix notation.
 #[derive(Clone, Copy)]
-pub enum Operator<'a> {
+pub enum Operator {
     Opened,
-    Named(Lexeme<'a>),
-    Colon(Lexeme<'a>),
-    Constant(Lexeme<'a>, Lexeme<'a>),
-    Prec(Lexeme<'a>, Lexeme<'a>),
-    Level(Lexeme<'a>, Lexeme<'a>, Level<'a>),
+    Named,
+    Colon,
+    Constant,
+    Prec,
+    Level,
 }
 
 /// Behind each lexeme of a coercion.
 #[derive(Clone, Copy)]
-pub enum Coercion<'a> {
+pub enum Coercion {
     Opened,
-    Named(Lexeme<'a>),
-    Colon(Lexeme<'a>),
-    From(Lexeme<'a>, Lexeme<'a>),
-    Greater(Lexeme<'a>, Lexeme<'a>),
-    To(Lexeme<'a>, Lexeme<'a>, Lexeme<'a>),
+    Named,
+    Colon,
+    From,
+    Greater,
+    To,
 }
 
 /// Behind each lexeme of delimiters.
 #[derive(Clone, Copy)]
-pub enum Delimiter<'a> {
+pub enum Delimiter {
     Opened,
-    Left(Lexeme<'a>),
-    Right(Lexeme<'a>, Lexeme<'a>),
-}
-
-/// A notation without its further literals.
-#[derive(Drop)]
-pub struct OpenNotation<'a> {
-    pub head: Head<'a>,
-    pub result: TypeText<'a>,
-    pub literals: Vec<LiteralText<'a>>,
+    Left,
+    Right,
 }
 
 /// Where the literals of a notation, or its tail, have come to.
 #[derive(Clone, Copy)]
-pub enum Notation<'a> {
+pub enum Notation {
     /// Behind the `=`.
     Wanted,
     /// Behind a literal.
-    Read(LiteralText<'a>),
+    Read,
     /// Within a constant.
-    Constant(Constant<'a>),
+    Constant(Constant),
     /// Within the tail, behind the last literal.
-    Tail(LiteralText<'a>, Tail<'a>),
+    Tail(Tail),
 }
 
 /// Behind each lexeme of a constant.
 #[derive(Clone, Copy)]
-pub enum Constant<'a> {
+pub enum Constant {
     Opened,
-    String(Lexeme<'a>),
-    Colon(Lexeme<'a>),
-    Level(Lexeme<'a>, Level<'a>),
+    String,
+    Colon,
+    Level,
 }
 
 /// Behind each lexeme of a tail.
 #[derive(Clone, Copy)]
-pub enum Tail<'a> {
+pub enum Tail {
     Opened,
-    Level(Level<'a>),
-    Whole(TailText<'a>),
+    Level,
+    Whole { is_right: bool },
+}
+
+/// What statement has been read.
+#[derive(Clone, Copy)]
+pub enum Whole {
+    Sort(Modifiers),
+    Term,
+    Assert(AssertKind),
+    Definition,
+    /// A definition without a body.
+    Abstract,
+    Operator(Fixity),
+    Coercion,
+    /// Delimiters of both sides.
+    Delimiter,
+    /// Left and right delimiters.
+    Delimiters,
+    Notation,
+    /// A notation with a tail.
+    Tailed { is_right: bool },
 }
 
 /// Where the next lexeme leads, if it fits.
-type Next<'a> = Result<Option<Progress<'a>>, AllocError>;
+type Next = Result<Option<At>, AllocError>;
 
-impl<'a> Progress<'a> {
+impl<'a> Parts<'a> {
+    /// Before the first lexeme, which stands in for all others.
+    pub fn new(alloc: Global, first: Lexeme<'a>) -> Parts<'a> {
+        Parts {
+            head: Head {
+                name: first,
+                groups: Vec::new(alloc),
+            },
+            names: Vec::new(alloc),
+            ty: TypeText {
+                sort: first,
+                deps: Vec::new(alloc),
+            },
+            formula: first,
+            level: Level::Max,
+            arguments: Vec::new(alloc),
+            premises: Vec::new(alloc),
+            literals: Vec::new(alloc),
+            last: LiteralText::Name(first),
+            left: first,
+            right: first,
+        }
+    }
+
     /// With one more lexeme, where that fits.
     ///
     /// # Errors
     ///
     /// Where there is no memory.
-    pub fn next(self, alloc: Global, found: Lexeme<'a>) -> Next<'a>
-        ensures { IfOk result (λ r. option_map progress_lem r ≡ next_lem (progress_lem self.entry) (lexeme found.entry)) }
+    pub fn next(&mut self, alloc: Global, at: At, found: Lexeme<'a>) -> Next
+        ensures { IfOk result (λ r. option_map (at_lem self.new) r ≡ next_lem (at_lem self.old at) (lexeme found.entry)) }
     {
-        match self {
-            Progress::Opening(modifiers) => Ok(modifiers.next(found)),
-            Progress::HeadOpened(kind) => Ok(kind.next(alloc, found)),
-            Progress::Headed(kind, head) => Ok(head.next(alloc, kind, found)),
-            Progress::GroupOpened(group) => group.next(found),
-            Progress::GroupDotted(group) => group.dotted(found),
-            Progress::Hypothesis(group, formula) => group.hypothesis(formula, found),
-            Progress::Wanted(slot) => Ok(slot.next(alloc, found)),
-            Progress::Typed(slot, ty) => slot.typed(alloc, ty, found),
-            Progress::Claimed(kind, head, premises, formula) => {
-                arrow::claimed(kind, head, premises, formula, found)
+        match at {
+            At::Opening(modifiers) => Ok(modifiers.next(found)),
+            At::HeadOpened(kind) => Ok(self.named(alloc, kind, found)),
+            At::Headed(kind) => Ok(self.headed(alloc, kind, found)),
+            At::GroupOpened(group) => self.grouped(group, found),
+            At::GroupDotted(group) => self.dotted(group, found),
+            At::Hypothesis(group) => self.hypothesis(alloc, group, found),
+            At::Wanted(slot) => Ok(self.wanted(alloc, slot, found)),
+            At::Typed(slot) => self.typed(alloc, slot, found),
+            At::Claimed(kind) => self.claimed(kind, found),
+            At::Notation(at) => self.notation(at, found),
+            At::Operator(fixity, at) => Ok(self.operator(fixity, at, found)),
+            At::Coercion(at) => Ok(self.coercion(at, found)),
+            At::Delimiter(at) => Ok(self.delimiter(at, found)),
+            At::SortOpened(modifiers) => {
+                self.head.name = found;
+                Ok(found.is_name().then_some(At::SortNamed(modifiers)))
             }
-            Progress::Notation(notation, at) => notation.next(at, found),
-            Progress::Operator(fixity, at) => Ok(at.next(fixity, found)),
-            Progress::Coercion(at) => Ok(at.next(found)),
-            Progress::Delimiter(at) => Ok(at.next(found)),
-            Progress::SortOpened(modifiers) => {
-                let named = Progress::SortNamed(modifiers, found);
-                Ok(found.is_name().then_some(named))
+            At::SortNamed(modifiers) => {
+                let sort = At::Whole(Whole::Sort(modifiers));
+                Ok(found.is_symbol(b";").then_some(sort))
             }
-            Progress::SortNamed(modifiers, name) => {
-                let sort = Statement::Sort { modifiers, name };
-                Ok(found.is_symbol(b";").then_some(Progress::Whole(sort)))
+            At::BodyOpened => {
+                self.formula = found;
+                Ok(found.is_formula().then_some(At::Defined))
             }
-            Progress::BodyOpened(head, result) => {
-                let defined = Progress::Defined(head, result, found);
-                Ok(found.is_formula().then_some(defined))
+            At::Defined => {
+                let definition = At::Whole(Whole::Definition);
+                Ok(found.is_symbol(b";").then_some(definition))
             }
-            Progress::Defined(head, result, body) => {
-                let definition = Statement::Definition(DefinitionText {
-                    head,
-                    result,
-                    body: Some(body),
-                });
-                Ok(found.is_symbol(b";").then_some(Progress::Whole(definition)))
-            }
-            Progress::Whole(statement) => Ok(behind(statement)),
+            At::Whole(_) => Ok(None),
         }
     }
-}
 
-/// Nothing stands behind a whole statement.
-fn behind<'a>(_statement: Statement<'a>) -> Option<Progress<'a>>
-    ensures { result ≡ None }
-{
-    None
+    /// The whole statement, which leaves none of its parts here.
+    pub fn whole(&mut self, alloc: Global, whole: Whole) -> Statement<'a>
+        ensures { statement result ≡ whole_lem self.old whole }
+    {
+        match whole {
+            Whole::Sort(modifiers) => Statement::Sort {
+                modifiers,
+                name: self.head.name,
+            },
+            Whole::Term => Statement::Term(TermText {
+                head: self.taken_head(alloc),
+                arguments: mem::replace(&mut self.arguments, Vec::new(alloc)),
+                result: self.taken_type(alloc),
+            }),
+            Whole::Assert(kind) => Statement::Assert(AssertText {
+                kind,
+                head: self.taken_head(alloc),
+                premises: mem::replace(&mut self.premises, Vec::new(alloc)),
+                conclusion: self.formula,
+            }),
+            Whole::Definition => self.definition(alloc, Some(self.formula)),
+            Whole::Abstract => self.definition(alloc, None),
+            Whole::Operator(fixity) => Statement::Operator(OperatorText {
+                fixity,
+                name: self.head.name,
+                constant: self.formula,
+                level: self.level,
+            }),
+            Whole::Coercion => Statement::Coercion(CoercionText {
+                name: self.head.name,
+                from: self.left,
+                to: self.right,
+            }),
+            Whole::Delimiter => Statement::Delimiter(DelimiterText {
+                left: self.left,
+                right: None,
+            }),
+            Whole::Delimiters => Statement::Delimiter(DelimiterText {
+                left: self.left,
+                right: Some(self.right),
+            }),
+            Whole::Notation => self.notation_with(alloc, None),
+            Whole::Tailed { is_right } => {
+                let level = self.level;
+                self.notation_with(alloc, Some(TailText { level, is_right }))
+            }
+        }
+    }
+
+    fn definition(&mut self, alloc: Global, body: Option<Lexeme<'a>>) -> Statement<'a>
+        ensures { statement result ≡ definition_statement (head_lem self.old.head) (type_text self.old.ty) (option_map lexeme body.entry) }
+    {
+        Statement::Definition(DefinitionText {
+            head: self.taken_head(alloc),
+            result: self.taken_type(alloc),
+            body,
+        })
+    }
+
+    fn notation_with(&mut self, alloc: Global, tail: Option<TailText<'a>>) -> Statement<'a>
+        ensures { statement result ≡ notation_lem self.old (option_map tail_lem tail.entry) }
+    {
+        Statement::Notation(NotationText {
+            head: self.taken_head(alloc),
+            result: self.taken_type(alloc),
+            literals: mem::replace(&mut self.literals, Vec::new(alloc)),
+            last: self.last,
+            tail,
+        })
+    }
+
+    /// The head, in whose place one without groups stays.
+    fn taken_head(&mut self, alloc: Global) -> Head<'a>
+        ensures value { result ≡ self.old.head }
+        ensures rest { self.new ≡ record self.old { head = self.new.head } }
+    {
+        let bare = Head {
+            name: self.head.name,
+            groups: Vec::new(alloc),
+        };
+        mem::replace(&mut self.head, bare)
+    }
+
+    /// The type that was read last, in whose place one without dependencies stays.
+    fn taken_type(&mut self, alloc: Global) -> TypeText<'a>
+        ensures value { result ≡ self.old.ty }
+        ensures rest { self.new ≡ record self.old { ty = self.new.ty } }
+    {
+        let bare = TypeText {
+            sort: self.ty.sort,
+            deps: Vec::new(alloc),
+        };
+        mem::replace(&mut self.ty, bare)
+    }
 }

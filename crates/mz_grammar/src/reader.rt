@@ -3,12 +3,12 @@ ghost use Rattle.std.specs.Prelude.{◌≡◌, ◌≤◌, ◌<◌, ◌^◌, [], 
 ghost use Rattle.mz_lex.specs.Lexemes.{IsBlank, IsNext};
 ghost use Rattle.mz_lex.specs.RuleText.{place_of, rule_of};
 ghost use Rattle.mz_grammar.specs.Code.{lexeme};
-ghost use Rattle.mz_grammar.specs.CodeProgress.{progress as progress_lem};
+ghost use Rattle.mz_grammar.specs.CodeProgress.{at as at_lem};
 ghost use Rattle.mz_grammar.specs.Reading.{EndsAt, IfFault, IsRead, IsReadTo, StopsFrom};
 ghost use Rattle.mz_grammar.specs.Stops.{misfit_rule};
 
 use crate::lexeme::Lexeme;
-use crate::progress::Progress;
+use crate::progress::{At, Parts};
 use crate::refusal::{Fault, Halt};
 use crate::statement::{Modifiers, Statement};
 use mz_lex::{LexFault, S, next_token};
@@ -65,14 +65,33 @@ pub fn read_statement(
         Ok(Some(token)) => Lexeme::new(text, token),
         Err(fault) => return Err(Halt::Fault(no_lexeme(fault))),
     };
-    let Some(progress) = Progress::Opening(Modifiers::NONE).next(alloc, first)? else {
+    let mut parts = Parts::new(alloc, first);
+    let read = read_from(alloc, text, from, first, &mut parts)?;
+    Ok(Some(read))
+}
+
+/// Reads a statement that begins with this lexeme, if one does.
+fn read_from<'a>(
+    alloc: Global,
+    text: &'a [u8],
+    from: usize,
+    first: Lexeme<'a>,
+    parts: &mut Parts<'a>,
+) -> Result<StatementRead<'a>, Halt>
+    requires small { length text.now < 2 ^ 32 }
+    requires within { first.to ≤ length text.now }
+    requires next { IsNext text.now from (lexeme first) }
+    ensures read { IfOk result (IsRead text.now from) }
+    ensures within { IfOk result (λ r. r.end ≤ length text.now) }
+    ensures stops { IfFault result (StopsFrom text.now from) }
+{
+    let Some(at) = parts.next(alloc, At::Opening(Modifiers::NONE), first)? else {
         return Err(Halt::Fault(Fault {
             at: first.from,
             rule: first_rule(first),
         }));
     };
-    let read = read_rest(alloc, text, from, first, progress)?;
-    Ok(Some(read))
+    read_rest(alloc, text, from, first, at, parts)
 }
 
 /// The next lexeme within a statement.
@@ -103,36 +122,37 @@ fn read_rest<'a>(
     text: &'a [u8],
     from: usize,
     first: Lexeme<'a>,
-    progress: Progress<'a>,
+    behind: At,
+    parts: &mut Parts<'a>,
 ) -> Result<StatementRead<'a>, Halt>
     requires small { length text.now < 2 ^ 32 }
     requires within { first.to ≤ length text.now }
-    requires read { IsReadTo text.now from first.from (progress_lem progress) first.to }
+    requires read { IsReadTo text.now from first.from (at_lem parts.old behind) first.to }
     ensures read { IfOk result (IsRead text.now from) }
     ensures within { IfOk result (λ r. r.end ≤ length text.now) }
     ensures stops { IfFault result (StopsFrom text.now from) }
 {
-    let mut at = first.to as usize;
-    let mut progress = progress;
+    let mut end = first.to as usize;
+    let mut at = behind;
     'lexemes: loop {
-        if let Progress::Whole(statement) = progress {
+        if let At::Whole(whole) = at {
             return Ok(StatementRead {
-                statement,
+                statement: parts.whole(alloc, whole),
                 place: first.from,
-                end: at,
+                end,
             });
         }
-        let found = match lexeme_at(text, at) {
+        let found = match lexeme_at(text, end) {
             Ok(found) => found,
             Err(fault) => return Err(Halt::Fault(fault)),
         };
-        let Some(next) = progress.next(alloc, found)? else {
+        let Some(next) = parts.next(alloc, at, found)? else {
             return Err(Halt::Fault(Fault {
                 at: found.from,
                 rule: S::Statement,
             }));
         };
-        progress = next;
-        at = found.to as usize;
+        at = next;
+        end = found.to as usize;
     }
 }

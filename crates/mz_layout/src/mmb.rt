@@ -1,12 +1,13 @@
 // A binary whose header and tables are in order.
-ghost use Rattle.std.specs.Prelude.{◌≡◌, ◌≤◌, ◌<◌, ◌+◌, ◌*◌, ◌^◌, length, drop, MatchResult, Some, slice_get};
+ghost use Rattle.std.specs.Prelude.{◌≡◌, ◌≤◌, ◌<◌, ◌+◌, ◌*◌, ◌^◌, ◌↔◌, IsTrue, length, drop, MatchResult, Some, slice_get};
 ghost use Rattle.mz_checks.specs.Checks.{FailsFirst};
 ghost use Rattle.mz_layout.specs.Tables.{param_count, words_at, term_count, thm_count, list_at, term_record, thm_record, term_row, thm_row};
 ghost use Rattle.mz_layout.specs.Layout.{IsBinary, HoldsRow, Layout, layout_checks};
+ghost use Rattle.mz_layout.specs.Heads.{IsEmptyBody, body_bytes};
 
 use crate::bytes::u32_at;
 use crate::checks::check_layout;
-use crate::rows;
+use crate::records;
 use mz_cmd::Refusal;
 use mz_logic::{SortMods, Terms, Word};
 use std::marker::Model;
@@ -65,6 +66,15 @@ impl<'a> Mmb<'a> {
         u32_at(self.file, 24)
     }
 
+    /// Whether nothing stands in a statement's body, or one byte 00.
+    pub fn has_empty_body(&self, body: u32, next: u32) -> bool
+        requires order { body ≤ next }
+        requires within { next ≤ length self.now }
+        ensures { IsTrue result ↔ IsEmptyBody (body_bytes self.now body next) }
+    {
+        matches!(&self.file[body as usize..next as usize], [] | [0])
+    }
+
     /// How many axioms and theorems there are.
     pub fn thms(&self) -> u32
         ensures { result ≡ thm_count self.now }
@@ -77,7 +87,7 @@ impl<'a> Mmb<'a> {
         requires { i < thm_count self.now }
         ensures { result ≡ length (thm_row self.now i).params }
     {
-        rows::arity(self.file, self.thm_record(i))
+        records::arity(self.file, self.thm_record(i))
     }
 
     /// The word of the axiom's or theorem's j-th parameter.
@@ -86,7 +96,7 @@ impl<'a> Mmb<'a> {
         requires place { j < length (thm_row self.now i).params }
         ensures { slice_get (thm_row self.now i).params j ≡ Some result }
     {
-        rows::word(self.file, self.thm_record(i), 0, j)
+        records::word(self.file, self.thm_record(i), 0, j)
     }
 
     /// The place of that word, in bytes.
@@ -95,7 +105,7 @@ impl<'a> Mmb<'a> {
         requires place { j < length (thm_row self.now i).params }
         ensures { result ≡ (thm_row self.now i).words_at + 8 * j }
     {
-        rows::word_place(self.file, self.thm_record(i), 0, j)
+        records::word_place(self.file, self.thm_record(i), 0, j)
     }
 
     /// The axiom's or theorem's unify stream: its place, in bytes, and the rest of the file from there.
@@ -104,7 +114,7 @@ impl<'a> Mmb<'a> {
         ensures place { result.0 ≡ (thm_row self.now i).stream_at }
         ensures rest { result.1.now ≡ drop result.0 self.now }
     {
-        rows::after_words(self.file, self.thm_record(i), 0)
+        records::after_words(self.file, self.thm_record(i), 0)
     }
 
     /// The sort's number that the term's record names.
@@ -121,7 +131,7 @@ impl<'a> Mmb<'a> {
         requires place { i ≤ length (term_row self.now t).words.params }
         ensures { result ≡ (term_row self.now t).words_at + 8 * i }
     {
-        rows::word_place(self.file, self.term_record(t), 1, i)
+        records::word_place(self.file, self.term_record(t), 1, i)
     }
 
     /// The term's unify stream, where it is a definition: its place, in bytes, and the rest of the
@@ -131,7 +141,7 @@ impl<'a> Mmb<'a> {
         ensures place { result.0 ≡ (term_row self.now t).stream_at }
         ensures rest { result.1.now ≡ drop result.0 self.now }
     {
-        rows::after_words(self.file, self.term_record(t), 1)
+        records::after_words(self.file, self.term_record(t), 1)
     }
 
     fn term_record(&self, t: u32) -> u32
@@ -189,7 +199,7 @@ impl<'a> Terms for Mmb<'a> {
         ensures all { result ≡ length (term_at (term_words self.now) t).params }
         ensures row { result ≡ length (term_row self.now t).words.params }
     {
-        rows::arity(self.file, self.term_record(t))
+        records::arity(self.file, self.term_record(t))
     }
 
     fn param(&self, t: u32, i: u32) -> Word
@@ -198,7 +208,7 @@ impl<'a> Terms for Mmb<'a> {
         ensures all { slice_get (term_at (term_words self.now) t).params i ≡ Some result }
         ensures row { slice_get (term_row self.now t).words.params i ≡ Some result }
     {
-        rows::word(self.file, self.term_record(t), 1, i)
+        records::word(self.file, self.term_record(t), 1, i)
     }
 
     fn result(&self, t: u32) -> Word
@@ -207,7 +217,7 @@ impl<'a> Terms for Mmb<'a> {
         ensures row { result ≡ (term_row self.now t).words.result }
     {
         let row = self.term_record(t);
-        rows::word(self.file, row, 1, rows::arity(self.file, row))
+        records::word(self.file, row, 1, records::arity(self.file, row))
     }
 
     fn has_body(&self, t: u32) -> bool

@@ -18,8 +18,8 @@ use Rattle.mz_unification.proofs.Offered.{some_is, bound-is, in-v-true, v-in}
 use Rattle.mz_unify.specs.Stored.{trees_at}
 use Rattle.mz_unify.proofs.Offered.{is-in-at, tree-at}
 use Rattle.mz_soundness.specs.Premises.{operands_fit}
-use Rattle.mz_machine.specs.OperandRows.{AreAmong}
-use Rattle.mz_machine.proofs.ApartPlaces.{is-there, place-below, place-fits, apart-none, whole_row, decides-first}
+use Rattle.mz_earlier.specs.OperandRows.{AreAmong}
+use Rattle.mz_earlier.proofs.Offered.{is-there, place-below, place-fits, apart-none, whole_row, decides-first}
 
 -- a bound variable is in V of an expression where their words share a bit
 pub apart-words : (sigs : List Signature) (s : Sharing) (l r : ℕ) → IsOver sigs s → s.mode ≡ All → IsIn s l → IsIn s r → is_bound_var s.context (tree_of s r) ≡ true
@@ -60,7 +60,7 @@ apart-word sigs s l r over mode in-l in-r bd none = not-true (var_within s.conte
 
 -- an operand that shares no variable with any of the bound parameters' is apart
 pub apart-at-once : (sigs : List Signature) (s : Sharing) (ids : List Id) (ws : List Word) → IsOver sigs s → s.mode ≡ All → AreIn s ids → length ids ≡ length ws
-    → operands_fit sigs s.context (trees_at s ids) (binders_of ws) ≡ Ok tt → (places : List ℕ) → places ≡ bound_places 0 ws → (all : ℕ) → AreAmong s ids places all
+    → operands_fit sigs s.context (trees_at s ids) (binders_of ws) ≡ Ok tt → (places : List ℕ) → places ≡ bound_places 0 ws → (all : ℕ) → AreAmong (λ id. deps_of s id.0) ids places all
     → (i : ℕ) (id : Id) (w : Word) → slice_get ids i ≡ Some id → slice_get ws i ≡ Some w → bit_and (deps_of s id.0) all ≡ 0 → whole_row s.context (trees_at s ids) ws i w (tree_of s id.0) ≡ true
 apart-at-once sigs s ids ws over mode in-s many fit places are all among i id w at wat none =
     let bits = if word_bound w then 0 else word_deps w in

@@ -1,18 +1,20 @@
 -- The loop over a body: what the machine keeps, and how many steps it counts at the most.
 use Rattle.std.specs.Prelude.{◌↔◌}
-use Rattle.std.proofs.Common.{◌≡◌, ◌≤◌, ◌+◌, ◌*◌, ℕ, suc, true, List, length, take, drop, Result, Ok, Err, refl, sym, ap, ◌∙◌, subst, arith}
+use Rattle.std.proofs.Common.{◌≡◌, ◌≤◌, ◌+◌, ◌*◌, ℕ, true, List, length, Result, Ok, Err, refl, sym, ◌∙◌, subst, arith}
 use Rattle.std.proofs.Math.Nat.{add-mul, mul-le-mul_right}
 use Rattle.mz_cmd.specs.declared.rule.K.{K}
 use Rattle.mz_logic.specs.Tree.{Tree}
-use Rattle.mz_soundness.specs.Tables.{Tables, State, Heading}
+use Rattle.mz_soundness.specs.Tables.{State}
 use Rattle.mz_soundness.specs.ProofMachine.{proof_end}
 use Rattle.mz_unification.specs.Profile.{plain}
-use Rattle.mz_machine.specs.BodyAnswers.{CountsOf, HasGap, IsBodyRun}
+use Rattle.mz_machine.specs.BodyAnswers.{HasGap, IsBodyRun}
 use Rattle.mz_machine.specs.BodyAnswers.{UnlessMem as UnlessBodyMem}
-use Rattle.mz_machine.specs.Before.{heading_of, tables_before}
 use Rattle.mz_machine.specs.Steps.{Underway, tables_for, heading_for, row_of, steps_for, end_steps}
 use Rattle.mz_cmd.specs.declared.command.Cmd.{Cmd}
-use Rattle.mz_machine.specs.Stepping.{GoesOn, IsFinished, UnlessEndMem, ended_at}
+use Rattle.mz_machine.specs.OverStore.{StopsBy}
+use Rattle.mz_machine.specs.Stepping.{GoesOn, IsFinished, IsStepped, UnlessEndMem, ended_at, stepped_to, stopped_at}
+use Rattle.mz_machine.specs.declared.command.Stop.{Stop}
+use Rattle.mz_machine.specs.declared.command.Stop.TheVariants.{Rule, Mem}
 use Rattle.mz_machine.specs.declared.machine.Finished.{Finished}
 use Rattle.mz_machine.specs.declared.machine.Finished.TheVariants as finished
 
@@ -72,3 +74,17 @@ pub end-counts : (u v : Underway) (place later steps all : ℕ) (f : Finished) �
 end-counts u v place later steps all (finished.Body end) same is then = then (rw (← same.gaps, ← same-tables u v same, ← same-heading u v same) is)
 end-counts u v place later steps all (finished.Refused d) same is then = then (rw (← same.gaps, ← same-tables u v same, ← same-heading u v same) is)
 end-counts u v place later steps all finished.Mem same is then = tt
+
+-- and what a command answers that is stopped
+pub stop-answer : (u v : Underway) (bytes : List ℕ) (whole : Result (State Tree) (ℕ × K)) (place : ℕ) (c : Cmd) (after : Underway) (stop : Stop) → IsSameBody u v
+    → ((d : K) → row_of u.gaps (tables_for u) (heading_for u) place v.state c ≡ Err d → whole ≡ Err (place, d))
+    → IsStepped v c place (stepped_to {A = Unit {0}} after (Err stop)) → IsBodyRun (heading_for u) bytes whole (stopped_at place stop)
+stop-answer u v bytes whole place c after (Rule d) same err is = err d (row-over u v place v.state c (Err d) same is)
+stop-answer u v bytes whole place c after Mem same err is = tt
+
+pub stop-counts : (u v : Underway) (place later steps all : ℕ) (c : Cmd) (after : Underway) (stop : Stop) → IsSameBody u v
+    → IsStepped v c place (stepped_to {A = Unit {0}} after (Err stop)) → StopsBy stop (λ _. later ≡ steps + steps_for v.gaps (tables_for v) (heading_for v) v.state c)
+    → ((d : K) → row_of u.gaps (tables_for u) (heading_for u) place v.state c ≡ Err d → later ≡ steps + steps_for u.gaps (tables_for u) (heading_for u) v.state c → later ≡ all)
+    → UnlessBodyMem (stopped_at place stop) (later ≡ all)
+stop-counts u v place later steps all c after (Rule d) same is many then = then d (row-over u v place v.state c (Err d) same is) (steps-over u v v.state c later steps same many)
+stop-counts u v place later steps all c after Mem same is many then = tt

@@ -1,6 +1,6 @@
 -- A body that is underway: the run from here is the whole run, and so is the count.
-use Rattle.std.proofs.Common.{◌≡◌, ℕ, zero, suc, ◌+◌, ◌*◌, ◌≤◌, ◌<◌, Bool, true, false, List, [], ◌∷◌, length, drop, Option, Some, None, Result, Ok, Err, refl, sym, ap, ◌∙◌, arith, nat_eq, eq-eqb}
-use Rattle.std.specs.Prelude.{◌==◌, if◌then◌else◌}
+use Rattle.std.proofs.Common.{◌≡◌, ℕ, zero, suc, ◌+◌, ◌≤◌, ◌<◌, Bool, true, false, List, [], ◌∷◌, length, drop, Option, Some, None, Result, Ok, Err, refl, sym, ap, ◌∙◌, arith, nat_eq}
+use Rattle.std.specs.Prelude.{if◌then◌else◌}
 use Rattle.std.proofs.lemmas.Bool.{eqb-true}
 use Rattle.std.proofs.lemmas.List.{drop-drop, length-drop}
 use Rattle.mz_cmd.specs.declared.rule.K.{K}
@@ -16,7 +16,7 @@ use Rattle.mz_unification.specs.Profile.{plain}
 use Rattle.mz_unification.specs.UnifyMachine.{is_empty}
 use Rattle.mz_unification.proofs.Offered.{command-long, drop-less}
 use Rattle.mz_soundness.specs.Tables.{Tables, State, Kind, Heading}
-use Rattle.mz_soundness.specs.ProofMachine.{proof_row, proof_end, ends_with}
+use Rattle.mz_soundness.specs.ProofMachine.{proof_end, ends_with}
 use Rattle.mz_soundness.specs.Bodies.{BodyCommand, ends, proves, stands_in, if_allowed, body_command, body_turn_by, body_turn, body_from, match_steps, command_steps, body_steps_from}
 use Rattle.mz_soundness.proofs.Offered.{bound-never-ends, count-is-whole}
 use Rattle.mz_machine.specs.Steps.{row_by, row_of, steps_by, steps_for}

@@ -21,10 +21,10 @@ use Rattle.mz_soundness.specs.Tables.{Tables, State, signatures_in}
 use Rattle.mz_soundness.specs.Premises.{pop_expr, pop_operands, operands_fit, are_apart}
 use Rattle.mz_soundness.specs.ProofMachine.{proof_row, citation, cited}
 use Rattle.mz_soundness.specs.Bodies.{row_steps}
-use Rattle.mz_machine.specs.Before.{Before, tables_of, signatures_of, words_before}
+use Rattle.mz_earlier.specs.Before.{Before, tables_of, signatures_of, words_before}
 use Rattle.mz_soundness.specs.FileRows.{thm_of_file}
 use Rattle.mz_machine.specs.OverStore.{with_stack}
-use Rattle.mz_machine.proofs.BeforeLaws.{signatures-before, thm-before, no-thm-before, binders_many}
+use Rattle.mz_earlier.proofs.Offered.{signatures-before, thm-before, no-thm-before, binders_many}
 use Rattle.mz_machine.proofs.TakenOperands.{too-few}
 use Rattle.mz_machine.proofs.TermResults.{map-same}
 

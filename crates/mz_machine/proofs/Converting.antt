@@ -1,5 +1,5 @@
 -- The rows on conversions, case by case.
-use Rattle.std.proofs.Common.{◌≡◌, ◌≤◌, ◌⊎◌, inl, inr, arith, ℕ, zero, suc, ◌+◌, ◌-◌, ◌<◌, Bool, true, false, eqb, List, [], ◌∷◌, ◌++◌, length, drop, min, leb-true, leb-false, Option, Some, None, Result, Ok, Err, slice_get, refl, sym, ap, ◌∙◌, subst, eq-eqb}
+use Rattle.std.proofs.Common.{◌≡◌, ◌≤◌, ◌⊎◌, inl, inr, arith, ℕ, zero, suc, ◌-◌, ◌<◌, Bool, true, false, List, [], ◌∷◌, ◌++◌, length, drop, min, leb-true, leb-false, Option, Some, None, Result, Ok, Err, slice_get, refl, sym, ap, ◌∙◌, subst, eq-eqb}
 use Rattle.std.specs.Prelude.{⊤, if◌then◌else◌, ◌==◌, nat_le, OnOk, MatchResult}
 use Rattle.std.proofs.lemmas.Bool.{eqb-true}
 use Rattle.std.proofs.Math.Nat.{min-le_left, min-le_right, min-eq_left, min-eq_right}
@@ -7,12 +7,10 @@ use Rattle.mz_cmd.specs.declared.rule.K.{K}
 use Rattle.mz_cmd.specs.declared.rule.K.TheVariants as k
 use Rattle.mz_cmd.specs.declared.code.ProofCode.TheVariants as code
 use Rattle.mz_logic.specs.Tree.{Tree, var, app, listed}
-use Rattle.mz_logic.specs.declared.binder.Binder.{Binder}
 use Rattle.mz_store.specs.Sharing.{Sharing, tree_of, trees_of, head_of, operands_of}
 use Rattle.mz_store.specs.declared.item.Id.{Id}
 use Rattle.mz_store.specs.declared.item.Item.{Item as Kept}
-use Rattle.mz_unification.specs.Steps.{◌>>=◌, ◌>>◌, need, want, rule_of}
-use Rattle.mz_unification.specs.Spells.{TermRow}
+use Rattle.mz_unification.specs.Steps.{◌>>=◌, want}
 use Rattle.mz_unification.specs.Profile.{strict, Item, expr, obligation, tree_parts}
 use Rattle.mz_unification.specs.Tests.{same_tree}
 use Rattle.mz_unification.specs.UnifyMachine.{in_definition, Matching, UnifyState, unify, unify_steps}
@@ -21,8 +19,8 @@ use Rattle.mz_unify.proofs.Offered.{items-in-both, listed-trees}
 use Rattle.mz_unification.proofs.Offered.{taken-is, same_tree-true, same_tree-refl}
 use Rattle.mz_soundness.specs.Tables.{Tables, State, signatures_in}
 use Rattle.mz_soundness.specs.Premises.{pop, pop_expr, pop_obligation, pop_sides}
-use Rattle.mz_soundness.specs.ProofMachine.{proof_row, sides, same_term, stream_of, unfolding_of, matched_by}
-use Rattle.mz_soundness.specs.Bodies.{match_steps, fst_of, row_steps}
+use Rattle.mz_soundness.specs.ProofMachine.{proof_row, sides, same_term, stream_of, unfolding_of}
+use Rattle.mz_soundness.specs.Bodies.{row_steps}
 use Rattle.mz_machine.specs.OverStore.{with_stack, pop_unfolding, Gives, StopsBy}
 use Rattle.mz_machine.specs.declared.command.Stop.{Stop}
 use Rattle.mz_machine.specs.declared.command.Stop.TheVariants.{Rule, Mem}

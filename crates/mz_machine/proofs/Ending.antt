@@ -1,35 +1,29 @@
 -- The END of a body over a store: the row's own stream, and what it is run on.
-use Rattle.std.proofs.Common.{◌≡◌, ◌<◌, ◌≤◌, ◌+◌, ℕ, zero, suc, List, [], ◌∷◌, ◌++◌, length, map, take, Option, Some, Result, Ok, Err, slice_get, refl, sym, ap, ◌∙◌, subst, arith}
+use Rattle.std.proofs.Common.{◌≡◌, ◌≤◌, ◌+◌, ℕ, zero, suc, List, [], ◌∷◌, ◌++◌, length, map, take, Some, Result, Ok, Err, slice_get, refl, sym, ap, ◌∙◌, arith}
 use Rattle.std.specs.Prelude.{reverse}
 use Rattle.std.specs.List.{range_with_len}
 use Rattle.std.proofs.lemmas.List.{map-append, reverse-append}
 use Rattle.mz_cmd.specs.declared.rule.K.{K}
 use Rattle.mz_logic.specs.Tree.{Tree, var}
-use Rattle.mz_logic.specs.Signature.{Signature}
 use Rattle.mz_logic.specs.declared.binder.Binder.{Binder}
-use Rattle.mz_store.specs.Sharing.{Sharing, tree_of, IsIn, AreIn}
+use Rattle.mz_store.specs.Sharing.{Sharing, tree_of}
 use Rattle.mz_store.specs.declared.item.Id.{Id}
 use Rattle.mz_store.specs.declared.item.Item.{Item as Kept}
 use Rattle.mz_store.specs.declared.item.Item.TheVariants.{Proof}
-use Rattle.mz_unification.specs.Steps.{◌>>=◌, rule_of}
 use Rattle.mz_unification.specs.Profile.{strict, Item, proof}
-use Rattle.mz_unification.specs.UnifyMachine.{Matching, UnifyState, unify, unify_steps}
-use Rattle.mz_unify.specs.Stored.{item_at, items_at, trees_at, matching_at, AreItemsIn, AreVariables, mode_of}
-use Rattle.mz_unify.proofs.Offered.{are-in-both, items-in-both, trees-append}
+use Rattle.mz_unification.specs.UnifyMachine.{Matching, unify, unify_steps}
+use Rattle.mz_unify.specs.Stored.{item_at, items_at, trees_at, matching_at, AreVariables}
+use Rattle.mz_unify.proofs.Offered.{trees-append}
 use Rattle.mz_soundness.specs.Tables.{Tables, State, Kind, is_axiom, is_theorem, is_definition, Heading, signatures_in}
 use Rattle.mz_soundness.specs.ProofMachine.{last_item, as_proofs, own_variables, ending, ends_with, proof_end}
 use Rattle.mz_soundness.specs.Bodies.{match_steps}
-use Rattle.mz_machine.specs.Before.{heading_by}
+use Rattle.mz_earlier.proofs.Offered.{range-next}
 use Rattle.mz_machine.specs.OverStore.{Gives}
 use Rattle.mz_machine.specs.Endings.{mode_at, items_of, ended, IsOwnRun}
 use Rattle.mz_machine.specs.declared.command.Stop.{Stop}
 use Rattle.mz_machine.specs.declared.command.Stop.TheVariants.{Rule, Mem}
 
 -- ---- the first variables
-
-pub range-next : (a n : ℕ) → range_with_len a (suc n) ≡ range_with_len a n ++ (a + n) ∷ []
-range-next a zero = ap (λ (x : ℕ). x ∷ []) (omega arith)
-range-next a (suc n) = ap (λ (xs : List ℕ). a ∷ xs) (range-next (a + 1) n ∙ ap (λ (x : ℕ). range_with_len (a + 1) n ++ x ∷ []) (omega arith))
 
 zero-more : (n : ℕ) → 0 + n ≡ n
 zero-more n = omega arith
@@ -124,9 +118,3 @@ module _ (tables : Tables) (h : Heading) (st : State Tree) where
   own-end m (Ok x) e (u, is) = rw (e, is) refl
   own-end m (Err (Rule d)) e (at, is) = rw (e, is) refl
   own-end m (Err Mem) e run = tt
-
--- a row's heading has its kind
-pub kind-is : (file : List ℕ) (row : ℕ) (kind : Kind) → (heading_by file row kind).kind ≡ kind
-kind-is file row is_axiom = refl
-kind-is file row is_theorem = refl
-kind-is file row is_definition = refl

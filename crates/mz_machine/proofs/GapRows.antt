@@ -1,13 +1,11 @@
 -- What a gap gives where gaps are let through, and what a command gives whether they are or not.
 use Rattle.std.proofs.Common.{◌≡◌, ℕ, suc, ◌+◌, arith, Bool, true, false, List, [], ◌∷◌, map, Some, Result, Ok, Err, refl, sym, ap, ◌∙◌, subst}
 use Rattle.std.specs.Prelude.{slice_get, ◌==◌, ◌&&◌}
-use Rattle.std.proofs.lemmas.Bool.{eqb-true}
 use Rattle.mz_cmd.specs.declared.rule.K.{K}
 use Rattle.mz_cmd.specs.declared.rule.K.TheVariants as k
 use Rattle.mz_cmd.specs.declared.code.ProofCode.{ProofCode}
 use Rattle.mz_cmd.specs.declared.code.ProofCode.TheVariants as code
 use Rattle.mz_logic.specs.Tree.{Tree}
-use Rattle.mz_logic.specs.Legality.{sort_of}
 use Rattle.mz_logic.specs.Sorts.{HasSort}
 use Rattle.mz_logic.proofs.Offered.{sort_is}
 use Rattle.mz_unification.specs.Profile.{plain, strict, draft, Item, expr, proof, obligation, conversion}
@@ -18,7 +16,7 @@ use Rattle.mz_soundness.specs.Premises.{pop, is_provable_sort}
 use Rattle.mz_soundness.specs.ProofMachine.{proof_row, citation, unfolding_of, ends_with}
 use Rattle.mz_soundness.specs.Bodies.{proves, body_command, match_steps, fst_of, row_steps, body_start}
 use Rattle.mz_machine.specs.Steps.{row_by, steps_by, is_sorry}
-use Rattle.mz_machine.specs.Before.{Before, tables_of, signatures_of}
+use Rattle.mz_earlier.specs.Before.{Before, tables_of, signatures_of}
 use Rattle.mz_machine.specs.OverStore.{with_stack, Gives, UnlessMem}
 use Rattle.mz_machine.specs.declared.command.Stop.{Stop}
 use Rattle.mz_machine.specs.declared.command.Stop.TheVariants.{Rule, Mem}

@@ -1,9 +1,8 @@
 -- The commands of a body one after another: whether one of them leaves a gap.
-use Rattle.std.proofs.Common.{◌≡◌, ◌≤◌, ◌⊎◌, ◌+◌, ◌∙◌, ℕ, zero, suc, Bool, true, false, List, [], ◌∷◌, length, drop, Option, Some, None, Ok, Err, refl, sym, ap, subst, inl, inr, arith}
+use Rattle.std.proofs.Common.{◌≡◌, ◌≤◌, ◌⊎◌, ◌+◌, ◌∙◌, ℕ, zero, suc, Bool, true, false, List, [], ◌∷◌, length, drop, Option, Some, None, Ok, refl, sym, ap, subst, inl, inr, arith}
 use Rattle.std.specs.Prelude.{◌↔◌, ◌||◌}
 use Rattle.std.proofs.lemmas.List.{drop-drop}
 use Rattle.mz_cmd.specs.declared.command.Cmd.{Cmd}
-use Rattle.mz_cmd.specs.declared.command.CmdFault.{CmdFault}
 use Rattle.mz_cmd.specs.declared.code.ProofCode.{ProofCode}
 use Rattle.mz_cmd.specs.declared.code.ProofCode.TheVariants as code
 use Rattle.mz_cmd.specs.Codes.{proof_code}

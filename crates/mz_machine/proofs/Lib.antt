@@ -1,6 +1,5 @@
 pub mod GapRows
 pub mod GapWalk
-pub mod BeforeLaws
 pub mod Popping
 mod Converting
 mod Unfoldings
@@ -8,12 +7,11 @@ mod Citing
 pub mod RowResults
 pub mod TakenOperands
 pub mod FittingOperands
-pub mod ApartPlaces
 mod Apartness
 pub mod TermResults
 pub mod Stopping
-mod FreeWords
 mod Ending
+mod Advancing
 pub mod BodyUnderway
 pub mod BodyRunning
 pub mod Dummies

@@ -15,13 +15,14 @@ use Rattle.mz_unify.specs.Stored.{AreItemsIn}
 use Rattle.mz_unify.proofs.Offered.{still-in}
 use Rattle.mz_soundness.specs.Tables.{Kind, is_axiom, is_theorem, is_definition, signatures_in}
 use Rattle.mz_soundness.specs.Bodies.{BodyCommand, ends, proves, stands_in, if_allowed, body_command}
-use Rattle.mz_machine.specs.Before.{Before, heading_of, tables_before}
-use Rattle.mz_machine.specs.OverStore.{code_of, for_theorems, mode_for, Grows, IsUnderway}
+use Rattle.mz_earlier.specs.Before.{tables_before}
+use Rattle.mz_earlier.specs.OwnRow.{heading_of, mode_for}
+use Rattle.mz_machine.specs.OverStore.{code_of, for_theorems, Grows, IsUnderway}
 use Rattle.mz_machine.specs.declared.command.Command.{Command}
 use Rattle.mz_machine.specs.declared.command.Command.TheVariants.{Makes, Keeps, Converts}
 use Rattle.mz_machine.specs.declared.command.Making.TheVariants as making
 use Rattle.mz_machine.specs.declared.command.Converting.TheVariants as converting
-use Rattle.mz_machine.specs.declared.earlier.Rows.{Rows}
+use Rattle.mz_layout.specs.declared.taken.Rows.{Rows}
 use Rattle.mz_machine.proofs.TermResults.{tree-kept}
 
 -- ---- commands of theorems
@@ -117,8 +118,5 @@ module _ (kind k : Kind) (same : k ≡ kind) (byte value : ℕ) where
 
 -- ---- the same in other words
 
-pub before-is : (b : Before) (file : List ℕ) (rows : Rows) → b.file ≡ file → b.rows ≡ rows → b ≡ record { file = file; rows = rows }
-before-is b file rows e1 e2 = ap (λ (f : List ℕ). record { file = f; rows = b.rows }) e1 ∙ ap (λ (r : Rows). record { file = file; rows = r }) e2
-
-pub same-four : {A B C D X : Type 0} (f : A → B → C → D → X) (a a' : A) (b b' : B) (c c' : C) (d d' : D) → a ≡ a' → b ≡ b' → c ≡ c' → d ≡ d' → f a b c d ≡ f a' b' c' d'
-same-four f a a' b b' c c' d d' e1 e2 e3 e4 = ap (λ x. f x b c d) e1 ∙ ap (λ x. f a' x c d) e2 ∙ ap (λ x. f a' b' x d) e3 ∙ ap (λ x. f a' b' c' x) e4
+pub same-three : {A B C X : Type 0} (f : A → B → C → X) (a a' : A) (b b' : B) (c c' : C) → a ≡ a' → b ≡ b' → c ≡ c' → f a b c ≡ f a' b' c'
+same-three f a a' b b' c c' e1 e2 e3 = ap (λ x. f x b c) e1 ∙ ap (λ x. f a' x c) e2 ∙ ap (λ x. f a' b' x) e3

@@ -1,17 +1,17 @@
 -- Items taken from a stack, and put on it.
-use Rattle.std.proofs.Common.{◌≡◌, ◌≤◌, ℕ, zero, suc, true, List, [], ◌∷◌, ◌++◌, Option, Some, None, length, map, refl, sym, ap, ◌∙◌, subst, arith}
-use Rattle.std.specs.Prelude.{option_to_list, slice_get, reverse, ◌-◌}
+use Rattle.std.proofs.Common.{◌≡◌, ℕ, zero, suc, true, List, [], ◌∷◌, ◌++◌, Option, Some, None, length, refl, sym, ap, ◌∙◌, subst, arith}
+use Rattle.std.specs.Prelude.{slice_get, ◌-◌}
 use Rattle.std.specs.Option.{option_map}
 use Rattle.std.proofs.lemmas.Option.{slice_get-map}
-use Rattle.std.proofs.lemmas.List.{reverse-append, map-append}
+use Rattle.std.proofs.lemmas.List.{map-append}
 use Rattle.mz_logic.specs.Tree.{Tree}
-use Rattle.mz_store.specs.Sharing.{Sharing, tree_of, IsIn, AreIn, KeepsIds}
+use Rattle.mz_store.specs.Sharing.{Sharing}
 use Rattle.mz_store.specs.declared.item.Id.{Id}
 use Rattle.mz_store.specs.declared.item.Item.{Item as Kept}
 use Rattle.mz_store.specs.declared.item.Item.TheVariants.{Expr, Proof, Obligation, Conversion}
 use Rattle.mz_unification.specs.Profile.{Item}
-use Rattle.mz_unify.specs.Stored.{item_at, items_at, trees_at, IsItemIn, AreItemsIn}
-use Rattle.mz_unify.proofs.Offered.{items-in-left, items-in-right, items-in-both, items-push, still-in}
+use Rattle.mz_unify.specs.Stored.{item_at, items_at, IsItemIn, AreItemsIn}
+use Rattle.mz_unify.proofs.Offered.{items-in-left, items-in-right, items-push}
 use Rattle.mz_soundness.specs.Premises.{is_conversion}
 use Rattle.mz_machine.specs.Steps.{is_conversion_at}
 use Rattle.mz_machine.specs.OverStore.{heap_at}

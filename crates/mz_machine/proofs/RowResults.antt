@@ -1,6 +1,6 @@
 -- What the rows of the proof machine give, case by case: those over the heap.
-use Rattle.std.proofs.Common.{◌≡◌, ◌≤◌, ◌<◌, ◌-◌, ℕ, zero, suc, Bool, true, false, List, [], ◌∷◌, ◌++◌, Option, Some, None, Result, Ok, Err, length, refl, sym, ap, ◌∙◌, subst, arith}
-use Rattle.std.specs.Prelude.{slice_get, not, nat_lt, ◌&&◌, if◌then◌else◌}
+use Rattle.std.proofs.Common.{◌≡◌, ℕ, suc, Bool, true, false, List, [], ◌∷◌, ◌++◌, Some, None, Ok, Err, length, refl, ap, ◌∙◌}
+use Rattle.std.specs.Prelude.{slice_get, nat_lt, if◌then◌else◌}
 use Rattle.mz_cmd.specs.declared.rule.K.{K}
 use Rattle.mz_cmd.specs.declared.rule.K.TheVariants as k
 use Rattle.mz_cmd.specs.declared.code.ProofCode.TheVariants as code
@@ -14,9 +14,9 @@ use Rattle.mz_unification.specs.Profile.{strict, Item, expr, proof, obligation, 
 use Rattle.mz_unification.specs.Tests.{same_tree}
 use Rattle.mz_unification.proofs.Offered.{same_tree-true, same_tree-refl}
 use Rattle.mz_soundness.specs.Tables.{Tables, State}
-use Rattle.mz_soundness.specs.Premises.{pop, pop_expr, pop_obligation, is_conversion, is_obligation, may_be_dummy_sort, is_provable_sort, bound_count}
+use Rattle.mz_soundness.specs.Premises.{pop_expr, pop_obligation, is_conversion, is_obligation, may_be_dummy_sort, is_provable_sort, bound_count}
 use Rattle.mz_soundness.specs.ProofMachine.{proof_row, referred, has_provable_sort}
-use Rattle.mz_machine.specs.Before.{Before, tables_of, signatures_of}
+use Rattle.mz_earlier.specs.Before.{Before, tables_of, signatures_of}
 use Rattle.mz_machine.specs.OverStore.{with_stack}
 
 pub not-same : (e f : Tree) → (e ≡ f → ⊥) → same_tree e f ≡ false

@@ -1,5 +1,5 @@
 -- What the rows of the proof machine give, case by case: applications of terms.
-use Rattle.std.proofs.Common.{◌≡◌, ◌≤◌, ◌<◌, ℕ, zero, suc, List, [], ◌∷◌, ◌++◌, Option, Some, None, Result, Ok, Err, length, map, get_or, refl, sym, ap, ◌∙◌, subst, arith}
+use Rattle.std.proofs.Common.{◌≡◌, ◌<◌, ℕ, zero, suc, List, [], ◌∷◌, ◌++◌, Some, None, Result, Ok, Err, length, map, get_or, refl, sym, ap, ◌∙◌, subst, arith}
 use Rattle.std.specs.Prelude.{slice_get}
 use Rattle.mz_cmd.specs.declared.rule.K.{K}
 use Rattle.mz_cmd.specs.declared.rule.K.TheVariants as k
@@ -7,9 +7,8 @@ use Rattle.mz_cmd.specs.declared.code.ProofCode.TheVariants as code
 use Rattle.mz_logic.specs.Tree.{Tree, app, none}
 use Rattle.mz_logic.specs.Signature.{Signature}
 use Rattle.mz_logic.specs.Sorts.{Fits}
-use Rattle.mz_logic.specs.Words.{term_at, signature_of, binders_of}
+use Rattle.mz_logic.specs.Words.{signature_of, binders_of}
 use Rattle.mz_logic.specs.Words.{signatures_of as signatures_by}
-use Rattle.mz_logic.specs.declared.binder.Binder.{Binder}
 use Rattle.mz_layout.specs.Tables.{term_row}
 use Rattle.mz_store.specs.Sharing.{Sharing, Shared, tree_of, IsIn, AreIn, IsOver, KeepsIds, CanTake}
 use Rattle.mz_store.specs.Sharing.{trees_of as trees_in}
@@ -18,7 +17,7 @@ use Rattle.mz_store.specs.declared.item.Item.{Item as Kept}
 use Rattle.mz_store.specs.declared.item.Item.TheVariants.{Expr, Proof, Obligation, Conversion}
 use Rattle.mz_unification.specs.Spells.{TermRow, trees_of}
 use Rattle.mz_unification.specs.Sorted.{AllSorted}
-use Rattle.mz_unification.specs.Profile.{strict, Item, expr, proof, obligation, conversion}
+use Rattle.mz_unification.specs.Profile.{strict, Item, expr, proof}
 use Rattle.mz_unify.specs.Stored.{trees_at, item_at, items_at, IsItemIn, AreItemsIn}
 use Rattle.mz_unification.specs.Steps.{◌>>=◌}
 use Rattle.std.specs.Prelude.{reverse}
@@ -27,11 +26,11 @@ use Rattle.mz_unify.proofs.Offered.{items-in-both, still-in}
 use Rattle.mz_soundness.specs.Tables.{Tables, signatures_in, State}
 use Rattle.mz_soundness.specs.Premises.{pop_operands, operands_fit}
 use Rattle.mz_soundness.specs.ProofMachine.{proof_row, built, push, saved}
-use Rattle.mz_machine.specs.Before.{Before, signatures_of, words_before}
+use Rattle.mz_earlier.specs.Before.{Before, signatures_of, words_before}
 use Rattle.mz_soundness.specs.FileRows.{term_of_file}
 use Rattle.mz_soundness.proofs.Offered.{fits-from}
-use Rattle.mz_machine.proofs.BeforeLaws.{length-words, words-at, signatures-before}
-use Rattle.mz_machine.proofs.FittingOperands.{binders-many}
+use Rattle.mz_earlier.proofs.Offered.{length-words, words-at, signatures-before}
+use Rattle.mz_store.proofs.Offered.{binders-many}
 
 pub map-same : {A : Type 0} (xs : List A) → map (λ (x : A). x) xs ≡ xs
 map-same [] = refl

@@ -1,6 +1,6 @@
 -- Unfoldings over a store: what stands on the stack, and what the unify machine makes of it.
-use Rattle.std.proofs.Common.{◌≡◌, ◌<◌, ◌+◌, ℕ, List, [], ◌∷◌, ◌++◌, length, drop, map, Bool, true, false, Option, Some, None, Result, Ok, Err, slice_get, refl, sym, ap, ◌∙◌, subst, arith}
-use Rattle.std.specs.Prelude.{OnOk, not, if◌then◌else◌}
+use Rattle.std.proofs.Common.{◌≡◌, ◌<◌, ◌+◌, ℕ, List, [], ◌∷◌, ◌++◌, length, drop, true, false, Some, None, Result, Ok, Err, slice_get, refl, sym, ap, ◌∙◌, subst, arith}
+use Rattle.std.specs.Prelude.{OnOk}
 use Rattle.std.proofs.lemmas.Option.{slice_get_within}
 use Rattle.std.proofs.lemmas.List.{length-map}
 use Rattle.mz_logic.specs.Tree.{Tree, var, app, listed}
@@ -18,13 +18,12 @@ use Rattle.mz_unification.specs.UnifyMachine.{in_definition, Matching, unify, un
 use Rattle.mz_unify.specs.Stored.{IsItemIn, AreItemsIn, item_at, items_at, trees_at, matching_at}
 use Rattle.mz_unify.proofs.Offered.{items-push}
 use Rattle.mz_unify.specs.declared.unified.UnifyMode.TheVariants.{Body}
-use Rattle.mz_soundness.specs.Tables.{State}
 use Rattle.mz_soundness.specs.ProofMachine.{stream_of}
 use Rattle.mz_machine.specs.OverStore.{UnlessMem}
 use Rattle.mz_machine.specs.declared.command.Stop.{Stop}
 use Rattle.mz_machine.specs.declared.command.Stop.TheVariants.{Rule, Mem}
-use Rattle.mz_machine.specs.Before.{Before, tables_of, signatures_of, words_before}
-use Rattle.mz_machine.proofs.BeforeLaws.{signatures-before, length-words, term-before}
+use Rattle.mz_earlier.specs.Before.{Before, tables_of, signatures_of, words_before}
+use Rattle.mz_earlier.proofs.Offered.{signatures-before, length-words, term-before}
 use Rattle.mz_machine.proofs.Converting.{put_in}
 
 -- ---- terms of expressions

@@ -1,8 +1,7 @@
-pub mod Before
 pub mod OverStore
 pub mod Steps
 pub mod BodyAnswers
-pub mod OperandRows
 pub mod Endings
 pub mod Stepping
 pub mod UnderwayCode
+pub mod Running

@@ -1,5 +1,5 @@
 -- The proof machine over a store: expressions are ids, and a state is that of their trees.
-use Rattle.std.specs.Prelude.{◌≡◌, ℕ, ⊤, Bool, true, false, ◌+◌, ◌<◌, ◌≤◌, ◌^◌, List, [], ◌∷◌, ◌++◌, length, map, All as Every, MatchResult, Result, Ok, Err}
+use Rattle.std.specs.Prelude.{◌≡◌, ℕ, ⊤, Bool, true, false, ◌<◌, ◌^◌, List, ◌++◌, length, map, All as Every, MatchResult, Result, Ok, Err}
 use Rattle.mz_cmd.specs.declared.rule.K.{K}
 use Rattle.mz_logic.specs.Tree.{Tree, var}
 use Rattle.mz_logic.specs.Signature.{Signature}
@@ -8,20 +8,17 @@ use Rattle.mz_logic.specs.declared.binder.Binder.{Binder}
 use Rattle.mz_store.specs.Sharing.{Sharing, tree_of, IsIn, AreIn, IsOver, KeepsIds}
 use Rattle.mz_store.specs.declared.item.Id.{Id}
 use Rattle.mz_store.specs.declared.item.Item.{Item as Kept}
-use Rattle.mz_store.specs.declared.item.DepsMode.{DepsMode}
-use Rattle.mz_store.specs.declared.item.DepsMode.TheVariants.{All, Free}
 use Rattle.mz_unification.specs.Profile.{Item}
 use Rattle.mz_unify.specs.Stored.{trees_at, item_at, items_at, AreItemsIn}
-use Rattle.mz_soundness.specs.Tables.{State, Kind, is_axiom, is_theorem, is_definition}
-use Rattle.mz_machine.specs.Before.{kind_at, heading_of, MayRun, tables_before}
+use Rattle.mz_soundness.specs.Tables.{State}
+use Rattle.mz_earlier.specs.OwnRow.{kind_at, heading_of, MayRun, mode_for}
+use Rattle.mz_earlier.specs.Before.{tables_before}
 use Rattle.mz_soundness.specs.Tables.{signatures_in}
 use Rattle.mz_unification.specs.Steps.{◌>>=◌}
 use Rattle.mz_unification.specs.Profile.{strict}
 use Rattle.mz_soundness.specs.Premises.{pop_expr, pop_sides}
 use Rattle.mz_cmd.specs.declared.code.ProofCode.{ProofCode}
 use Rattle.mz_cmd.specs.declared.code.ProofCode.TheVariants as code
-use Rattle.mz_machine.specs.declared.command.BodyKind.{BodyKind}
-use Rattle.mz_machine.specs.declared.command.BodyKind.TheVariants as kind
 use Rattle.mz_machine.specs.declared.command.Making.{Making}
 use Rattle.mz_machine.specs.declared.command.Making.TheVariants as making
 use Rattle.mz_machine.specs.declared.command.Keeping.{Keeping}
@@ -32,7 +29,7 @@ use Rattle.mz_machine.specs.declared.command.Command.{Command}
 use Rattle.mz_machine.specs.declared.command.Command.TheVariants.{Makes, Keeps, Converts}
 use Rattle.mz_machine.specs.declared.command.Stop.{Stop}
 use Rattle.mz_machine.specs.declared.command.Stop.TheVariants.{Rule, Mem}
-use Rattle.mz_machine.specs.declared.earlier.Rows.{Rows}
+use Rattle.mz_layout.specs.declared.taken.Rows.{Rows}
 
 -- ---- states
 
@@ -52,12 +49,7 @@ with_stack st xs = record st { stack = xs }
 abbrev pub pop_unfolding : List (Item Tree) → Result (Tree × Tree × Tree × List (Item Tree)) K
 pop_unfolding xs = pop_expr xs >>= λ e. (pop_sides strict e.1 >>= λ o. Ok (e.0, o.0, o.1, o.2))
 
--- ---- kinds and commands
-
-abbrev pub kind_of : BodyKind → Kind
-kind_of kind.Axiom = is_axiom
-kind_of kind.Definition = is_definition
-kind_of kind.Theorem = is_theorem
+-- ---- commands
 
 abbrev pub code_of_making : Making → ProofCode
 code_of_making making.Term = code.Term
@@ -131,12 +123,6 @@ pub record Grows (sigs : List Signature) (s s' : Sharing) : Type 0 where
   pub over : IsOver sigs s'
   pub mode : s'.mode ≡ s.mode
   pub context : (more : List Binder) × (s'.context ≡ s.context ++ more) × Every IsDummy more
-
--- which variables the store's words tell: in a definition's body the free ones
-abbrev pub mode_for : Kind → DepsMode
-mode_for is_axiom = All
-mode_for is_theorem = All
-mode_for is_definition = Free
 
 -- the ids below n are variables, the i-th the variable i
 abbrev pub AreFirst : Sharing → ℕ → Type 0

@@ -1,39 +1,24 @@
 -- What a machine answers to a command, and to the END.
-use Rattle.std.specs.Prelude.{◌≡◌, ℕ, ⊤, ◌+◌, ◌≤◌, ◌||◌, Bool, false, List, length, map, Ok, Err}
-use Rattle.std.specs.List.{range_with_len}
+use Rattle.std.specs.Prelude.{◌≡◌, ℕ, ⊤, ◌+◌, ◌≤◌, ◌||◌, Bool, false, List, length, Result, Ok, Err}
 use Rattle.mz_cmd.specs.declared.command.Cmd.{Cmd}
 use Rattle.mz_cmd.specs.Codes.{proof_code}
 use Rattle.mz_unification.specs.Profile.{plain}
 use Rattle.mz_logic.specs.Tree.{Tree}
-use Rattle.mz_logic.specs.declared.word.Word.{Word}
-use Rattle.mz_layout.specs.Tables.{term_row, thm_row}
-use Rattle.mz_store.specs.declared.item.Item.{Item as Kept}
-use Rattle.mz_store.specs.declared.item.Item.TheVariants.{Expr}
-use Rattle.mz_soundness.specs.Tables.{State, Kind, is_axiom, is_theorem, is_definition}
+use Rattle.mz_soundness.specs.Tables.{State}
 use Rattle.mz_soundness.specs.ProofMachine.{proof_end}
 use Rattle.mz_soundness.specs.Bodies.{body_command, body_start}
-use Rattle.mz_machine.specs.Before.{heading_of}
+use Rattle.mz_earlier.specs.OwnRow.{heading_of}
 use Rattle.mz_machine.specs.Steps.{Underway, tables_for, heading_for, row_of, is_sorry, TakesNone}
 use Rattle.mz_machine.specs.BodyAnswers.{CountsOf}
-use Rattle.mz_machine.specs.declared.earlier.Rows.{Rows}
+use Rattle.mz_layout.specs.declared.taken.Rows.{Rows}
+use Rattle.mz_machine.specs.declared.command.Stop.{Stop}
+use Rattle.mz_machine.specs.declared.command.Stop.TheVariants as stop
 use Rattle.mz_machine.specs.declared.machine.Stepped.{Stepped}
 use Rattle.mz_machine.specs.declared.machine.Stepped.TheVariants as stepped
 use Rattle.mz_machine.specs.declared.body.BodyChecked.{BodyChecked}
 use Rattle.mz_machine.specs.declared.body.BodyChecked.TheVariants.{Good, Refused, Mem}
 use Rattle.mz_machine.specs.declared.machine.Finished.{Finished}
 use Rattle.mz_machine.specs.declared.machine.Finished.TheVariants as finished
-
--- ---- before the first command
-
--- the words of the row's parameters
-abbrev pub own_words : List ℕ → ℕ → Kind → List Word
-own_words file row is_axiom = (thm_row file row).params
-own_words file row is_theorem = (thm_row file row).params
-own_words file row is_definition = (term_row file row).words.params
-
--- the first n ids, as expressions
-abbrev pub first_items : ℕ → List Kept
-first_items n = map (λ i. Expr (record { 0 = i })) (range_with_len 0 n)
 
 -- the machine before the first command
 pub record IsBegun (gaps : Bool) (file : List ℕ) (kind row : ℕ) (before : Rows) (u : Underway) : Type 0 where
@@ -70,6 +55,12 @@ UnlessMem (stepped.Machine after) P = P
 UnlessMem (stepped.Refused rule) P = P
 UnlessMem stepped.Mem P = ⊤
 
+-- what became of a command that has led to this machine
+abbrev pub stepped_to : {A : Type 0} → Underway → Result A Stop → Stepped
+stepped_to after (Ok x) = stepped.Machine after
+stepped_to after (Err (stop.Rule rule)) = stepped.Refused rule
+stepped_to after (Err stop.Mem) = stepped.Mem
+
 -- ---- the END
 
 -- what the END leads to; want of memory says nothing
@@ -88,3 +79,8 @@ abbrev pub ended_at : ℕ → Finished → BodyChecked
 ended_at at (finished.Body end) = Good end
 ended_at at (finished.Refused rule) = Refused at rule
 ended_at at finished.Mem = Mem
+
+-- and what stops a command at a place
+abbrev pub stopped_at : ℕ → Stop → BodyChecked
+stopped_at at (stop.Rule rule) = Refused at rule
+stopped_at at stop.Mem = Mem

@@ -1,5 +1,5 @@
 -- A machine that takes commands one by one.
-use Rattle.std.specs.Prelude.{◌≡◌, ℕ, ⊤, suc, Bool, true, false, ◌+◌, ◌≤◌, List, length, drop, Option, Some, None, Result, Ok, Err, slice_get, IsTrue}
+use Rattle.std.specs.Prelude.{ℕ, ⊤, suc, Bool, true, false, List, Option, Some, None, Result, Err, slice_get, IsTrue}
 use Rattle.mz_cmd.specs.declared.rule.K.{K}
 use Rattle.mz_cmd.specs.declared.rule.K.TheVariants as k
 use Rattle.mz_cmd.specs.declared.command.Cmd.{Cmd}
@@ -11,8 +11,9 @@ use Rattle.mz_soundness.specs.Tables.{Tables, State, Heading}
 use Rattle.mz_soundness.specs.Premises.{is_conversion}
 use Rattle.mz_soundness.specs.ProofMachine.{proof_row, ends_with}
 use Rattle.mz_soundness.specs.Bodies.{BodyCommand, ends, proves, body_command, row_steps, match_steps}
-use Rattle.mz_machine.specs.Before.{heading_of, tables_before}
-use Rattle.mz_machine.specs.declared.earlier.Rows.{Rows}
+use Rattle.mz_earlier.specs.OwnRow.{heading_of}
+use Rattle.mz_earlier.specs.Before.{tables_before}
+use Rattle.mz_layout.specs.declared.taken.Rows.{Rows}
 
 -- a machine between two commands: whether gaps are let through, the file, the statement whose body runs with the rows
 -- before it, the state, whether a gap was left, and how many expressions its store holds

@@ -7,7 +7,7 @@ use Rattle.mz_logic.specs.declared.binder.Binder.{Binder}
 use Rattle.mz_unification.specs.Profile.{Item, expr, proof, obligation, conversion}
 use Rattle.mz_soundness.specs.Tables.{State}
 use Rattle.mz_machine.specs.Steps.{Underway}
-use Rattle.mz_machine.specs.declared.earlier.Rows.{Rows}
+use Rattle.mz_layout.specs.declared.taken.Rows.{Rows}
 
 abbrev pub parts_of : Item Tree → ℕ × (Tree × Tree)
 parts_of (expr e) = (0, (e, e))

@@ -1,20 +1,21 @@
 //! Operands that are apart: none holds the variable of a bound parameter, but of its own and of those
 //! on which its parameter depends.
-ghost use Rattle.std.specs.Prelude.{ℕ, ◌≡◌, ◌<◌, ◌%◌, ◌==◌, ◌||◌, ◌&&◌, true, List, IfOk, Ok, Some, length, not, nat_lt, slice_get, if◌then◌else◌};
+ghost use Rattle.std.specs.Prelude.{ℕ, ◌≡◌, ◌<◌, ◌||◌, true, List, IfOk, Ok, Some, length, not, slice_get};
 ghost use Rattle.mz_logic.specs.Tree.{Tree};
 ghost use Rattle.mz_logic.specs.Signature.{Signature};
-ghost use Rattle.mz_logic.specs.Words.{binders_of, bound_places, word_bound, word_deps};
+ghost use Rattle.mz_logic.specs.Words.{binders_of, bound_places};
 ghost use Rattle.mz_logic.specs.declared.binder.Binder.{Binder};
-ghost use Rattle.mz_store.specs.Sharing.{IsIn, AreIn, IsOver, tree_of};
+ghost use Rattle.mz_layout.specs.Rows.{params_of};
+ghost use Rattle.mz_store.specs.Sharing.{IsIn, AreIn, IsOver, tree_of, deps_of};
 ghost use Rattle.mz_store.specs.declared.item.DepsMode.TheVariants.{All};
 ghost use Rattle.mz_unify.specs.Stored.{trees_at};
 ghost use Rattle.mz_unification.specs.Tests.{is_bound_var, var_within};
 ghost use Rattle.mz_soundness.specs.Premises.{operands_fit, apart_from, are_apart};
-ghost use Rattle.mz_machine.specs.Before.{signatures_of};
-ghost use Rattle.mz_machine.specs.OperandRows.{AreAmong, IsBefore, params_of};
+ghost use Rattle.mz_earlier.specs.Before.{signatures_of};
+ghost use Rattle.mz_earlier.specs.OperandRows.{AreAmong, IsBefore};
 
-use crate::earlier::{Earlier, Row};
-use mz_logic::Word;
+use mz_earlier::{Earlier, bound_places, dependencies, may_meet};
+use mz_layout::Row;
 use mz_store::{Id, Store};
 use std::alloc::{AllocError, Global};
 
@@ -46,25 +47,11 @@ pub(crate) fn are_apart(
     Ok(true)
 }
 
-/// The places of the row's bound parameters.
-fn bound_places(alloc: Global, earlier: &Earlier, row: Row) -> Result<Vec<u32>, AllocError>
-    requires { IsBefore earlier.now row }
-    ensures { IfOk result (λ places. places.items ≡ bound_places 0 (params_of earlier.now.file row)) }
-{
-    let mut places = Vec::new(alloc);
-    'params: for i in 0..earlier.arity_of(row) {
-        if earlier.word_of(row, i).bound() {
-            places.push(i)?;
-        }
-    }
-    Ok(places)
-}
-
 /// The word of the variables of the operands at these places.
 fn variables_at(store: &Store, operands: &[Id], places: &[u32]) -> u64
     requires ids { AreIn store.now operands.now }
     requires within { (k p : ℕ) → slice_get places.now k ≡ Some p → p < length operands.now }
-    ensures { AreAmong store.now operands.now places.now result }
+    ensures { AreAmong (λ id. deps_of store.now id.0) operands.now places.now result }
 {
     let mut word = 0;
     'places: for place in places {
@@ -91,7 +78,7 @@ fn is_apart(
     requires many { length operands.now ≡ length (params_of earlier.now.file row) }
     requires fit { operands_fit (signatures_of earlier.now) store.now.context (trees_at store.now operands.now) (binders_of (params_of earlier.now.file row)) ≡ Ok tt }
     requires bound { bound.now ≡ bound_places 0 (params_of earlier.now.file row) }
-    requires all { AreAmong store.now operands.now bound.now all }
+    requires all { AreAmong (λ id. deps_of store.now id.0) operands.now bound.now all }
     requires place { i < length (params_of earlier.now.file row) }
     ensures { (e : Tree) (p : Binder) → slice_get (trees_at store.now operands.now) i ≡ Some e → slice_get (binders_of (params_of earlier.now.file row)) i ≡ Some p → result ≡ apart_from store.now.context i p.deps e 0 (trees_at store.now operands.now) (binders_of (params_of earlier.now.file row)) }
 {
@@ -109,21 +96,6 @@ fn is_apart(
         bits /= 2;
     }
     true
-}
-
-/// The bits of the bound parameters on which a parameter depends, none of a bound one.
-fn dependencies(word: Word) -> u64
-    ensures { result ≡ (if word_bound word then 0 else word_deps word) }
-{
-    if word.bound() { 0 } else { word.deps() }
-}
-
-/// Whether the i-th operand may hold the variable of the j-th: it is the same one, or the i-th parameter
-/// depends on the j-th, which comes before it and whose bit is the lowest.
-fn may_meet(i: u32, j: u32, bits: u64) -> bool
-    ensures { result ≡ (i == j || (nat_lt j i && bits % 2 == 1)) }
-{
-    i == j || (j < i && bits % 2 == 1)
 }
 
 /// Whether an operand may stand beside a bound variable: it doesn't hold that, or is exempt.

@@ -4,15 +4,16 @@ ghost use Rattle.mz_mode.specs.Gaps.{gaps_of};
 ghost use Rattle.mz_unification.specs.Profile.{plain};
 ghost use Rattle.mz_soundness.specs.Bodies.{body_run, body_steps, body_from, body_steps_from};
 ghost use Rattle.mz_machine.specs.Steps.{heading_for, tables_for};
-ghost use Rattle.mz_soundness.specs.FileRows.{body_bytes};
-ghost use Rattle.mz_machine.specs.Before.{MayRun, heading_of, tables_before};
+ghost use Rattle.mz_layout.specs.Heads.{body_bytes};
+ghost use Rattle.mz_earlier.specs.OwnRow.{MayRun, heading_of};
+ghost use Rattle.mz_earlier.specs.Before.{tables_before};
 ghost use Rattle.mz_machine.specs.BodyAnswers.{IsBodyRun, UnlessMem};
-ghost use Rattle.mz_machine.specs.Stepping.{ended_at};
+ghost use Rattle.mz_machine.specs.Stepping.{ended_at, stopped_at};
 
-use crate::earlier::Rows;
-use crate::machine::{Finished, Machine, Stepped};
+use crate::command::Stop;
+use crate::machine::{Finished, Machine};
 use mz_cmd::{END, K, Steps, cmd_at};
-use mz_layout::Mmb;
+use mz_layout::{Mmb, Rows};
 use mz_mode::Mode;
 use std::alloc::Global;
 use std::sync::ledger::Ledger;
@@ -79,7 +80,7 @@ fn run<L: Ledger>(start: Machine, bytes: &[u8], from: u32, steps: &mut Steps<L>)
     ensures steps { UnlessMem result (steps.new ≡ steps.old + body_steps_from (plain start.entry.gaps) (tables_for start.entry) (heading_for start.entry) (length bytes.now) from bytes.now start.entry.state) }
     ensures most { steps.new ≤ steps.old + length bytes.now * (length start.entry.file + 1) }
 {
-    let mut machine = start;
+    let Machine { setting, mut parts } = start;
     let mut at = 0;
     'commands: loop {
         let Ok(cmd) = cmd_at(bytes, at) else {
@@ -96,19 +97,22 @@ fn run<L: Ledger>(start: Machine, bytes: &[u8], from: u32, steps: &mut Steps<L>)
                     rule: K::StatementLength,
                 };
             }
-            return ended(from + at, machine.finish(steps));
+            return ended(from + at, setting.finish(&parts, steps));
         }
-        match machine.step(cmd, steps) {
-            Stepped::Machine(after) => machine = after,
-            Stepped::Refused(rule) => {
-                return BodyChecked::Refused {
-                    at: from + at,
-                    rule,
-                };
-            }
-            Stepped::Mem => return BodyChecked::Mem,
+        match setting.advance(&mut parts, cmd, steps) {
+            Ok(()) => at = next,
+            Err(stop) => return stopped(from + at, stop),
         }
-        at = next;
+    }
+}
+
+/// What stops a command at a place, as what became of the body.
+fn stopped(at: u32, stop: Stop) -> BodyChecked
+    ensures { result ≡ stopped_at at stop }
+{
+    match stop {
+        Stop::Rule(rule) => BodyChecked::Refused { at, rule },
+        Stop::Mem => BodyChecked::Mem,
     }
 }
 

@@ -2,10 +2,11 @@
 ghost use Rattle.std.specs.Prelude.{ℕ, ◌≡◌, IfSome, IfNone, Some, None};
 ghost use Rattle.mz_unification.specs.Profile.{strict};
 ghost use Rattle.mz_soundness.specs.Bodies.{stands_in, body_command, proves};
-ghost use Rattle.mz_machine.specs.Before.{kind_at};
-ghost use Rattle.mz_machine.specs.OverStore.{kind_of, code_of};
+ghost use Rattle.mz_earlier.specs.OwnRow.{kind_of};
+ghost use Rattle.mz_machine.specs.OverStore.{code_of};
 
 use mz_cmd::{K, ProofCode};
+use mz_earlier::BodyKind;
 
 /// Why a command doesn't go through.
 #[derive(Clone, Copy, Debug, PartialEq, Eq)]
@@ -25,14 +26,6 @@ impl From<K> for Stop {
     fn from(rule: K) -> Stop {
         Stop::Rule(rule)
     }
-}
-
-/// The kind of a statement whose body runs.
-#[derive(Clone, Copy, Debug, PartialEq, Eq)]
-pub(crate) enum BodyKind {
-    Axiom,
-    Definition,
-    Theorem,
 }
 
 /// A command that makes an expression or a proof.
@@ -73,17 +66,6 @@ pub(crate) enum Command {
     Makes(Making),
     Keeps(Keeping),
     Converts(Converting),
-}
-
-/// The kind of a statement with this code: 02 an axiom, 05 a definition, 06 a theorem.
-pub(crate) fn kind_by(code: u8) -> BodyKind
-    ensures { kind_of result ≡ kind_at code }
-{
-    match code {
-        0x05 => BodyKind::Definition,
-        0x02 => BodyKind::Axiom,
-        _ => BodyKind::Theorem,
-    }
 }
 
 /// Whether the command stands in such bodies.

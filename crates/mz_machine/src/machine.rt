@@ -7,37 +7,41 @@ ghost use Rattle.mz_store.specs.Sharing.{AreIn, IsOver};
 ghost use Rattle.mz_unification.specs.Profile.{plain};
 ghost use Rattle.mz_unify.specs.Stored.{AreItemsIn};
 ghost use Rattle.mz_soundness.specs.Bodies.{body_command};
-ghost use Rattle.mz_machine.specs.Before.{MayRun, kind_at, tables_of, signatures_of};
-ghost use Rattle.mz_machine.specs.OverStore.{state_at, mode_for, code_of, Gives, NeverWants, Grows};
+ghost use Rattle.mz_earlier.specs.OwnRow.{MayRun, kind_at, mode_for};
+ghost use Rattle.mz_earlier.specs.Before.{tables_of, signatures_of};
+ghost use Rattle.mz_machine.specs.OverStore.{state_at, code_of, Gives, NeverWants, Grows};
 ghost use Rattle.mz_machine.specs.OverStore.{UnlessMem as OrMem};
 ghost use Rattle.mz_machine.specs.Steps.{heading_for, tables_for, steps_for, row_by, steps_by, end_steps, is_sorry, TakesNone};
-ghost use Rattle.mz_machine.specs.Stepping.{IsBegun, IsStepped, IsFinished, UnlessMem, UnlessEndMem};
+ghost use Rattle.mz_machine.specs.Stepping.{IsBegun, IsStepped, IsFinished, stepped_to, UnlessMem, UnlessEndMem};
+ghost use Rattle.mz_machine.specs.Running.{IsRunning, machine_of};
 
-use crate::begin::{deps_mode, first_items, read_words};
 use crate::body::BodyEnd;
-use crate::command::{Command, Converting, Stop, decoded, kind_by};
+use crate::command::{Command, Converting, Stop, decoded};
 use crate::commands::{execute, gap};
-use crate::earlier::{Earlier, Rows};
 use crate::end::end;
 use mz_cmd::{Cmd, K, ProofCode, Steps};
-use mz_layout::Mmb;
+use mz_earlier::{Earlier, deps_mode, first_items, kind_by, read_words};
+use mz_layout::{Mmb, Rows};
 use mz_mode::Mode;
 use mz_store::{Id, Item, Store};
 use std::alloc::{AllocError, Global};
 use std::marker::Model;
 use std::sync::ledger::Ledger;
 
-/// A machine between two commands of a body. Its meaning is the state to which they have led, over
-/// the file, the statement and the rows before it.
+/// The statement whose body runs, and the rows before it.
 #[derive(Drop)]
-pub struct Machine<'a> {
+pub(crate) struct Setting<'a> {
     alloc: Global,
-    mmb: &'a Mmb<'a>,
+    earlier: Earlier<'a>,
     mode: Mode,
     kind: u8,
     row: u32,
-    before: Rows,
     bound_params: u32,
+}
+
+/// What a body's commands change.
+#[derive(Drop)]
+pub(crate) struct Parts {
     store: Store,
     heap: Vec<Item>,
     stack: Vec<Item>,
@@ -45,22 +49,26 @@ pub struct Machine<'a> {
     sorry: bool,
 }
 
+/// A machine between two commands of a body. Its meaning is the state to which they have led, over
+/// the file, the statement and the rows before it.
+#[derive(Drop)]
+pub struct Machine<'a> {
+    pub(crate) setting: Setting<'a>,
+    pub(crate) parts: Parts,
+}
+
 impl<'a> Model for Machine<'a> {
-    ghost use Rattle.std.specs.Prelude.{length, ◌≡◌};
-    ghost use Rattle.mz_mode.specs.Gaps.{gaps_of};
-    ghost use Rattle.mz_store.specs.Bits.{bound_vars};
-    ghost use Rattle.mz_machine.specs.Before.{heading_of};
     ghost use Rattle.mz_machine.specs.Steps.{Underway};
-    ghost use Rattle.mz_machine.specs.OverStore.{IsUnderway, state_at};
+    ghost use Rattle.mz_machine.specs.Running.{IsRunning, machine_of};
     ghost use Rattle.mz_machine.specs.UnderwayCode.{underway_code};
 
     ghost Value = { Underway };
 
     ghost coded = { underway_code };
 
-    ghost view = { λ m. record { gaps = gaps_of m.mode; file = m.mmb.now; kind = m.kind; row = m.row; before = m.before; state = state_at m.store m.heap.items m.stack.items m.hyps.items; sorry = m.sorry; nodes = length m.store.entries } };
+    ghost view = { λ m. machine_of m.setting m.parts };
 
-    ghost invariant = { λ m. IsUnderway m.mmb.now m.kind m.row m.before m.store m.heap.items m.stack.items m.hyps.items × (m.bound_params ≡ length (bound_vars (heading_of m.mmb.now m.kind m.row).params)) };
+    ghost invariant = { λ m. IsRunning m.setting m.parts };
 }
 
 /// What became of a command.
@@ -112,18 +120,21 @@ impl<'a> Machine<'a> {
         let heap = first_items(alloc, words.len())?;
         let bound_params = store.bound_count();
         Ok(Machine {
-            alloc,
-            mmb,
-            mode,
-            kind,
-            row,
-            before,
-            bound_params,
-            store,
-            heap,
-            stack: Vec::new(alloc),
-            hyps: Vec::new(alloc),
-            sorry: false,
+            setting: Setting {
+                alloc,
+                earlier,
+                mode,
+                kind,
+                row,
+                bound_params,
+            },
+            parts: Parts {
+                store,
+                heap,
+                stack: Vec::new(alloc),
+                hyps: Vec::new(alloc),
+                sorry: false,
+            },
         })
     }
 
@@ -136,38 +147,9 @@ impl<'a> Machine<'a> {
         ensures steps { UnlessMem result (steps.new ≡ steps.old + steps_for self.entry.gaps (tables_for self.entry) (heading_for self.entry) self.entry.state cmd) }
         ensures most { steps.new ≤ steps.old + (1 + length self.entry.file) }
     {
-        let Machine {
-            alloc,
-            mmb,
-            mode,
-            kind,
-            row,
-            before,
-            bound_params,
-            mut store,
-            mut heap,
-            mut stack,
-            mut hyps,
-            sorry,
-        } = self;
-        let earlier = Earlier::new(mmb, before);
-        match obey(
-            alloc, &earlier, mode, kind, cmd, &mut store, &mut heap, &mut stack, &mut hyps, steps,
-        ) {
-            Ok(()) => Stepped::Machine(Machine {
-                alloc,
-                mmb,
-                mode,
-                kind,
-                row,
-                before,
-                bound_params,
-                store,
-                heap,
-                stack,
-                hyps,
-                sorry: has_gap(sorry, cmd.code),
-            }),
+        let Machine { setting, mut parts } = self;
+        match setting.advance(&mut parts, cmd, steps) {
+            Ok(()) => Stepped::Machine(Machine { setting, parts }),
             Err(Stop::Rule(rule)) => Stepped::Refused(rule),
             Err(Stop::Mem) => Stepped::Mem,
         }
@@ -180,32 +162,64 @@ impl<'a> Machine<'a> {
         ensures steps { UnlessEndMem result (steps.new ≡ steps.old + end_steps self.entry.gaps (tables_for self.entry) (heading_for self.entry) self.entry.state) }
         ensures most { steps.new ≤ steps.old + (1 + length self.entry.file) }
     {
-        let Machine {
-            alloc,
-            mmb,
-            kind,
-            row,
-            before,
-            bound_params,
-            store,
-            stack,
-            hyps,
-            sorry,
-            ..
-        } = self;
+        self.setting.finish(&self.parts, steps)
+    }
+}
+
+impl<'a> Setting<'a> {
+    /// Executes a command other than END on the parts, which are in place, and counts its steps.
+    pub(crate) fn advance<L: Ledger>(
+        &self,
+        parts: &mut Parts,
+        cmd: Cmd,
+        steps: &mut Steps<L>,
+    ) -> Result<(), Stop>
+        requires code { cmd.code ≡ 0 → ⊥ }
+        requires running { IsRunning self.now parts.old }
+        ensures running { OnOk result (IsRunning self.now parts.new) }
+        ensures row { (at : ℕ) → IsStepped (machine_of self.now parts.old) cmd at (stepped_to (machine_of self.now parts.new) result) }
+        ensures steps { OrMem result (steps.new ≡ steps.old + steps_for (gaps_of self.now.mode) (tables_of self.now.earlier) (heading_for (machine_of self.now parts.old)) (machine_of self.now parts.old).state cmd) }
+        ensures most { steps.new ≤ steps.old + (1 + length self.now.earlier.file) }
+    {
+        parts.sorry = has_gap(parts.sorry, cmd.code);
+        obey(
+            self.alloc,
+            &self.earlier,
+            self.mode,
+            self.kind,
+            cmd,
+            &mut parts.store,
+            &mut parts.heap,
+            &mut parts.stack,
+            &mut parts.hyps,
+            steps,
+        )
+    }
+
+    /// Ends the body, and counts the steps of its END.
+    pub(crate) fn finish<L: Ledger>(&self, parts: &Parts, steps: &mut Steps<L>) -> Finished
+        requires { IsRunning self.now parts.now }
+        ensures run { IsFinished (machine_of self.now parts.now) result }
+        ensures steps { UnlessEndMem result (steps.new ≡ steps.old + end_steps (gaps_of self.now.mode) (tables_of self.now.earlier) (heading_for (machine_of self.now parts.now)) (machine_of self.now parts.now).state) }
+        ensures most { steps.new ≤ steps.old + (1 + length self.now.earlier.file) }
+    {
         steps.tick();
-        let earlier = Earlier::new(mmb, before);
         match end(
-            alloc,
-            &earlier,
-            kind_by(kind),
-            row,
-            &store,
-            &stack,
-            &hyps,
+            self.alloc,
+            &self.earlier,
+            kind_by(self.kind),
+            self.row,
+            &parts.store,
+            &parts.stack,
+            &parts.hyps,
             steps,
         ) {
-            Ok(()) => Finished::Body(counted(&store, bound_params, &hyps, sorry)),
+            Ok(()) => Finished::Body(counted(
+                &parts.store,
+                self.bound_params,
+                &parts.hyps,
+                parts.sorry,
+            )),
             Err(Stop::Rule(rule)) => Finished::Refused(rule),
             Err(Stop::Mem) => Finished::Mem,
         }

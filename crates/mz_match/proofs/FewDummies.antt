@@ -35,7 +35,8 @@ use Rattle.mz_soundness.specs.FreeVars.{free_within}
 use Rattle.mz_soundness.specs.Premises.{bound_count, pop, pop_obligation, is_obligation, may_be_dummy_sort}
 use Rattle.mz_soundness.specs.RowWords.{bound_count as bound_words, word_checks}
 use Rattle.mz_soundness.specs.Lists.{definition_of}
-use Rattle.mz_soundness.specs.FileRows.{taken_by, rows_taken, term_of_file, body_bytes}
+use Rattle.mz_layout.specs.Heads.{body_bytes}
+use Rattle.mz_soundness.specs.FileRows.{taken_by, rows_taken, term_of_file}
 use Rattle.mz_soundness.specs.ProofMachine.{ends_with, matched_by, built, referred, proof_row, proof_end, last_item, ending, own_stream}
 use Rattle.mz_soundness.specs.Bodies.{BodyCommand, ends, proves, stands_in, if_allowed, body_command, body_turn, body_turn_by, body_from, body_start, Runs}
 use Rattle.mz_soundness.proofs.Offered.{bodies-checked, body-fact, end-ran, own-run, right-words}
@@ -254,9 +255,9 @@ run-few gaps tables env declares h at bytes kind few (last, run-is) ds body text
 
 -- what is asked of a definition's statement, whether it is local or not
 body-asked : (standard : Standard) (file : List ℕ) (env : List Declaration) (at code body next : ℕ) (t : Term) → IsKindOf code (term_decl t) → AllHold (kind_checks standard file (taken_by env) at body next (statement_code code))
-    → (l : Bool) × AllHold (term_checks standard file (taken_by env) at body next l)
-body-asked standard file env at code body next t (inl is) all = (false, subst (λ (c : ℕ). AllHold (kind_checks standard file (taken_by env) at body next (statement_code c))) is all)
-body-asked standard file env at code body next t (inr is) all = (true, subst (λ (c : ℕ). AllHold (kind_checks standard file (taken_by env) at body next (statement_code c))) is all)
+    → AllHold (term_checks standard file (taken_by env) at body next)
+body-asked standard file env at code body next t (inl is) all = (subst (λ (c : ℕ). AllHold (kind_checks standard file (taken_by env) at body next (statement_code c))) is all).1.1
+body-asked standard file env at code body next t (inr is) all = (subst (λ (c : ℕ). AllHold (kind_checks standard file (taken_by env) at body next (statement_code c))) is all).1.1
 
 pub few-dummies : (standard : Standard) (file : List ℕ) (ss : List Statement) (env : List Declaration) (at : ℕ) (s : Statement) (next : ℕ) (t : Term) (dummies : List Binder) (body : Tree)
     → GoodTo standard file [] (list_at file) ss env at → IsGoodStatement standard file env at s next → s.decl ≡ term_decl t → t.form ≡ defined dummies body → length dummies ≤ 55
@@ -273,8 +274,8 @@ few-dummies standard file ss env at s next t dummies body before good d-is form-
 
     asked : AllHold (term_body_checks standard file (taken_by env) at good.spelled.body next (term_of_file file r).stream)
     asked =
-        let (l, all) = body-asked standard file env at good.spelled.code good.spelled.body next t kind here in
-        all_hold-rest (word_checks (sorts env) (term_row file r)) (term_body_checks standard file (taken_by env) at good.spelled.body next (term_of_file file r).stream) all.1.1
+        all_hold-rest (word_checks (sorts env) (term_row file r)) (term_body_checks standard file (taken_by env) at good.spelled.body next (term_of_file file r).stream)
+        (body-asked standard file env at good.spelled.code good.spelled.body next t kind here)
 
     row : SpellsRow file env (term_decl t)
     row = subst (SpellsRow file env) d-is good.spelled.row

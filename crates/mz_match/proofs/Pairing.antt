@@ -12,7 +12,8 @@ use Rattle.mz_layout.specs.Tables.{list_at}
 use Rattle.mz_layout.proofs.Offered.{parts-of_layout}
 use Rattle.mz_binary.specs.declared.statement.Statement.{Statement as Told}
 use Rattle.mz_soundness.specs.FileRows.{taken_by}
-use Rattle.mz_binary.specs.Checking.{AllTaken, checks_of}
+use Rattle.mz_layout.specs.Heads.{AllTaken}
+use Rattle.mz_binary.specs.Checking.{counts, checks_of}
 use Rattle.mz_binary.specs.Chains.{IsGoodStatement, GoodTo}
 use Rattle.mz_binary.specs.Good.{Good, FailsAfter}
 use Rattle.mz_binary.specs.Progress.{Progress, HasPassed, Tells, kind_code, row_after}
@@ -33,8 +34,7 @@ use Rattle.mz_match.specs.Verdict.{Accepts, IsDifference, IsSound, TicksBy, coun
 use Rattle.mz_match.proofs.ProvingTheorems.{theorems-proved}
 use Rattle.mz_match.proofs.Lists.{append-nil, publics-append, publics-local, publics-public, term_rows-append, drop-further, drop-past, kinds-total, length-declarations, length-env, leaves-nothing, leaves-local, leaves-public, partner-there}
 use Rattle.mz_binary.specs.declared.standard.Standard.{Standard}
-use Rattle.mz_binary.specs.Standards.{lets_gaps}
-use Rattle.mz_binary.specs.Standards.{strict_standard}
+use Rattle.mz_binary.specs.Standards.{lets_gaps, strict_standard}
 
 abbrev assertion_code : Bool → ℕ
 assertion_code b = if b then 0x02 else 0x06
@@ -216,7 +216,7 @@ pub few-statements : (standard : Standard) (file : List ℕ) (ss : List Statemen
 few-statements standard file ss small good =
     let parts = parts-of_layout file good.layout in
     let at_end : AllHold (checks_of standard file (taken_by good.env) good.to (Ok End)) = subst (λ r. AllHold (checks_of standard file (taken_by good.env) good.to r)) good.ends.ends good.ends.passes in
-    let taken : AllTaken file (taken_by good.env) = at_end.0 in
+    let taken : AllTaken file (counts (taken_by good.env)) = at_end.0 in
     let declares : length good.env ≡ length (declarations ss) = ap length (chain-declares (IsGoodStatement standard file) [] (list_at file) ss good.env good.to good.statements) in
     omega (arith, small, parts.few_sorts, parts.few_terms, parts.few_thms, taken.sorts_taken, taken.terms_taken, taken.thms_taken, declares, kinds-total good.env, length-declarations ss)
 

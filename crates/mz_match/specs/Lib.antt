@@ -3,7 +3,6 @@ pub mod Streams
 pub mod Marks
 pub mod Comparing
 pub mod Beside
-pub mod RowWords
 pub mod TellsRow
 pub mod Match
 pub mod Proved

@@ -16,9 +16,9 @@ use crate::compare::{Sides, same_body, same_first, same_hyps};
 use crate::marks::kept_marks;
 use crate::publics::Publics;
 use crate::rule::M;
-use crate::signature::{RowOf, match_params, match_signature};
+use crate::signature::{match_params, match_signature};
 use mz_binary::Statement;
-use mz_layout::Mmb;
+use mz_layout::{Mmb, Row};
 use mz_logic::{Decl, SortMods, TermDecl, TermForm, Terms, ThmDecl, ThmForm};
 use mz_spec::Spec;
 use std::alloc::Global;
@@ -198,7 +198,7 @@ fn match_claims(
     requires { (b : Assertion) × IsThmRow mmb.now row b }
     ensures { (b : Assertion) → IsThmRow mmb.now row b → Judges result (assertion_checks publics.now (assertion_view thm.now) b) }
 {
-    if !match_params(thm.params.as_slice(), mmb, RowOf::Thm(row)) {
+    if !match_params(thm.params.as_slice(), mmb, Row::Thm(row)) {
         return Err(M::Binders);
     }
     let start = mmb.unify_of_thm(row).0;

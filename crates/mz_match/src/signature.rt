@@ -1,48 +1,16 @@
 // The words of a row beside a declaration's parameters and result.
-ghost use Rattle.std.specs.Prelude.{◌≡◌, ◌<◌, ◌≤◌, ◌↔◌, ◌++◌, ◌∷◌, [], IsTrue, Some, if◌then◌else◌, length, slice_get, true};
+ghost use Rattle.std.specs.Prelude.{◌≡◌, ◌<◌, ◌≤◌, ◌↔◌, ◌++◌, ◌∷◌, [], IsTrue, if◌then◌else◌, length, true};
 ghost use Rattle.mz_checks.specs.Checks.{Judges};
 ghost use Rattle.mz_logic.specs.Words.{binder_of, binders_of, bound_places, places_set, result_of, signature_of, word_bound};
+ghost use Rattle.mz_layout.specs.Rows.{IsRow, params_of};
 ghost use Rattle.mz_layout.specs.Tables.{term_count, term_row};
 ghost use Rattle.mz_soundness.specs.RowWords.{bound_count};
 ghost use Rattle.mz_match.specs.Match.{signature_checks};
-ghost use Rattle.mz_match.specs.RowWords.{IsRow, words_of};
 
 use crate::rule::M;
 use arrayvec::ArrayVec;
-use mz_layout::Mmb;
+use mz_layout::{Mmb, Row};
 use mz_logic::{Binder, ResultType, Terms, Word};
-
-/// A row of the table of terms, or of that of axioms and theorems.
-#[derive(Clone, Copy, Debug, PartialEq, Eq)]
-pub enum RowOf {
-    Term(u32),
-    Thm(u32),
-}
-
-impl RowOf {
-    /// How many parameters the row says.
-    pub fn arity(self, mmb: &Mmb) -> u32
-        requires { IsRow mmb.now self }
-        ensures { result ≡ length (words_of mmb.now self) }
-    {
-        match self {
-            RowOf::Term(t) => mmb.arity(t),
-            RowOf::Thm(i) => mmb.thm_arity(i),
-        }
-    }
-
-    /// The word of a parameter.
-    fn word(self, mmb: &Mmb, place: u32) -> Word
-        requires row { IsRow mmb.now self }
-        requires place { place < length (words_of mmb.now self) }
-        ensures { slice_get (words_of mmb.now self) place ≡ Some result }
-    {
-        match self {
-            RowOf::Term(t) => mmb.param(t, place),
-            RowOf::Thm(i) => mmb.thm_param(i, place),
-        }
-    }
-}
 
 /// The places of bound parameters, of which a row has at most 55.
 type Places = ArrayVec<u32, 55>;
@@ -58,7 +26,7 @@ pub fn match_signature(params: &[Binder], ty: &ResultType, mmb: &Mmb, row: u32) 
     ensures { Judges result (signature_checks (record { params = params.now; result = ty.now }) (signature_of (term_row mmb.now row).words)) }
 {
     let mut places = Places::new();
-    if !has_params(params, mmb, RowOf::Term(row), &mut places) {
+    if !has_params(params, mmb, Row::Term(row), &mut places) {
         return Err(M::Binders);
     }
     if !has_result(ty, mmb, row, places.as_slice()) {
@@ -68,29 +36,29 @@ pub fn match_signature(params: &[Binder], ty: &ResultType, mmb: &Mmb, row: u32) 
 }
 
 /// Whether the row says these parameters.
-pub fn match_params(params: &[Binder], mmb: &Mmb, row: RowOf) -> bool
+pub fn match_params(params: &[Binder], mmb: &Mmb, row: Row) -> bool
     requires row { IsRow mmb.now row }
-    requires few { bound_count (words_of mmb.now row) ≤ 55 }
-    ensures { IsTrue result ↔ (params.now ≡ binders_of (words_of mmb.now row)) }
+    requires few { bound_count (params_of mmb.now row) ≤ 55 }
+    ensures { IsTrue result ↔ (params.now ≡ binders_of (params_of mmb.now row)) }
 {
     let mut places = Places::new();
     has_params(params, mmb, row, &mut places)
 }
 
 /// Whether the row says these parameters. Then it leaves the places of the bound ones.
-fn has_params(params: &[Binder], mmb: &Mmb, row: RowOf, places: &mut Places) -> bool
+fn has_params(params: &[Binder], mmb: &Mmb, row: Row, places: &mut Places) -> bool
     requires row { IsRow mmb.now row }
-    requires few { bound_count (words_of mmb.now row) ≤ 55 }
+    requires few { bound_count (params_of mmb.now row) ≤ 55 }
     requires empty { places.old.items ≡ [] }
-    ensures same { IsTrue result ↔ (params.now ≡ binders_of (words_of mmb.now row)) }
-    ensures places { IsTrue result → places.new.items ≡ bound_places 0 (words_of mmb.now row) }
+    ensures same { IsTrue result ↔ (params.now ≡ binders_of (params_of mmb.now row)) }
+    ensures places { IsTrue result → places.new.items ≡ bound_places 0 (params_of mmb.now row) }
 {
     let arity = row.arity(mmb);
     if params.len() != arity as usize {
         return false;
     }
     for i in 0..arity {
-        let word = row.word(mmb, i);
+        let word = row.param(mmb, i);
         if !is_binder(&params[i as usize], word, places.as_slice()) {
             return false;
         }

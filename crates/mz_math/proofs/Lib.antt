@@ -4,7 +4,7 @@ pub mod Arranging
 pub mod Chains
 pub mod Unique
 pub mod Readings
-pub mod Passing
+pub mod Waiting
 pub mod OneMeaning
 pub mod Example
 pub mod Meanings

@@ -12,7 +12,9 @@ use Rattle.mz_logic.specs.declared.expr.Expr.{Expr}
 use Rattle.mz_coercions.specs.declared.coercion.Coercion.{Coercion}
 use Rattle.mz_coercions.specs.Coercions.{IsPath, OnePath, wrapped}
 use Rattle.mz_math.specs.Meaning.{Coerced, CoercedAll, height, trees_height}
-use Rattle.mz_math.specs.Answers.{FitsParam}
+use Rattle.mz_math.specs.Answers.{FitsParam, IsAdded, AddsWrapped}
+use Rattle.mz_math.specs.declared.meaning.Added.{Added}
+use Rattle.mz_math.specs.declared.meaning.Added.TheVariants as added
 use Rattle.mz_coercions.specs.Answers.{HasLength}
 use Rattle.mz_math.proofs.OneMeaning.{coerced-one, coerced-all}
 use Rattle.mz_coercions.proofs.Offered.{length-one}
@@ -197,6 +199,52 @@ module _ (sigs : List Signature) (cs : List Coercion) (ctx : List Binder) (one :
   again-height many high f path long on le low =
       let tall : height (wrapped cs path f) ≡ many + height f = wrapped-height cs path f ∙ ap (λ n. n + height f) (length-one cs one s b.sort many path long on) in
       omega (arith, tall, le, low)
+
+  -- an operand as what it stands for, before it's wrapped
+  pub add-wrapped : (f : Tree) (q : ℕ) (r : Added) (before after : Trees) (many high : ℕ) (g : Tree) → HasLength cs (length cs) s b.sort many → many < high → FitsParam sigs cs ctx e b g
+      → Coerced sigs cs ctx e f q → height f ≤ high - many → AddsWrapped cs s b.sort f before after r → IsAdded sigs cs ctx e b high before after r
+  add-wrapped f q added.Done before after many high g long le fits coerced low (path, on, pushed) =
+      (wrapped cs path f, fits-again g f q path fits coerced on, again-height many high f path long on (omega (arith, le)) low, pushed)
+  add-wrapped f q added.High before after many high g long le fits coerced low adds = absurd adds
+  add-wrapped f q added.Mem before after many high g long le fits coerced low adds = tt
+
+  pub add-variable : (x : ℕ) (r : Added) (before after : Trees) (many high : ℕ) (g : Tree) → HasLength cs (length cs) s b.sort many → many < high → e ≡ var x → FitsParam sigs cs ctx e b g
+      → AddsWrapped cs s b.sort (var x) before after r → IsAdded sigs cs ctx e b high before after r
+  add-variable x r before after many high g long le is fits adds =
+      let own = stands fits in
+      add-wrapped (var x) own.0 r before after many high g long le fits own.1 (omega (arith, le)) adds
+    where
+      stands : FitsParam sigs cs ctx e b g → (q : ℕ) × Coerced sigs cs ctx e (var x) q
+      stands (f, q, path, coerced, on, bound, g_is) =
+          let here = subst (λ t. Coerced sigs cs ctx t f q) is coerced in
+          (q, subst (λ t. Coerced sigs cs ctx e t q) here.0 coerced)
+
+  pub too-high : (many high : ℕ) → HasLength cs (length cs) s b.sort many → high ≤ many → (g : Tree) → FitsParam sigs cs ctx e b g → high < height g
+  too-high many high long over g fits =
+      let found = fits-height many g long fits in
+      let some = height-some found.0 in
+      omega (arith, found.3, some, over)
+
+  -- an operand with operands of its own
+  module _ (t : ℕ) (es : Trees) (d : Signature) (is : e ≡ app t es) (at : slice_get sigs t ≡ Some d) where
+    pub operands-there : (g : Tree) → FitsParam sigs cs ctx e b g → (fs : Trees) × CoercedAll sigs cs ctx es d.params fs
+    operands-there g (f, q, path, coerced, on, bound, g_is) =
+        let all = coerced-app sigs cs ctx t es d f q at (subst (λ u. Coerced sigs cs ctx u f q) is coerced) in (all.0, all.2)
+
+    pub add-application : (fs : Trees) (r : Added) (before after : Trees) (many high : ℕ) (g : Tree) → HasLength cs (length cs) s b.sort many → many < high → FitsParam sigs cs ctx e b g
+        → CoercedAll sigs cs ctx es d.params fs → trees_height fs ≤ high - many - 1 → AddsWrapped cs s b.sort (app t fs) before after r → IsAdded sigs cs ctx e b high before after r
+    add-application fs r before after many high g long le fits all low adds =
+        let coerced = subst (λ u. Coerced sigs cs ctx u (app t fs) d.result.sort) (sym is) (app-coerced sigs cs ctx t es d fs at all) in
+        add-wrapped (app t fs) d.result.sort r before after many high g long le fits coerced (omega (arith, low, le)) adds
+
+    pub high-operands : (many high : ℕ) → HasLength cs (length cs) s b.sort many → many < high → ((fs : Trees) → CoercedAll sigs cs ctx es d.params fs → high - many - 1 < trees_height fs)
+        → (g : Tree) → FitsParam sigs cs ctx e b g → high < height g
+    high-operands many high long le tall g fits =
+        let found = fits-height many g long fits in
+        let all = coerced-app sigs cs ctx t es d found.0 found.1 at (subst (λ u. Coerced sigs cs ctx u found.0 found.1) is found.2) in
+        let more_high = tall all.0 all.2 in
+        let top = ap height all.1 in
+        omega (arith, more_high, top, found.3, le)
 
 -- an operand of a whole list is no higher than the list
 pub operand-low : (sigs : List Signature) (cs : List Coercion) (ctx : List Binder) → OnePath cs → (es : Trees) (bs : List Binder) (all fs : Trees) (g : Tree) (gs : Trees) (high : ℕ)

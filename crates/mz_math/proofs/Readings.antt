@@ -8,6 +8,7 @@ use Rattle.mz_math.proofs.TreeLists.{followed_by_none, followed_by_push}
 use Rattle.std.proofs.lemmas.Option.{slice_get_within, get_or_from_slice_get}
 use Rattle.mz_math.specs.Lookups.{NoVariable, NoLeading, NoTermName, NoInfix}
 use Rattle.mz_math.specs.Answers.{MayLead}
+use Rattle.mz_math.specs.Steps.{IsMaxBefore}
 use Rattle.mz_notation.specs.Notation.{max_level, above}
 use Rattle.mz_notation.specs.declared.notation.Element.{Element}
 use Rattle.mz_notation.specs.declared.notation.Element.TheVariants.{Fixed as fixed, Slot as slot}
@@ -17,7 +18,7 @@ use Rattle.mz_math.specs.Grammar.{Item, token, expr, items, level_before, operan
 use Rattle.mz_math.specs.Readable.{IsReadable}
 use Rattle.mz_math.specs.Reading.{NotJoined, Before, Spaced, Step, build, step_tokens, Reads, NoReading, GoesOn, IsBegun, ArePartsRead, NoParts, IsRead}
 use Rattle.mz_math.proofs.Chains.{base, base_parts, steps_of, rebuilt, tokens-build, inner, level-falls}
-use Rattle.mz_math.proofs.Unique.{cons_head, cons_tail, empty_cons, one-notation, not_joined-max, behind, spaced-head, spaced-infix, parts-same, head-begins, step-begins, same-head, follows, all-unique, good-inside, unique, BeginsWith}
+use Rattle.mz_math.proofs.Unique.{cons_head, cons_tail, empty_cons, one-notation, behind, spaced-head, spaced-infix, parts-same, head-begins, step-begins, same-head, follows, all-unique, good-inside, unique, BeginsWith}
 
 module _ (ws : Words) (right : IsReadable ws) where
   -- ---- parts
@@ -60,28 +61,36 @@ module _ (ws : Words) (right : IsReadable ws) where
     trees_are = parts.trees_are ∙ followed_by_push es (part_trees parts.parts) tree ∙ ap (λ t. followed_by es (more t (part_trees parts.parts))) (sym read.tree_is);
   }
 
+  -- nothing can be joined to an operand before what is next
+  before-next : (l : ℕ) (its : List Item) (mid rest : List (List ℕ)) → IsMaxBefore l its → NotJoined ws l mid → (ps : Parts) → AreParts ws its ps → part_tokens ps ++ rest ≡ mid → Before ws l its rest
+  before-next l [] mid rest max not end are e = subst (NotJoined ws l) (sym e) not
+  before-next l [] mid rest max not (word w ps) are e = absurd are
+  before-next l [] mid rest max not (part p ps) are e = absurd are
+  before-next l (token c ∷ its) mid rest max not end are e = absurd are
+  before-next l (token c ∷ its) mid rest max not (word w ps) (same, are) e = λ k in_k by. (subst (NotJoined ws l) (sym e) not) k in_k (subst (JoinedBy k) (sym same) by)
+  before-next l (token c ∷ its) mid rest max not (part p ps) are e = absurd are
+  before-next l (expr m ∷ its) mid rest max not ps are e = max
+
+  pub one-part : (l : ℕ) (its : List Item) (tokens mid rest : List (List ℕ)) (tree : Tree) (es fs : Trees) → IsMaxBefore l its → IsRead ws l tokens mid tree
+      → ArePartsRead ws its mid rest (followed_by es (more tree none)) fs → ArePartsRead ws (expr l ∷ its) tokens rest es fs
+  one-part l its tokens mid rest tree es fs max read parts = one-expr l its tokens mid rest tree es fs read (before-next l its mid rest max read.reads.3) parts
+
+  pub max-before-elements : (ls : List Element) (last : ℕ) → IsMaxBefore (level_before ls last) (items ls last)
+  max-before-elements [] last = tt
+  max-before-elements (fixed c q ∷ ls) last = tt
+  max-before-elements (slot i ∷ ls) last = refl
+
+  pub max-before-operands : (n : ℕ) → IsMaxBefore max_level (operands_at_max n)
+  max-before-operands zero = tt
+  max-before-operands (suc n) = refl
+
   pub one-slot : (i : ℕ) (ls : List Element) (last : ℕ) (tokens mid rest : List (List ℕ)) (tree : Tree) (es fs : Trees) → IsRead ws (level_before ls last) tokens mid tree
       → ArePartsRead ws (items ls last) mid rest (followed_by es (more tree none)) fs → ArePartsRead ws (items (slot i ∷ ls) last) tokens rest es fs
-  one-slot i ls last tokens mid rest tree es fs read parts = one-expr (level_before ls last) (items ls last) tokens mid rest tree es fs read (before ls read.reads.3) parts
-    where
-      before : (ms : List Element) → NotJoined ws (level_before ms last) mid → (ps : Parts) → AreParts ws (items ms last) ps → part_tokens ps ++ rest ≡ mid
-          → Before ws (level_before ms last) (items ms last) rest
-      before [] not end are e = subst (NotJoined ws last) (sym e) not
-      before [] not (word w ps) are e = absurd are
-      before [] not (part p ps) are e = absurd are
-      before (fixed c q ∷ ms) not end are e = absurd are
-      before (fixed c q ∷ ms) not (word w ps) (same, are) e = λ k in_k by.
-          (subst (NotJoined ws (level_before (fixed c q ∷ ms) last)) (sym e) not) k in_k (subst (JoinedBy k) (sym same) by)
-      before (fixed c q ∷ ms) not (part p ps) are e = absurd are
-      before (slot j ∷ ms) not ps are e = refl
+  one-slot i ls last tokens mid rest tree es fs read parts = one-part (level_before ls last) (items ls last) tokens mid rest tree es fs (max-before-elements ls last) read parts
 
   pub one-operand : (n : ℕ) (tokens mid rest : List (List ℕ)) (tree : Tree) (es fs : Trees) → IsRead ws max_level tokens mid tree
       → ArePartsRead ws (operands_at_max n) mid rest (followed_by es (more tree none)) fs → ArePartsRead ws (operands_at_max (suc n)) tokens rest es fs
-  one-operand n tokens mid rest tree es fs read parts = one-expr max_level (operands_at_max n) tokens mid rest tree es fs read (before n) parts
-    where
-      before : (m : ℕ) → (ps : Parts) → AreParts ws (operands_at_max m) ps → part_tokens ps ++ rest ≡ mid → Before ws max_level (operands_at_max m) rest
-      before zero ps are e = not_joined-max ws right rest
-      before (suc m) ps are e = refl
+  one-operand n tokens mid rest tree es fs read parts = one-part max_level (operands_at_max n) tokens mid rest tree es fs (max-before-operands n) read parts
 
   -- ---- what stands first in a reading
 

@@ -5,4 +5,5 @@ pub mod Formula
 pub mod Reading
 pub mod Lookups
 pub mod Answers
+pub mod Steps
 pub mod Laws

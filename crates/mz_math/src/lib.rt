@@ -5,6 +5,7 @@
 //! stand in `mz_tokens`, what the statements on notations declare in `mz_notation`.
 #![tactic(auto)]
 
+mod form;
 mod formula;
 mod laws;
 mod meaning;

@@ -1,10 +1,10 @@
 // The expression that a tree of the notation grammar stands for.
-ghost use Rattle.std.specs.Prelude.{◌≡◌, ◌↔◌, ◌≤◌, ◌<◌, ℕ, IsTrue, MatchOption};
+ghost use Rattle.std.specs.Prelude.{◌≡◌, ◌↔◌, ℕ, IsTrue, MatchOption, length};
 ghost use Rattle.mz_logic.specs.Declaration.{signatures};
-ghost use Rattle.mz_logic.specs.Tree.{Tree, Trees};
+ghost use Rattle.mz_logic.specs.Tree.{Tree, Trees, none};
 ghost use Rattle.mz_logic.specs.View.{tree as tree_lem};
-ghost use Rattle.mz_math.specs.Answers.{FitsParam, IsBuilt, AreBuilt, IsOperandBuilt};
-ghost use Rattle.mz_coercions.specs.Coercions.{OnePath};
+ghost use Rattle.mz_math.specs.Answers.{FitsParam, IsBuilt, IsAdded, AreAdded, AddsWrapped};
+ghost use Rattle.mz_coercions.specs.Coercions.{OnePath, Reaches};
 ghost use Rattle.mz_math.specs.Meaning.{Coerced, CoercedAll};
 
 use mz_coercions::{Coercions, distance, reaches, wrap};
@@ -19,10 +19,10 @@ pub enum Built {
     Mem,
 }
 
-/// Expressions, where none is too high.
-#[derive(Drop)]
-pub enum BuiltAll {
-    Trees(Exprs),
+/// Whether expressions were added, where none is too high.
+#[derive(Clone, Copy)]
+pub enum Added {
+    Done,
     High,
     Mem,
 }
@@ -95,7 +95,6 @@ fn fits(env: &Env, coercions: &Coercions, ctx: &Context<'_>, operand: &Expr, par
 }
 
 /// The tree with its operands wrapped, where it is at most so high.
-#[cycle(build)]
 pub fn build(
     alloc: Global,
     env: &Env,
@@ -115,26 +114,30 @@ pub fn build(
         Expr::Var(x) => Built::Tree(Expr::Var(*x)),
         Expr::App(t, operands) => match env.term(*t) {
             None => unreachable!(),
-            Some(term) => match build_all(
-                alloc,
-                env,
-                coercions,
-                ctx,
-                operands,
-                term.params.as_slice(),
-                most - 1,
-            ) {
-                BuiltAll::Trees(all) => Built::Tree(Expr::App(*t, all)),
-                BuiltAll::High => Built::High,
-                BuiltAll::Mem => Built::Mem,
-            },
+            Some(term) => {
+                let mut all = Exprs::new(alloc);
+                match add_operands(
+                    alloc,
+                    env,
+                    coercions,
+                    ctx,
+                    operands,
+                    term.params.as_slice(),
+                    most - 1,
+                    &mut all,
+                ) {
+                    Added::Done => Built::Tree(Expr::App(*t, all)),
+                    Added::High => Built::High,
+                    Added::Mem => Built::Mem,
+                }
+            }
         },
     }
 }
 
-/// The operands, wrapped to their parameters' sorts, where none is too high.
-#[cycle(build)]
-fn build_all(
+/// Adds the operands to an empty list, wrapped to their parameters' sorts, where none is too high.
+#[cycle(add_operands)]
+fn add_operands(
     alloc: Global,
     env: &Env,
     coercions: &Coercions,
@@ -142,30 +145,27 @@ fn build_all(
     operands: &Exprs,
     params: &[Binder],
     most: usize,
-) -> BuiltAll
+    all: &mut Exprs,
+) -> Added
     requires one { OnePath coercions.now }
     requires there { (fs : Trees) × CoercedAll (signatures env.now) coercions.now ctx.now operands.now params.now fs }
-    ensures { AreBuilt (signatures env.now) coercions.now ctx.now operands.now params.now most result }
+    requires empty { all.old ≡ none }
+    ensures { AreAdded (signatures env.now) coercions.now ctx.now operands.now params.now most all.new result }
 {
     let items = operands.as_slice();
-    let mut all = Exprs::new(alloc);
     for i in 0..items.len() {
-        match build_operand(alloc, env, coercions, ctx, &items[i], &params[i], most) {
-            Built::Tree(operand) => {
-                let Ok(()) = all.push(operand) else {
-                    return BuiltAll::Mem;
-                };
-            }
-            Built::High => return BuiltAll::High,
-            Built::Mem => return BuiltAll::Mem,
+        match add_operand(alloc, env, coercions, ctx, &items[i], &params[i], most, all) {
+            Added::Done => {}
+            Added::High => return Added::High,
+            Added::Mem => return Added::Mem,
         }
     }
-    BuiltAll::Trees(all)
+    Added::Done
 }
 
-/// An operand, wrapped to its parameter's sort, where that is at most so high.
-#[cycle(build)]
-fn build_operand(
+/// Adds an operand, wrapped to its parameter's sort, where that is at most so high.
+#[cycle(add_operands)]
+fn add_operand(
     alloc: Global,
     env: &Env,
     coercions: &Coercions,
@@ -173,29 +173,73 @@ fn build_operand(
     operand: &Expr,
     param: &Binder,
     most: usize,
-) -> Built
+    all: &mut Exprs,
+) -> Added
     requires one { OnePath coercions.now }
     requires there { (f : Tree) × FitsParam (signatures env.now) coercions.now ctx.now (tree_lem operand.now) param.now f }
-    ensures { IsOperandBuilt (signatures env.now) coercions.now ctx.now (tree_lem operand.now) param.now most result }
+    ensures { IsAdded (signatures env.now) coercions.now ctx.now (tree_lem operand.now) param.now most all.old all.new result }
 {
     let sort = head_sort(env, coercions, ctx, operand);
     let Some(many) = distance(coercions, sort, param.sort) else {
         unreachable!()
     };
-    if many > most {
-        return Built::High;
+    if many >= most {
+        return Added::High;
     }
-    match build(alloc, env, coercions, ctx, operand, most - many) {
-        Built::Tree(expr) => match wrap(alloc, coercions, sort, param.sort, expr) {
-            Ok(expr) => Built::Tree(expr),
-            Err(_) => Built::Mem,
+    match operand {
+        Expr::Var(x) => add_wrapped(alloc, coercions, sort, param.sort, Expr::Var(*x), all),
+        Expr::App(t, operands) => match env.term(*t) {
+            None => unreachable!(),
+            Some(term) => {
+                let mut own = Exprs::new(alloc);
+                match add_operands(
+                    alloc,
+                    env,
+                    coercions,
+                    ctx,
+                    operands,
+                    term.params.as_slice(),
+                    most - many - 1,
+                    &mut own,
+                ) {
+                    Added::High => Added::High,
+                    Added::Mem => Added::Mem,
+                    Added::Done => {
+                        add_wrapped(alloc, coercions, sort, param.sort, Expr::App(*t, own), all)
+                    }
+                }
+            }
         },
-        Built::High => Built::High,
-        Built::Mem => Built::Mem,
+    }
+}
+
+/// Adds an expression of a sort, wrapped to another, where there is memory.
+///
+/// It isn't inlined: operands are added to one another, and what is only needed here would take
+/// stack for each of them.
+#[inline(never)]
+fn add_wrapped(
+    alloc: Global,
+    coercions: &Coercions,
+    from: u32,
+    to: u32,
+    expr: Expr,
+    all: &mut Exprs,
+) -> Added
+    requires { Reaches coercions.now (length coercions.now) from to }
+    ensures { AddsWrapped coercions.now from to (tree_lem expr) all.old all.new result }
+{
+    match wrap(alloc, coercions, from, to, expr) {
+        Err(_) => Added::Mem,
+        Ok(expr) => match all.push(expr) {
+            Err(_) => Added::Mem,
+            Ok(()) => Added::Done,
+        },
     }
 }
 
 /// The sort of a tree that has one.
+#[inline(never)]
 fn head_sort(env: &Env, coercions: &Coercions, ctx: &Context<'_>, tree: &Expr) -> u32
     requires { (e : Tree) × (s : ℕ) × Coerced (signatures env.now) coercions.now ctx.now (tree_lem tree.now) e s }
     ensures { (e : Tree) (s : ℕ) → Coerced (signatures env.now) coercions.now ctx.now (tree_lem tree.now) e s → result ≡ s }

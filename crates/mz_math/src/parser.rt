@@ -1,19 +1,17 @@
 // Expressions of the notation grammar.
-ghost use Rattle.std.specs.Prelude.{◌≡◌, ◌≢◌, ◌↔◌, ◌≤◌, ◌<◌, ◌+◌, ◌^◌, ◌∷◌, ⊤, [], ℕ, List, false, true, IsTrue, MatchOption, IfSome, Contains, length, drop, slice_get, Some, codes};
-ghost use Rattle.mz_logic.specs.Tree.{none, more, followed_by};
-ghost use Rattle.mz_logic.specs.View.{tree, trees};
-ghost use Rattle.mz_notation.specs.Notation.{above, max_level, places, slots as in_places};
-ghost use Rattle.mz_notation.specs.Clear.{LedBy, JoinedBy};
-ghost use Rattle.mz_math.specs.Grammar.{IsTermName, IsVariable, IsLeading, items, operands_at_max, level_before, last_level, infix_items, notated_tree, head_level, applied, operand_for, arranged as in_order, Exp};
+ghost use Rattle.std.specs.Prelude.{◌≡◌, ◌↔◌, ◌≤◌, ◌<◌, ◌+◌, ◌*◌, ◌-◌, ◌^◌, ◌∷◌, ⊤, [], ℕ, List, IsTrue, MatchOption, Contains, length, drop, codes};
+ghost use Rattle.mz_logic.specs.Tree.{none};
+ghost use Rattle.mz_logic.specs.View.{tree};
 ghost use Rattle.mz_math.specs.Readable.{IsReadable};
-ghost use Rattle.mz_math.specs.Answers.{IfRead, IfNotRead, IfBegun, IfPartsRead, IfNoParts, IfParsed, IfNotParsed, IsBegunAs, MayLead};
-ghost use Rattle.mz_math.specs.Lookups.{NoTermName, NoVariable, NoLeading, NoInfix};
-ghost use Rattle.mz_math.specs.Reading.{NoReading, NoParts, NotJoined};
+ghost use Rattle.mz_math.specs.Answers.{IfParsed, IfNotParsed};
+ghost use Rattle.mz_math.specs.Reading.{IsRead};
+ghost use Rattle.mz_math.specs.Grammar.{Words};
+ghost use Rattle.mz_math.specs.Steps.{IsBegunAs, IsPending, Waits, Says, outer_level, asked, turns};
 
+use crate::form::{Form, Part, can_lead};
 use crate::words::Vocabulary;
-use mz_copies::copy_of;
 use mz_logic::{Expr, Exprs};
-use mz_notation::{Element, MAX, Notation};
+use mz_notation::{MAX, Notation};
 use mz_tokens::Tokens;
 use std::alloc::Global;
 
@@ -26,16 +24,37 @@ pub struct Found {
     next: usize,
 }
 
+/// A form whose parts are being read.
 #[derive(Drop)]
-pub enum Read {
-    Got(Found),
-    No,
-    Mem,
+pub struct Pending<'w> {
+    form: Form<'w>,
+    /// The part that is next.
+    part: usize,
+    operands: Exprs,
+    /// The level of the expression in which it stands, at least.
+    level: u32,
 }
 
+/// What an expression is read for.
 #[derive(Drop)]
-pub enum PartsRead {
-    Got(Exprs, usize),
+pub enum Outer<'w> {
+    /// Parentheses, in an expression of this level.
+    Parens(u32),
+    /// An operand of a form; the part that is next stands behind it.
+    Operand(Pending<'w>),
+}
+
+/// How far the innermost expression has been read.
+#[derive(Drop)]
+pub enum Step<'w> {
+    /// Up to an expression of this level within it, which begins here.
+    Inner(Outer<'w>, u32, usize),
+    /// Up to a part of a form, which begins here.
+    Parts(Pending<'w>, usize),
+    /// An expression, of this level, which infix forms may join.
+    Begun(Found, u32),
+    /// The whole: nothing can be joined.
+    Whole(Found),
     No,
     Mem,
 }
@@ -48,26 +67,12 @@ pub enum Syntax {
     Mem,
 }
 
-/// The next level; none is above max.
-fn above_level(level: u32) -> u32
-    ensures { result ≡ above level }
-{
-    if level == MAX { MAX } else { level + 1 }
-}
-
 fn token_at<'a>(tokens: &Tokens<'a>, at: usize) -> Option<&'a [u8]>
     ensures token { MatchOption result (drop at tokens.now ≡ []) (λ w. drop at tokens.now ≡ w.now ∷ drop (at + 1) tokens.now) }
     ensures within { MatchOption result (length tokens.now ≤ at) (λ w. at < length tokens.now) }
     ensures fits { MatchOption result ⊤ (λ w. at + 1 < 2 ^ 64) }
 {
     tokens.get(at)
-}
-
-fn element_at(elements: &[Element], at: usize) -> Option<&Element>
-    ensures element { MatchOption result (drop at elements.now ≡ []) (λ l. drop at elements.now ≡ l.now ∷ drop (at + 1) elements.now) }
-    ensures within { MatchOption result (length elements.now ≤ at) (λ l. at < length elements.now) }
-{
-    elements.get(at)
 }
 
 fn is_open(token: &[u8]) -> bool
@@ -82,545 +87,232 @@ fn is_close(token: &[u8]) -> bool
     token == b")".as_slice()
 }
 
-/// The level of the application of a term with so many parameters.
-fn applied_level(many: usize) -> u32
-    ensures { result ≡ head_level (applied [] 0 many) }
-{
-    if many == 0 { MAX } else { 1024 }
-}
-
-/// The level of a last operand.
-fn level_of_last(notation: &Notation) -> u32
-    ensures { result ≡ last_level notation.now }
-{
-    if notation.is_right {
-        notation.level
-    } else {
-        above_level(notation.level)
-    }
-}
-
-/// Whether a notation's first operand may be an expression of this level.
-fn can_lead(notation: &Notation, level: u32, is_left: bool) -> bool
-    ensures { IsTrue result ↔ MayLead notation.now level is_left }
-{
-    above_level(notation.level) <= level
-        || (!notation.is_right && is_left && level == notation.level)
-}
-
-/// The level of an operand that stands before these elements.
-fn operand_level(elements: &[Element], from: usize, last: u32) -> u32
-    requires from { from ≤ length elements.now }
-    ensures { result ≡ level_before (drop from elements.now) last }
-{
-    if from == elements.len() {
-        return last;
-    }
-    match &elements[from] {
-        Element::Fixed(_, level) => above_level(*level),
-        Element::Slot(_) => MAX,
-    }
-}
-
 /// The tree of the tokens.
+///
+/// Expressions may stand deep in one another. What they are read for is kept in a list, and not on
+/// the stack.
 pub fn parse(alloc: Global, words: &Vocabulary<'_>, tokens: &Tokens<'_>) -> Syntax
     requires readable { IsReadable words.now }
     ensures tree { IfParsed words.now tokens.now result }
     ensures no { IfNotParsed words.now tokens.now result }
 {
-    match read_expr(alloc, words, tokens, 0, 0) {
-        Read::Mem => Syntax::Mem,
-        Read::No => Syntax::No,
-        Read::Got(found) => {
-            if found.next == tokens.len() {
-                Syntax::Tree(found.tree)
-            } else {
-                Syntax::No
+    let mut outers: Vec<Outer> = Vec::new(alloc);
+    let mut step = begin(alloc, words, tokens, 0, 0);
+    'reading: loop {
+        match step {
+            Step::Inner(outer, level, at) => {
+                let Ok(()) = outers.push(outer) else {
+                    return Syntax::Mem;
+                };
+                step = begin(alloc, words, tokens, at, level);
             }
+            Step::Parts(pending, at) => step = next_part(alloc, tokens, pending, at),
+            Step::Begun(found, level) => step = joined(alloc, words, tokens, found, level),
+            Step::Whole(found) => match outers.pop() {
+                None => return all_read(tokens, found),
+                Some(outer) => step = back(tokens, outer, found),
+            },
+            Step::No => return Syntax::No,
+            Step::Mem => return Syntax::Mem,
         }
     }
 }
 
-/// An expression of a level, as long as it can be.
-#[cycle(read_expr)]
-fn read_expr(
+/// The tree, where it's of all tokens.
+fn all_read(tokens: &Tokens<'_>, found: Found) -> Syntax
+    ensures tree { (ws : Words) → IsReadable ws → IsRead ws 0 tokens.now (drop found.next tokens.now) (tree found.tree) → IfParsed ws tokens.now result }
+    ensures no { (ws : Words) → IsReadable ws → IsRead ws 0 tokens.now (drop found.next tokens.now) (tree found.tree) → IfNotParsed ws tokens.now result }
+{
+    match token_at(tokens, found.next) {
+        None => Syntax::Tree(found.tree),
+        Some(_) => Syntax::No,
+    }
+}
+
+/// What stands first in an expression of a level: a variable, a form that begins with a constant, a
+/// term's name or parentheses.
+fn begin<'w>(
     alloc: Global,
-    words: &Vocabulary<'_>,
+    words: &Vocabulary<'w>,
     tokens: &Tokens<'_>,
     at: usize,
     level: u32,
-) -> Read
+) -> Step<'w>
     requires readable { IsReadable words.now }
-    ensures read { IfRead words.now tokens.now level at result }
-    ensures no { IfNotRead words.now level (drop at tokens.now) result }
-{
-    match read_head(alloc, words, tokens, at, level) {
-        Read::Got(head) => read_more(alloc, words, tokens, at, level, head),
-        other => other,
-    }
-}
-
-/// The tree of a notation, of operands in the order of its elements.
-fn notated(alloc: Global, notation: &Notation, operands: Exprs) -> Option<Expr>
-    ensures { IfSome result (λ e. tree e ≡ notated_tree notation.now operands) }
-{
-    let elements = notation.elements.as_slice();
-    if let Some(many) = many_in_order(elements) {
-        if many == operands.len() {
-            return Some(Expr::App(notation.term, operands));
-        }
-    }
-    let many = slots(elements, 0);
-    let all = arranged(
-        alloc,
-        elements,
-        operands.as_slice(),
-        0,
-        many,
-        Exprs::new(alloc),
-    )?;
-    Some(Expr::App(notation.term, all))
-}
-
-/// How many parameters stand there, if they stand in their own order.
-fn many_in_order(elements: &[Element]) -> Option<usize>
-    ensures { IfSome result (λ n. places elements.now ≡ places (in_places 0 n)) }
-{
-    let mut next = 0;
-    for element in elements {
-        match element {
-            Element::Fixed(_, _) => {}
-            Element::Slot(slot) => {
-                if *slot != next {
-                    return None;
-                }
-                next += 1;
-            }
-        }
-    }
-    Some(next)
-}
-
-/// How many parameters stand there, from a element on.
-fn slots(elements: &[Element], from: usize) -> usize
-    requires { from ≤ length elements.now }
-    ensures many { result ≡ length (places (drop from elements.now)) }
-    ensures within { from + result ≤ length elements.now }
-{
-    match element_at(elements, from) {
-        None => 0,
-        Some(Element::Fixed(_, _)) => slots(elements, from + 1),
-        Some(Element::Slot(_)) => slots(elements, from + 1) + 1,
-    }
-}
-
-/// The operands of so many parameters from one on, behind those before.
-fn arranged(
-    alloc: Global,
-    elements: &[Element],
-    operands: &[Expr],
-    from: usize,
-    many: usize,
-    before: Exprs,
-) -> Option<Exprs>
-    requires { from + many ≤ length elements.now }
-    ensures { IfSome result (λ es. es ≡ followed_by before (in_order (places elements.now) (trees operands.now) from many)) }
-{
-    if many == 0 {
-        return Some(before);
-    }
-    let operand = operand_of(alloc, elements, 0, operands, 0, from)?;
-    let mut all = before;
-    match all.push(operand) {
-        Err(_) => None,
-        Ok(()) => arranged(alloc, elements, operands, from + 1, many - 1, all),
-    }
-}
-
-/// A copy of the operand of a parameter, among the elements and operands from two places on.
-fn operand_of(
-    alloc: Global,
-    elements: &[Element],
-    from: usize,
-    operands: &[Expr],
-    next: usize,
-    place: usize,
-) -> Option<Expr>
-    requires from { from ≤ length elements.now }
-    requires next { next ≤ length operands.now }
-    ensures { IfSome result (λ e. tree e ≡ operand_for (places (drop from elements.now)) (trees (drop next operands.now)) place) }
-{
-    match element_at(elements, from) {
-        None => Some(Expr::App(0, Exprs::new(alloc))),
-        Some(Element::Fixed(_, _)) => operand_of(alloc, elements, from + 1, operands, next, place),
-        Some(Element::Slot(slot)) => match expr_at(operands, next) {
-            None => Some(Expr::App(0, Exprs::new(alloc))),
-            Some(operand) => {
-                if *slot == place {
-                    copied(alloc, operand)
-                } else {
-                    operand_of(alloc, elements, from + 1, operands, next + 1, place)
-                }
-            }
-        },
-    }
-}
-
-fn copied(alloc: Global, expr: &Expr) -> Option<Expr>
-    ensures { IfSome result (λ e. tree e ≡ tree expr.now) }
-{
-    match copy_of(alloc, expr) {
-        Ok(copy) => Some(copy),
-        Err(_) => None,
-    }
-}
-
-fn expr_at(operands: &[Expr], at: usize) -> Option<&Expr>
-    ensures expr { MatchOption result (drop at operands.now ≡ []) (λ e. drop at operands.now ≡ e.now ∷ drop (at + 1) operands.now) }
-    ensures within { MatchOption result (length operands.now ≤ at) (λ e. at < length operands.now) }
-{
-    operands.get(at)
-}
-
-/// What stands first: a variable, a form that begins with a constant, a term's name or parentheses.
-#[cycle(read_expr)]
-fn read_head(
-    alloc: Global,
-    words: &Vocabulary<'_>,
-    tokens: &Tokens<'_>,
-    at: usize,
-    level: u32,
-) -> Read
-    requires readable { IsReadable words.now }
-    ensures read { IfBegun words.now tokens.now level at result }
-    ensures no { IfNotRead words.now level (drop at tokens.now) result }
+    ensures says { Says words.now tokens.now (drop at tokens.now) level result }
+    ensures less { turns (length tokens.now) result < 8 * (length tokens.now - at) + 1 }
 {
     let token = match token_at(tokens, at) {
-        None => return Read::No,
+        None => return Step::No,
         Some(token) => token,
     };
     if let Some(place) = words.variable(token) {
-        return Read::Got(Found {
+        let found = Found {
             tree: Expr::Var(place),
             level: MAX,
             is_left: false,
             next: at + 1,
-        });
+        };
+        return Step::Begun(found, level);
     }
     if let Some(notation) = words.leading(token) {
-        return read_leading(alloc, words, tokens, at, level, notation);
+        let pending = begun(alloc, Form::Leading(notation), 1, level);
+        return Step::Parts(pending, at + 1);
     }
     if let Some((term, many)) = words.term(token) {
-        return read_applied(alloc, words, tokens, at, level, term, many);
+        let pending = begun(alloc, Form::Term(term, many), 0, level);
+        return Step::Parts(pending, at + 1);
     }
     if is_open(token) {
-        return read_parens(alloc, words, tokens, at, level);
+        return Step::Inner(Outer::Parens(level), 0, at + 1);
     }
-    Read::No
+    Step::No
 }
 
-/// A form that begins with this notation's constant.
-#[cycle(read_expr)]
-fn read_leading(
-    alloc: Global,
-    words: &Vocabulary<'_>,
-    tokens: &Tokens<'_>,
-    at: usize,
-    level: u32,
-    notation: &Notation,
-) -> Read
-    requires readable { IsReadable words.now }
-    requires is_leading { Contains words.now.leading notation.now }
-    requires there { at < length tokens.now }
-    requires fits { at + 1 < 2 ^ 64 }
-    requires led { (w : List ℕ) × (drop at tokens.now ≡ w ∷ drop (at + 1) tokens.now) × LedBy notation.now w × NoVariable words.now w }
-    ensures read { IfBegun words.now tokens.now level at result }
-    ensures no { IfNotRead words.now level (drop at tokens.now) result }
+/// A form with no operand so far.
+fn begun<'w>(alloc: Global, form: Form<'w>, part: usize, level: u32) -> Pending<'w>
+    ensures { result ≡ record { form = form.entry; part = part; operands = none; level = level } }
 {
-    match read_parts(
-        alloc,
-        words,
-        tokens,
-        at + 1,
-        notation.elements.as_slice(),
-        1,
-        notation.level,
-        Exprs::new(alloc),
-    ) {
-        PartsRead::Mem => Read::Mem,
-        PartsRead::No => Read::No,
-        PartsRead::Got(operands, next) => {
-            if notation.level < level {
-                return Read::No;
-            }
-            match notated(alloc, notation, operands) {
-                None => Read::Mem,
-                Some(tree) => Read::Got(Found {
-                    tree,
-                    level: notation.level,
-                    is_left: false,
-                    next,
-                }),
-            }
-        }
+    Pending {
+        form,
+        part,
+        operands: Exprs::new(alloc),
+        level,
     }
 }
 
-/// The application of a term that is named by the first token.
-#[cycle(read_expr)]
-fn read_applied(
-    alloc: Global,
-    words: &Vocabulary<'_>,
-    tokens: &Tokens<'_>,
-    at: usize,
-    level: u32,
-    term: u32,
-    many: usize,
-) -> Read
-    requires readable { IsReadable words.now }
-    requires there { at < length tokens.now }
-    requires fits { at + 1 < 2 ^ 64 }
-    requires named { (w : List ℕ) × (drop at tokens.now ≡ w ∷ drop (at + 1) tokens.now) × IsTermName words.now w term many × NoVariable words.now w × NoLeading words.now w }
-    ensures read { IfBegun words.now tokens.now level at result }
-    ensures no { IfNotRead words.now level (drop at tokens.now) result }
+/// The next part of a form.
+fn next_part<'w>(alloc: Global, tokens: &Tokens<'_>, pending: Pending<'w>, at: usize) -> Step<'w>
+    ensures says { (ws : Words) (from : List (List ℕ)) → IsReadable ws → IsPending ws from (drop at tokens.now) pending.entry → Says ws tokens.now from pending.entry.level result }
+    ensures less { turns (length tokens.now) result < 8 * (length tokens.now - at) + 5 }
 {
-    match read_operands(alloc, words, tokens, at + 1, many, Exprs::new(alloc)) {
-        PartsRead::Mem => Read::Mem,
-        PartsRead::No => Read::No,
-        PartsRead::Got(operands, next) => {
-            let own = applied_level(many);
-            if own < level {
-                return Read::No;
-            }
-            Read::Got(Found {
-                tree: Expr::App(term, operands),
-                level: own,
-                is_left: false,
-                next,
-            })
-        }
-    }
-}
-
-/// An expression in parentheses.
-#[cycle(read_expr)]
-fn read_parens(
-    alloc: Global,
-    words: &Vocabulary<'_>,
-    tokens: &Tokens<'_>,
-    at: usize,
-    level: u32,
-) -> Read
-    requires readable { IsReadable words.now }
-    requires there { at < length tokens.now }
-    requires fits { at + 1 < 2 ^ 64 }
-    requires first { drop at tokens.now ≡ codes "(" ∷ drop (at + 1) tokens.now }
-    requires level { level ≤ max_level }
-    ensures read { IfBegun words.now tokens.now level at result }
-    ensures no { IfNotRead words.now level (drop at tokens.now) result }
-{
-    match read_expr(alloc, words, tokens, at + 1, 0) {
-        Read::Got(found) => {
-            let token = match token_at(tokens, found.next) {
-                None => return Read::No,
-                Some(token) => token,
+    match pending.form.part(pending.part) {
+        Part::End => finished(alloc, pending, at),
+        Part::Operand(level) => {
+            let pending = Pending {
+                part: pending.part + 1,
+                ..pending
             };
-            if !is_close(token) {
-                return Read::No;
-            }
-            Read::Got(Found {
-                tree: found.tree,
-                level: MAX,
-                is_left: false,
-                next: found.next + 1,
-            })
+            Step::Inner(Outer::Operand(pending), level, at)
         }
-        Read::No => Read::No,
-        Read::Mem => Read::Mem,
-    }
-}
-
-/// The parts of a form from a element on. Operands are added to those before.
-#[cycle(read_expr)]
-fn read_parts(
-    alloc: Global,
-    words: &Vocabulary<'_>,
-    tokens: &Tokens<'_>,
-    at: usize,
-    elements: &[Element],
-    from: usize,
-    last: u32,
-    operands: Exprs,
-) -> PartsRead
-    requires readable { IsReadable words.now }
-    requires within { at ≤ length tokens.now }
-    requires from { from ≤ length elements.now }
-    ensures read { IfPartsRead words.now (items (drop from elements.now) last) tokens.now at operands result }
-    ensures no { IfNoParts words.now (items (drop from elements.now) last) (drop at tokens.now) result }
-{
-    match element_at(elements, from) {
-        None => PartsRead::Got(operands, at),
-        Some(Element::Fixed(constant, _)) => match token_at(tokens, at) {
-            None => PartsRead::No,
-            Some(name) => {
-                if !constant.is(name) {
-                    return PartsRead::No;
+        Part::Constant(constant) => match token_at(tokens, at) {
+            None => Step::No,
+            Some(token) => {
+                if !constant.is(token) {
+                    return Step::No;
                 }
-                read_parts(
-                    alloc,
-                    words,
-                    tokens,
-                    at + 1,
-                    elements,
-                    from + 1,
-                    last,
-                    operands,
-                )
-            }
-        },
-        Some(Element::Slot(_)) => match read_expr(
-            alloc,
-            words,
-            tokens,
-            at,
-            operand_level(elements, from + 1, last),
-        ) {
-            Read::Mem => PartsRead::Mem,
-            Read::No => PartsRead::No,
-            Read::Got(found) => {
-                let mut all = operands;
-                match all.push(found.tree) {
-                    Err(_) => PartsRead::Mem,
-                    Ok(()) => read_parts(
-                        alloc,
-                        words,
-                        tokens,
-                        found.next,
-                        elements,
-                        from + 1,
-                        last,
-                        all,
-                    ),
-                }
+                let pending = Pending {
+                    part: pending.part + 1,
+                    ..pending
+                };
+                Step::Parts(pending, at + 1)
             }
         },
     }
 }
 
-/// So many operands at max.
-#[cycle(read_expr)]
-fn read_operands(
-    alloc: Global,
-    words: &Vocabulary<'_>,
-    tokens: &Tokens<'_>,
-    at: usize,
-    many: usize,
-    operands: Exprs,
-) -> PartsRead
-    requires readable { IsReadable words.now }
-    requires within { at ≤ length tokens.now }
-    ensures read { IfPartsRead words.now (operands_at_max many) tokens.now at operands result }
-    ensures no { IfNoParts words.now (operands_at_max many) (drop at tokens.now) result }
+/// The expression of a form whose parts have all been read.
+fn finished(alloc: Global, pending: Pending<'_>, at: usize) -> Step<'_>
+    ensures says { (ws : Words) (tokens from : List (List ℕ)) → IsReadable ws → asked pending.entry.form pending.entry.part ≡ []
+        → IsPending ws from (drop at tokens) pending.entry → Says ws tokens from pending.entry.level result }
+    ensures less { (many : ℕ) → turns many result < 8 * (many - at) + 5 }
 {
-    if many == 0 {
-        return PartsRead::Got(operands, at);
+    let form = pending.form;
+    let level = form.level();
+    if level < pending.level {
+        return Step::No;
     }
-    match read_expr(alloc, words, tokens, at, MAX) {
-        Read::Mem => PartsRead::Mem,
-        Read::No => PartsRead::No,
-        Read::Got(found) => {
-            let mut all = operands;
-            match all.push(found.tree) {
-                Err(_) => PartsRead::Mem,
-                Ok(()) => read_operands(alloc, words, tokens, found.next, many - 1, all),
-            }
+    match form.made(alloc, pending.operands) {
+        None => Step::Mem,
+        Some(tree) => {
+            let found = Found {
+                tree,
+                level,
+                is_left: form.is_left(),
+                next: at,
+            };
+            Step::Begun(found, pending.level)
         }
     }
 }
 
-/// The infix forms around what stands before.
-#[cycle(read_expr)]
-fn read_more(
+/// The infix form around what stands before, if there is one.
+fn joined<'w>(
     alloc: Global,
-    words: &Vocabulary<'_>,
+    words: &Vocabulary<'w>,
     tokens: &Tokens<'_>,
-    at: usize,
-    level: u32,
     before: Found,
-) -> Read
+    level: u32,
+) -> Step<'w>
     requires readable { IsReadable words.now }
-    requires begun { IsBegunAs words.now tokens.now level at before }
-    ensures read { IfRead words.now tokens.now level at result }
-    ensures no { IfNotRead words.now level (drop at tokens.now) result }
+    ensures says { (from : List (List ℕ)) → IsBegunAs words.now level from (drop before.next tokens.now) before → Says words.now tokens.now from level result }
+    ensures less { turns (length tokens.now) result < 8 * (length tokens.now - before.next) + 4 }
 {
     let token = match token_at(tokens, before.next) {
-        None => return Read::Got(before),
+        None => return Step::Whole(before),
         Some(token) => token,
     };
     match words.infix(token) {
-        None => Read::Got(before),
+        None => Step::Whole(before),
         Some(notation) => {
             if notation.level < level {
-                return Read::Got(before);
+                return Step::Whole(before);
             }
-            read_joined(alloc, words, tokens, at, level, before, notation)
+            if !can_lead(notation, before.level, before.is_left) {
+                return Step::No;
+            }
+            let next = before.next;
+            let mut operands = Exprs::new(alloc);
+            match operands.push(before.tree) {
+                Err(_) => Step::Mem,
+                Ok(()) => {
+                    let pending = Pending {
+                        form: Form::Infix(notation),
+                        part: 2,
+                        operands,
+                        level,
+                    };
+                    Step::Parts(pending, next + 1)
+                }
+            }
         }
     }
 }
 
-/// The same, where the next token is this notation's constant.
-#[cycle(read_expr)]
-fn read_joined(
-    alloc: Global,
-    words: &Vocabulary<'_>,
-    tokens: &Tokens<'_>,
-    at: usize,
-    level: u32,
-    before: Found,
-    notation: &Notation,
-) -> Read
-    requires readable { IsReadable words.now }
-    requires begun { IsBegunAs words.now tokens.now level at before }
-    requires is_infix { Contains words.now.infixes notation.now }
-    requires high { level ≤ notation.now.level }
-    requires there { before.next < length tokens.now }
-    requires fits { before.next + 1 < 2 ^ 64 }
-    requires joined { (w : List ℕ) × (drop before.next tokens.now ≡ w ∷ drop (before.next + 1) tokens.now) × JoinedBy notation.now w }
-    ensures read { IfRead words.now tokens.now level at result }
-    ensures no { IfNotRead words.now level (drop at tokens.now) result }
+/// What an expression was read for, with it.
+fn back<'w>(tokens: &Tokens<'_>, outer: Outer<'w>, found: Found) -> Step<'w>
+    ensures says { (ws : Words) (from here : List (List ℕ)) (level : ℕ) → IsReadable ws → Waits ws from here level outer.entry
+        → IsRead ws level here (drop found.next tokens.now) (tree found.tree) → Says ws tokens.now from (outer_level outer.entry) result }
+    ensures less { turns (length tokens.now) result < 8 * (length tokens.now - found.next) + 6 }
 {
-    if !can_lead(notation, before.level, before.is_left) {
-        return Read::No;
-    }
-    let last = level_of_last(notation);
-    let next = before.next;
-    let mut operands = Exprs::new(alloc);
-    match operands.push(before.tree) {
-        Err(_) => Read::Mem,
-        Ok(()) => match read_parts(
-            alloc,
-            words,
-            tokens,
-            next + 1,
-            notation.elements.as_slice(),
-            2,
-            last,
-            operands,
-        ) {
-            PartsRead::Mem => Read::Mem,
-            PartsRead::No => Read::No,
-            PartsRead::Got(all, next) => match notated(alloc, notation, all) {
-                None => Read::Mem,
-                Some(tree) => {
-                    let joined = Found {
-                        tree,
-                        level: notation.level,
-                        is_left: !notation.is_right,
-                        next,
-                    };
-                    read_more(alloc, words, tokens, at, level, joined)
-                }
-            },
+    match outer {
+        Outer::Parens(level) => closed(tokens, found, level),
+        Outer::Operand(mut pending) => match pending.operands.push(found.tree) {
+            Err(_) => Step::Mem,
+            Ok(()) => Step::Parts(pending, found.next),
         },
+    }
+}
+
+/// An expression in parentheses, of which the second is next.
+fn closed<'w>(tokens: &Tokens<'_>, inner: Found, level: u32) -> Step<'w>
+    ensures says { (ws : Words) (from here : List (List ℕ)) → IsReadable ws → from ≡ codes "(" ∷ here
+        → IsRead ws 0 here (drop inner.next tokens.now) (tree inner.tree) → Says ws tokens.now from level result }
+    ensures less { turns (length tokens.now) result < 8 * (length tokens.now - inner.next) + 6 }
+{
+    match token_at(tokens, inner.next) {
+        None => Step::No,
+        Some(token) => {
+            if !is_close(token) {
+                return Step::No;
+            }
+            let found = Found {
+                tree: inner.tree,
+                level: MAX,
+                is_left: false,
+                next: inner.next + 1,
+            };
+            Step::Begun(found, level)
+        }
     }
 }

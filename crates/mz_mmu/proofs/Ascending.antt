@@ -5,7 +5,7 @@ use Rattle.std.specs.List.Sorted.{IsStrictlyIncreasing}
 use Rattle.std.proofs.lemmas.Bool.{cases_order}
 use Rattle.std.proofs.lemmas.List.Kept.{AllPairs-from_increasing, AllPairs-cons}
 use Rattle.std.proofs.lemmas.List.Elements.{All-weaker, All-contains_itself, Contains-append_left, Contains-append_right, Contains-append_cases}
-use Rattle.mz_mmu.specs.Expressions.{IsAscending}
+use Rattle.mz_forms.specs.Expressions.{IsAscending}
 
 abbrev Rise : List ℕ → Type 0
 Rise zs = AllPairs (λ x y. x < y) zs

@@ -4,11 +4,15 @@ use Rattle.std.specs.Prelude.{⊤, IsTrue, unwrap_or}
 use Rattle.mz_checks.specs.Checks.{Checks, nothing, ask, ◌>>◌, retold, AreDecided}
 use Rattle.mz_checks.proofs.Offered.{are_decided-both, bytes-decided}
 use Rattle.mz_sexpr.specs.Node.{Node, Nodes, atom, list, no_nodes, node, word, parts}
-use Rattle.mz_mmu.specs.declared.fault.Fault.{Fault}
-use Rattle.mz_mmu.specs.Name.{Names, Scope, hidden, number_of, is_identifier}
-use Rattle.mz_mmu.specs.Proofs.{Keyword, conv_word, let_word, refl_word, sym_word, unfold_word, sorry_word, no_word, conv_keyword, proof_keyword}
-use Rattle.mz_mmu.specs.Statements.{Kind, sort_kind, term_kind, axiom_kind, def_kind, theorem_kind, no_kind, kind_of, is_local_word, Modifiers, no_modifiers, with_modifier, scope_of}
-use Rattle.mz_mmu.specs.Order.{known_asked, new_asked, param_name_asked, expr_asked, exprs_asked, expr_list_asked, variables_asked, variable_list_asked, param_asked, dummy_asked, names_of, first_word, binders_asked, params_asked, dummies_asked, result_asked, conv_asked, conv_asked_by, convs_asked, proof_asked, proof_asked_by, proofs_asked, modifiers_asked, hyp_asked, hyps_asked, declared_asked, local_asked, marked_asked, statement_asked, in_statement, names_after, statements_asked}
+use Rattle.mz_forms.specs.declared.fault.Fault.{Fault}
+use Rattle.mz_forms.specs.Name.{Names, Scope, hidden, number_of, is_identifier}
+use Rattle.mz_forms.specs.declared.keyword.Keyword.{Keyword}
+use Rattle.mz_forms.specs.declared.keyword.Keyword.TheVariants.{Conv as conv_word, Let as let_word, Refl as refl_word, Sym as sym_word, Unfold as unfold_word, Sorry as sorry_word, Other as no_word}
+use Rattle.mz_forms.specs.Proofs.{conv_keyword, proof_keyword}
+use Rattle.mz_forms.specs.declared.keyword.Kind.{Kind}
+use Rattle.mz_forms.specs.declared.keyword.Kind.TheVariants.{Sort as sort_kind, Term as term_kind, Axiom as axiom_kind, Def as def_kind, Theorem as theorem_kind, Other as no_kind}
+use Rattle.mz_forms.specs.Statements.{kind_of, is_local_word, Modifiers, no_modifiers, with_modifier, scope_of}
+use Rattle.mz_forms.specs.Order.{known_asked, new_asked, param_name_asked, expr_asked, exprs_asked, expr_list_asked, variables_asked, variable_list_asked, param_asked, dummy_asked, names_of, first_word, binders_asked, params_asked, dummies_asked, result_asked, conv_asked, conv_asked_by, convs_asked, proof_asked, proof_asked_by, proofs_asked, modifiers_asked, hyp_asked, hyps_asked, declared_asked, local_asked, marked_asked, statement_asked, in_statement, names_after, statements_asked}
 
 abbrev Decided : Type 0 → Type 0
 Decided P = P ⊎ (P → ⊥)

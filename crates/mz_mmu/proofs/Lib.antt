@@ -1,14 +1,3 @@
-pub mod Keys
-pub mod Hold
-pub mod HoldStatements
-pub mod Stopping
-pub mod Cursors
-pub mod ExprLists
-pub mod BinderLists
-pub mod ConvLists
-pub mod ProofLists
-pub mod Dispatch
-pub mod StatementDispatch
 pub mod Declared
 pub mod TextSteps
 pub mod Roots

@@ -13,20 +13,20 @@ use Rattle.mz_sexpr.specs.Node.{atom, list}
 use Rattle.mz_sexpr.specs.Rows.{entries}
 use Rattle.mz_sexpr.specs.Token.{Token, close, spelled, spelled_node}
 use Rattle.mz_sexpr.proofs.Offered.{few_rows, tokens_when_read}
-use Rattle.mz_mmu.specs.Cursor.{node_size, nodes_size}
-use Rattle.mz_mmu.specs.Stops.{Stops}
+use Rattle.mz_forms.specs.Cursor.{node_size, nodes_size}
+use Rattle.mz_forms.specs.Stops.{Stops}
 use Rattle.mz_mmu.specs.TextStops.{IsStopped, TextStops}
-use Rattle.mz_mmu.specs.declared.fault.Stop.{Stop}
-use Rattle.mz_mmu.specs.declared.fault.Stop.TheVariants as stop
+use Rattle.mz_forms.specs.declared.fault.Stop.{Stop}
+use Rattle.mz_forms.specs.declared.fault.Stop.TheVariants as stop
 use Rattle.mz_mmu.specs.declared.text.TextStop.{TextStop}
-use Rattle.mz_mmu.specs.declared.fault.Fault.{Fault}
-use Rattle.mz_mmu.specs.Name.{Names, number_of, IsName, IsNew}
-use Rattle.mz_mmu.specs.NamesMore.{AreFew}
+use Rattle.mz_forms.specs.declared.fault.Fault.{Fault}
+use Rattle.mz_forms.specs.Name.{Names, number_of, IsName, IsNew}
+use Rattle.mz_forms.specs.NamesMore.{AreFew}
 use Rattle.mz_mmu.specs.EntryView.{AreNumbers}
-use Rattle.mz_mmu.specs.Proof.{Statement}
-use Rattle.mz_mmu.specs.Statements.{no_names, names_with, constant_name, IsStatement, AreStatements}
-use Rattle.mz_mmu.specs.Order.{statement_asked, statements_asked, in_statement, names_after}
-use Rattle.mz_mmu.proofs.Keys.{length-more}
+use Rattle.mz_forms.specs.Proof.{Statement}
+use Rattle.mz_forms.specs.Statements.{no_names, names_with, constant_name, IsStatement, AreStatements}
+use Rattle.mz_forms.specs.Order.{statement_asked, statements_asked, in_statement, names_after}
+use Rattle.mz_forms.proofs.Offered.{length-more}
 use Rattle.mz_mmu.proofs.Declared.{Agrees, statement_says}
 
 pub retold_holds : {Q R : Type 0} (f : Q → R) (cs : Checks Q) → AllHold cs → AllHold (retold f cs)

@@ -7,10 +7,12 @@ use Rattle.mz_logic.specs.Tree.{none, more}
 use Rattle.mz_logic.specs.LegalLists.{MayBeLocal}
 use Rattle.mz_logic.specs.declared.binder.Binder.{Binder}
 use Rattle.mz_logic.specs.declared.binder.ResultType.{ResultType}
-use Rattle.mz_mmu.specs.Name.{Names}
-use Rattle.mz_mmu.specs.Expressions.{AreDeps, IsParam, IsDummy, AreBinders, AreParams, AreDummies, IsResult}
-use Rattle.mz_mmu.specs.Proof.{Statement}
-use Rattle.mz_mmu.specs.Statements.{Kind, sort_kind, term_kind, axiom_kind, def_kind, theorem_kind, no_kind, kind_of, is_local_word, IsDeclared, IsLocal, IsMarked, IsStatement, names_with}
+use Rattle.mz_forms.specs.Name.{Names}
+use Rattle.mz_forms.specs.Expressions.{AreDeps, IsParam, IsDummy, AreBinders, AreParams, AreDummies, IsResult}
+use Rattle.mz_forms.specs.Proof.{Statement}
+use Rattle.mz_forms.specs.declared.keyword.Kind.{Kind}
+use Rattle.mz_forms.specs.declared.keyword.Kind.TheVariants.{Sort as sort_kind, Term as term_kind, Axiom as axiom_kind, Def as def_kind, Theorem as theorem_kind, Other as no_kind}
+use Rattle.mz_forms.specs.Statements.{kind_of, is_local_word, IsDeclared, IsLocal, IsMarked, IsStatement, names_with}
 use Rattle.mz_mmu.specs.Laws.{DepsAscend, Ascends, HasItsProof, IsWhole, AreWhole}
 
 -- ---- dependencies

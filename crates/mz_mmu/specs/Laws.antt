@@ -6,11 +6,11 @@ use Rattle.mz_logic.specs.LegalLists.{MayBeLocal}
 use Rattle.mz_logic.specs.declared.binder.Binder.{Binder}
 use Rattle.mz_sexpr.specs.declared.rule.TextRefusal.{TextRefusal}
 use Rattle.mz_sexpr.specs.Node.{Nodes}
-use Rattle.mz_mmu.specs.Gaps.{HasGapsOnly}
-use Rattle.mz_mmu.specs.Proof.{Proof, Statement}
-use Rattle.mz_mmu.specs.Name.{Names}
-use Rattle.mz_mmu.specs.Statements.{AreStatements, Reads}
-use Rattle.mz_mmu.specs.Order.{Refuses}
+use Rattle.mz_forms.specs.Gaps.{HasGapsOnly}
+use Rattle.mz_forms.specs.Proof.{Proof, Statement}
+use Rattle.mz_forms.specs.Name.{Names}
+use Rattle.mz_forms.specs.Statements.{AreStatements, Reads}
+use Rattle.mz_forms.specs.Order.{Refuses}
 
 -- a text that is read isn't refused, and no text is refused in two ways, where proofs may have gaps and
 -- where none may

@@ -1,21 +1,17 @@
 ghost use Rattle.std.specs.Prelude.{◌≡◌, ◌<◌, ◌^◌, ◌-◌, ◌++◌, ◌∷◌, [], length, IfOk, IfErr, OnOk};
 ghost use Rattle.mz_logic.specs.DeclView.{declaration};
 ghost use Rattle.mz_mode.specs.Gaps.{gaps_of};
-ghost use Rattle.mz_mmu.specs.Name.{IsName};
-ghost use Rattle.mz_mmu.specs.NamesMore.{IsUnused, AreFew};
+ghost use Rattle.mz_forms.specs.Name.{IsName};
+ghost use Rattle.mz_forms.specs.NamesMore.{IsUnused, AreFew};
 ghost use Rattle.mz_mmu.specs.EntryView.{IsRooted};
-ghost use Rattle.mz_mmu.specs.Order.{statements_asked};
-ghost use Rattle.mz_mmu.specs.ScopeView.{names as names_view};
-ghost use Rattle.mz_mmu.specs.Statements.{no_names, names_with};
+ghost use Rattle.mz_forms.specs.Order.{statements_asked};
+ghost use Rattle.mz_forms.specs.ScopeView.{names as names_view};
+ghost use Rattle.mz_forms.specs.Statements.{no_names, names_with};
 ghost use Rattle.mz_mmu.specs.TextRead.{IsReading};
 ghost use Rattle.mz_mmu.specs.TextStops.{IsStopped, TextStops, IsRefusal};
-ghost use Rattle.mz_mmu.specs.Cursor.{nodes_size};
+ghost use Rattle.mz_forms.specs.Cursor.{nodes_size};
 
-use crate::fault::{Fault, Stop};
-use crate::proof::Proof;
-use crate::reader::Reader;
-use crate::scope::Names;
-use crate::statements::Declared;
+use mz_forms::{Declared, Fault, Names, Proof, Reader, Stop};
 use mz_logic::{Binders, Decl};
 use mz_mode::Mode;
 use mz_sexpr::{SexprRead, Sexprs, TextRefusal, read_sexprs};
@@ -200,8 +196,8 @@ impl<'a> Text<'a> {
     ghost use Rattle.mz_logic.specs.DeclView.{declaration};
     ghost use Rattle.mz_sexpr.specs.Number.{node_count, node_at};
     ghost use Rattle.mz_mmu.specs.EntryView.{entry, IsRooted};
-    ghost use Rattle.mz_mmu.specs.ProofView.{proof_view};
-    ghost use Rattle.mz_mmu.specs.Statements.{no_names, AreStatements};
+    ghost use Rattle.mz_forms.specs.ProofView.{proof_view};
+    ghost use Rattle.mz_forms.specs.Statements.{no_names, AreStatements};
     ghost use Rattle.mz_mmu.specs.TextRead.{listed};
     ghost use Rattle.mz_mode.specs.Gaps.{gaps_of};
 

@@ -3,7 +3,7 @@
 use Rattle.std.specs.Prelude.{◌≡◌, ◌++◌, ⊤, ℕ, List, [], ◌∷◌}
 use Rattle.mz_logic.specs.Declaration.{Declaration}
 use Rattle.mz_logic.specs.LegalLists.{Statement as Marked}
-use Rattle.mz_mmu.specs.Proof.{Statement}
+use Rattle.mz_forms.specs.Proof.{Statement}
 use Rattle.mz_spec.specs.State.{Entry}
 use Rattle.mz_spec.specs.Spec.{SpecMakes}
 use Rattle.mz_match.specs.Verdict.{Accepts}

@@ -5,7 +5,7 @@ use Rattle.std.proofs.lemmas.Bool.{and_parts, or_cases, and_from, eqb-true, fals
 use Rattle.std.proofs.lemmas.Bool.Decides.{nat_tests}
 use Rattle.std.proofs.lemmas.List.Elements.{All-nil, All-cons}
 use Rattle.mz_sexpr.specs.Grammar.{IsAllowed, IsAtom, is_letter, begins_with}
-use Rattle.mz_mmu.specs.Name.{is_between, is_name_start, is_name_byte, are_name_bytes, hidden, IsName}
+use Rattle.mz_forms.specs.Name.{is_between, is_name_start, is_name_byte, are_name_bytes, hidden, IsName}
 
 -- from `0` to `z`, where the digits, the colon, the letters and `_` are
 abbrev is_plain_byte : ℕ → Bool

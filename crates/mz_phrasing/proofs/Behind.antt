@@ -6,8 +6,8 @@ use Rattle.mz_logic.specs.Declaration.{Declaration, sort_decl, term_decl, assert
 use Rattle.mz_logic.specs.Legality.{signature_at}
 use Rattle.mz_logic.specs.declared.binder.Binder.{Binder}
 use Rattle.mz_logic.proofs.Offered.{sorts-append, assertions-append}
-use Rattle.mz_mmu.specs.Name.{Names, number_of, IsName, IsNew}
-use Rattle.mz_mmu.specs.Statements.{no_names, constant_name, names_with}
+use Rattle.mz_forms.specs.Name.{Names, number_of, IsName, IsNew}
+use Rattle.mz_forms.specs.Statements.{no_names, constant_name, names_with}
 use Rattle.mz_mmu.proofs.Offered.{Agrees}
 use Rattle.mz_phrasing.specs.Phrasing.{Vocabulary}
 use Rattle.mz_phrasing.specs.Phrasable.{HasNewName}

@@ -3,8 +3,8 @@ use Rattle.std.proofs.Common.{ℕ, zero, suc, ◌≡◌, ◌<◌, ◌≤◌, ◌
 use Rattle.std.specs.Prelude.{bytes_eq, option_map, if◌then◌else◌}
 use Rattle.std.proofs.lemmas.Bool.{cases_eq, false_from_ne_true}
 use Rattle.std.proofs.lemmas.Slice.Eq.{bytes_eq-Decides}
-use Rattle.mz_mmu.specs.Name.{number_of, IsName, IsNew}
-use Rattle.mz_mmu.proofs.Offered.{new_both}
+use Rattle.mz_forms.specs.Name.{number_of, IsName, IsNew}
+use Rattle.mz_forms.proofs.Offered.{new_both}
 
 pub other-bytes : (a b : List ℕ) → (a ≡ b → ⊥) → bytes_eq a b ≡ false
 other-bytes a b not_ = false_from_ne_true (bytes_eq a b) (λ is. not_ ((bytes_eq-Decides a b).0 is))

@@ -15,8 +15,8 @@ use Rattle.mz_nodes.specs.Numbering.{Numbering, IsIn, AreIn, IsOver, tree_of, va
 use Rattle.mz_nodes.proofs.Offered.{words-meet}
 use Rattle.mz_punify.specs.Stored.{trees_at}
 use Rattle.mz_punify.proofs.Offered.{is-in-at, length-trees, tree-at}
-use Rattle.mz_machine.proofs.Offered.{is-there, place-below, place-fits, apart-none, whole_row, decides-first}
-use Rattle.mz_pmachine.specs.OperandRows.{AreAmong}
+use Rattle.mz_earlier.proofs.Offered.{is-there, place-below, place-fits, apart-none, whole_row, decides-first}
+use Rattle.mz_earlier.specs.OperandRows.{AreAmong}
 
 -- a bound variable is in V of an expression where their words share a bit
 pub apart-words : (sigs : List Signature) (s : Numbering) (l r : ℕ) → IsOver sigs s → IsIn s l → IsIn s r → is_bound_var s.context (tree_of s r) ≡ true
@@ -56,7 +56,7 @@ apart-word sigs s l r over in-l in-r bd none = not-true (var_within s.context (t
 
 -- an operand that shares no variable with any of the bound parameters' is apart
 pub apart-at-once : (sigs : List Signature) (s : Numbering) (ids : List Id) (ws : List Word) → IsOver sigs s → AreIn s ids → length ids ≡ length ws
-    → operands_fit sigs s.context (trees_at s ids) (binders_of ws) ≡ Ok tt → (places : List ℕ) → places ≡ bound_places 0 ws → (all : ℕ) → AreAmong s ids places all
+    → operands_fit sigs s.context (trees_at s ids) (binders_of ws) ≡ Ok tt → (places : List ℕ) → places ≡ bound_places 0 ws → (all : ℕ) → AreAmong (λ id. vars_of s id.0) ids places all
     → (i : ℕ) (id : Id) (w : Word) → slice_get ids i ≡ Some id → slice_get ws i ≡ Some w → bit_and (vars_of s id.0) all ≡ 0 → whole_row s.context (trees_at s ids) ws i w (tree_of s id.0) ≡ true
 apart-at-once sigs s ids ws over in-s many fit places are all among i id w at wat none =
     let bits = if word_bound w then 0 else word_deps w in

@@ -7,11 +7,11 @@ use Rattle.mz_store.specs.declared.item.Item.TheVariants.{Expr}
 use Rattle.mz_unification.specs.Profile.{Item, expr}
 use Rattle.mz_soundness.specs.Tables.{signatures_in}
 use Rattle.mz_soundness.specs.Bodies.{body_start}
-use Rattle.mz_machine.specs.Before.{kind_at, heading_of, MayRun, tables_before}
-use Rattle.mz_machine.specs.OverStore.{mode_for}
-use Rattle.mz_machine.specs.Stepping.{own_words, first_items}
-use Rattle.mz_machine.specs.declared.earlier.Rows.{Rows}
-use Rattle.mz_machine.proofs.Offered.{binders_many, own-binders, no-dummies}
+use Rattle.mz_earlier.specs.OwnRow.{kind_at, heading_of, MayRun, mode_for, own_words, first_items}
+use Rattle.mz_earlier.specs.Before.{tables_before}
+use Rattle.mz_layout.specs.declared.taken.Rows.{Rows}
+use Rattle.mz_earlier.proofs.Offered.{binders_many, own-binders}
+use Rattle.mz_machine.proofs.Offered.{no-dummies}
 use Rattle.mz_numbered.specs.Numbered.{Numbered, a_variable, portable}
 use Rattle.mz_nodes.specs.Numbering.{Numbering, expr_of, IsIn, IsOver}
 use Rattle.mz_punify.specs.Stored.{AreItemsIn}

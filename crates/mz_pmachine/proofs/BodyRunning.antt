@@ -9,7 +9,10 @@ use Rattle.mz_pmachine.specs.BodyAnswers.{IsBodyRun}
 use Rattle.mz_machine.specs.BodyAnswers.{UnlessMem as UnlessBodyMem}
 use Rattle.mz_pmachine.specs.Steps.{Underway, tables_for, heading_for, row_of, steps_for, end_steps}
 use Rattle.mz_cmd.specs.declared.command.Cmd.{Cmd}
-use Rattle.mz_pmachine.specs.Stepping.{GoesOn, IsFinished, UnlessEndMem, ended_at}
+use Rattle.mz_punify.specs.Rows.{StopsBy}
+use Rattle.mz_pmachine.specs.Stepping.{GoesOn, IsFinished, IsStepped, UnlessEndMem, ended_at, stopped_at}
+use Rattle.mz_punify.specs.declared.command.Stop.{Stop}
+use Rattle.mz_punify.specs.declared.command.Stop.TheVariants.{Rule, Mem}
 use Rattle.mz_pmachine.specs.declared.machine.Finished.{Finished}
 use Rattle.mz_pmachine.specs.declared.machine.Finished.TheVariants as finished
 
@@ -67,3 +70,17 @@ pub end-counts : (u v : Underway) (place later steps all : ℕ) (f : Finished) �
 end-counts u v place later steps all (finished.Body end) same is then = then (rw (← same-tables u v same, ← same-heading u v same) is)
 end-counts u v place later steps all (finished.Refused d) same is then = then (rw (← same-tables u v same, ← same-heading u v same) is)
 end-counts u v place later steps all finished.Mem same is then = tt
+
+-- and what a command answers that is stopped
+pub stop-answer : (u v : Underway) (whole : Result (State Numbered) (ℕ × K)) (place : ℕ) (c : Cmd) (after : Underway) (stop : Stop) → IsSameBody u v
+    → ((d : K) → row_of (tables_for u) (heading_for u) place v.state c ≡ Err d → whole ≡ Err (place, d))
+    → IsStepped {A = Unit {0}} v c place after (Err stop) → IsBodyRun (heading_for u) whole (stopped_at place stop)
+stop-answer u v whole place c after (Rule d) same err is = err d (row-over u v place v.state c (Err d) same is)
+stop-answer u v whole place c after Mem same err is = tt
+
+pub stop-counts : (u v : Underway) (place later steps all : ℕ) (c : Cmd) (after : Underway) (stop : Stop) → IsSameBody u v
+    → IsStepped {A = Unit {0}} v c place after (Err stop) → StopsBy stop (λ _. later ≡ steps + steps_for (tables_for v) (heading_for v) v.state c)
+    → ((d : K) → row_of (tables_for u) (heading_for u) place v.state c ≡ Err d → later ≡ steps + steps_for (tables_for u) (heading_for u) v.state c → later ≡ all)
+    → UnlessBodyMem (stopped_at place stop) (later ≡ all)
+stop-counts u v place later steps all c after (Rule d) same is many then = then d (row-over u v place v.state c (Err d) same is) (steps-over u v v.state c later steps same many)
+stop-counts u v place later steps all c after Mem same is many then = tt

@@ -17,7 +17,7 @@ use Rattle.mz_punify.proofs.Offered.{exprs-append}
 use Rattle.mz_soundness.specs.Tables.{Tables, State, Kind, is_axiom, is_theorem, is_definition, Heading, signatures_in}
 use Rattle.mz_soundness.specs.ProofMachine.{last_item, as_proofs, own_variables, ending, ends_with, proof_end}
 use Rattle.mz_soundness.specs.Bodies.{match_steps}
-use Rattle.mz_machine.specs.Before.{heading_by}
+use Rattle.mz_earlier.proofs.Offered.{range-next}
 use Rattle.mz_pmachine.specs.OverNodes.{Gives}
 use Rattle.mz_machine.specs.Endings.{mode_at}
 use Rattle.mz_pmachine.specs.Endings.{items_of, ended, IsOwnRun}
@@ -25,10 +25,6 @@ use Rattle.mz_punify.specs.declared.command.Stop.{Stop}
 use Rattle.mz_punify.specs.declared.command.Stop.TheVariants.{Rule, Mem}
 
 -- ---- the first variables
-
-range-next : (a n : ℕ) → range_with_len a (suc n) ≡ range_with_len a n ++ (a + n) ∷ []
-range-next a zero = ap (λ (x : ℕ). x ∷ []) (omega arith)
-range-next a (suc n) = ap (λ (xs : List ℕ). a ∷ xs) (range-next (a + 1) n ∙ ap (λ (x : ℕ). range_with_len (a + 1) n ++ x ∷ []) (omega arith))
 
 zero-more : (n : ℕ) → 0 + n ≡ n
 zero-more n = omega arith
@@ -119,9 +115,3 @@ module _ (tables : Tables) (h : Heading) (st : State Numbered) where
   own-end m (Ok x) e (u, is) = rw (e, is) refl
   own-end m (Err (Rule d)) e (at, is) = rw (e, is) refl
   own-end m (Err Mem) e run = tt
-
--- a row's heading has its kind
-pub kind-is : (file : List ℕ) (row : ℕ) (kind : Kind) → (heading_by file row kind).kind ≡ kind
-kind-is file row is_axiom = refl
-kind-is file row is_theorem = refl
-kind-is file row is_definition = refl

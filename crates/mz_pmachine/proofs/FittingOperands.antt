@@ -9,7 +9,9 @@ use Rattle.mz_logic.specs.declared.word.Word.{Word}
 use Rattle.mz_store.specs.declared.item.Id.{Id}
 use Rattle.mz_unification.specs.Steps.{◌>>◌}
 use Rattle.mz_soundness.specs.Premises.{operands_fit}
-use Rattle.mz_machine.proofs.Offered.{next-at, none-left, next-binder, fit-next}
+use Rattle.mz_earlier.proofs.Offered.{next-at, none-left}
+use Rattle.mz_store.proofs.Offered.{next-binder}
+use Rattle.mz_machine.proofs.Offered.{fit-next}
 use Rattle.mz_nodes.specs.Numbering.{Numbering, tree_of}
 use Rattle.mz_punify.specs.Stored.{trees_at}
 use Rattle.mz_punify.proofs.Offered.{tree-at, length-trees}

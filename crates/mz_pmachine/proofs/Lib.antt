@@ -9,8 +9,8 @@ mod FittingOperands
 mod Apartness
 mod TermResults
 mod Stopping
-mod FreeWords
 mod Ending
+mod Advancing
 mod BodyUnderway
 mod BodyRunning
 mod Machines

@@ -8,8 +8,9 @@ use Rattle.mz_store.specs.declared.item.Id.{Id}
 use Rattle.mz_store.specs.declared.item.Item.{Item as Kept}
 use Rattle.mz_soundness.specs.Tables.{Kind, signatures_in}
 use Rattle.mz_soundness.specs.Bodies.{proves, body_command}
-use Rattle.mz_machine.specs.Before.{heading_of, tables_before}
-use Rattle.mz_machine.specs.declared.earlier.Rows.{Rows}
+use Rattle.mz_earlier.specs.OwnRow.{heading_of}
+use Rattle.mz_earlier.specs.Before.{tables_before}
+use Rattle.mz_layout.specs.declared.taken.Rows.{Rows}
 use Rattle.mz_numbered.specs.Numbered.{portable}
 use Rattle.mz_nodes.specs.Numbering.{Numbering, AreIn}
 use Rattle.mz_punify.specs.Stored.{AreItemsIn}

@@ -14,7 +14,7 @@ use Rattle.mz_numbered.proofs.Offered.{equal-same, equal-refl}
 use Rattle.mz_soundness.specs.Tables.{Tables, State}
 use Rattle.mz_soundness.specs.Premises.{pop_expr, pop_obligation, is_conversion, is_obligation, may_be_dummy_sort, is_provable_sort, bound_count}
 use Rattle.mz_soundness.specs.ProofMachine.{proof_row, referred, has_provable_sort}
-use Rattle.mz_machine.specs.Before.{Before, tables_of, signatures_of}
+use Rattle.mz_earlier.specs.Before.{Before, tables_of, signatures_of}
 use Rattle.mz_pmachine.specs.OverNodes.{with_stack}
 
 pub not-same : (e f : Numbered) → (e ≡ f → ⊥) → equal e f ≡ false

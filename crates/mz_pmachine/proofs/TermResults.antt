@@ -27,10 +27,11 @@ use Rattle.mz_punify.proofs.Offered.{items-in-both, still-in, length-trees, tree
 use Rattle.mz_soundness.specs.Tables.{Tables, signatures_in, State}
 use Rattle.mz_soundness.specs.Premises.{pop_operands, operands_fit}
 use Rattle.mz_soundness.specs.ProofMachine.{proof_row, built, push, saved}
-use Rattle.mz_machine.specs.Before.{Before, signatures_of, words_before}
+use Rattle.mz_earlier.specs.Before.{Before, signatures_of, words_before}
 use Rattle.mz_soundness.specs.FileRows.{term_of_file}
 use Rattle.mz_soundness.proofs.Offered.{fits-from}
-use Rattle.mz_machine.proofs.Offered.{length-words, words-at, signatures-before, binders-many}
+use Rattle.mz_earlier.proofs.Offered.{length-words, words-at, signatures-before}
+use Rattle.mz_store.proofs.Offered.{binders-many}
 use Rattle.mz_nodes.proofs.Offered.{entry-kept}
 
 module _ (tables : Tables) (at t : ℕ) (st : State Numbered) where

@@ -21,8 +21,8 @@ use Rattle.mz_soundness.specs.ProofMachine.{stream_of}
 use Rattle.mz_pmachine.specs.OverNodes.{UnlessMem}
 use Rattle.mz_punify.specs.declared.command.Stop.{Stop}
 use Rattle.mz_punify.specs.declared.command.Stop.TheVariants.{Rule, Mem}
-use Rattle.mz_machine.specs.Before.{Before, tables_of, signatures_of, words_before}
-use Rattle.mz_machine.proofs.Offered.{signatures-before, length-words, term-before}
+use Rattle.mz_earlier.specs.Before.{Before, tables_of, signatures_of, words_before}
+use Rattle.mz_earlier.proofs.Offered.{signatures-before, length-words, term-before}
 use Rattle.mz_pmachine.proofs.Converting.{put_in}
 
 -- ---- terms of expressions

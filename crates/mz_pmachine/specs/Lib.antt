@@ -1,7 +1,6 @@
 pub mod OverNodes
 pub mod Steps
 pub mod BodyAnswers
-pub mod OperandRows
 pub mod Endings
 pub mod Stepping
-pub mod UnderwayCode
+pub mod Running

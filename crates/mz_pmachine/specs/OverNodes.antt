@@ -10,18 +10,17 @@ use Rattle.mz_store.specs.declared.item.Id.{Id}
 use Rattle.mz_store.specs.declared.item.Item.{Item as Kept}
 use Rattle.mz_unification.specs.Steps.{◌>>=◌}
 use Rattle.mz_unification.specs.Profile.{Item}
-use Rattle.mz_soundness.specs.Tables.{State, Kind, is_axiom, is_theorem, is_definition, signatures_in}
+use Rattle.mz_soundness.specs.Tables.{State, signatures_in}
 use Rattle.mz_soundness.specs.Premises.{pop_expr, pop_sides}
-use Rattle.mz_machine.specs.Before.{kind_at, heading_of, MayRun, tables_before}
-use Rattle.mz_machine.specs.OverStore.{mode_for, IsContextOf}
-use Rattle.mz_machine.specs.declared.earlier.Rows.{Rows}
+use Rattle.mz_earlier.specs.OwnRow.{kind_at, heading_of, MayRun, mode_for}
+use Rattle.mz_earlier.specs.Before.{tables_before}
+use Rattle.mz_machine.specs.OverStore.{IsContextOf}
+use Rattle.mz_layout.specs.declared.taken.Rows.{Rows}
 use Rattle.mz_numbered.specs.Numbered.{Numbered, a_variable, portable}
 use Rattle.mz_nodes.specs.Numbering.{Numbering, expr_of, IsIn, AreIn, IsOver, KeepsIds}
 use Rattle.mz_punify.specs.Stored.{exprs_at, item_at, items_at, AreItemsIn}
 use Rattle.mz_punify.specs.Rows.{StopsBy}
 use Rattle.mz_punify.specs.declared.command.Stop.{Stop}
-use Rattle.mz_pmachine.specs.declared.command.BodyKind.{BodyKind}
-use Rattle.mz_pmachine.specs.declared.command.BodyKind.TheVariants as kind
 use Rattle.mz_pmachine.specs.declared.command.Making.{Making}
 use Rattle.mz_pmachine.specs.declared.command.Making.TheVariants as making
 use Rattle.mz_pmachine.specs.declared.command.Keeping.{Keeping}
@@ -49,12 +48,7 @@ with_stack st xs = record st { stack = xs }
 abbrev pub pop_unfolding : List (Item Numbered) → Result (Numbered × Numbered × Numbered × List (Item Numbered)) K
 pop_unfolding xs = pop_expr xs >>= λ e. (pop_sides portable e.1 >>= λ o. Ok (e.0, o.0, o.1, o.2))
 
--- ---- kinds and commands
-
-abbrev pub kind_of : BodyKind → Kind
-kind_of kind.Axiom = is_axiom
-kind_of kind.Definition = is_definition
-kind_of kind.Theorem = is_theorem
+-- ---- commands
 
 abbrev pub code_of_making : Making → ProofCode
 code_of_making making.Term = code.Term

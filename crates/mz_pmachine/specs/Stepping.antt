@@ -1,18 +1,18 @@
 -- What a machine answers to a command, and to the END.
-use Rattle.std.specs.Prelude.{◌≡◌, ℕ, ⊤, ◌+◌, ◌≤◌, List, Ok, Err}
+use Rattle.std.specs.Prelude.{◌≡◌, ℕ, ⊤, ◌+◌, ◌≤◌, List, Result, Ok, Err}
 use Rattle.mz_cmd.specs.declared.command.Cmd.{Cmd}
 use Rattle.mz_soundness.specs.Tables.{State}
 use Rattle.mz_soundness.specs.ProofMachine.{proof_end}
 use Rattle.mz_soundness.specs.Bodies.{body_start}
-use Rattle.mz_machine.specs.Before.{heading_of}
-use Rattle.mz_machine.specs.declared.earlier.Rows.{Rows}
+use Rattle.mz_earlier.specs.OwnRow.{heading_of}
+use Rattle.mz_layout.specs.declared.taken.Rows.{Rows}
 use Rattle.mz_machine.specs.declared.body.BodyChecked.{BodyChecked}
 use Rattle.mz_machine.specs.declared.body.BodyChecked.TheVariants.{Good, Refused, Mem}
 use Rattle.mz_numbered.specs.Numbered.{Numbered, portable}
 use Rattle.mz_pmachine.specs.Steps.{Underway, tables_for, heading_for, row_of}
 use Rattle.mz_pmachine.specs.BodyAnswers.{CountsOf}
-use Rattle.mz_pmachine.specs.declared.machine.Stepped.{Stepped}
-use Rattle.mz_pmachine.specs.declared.machine.Stepped.TheVariants as stepped
+use Rattle.mz_punify.specs.declared.command.Stop.{Stop}
+use Rattle.mz_punify.specs.declared.command.Stop.TheVariants as stop
 use Rattle.mz_pmachine.specs.declared.machine.Finished.{Finished}
 use Rattle.mz_pmachine.specs.declared.machine.Finished.TheVariants as finished
 
@@ -35,17 +35,16 @@ pub record GoesOn (u : Underway) (at : ℕ) (after : Underway) : Type 0 where
   pub before : after.before ≡ u.before
   pub next : after.next ≤ at + 1
 
--- what the command at a place leads to; want of memory says nothing
-abbrev pub IsStepped : Underway → Cmd → ℕ → Stepped → Type 0
-IsStepped u c at (stepped.Machine after) = (row_of (tables_for u) (heading_for u) at u.state c ≡ Ok after.state) × GoesOn u at after
-IsStepped u c at (stepped.Refused rule) = row_of (tables_for u) (heading_for u) at u.state c ≡ Err rule
-IsStepped u c at stepped.Mem = ⊤
+-- what the command at a place leads to, where it isn't stopped; want of memory says nothing
+abbrev pub IsStepped : {A : Type 0} → Underway → Cmd → ℕ → Underway → Result A Stop → Type 0
+IsStepped u c at after (Ok x) = (row_of (tables_for u) (heading_for u) at u.state c ≡ Ok after.state) × GoesOn u at after
+IsStepped u c at after (Err (stop.Rule rule)) = row_of (tables_for u) (heading_for u) at u.state c ≡ Err rule
+IsStepped u c at after (Err stop.Mem) = ⊤
 
--- it isn't want of memory, and this holds; or it is
-abbrev pub UnlessMem : Stepped → Type 0 → Type 0
-UnlessMem (stepped.Machine after) P = P
-UnlessMem (stepped.Refused rule) P = P
-UnlessMem stepped.Mem P = ⊤
+-- what stops a command at a place, as what became of the body
+abbrev pub stopped_at : ℕ → Stop → BodyChecked
+stopped_at at (stop.Rule rule) = Refused at rule
+stopped_at at stop.Mem = Mem
 
 -- ---- the END
 

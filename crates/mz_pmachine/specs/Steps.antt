@@ -6,8 +6,9 @@ use Rattle.mz_cmd.specs.declared.command.Cmd.{Cmd}
 use Rattle.mz_soundness.specs.Tables.{Tables, State, Heading}
 use Rattle.mz_soundness.specs.ProofMachine.{proof_row, ends_with}
 use Rattle.mz_soundness.specs.Bodies.{BodyCommand, ends, proves, body_command, row_steps, match_steps}
-use Rattle.mz_machine.specs.Before.{heading_of, tables_before}
-use Rattle.mz_machine.specs.declared.earlier.Rows.{Rows}
+use Rattle.mz_earlier.specs.OwnRow.{heading_of}
+use Rattle.mz_earlier.specs.Before.{tables_before}
+use Rattle.mz_layout.specs.declared.taken.Rows.{Rows}
 use Rattle.mz_numbered.specs.Numbered.{Numbered, portable}
 
 -- a machine between two commands: the file, the statement whose body runs with the rows before it, the state, and a

@@ -3,16 +3,19 @@ ghost use Rattle.std.specs.Prelude.{◌≡◌, ◌≤◌, ◌<◌, ◌^◌, ◌+
 ghost use Rattle.mz_numbered.specs.Numbered.{portable};
 ghost use Rattle.mz_soundness.specs.Bodies.{body_run, body_steps, body_from, body_steps_from};
 ghost use Rattle.mz_pmachine.specs.Steps.{heading_for, tables_for};
-ghost use Rattle.mz_soundness.specs.FileRows.{body_bytes};
-ghost use Rattle.mz_machine.specs.Before.{MayRun, heading_of, tables_before};
+ghost use Rattle.mz_layout.specs.Heads.{body_bytes};
+ghost use Rattle.mz_earlier.specs.OwnRow.{MayRun, heading_of};
+ghost use Rattle.mz_earlier.specs.Before.{tables_before};
 ghost use Rattle.mz_machine.specs.BodyAnswers.{UnlessMem};
 ghost use Rattle.mz_pmachine.specs.BodyAnswers.{IsBodyRun};
-ghost use Rattle.mz_pmachine.specs.Stepping.{ended_at};
+ghost use Rattle.mz_pmachine.specs.Stepping.{ended_at, stopped_at};
+ghost use Rattle.mz_pmachine.specs.Running.{IsRunning, machine_of};
 
-use crate::machine::{Finished, Machine, Stepped};
+use crate::machine::{Finished, Machine};
 use mz_cmd::{END, K, Steps, cmd_at};
-use mz_layout::Mmb;
-use mz_machine::{BodyChecked, Rows};
+use mz_layout::{Mmb, Rows};
+use mz_machine::BodyChecked;
+use mz_punify::Stop;
 use std::alloc::Global;
 use std::sync::ledger::Ledger;
 
@@ -50,12 +53,13 @@ pub fn check_portable<L: Ledger>(
 /// Runs the commands of a body, whose first byte stands at a place of the file.
 fn run<L: Ledger>(start: Machine, bytes: &[u8], from: u32, steps: &mut Steps<L>) -> BodyChecked
     requires within { from + length bytes.now < 2 ^ 32 }
-    requires first { start.next ≡ 0 }
-    ensures run { IsBodyRun (heading_for start.entry) (body_from portable (tables_for start.entry) (heading_for start.entry) (length bytes.now) from bytes.now start.entry.state) result }
-    ensures steps { UnlessMem result (steps.new ≡ steps.old + body_steps_from portable (tables_for start.entry) (heading_for start.entry) (length bytes.now) from bytes.now start.entry.state) }
-    ensures most { steps.new ≤ steps.old + length bytes.now * (length start.entry.file + 1) }
+    requires running { IsRunning start.setting start.parts }
+    requires first { (machine_of start.setting start.parts).next ≡ 0 }
+    ensures run { IsBodyRun (heading_for (machine_of start.entry.setting start.entry.parts)) (body_from portable (tables_for (machine_of start.entry.setting start.entry.parts)) (heading_for (machine_of start.entry.setting start.entry.parts)) (length bytes.now) from bytes.now (machine_of start.entry.setting start.entry.parts).state) result }
+    ensures steps { UnlessMem result (steps.new ≡ steps.old + body_steps_from portable (tables_for (machine_of start.entry.setting start.entry.parts)) (heading_for (machine_of start.entry.setting start.entry.parts)) (length bytes.now) from bytes.now (machine_of start.entry.setting start.entry.parts).state) }
+    ensures most { steps.new ≤ steps.old + length bytes.now * (length start.entry.setting.earlier.file + 1) }
 {
-    let mut machine = start;
+    let Machine { setting, mut parts } = start;
     let mut at = 0;
     'commands: loop {
         let Ok(cmd) = cmd_at(bytes, at) else {
@@ -72,19 +76,22 @@ fn run<L: Ledger>(start: Machine, bytes: &[u8], from: u32, steps: &mut Steps<L>)
                     rule: K::StatementLength,
                 };
             }
-            return ended(from + at, machine.finish(steps));
+            return ended(from + at, setting.finish(&parts, steps));
         }
-        match machine.step(from + at, cmd, steps) {
-            Stepped::Machine(after) => machine = after,
-            Stepped::Refused(rule) => {
-                return BodyChecked::Refused {
-                    at: from + at,
-                    rule,
-                };
-            }
-            Stepped::Mem => return BodyChecked::Mem,
+        match setting.advance(&mut parts, from + at, cmd, steps) {
+            Ok(()) => at = next,
+            Err(stop) => return stopped(from + at, stop),
         }
-        at = next;
+    }
+}
+
+/// What stops a command at a place, as what became of the body.
+fn stopped(at: u32, stop: Stop) -> BodyChecked
+    ensures { result ≡ stopped_at at stop }
+{
+    match stop {
+        Stop::Rule(rule) => BodyChecked::Refused { at, rule },
+        Stop::Mem => BodyChecked::Mem,
     }
 }
 

@@ -11,17 +11,17 @@ ghost use Rattle.mz_soundness.specs.Tables.{State, is_axiom, is_definition};
 ghost use Rattle.mz_soundness.specs.FreeVars.{free_within};
 ghost use Rattle.mz_soundness.specs.ProofMachine.{proof_end, ends_with, ending, last_item, as_proofs};
 ghost use Rattle.mz_soundness.specs.Bodies.{match_steps};
-ghost use Rattle.mz_machine.specs.Before.{tables_of, signatures_of, heading_by, IsNextRow};
-ghost use Rattle.mz_machine.specs.OverStore.{mode_for, IsContextOf, GivesRule};
-ghost use Rattle.mz_pmachine.specs.OverNodes.{state_at, kind_of, AreFirst, Gives, UnlessMem};
+ghost use Rattle.mz_earlier.specs.Before.{tables_of, signatures_of};
+ghost use Rattle.mz_earlier.specs.OwnRow.{heading_by, IsNextRow, mode_for, kind_of};
+ghost use Rattle.mz_machine.specs.OverStore.{IsContextOf, GivesRule};
+ghost use Rattle.mz_pmachine.specs.OverNodes.{state_at, AreFirst, Gives, UnlessMem};
 ghost use Rattle.mz_machine.specs.Endings.{mode_at};
 ghost use Rattle.mz_pmachine.specs.Endings.{ended, items_of, IsOwnRun};
 ghost use Rattle.mz_numbered.specs.Numbered.{Numbered, a_variable, portable};
 
-use crate::command::BodyKind;
 use crate::commands::heap::is_provable;
-use crate::earlier::Earlier;
 use mz_cmd::{K, Steps};
+use mz_earlier::{BodyKind, Earlier, own_arity, own_stream};
 use mz_logic::Word;
 use mz_nodes::Nodes;
 use mz_punify::{Stop, unify};
@@ -70,33 +70,6 @@ pub(crate) fn end<L: Ledger>(
     run_own(
         earlier, kind, stream, operands, target, proofs, nodes, steps,
     )
-}
-
-/// How many parameters the next row of the kind has.
-#[tactic(auto, using(mz_machine::proofs::BeforeLaws::binders_many))]
-fn own_arity(earlier: &Earlier, kind: BodyKind, row: u32) -> u32
-    requires { IsNextRow earlier.now.file earlier.now.rows row (kind_of kind) }
-    ensures { result ≡ length (heading_by earlier.now.file row (kind_of kind)).params }
-{
-    match kind {
-        BodyKind::Axiom => earlier.own_thm_arity(row),
-        BodyKind::Theorem => earlier.own_thm_arity(row),
-        BodyKind::Definition => earlier.own_term_arity(row),
-    }
-}
-
-/// The unify stream of the next row of the kind, from its first byte to the file's end.
-fn own_stream<'a>(earlier: &Earlier<'a>, kind: BodyKind, row: u32) -> &'a [u8]
-    requires { IsNextRow earlier.now.file earlier.now.rows row (kind_of kind) }
-    ensures stream { result.now ≡ (heading_by earlier.now.file row (kind_of kind)).stream }
-    ensures fits { length result.now < 2 ^ 32 }
-    ensures within { length result.now ≤ length earlier.now.file }
-{
-    match kind {
-        BodyKind::Axiom => earlier.own_thm_stream(row),
-        BodyKind::Theorem => earlier.own_thm_stream(row),
-        BodyKind::Definition => earlier.own_term_stream(row),
-    }
 }
 
 /// Runs the row's own stream: at an assertion's end its hypotheses are taken too.

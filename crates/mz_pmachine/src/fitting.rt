@@ -3,17 +3,19 @@ ghost use Rattle.std.specs.Prelude.{ℕ, ◌≡◌, List, [], ◌∷◌, IfOk, l
 ghost use Rattle.mz_logic.specs.Signature.{Signature};
 ghost use Rattle.mz_logic.specs.Words.{binders_of, word_bound, word_sort};
 ghost use Rattle.mz_logic.specs.declared.binder.Binder.{Binder};
+ghost use Rattle.mz_layout.specs.Rows.{params_of};
 ghost use Rattle.mz_nodes.specs.Numbering.{IsIn, AreIn, IsOver, tree_of};
 ghost use Rattle.mz_punify.specs.Stored.{items_at, exprs_at, trees_at, AreItemsIn};
 ghost use Rattle.mz_soundness.specs.Premises.{pop_operands, operands_fit};
-ghost use Rattle.mz_machine.specs.Before.{signatures_of};
-ghost use Rattle.mz_pmachine.specs.OperandRows.{IsBefore, params_of};
+ghost use Rattle.mz_earlier.specs.Before.{signatures_of};
+ghost use Rattle.mz_earlier.specs.OperandRows.{IsBefore};
 ghost use Rattle.mz_machine.specs.OverStore.{GivesRule};
 ghost use Rattle.mz_pmachine.specs.OverNodes.{Gives};
 
-use crate::earlier::{Earlier, Row};
 use crate::stack::{pop_expr, push_id};
 use mz_cmd::K;
+use mz_earlier::Earlier;
+use mz_layout::Row;
 use mz_logic::Word;
 use mz_nodes::Nodes;
 use mz_punify::Stop;

@@ -5,11 +5,9 @@
 #![tactic(auto)]
 
 mod apart;
-mod begin;
 mod body;
 mod command;
 mod commands;
-mod earlier;
 mod end;
 mod fitting;
 mod machine;

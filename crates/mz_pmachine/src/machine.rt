@@ -4,70 +4,52 @@ ghost use Rattle.mz_store.specs.Bits.{bound_vars};
 ghost use Rattle.mz_nodes.specs.Numbering.{AreIn, IsOver};
 ghost use Rattle.mz_punify.specs.Stored.{AreItemsIn};
 ghost use Rattle.mz_soundness.specs.Bodies.{body_command};
-ghost use Rattle.mz_machine.specs.Before.{MayRun, kind_at, tables_of, signatures_of};
+ghost use Rattle.mz_earlier.specs.OwnRow.{MayRun, kind_at};
+ghost use Rattle.mz_earlier.specs.Before.{tables_of, signatures_of};
 ghost use Rattle.mz_pmachine.specs.OverNodes.{state_at, Gives, Grows};
 ghost use Rattle.mz_pmachine.specs.OverNodes.{UnlessMem as OrMem};
 ghost use Rattle.mz_pmachine.specs.Steps.{heading_for, tables_for, steps_for, row_by, steps_by, end_steps};
 ghost use Rattle.mz_numbered.specs.Numbered.{portable};
-ghost use Rattle.mz_pmachine.specs.Stepping.{IsBegun, IsStepped, IsFinished, UnlessMem, UnlessEndMem};
+ghost use Rattle.mz_pmachine.specs.Running.{IsRunning, machine_of};
+ghost use Rattle.mz_pmachine.specs.Stepping.{IsBegun, IsStepped, IsFinished, UnlessEndMem};
 
-use crate::begin::{deps_mode, first_items, read_words};
-use crate::command::{decoded, kind_by};
+use crate::command::decoded;
 use crate::commands::execute;
-use crate::earlier::Earlier;
 use crate::end::end;
 use mz_cmd::{Cmd, K, Steps};
-use mz_layout::Mmb;
-use mz_machine::{BodyEnd, Rows};
+use mz_earlier::{Earlier, deps_mode, first_items, kind_by, read_words};
+use mz_layout::{Mmb, Rows};
+use mz_machine::BodyEnd;
 use mz_nodes::Nodes;
 use mz_punify::Stop;
 use mz_store::{Id, Item};
 use std::alloc::{AllocError, Global};
-use std::marker::Model;
 use std::sync::ledger::Ledger;
 
-/// A machine between two commands of a body. Its meaning is the state to which they have led, over
-/// the file, the statement and the rows before it.
+/// The statement whose body runs, and the rows before it.
 #[derive(Drop)]
-pub(crate) struct Machine<'a> {
+pub(crate) struct Setting<'a> {
     alloc: Global,
-    mmb: &'a Mmb<'a>,
+    earlier: Earlier<'a>,
     kind: u8,
     row: u32,
-    before: Rows,
     bound_params: u32,
+}
+
+/// What a body's commands change.
+#[derive(Drop)]
+pub(crate) struct Parts {
     nodes: Nodes,
     heap: Vec<Item>,
     stack: Vec<Item>,
     hyps: Vec<Id>,
 }
 
-impl<'a> Model for Machine<'a> {
-    ghost use Rattle.std.specs.Prelude.{length, ◌≡◌};
-    ghost use Rattle.mz_store.specs.Bits.{bound_vars};
-    ghost use Rattle.mz_machine.specs.Before.{heading_of};
-    ghost use Rattle.mz_pmachine.specs.Steps.{Underway};
-    ghost use Rattle.mz_pmachine.specs.OverNodes.{IsUnderway, state_at};
-    ghost use Rattle.mz_pmachine.specs.UnderwayCode.{underway_code};
-
-    ghost Value = { Underway };
-
-    ghost coded = { underway_code };
-
-    ghost view = { λ m. record { file = m.mmb.now; kind = m.kind; row = m.row; before = m.before; state = state_at m.nodes m.heap.items m.stack.items m.hyps.items; next = m.nodes.next } };
-
-    ghost invariant = { λ m. IsUnderway m.mmb.now m.kind m.row m.before m.nodes m.heap.items m.stack.items m.hyps.items × (m.bound_params ≡ length (bound_vars (heading_of m.mmb.now m.kind m.row).params)) };
-}
-
-/// What became of a command.
+/// A machine between two commands of a body.
 #[derive(Drop)]
-pub(crate) enum Stepped<'a> {
-    /// The machine after it.
-    Machine(Machine<'a>),
-    /// The first rule that fails.
-    Refused(K),
-    /// Want of memory.
-    Mem,
+pub(crate) struct Machine<'a> {
+    pub(crate) setting: Setting<'a>,
+    pub(crate) parts: Parts,
 }
 
 /// What became of the END.
@@ -98,7 +80,8 @@ impl<'a> Machine<'a> {
         before: Rows,
     ) -> Result<Machine<'a>, AllocError>
         requires { MayRun mmb.now kind row before }
-        ensures { IfOk result (λ machine. IsBegun mmb.now kind row before machine) }
+        ensures running { IfOk result (λ machine. IsRunning machine.setting machine.parts) }
+        ensures begun { IfOk result (λ machine. IsBegun mmb.now kind row before (machine_of machine.setting machine.parts)) }
     {
         let earlier = Earlier::new(mmb, before);
         let words = read_words(alloc, &earlier, kind_by(kind), row)?;
@@ -107,93 +90,76 @@ impl<'a> Machine<'a> {
         let heap = first_items(alloc, words.len())?;
         let bound_params = nodes.bound_count();
         Ok(Machine {
-            alloc,
-            mmb,
-            kind,
-            row,
-            before,
-            bound_params,
-            nodes,
-            heap,
-            stack: Vec::new(alloc),
-            hyps: Vec::new(alloc),
-        })
-    }
-
-    /// Executes the command at a place, which is no END and comes after all that were executed. A step
-    /// is counted for it, and one for each command of the stream that it runs.
-    pub(crate) fn step<L: Ledger>(self, at: u32, cmd: Cmd, steps: &mut Steps<L>) -> Stepped<'a>
-        requires code { cmd.code ≡ 0 → ⊥ }
-        requires later { self.next ≤ at }
-        ensures row { IsStepped self.entry cmd at result }
-        ensures steps { UnlessMem result (steps.new ≡ steps.old + steps_for (tables_for self.entry) (heading_for self.entry) self.entry.state cmd) }
-        ensures most { steps.new ≤ steps.old + (1 + length self.entry.file) }
-    {
-        let Machine {
-            alloc,
-            mmb,
-            kind,
-            row,
-            before,
-            bound_params,
-            mut nodes,
-            mut heap,
-            mut stack,
-            mut hyps,
-        } = self;
-        let earlier = Earlier::new(mmb, before);
-        match obey(
-            alloc, &earlier, kind, at, cmd, &mut nodes, &mut heap, &mut stack, &mut hyps, steps,
-        ) {
-            Ok(()) => Stepped::Machine(Machine {
+            setting: Setting {
                 alloc,
-                mmb,
+                earlier,
                 kind,
                 row,
-                before,
                 bound_params,
+            },
+            parts: Parts {
                 nodes,
                 heap,
-                stack,
-                hyps,
-            }),
-            Err(Stop::Rule(rule)) => Stepped::Refused(rule),
-            Err(Stop::Mem) => Stepped::Mem,
-        }
+                stack: Vec::new(alloc),
+                hyps: Vec::new(alloc),
+            },
+        })
+    }
+}
+
+impl<'a> Setting<'a> {
+    /// Executes the command at a place on the parts, which are in place. It is no END and comes after
+    /// all that were executed. A step is counted for it, and one for each command of the stream that it
+    /// runs.
+    pub(crate) fn advance<L: Ledger>(
+        &self,
+        parts: &mut Parts,
+        at: u32,
+        cmd: Cmd,
+        steps: &mut Steps<L>,
+    ) -> Result<(), Stop>
+        requires code { cmd.code ≡ 0 → ⊥ }
+        requires later { parts.old.nodes.next ≤ at }
+        requires running { IsRunning self.now parts.old }
+        ensures running { OnOk result (IsRunning self.now parts.new) }
+        ensures row { IsStepped (machine_of self.now parts.old) cmd at (machine_of self.now parts.new) result }
+        ensures steps { OrMem result (steps.new ≡ steps.old + steps_for (tables_of self.now.earlier) (heading_for (machine_of self.now parts.old)) (machine_of self.now parts.old).state cmd) }
+        ensures most { steps.new ≤ steps.old + (1 + length self.now.earlier.file) }
+    {
+        obey(
+            self.alloc,
+            &self.earlier,
+            self.kind,
+            at,
+            cmd,
+            &mut parts.nodes,
+            &mut parts.heap,
+            &mut parts.stack,
+            &mut parts.hyps,
+            steps,
+        )
     }
 
     /// Ends the body, whose END ends its statement too. A step is counted for it, and one for each
     /// command of the row's own stream that is executed.
-    pub(crate) fn finish<L: Ledger>(self, steps: &mut Steps<L>) -> Finished
-        ensures run { IsFinished self.entry result }
-        ensures steps { UnlessEndMem result (steps.new ≡ steps.old + end_steps (tables_for self.entry) (heading_for self.entry) self.entry.state) }
-        ensures most { steps.new ≤ steps.old + (1 + length self.entry.file) }
+    pub(crate) fn finish<L: Ledger>(&self, parts: &Parts, steps: &mut Steps<L>) -> Finished
+        requires { IsRunning self.now parts.now }
+        ensures run { IsFinished (machine_of self.now parts.now) result }
+        ensures steps { UnlessEndMem result (steps.new ≡ steps.old + end_steps (tables_of self.now.earlier) (heading_for (machine_of self.now parts.now)) (machine_of self.now parts.now).state) }
+        ensures most { steps.new ≤ steps.old + (1 + length self.now.earlier.file) }
     {
-        let Machine {
-            alloc,
-            mmb,
-            kind,
-            row,
-            before,
-            bound_params,
-            nodes,
-            stack,
-            hyps,
-            ..
-        } = self;
         steps.tick();
-        let earlier = Earlier::new(mmb, before);
         match end(
-            alloc,
-            &earlier,
-            kind_by(kind),
-            row,
-            &nodes,
-            &stack,
-            &hyps,
+            self.alloc,
+            &self.earlier,
+            kind_by(self.kind),
+            self.row,
+            &parts.nodes,
+            &parts.stack,
+            &parts.hyps,
             steps,
         ) {
-            Ok(()) => Finished::Body(counted(&nodes, bound_params, &hyps)),
+            Ok(()) => Finished::Body(counted(&parts.nodes, self.bound_params, &parts.hyps)),
             Err(Stop::Rule(rule)) => Finished::Refused(rule),
             Err(Stop::Mem) => Finished::Mem,
         }

@@ -9,7 +9,8 @@ use Rattle.mz_logic.specs.Declaration.{Declaration, sort_decl, term_decl, assert
 use Rattle.mz_layout.specs.Tables.{term_row, thm_row}
 use Rattle.mz_unification.specs.Profile.{strict}
 use Rattle.mz_soundness.specs.Bodies.{Runs, body_checks}
-use Rattle.mz_soundness.specs.FileRows.{Taken, term_of_file, thm_of_file, rows_taken, body_bytes}
+use Rattle.mz_layout.specs.Heads.{body_bytes}
+use Rattle.mz_soundness.specs.FileRows.{Taken, term_of_file, thm_of_file, rows_taken}
 use Rattle.mz_soundness.specs.Lists.{definition_of, assertion_of}
 use Rattle.mz_soundness.specs.RowWords.{param_checks, word_checks}
 use Rattle.mz_soundness.specs.Tables.{Tables, Heading}
@@ -46,21 +47,21 @@ module _ (file : List ℕ) (taken : Taken) (body next : ℕ) where
     term-body-too None too all = all
     term-body-too (Some stream) too all = body-too (definition_of (term_of_file file taken.terms) stream) (too stream refl) all
 
-    term-too : (is_local : Bool) → ((stream : List ℕ) → (term_of_file file taken.terms).stream ≡ Some stream → RunsToo tables (definition_of (term_of_file file taken.terms) stream) body bytes)
-        → AllHold (term_checks strict_standard file taken at body next is_local) → AllHold (term_checks Portable file taken at body next is_local)
-    term-too is_local too (row, (mark, all)) =
+    term-too : ((stream : List ℕ) → (term_of_file file taken.terms).stream ≡ Some stream → RunsToo tables (definition_of (term_of_file file taken.terms) stream) body bytes)
+        → AllHold (term_checks strict_standard file taken at body next) → AllHold (term_checks Portable file taken at body next)
+    term-too too all =
         let words : Checks (ℕ × K) = word_checks taken.sorts (term_row file taken.terms) in
         let stream : Option (List ℕ) = (term_of_file file taken.terms).stream in
         let run : Checks (ℕ × K) = term_body_checks strict_standard file taken at body next stream in
-        (row, (mark, all_hold-both words (term_body_checks Portable file taken at body next stream) (all_hold-first words run all) (term-body-too stream too (all_hold-rest words run all))))
+        all_hold-both words (term_body_checks Portable file taken at body next stream) (all_hold-first words run all) (term-body-too stream too (all_hold-rest words run all))
 
     thm-too : (without_proof : Bool) → RunsToo tables (assertion_of without_proof (thm_of_file file taken.thms)) body bytes
-        → AllHold (thm_checks strict_standard file taken at body next without_proof) → AllHold (thm_checks Portable file taken at body next without_proof)
-    thm-too without_proof too (row, all) =
+        → AllHold (thm_checks strict_standard file taken body next without_proof) → AllHold (thm_checks Portable file taken body next without_proof)
+    thm-too without_proof too all =
         let words : Checks (ℕ × K) = param_checks taken.sorts (thm_row file taken.thms).words_at (thm_row file taken.thms).params in
         let h : Heading = assertion_of without_proof (thm_of_file file taken.thms) in
         let run : Checks (ℕ × K) = body_checks strict tables h body bytes in
-        (row, all_hold-both words (body_checks portable tables h body bytes) (all_hold-first words run all) (body-too h too (all_hold-rest words run all)))
+        all_hold-both words (body_checks portable tables h body bytes) (all_hold-first words run all) (body-too h too (all_hold-rest words run all))
 
     -- ---- by the command's code
 
@@ -69,12 +70,12 @@ module _ (file : List ℕ) (taken : Taken) (body next : ℕ) where
 
     assertion-too : (code : ℕ) (without_proof : Bool) → MatchBool without_proof (code ≡ 0x02) ((code ≡ 0x06) ⊎ (code ≡ 0x0E))
         → RunsToo tables (assertion_of without_proof (thm_of_file file taken.thms)) body bytes → HoldsToo code
-    assertion-too code true is too = subst HoldsToo (sym is) (thm-too true too)
-    assertion-too code false (inl is) too = subst HoldsToo (sym is) (thm-too false too)
-    assertion-too code false (inr is) too = subst HoldsToo (sym is) (thm-too false too)
+    assertion-too code true is too = subst HoldsToo (sym is) (λ all. (all.0, thm-too true too all.1))
+    assertion-too code false (inl is) too = subst HoldsToo (sym is) (λ all. (all.0, thm-too false too all.1))
+    assertion-too code false (inr is) too = subst HoldsToo (sym is) (λ all. (all.0, thm-too false too all.1))
 
     pub holds-too : (code : ℕ) (d : Declaration) → IsKindOf code d → BodyRunsToo d → HoldsToo code
     holds-too code (sort_decl m) is too = subst HoldsToo (sym is) (λ all. all)
-    holds-too code (term_decl d) (inl is) too = subst HoldsToo (sym is) (term-too false too)
-    holds-too code (term_decl d) (inr is) too = subst HoldsToo (sym is) (term-too true too)
+    holds-too code (term_decl d) (inl is) too = subst HoldsToo (sym is) (λ all. (all.0, (all.1.0, term-too too all.1.1)))
+    holds-too code (term_decl d) (inr is) too = subst HoldsToo (sym is) (λ all. (all.0, (all.1.0, term-too too all.1.1)))
     holds-too code (assertion_decl a) is too = assertion-too code a.is_axiom is too

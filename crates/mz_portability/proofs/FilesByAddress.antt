@@ -12,7 +12,8 @@ use Rattle.mz_layout.specs.Normal.{Written, Parts, file_of}
 use Rattle.mz_layout.specs.Standing.{Fit, AreListed, body_place, next_place}
 use Rattle.mz_layout.specs.Tables.{list_at}
 use Rattle.mz_layout.proofs.Offered.{all-listed, counts-said}
-use Rattle.mz_soundness.specs.FileRows.{taken_by, rows_taken, body_bytes}
+use Rattle.mz_layout.specs.Heads.{body_bytes}
+use Rattle.mz_soundness.specs.FileRows.{taken_by, rows_taken}
 use Rattle.mz_soundness.specs.Tables.{Declares}
 use Rattle.mz_binary.specs.declared.standard.Standard.{Standard}
 use Rattle.mz_binary.specs.declared.standard.Standard.TheVariants.{Portable}

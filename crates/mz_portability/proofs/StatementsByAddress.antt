@@ -14,7 +14,8 @@ use Rattle.mz_layout.specs.Normal.{Parts, row_of_term, file_of}
 use Rattle.mz_layout.specs.Standing.{Fit}
 use Rattle.mz_unification.specs.Spells.{TermRow, ThmRow, SpellsForm}
 use Rattle.mz_unification.proofs.Offered.{some_is}
-use Rattle.mz_soundness.specs.FileRows.{taken_by, term_of_file, thm_of_file, rows_taken, body_bytes}
+use Rattle.mz_layout.specs.Heads.{body_bytes}
+use Rattle.mz_soundness.specs.FileRows.{taken_by, term_of_file, thm_of_file, rows_taken}
 use Rattle.mz_soundness.specs.Lists.{definition_of, assertion_of}
 use Rattle.mz_soundness.specs.Tables.{Tables, Declares}
 use Rattle.mz_soundness.proofs.Offered.{pairs-long}

@@ -3,7 +3,7 @@ use Rattle.std.proofs.Common.{◌≡◌, ◌∙◌, ◌<◌, ◌++◌, ◌+◌, 
 use Rattle.std.specs.Prelude.{bytes_eq, if◌then◌else◌, option_map}
 use Rattle.std.proofs.lemmas.Bool.{false≢true, cases_Bool, false_from_ne_true}
 use Rattle.std.proofs.lemmas.Slice.Eq.{bytes_eq-Decides}
-use Rattle.mz_spec.specs.Names.{number_of, IsNew, IsKnown}
+use Rattle.mz_variables.specs.Names.{number_of, IsNew, IsKnown}
 
 pub same-bytes : (a b : List ℕ) → a ≡ b → bytes_eq a b ≡ true
 same-bytes a b is = (bytes_eq-Decides a b).1 is

@@ -6,8 +6,8 @@ use Rattle.std.specs.List.Sorted.{IsStrictlyIncreasing}
 use Rattle.std.proofs.lemmas.Bool.{cases_eq, ne_eqb, eq-eqb, or_from, or_left}
 use Rattle.mz_lex.specs.Lexemes.{Lexeme}
 use Rattle.mz_logic.specs.declared.binder.Binder.{Binder}
-use Rattle.mz_spec.specs.View.{Variable, is_among}
-use Rattle.mz_spec.specs.State.{dep_places}
+use Rattle.mz_variables.specs.View.{Variable, is_among}
+use Rattle.mz_variables.specs.Dependencies.{dep_places}
 use Rattle.mz_readback.specs.Declared.{Vocabulary, HasVariables}
 use Rattle.mz_readback.proofs.Names.{same-bytes, other-bytes}
 use Rattle.mz_readback.proofs.Shown.{AreTexts, AreShown}

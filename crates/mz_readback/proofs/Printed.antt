@@ -26,8 +26,8 @@ use Rattle.mz_grammar.specs.Reading.{place_of_first}
 use Rattle.mz_printing.specs.Words.{lexeme_at, lexemes_at, stop}
 use Rattle.mz_printing.specs.Lines.{Tokens, Line, sort_line, term_line, assert_line, definition_line, math_word, math_text, spaced_mark, spaced_name, sort_words, hyps_words, type_words, title_words, head_at, binders_at, type_at, hyps_at, body_at, colon_at, line_words, statement_at, next_line, lines_text, HasItsDummies, HaveNoDummies}
 use Rattle.mz_printing.specs.Plain.{IsPlain, ArePlain, lines_lexemes}
-use Rattle.mz_spec.specs.Names.{number_of, IsNew}
-use Rattle.mz_spec.specs.View.{sorts as sort_space, terms, assertions, body, Variable, variables_of, unnamed, types_of, group_types, group_stated, premise_stated, Stated, stated_claim, claim}
+use Rattle.mz_variables.specs.Names.{number_of, IsNew}
+use Rattle.mz_variables.specs.View.{sorts as sort_space, terms, assertions, body, Variable, variables_of, unnamed, types_of, group_types, group_stated, premise_stated, Stated, stated_claim, claim}
 use Rattle.mz_spec.specs.State.{State, signature_of, dummy_binders, param_binders, nothing, with_sort, with_term, with_assertion, entries_of, env_of}
 use Rattle.mz_spec.specs.Formulas.{IsMeant, AreHyps}
 use Rattle.mz_printing.specs.Prefix.{IsShort}

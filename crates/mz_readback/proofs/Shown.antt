@@ -9,7 +9,7 @@ use Rattle.mz_logic.specs.Legality.{IsDummy}
 use Rattle.mz_grammar.specs.Statement.{TypeText, Group}
 use Rattle.mz_printing.specs.Words.{lexeme_at, lexemes_at, stop}
 use Rattle.mz_printing.specs.Lines.{PlainType, PlainBinder, name_word, spaced_name, dep_words, type_at, opening_words, naming_words, binder_words, binder_at, binders_at}
-use Rattle.mz_spec.specs.View.{Variable, variables_of, name_of, params_of, dummies_of, names_of, name_texts, group_types}
+use Rattle.mz_variables.specs.View.{Variable, variables_of, name_of, params_of, dummies_of, names_of, name_texts, group_types}
 use Rattle.mz_spec.specs.State.{variable_bytes, bytes_of}
 use Rattle.mz_readback.specs.Declared.{Vocabulary, plain_type, plain_param, plain_dummy, plain_dummies, plain_binders}
 

@@ -21,7 +21,7 @@ use Rattle.mz_logic.specs.Words.{binders_from, word_bound}
 use Rattle.mz_logic.specs.declared.binder.Binder.{Binder}
 use Rattle.mz_logic.specs.declared.binder.SortMods.{SortMods}
 use Rattle.mz_logic.specs.declared.word.Word.{Word}
-use Rattle.mz_mmu.specs.Proof.{Proof}
+use Rattle.mz_forms.specs.Proof.{Proof}
 use Rattle.mz_unification.specs.Steps.{◌>>◌, need, at_place, Turn, over, goes_on}
 use Rattle.mz_unification.specs.Streams.{of_definition}
 use Rattle.mz_unification.specs.Spells.{trees_of, dummy_of, variables_from, SpellsForm}

@@ -10,8 +10,8 @@ use Rattle.mz_cmd.specs.Reading.{first_command}
 use Rattle.mz_logic.specs.Tree.{Tree}
 use Rattle.mz_logic.specs.Conversions.{Conversion, Conversions, refl_conv, sym_conv, cong_conv, unfold_conv, no_convs, more_convs, GapsOnly, AllGapsOnly}
 use Rattle.mz_logic.specs.declared.binder.Binder.{Binder}
-use Rattle.mz_mmu.specs.Proof.{Proof, Proofs, by_hyp, by_name, by_citation, by_conv, by_let, by_gap, no_proofs, more_proofs}
-use Rattle.mz_mmu.specs.Gaps.{LeavesOnly, AllLeaveOnly}
+use Rattle.mz_forms.specs.Proof.{Proof, Proofs, by_hyp, by_name, by_citation, by_conv, by_let, by_gap, no_proofs, more_proofs}
+use Rattle.mz_forms.specs.Gaps.{LeavesOnly, AllLeaveOnly}
 use Rattle.mz_unification.specs.Steps.{Turn, over, goes_on}
 use Rattle.mz_unification.specs.Profile.{strict, tree_parts}
 use Rattle.mz_unification.proofs.Offered.{from_bind, from_want, taken, taken-is}

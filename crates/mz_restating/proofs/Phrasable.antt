@@ -10,9 +10,9 @@ use Rattle.mz_logic.specs.Declaration.{Declaration}
 use Rattle.mz_logic.specs.Legality.{IsLegalDecl, IsLegalEnv}
 use Rattle.mz_logic.specs.LegalLists.{Statement as Marked, MayBeLocal, LegalAfter, gap_free}
 use Rattle.mz_logic.specs.declared.binder.Binder.{Binder}
-use Rattle.mz_mmu.specs.Name.{Names, IsName}
-use Rattle.mz_mmu.specs.Statements.{names_with}
-use Rattle.mz_mmu.specs.Proof.{Statement}
+use Rattle.mz_forms.specs.Name.{Names, IsName}
+use Rattle.mz_forms.specs.Statements.{names_with}
+use Rattle.mz_forms.specs.Proof.{Statement}
 use Rattle.mz_type.specs.Meaning.{marked}
 use Rattle.mz_type.specs.Weight.{parameter_limit, bound_limit, params_of, parameter_count, bound_count as bound_in, each_within}
 use Rattle.mz_soundness.specs.Tables.{Declares}

@@ -8,8 +8,8 @@ use Rattle.std.proofs.lemmas.Fmt.{decimal_injective, decimal_is_IsNumeral}
 use Rattle.std.proofs.lemmas.Str.Parse.{digit_from_value}
 use Rattle.std.proofs.lemmas.List.{append_cancel_left}
 use Rattle.mz_lex.specs.Kinds as kinds
-use Rattle.mz_mmu.specs.Name.{is_name_start, is_name_byte, are_name_bytes, is_between, IsName}
-use Rattle.mz_spec.specs.Rules.{Every}
+use Rattle.mz_forms.specs.Name.{is_name_start, is_name_byte, are_name_bytes, is_between, IsName}
+use Rattle.mz_variables.specs.Dependencies.{Every}
 use Rattle.mz_wording.specs.Wording.{underscores}
 use Rattle.mz_naming.specs.Names.{longest_run}
 

@@ -24,7 +24,8 @@ use Rattle.mz_soundness.specs.Tables.{Heading, Declares}
 use Rattle.mz_soundness.specs.Premises.{bound_count}
 use Rattle.mz_soundness.specs.RowWords.{AreParamWords}
 use Rattle.mz_soundness.specs.Lists.{definition_of, BodyIsGood}
-use Rattle.mz_soundness.specs.FileRows.{taken_by, rows_taken, body_bytes, term_of_file, thm_of_file}
+use Rattle.mz_layout.specs.Heads.{body_bytes}
+use Rattle.mz_soundness.specs.FileRows.{taken_by, rows_taken, term_of_file, thm_of_file}
 use Rattle.mz_soundness.proofs.Offered.{right-words}
 use Rattle.mz_binary.specs.Checking.{checks_of, kind_checks}
 use Rattle.mz_binary.specs.Chains.{IsGoodStatement}

@@ -9,8 +9,8 @@ use Rattle.mz_notation.specs.Notation.{Table}
 use Rattle.mz_grammar.specs.Statement.{Statement, sort_statement, term_statement, assert_statement, definition_statement, operator_statement, coercion_statement, delimiter_statement, notation_statement, Spells, Sign, keyword, symbol, name, name_or_blank, formula, number, only_if, IsSign, AreSigns, end_signs, modifier_signs, statement_signs}
 use Rattle.mz_grammar.specs.Reading.{place_of_first}
 use Rattle.mz_spec.specs.declared.spec.Mark.{Mark}
-use Rattle.mz_spec.specs.Names.{IsNew}
-use Rattle.mz_spec.specs.Rules.{Every}
+use Rattle.mz_variables.specs.Names.{IsNew}
+use Rattle.mz_variables.specs.Dependencies.{Every}
 use Rattle.mz_spec.specs.State.{State, Entry, nothing, mark_at, env_of, with_table}
 use Rattle.mz_spec.specs.Declaring.{After}
 use Rattle.mz_spec.specs.Spec.{IsGood, Stand, SpecMakes}

@@ -4,13 +4,14 @@ use Rattle.mz_logic.specs.Declaration.{dummies_of, Declaration, sort_decl, term_
 use Rattle.mz_logic.specs.Legality.{IsLegalEnv}
 use Rattle.mz_logic.specs.LegalLists.{Statement as Marked}
 use Rattle.mz_logic.specs.declared.binder.Binder.{Binder}
-use Rattle.mz_mmu.specs.Gaps.{SomeLeavesOnly}
-use Rattle.mz_mmu.specs.Proof.{Proof}
+use Rattle.mz_forms.specs.Gaps.{SomeLeavesOnly}
+use Rattle.mz_forms.specs.Proof.{Proof}
 use Rattle.mz_type.specs.Meaning.{IsProvedAsStated}
 use Rattle.mz_type.specs.Weight.{params_of, dummy_count}
 use Rattle.mz_soundness.specs.Tables.{Declares}
 use Rattle.mz_soundness.specs.Premises.{bound_count}
-use Rattle.mz_soundness.specs.FileRows.{taken_by, rows_taken, body_bytes}
+use Rattle.mz_layout.specs.Heads.{body_bytes}
+use Rattle.mz_soundness.specs.FileRows.{taken_by, rows_taken}
 use Rattle.mz_binary.specs.Chains.{IsGoodStatement}
 use Rattle.mz_binary.specs.Standards.{strict_standard}
 use Rattle.mz_tracing.specs.Laws.{MadeProofsProve}

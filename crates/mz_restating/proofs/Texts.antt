@@ -7,7 +7,7 @@ use Rattle.mz_cmd.specs.declared.statement.StmtAt.{StmtAt}
 use Rattle.mz_cmd.specs.declared.statement.StmtFault.{StmtFault}
 use Rattle.mz_logic.specs.Declaration.{Declaration, sort_decl, term_decl, assertion_decl, sorts}
 use Rattle.mz_logic.specs.LegalLists.{Statement as Marked, declarations}
-use Rattle.mz_mmu.specs.Proof.{Statement}
+use Rattle.mz_forms.specs.Proof.{Statement}
 use Rattle.mz_type.specs.Meaning.{marked}
 use Rattle.mz_type.specs.TextOf.{TextOf}
 use Rattle.mz_type.specs.Weight.{sort_count, byte_bound, parameter_limit, bound_limit, byte_limit, parameter_count, bound_count, within, each_within, IsWithinLimits}

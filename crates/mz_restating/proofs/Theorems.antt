@@ -10,15 +10,16 @@ use Rattle.mz_logic.specs.Declaration.{Assertion, Declaration, assertion_decl, s
 use Rattle.mz_logic.specs.Legality.{IsLegalEnv}
 use Rattle.mz_logic.specs.LegalLists.{Statement}
 use Rattle.mz_logic.specs.declared.binder.Binder.{Binder}
-use Rattle.mz_mmu.specs.Proof.{Proof}
+use Rattle.mz_forms.specs.Proof.{Proof}
 use Rattle.mz_tracing.specs.Traces.{under_lets, Made}
 use Rattle.mz_unification.specs.Profile.{strict}
 use Rattle.mz_unification.specs.Spells.{SpellsThm}
 use Rattle.mz_soundness.specs.Tables.{Heading, Declares}
 use Rattle.mz_soundness.specs.Bodies.{Runs}
 use Rattle.mz_soundness.specs.Sound.{AreRowParams, thm_row}
-use Rattle.mz_soundness.specs.FileRows.{taken_by, rows_taken, body_bytes}
-use Rattle.mz_machine.specs.Before.{heading_of}
+use Rattle.mz_layout.specs.Heads.{body_bytes}
+use Rattle.mz_soundness.specs.FileRows.{taken_by, rows_taken}
+use Rattle.mz_earlier.specs.OwnRow.{heading_of}
 use Rattle.mz_binary.specs.Checking.{checks_of, kind_checks}
 use Rattle.mz_binary.specs.Chains.{IsGoodStatement}
 use Rattle.mz_binary.specs.Spelling.{IsKindOf, SpellsRow}

@@ -4,11 +4,11 @@ use Rattle.std.specs.Prelude.{⊤, if◌then◌else◌}
 use Rattle.mz_logic.specs.Declaration.{Form, plain_form, abstract_form, defined, Declaration, sort_decl, term_decl, assertion_decl, sorts, signatures, assertions}
 use Rattle.mz_logic.specs.LegalLists.{Statement as Marked}
 use Rattle.mz_logic.proofs.Offered.{assertions-append}
-use Rattle.mz_mmu.specs.Name.{Names, IsName}
-use Rattle.mz_mmu.specs.Statements.{no_names, names_with}
-use Rattle.mz_mmu.specs.Proof.{Statement}
+use Rattle.mz_forms.specs.Name.{Names, IsName}
+use Rattle.mz_forms.specs.Statements.{no_names, names_with}
+use Rattle.mz_forms.specs.Proof.{Statement}
 use Rattle.mz_type.specs.Meaning.{marked}
-use Rattle.mz_spec.specs.Rules.{Every}
+use Rattle.mz_variables.specs.Dependencies.{Every}
 use Rattle.mz_spec.proofs.Offered.{every-front, every-join, sorts-more, signatures-more}
 use Rattle.mz_match.specs.declared.kind.Kind.{Kind}
 use Rattle.mz_match.specs.declared.kind.Kind.TheVariants as kinds

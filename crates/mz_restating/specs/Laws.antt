@@ -1,6 +1,6 @@
 -- What is promised of the text of a pair that is accepted (this project's own).
 use Rattle.std.specs.Prelude.{◌≡◌, ◌<◌, ◌^◌, ℕ, false, List, length, slice_index}
-use Rattle.mz_mmu.specs.Proof.{Statement}
+use Rattle.mz_forms.specs.Proof.{Statement}
 use Rattle.mz_type.specs.Meaning.{marked}
 use Rattle.mz_type.specs.TextOf.{TextOf}
 use Rattle.mz_type.specs.Weight.{IsWithinLimits}

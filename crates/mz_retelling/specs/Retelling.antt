@@ -1,7 +1,7 @@
 -- The phrase and the weight of the proof that a run has.
 use Rattle.std.specs.Prelude.{ℕ, ◌≡◌, ◌<◌, List, length}
 use Rattle.mz_logic.specs.Declaration.{Declaration}
-use Rattle.mz_mmu.specs.Proof.{Proof}
+use Rattle.mz_forms.specs.Proof.{Proof}
 use Rattle.mz_type.specs.Weight.{proof_weight}
 use Rattle.mz_soundness.specs.Tables.{Tables}
 use Rattle.mz_tracing.specs.Traces.{under_lets}

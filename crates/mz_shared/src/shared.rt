@@ -14,8 +14,8 @@ ghost use Rattle.mz_shared.specs.Variables.{IsShared};
 
 use crate::table::Table;
 use mz_cmd::Mem;
+use mz_forms::Vars;
 use mz_logic::{Binder, Expr, Exprs, Terms, Word};
-use mz_mmu::Vars;
 use mz_store::{DepsMode, Id, Store};
 use std::alloc::Global;
 

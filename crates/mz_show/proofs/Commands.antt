@@ -1,54 +1,13 @@
 -- The longest run of commands from a place on is one, and there is one.
-use Rattle.std.proofs.Common.{◌≡◌, ◌⊎◌, ◌≤◌, ◌+◌, ◌-◌, ◌/◌, ◌%◌, ◌++◌, ℕ, zero, suc, Bool, true, false, cond, ltb, List, [], ◌∷◌, length, drop, Result, Ok, Err, refl, ap, sym, ◌∙◌, subst, arith, length-drop, inl, inr}
+use Rattle.std.proofs.Common.{◌≡◌, ◌⊎◌, ◌≤◌, ◌+◌, ◌++◌, ℕ, zero, suc, Bool, true, false, List, [], ◌∷◌, length, Result, Ok, Err, refl, ap, sym, ◌∙◌, subst, arith, inl, inr}
 use Rattle.std.specs.Prelude.{IsTrue}
-use Rattle.std.proofs.lemmas.Bool.{ltb-false, cases_eq}
-use Rattle.byteorder.specs.Endian.{little_number}
+use Rattle.std.proofs.lemmas.Bool.{cases_eq}
 use Rattle.mz_cmd.specs.declared.command.Cmd.{Cmd}
 use Rattle.mz_cmd.specs.declared.command.CmdFault.{CmdFault}
-use Rattle.mz_cmd.specs.declared.command.CmdFault.TheVariants.{Cut, Unknown}
-use Rattle.mz_cmd.specs.Codes.{is_known}
-use Rattle.mz_cmd.specs.Spelling.{operand_len}
-use Rattle.mz_cmd.specs.Reading.{first_command, command_at}
+use Rattle.mz_cmd.specs.Reading.{command_at}
+use Rattle.mz_layout.proofs.Offered.{command-takes}
 use Rattle.mz_show.specs.declared.stream.Stream.{Stream}
 use Rattle.mz_show.specs.Streams.{belongs, Follow, Run, IsLongest, EndStands, LeadsTo}
-
--- a command takes a byte or more, all of them there, and one byte has no operand
-pub record Takes (len value rest : ℕ) : Type 0 where
-  pub some : 1 ≤ len
-  pub whole : len ≤ rest
-  pub bare : len ≡ 1 → value ≡ 0
-
-abbrev none-left : (n : ℕ) → n + 1 ≡ 1 → n ≡ 0
-none-left n e = omega arith
-
-first-takes : (bytes : List ℕ) (c : Cmd) → first_command bytes ≡ Ok c → Takes c.len c.value (length bytes)
-first-takes [] c e = absurd cc
-first-takes (head ∷ rest) c e = go (ltb (length rest) n) (is_known (head % 64)) refl e
-  where
-    n : ℕ
-    n = operand_len (head / 64)
-
-    made : Cmd
-    made = record { code = head % 64; value = little_number n rest; len = n + 1 }
-
-    go : (cut known : Bool) → ltb (length rest) n ≡ cut → cond cut (Err Cut) (cond known (Ok made) (Err Unknown)) ≡ Ok c → Takes c.len c.value (length (head ∷ rest))
-    go true known f is = absurd cc
-    go false false f is = absurd cc
-    go false true f is =
-        let same : made ≡ c = cc in
-        let room : n ≤ length rest = ltb-false _ _ f in
-        subst (λ (d : Cmd). Takes d.len d.value (length (head ∷ rest))) same (record {
-          some = omega arith;
-          whole = omega arith;
-          bare = λ one. ap (λ (k : ℕ). little_number k rest) (none-left n one);
-        })
-
-pub command-takes : (bytes : List ℕ) (at : ℕ) (c : Cmd) → command_at bytes at ≡ Ok c → Takes c.len c.value (length bytes - at)
-command-takes bytes at c e =
-    let t = first-takes (drop at bytes) c e in
-    subst (λ (n : ℕ). Takes c.len c.value n) (length-drop at bytes) t
-
--- ---- runs
 
 abbrev NoMore : Stream → List ℕ → ℕ → Type 0
 NoMore stream bytes to = (c : Cmd) → command_at bytes to ≡ Ok c → IsTrue (belongs stream c.code) → ⊥

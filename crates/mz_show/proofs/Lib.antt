@@ -1,7 +1,6 @@
 pub mod Texts
 pub mod Commands
 pub mod Appending
-pub mod Heads
 pub mod Parts
 pub mod Progress
 pub mod Statements

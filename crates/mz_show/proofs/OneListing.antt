@@ -2,27 +2,17 @@
 use Rattle.std.proofs.Common.{◌≡◌, ◌≤◌, ◌+◌, ◌++◌, ℕ, zero, suc, List, [], ◌∷◌, length, codes, refl, sym, ap, ◌∙◌, subst, arith, inl, inr, append_assoc}
 use Rattle.mz_checks.specs.Checks.{AllHold}
 use Rattle.mz_checks.proofs.Offered.{all_hold-excludes, all_hold-or_fails, fails_first-unique}
-use Rattle.mz_cmd.specs.declared.code.StatementCode.{StatementCode}
-use Rattle.mz_cmd.specs.declared.code.StatementCode.TheVariants as codes_of
 use Rattle.mz_cmd.specs.declared.rule.K.{K}
 use Rattle.mz_cmd.specs.declared.rule.Refusal.{Refusal}
+use Rattle.mz_cmd.specs.Codes.{statement_byte}
 use Rattle.mz_layout.specs.Layout.{Layout, layout_checks}
-use Rattle.mz_layout.proofs.Offered.{layout-decided}
+use Rattle.mz_layout.proofs.Offered.{head-ahead, layout-decided}
 use Rattle.mz_show.specs.declared.place.Place.{Place}
-use Rattle.mz_show.specs.Statements.{Statement, Stands, first_place, place_after, after, statement_checks, statement_text}
+use Rattle.mz_show.specs.Statements.{Statement, Stands, first_place, after, statement_checks, statement_text}
 use Rattle.mz_show.specs.Listing.{Chain, chain_text, EndsAt, StopsAt, IsListing, IsListedUpTo, IsListed}
-use Rattle.mz_show.proofs.Heads.{head-ahead}
-use Rattle.mz_show.proofs.Statements.{Outcome, Good, outcome, stands-unique, good-excludes_end, good-excludes_stop, end-excludes_stop, stop-unique}
+use Rattle.mz_show.proofs.Statements.{Outcome, Good, head-there, outcome, stands-unique, good-excludes_end, good-excludes_stop, end-excludes_stop, stop-unique}
 
 -- ---- the statements from a place on
-
-pub after-at : (place : Place) (code : StatementCode) (next : ℕ) → (place_after place code next).at ≡ next
-after-at place codes_of.Sort next = refl
-after-at place codes_of.Term next = refl
-after-at place codes_of.LocalDefinition next = refl
-after-at place codes_of.Axiom next = refl
-after-at place codes_of.Theorem next = refl
-after-at place codes_of.LocalTheorem next = refl
 
 -- what is listed from a place on
 abbrev pub Rest : List ℕ → Place → Type 0
@@ -33,9 +23,8 @@ further file place good rest = (good.0 ∷ rest.0, rest.1, (good.1, good.2, rest
 
 abbrev moves : (file : List ℕ) (place : Place) → (good : Good file place) → (place.at + 2 ≤ (after place good.0).at) × ((after place good.0).at ≤ length file)
 moves file place good =
-    let h = head-ahead file place.at good.1.head.0 good.0.body good.0.next good.1.head.1 in
-    let e = after-at place good.0.code good.0.next in
-    (omega (arith, h.ahead, e), omega (arith, h.within, e))
+    let h = head-ahead file place.at (statement_byte good.0.head.code) good.0.head.body good.0.head.next (head-there file place good.0.head good.1.head) in
+    (omega (arith, h.body_after, h.next_after), h.within)
 
 pub rest-some : (file : List ℕ) (fuel : ℕ) (place : Place) → length file ≤ place.at + fuel → Rest file place
 rest-some file zero place enough = elim (outcome file place) [

@@ -2,26 +2,18 @@
 use Rattle.std.proofs.Common.{◌≡◌, ◌≤◌, ◌<◌, ◌+◌, ◌++◌, ◌∙◌, ℕ, List, [], ◌∷◌, length, take, drop, codes, refl, sym, ap, subst, inl, inr, arith, append_assoc, append-nil, length-append}
 use Rattle.std.proofs.lemmas.List.{take_at, take-append-drop}
 use Rattle.mz_checks.specs.Checks.{AllHold}
-use Rattle.mz_cmd.specs.declared.code.StatementCode.{StatementCode}
-use Rattle.mz_cmd.specs.declared.code.StatementCode.TheVariants as codes_of
+use Rattle.mz_cmd.specs.Codes.{statement_byte}
 use Rattle.mz_io.specs.Outside.{AppendsPrefix}
 use Rattle.mz_layout.specs.Layout.{Layout}
+use Rattle.mz_layout.proofs.Offered.{head-ahead}
 use Rattle.mz_show.specs.declared.place.Place.{Place}
-use Rattle.mz_show.specs.Statements.{Statement, Stands, first_place, place_after, after, statement_checks, statement_text}
+use Rattle.mz_show.specs.Statements.{Statement, Stands, first_place, after, statement_checks, statement_text}
 use Rattle.mz_show.specs.Listing.{Chain, chain_text, EndsAt, IsListed}
 use Rattle.mz_show.specs.Answers.{IsWithin}
-use Rattle.mz_show.proofs.Heads.{head-ahead}
-use Rattle.mz_show.proofs.OneListing.{Rest, rest-some, after-at, chain-snoc, chain-append, text-append}
+use Rattle.mz_show.proofs.Statements.{head-there}
+use Rattle.mz_show.proofs.OneListing.{Rest, rest-some, chain-snoc, chain-append, text-append}
 
 -- ---- places
-
-after-number : (place : Place) (code : StatementCode) (next : ℕ) → (place_after place code next).number ≡ place.number + 1
-after-number place codes_of.Sort next = refl
-after-number place codes_of.Term next = refl
-after-number place codes_of.LocalDefinition next = refl
-after-number place codes_of.Axiom next = refl
-after-number place codes_of.Theorem next = refl
-after-number place codes_of.LocalTheorem next = refl
 
 -- a step leads further on, within the file
 pub record StepsOn (file : List ℕ) (place to : Place) : Type 0 where
@@ -29,13 +21,11 @@ pub record StepsOn (file : List ℕ) (place to : Place) : Type 0 where
   pub further : place.at < to.at
 
 pub steps-on : (file : List ℕ) (place : Place) (s : Statement) (to : Place) → IsWithin file place → Stands file place s → to ≡ after place s → StepsOn file place to
-steps-on file place s to w stands e =
-    let h = head-ahead file place.at stands.head.0 s.body s.next stands.head.1 in
-    let at = after-at place s.code s.next in
-    let number = after-number place s.code s.next in
+steps-on file place s to w there e =
+    let h = head-ahead file place.at (statement_byte s.head.code) s.head.body s.head.next (head-there file place s.head there.head) in
     subst (λ (q : Place). StepsOn file place q) (sym e) (record {
-      within = record { at = omega (arith, h.within, at); number = omega (arith, h.ahead, at, number, w.number) };
-      further = omega (arith, h.ahead, at);
+      within = record { at = h.within; number = omega (arith, h.body_after, h.next_after, w.number) };
+      further = omega (arith, h.body_after, h.next_after);
     })
 
 -- ---- the whole text

@@ -1,122 +1,137 @@
 -- A place of the list has one statement, of which all that is asked is decided.
-use Rattle.std.proofs.Common.{◌≡◌, ◌⊎◌, ◌<◌, ◌+◌, ℕ, Bool, true, false, List, length, take, Some, Result, Ok, Err, refl, sym, ap, ◌∙◌, subst, arith, inl, inr}
-use Rattle.std.specs.Prelude.{IsTrue}
-use Rattle.std.proofs.lemmas.Bool.{cases_eq, cases_lt}
-use Rattle.mz_checks.specs.Checks.{AllHold, FailsFirst, AreDecided}
-use Rattle.mz_checks.proofs.Offered.{all_hold-excludes, all_hold-or_fails, fails_first-unique, are_decided-both}
+use Rattle.std.proofs.Common.{◌≡◌, ◌⊎◌, ◌∙◌, ℕ, Bool, true, false, List, length, take, Option, Some, None, Result, Ok, Err, refl, sym, ap, subst, arith, inl, inr}
+use Rattle.mz_checks.specs.Checks.{Checks, nothing, ask, retold, AllHold, FailsFirst, AreDecided}
+use Rattle.mz_checks.proofs.Offered.{all_hold-both, all_hold-excludes, all_hold-first, all_hold-or_fails, fails-before, fails_first-unique, are_decided-both}
 use Rattle.mz_cmd.specs.declared.code.StatementCode.{StatementCode}
 use Rattle.mz_cmd.specs.declared.code.StatementCode.TheVariants as codes_of
 use Rattle.mz_cmd.specs.declared.rule.Refusal.{Refusal}
 use Rattle.mz_cmd.specs.declared.statement.StmtAt.{StmtAt}
-use Rattle.mz_cmd.specs.declared.statement.StmtAt.TheVariants.{End, Head}
+use Rattle.mz_cmd.specs.declared.statement.StmtAt.TheVariants as stands
 use Rattle.mz_cmd.specs.declared.statement.StmtFault.{StmtFault}
-use Rattle.mz_cmd.specs.Codes.{statement_code}
+use Rattle.mz_cmd.specs.Codes.{statement_byte, statement_code}
 use Rattle.mz_cmd.specs.StatementList.{statement_at}
-use Rattle.mz_layout.specs.Numbers.{byte_at}
-use Rattle.mz_layout.specs.Tables.{sort_count, term_count, thm_count, term_row}
+use Rattle.mz_layout.specs.declared.head.Head.{Head}
+use Rattle.mz_layout.specs.Heads.{IsHeadAt, body_bytes, checks_of, head_checks, kind_checks}
+use Rattle.mz_layout.proofs.Offered.{code-is, empty-decided, head-decided}
 use Rattle.mz_show.specs.declared.place.Place.{Place}
 use Rattle.mz_show.specs.declared.stream.Stream.TheVariants.{Unify, Proof}
 use Rattle.mz_show.specs.Streams.{Run, IsLongest}
-use Rattle.mz_show.specs.Statements.{Statement, Stands, HeadStands, unify_at, has_streams, row_of, row_count, SuitsRow, row_checks, part_checks, statement_checks, IsEmptyBody, AllRowsTaken, end_checks, refusal_at, rule_of}
+use Rattle.mz_show.specs.Statements.{Statement, Stands, unify_at, has_streams, place_checks, part_checks, statement_checks, refusal_at}
 use Rattle.mz_show.specs.Listing.{EndsAt, StopsAt}
 use Rattle.mz_show.proofs.Commands.{longest-unique, longest-some, end_stands-decided, leads_to-decided}
-use Rattle.mz_show.proofs.Heads.{head-ahead}
+
+-- ---- checks told otherwise
+
+pub retold-holds : {Q R : Type 0} (f : Q → R) (cs : Checks Q) → AllHold cs → AllHold (retold f cs)
+retold-holds f nothing all = tt
+retold-holds f (ask q P cs) all = (all.0, retold-holds f cs all.1)
+
+pub retold-held : {Q R : Type 0} (f : Q → R) (cs : Checks Q) → AllHold (retold f cs) → AllHold cs
+retold-held f nothing all = tt
+retold-held f (ask q P cs) all = (all.0, retold-held f cs all.1)
+
+pub retold-fails : {Q R : Type 0} (f : Q → R) (cs : Checks Q) (q : Q) → FailsFirst cs q → FailsFirst (retold f cs) (f q)
+retold-fails f nothing q fails = absurd fails
+retold-fails f (ask p P cs) q (inl (out, same)) = inl (out, ap f same)
+retold-fails f (ask p P cs) q (inr (holds, rest)) = inr (holds, retold-fails f cs q rest)
+
+retold-decided : {Q R : Type 0} (f : Q → R) (cs : Checks Q) → AreDecided cs → AreDecided (retold f cs)
+retold-decided f nothing d = tt
+retold-decided f (ask q P cs) d = (d.0, λ p. retold-decided f cs (d.1 p))
 
 -- ---- one statement
 
-equal : (make : StatementCode → ℕ → ℕ → Run → Run → Statement) (c d : StatementCode) (b b' n n' : ℕ) (u u' p p' : Run) →
-    c ≡ d → b ≡ b' → n ≡ n' → u ≡ u' → p ≡ p' → make c b n u p ≡ make d b' n' u' p'
-equal make c d b b' n n' u u' p p' e f g h i = cc
+equal : (make : StatementCode → ℕ → ℕ → ℕ → Head) (c d : StatementCode) (a a' b b' n n' : ℕ) → c ≡ d → a ≡ a' → b ≡ b' → n ≡ n' → make c a b n ≡ make d a' b' n'
+equal make c d a a' b b' n n' e f g h = cc
 
-record SameHead (c d : StatementCode) (b b' n n' : ℕ) : Type 0 where
-  code : c ≡ d
-  body : b ≡ b'
-  next : n ≡ n'
+byte-back : (c : StatementCode) → statement_code (statement_byte c) ≡ Some c
+byte-back codes_of.Sort = refl
+byte-back codes_of.Term = refl
+byte-back codes_of.LocalDefinition = refl
+byte-back codes_of.Axiom = refl
+byte-back codes_of.Theorem = refl
+byte-back codes_of.LocalTheorem = refl
 
-same-code : (k k' : ℕ) (c d : StatementCode) → k ≡ k' → statement_code k ≡ Some c → statement_code k' ≡ Some d → c ≡ d
-same-code k k' c d e f g = let h : statement_code k ≡ Some d = subst (λ (n : ℕ). statement_code n ≡ Some d) (sym e) g in cc
+same-code : (c d : StatementCode) (o : Option StatementCode) → o ≡ Some c → o ≡ Some d → c ≡ d
+same-code c d o e f = cc
 
-same-head : (r : Result StmtAt StmtFault) (k k' b b' n n' : ℕ) → r ≡ Ok (Head k b n) → r ≡ Ok (Head k' b' n') → (k ≡ k') × (b ≡ b') × (n ≡ n')
+same-head : (r : Result StmtAt StmtFault) (k k' b b' n n' : ℕ) → r ≡ Ok (stands.Head k b n) → r ≡ Ok (stands.Head k' b' n') → (k ≡ k') × (b ≡ b') × (n ≡ n')
 same-head r k k' b b' n n' e f = (cc, cc, cc)
 
-heads-same : (file : List ℕ) (at : ℕ) (c d : StatementCode) (b b' n n' : ℕ) → HeadStands file at c b n → HeadStands file at d b' n' → SameHead c d b b' n n'
-heads-same file at c d b b' n n' h i =
-    let same = same-head (statement_at file at) h.0 i.0 b b' n n' h.1 i.1 in
-    record { code = same-code h.0 i.0 c d same.0 h.2 i.2; body = same.1; next = same.2 }
+-- the command of a statement stands at the place
+abbrev pub at_place : List ℕ → Place → Head → Type 0
+at_place file place head = statement_at file place.at ≡ Ok (stands.Head (statement_byte head.code) head.body head.next)
+
+pub head-there : (file : List ℕ) (place : Place) (head : Head) → IsHeadAt file place.at head → at_place file place head
+head-there file place head h = subst (λ (at : ℕ). statement_at file at ≡ Ok (stands.Head (statement_byte head.code) head.body head.next)) h.at_is h.stands
+
+heads-same : (file : List ℕ) (place : Place) (h k : Head) → IsHeadAt file place.at h → IsHeadAt file place.at k → h ≡ k
+heads-same file place h k a b =
+    let same = same-head (statement_at file place.at) (statement_byte h.code) (statement_byte k.code) h.body k.body h.next k.next (head-there file place h a) (head-there file place k b) in
+    let back : statement_code (statement_byte h.code) ≡ Some k.code = subst (λ (n : ℕ). statement_code n ≡ Some k.code) (sym same.0) (byte-back k.code) in
+    let code : h.code ≡ k.code = same-code h.code k.code (statement_code (statement_byte h.code)) (byte-back h.code) back in
+    equal (λ c at b n. record { code = c; at = at; body = b; next = n }) h.code k.code h.at k.at h.body k.body h.next k.next code (a.at_is ∙ sym b.at_is) same.1 same.2
+
+statements-same : (make : Head → Run → Run → Statement) (h k : Head) (u u' p p' : Run) → h ≡ k → u ≡ u' → p ≡ p' → make h u p ≡ make k u' p'
+statements-same make h k u u' p p' e f g = cc
 
 pub stands-unique : (file : List ℕ) (place : Place) (s t : Statement) → Stands file place s → Stands file place t → s ≡ t
 stands-unique file place s t a b =
-    let h = heads-same file place.at s.code t.code s.body t.body s.next t.next a.head b.head in
-    let u : s.unify ≡ t.unify = longest-unique Unify file (unify_at file place s.code) s.unify t.unify a.unify
-    (subst (λ (c : StatementCode). IsLongest Unify file (unify_at file place c) t.unify) (sym h.code) b.unify) in
-    let at_body : IsLongest Proof (take t.next file) s.body t.proof = subst (λ (n : ℕ). IsLongest Proof (take t.next file) n t.proof) (sym h.body) b.proof in
-    let at_next : IsLongest Proof (take s.next file) s.body t.proof = subst (λ (n : ℕ). IsLongest Proof (take n file) s.body t.proof) (sym h.next) at_body in
-    let p : s.proof ≡ t.proof = longest-unique Proof (take s.next file) s.body s.proof t.proof a.proof at_next in
-    equal (λ code body next unify proof. record { code = code; body = body; next = next; unify = unify; proof = proof })
-    s.code t.code s.body t.body s.next t.next s.unify t.unify s.proof t.proof h.code h.body h.next u p
+    let h : s.head ≡ t.head = heads-same file place s.head t.head a.head b.head in
+    let u : s.unify ≡ t.unify = longest-unique Unify file (unify_at file place s.head.code) s.unify t.unify a.unify
+    (subst (λ (k : Head). IsLongest Unify file (unify_at file place k.code) t.unify) (sym h) b.unify) in
+    let there : IsLongest Proof (take s.head.next file) s.head.body t.proof = subst (λ (k : Head). IsLongest Proof (take k.next file) k.body t.proof) (sym h) b.proof in
+    let p : s.proof ≡ t.proof = longest-unique Proof (take s.head.next file) s.head.body s.proof t.proof a.proof there in
+    statements-same (λ head unify proof. record { head = head; unify = unify; proof = proof }) s.head t.head s.unify t.unify s.proof t.proof h u p
 
 -- where a statement begins, one stands
-pub stands-some : (file : List ℕ) (place : Place) (code : StatementCode) (body next : ℕ) → HeadStands file place.at code body next →
-    (unify proof : Run) × Stands file place (record { code = code; body = body; next = next; unify = unify; proof = proof })
-stands-some file place code body next head =
-    let u = longest-some Unify file (length file) (unify_at file place code) (omega arith) in
-    let p = longest-some Proof (take next file) (length (take next file)) body (omega arith) in
-    (u.0, p.0, record { head = head; unify = u.1; proof = p.1 })
+pub stands-some : (file : List ℕ) (place : Place) (head : Head) → IsHeadAt file place.at head →
+    (unify proof : Run) × Stands file place (record { head = head; unify = unify; proof = proof })
+stands-some file place head there =
+    let u = longest-some Unify file (length file) (unify_at file place head.code) (omega arith) in
+    let p = longest-some Proof (take head.next file) (length (take head.next file)) head.body (omega arith) in
+    (u.0, p.0, record { head = there; unify = u.1; proof = p.1 })
 
 -- ---- what is asked is decided
 
-bool-decided : (b : Bool) → IsTrue b ⊎ (IsTrue b → ⊥)
-bool-decided true = inl refl
-bool-decided false = inr (λ e. absurd cc)
-
-below-decided : (m n : ℕ) → (m < n) ⊎ (m < n → ⊥)
-below-decided m n = elim (cases_lt m n) [ inl lt ↦ inl lt | inr ge ↦ inr (λ lt. omega arith) ]
-
-suits-decided : (file : List ℕ) (place : Place) (code : StatementCode) → SuitsRow file place code ⊎ (SuitsRow file place code → ⊥)
-suits-decided file place codes_of.Sort = inl tt
-suits-decided file place codes_of.Term = inl tt
-suits-decided file place codes_of.LocalDefinition = bool-decided (term_row file place.terms).words.has_body
-suits-decided file place codes_of.Axiom = inl tt
-suits-decided file place codes_of.Theorem = inl tt
-suits-decided file place codes_of.LocalTheorem = inl tt
-
-one_byte-decided : (file : List ℕ) (body next : ℕ) → ((next ≡ body + 1) × (byte_at file body ≡ 0)) ⊎ ((next ≡ body + 1) × (byte_at file body ≡ 0) → ⊥)
-one_byte-decided file body next = elim (cases_eq next (body + 1)) [
-  | inl one ↦ elim (cases_eq (byte_at file body) 0) [ inl zero_byte ↦ inl (one, zero_byte) | inr other ↦ inr (λ h. other h.1) ]
-  | inr other ↦ inr (λ h. other h.0)
-]
-
-empty-decided : (file : List ℕ) (body next : ℕ) → IsEmptyBody file body next ⊎ (IsEmptyBody file body next → ⊥)
-empty-decided file body next = elim (cases_eq next body) [
-  | inl empty ↦ inl (inl empty)
-  | inr some ↦ elim (one_byte-decided file body next) [
-    | inl one ↦ inl (inr one)
-    | inr more ↦ inr (λ h. elim h [ inl a ↦ some a | inr b ↦ more b ])
-  ]
-]
+place-decided : (file : List ℕ) (place : Place) → AreDecided (place_checks file place)
+place-decided file place = retold-decided (λ fault. refusal_at place fault.0 fault.1) (head_checks file place.rows place.at) (head-decided file place.rows place.at)
 
 part-decided : (b : Bool) (file : List ℕ) (place : Place) (s : Statement) → AreDecided (part_checks b file place s)
 part-decided true file place s =
-    (end_stands-decided file s.unify.to, λ _. (end_stands-decided (take s.next file) s.proof.to, λ _. (leads_to-decided (take s.next file) s.proof.to s.next, λ _. tt)))
-part-decided false file place s = (empty-decided file s.body s.next, λ _. tt)
+    (end_stands-decided file s.unify.to, λ _. (end_stands-decided (take s.head.next file) s.proof.to, λ _. (leads_to-decided (take s.head.next file) s.proof.to s.head.next, λ _. tt)))
+part-decided false file place s = (empty-decided (body_bytes file s.head.body s.head.next), λ _. tt)
 
 pub statement-decided : (file : List ℕ) (place : Place) (s : Statement) → AreDecided (statement_checks file place s)
 statement-decided file place s =
-    are_decided-both (row_checks file place s.code) (part_checks (has_streams file place s.code) file place s)
-    (below-decided (row_of place s.code) (row_count file s.code), λ _. (suits-decided file place s.code, λ _. tt))
-    (λ _. part-decided (has_streams file place s.code) file place s)
+    are_decided-both (place_checks file place) (part_checks (has_streams file place s.head.code) file place s)
+    (place-decided file place) (λ _. part-decided (has_streams file place s.head.code) file place s)
 
-rows-decided : (file : List ℕ) (place : Place) → AllRowsTaken file place ⊎ (AllRowsTaken file place → ⊥)
-rows-decided file place = elim (cases_eq place.sorts (sort_count file)) [
-  | inl s ↦ elim (cases_eq place.terms (term_count file)) [
-    | inl t ↦ elim (cases_eq place.thms (thm_count file)) [
-      | inl h ↦ inl (record { sorts_taken = s; terms_taken = t; thms_taken = h })
-      | inr h ↦ inr (λ all. h all.thms_taken)
-    ]
-    | inr t ↦ inr (λ all. t all.terms_taken)
-  ]
-  | inr s ↦ inr (λ all. s all.sorts_taken)
-]
+-- ---- what stands at a place
+
+-- where nothing fails, the checks of what was read there hold
+place-holds : (file : List ℕ) (place : Place) (there : Result StmtAt StmtFault) → statement_at file place.at ≡ there → AllHold (place_checks file place) → AllHold (checks_of file place.rows place.at there)
+place-holds file place there e all =
+    subst (λ (r : Result StmtAt StmtFault). AllHold (checks_of file place.rows place.at r)) e
+    (retold-held (λ fault. refusal_at place fault.0 fault.1) (head_checks file place.rows place.at) all)
+
+-- and where they hold, nothing fails
+pub holds-place : (file : List ℕ) (place : Place) (there : Result StmtAt StmtFault) → statement_at file place.at ≡ there → AllHold (checks_of file place.rows place.at there) → AllHold (place_checks file place)
+holds-place file place there e all =
+    retold-holds (λ fault. refusal_at place fault.0 fault.1) (head_checks file place.rows place.at)
+    (subst (λ (r : Result StmtAt StmtFault). AllHold (checks_of file place.rows place.at r)) (sym e) all)
+
+-- where all that is asked of the place and of its parts holds, nothing fails
+pub statement-holds : (file : List ℕ) (place : Place) (s : Statement) → Stands file place s → AllHold (kind_checks file place.rows place.at (Some s.head.code)) →
+    AllHold (part_checks (has_streams file place s.head.code) file place s) → AllHold (statement_checks file place s)
+statement-holds file place s a row parts =
+    let code : AllHold (kind_checks file place.rows place.at (statement_code (statement_byte s.head.code))) =
+    subst (λ (o : Option StatementCode). AllHold (kind_checks file place.rows place.at o)) (sym (byte-back s.head.code)) row in
+    all_hold-both (place_checks file place) (part_checks (has_streams file place s.head.code) file place s)
+    (holds-place file place (Ok (stands.Head (statement_byte s.head.code) s.head.body s.head.next)) (head-there file place s.head a.head) code) parts
+
+pub end-holds : (file : List ℕ) (place : Place) → EndsAt file place → AllHold (place_checks file place)
+end-holds file place ends = holds-place file place (Ok stands.End) ends.0 (ends.1, tt)
 
 -- ---- one outcome
 
@@ -126,61 +141,59 @@ Outcome file place = EndsAt file place ⊎ ((refusal : Refusal) × StopsAt file 
 abbrev pub Good : List ℕ → Place → Type 0
 Good file place = (s : Statement) × Stands file place s × AllHold (statement_checks file place s)
 
-by-end : (file : List ℕ) (place : Place) → statement_at file place.at ≡ Ok End → Outcome file place
-by-end file place e = elim (all_hold-or_fails (end_checks file place) (rows-decided file place, λ _. tt)) [
-  | inl all ↦ inl (e, all)
-  | inr fails ↦ inr (fails.0, inr (inl (e, fails.1)))
-]
-
-by-head : (file : List ℕ) (place : Place) (kind body next : ℕ) → statement_at file place.at ≡ Ok (Head kind body next) → Good file place ⊎ Outcome file place
-by-head file place kind body next e =
-    let h = head-ahead file place.at kind body next e in
-    let some = stands-some file place h.code body next (kind, e, h.code_is) in
-    let s : Statement = record { code = h.code; body = body; next = next; unify = some.0; proof = some.1 } in
-    let stands : Stands file place s = some.2 in
+by-head : (file : List ℕ) (place : Place) (head : Head) → IsHeadAt file place.at head → Good file place ⊎ Outcome file place
+by-head file place head there =
+    let some = stands-some file place head there in
+    let s : Statement = record { head = head; unify = some.0; proof = some.1 } in
+    let stands_there : Stands file place s = some.2 in
     elim (all_hold-or_fails (statement_checks file place s) (statement-decided file place s)) [
-      | inl all ↦ inl (s, stands, all)
-      | inr fails ↦ inr (inr (fails.0, inr (inr (s, stands, fails.1))))
+      | inl all ↦ inl (s, stands_there, all)
+      | inr fails ↦ inr (inr (fails.0, inr (s, stands_there, fails.1)))
     ]
 
+by-code : (file : List ℕ) (place : Place) (kind body next : ℕ) (o : Option StatementCode) → statement_at file place.at ≡ Ok (stands.Head kind body next) → statement_code kind ≡ o →
+    AllHold (kind_checks file place.rows place.at o) → Good file place ⊎ Outcome file place
+by-code file place kind body next None e is all = absurd all.0
+by-code file place kind body next (Some code) e is all =
+    by-head file place (record { code = code; at = place.at; body = body; next = next })
+    (record { stands = subst (λ (n : ℕ). statement_at file place.at ≡ Ok (stands.Head n body next)) (code-is code kind is) e; at_is = refl })
+
+by-answer : (file : List ℕ) (place : Place) (there : Result StmtAt StmtFault) → statement_at file place.at ≡ there → AllHold (checks_of file place.rows place.at there) → Good file place ⊎ Outcome file place
+by-answer file place (Err fault) e all = absurd all.0
+by-answer file place (Ok stands.End) e all = inr (inl (e, all.0))
+by-answer file place (Ok (stands.Head kind body next)) e all = by-code file place kind body next (statement_code kind) e refl all
+
 pub outcome : (file : List ℕ) (place : Place) → Good file place ⊎ Outcome file place
-outcome file place = by-answer (statement_at file place.at) refl
-  where
-    by-answer : (r : Result StmtAt StmtFault) → statement_at file place.at ≡ r → Good file place ⊎ Outcome file place
-    by-answer (Err fault) e = inr (inr (refusal_at place place.at (rule_of fault), inl (fault, e, refl)))
-    by-answer (Ok End) e = inr (by-end file place e)
-    by-answer (Ok (Head kind body next)) e = by-head file place kind body next e
+outcome file place = elim (all_hold-or_fails (place_checks file place) (place-decided file place)) [
+  | inl all ↦ by-answer file place (statement_at file place.at) refl (place-holds file place (statement_at file place.at) refl all)
+  | inr fails ↦ inr (inr (fails.0, inl fails.1))
+]
 
 pub good-excludes_end : (file : List ℕ) (place : Place) → Good file place → EndsAt file place → ⊥
-good-excludes_end file place good ends = let e = good.1.head.1 in let f = ends.0 in absurd cc
+good-excludes_end file place good ends = let e = head-there file place good.0.head good.1.head in let f = ends.0 in absurd cc
 
 pub good-excludes_stop : (file : List ℕ) (place : Place) (refusal : Refusal) → Good file place → StopsAt file place refusal → ⊥
-good-excludes_stop file place refusal good (inl stop) = let e = good.1.head.1 in let f = stop.1 in absurd cc
-good-excludes_stop file place refusal good (inr (inl stop)) = let e = good.1.head.1 in let f = stop.0 in absurd cc
-good-excludes_stop file place refusal good (inr (inr stop)) =
+good-excludes_stop file place refusal good (inl stop) =
+    all_hold-excludes (place_checks file place) refusal
+    (all_hold-first (place_checks file place) (part_checks (has_streams file place good.0.head.code) file place good.0) good.2) stop
+good-excludes_stop file place refusal good (inr stop) =
     let same : stop.0 ≡ good.0 = stands-unique file place stop.0 good.0 stop.1 good.1 in
     all_hold-excludes (statement_checks file place good.0) refusal good.2
     (subst (λ (s : Statement). FailsFirst (statement_checks file place s) refusal) same stop.2)
 
 pub end-excludes_stop : (file : List ℕ) (place : Place) (refusal : Refusal) → EndsAt file place → StopsAt file place refusal → ⊥
-end-excludes_stop file place refusal ends (inl stop) = let e = ends.0 in let f = stop.1 in absurd cc
-end-excludes_stop file place refusal ends (inr (inl stop)) = all_hold-excludes (end_checks file place) refusal ends.1 stop.1
-end-excludes_stop file place refusal ends (inr (inr stop)) = let e = ends.0 in let f = stop.1.head.1 in absurd cc
+end-excludes_stop file place refusal ends (inl stop) = all_hold-excludes (place_checks file place) refusal (end-holds file place ends) stop
+end-excludes_stop file place refusal ends (inr stop) = let e = ends.0 in let f = head-there file place stop.0.head stop.1.head in absurd cc
 
-same-fault : (r : Result StmtAt StmtFault) (f g : StmtFault) → r ≡ Err f → r ≡ Err g → f ≡ g
-same-fault r f g a b = cc
+-- a rule that fails at the place fails of the statement there
+fails-whole : (file : List ℕ) (place : Place) (s : Statement) (refusal : Refusal) → FailsFirst (place_checks file place) refusal → FailsFirst (statement_checks file place s) refusal
+fails-whole file place s refusal f = fails-before (place_checks file place) (part_checks (has_streams file place s.head.code) file place s) refusal f
 
 pub stop-unique : (file : List ℕ) (place : Place) (r q : Refusal) → StopsAt file place r → StopsAt file place q → r ≡ q
-stop-unique file place r q (inl a) (inl b) =
-    a.2 ∙ ap (λ (f : StmtFault). refusal_at place place.at (rule_of f)) (same-fault (statement_at file place.at) a.0 b.0 a.1 b.1) ∙ sym b.2
-stop-unique file place r q (inl a) (inr (inl b)) = let e = a.1 in let f = b.0 in absurd cc
-stop-unique file place r q (inl a) (inr (inr b)) = let e = a.1 in let f = b.1.head.1 in absurd cc
-stop-unique file place r q (inr (inl a)) (inl b) = let e = a.0 in let f = b.1 in absurd cc
-stop-unique file place r q (inr (inl a)) (inr (inl b)) = fails_first-unique (end_checks file place) r q a.1 b.1
-stop-unique file place r q (inr (inl a)) (inr (inr b)) = let e = a.0 in let f = b.1.head.1 in absurd cc
-stop-unique file place r q (inr (inr a)) (inl b) = let e = a.1.head.1 in let f = b.1 in absurd cc
-stop-unique file place r q (inr (inr a)) (inr (inl b)) = let e = a.1.head.1 in let f = b.0 in absurd cc
-stop-unique file place r q (inr (inr a)) (inr (inr b)) =
+stop-unique file place r q (inl a) (inl b) = fails_first-unique (place_checks file place) r q a b
+stop-unique file place r q (inl a) (inr b) = fails_first-unique (statement_checks file place b.0) r q (fails-whole file place b.0 r a) b.2
+stop-unique file place r q (inr a) (inl b) = fails_first-unique (statement_checks file place a.0) r q a.2 (fails-whole file place a.0 q b)
+stop-unique file place r q (inr a) (inr b) =
     let same : b.0 ≡ a.0 = stands-unique file place b.0 a.0 b.1 a.1 in
     fails_first-unique (statement_checks file place a.0) r q a.2
     (subst (λ (s : Statement). FailsFirst (statement_checks file place s) q) same b.2)

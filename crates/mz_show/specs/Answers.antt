@@ -1,9 +1,9 @@
 -- What the parts of the listing answer.
 use Rattle.std.specs.Prelude.{◌≡◌, ◌≤◌, ⊤, ℕ, ◌+◌, ◌*◌, ◌++◌, List, length, Result, Ok, Err}
 use Rattle.mz_checks.specs.Checks.{AllHold, FailsFirst}
-use Rattle.mz_cmd.specs.declared.code.StatementCode.{StatementCode}
 use Rattle.mz_cmd.specs.declared.command.Cmd.{Cmd}
 use Rattle.mz_cmd.specs.declared.rule.Refusal.{Refusal}
+use Rattle.mz_layout.specs.declared.head.Head.{Head}
 use Rattle.mz_show.specs.declared.place.Place.{Place}
 use Rattle.mz_show.specs.declared.statement.Next.{Next}
 use Rattle.mz_show.specs.declared.statement.Next.TheVariants as next
@@ -26,28 +26,26 @@ abbrev pub IfRefused : Stop → (Refusal → Type 0) → Type 0
 IfRefused (Refused refusal) P = P refusal
 IfRefused Mem P = ⊤
 
--- the statement that stands at a place with this code, body and next statement
-pub record IsThere (file : List ℕ) (place : Place) (code : StatementCode) (body next : ℕ) (s : Statement) : Type 0 where
+-- the statement that stands at a place with this head
+pub record IsThere (file : List ℕ) (place : Place) (head : Head) (s : Statement) : Type 0 where
   pub stands : Stands file place s
-  pub code_is : s.code ≡ code
-  pub body_is : s.body ≡ body
-  pub next_is : s.next ≡ next
+  pub head_is : s.head ≡ head
 
 -- the lines of the streams of a statement are appended, or the first rule fails that is asked of them
-abbrev pub TellsStreams : List ℕ → Place → StatementCode → ℕ → ℕ → List ℕ → List ℕ → Result (Unit {0}) Stop → Type 0
-TellsStreams file place code body next old new (Ok _) =
-    (s : Statement) × IsThere file place code body next s × AllHold (part_checks (has_streams file place code) file place s)
-    × (new ≡ old ++ streams_text (has_streams file place code) s)
-TellsStreams file place code body next old new (Err stop) = IfRefused stop (λ refusal.
-    (s : Statement) × IsThere file place code body next s × FailsFirst (part_checks (has_streams file place code) file place s) refusal)
+abbrev pub TellsStreams : List ℕ → Place → Head → List ℕ → List ℕ → Result (Unit {0}) Stop → Type 0
+TellsStreams file place head old new (Ok _) =
+    (s : Statement) × IsThere file place head s × AllHold (part_checks (has_streams file place head.code) file place s)
+    × (new ≡ old ++ streams_text (has_streams file place head.code) s)
+TellsStreams file place head old new (Err stop) = IfRefused stop (λ refusal.
+    (s : Statement) × IsThere file place head s × FailsFirst (part_checks (has_streams file place head.code) file place s) refusal)
 
 -- the same of all lines of the statement
-abbrev pub TellsStatement : List ℕ → Place → StatementCode → ℕ → ℕ → List ℕ → List ℕ → Result (Unit {0}) Stop → Type 0
-TellsStatement file place code body next old new (Ok _) =
-    (s : Statement) × IsThere file place code body next s × AllHold (statement_checks file place s)
+abbrev pub TellsStatement : List ℕ → Place → Head → List ℕ → List ℕ → Result (Unit {0}) Stop → Type 0
+TellsStatement file place head old new (Ok _) =
+    (s : Statement) × IsThere file place head s × AllHold (statement_checks file place s)
     × (new ≡ old ++ statement_text file place s)
-TellsStatement file place code body next old new (Err stop) = IfRefused stop (λ refusal.
-    (s : Statement) × IsThere file place code body next s × FailsFirst (statement_checks file place s) refusal)
+TellsStatement file place head old new (Err stop) = IfRefused stop (λ refusal.
+    (s : Statement) × IsThere file place head s × FailsFirst (statement_checks file place s) refusal)
 
 -- what stands at a place of the list: a statement, whose lines are appended, with the place after it; or the list's end
 abbrev pub IsNext : List ℕ → Place → List ℕ → List ℕ → Next → Type 0

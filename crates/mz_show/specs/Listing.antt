@@ -1,13 +1,12 @@
 -- The listing of a binary (this project's own form of the .mmb format's parts).
-use Rattle.std.specs.Prelude.{◌≡◌, ◌⊎◌, ℕ, ◌++◌, List, [], ◌∷◌, codes, Ok, Err}
+use Rattle.std.specs.Prelude.{◌≡◌, ◌⊎◌, ℕ, ◌++◌, List, [], ◌∷◌, codes}
 use Rattle.mz_checks.specs.Checks.{AllHold, FailsFirst}
 use Rattle.mz_cmd.specs.declared.rule.Refusal.{Refusal}
-use Rattle.mz_cmd.specs.declared.statement.StmtAt.TheVariants.{End}
-use Rattle.mz_cmd.specs.declared.statement.StmtFault.{StmtFault}
-use Rattle.mz_cmd.specs.StatementList.{statement_at}
 use Rattle.mz_layout.specs.Layout.{Layout, layout_checks}
+use Rattle.mz_layout.specs.Heads.{StandsAt}
+use Rattle.mz_layout.specs.declared.head.HeadOrEnd.TheVariants.{End}
 use Rattle.mz_show.specs.declared.place.Place.{Place}
-use Rattle.mz_show.specs.Statements.{Statement, Stands, first_place, after, refusal_at, rule_of, statement_checks, end_checks, statement_text}
+use Rattle.mz_show.specs.Statements.{Statement, Stands, first_place, after, place_checks, statement_checks, statement_text}
 
 -- the statements stand one after another between two places, and nothing that is asked of them fails
 abbrev pub Chain : List ℕ → Place → List Statement → Place → Type 0
@@ -21,14 +20,13 @@ chain_text file from (s ∷ ss) = statement_text file from s ++ chain_text file 
 
 -- the list ends there, and no row is left
 abbrev pub EndsAt : List ℕ → Place → Type 0
-EndsAt file place = (statement_at file place.at ≡ Ok End) × AllHold (end_checks file place)
+EndsAt file place = StandsAt file place.rows place.at End
 
 -- the refusal's rule is the first that fails there
 abbrev pub StopsAt : List ℕ → Place → Refusal → Type 0
 StopsAt file place refusal =
-    ((fault : StmtFault) × (statement_at file place.at ≡ Err fault) × (refusal ≡ refusal_at place place.at (rule_of fault)))
-    ⊎ (((statement_at file place.at ≡ Ok End) × FailsFirst (end_checks file place) refusal)
-    ⊎ ((s : Statement) × Stands file place s × FailsFirst (statement_checks file place s) refusal))
+    FailsFirst (place_checks file place) refusal
+    ⊎ ((s : Statement) × Stands file place s × FailsFirst (statement_checks file place s) refusal)
 
 -- the listing of a file is whole: each statement's lines up to the list's end, and a last line
 pub record IsListing (file text : List ℕ) : Type 0 where

@@ -1,66 +1,41 @@
-// The row that a statement takes: what is asked of it, and its lines.
-ghost use Rattle.std.specs.Prelude.{◌≡◌, ◌<◌, ◌+◌, ◌^◌, ◌++◌, IfOk, OnOk, string_bytes};
-ghost use Rattle.mz_checks.specs.Checks.{Judges};
+// The lines of the row that a statement takes.
+ghost use Rattle.std.specs.Prelude.{◌≡◌, ◌<◌, ◌++◌, IfOk, OnOk, string_bytes};
 ghost use Rattle.mz_layout.specs.Tables.{term_count, thm_count};
-ghost use Rattle.mz_show.specs.Statements.{has_streams, heading, kind_name, row_checks, row_count, row_number, row_of, row_text, term_lines, thm_lines, unify_at, word_lines};
+ghost use Rattle.mz_layout.specs.Heads.{next_row, row_count};
+ghost use Rattle.mz_show.specs.Statements.{has_streams, heading, kind_name, row_number, row_text, term_lines, thm_lines, unify_at, word_lines};
 
 use crate::place::Place;
 use crate::words;
-use mz_cmd::{K, Mem, Refusal, StatementCode};
+use mz_cmd::{Mem, StatementCode};
 use mz_layout::Mmb;
 use mz_logic::Terms;
 use std::alloc::Global;
 
-/// How many rows the table has that a statement with this code takes a row of.
-fn row_count(mmb: &Mmb, code: StatementCode) -> u32
-    ensures { result ≡ row_count mmb.now code }
-{
-    match code {
-        StatementCode::Sort => mmb.sorts(),
-        StatementCode::Term | StatementCode::LocalDefinition => mmb.terms(),
-        StatementCode::Axiom | StatementCode::Theorem | StatementCode::LocalTheorem => mmb.thms(),
-    }
-}
-
-/// Whether the statement's row has a body.
+/// Whether the statement has a unify stream and a body with commands.
 #[tactic(auto, using(mz_layout::proofs::TableLists::row_facts))]
 pub fn has_streams(mmb: &Mmb, place: Place, code: StatementCode) -> bool
-    requires { row_of place code < row_count mmb.now code }
+    requires { next_row place.rows code < row_count mmb.now code }
     ensures { result ≡ has_streams mmb.now place code }
 {
     match code {
         StatementCode::Sort => false,
-        StatementCode::Term => mmb.has_body(place.terms),
+        StatementCode::Term => mmb.has_body(place.rows.terms),
         _ => true,
     }
 }
 
-/// Whether a row is left for the statement, and suits it.
-#[tactic(auto, using(mz_layout::proofs::TableLists::row_facts))]
-pub fn check_row(mmb: &Mmb, place: Place, code: StatementCode) -> Result<(), Refusal>
-    ensures judged { Judges result (row_checks mmb.now place code) }
-    // The rows are numbers of 32 bits, so that there is a number after a row.
-    ensures fits { OnOk result (row_of place code + 1 < 2 ^ 32) }
-{
-    if place.row(code) >= row_count(mmb, code) {
-        return Err(place.refusal(place.at, K::NoRow));
-    }
-    if code == StatementCode::LocalDefinition && !mmb.has_body(place.terms) {
-        return Err(place.refusal(place.at, K::StatementKind));
-    }
-    Ok(())
-}
-
 /// Where the statement's unify stream stands, where it has one.
 pub fn unify_at(mmb: &Mmb, place: Place, code: StatementCode) -> u32
-    requires { row_of place code < row_count mmb.now code }
+    requires { next_row place.rows code < row_count mmb.now code }
     ensures place { result ≡ unify_at mmb.now place code }
 {
     match code {
         StatementCode::Sort => 0,
-        StatementCode::Term | StatementCode::LocalDefinition => mmb.unify_of_term(place.terms).0,
+        StatementCode::Term | StatementCode::LocalDefinition => mmb
+            .unify_of_term(place.rows.terms)
+            .0,
         StatementCode::Axiom | StatementCode::Theorem | StatementCode::LocalTheorem => {
-            mmb.unify_of_thm(place.thms).0
+            mmb.unify_of_thm(place.rows.thms).0
         }
     }
 }
@@ -73,7 +48,7 @@ pub fn list_row(
     code: StatementCode,
     text: &mut Vec<u8>,
 ) -> Result<(), Mem>
-    requires { row_of place code < row_count mmb.now code }
+    requires { next_row place.rows code < row_count mmb.now code }
     ensures { OnOk result (text.new.items ≡ text.old.items ++ row_text mmb.now place code) }
 {
     let heading = heading(alloc, mmb, place, code)?;
@@ -84,13 +59,13 @@ pub fn list_row(
 /// The name of the statement's kind.
 #[tactic(auto, using(mz_layout::proofs::TableLists::row_facts))]
 fn kind_name(mmb: &Mmb, place: Place, code: StatementCode) -> &'static str
-    requires { row_of place code < row_count mmb.now code }
+    requires { next_row place.rows code < row_count mmb.now code }
     ensures { result.now ≡ kind_name mmb.now place code }
 {
     match code {
         StatementCode::Sort => "sort",
         StatementCode::Term => {
-            if mmb.has_body(place.terms) {
+            if mmb.has_body(place.rows.terms) {
                 "def"
             } else {
                 "term"
@@ -106,25 +81,25 @@ fn kind_name(mmb: &Mmb, place: Place, code: StatementCode) -> &'static str
 /// A sort's modifiers, or how many parameters the row has.
 #[tactic(auto, using(mz_layout::proofs::TableLists::row_facts))]
 fn row_number(mmb: &Mmb, place: Place, code: StatementCode) -> u32
-    requires { row_of place code < row_count mmb.now code }
+    requires { next_row place.rows code < row_count mmb.now code }
     ensures { result ≡ row_number mmb.now place code }
 {
     match code {
-        StatementCode::Sort => u32::from(mmb.mods(place.sorts).0),
-        StatementCode::Term | StatementCode::LocalDefinition => mmb.arity(place.terms),
+        StatementCode::Sort => u32::from(mmb.mods(place.rows.sorts).0),
+        StatementCode::Term | StatementCode::LocalDefinition => mmb.arity(place.rows.terms),
         StatementCode::Axiom | StatementCode::Theorem | StatementCode::LocalTheorem => {
-            mmb.thm_arity(place.thms)
+            mmb.thm_arity(place.rows.thms)
         }
     }
 }
 
 /// The line of the statement's kind and row.
 fn heading(alloc: Global, mmb: &Mmb, place: Place, code: StatementCode) -> Result<String, Mem>
-    requires { row_of place code < row_count mmb.now code }
+    requires { next_row place.rows code < row_count mmb.now code }
     ensures { IfOk result (λ line. string_bytes line ≡ heading mmb.now place code) }
 {
     let kind = kind_name(mmb, place, code);
-    let row = place.row(code);
+    let row = place.rows.next(code);
     let number = row_number(mmb, place, code);
     format!(in alloc; "{kind} {row} {number}\n")
 }
@@ -137,16 +112,16 @@ fn list_words(
     code: StatementCode,
     text: &mut Vec<u8>,
 ) -> Result<(), Mem>
-    requires { row_of place code < row_count mmb.now code }
+    requires { next_row place.rows code < row_count mmb.now code }
     ensures { OnOk result (text.new.items ≡ text.old.items ++ word_lines mmb.now place code) }
 {
     match code {
         StatementCode::Sort => Ok(()),
         StatementCode::Term | StatementCode::LocalDefinition => {
-            list_term(alloc, mmb, place.terms, text)
+            list_term(alloc, mmb, place.rows.terms, text)
         }
         StatementCode::Axiom | StatementCode::Theorem | StatementCode::LocalTheorem => {
-            list_thm(alloc, mmb, place.thms, text)
+            list_thm(alloc, mmb, place.rows.thms, text)
         }
     }
 }

@@ -8,7 +8,7 @@ use crate::place::Place;
 use crate::statement::{Next, list_next};
 use mz_cmd::Refusal;
 use mz_io::{Sink, write_whole};
-use mz_layout::Mmb;
+use mz_layout::{Mmb, Rows};
 use std::alloc::Global;
 
 /// What came of a listing.
@@ -62,9 +62,11 @@ fn list_statements<O: Sink>(alloc: Global, mmb: &Mmb, out: &mut O) -> Shown
     let mut place = Place {
         number: 1,
         at: mmb.proof_at(),
-        sorts: 0,
-        terms: 0,
-        thms: 0,
+        rows: Rows {
+            sorts: 0,
+            terms: 0,
+            thms: 0,
+        },
     };
     'statements: loop {
         let mut text = Vec::new(alloc);

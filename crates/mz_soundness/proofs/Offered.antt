@@ -3,7 +3,7 @@ pub use Rattle.mz_soundness.proofs.Assertions.{end-ran, made, own-are, own-run}
 pub use Rattle.mz_soundness.proofs.BodyRuns.{bound-never-ends, count-is-whole, steps-le}
 pub use Rattle.mz_soundness.proofs.Declared.{pair-at, pairs-long, signature-at, signatures-are}
 pub use Rattle.mz_soundness.proofs.FirstSorts.{length-first_sorts, slice_get-first_sorts, slice_get-further}
-pub use Rattle.mz_soundness.proofs.FreeVarLaws.{free-within, fv-in, in-fv-true}
+pub use Rattle.mz_soundness.proofs.FreeVarLaws.{free-within, in-fv-true}
 pub use Rattle.mz_soundness.proofs.Lists.{follows}
 pub use Rattle.mz_soundness.proofs.Operands.{apart-from-test, fits-from, or-not}
 pub use Rattle.mz_soundness.proofs.Outcomes.{bodies-checked, one-outcome}

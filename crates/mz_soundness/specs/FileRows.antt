@@ -1,6 +1,6 @@
 -- The rows of a file, as they spell terms and assertions, and the rows before a statement (the .mmb format, its tables
 -- of terms and theorems).
-use Rattle.std.specs.Prelude.{ℕ, ◌-◌, if◌then◌else◌, List, [], take, drop, map, length, Option, Some, None}
+use Rattle.std.specs.Prelude.{ℕ, if◌then◌else◌, List, [], drop, map, length, Option, Some, None}
 use Rattle.std.specs.List.{range_with_len}
 use Rattle.mz_logic.specs.Declaration.{Declaration, sorts, terms, assertions}
 use Rattle.mz_logic.specs.Words.{binders_of, signature_of}
@@ -40,7 +40,3 @@ rows_taken file taken = record {
   terms = map (term_of_file file) (range_with_len 0 taken.terms);
   thms = map (thm_of_file file) (range_with_len 0 taken.thms);
 }
-
--- a body's bytes, from its first place to the place after it
-abbrev pub body_bytes : List ℕ → ℕ → ℕ → List ℕ
-body_bytes file body next = take (next - body) (drop body file)

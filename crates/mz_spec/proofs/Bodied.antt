@@ -21,16 +21,18 @@ use Rattle.mz_math.proofs.Offered.{one-meaning}
 use Rattle.mz_grammar.specs.Reading.{OnFault}
 use Rattle.mz_grammar.specs.Statement.{TypeText, Head, definition_statement}
 use Rattle.mz_grammar.specs.declared.refusal.Halt.{Halt}
-use Rattle.mz_spec.specs.Code.{AreParts, EndsSmall, all_of, variable}
+use Rattle.mz_variables.specs.Code.{AreParts, all_of, variable}
+use Rattle.mz_spec.specs.Code.{EndsSmall}
 use Rattle.mz_spec.specs.Formulas.{AreTokens, IsMeant, CoversFreeVariables, inner, string_checks, strings_checks, free_checks}
 use Rattle.mz_spec.specs.Kept.{IsSpelled}
-use Rattle.mz_spec.specs.Rules.{Every, body_rules}
-use Rattle.mz_spec.specs.State.{State, binder_of, dep_places, param_binders, dummy_binders, result_of, scope_of, reader_of, sort_number, variable_bytes}
-use Rattle.mz_spec.specs.View.{Variable, body, params_of, dummies_of}
-use Rattle.mz_spec.specs.declared.parts.Parts.{Parts}
+use Rattle.mz_variables.specs.Dependencies.{Every, dep_places}
+use Rattle.mz_spec.specs.Rules.{body_rules}
+use Rattle.mz_spec.specs.State.{State, binder_of, param_binders, dummy_binders, result_of, scope_of, reader_of, sort_number, variable_bytes}
+use Rattle.mz_variables.specs.View.{Variable, body, params_of, dummies_of}
+use Rattle.mz_variables.specs.declared.parts.Parts.{Parts}
 use Rattle.mz_spec.proofs.Loops.{mem-before}
 use Rattle.mz_spec.proofs.Naming.{body-small}
-use Rattle.mz_spec.proofs.Places.{all-places, get-back}
+use Rattle.mz_variables.proofs.Offered.{all-places, get-back}
 use Rattle.mz_spec.proofs.Strung.{last-halt, all-strings}
 
 -- ---- its rules

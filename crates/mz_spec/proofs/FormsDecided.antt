@@ -13,7 +13,7 @@ use Rattle.mz_math.proofs.Offered.{delimiters-judged, coercions-judged, infix-ju
 use Rattle.mz_grammar.specs.declared.kind.Fixity.{Fixity}
 use Rattle.mz_grammar.specs.declared.kind.Fixity.TheVariants as fixities
 use Rattle.mz_grammar.specs.Statement.{TypeText, Head, Level, LiteralText, constant_literal, name_literal, TailText, Statement, sort_statement, term_statement, assert_statement, definition_statement, operator_statement, coercion_statement, delimiter_statement, notation_statement}
-use Rattle.mz_spec.specs.View.{variables_of}
+use Rattle.mz_variables.specs.View.{variables_of}
 use Rattle.mz_spec.specs.State.{State, term_number, scope_of, signature_of}
 use Rattle.mz_spec.specs.Formulas.{inner}
 use Rattle.mz_spec.specs.Forms.{IsLiteral, AreLiterals, ArePartsOf, MakesNotation, coercion_of, level_of, tail_of, at_statement, form_checks}

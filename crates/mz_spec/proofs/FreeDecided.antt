@@ -6,7 +6,7 @@ use Rattle.mz_logic.specs.Signature.{Signature}
 use Rattle.mz_logic.specs.Variables.{InV, InFV, InSomeFV, IsBoundAt, IsOperandAt}
 use Rattle.mz_logic.specs.declared.binder.Binder.{Binder}
 use Rattle.mz_math.proofs.Offered.{Decided, found, equal-decided, not-decided}
-use Rattle.mz_spec.specs.Rules.{Every}
+use Rattle.mz_variables.specs.Dependencies.{Every}
 use Rattle.mz_spec.proofs.Naming.{every-front}
 use Rattle.mz_spec.proofs.Tokens.{contains-decided}
 

@@ -11,9 +11,9 @@ use Rattle.mz_grammar.specs.declared.refusal.Halt.{Halt}
 use Rattle.mz_grammar.specs.declared.refusal.Halt.TheVariants as halts
 use Rattle.mz_spec.specs.declared.formulas.Stated.{Stated as StatedRead}
 use Rattle.mz_spec.specs.Code.{stated}
-use Rattle.mz_spec.specs.Rules.{Every}
+use Rattle.mz_variables.specs.Dependencies.{Every}
 use Rattle.mz_spec.proofs.Loops.{left-at}
-use Rattle.mz_spec.specs.View.{Variable, Formula, claim, Stated, stated_claim}
+use Rattle.mz_variables.specs.View.{Variable, Formula, claim, Stated, stated_claim}
 use Rattle.mz_spec.specs.State.{State}
 use Rattle.mz_spec.specs.Formulas.{AreHyps, AreTokens, IsMeant, copies, inner, math_of, string_checks, strings_checks}
 

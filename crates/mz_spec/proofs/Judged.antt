@@ -8,12 +8,12 @@ use Rattle.mz_grammar.specs.Reading.{OnFault}
 use Rattle.mz_grammar.specs.Statement.{TypeText, Statement}
 use Rattle.mz_grammar.specs.declared.refusal.Fault.{Fault}
 use Rattle.mz_grammar.specs.declared.refusal.Halt.{Halt}
-use Rattle.mz_spec.specs.Code.{AreParts, variable}
+use Rattle.mz_variables.specs.Code.{AreParts, variable}
 use Rattle.mz_spec.specs.Kept.{IsKept, IsSpelled}
 use Rattle.mz_spec.specs.Rules.{are_others, type_checks, binder_rules, variable_rules, parts_rules}
 use Rattle.mz_spec.specs.State.{State, variable_bytes}
-use Rattle.mz_spec.specs.View.{Variable, names_of, view, params_of}
-use Rattle.mz_spec.specs.declared.parts.Parts.{Parts}
+use Rattle.mz_variables.specs.View.{Variable, names_of, view, params_of}
+use Rattle.mz_variables.specs.declared.parts.Parts.{Parts}
 use Rattle.mz_spec.proofs.Loops.{assoc, mem-before, mem-after}
 use Rattle.mz_notation.specs.Kept.{AreVariables}
 use Rattle.mz_spec.proofs.Naming.{parts-few, variables-named}

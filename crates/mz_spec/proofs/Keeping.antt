@@ -26,8 +26,8 @@ use Rattle.mz_tokens.proofs.Offered.{place_first, contains_either}
 use Rattle.mz_notation.proofs.Offered.{empty-is, name-is, coercion-is, delimiters-is, infix-one, prefix-one, general-one}
 use Rattle.mz_grammar.specs.declared.kind.Fixity.TheVariants as fixities
 use Rattle.mz_grammar.specs.Statement.{TypeText, Head, LiteralText, constant_literal, name_literal, TailText, Statement, sort_statement, term_statement, assert_statement, definition_statement, operator_statement, coercion_statement, delimiter_statement, notation_statement}
-use Rattle.mz_spec.specs.Names.{IsNew}
-use Rattle.mz_spec.specs.View.{view}
+use Rattle.mz_variables.specs.Names.{IsNew}
+use Rattle.mz_variables.specs.View.{view}
 use Rattle.mz_spec.specs.State.{State, nothing, with_sort, with_term, with_assertion, with_table, scope_of, mark_at, term_number}
 use Rattle.mz_spec.specs.Forms.{IsLiteral, AreLiterals, ArePartsOf, MakesNotation, coercion_of, level_of}
 use Rattle.mz_spec.specs.Formulas.{inner}

@@ -1,10 +1,8 @@
 pub mod Loops
-pub mod Walking
-pub mod Numbers
 pub mod Tokens
 pub mod Naming
 pub mod Places
-pub mod Indexed
+pub mod Binding
 pub mod Good
 pub mod Sorted
 pub mod Legal

@@ -9,7 +9,7 @@ use Rattle.mz_grammar.specs.declared.refusal.Fault.{Fault}
 use Rattle.mz_grammar.specs.declared.refusal.Halt.{Halt}
 use Rattle.mz_grammar.specs.declared.refusal.Halt.TheVariants as halts
 use Rattle.mz_grammar.specs.Reading.{OnFault}
-use Rattle.mz_spec.specs.Rules.{Every}
+use Rattle.mz_variables.specs.Dependencies.{Every}
 
 -- the element at hand, and what is left behind it
 pub left-at : {X : Type 0} → (xs : List X) (i : ℕ) (x : X) → i < length xs → x ≡ get_or xs i x → drop i xs ≡ x ∷ drop (i + 1) xs

@@ -13,8 +13,8 @@ use Rattle.mz_grammar.specs.declared.kind.AssertKind.{AssertKind}
 use Rattle.mz_grammar.specs.Statement.{TypeText, Source, type_source, formula_source, NameText, Group, Head, Statement, sort_statement, term_statement, assert_statement, definition_statement, operator_statement, coercion_statement, delimiter_statement, notation_statement, Spells, Sign, keyword, symbol, name, name_or_blank, formula, number, only_if, IsSign, AreSigns, each, end_signs, modifier_signs, type_signs, takes_dummies, closing_of, dot_signs, name_signs, group_source_signs, group_signs, argument_signs, premise_signs, body_signs, literal_signs, tail_signs, statement_signs}
 use Rattle.mz_spec.specs.Code.{EndsSmall}
 use Rattle.mz_spec.specs.Kept.{AreOfText, IsSpelled}
-use Rattle.mz_spec.specs.Rules.{Every}
-use Rattle.mz_spec.specs.View.{Variable, view, name_of, variable_of, source_variables, group_variables, variables_of, unnamed, types_of, group_stated, premise_stated, stated_of, source_stated, params_of, dummies_of}
+use Rattle.mz_variables.specs.Dependencies.{Every}
+use Rattle.mz_variables.specs.View.{Variable, view, name_of, variable_of, source_variables, group_variables, variables_of, unnamed, types_of, group_stated, premise_stated, stated_of, source_stated, params_of, dummies_of}
 
 -- ---- lists of facts
 

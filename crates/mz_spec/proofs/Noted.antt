@@ -23,12 +23,13 @@ use Rattle.mz_spec.specs.Answers.{JudgesOrMem, JudgesStatement}
 use Rattle.mz_spec.specs.Formulas.{AreTokens}
 use Rattle.mz_spec.specs.Forms.{ArePartsOf, MakesOperator, MakesNotation, at_statement, form_checks}
 use Rattle.mz_spec.specs.Noting.{halt_of, noting_rules}
-use Rattle.mz_spec.specs.Rules.{Every, is_level, is_known, are_others, type_checks, binder_rules, statement_checks}
+use Rattle.mz_variables.specs.Dependencies.{Every}
+use Rattle.mz_spec.specs.Rules.{is_level, is_known, are_others, type_checks, binder_rules, statement_checks}
 use Rattle.mz_spec.specs.State.{State, variable_bytes, with_table}
-use Rattle.mz_spec.specs.Code.{AreParts, variable}
+use Rattle.mz_variables.specs.Code.{AreParts, variable}
 use Rattle.mz_spec.specs.Declaring.{After}
-use Rattle.mz_spec.specs.declared.parts.Parts.{Parts}
-use Rattle.mz_spec.specs.View.{Variable, params_of, variables_of, group_types, names_of, literal_levels, tail_levels}
+use Rattle.mz_variables.specs.declared.parts.Parts.{Parts}
+use Rattle.mz_variables.specs.View.{Variable, params_of, variables_of, group_types, names_of, literal_levels, tail_levels}
 use Rattle.mz_spec.proofs.Loops.{assoc, fails-front, judges-behind, mem-before, mem-after}
 use Rattle.mz_spec.proofs.Naming.{IsNamed}
 use Rattle.mz_spec.proofs.Places.{split-variables}

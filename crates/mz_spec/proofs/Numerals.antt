@@ -15,8 +15,8 @@ use Rattle.mz_grammar.specs.declared.kind.Fixity.{Fixity}
 use Rattle.mz_grammar.specs.Statement.{TypeText, Head, Level, number_level, max_level, LiteralText, constant_literal, name_literal, TailText, Statement, operator_statement, notation_statement, Sign, keyword, symbol, name, name_or_blank, formula, number, only_if, IsSign, AreSigns, each, end_signs, type_signs, group_signs, level_sign, literal_signs, tail_signs, statement_signs}
 use Rattle.mz_spec.specs.Kept.{AreOfText, IsSpelled}
 use Rattle.mz_spec.specs.Noting.{IsNumeral}
-use Rattle.mz_spec.specs.Rules.{Every}
-use Rattle.mz_spec.specs.View.{literal_levels, tail_levels}
+use Rattle.mz_variables.specs.Dependencies.{Every}
+use Rattle.mz_variables.specs.View.{literal_levels, tail_levels}
 use Rattle.mz_spec.proofs.Naming.{every-front}
 
 start-digit : (c : ℕ) → is_number_start c ≡ true → is_digit c ≡ true

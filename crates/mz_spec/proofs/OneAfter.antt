@@ -10,7 +10,7 @@ use Rattle.mz_notation.specs.Kept.{AreVariables}
 use Rattle.mz_math.proofs.Offered.{one-meaning}
 use Rattle.mz_tokens.proofs.Offered.{pieces-one}
 use Rattle.mz_grammar.specs.Statement.{TypeText, Statement, sort_statement, term_statement, assert_statement, definition_statement, operator_statement, coercion_statement, delimiter_statement, notation_statement}
-use Rattle.mz_spec.specs.View.{Variable, Formula, claim, body, Stated, view, stated_of}
+use Rattle.mz_variables.specs.View.{Variable, Formula, claim, body, Stated, view, stated_of}
 use Rattle.mz_spec.specs.State.{State, with_sort, with_term, with_assertion, with_table, param_binders, dummy_binders, signature_of, scope_of, reader_of}
 use Rattle.mz_spec.specs.Formulas.{IsMeant, AreHyps, copies, inner, math_of, wanted_of}
 use Rattle.mz_spec.specs.Declaring.{IsForm, is_axiom, After}

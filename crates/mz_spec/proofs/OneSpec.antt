@@ -13,9 +13,10 @@ use Rattle.mz_grammar.specs.Stops.{Stops, StopsBy}
 use Rattle.mz_grammar.specs.Reading.{place_of_first}
 use Rattle.mz_grammar.proofs.Offered.{statements-one, no-empty, front-none, back-none, stops-one, stands-stops}
 use Rattle.mz_spec.specs.declared.refusal.SpecRefusal.{SpecRefusal}
-use Rattle.mz_spec.specs.View.{view}
+use Rattle.mz_variables.specs.View.{view}
 use Rattle.mz_spec.specs.State.{State, nothing, entries_of, env_of}
-use Rattle.mz_spec.specs.Rules.{Every, statement_checks}
+use Rattle.mz_variables.specs.Dependencies.{Every}
+use Rattle.mz_spec.specs.Rules.{statement_checks}
 use Rattle.mz_spec.specs.Declaring.{After}
 use Rattle.mz_spec.specs.Kept.{IsKept}
 use Rattle.mz_spec.specs.Spec.{Stand, Breaks, Fails, IsGood}

@@ -8,11 +8,12 @@ use Rattle.mz_logic.specs.Modifiers.{IsPure, IsStrict, IsFree}
 use Rattle.mz_logic.specs.declared.binder.SortMods.{SortMods}
 use Rattle.mz_math.proofs.Offered.{Decided, not-decided}
 use Rattle.mz_grammar.specs.Statement.{TypeText, Level, number_level, max_level}
-use Rattle.mz_spec.specs.Names.{number_of}
-use Rattle.mz_spec.specs.View.{Variable, View, names_of, name_texts, params_of, dummies_of}
+use Rattle.mz_variables.specs.Names.{number_of}
+use Rattle.mz_variables.specs.View.{Variable, View, names_of, name_texts, params_of, dummies_of}
 use Rattle.mz_spec.specs.State.{State, names_in}
 use Rattle.mz_spec.specs.Forms.{number_in, highest_level}
-use Rattle.mz_spec.specs.Rules.{is_level, is_new, is_other, are_others, is_known, type_checks, mods_of, HasSortThat, IsCalled, IsBoundAmong, IsBinder, AreBinders, DependsOnNothing, IsResult, IsDummySort, IsNotPure, name_rules, use_rules, binder_rules}
+use Rattle.mz_spec.specs.Rules.{is_level, is_new, is_other, are_others, is_known, type_checks, mods_of, HasSortThat, IsBinder, AreBinders, DependsOnNothing, IsResult, IsDummySort, IsNotPure, name_rules, use_rules, binder_rules}
+use Rattle.mz_variables.specs.Dependencies.{IsCalled, IsBoundAmong}
 use Rattle.mz_spec.proofs.FreeDecided.{three-decided, either-decided, every-decided, bool-decided, at-decided}
 
 new-decided : (o : Option ℕ) → Decided (o ≡ None)

@@ -22,11 +22,12 @@ use Rattle.mz_grammar.specs.Laws.{Begins}
 use Rattle.mz_grammar.specs.Reading.{place_of_first}
 use Rattle.mz_grammar.proofs.Offered.{no-empty, one-of-all}
 use Rattle.mz_spec.specs.declared.refusal.SpecRefusal.{SpecRefusal}
-use Rattle.mz_spec.specs.View.{Variable, Formula, claim, body, Stated, stated_claim, stated_of, view}
+use Rattle.mz_variables.specs.View.{Variable, Formula, claim, body, Stated, stated_claim, stated_of, view}
 use Rattle.mz_spec.specs.State.{State, Entry, nothing as no_state, with_sort, with_term, with_assertion, with_table, entries_of, param_binders, dummy_binders, signature_of, scope_of, reader_of, result_of}
 use Rattle.mz_spec.specs.Formulas.{IsMeant, AreHyps, AreTokens, copies, inner, math_of, wanted_of, told, string_checks, strings_checks, free_checks}
 use Rattle.mz_spec.specs.Forms.{form_checks, coercion_of}
-use Rattle.mz_spec.specs.Rules.{Every, is_level, name_rules, use_rules, binder_rules, body_rules, are_others, is_new, statement_checks}
+use Rattle.mz_variables.specs.Dependencies.{Every}
+use Rattle.mz_spec.specs.Rules.{is_level, name_rules, use_rules, binder_rules, body_rules, are_others, is_new, statement_checks}
 use Rattle.mz_spec.specs.Declaring.{sort_bits, is_axiom, After}
 use Rattle.mz_spec.specs.Kept.{IsKept}
 use Rattle.mz_spec.specs.Spec.{Stand, SpecMakes, SpecFault, IsGood, Fails}

@@ -13,8 +13,9 @@ use Rattle.mz_grammar.specs.Reading.{OnFault}
 use Rattle.mz_grammar.specs.Statement.{LiteralText, constant_literal, name_literal}
 use Rattle.mz_spec.specs.Forms.{IsLiteral, AreLiterals}
 use Rattle.mz_spec.specs.Noting.{IsNumeral}
-use Rattle.mz_spec.specs.Rules.{Every, is_level}
-use Rattle.mz_spec.specs.View.{literal_levels}
+use Rattle.mz_variables.specs.Dependencies.{Every}
+use Rattle.mz_spec.specs.Rules.{is_level}
+use Rattle.mz_variables.specs.View.{literal_levels}
 use Rattle.mz_spec.proofs.Loops.{assoc}
 
 -- ---- spans

@@ -10,9 +10,9 @@ use Rattle.mz_grammar.specs.declared.refusal.Halt.{Halt}
 use Rattle.mz_lex.specs.Lexemes.{Lexeme}
 use Rattle.mz_spec.specs.Code.{EndsSmall}
 use Rattle.mz_spec.specs.Formulas.{AreTokens, inner, math_of, string_checks, strings_checks, free_checks}
-use Rattle.mz_spec.specs.Rules.{Every}
+use Rattle.mz_variables.specs.Dependencies.{Every}
 use Rattle.mz_spec.specs.State.{State}
-use Rattle.mz_spec.specs.View.{Variable, Formula, claim, Stated, stated_claim}
+use Rattle.mz_variables.specs.View.{Variable, Formula, claim, Stated, stated_claim}
 use Rattle.mz_spec.proofs.Loops.{assoc, mem-before, mem-after}
 
 module _ (σ : State) (vs : List Variable) where

@@ -16,7 +16,7 @@ use Rattle.mz_spec.specs.Answers.{IsAnswer, halted}
 use Rattle.mz_spec.specs.Code.{EndsSmall}
 use Rattle.mz_spec.specs.Kept.{AreOfText, IsSpelled}
 use Rattle.mz_spec.specs.State.{State, nothing, entries_of, mark_at}
-use Rattle.mz_spec.specs.View.{view}
+use Rattle.mz_variables.specs.View.{view}
 use Rattle.mz_spec.specs.Declaring.{After}
 use Rattle.mz_spec.specs.Spec.{Stand, SpecMakes, SpecFault, IsGood, Fails}
 use Rattle.mz_spec.specs.Reading.{StandTo}

@@ -8,7 +8,7 @@ use Rattle.mz_tokens.specs.declared.pieces.Piece.{Piece}
 use Rattle.mz_tokens.specs.Pieces.{IsSpaces, IsPiece, PiecesFrom, Pieces}
 use Rattle.mz_tokens.specs.Answers.{EndsAt, IsWhole}
 use Rattle.mz_tokens.proofs.Offered.{pieces-one, whole-first, whole-more, whole-piece}
-use Rattle.mz_spec.specs.View.{Formula}
+use Rattle.mz_variables.specs.View.{Formula}
 use Rattle.mz_spec.specs.State.{State}
 use Rattle.mz_spec.specs.Formulas.{AreTokens, inner, math_of}
 

@@ -10,7 +10,7 @@ use Rattle.mz_grammar.specs.declared.refusal.Halt.TheVariants as halts
 use Rattle.mz_tokens.specs.declared.pieces.Piece.{Piece}
 use Rattle.mz_spec.specs.declared.reader.SpecRead.{SpecRead}
 use Rattle.mz_spec.specs.declared.reader.SpecRead.TheVariants.{Spec, Refused, Mem}
-use Rattle.mz_spec.specs.View.{view}
+use Rattle.mz_variables.specs.View.{view}
 use Rattle.mz_spec.specs.State.{State}
 use Rattle.mz_spec.specs.Formulas.{AreTokens}
 use Rattle.mz_spec.specs.Rules.{statement_checks}

@@ -1,15 +1,9 @@
--- What the code's variables and parts of statements stand for.
-use Rattle.std.specs.Prelude.{◌≡◌, ◌<◌, ◌+◌, ◌^◌, length, List, [], ◌∷◌, map, option_map, Option, Some, None}
+-- What the code's formulas stand for, and which lexemes end where the code can count.
+use Rattle.std.specs.Prelude.{◌<◌, ◌+◌, ◌^◌, length}
 use Rattle.mz_lex.specs.Lexemes.{Lexeme}
-use Rattle.mz_grammar.specs.Code.{lexeme, type_text}
-use Rattle.mz_grammar.specs.Statement.{TypeText}
-use Rattle.mz_spec.specs.declared.variables.Variable.{Variable as VariableRead}
+use Rattle.mz_grammar.specs.Code.{lexeme}
+use Rattle.mz_variables.specs.View.{Stated}
 use Rattle.mz_spec.specs.declared.formulas.Stated.{Stated as StatedRead}
-use Rattle.mz_spec.specs.declared.parts.Parts.{Parts}
-use Rattle.mz_spec.specs.View.{Variable, Stated, params_of, dummies_of}
-
-abbrev pub variable : VariableRead → Variable
-variable v = record { name = option_map lexeme v.name; is_dummy = v.is_dummy; is_bound = v.is_bound; type = type_text v.ty.now }
 
 abbrev pub stated : StatedRead → Stated
 stated h = record { math = lexeme h.math; times = h.times }
@@ -17,15 +11,3 @@ stated h = record { math = lexeme h.math; times = h.times }
 -- the lexeme has a byte, and ends before 2 ^ 32
 abbrev pub EndsSmall : Lexeme → Type 0
 EndsSmall l = (0 < length l.text) × (l.from + length l.text < 2 ^ 32)
-
-abbrev pub all_of : {A : Type 0} → Option A → List A
-all_of None = []
-all_of (Some x) = x ∷ []
-
--- the parts have these variables, types and results
-pub record AreParts (p : Parts) (vs : List Variable) (ts results : List TypeText) : Type 0 where
-  pub variables : map variable p.variables.items ≡ vs
-  pub params : map variable p.params.items ≡ params_of vs
-  pub dummies : map variable p.dummies.items ≡ dummies_of vs
-  pub types : map (λ t. type_text t.ty.now) p.types.items ≡ ts
-  pub result : all_of (option_map (λ t. type_text t.now) p.result) ≡ results

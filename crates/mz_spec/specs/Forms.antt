@@ -20,7 +20,7 @@ use Rattle.mz_grammar.specs.declared.kind.Fixity.{Fixity}
 use Rattle.mz_grammar.specs.declared.kind.Fixity.TheVariants as fixities
 use Rattle.mz_grammar.specs.declared.refusal.Fault.{Fault}
 use Rattle.mz_grammar.specs.Statement.{TypeText, Head, Level, number_level, max_level, LiteralText, constant_literal, name_literal, TailText, Statement, operator_statement, coercion_statement, delimiter_statement, notation_statement}
-use Rattle.mz_spec.specs.View.{variables_of, alone}
+use Rattle.mz_variables.specs.View.{variables_of, alone}
 use Rattle.mz_spec.specs.State.{State, sort_number, term_number, signature_of, scope_of}
 use Rattle.mz_spec.specs.Formulas.{inner}
 

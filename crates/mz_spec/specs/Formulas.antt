@@ -16,7 +16,7 @@ use Rattle.mz_math.specs.declared.formula.Wanted.TheVariants.{Provable as provab
 use Rattle.mz_math.specs.Formula.{Misreading, formula_checks, IsFormula}
 use Rattle.mz_grammar.specs.declared.refusal.Fault.{Fault}
 use Rattle.mz_grammar.specs.Statement.{TypeText}
-use Rattle.mz_spec.specs.View.{Variable, Formula, claim, body, Stated}
+use Rattle.mz_variables.specs.View.{Variable, Formula, claim, body, Stated}
 use Rattle.mz_spec.specs.State.{State, sort_number, result_of, scope_of, reader_of}
 
 -- the text between the two `$` of a math string

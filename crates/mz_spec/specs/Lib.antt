@@ -1,5 +1,3 @@
-pub mod Names
-pub mod View
 pub mod State
 pub mod Formulas
 pub mod Forms
@@ -7,7 +5,6 @@ pub mod Rules
 pub mod Declaring
 pub mod Kept
 pub mod Spec
-pub mod Index
 pub mod Code
 pub mod Entries
 pub mod Reading

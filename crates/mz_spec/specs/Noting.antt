@@ -10,7 +10,7 @@ use Rattle.mz_grammar.specs.declared.refusal.Halt.{Halt}
 use Rattle.mz_grammar.specs.declared.refusal.Halt.TheVariants as halts
 use Rattle.mz_grammar.specs.Statement.{TypeText, Level, number_level, max_level}
 use Rattle.mz_grammar.specs.declared.refusal.Fault.{Fault}
-use Rattle.mz_spec.specs.View.{Variable, names_of}
+use Rattle.mz_variables.specs.View.{Variable, names_of}
 use Rattle.mz_spec.specs.State.{State}
 use Rattle.mz_spec.specs.Rules.{are_others, is_known, type_checks, binder_rules}
 use Rattle.mz_spec.specs.Forms.{at_statement}

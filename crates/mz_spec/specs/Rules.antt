@@ -9,9 +9,10 @@ use Rattle.mz_logic.specs.Modifiers.{IsPure, IsStrict, IsFree}
 use Rattle.mz_logic.specs.declared.binder.SortMods.{SortMods}
 use Rattle.mz_tokens.specs.declared.pieces.Piece.{Piece}
 use Rattle.mz_grammar.specs.declared.refusal.Fault.{Fault}
-use Rattle.mz_spec.specs.Names.{number_of, IsNew, IsKnown}
+use Rattle.mz_variables.specs.Names.{number_of, IsNew, IsKnown}
+use Rattle.mz_variables.specs.Dependencies.{Every, IsBoundAmong}
 use Rattle.mz_grammar.specs.Statement.{TypeText, Level, number_level, max_level, Statement}
-use Rattle.mz_spec.specs.View.{Named, Variable, Formula, View, view, params_of, dummies_of, names_of, name_texts}
+use Rattle.mz_variables.specs.View.{Named, Variable, Formula, View, view, params_of, dummies_of, names_of, name_texts}
 use Rattle.mz_spec.specs.State.{State, names_in}
 use Rattle.mz_spec.specs.Formulas.{strings_checks, free_checks}
 use Rattle.mz_spec.specs.Forms.{number_in, highest_level, form_checks}
@@ -57,21 +58,6 @@ mods_of σ t = option_and_then (λ n. slice_get (sorts_in σ.env) n) (number_of 
 -- the sort is there, and has the property
 abbrev pub HasSortThat : State → (SortMods → Type 0) → TypeText → Type 0
 HasSortThat σ P t = (m : SortMods) × (mods_of σ t ≡ Some m) × P m
-
--- P holds of each
-abbrev pub Every : {A : Type 0} → (A → Type 0) → List A → Type 0
-Every P [] = ⊤
-Every P (x ∷ xs) = P x × Every P xs
-
--- it has a name, which is this one
-abbrev pub IsCalled : Option Lexeme → List ℕ → Type 0
-IsCalled None text = ⊥
-IsCalled (Some l) text = l.text ≡ text
-
--- one of these variables is bound and has the name
-abbrev pub IsBoundAmong : List Variable → Lexeme → Type 0
-IsBoundAmong [] l = ⊥
-IsBoundAmong (v ∷ vs) l = ((v.is_bound ≡ true) × IsCalled v.name l.text) ⊎ IsBoundAmong vs l
 
 -- a bound parameter depends on nothing, and its sort isn't strict; what a parameter depends on is a
 -- bound one that stands before it

@@ -11,7 +11,7 @@ use Rattle.mz_grammar.specs.Statement.{Statement, Spells}
 use Rattle.mz_grammar.specs.Stops.{Stops}
 use Rattle.mz_grammar.specs.Reading.{place_of_first}
 use Rattle.mz_spec.specs.declared.refusal.SpecRefusal.{SpecRefusal}
-use Rattle.mz_spec.specs.View.{view}
+use Rattle.mz_variables.specs.View.{view}
 use Rattle.mz_spec.specs.State.{State, Entry, nothing, entries_of, env_of}
 use Rattle.mz_spec.specs.Formulas.{AreTokens}
 use Rattle.mz_spec.specs.Rules.{statement_checks}

@@ -1,6 +1,6 @@
 -- What the statements before declare, and what a statement's types and variables are over it (mm0.md, sections on
 -- sorts, terms, definitions, axioms and theorems).
-use Rattle.std.specs.Prelude.{◌+◌, ◌++◌, ℕ, List, [], ◌∷◌, map, length, refl, Option, Some, None, unwrap_or, if◌then◌else◌}
+use Rattle.std.specs.Prelude.{◌+◌, ◌++◌, ℕ, List, [], ◌∷◌, map, length, refl, Option, Some, None, unwrap_or}
 use Rattle.std.specs.Coded.{Coded, code_by, coded×, coded_ℕ}
 use Rattle.mz_lex.specs.Lexemes.{Lexeme}
 use Rattle.mz_logic.specs.Declaration.{Declaration}
@@ -12,9 +12,10 @@ use Rattle.mz_notation.specs.Notation.{Table, empty_table, with_name}
 use Rattle.mz_notation.specs.Notation.{Variables}
 use Rattle.mz_math.specs.Formula.{Reader}
 use Rattle.mz_spec.specs.declared.spec.Mark.{Mark}
-use Rattle.mz_spec.specs.Names.{number_of}
+use Rattle.mz_variables.specs.Names.{number_of}
+use Rattle.mz_variables.specs.Dependencies.{dep_places}
 use Rattle.mz_grammar.specs.Statement.{TypeText}
-use Rattle.mz_spec.specs.View.{Space, sorts, terms, assertions, Variable, params_of, dummies_of, is_among}
+use Rattle.mz_variables.specs.View.{Space, sorts, terms, assertions, Variable, params_of, dummies_of}
 
 -- ---- declarations with their places
 
@@ -93,11 +94,6 @@ sort_number σ t = unwrap_or (number_of σ.sort_names t.sort.text) 0
 
 abbrev pub term_number : State → Lexeme → ℕ
 term_number σ l = unwrap_or (number_of σ.term_names l.text) 0
-
--- the places of the parameters that are among the dependencies, counted from a place on: ascending, each once
-abbrev pub dep_places : ℕ → List Variable → List Lexeme → List ℕ
-dep_places i [] deps = []
-dep_places i (v ∷ vs) deps = if is_among deps v.name then i ∷ dep_places (i + 1) vs deps else dep_places (i + 1) vs deps
 
 -- a variable's binder, over these parameters
 abbrev pub binder_of : State → List Variable → Variable → Binder

@@ -10,28 +10,29 @@ ghost use Rattle.mz_logic.specs.View.{tree};
 ghost use Rattle.mz_notation.specs.Kept.{AreVariables};
 ghost use Rattle.mz_tokens.specs.declared.pieces.Piece.{Piece};
 ghost use Rattle.mz_spec.specs.Answers.{JudgesOrMem, JudgesStatement};
-ghost use Rattle.mz_spec.specs.Code.{AreParts, EndsSmall, all_of, stated as stated_lem, variable};
+ghost use Rattle.mz_variables.specs.Code.{AreParts, all_of, variable};
+ghost use Rattle.mz_spec.specs.Code.{EndsSmall, stated as stated_lem};
 ghost use Rattle.mz_spec.specs.Declaring.{After, Declares, IsForm, is_axiom, sort_bits};
 ghost use Rattle.mz_spec.specs.Entries.{state};
 ghost use Rattle.mz_spec.specs.Kept.{IsKept, IsSpelled};
 ghost use Rattle.mz_spec.specs.Formulas.{AreHyps, AreTokens, IsMeant, math_of, strings_checks};
-ghost use Rattle.mz_spec.specs.Names.{IsNew};
-ghost use Rattle.mz_spec.specs.Rules.{Every, body_rules, new_name, parts_rules, variable_rules};
+ghost use Rattle.mz_variables.specs.Names.{IsNew};
+ghost use Rattle.mz_variables.specs.Dependencies.{Every};
+ghost use Rattle.mz_spec.specs.Rules.{body_rules, new_name, parts_rules, variable_rules};
 ghost use Rattle.mz_spec.specs.State.{result_of, scope_of, variable_bytes, with_term};
-ghost use Rattle.mz_spec.specs.View.{Variable as VariableLem, body, body_formulas, claim, stated_of as stated_of_lem, view};
+ghost use Rattle.mz_variables.specs.View.{Variable as VariableLem, body, body_formulas, claim, stated_of as stated_of_lem, view};
 
 use crate::formulas::{Stated, push_group_stated, push_premise_stated};
-use crate::parts::{Parts, TypeAt};
 use crate::rules::{check_new, distinct_names};
 use crate::spec::Mark;
 use crate::state::State;
-use crate::variables::Variable;
 use mz_grammar::{
     AssertKind, AssertText, DefinitionText, Fault, Halt, Lexeme, Modifiers, TermText,
 };
 use mz_lex::S;
 use mz_logic::{Decl, Expr, Exprs, ResultType, SortMods, TermDecl, TermForm, ThmDecl, ThmForm};
 use mz_math::{Scope, Wanted};
+use mz_variables::{Parts, TypeAt, Variable};
 use std::alloc::{AllocError, Global};
 
 /// The modifiers as the logic has them.

@@ -16,18 +16,17 @@ ghost use Rattle.mz_spec.specs.Answers.{JudgesOrMem};
 ghost use Rattle.mz_spec.specs.Code.{EndsSmall, stated as stated_lem};
 ghost use Rattle.mz_spec.specs.Entries.{state};
 ghost use Rattle.mz_spec.specs.Formulas.{AreHyps, AreTokens, copies, inner as inner_lem, place_of, strings_checks, told as told_lem};
-ghost use Rattle.mz_spec.specs.Rules.{Every};
+ghost use Rattle.mz_variables.specs.Dependencies.{Every};
 ghost use Rattle.mz_spec.specs.State.{scope_of};
-ghost use Rattle.mz_spec.specs.View.{Variable, group_stated, premise_stated, stated_claim};
+ghost use Rattle.mz_variables.specs.View.{Variable, group_stated, premise_stated, stated_claim};
 
-use crate::covered::Covered;
-use crate::free::covers;
 use crate::state::State;
 use mz_copies::copy_of;
 use mz_grammar::{Fault, Group, Halt, Lexeme, Source};
 use mz_lex::S;
 use mz_logic::{Deps, Expr, Exprs};
 use mz_math::{Parsed, Scope, Wanted, parse_formula};
+use mz_variables::{Covered, covers};
 use std::alloc::{AllocError, Global};
 
 /// A formula of an axiom or a theorem, with the number of hypotheses that it makes.

@@ -7,8 +7,9 @@ ghost use Rattle.mz_grammar.specs.Code.{level as level_lem, tail as tail_lem};
 ghost use Rattle.mz_lex.specs.Kinds.{is_digit};
 ghost use Rattle.mz_spec.specs.Forms.{highest_level, level_of as level_of_lem, tail_of as tail_of_lem};
 ghost use Rattle.mz_spec.specs.Noting.{IsNumeral};
-ghost use Rattle.mz_spec.specs.Rules.{Every, is_level};
-ghost use Rattle.mz_spec.specs.View.{tail_levels};
+ghost use Rattle.mz_variables.specs.Dependencies.{Every};
+ghost use Rattle.mz_spec.specs.Rules.{is_level};
+ghost use Rattle.mz_variables.specs.View.{tail_levels};
 
 use mz_grammar::{Fault, Level, TailText};
 use mz_lex::S;

@@ -1,29 +1,23 @@
 //! Specifications: the declarations of a `.mm0` text, or the first rule that it breaks
 //! (mm0.md, sections on sorts, terms, definitions, axioms and theorems, notations and coercions).
 //!
-//! `specs/View.antt` says what the rules see of a statement, `specs/Rules.antt` has the rules of a
-//! statement in their order, `specs/Declaring.antt` what a good one declares, and `specs/Spec.antt` says
-//! what a text declares and where it breaks its first rule.
+//! `specs/Rules.antt` has the rules of a statement in their order, over what they see of it
+//! (`mz_variables`), `specs/Declaring.antt` what a good one declares, and `specs/Spec.antt` says what a text
+//! declares and where it breaks its first rule.
 #![tactic(auto)]
 
-mod by_name;
-mod covered;
 mod declare;
 mod formulas;
-mod free;
 mod laws;
 mod levels;
 mod literals;
-mod names;
 mod notations;
-mod parts;
 mod reader;
 mod refusal;
 mod rules;
 mod scope;
 mod spec;
 mod state;
-mod variables;
 
 pub use laws::{readings_are_one, specifications_are_legal};
 pub use reader::{SpecRead, read_spec};

@@ -6,8 +6,9 @@ ghost use Rattle.mz_grammar.specs.Statement.{LiteralText as LiteralLem};
 ghost use Rattle.mz_spec.specs.Answers.{JudgesOrMem};
 ghost use Rattle.mz_spec.specs.Forms.{AreLiterals, IsLiteral};
 ghost use Rattle.mz_spec.specs.Noting.{IsNumeral};
-ghost use Rattle.mz_spec.specs.Rules.{Every, is_level};
-ghost use Rattle.mz_spec.specs.View.{literal_levels};
+ghost use Rattle.mz_variables.specs.Dependencies.{Every};
+ghost use Rattle.mz_spec.specs.Rules.{is_level};
+ghost use Rattle.mz_variables.specs.View.{literal_levels};
 
 use crate::formulas::inner;
 use crate::levels::level_of;

@@ -4,23 +4,21 @@ ghost use Rattle.mz_checks.specs.Checks.{Judges, each_in_order};
 ghost use Rattle.mz_logic.specs.Modifiers.{IsPure, IsStrict, IsFree};
 ghost use Rattle.mz_grammar.specs.Code.{lexeme, type_text};
 ghost use Rattle.mz_spec.specs.Answers.{JudgesOrMem};
-ghost use Rattle.mz_spec.specs.Code.{AreParts, all_of, variable as variable_lem};
+ghost use Rattle.mz_variables.specs.Code.{AreParts, all_of, variable as variable_lem};
 ghost use Rattle.mz_spec.specs.Entries.{state};
-ghost use Rattle.mz_spec.specs.Index.{IsIndexOf};
+ghost use Rattle.mz_variables.specs.Index.{IsIndexOf};
 ghost use Rattle.mz_spec.specs.Kept.{IsKept};
-ghost use Rattle.mz_spec.specs.Rules.{AreBinders, DependsOnNothing, Every, HasSortThat, HaveBinders, IsBinder, IsDummySort, IsNotPure, IsResult, are_others, binder_rules, is_known, mods_of as mods_of_lem, new_name, type_checks};
-ghost use Rattle.mz_spec.specs.View.{Variable as VariableLem, names_of};
+ghost use Rattle.mz_spec.specs.Rules.{AreBinders, DependsOnNothing, HasSortThat, HaveBinders, IsBinder, IsDummySort, IsNotPure, IsResult, are_others, binder_rules, is_known, mods_of as mods_of_lem, new_name, type_checks};
+ghost use Rattle.mz_variables.specs.Dependencies.{Every};
+ghost use Rattle.mz_variables.specs.View.{Variable as VariableLem, names_of};
 ghost use Rattle.mz_grammar.specs.Statement.{TypeText as TypeLem};
 
-use crate::by_name::{are_bound_before, places_of};
-use crate::names::Names;
-use crate::parts::{Parts, TypeAt};
 use crate::state::State;
-use crate::variables::Variable;
 use mz_grammar::{Fault, Halt, Lexeme, TypeText};
 use mz_lex::S;
 use mz_logic::SortMods;
 use mz_tokens::Places;
+use mz_variables::{Names, Parts, TypeAt, Variable, are_bound_before, places_of};
 use std::alloc::Global;
 
 /// The name is none of these.

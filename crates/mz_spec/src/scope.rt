@@ -3,21 +3,19 @@ ghost use Rattle.std.specs.Prelude.{◌≡◌, ◌+◌, ◌<◌, ◌^◌, ◌++�
 ghost use Rattle.mz_grammar.specs.Code.{lexeme, type_text};
 ghost use Rattle.mz_grammar.specs.Statement.{TypeText as TypeLem};
 ghost use Rattle.mz_notation.specs.Kept.{AreVariables};
-ghost use Rattle.mz_spec.specs.Code.{AreParts, variable as variable_lem};
+ghost use Rattle.mz_variables.specs.Code.{AreParts, variable as variable_lem};
 ghost use Rattle.mz_spec.specs.Entries.{state};
-ghost use Rattle.mz_spec.specs.Index.{IsIndexOf};
+ghost use Rattle.mz_variables.specs.Index.{IsIndexOf};
 ghost use Rattle.mz_spec.specs.State.{binder_of as binder_of_lem, bytes_of as bytes_of_lem, result_of, scope_of as scope_of_lem, sort_number as sort_number_lem, term_number as term_number_lem, variable_bytes};
-ghost use Rattle.mz_spec.specs.View.{Variable as VariableLem, alone};
+ghost use Rattle.mz_variables.specs.View.{Variable as VariableLem, alone};
 
-use crate::by_name::{places_among, places_of};
-use crate::parts::Parts;
 use crate::rules::depend_on_nothing;
 use crate::state::State;
-use crate::variables::Variable;
 use mz_grammar::{Lexeme, TypeText};
 use mz_logic::{Binder, Binders, ResultType};
 use mz_math::Scope;
 use mz_tokens::Places;
+use mz_variables::{Parts, Variable, places_among, places_of};
 use std::alloc::{AllocError, Global};
 
 impl<'a> State<'a> {

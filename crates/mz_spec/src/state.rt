@@ -7,11 +7,11 @@ ghost use Rattle.mz_spec.specs.Entries.{state};
 ghost use Rattle.mz_spec.specs.Kept.{IsKept, IsSpelled};
 ghost use Rattle.mz_spec.specs.State.{entries_of, nothing};
 
-use crate::names::Names;
 use crate::spec::{Mark, Spec};
 use mz_grammar::{Halt, Statement};
 use mz_logic::Env;
 use mz_math::Notations;
+use mz_variables::Names;
 use std::alloc::Global;
 
 /// The names of each space, the declarations, the mark of each, and what has been declared for math

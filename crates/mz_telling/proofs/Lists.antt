@@ -9,7 +9,7 @@ use Rattle.mz_unification.specs.Spells.{dummy_of}
 use Rattle.mz_phrasing.specs.Phrases.{Phrase, Phrases, a_word, no_phrases, one_more}
 use Rattle.mz_phrasing.specs.Phrasing.{Vocabulary, list_of, followed_by, word_list, variable_names, binder, binders, marked_parts}
 use Rattle.mz_stating.specs.ByNumber.{phrase_at, phrases_at}
-use Rattle.mz_telling.specs.Rows.{named}
+use Rattle.mz_telling.specs.Hypotheses.{named}
 
 -- the element at hand, and what is left behind it
 pub left-at : {X : Type 0} → (xs : List X) (i : ℕ) (x : X) → i < length xs → x ≡ get_or xs i x → drop i xs ≡ x ∷ drop (i + 1) xs

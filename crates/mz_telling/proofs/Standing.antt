@@ -12,9 +12,9 @@ use Rattle.mz_logic.specs.declared.binder.SortMods.{SortMods}
 use Rattle.mz_layout.specs.Tables.{tables_of, term_count, thm_count}
 use Rattle.mz_unification.specs.Spells.{SpellsTerm, SpellsThm}
 use Rattle.mz_soundness.specs.FileRows.{term_of_file, thm_of_file}
-use Rattle.mz_machine.specs.declared.earlier.Rows.{Rows}
+use Rattle.mz_layout.specs.declared.taken.Rows.{Rows}
 use Rattle.mz_binary.specs.Spelling.{IsKindOf, SpellsRow}
-use Rattle.mz_mmu.specs.Proof.{Proof, Statement}
+use Rattle.mz_forms.specs.Proof.{Proof, Statement}
 use Rattle.mz_type.specs.Weight.{declaration_weight, stated_weight}
 use Rattle.mz_phrasing.specs.Phrases.{Phrase}
 use Rattle.mz_phrasing.specs.Phrasing.{Vocabulary, declared_parts, assertion_parts}

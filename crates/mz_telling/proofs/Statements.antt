@@ -11,7 +11,7 @@ use Rattle.mz_layout.specs.Tables.{term_row, thm_row}
 use Rattle.mz_unification.specs.Spells.{SpellsTerm, SpellsThm, SpellsForm, dummy_of}
 use Rattle.mz_soundness.specs.FileRows.{term_of_file, thm_of_file}
 use Rattle.mz_match.proofs.Offered.{length-binders}
-use Rattle.mz_mmu.specs.Proof.{Proof}
+use Rattle.mz_forms.specs.Proof.{Proof}
 use Rattle.mz_type.specs.Weight.{proof_weight, stated_weight}
 use Rattle.mz_phrasing.specs.Phrases.{Phrase, Phrases, a_word, a_list, one_more}
 use Rattle.mz_phrasing.specs.Phrasing.{Vocabulary, list_of, expression, expressions, binders, result, term_parts, assertion_parts, named_hypotheses, proof as statement-proof-by}
@@ -21,7 +21,7 @@ use Rattle.mz_unspell.specs.Rows.{Grows, IsSaid, IsDefined}
 use Rattle.mz_unspell.specs.declared.row.Said.{Said}
 use Rattle.mz_unspell.specs.declared.row.Defined.{Defined}
 use Rattle.mz_telling.specs.Adding.{Adds}
-use Rattle.mz_telling.specs.Rows.{named}
+use Rattle.mz_telling.specs.Hypotheses.{named}
 use Rattle.mz_telling.specs.Telling.{IsTerm, IsAxiom, IsTheorem, IsProved}
 use Rattle.mz_telling.specs.declared.proof.Proved.{Proved}
 use Rattle.mz_telling.proofs.Adding.{adds-then, adds-grown, adds-there, phrase-grows}

@@ -1,4 +1,4 @@
 pub mod Adding
-pub mod Rows
+pub mod Hypotheses
 pub mod Naming
 pub mod Telling

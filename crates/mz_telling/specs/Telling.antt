@@ -6,12 +6,14 @@ use Rattle.mz_logic.specs.declared.binder.Binder.{Binder}
 use Rattle.mz_unification.specs.Profile.{strict}
 use Rattle.mz_unification.specs.Spells.{SpellsTerm, SpellsThm, dummy_of}
 use Rattle.mz_soundness.specs.Bodies.{Runs}
-use Rattle.mz_soundness.specs.FileRows.{term_of_file, thm_of_file, body_bytes}
+use Rattle.mz_layout.specs.Heads.{body_bytes}
+use Rattle.mz_soundness.specs.FileRows.{term_of_file, thm_of_file}
 use Rattle.mz_soundness.specs.Tables.{Declares}
-use Rattle.mz_machine.specs.Before.{MayRun, heading_of, tables_before}
-use Rattle.mz_machine.specs.declared.earlier.Rows.{Rows}
+use Rattle.mz_earlier.specs.OwnRow.{MayRun, heading_of}
+use Rattle.mz_earlier.specs.Before.{tables_before}
+use Rattle.mz_layout.specs.declared.taken.Rows.{Rows}
 use Rattle.mz_binary.specs.Spelling.{IsKindOf, is_local_code, SpellsRow}
-use Rattle.mz_mmu.specs.Proof.{Proof, Statement}
+use Rattle.mz_forms.specs.Proof.{Proof, Statement}
 use Rattle.mz_type.specs.Weight.{statement_weight, declaration_weight, proof_weight, stated_weight}
 use Rattle.mz_tracing.specs.Traces.{Made, under_lets}
 use Rattle.mz_phrasing.specs.Phrases.{Phrase}

@@ -15,10 +15,9 @@ ghost use Rattle.mz_telling.specs.Telling.{IsAxiom, SpellsSomeThm};
 
 use crate::params::put_params;
 use crate::parts::{put_list, put_word};
-use crate::row::Row;
 use crate::weight::weight_said;
 use mz_cmd::Mem;
-use mz_layout::Mmb;
+use mz_layout::{Mmb, Row};
 use mz_naming::Names;
 use mz_stating::Phrases;
 use mz_unspell::assertion;

@@ -5,7 +5,7 @@ ghost use Rattle.mz_phrasing.specs.Phrasing.{list_of};
 ghost use Rattle.mz_phrasing.specs.Naming.{vocabulary_by};
 ghost use Rattle.mz_stating.specs.ByNumber.{phrase_at, phrases_at};
 ghost use Rattle.mz_telling.specs.Adding.{Adds};
-ghost use Rattle.mz_telling.specs.Rows.{named};
+ghost use Rattle.mz_telling.specs.Hypotheses.{named};
 
 use crate::parts::{put_hypothesis, put_list};
 use mz_cmd::Mem;

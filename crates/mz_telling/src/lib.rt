@@ -11,7 +11,6 @@ mod hypotheses;
 mod params;
 mod parts;
 mod proof;
-mod row;
 mod sort;
 mod telling;
 mod term;

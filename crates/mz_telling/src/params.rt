@@ -1,16 +1,15 @@
 //! The parameters and the result that a row's words say.
 ghost use Rattle.std.specs.Prelude.{◌≡◌, ◌<◌, ◌++◌, ◌∷◌, [], IfOk, OnOk, if◌then◌else◌, length};
 ghost use Rattle.mz_logic.specs.Words.{binder_of, binders_of, bound_places, places_set, word_bound, word_deps, word_sort};
+ghost use Rattle.mz_layout.specs.Rows.{IsRow, params_of};
 ghost use Rattle.mz_phrasing.specs.Phrases.{a_word, a_list};
 ghost use Rattle.mz_phrasing.specs.Phrasing.{binder, binders, result as the_result, variable_names};
 ghost use Rattle.mz_phrasing.specs.Naming.{vocabulary_by};
 ghost use Rattle.mz_telling.specs.Adding.{Adds};
-ghost use Rattle.mz_telling.specs.Rows.{IsRow, words_of};
 
 use crate::parts::{put_list, put_variable, put_word};
-use crate::row::Row;
 use mz_cmd::Mem;
-use mz_layout::Mmb;
+use mz_layout::{Mmb, Row};
 use mz_logic::Word;
 use mz_naming::Names;
 use mz_stating::Phrases;
@@ -27,14 +26,14 @@ pub(crate) fn put_params(
 ) -> Result<Vec<u32>, Mem>
     requires { IsRow mmb.now row }
     ensures adds { OnOk result (Adds phrases.old phrases.new parts.old.items parts.new.items
-        (a_list (binders (vocabulary_by names.now) 0 (binders_of (words_of mmb.now row))) ∷ [])) }
-    ensures places { IfOk result (λ places. places.items ≡ bound_places 0 (words_of mmb.now row)) }
+        (a_list (binders (vocabulary_by names.now) 0 (binders_of (params_of mmb.now row))) ∷ [])) }
+    ensures places { IfOk result (λ places. places.items ≡ bound_places 0 (params_of mmb.now row)) }
 {
     let mut inner = Vec::new(alloc);
     let mut places = Vec::new(alloc);
     let arity = row.arity(mmb);
     'params: for i in 0..arity {
-        let word = row.word(mmb, i);
+        let word = row.param(mmb, i);
         put_binder(alloc, names, i as usize, word, &places, phrases, &mut inner)?;
         push_bound(word, i, &mut places)?;
     }

@@ -2,19 +2,19 @@
 ghost use Rattle.std.specs.Prelude.{◌≡◌, ◌<◌, IfOk, List, OnOk, Option};
 ghost use Rattle.mz_logic.specs.Declaration.{Declaration};
 ghost use Rattle.mz_logic.specs.declared.binder.Binder.{Binder};
-ghost use Rattle.mz_mmu.specs.Proof.{Proof};
+ghost use Rattle.mz_forms.specs.Proof.{Proof};
 ghost use Rattle.mz_phrasing.specs.Naming.{vocabulary_by};
 ghost use Rattle.mz_unspell.specs.Rows.{Grows};
 ghost use Rattle.mz_telling.specs.Telling.{IsProved, MakesProof, MakesSome};
 ghost use Rattle.mz_trace.specs.Runs.{ClaimsIn, IsTraced};
-ghost use Rattle.mz_soundness.specs.FileRows.{body_bytes};
+ghost use Rattle.mz_layout.specs.Heads.{body_bytes};
 ghost use Rattle.mz_soundness.specs.Tables.{Declares};
-ghost use Rattle.mz_machine.specs.Before.{heading_of, tables_before};
+ghost use Rattle.mz_earlier.specs.OwnRow.{heading_of};
+ghost use Rattle.mz_earlier.specs.Before.{tables_before};
 
 use crate::head::Head;
 use mz_cmd::{Mem, Steps};
-use mz_layout::Mmb;
-use mz_machine::Rows;
+use mz_layout::{Mmb, Rows};
 use mz_naming::Names;
 use mz_retelling::retell;
 use mz_stating::Phrases;

@@ -3,7 +3,7 @@ ghost use Rattle.std.specs.Prelude.{◌≡◌, IfOk, List, Some};
 ghost use Rattle.mz_cmd.specs.Codes.{statement_code};
 ghost use Rattle.mz_binary.specs.Spelling.{is_local_code};
 ghost use Rattle.mz_logic.specs.Declaration.{Declaration};
-ghost use Rattle.mz_mmu.specs.Proof.{Statement};
+ghost use Rattle.mz_forms.specs.Proof.{Statement};
 ghost use Rattle.mz_phrasing.specs.Naming.{vocabulary_by};
 ghost use Rattle.mz_telling.specs.Telling.{AreParts, IsTold, SomeStands, Stands};
 
@@ -15,8 +15,7 @@ use crate::term::put_term;
 use crate::theorem::put_theorem;
 use crate::told::Told;
 use mz_cmd::{Mem, StatementCode};
-use mz_layout::Mmb;
-use mz_machine::Rows;
+use mz_layout::{Mmb, Rows};
 use mz_naming::Names;
 use mz_stating::Phrases;
 use std::alloc::Global;

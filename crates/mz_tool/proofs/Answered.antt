@@ -6,7 +6,7 @@ use Rattle.std.specs.List.{list_any}
 use Rattle.std.proofs.lemmas.Bool.{or_cases, or_left, or_right, and_parts, and_from, le-leb, leb-true}
 use Rattle.mz_io.specs.Outside.{SameFiles, Rooms, HasRoom, serves}
 use Rattle.mz_checks.proofs.Offered.{all_hold-rest}
-use Rattle.mz_mmu.specs.Proof.{Statement}
+use Rattle.mz_forms.specs.Proof.{Statement}
 use Rattle.mz_type.specs.TextOf.{TextOf}
 use Rattle.mz_type.specs.Weight.{byte_bound, each_within, bound_limit, bound_count, parameter_limit, parameter_count}
 use Rattle.mz_emit.specs.declared.compiled.Compiled.{Compiled}

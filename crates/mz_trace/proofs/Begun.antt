@@ -11,9 +11,10 @@ use Rattle.mz_soundness.specs.Tables.{Tables, State, is_theorem, Heading}
 use Rattle.mz_soundness.specs.ProofMachine.{own_variables, last_item, ends_with, proof_end}
 use Rattle.mz_soundness.specs.Bodies.{body_start, body_from, Runs}
 use Rattle.mz_layout.specs.Tables.{thm_row}
-use Rattle.mz_machine.specs.Before.{MayRun, heading_of, tables_before}
-use Rattle.mz_machine.specs.declared.earlier.Rows.{Rows}
-use Rattle.mz_machine.proofs.Offered.{binders_many}
+use Rattle.mz_earlier.specs.OwnRow.{MayRun, heading_of}
+use Rattle.mz_earlier.specs.Before.{tables_before}
+use Rattle.mz_layout.specs.declared.taken.Rows.{Rows}
+use Rattle.mz_earlier.proofs.Offered.{binders_many}
 use Rattle.mz_tracing.specs.Parts.{Part, expression, proved}
 use Rattle.mz_tracing.specs.Traces.{Trace, trace_start, trace_from, trace_body}
 use Rattle.mz_trace.specs.Nodes.{Value, values, proof_at, HaveParts, AreProofs, IsProof}

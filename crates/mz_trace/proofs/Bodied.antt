@@ -7,7 +7,7 @@ use Rattle.mz_logic.specs.Tree.{Tree, var, app, none, instance, followed_by, var
 use Rattle.mz_logic.specs.Signature.{Signature}
 use Rattle.mz_logic.specs.Declaration.{Form, plain_form, abstract_form, defined, Term, Declaration, terms, signatures}
 use Rattle.mz_logic.specs.declared.binder.Binder.{Binder}
-use Rattle.mz_type.specs.Sides.{body_tree}
+use Rattle.mz_typing.specs.Sides.{body_tree}
 use Rattle.mz_unification.specs.Streams.{of_definition}
 use Rattle.mz_unification.specs.Spells.{trees_of, Text, TermRow, SpellsForm, SpellsTerm}
 use Rattle.mz_unification.specs.Profile.{strict}

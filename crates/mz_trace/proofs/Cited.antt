@@ -6,7 +6,7 @@ use Rattle.mz_logic.specs.Tree.{Tree, instance}
 use Rattle.mz_logic.specs.Signature.{Signature}
 use Rattle.mz_logic.specs.Declaration.{Assertion, Declaration, signatures, assertions}
 use Rattle.mz_logic.specs.declared.binder.Binder.{Binder}
-use Rattle.mz_type.specs.Sides.{assertion_at}
+use Rattle.mz_typing.specs.Sides.{assertion_at}
 use Rattle.mz_unification.specs.Laws.{citing}
 use Rattle.mz_unification.specs.Profile.{strict, Item}
 use Rattle.mz_unification.specs.Spells.{ThmRow, SpellsThm, trees_of}

@@ -10,7 +10,7 @@ use Rattle.mz_cmd.specs.declared.rule.K.TheVariants as k
 use Rattle.mz_cmd.specs.declared.code.ProofCode.TheVariants as code
 use Rattle.mz_logic.specs.Tree.{Tree}
 use Rattle.mz_logic.specs.declared.binder.Binder.{Binder}
-use Rattle.mz_mmu.specs.Proof.{Proof, by_citation, no_proofs}
+use Rattle.mz_forms.specs.Proof.{Proof, by_citation, no_proofs}
 use Rattle.mz_layout.specs.Tables.{thm_row, thm_count}
 use Rattle.mz_unification.specs.Profile.{strict, proof}
 use Rattle.mz_unification.specs.Profile.{Item as MachineItem}
@@ -22,8 +22,8 @@ use Rattle.mz_soundness.specs.Tables.{Tables, State, signatures_in}
 use Rattle.mz_soundness.specs.Premises.{pop_expr, pop_operands, pop_exprs, operands_fit, are_apart}
 use Rattle.mz_soundness.specs.ProofMachine.{proof_row, citation, matched_by, cited}
 use Rattle.mz_soundness.specs.FileRows.{thm_of_file}
-use Rattle.mz_machine.specs.Before.{Before}
-use Rattle.mz_machine.proofs.Offered.{thm-before, binders_many}
+use Rattle.mz_earlier.specs.Before.{Before}
+use Rattle.mz_earlier.proofs.Offered.{thm-before, binders_many}
 use Rattle.mz_tracing.specs.Parts.{Part, proved, proofs_above}
 use Rattle.mz_tracing.specs.Traces.{Trace, stacked, named, traced}
 use Rattle.mz_tracing.specs.Traces.{cited as cited-beside}

@@ -20,8 +20,8 @@ use Rattle.mz_soundness.specs.Tables.{Tables, State, signatures_in}
 use Rattle.mz_soundness.specs.Premises.{pop_operands, pop_exprs, operands_fit}
 use Rattle.mz_soundness.specs.ProofMachine.{proof_row, built}
 use Rattle.mz_soundness.specs.FileRows.{term_of_file}
-use Rattle.mz_machine.specs.Before.{Before}
-use Rattle.mz_machine.proofs.Offered.{term-before, binders_many}
+use Rattle.mz_earlier.specs.Before.{Before}
+use Rattle.mz_earlier.proofs.Offered.{term-before, binders_many}
 use Rattle.mz_tracing.specs.Parts.{Part, expression}
 use Rattle.mz_tracing.specs.Traces.{Trace, stacked, kept, traced}
 use Rattle.mz_trace.specs.Nodes.{Value, an_expression, expression_at, expressions_at, value_of, HasParts, HasArity, IsExpression, AreExpressions, Applies}

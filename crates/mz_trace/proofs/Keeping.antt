@@ -8,7 +8,7 @@ use Rattle.mz_cmd.specs.declared.rule.K.TheVariants as k
 use Rattle.mz_cmd.specs.declared.code.ProofCode.TheVariants as code
 use Rattle.mz_logic.specs.Tree.{Tree, var}
 use Rattle.mz_logic.specs.declared.binder.Binder.{Binder}
-use Rattle.mz_mmu.specs.Proof.{by_hyp, by_name}
+use Rattle.mz_forms.specs.Proof.{by_hyp, by_name}
 use Rattle.mz_unification.specs.Profile.{strict, expr, proof, obligation}
 use Rattle.mz_unification.specs.Profile.{Item as MachineItem}
 use Rattle.mz_unification.specs.Spells.{dummy_of}

@@ -4,7 +4,7 @@ use Rattle.std.specs.Prelude.{reverse}
 use Rattle.std.proofs.lemmas.List.{reverse-append}
 use Rattle.mz_logic.specs.Conversions.{Conversion, sym_conv, cong_conv, unfold_conv, more_convs}
 use Rattle.mz_logic.specs.declared.binder.Binder.{Binder}
-use Rattle.mz_mmu.specs.Proof.{by_conv}
+use Rattle.mz_forms.specs.Proof.{by_conv}
 use Rattle.mz_unification.specs.Spells.{trees_of}
 use Rattle.mz_soundness.specs.Tables.{Tables}
 use Rattle.mz_tracing.specs.Parts.{Part, then_conv, paid, for_operand, owed}

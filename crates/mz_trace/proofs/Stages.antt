@@ -4,7 +4,7 @@ use Rattle.std.specs.Prelude.{slice_get}
 use Rattle.mz_logic.specs.Tree.{Tree}
 use Rattle.mz_logic.specs.Conversions.{Conversion}
 use Rattle.mz_logic.specs.declared.binder.Binder.{Binder}
-use Rattle.mz_mmu.specs.Proof.{Proof}
+use Rattle.mz_forms.specs.Proof.{Proof}
 use Rattle.mz_unification.specs.Profile.{Item as MachineItem}
 use Rattle.mz_soundness.specs.Tables.{Tables, State}
 use Rattle.mz_tracing.specs.Parts.{Part}

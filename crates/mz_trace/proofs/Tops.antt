@@ -5,7 +5,7 @@ use Rattle.std.proofs.lemmas.List.{reverse-append, map-append, append_assoc, len
 use Rattle.mz_cmd.specs.declared.rule.K.{K}
 use Rattle.mz_cmd.specs.declared.rule.K.TheVariants as k
 use Rattle.mz_logic.specs.Tree.{Tree}
-use Rattle.mz_mmu.specs.Proof.{Proofs, no_proofs, more_proofs}
+use Rattle.mz_forms.specs.Proof.{Proofs, no_proofs, more_proofs}
 use Rattle.mz_unification.specs.Profile.{strict}
 use Rattle.mz_unification.specs.Profile.{Item as MachineItem}
 use Rattle.mz_unification.specs.Tests.{same_tree}

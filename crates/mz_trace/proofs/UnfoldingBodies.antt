@@ -9,7 +9,7 @@ use Rattle.mz_logic.specs.Tree.{Tree, Trees, var, app, listed, instance, followe
 use Rattle.mz_logic.specs.Signature.{Signature}
 use Rattle.mz_logic.specs.Declaration.{signatures}
 use Rattle.mz_logic.specs.declared.binder.Binder.{Binder}
-use Rattle.mz_type.specs.Sides.{term_at, body_tree}
+use Rattle.mz_typing.specs.Sides.{term_at, body_tree}
 use Rattle.mz_unification.specs.Profile.{strict, tree_parts, obligation}
 use Rattle.mz_unification.specs.Profile.{Item as MachineItem}
 use Rattle.mz_unification.specs.Spells.{TermRow, trees_of}

@@ -10,8 +10,8 @@ use Rattle.mz_unification.specs.Spells.{dummy_of}
 use Rattle.mz_soundness.specs.Tables.{Tables, State, Declares}
 use Rattle.mz_soundness.specs.Facts.{IsFront, Fact}
 use Rattle.mz_soundness.specs.ProofMachine.{proof_row}
-use Rattle.mz_machine.specs.Before.{AreWithin, tables_before}
-use Rattle.mz_machine.specs.declared.earlier.Rows.{Rows}
+use Rattle.mz_earlier.specs.Before.{AreWithin, tables_before}
+use Rattle.mz_layout.specs.declared.taken.Rows.{Rows}
 use Rattle.mz_logic.specs.Signature.{Signature}
 use Rattle.mz_layout.specs.Tables.{term_row, thm_row, term_count, thm_count}
 use Rattle.mz_unification.specs.UnifyMachine.{in_citation, in_definition, Matching, UnifyState, unify}

@@ -4,8 +4,8 @@ use Rattle.std.specs.Prelude.{ℕ, ◌≡◌, ⊤, List, [], ◌∷◌, ◌++◌
 use Rattle.mz_logic.specs.Tree.{Tree, var, app, none, instance, followed_by, variables}
 use Rattle.mz_logic.specs.Declaration.{Declaration}
 use Rattle.mz_logic.specs.Conversions.{Conversion, Conversions, refl_conv, sym_conv, cong_conv, unfold_conv, no_convs, more_convs}
-use Rattle.mz_mmu.specs.Proof.{Proof, Proofs, by_hyp, by_name, by_citation, by_conv, no_proofs, more_proofs}
-use Rattle.mz_type.specs.Sides.{assertion_at, term_at, body_tree}
+use Rattle.mz_forms.specs.Proof.{Proof, Proofs, by_hyp, by_name, by_citation, by_conv, no_proofs, more_proofs}
+use Rattle.mz_typing.specs.Sides.{assertion_at, term_at, body_tree}
 use Rattle.mz_unification.specs.Spells.{TermRow, trees_of}
 use Rattle.mz_soundness.specs.Tables.{Tables, Declares}
 use Rattle.mz_trace.specs.declared.node.RunNode.{RunNode}

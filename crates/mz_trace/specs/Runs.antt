@@ -2,16 +2,17 @@
 use Rattle.std.specs.Prelude.{◌≡◌, ⊤, ℕ, List, [], ◌∷◌, map, Ok}
 use Rattle.mz_logic.specs.Declaration.{Declaration}
 use Rattle.mz_logic.specs.declared.binder.Binder.{Binder}
-use Rattle.mz_mmu.specs.Proof.{Proof}
+use Rattle.mz_forms.specs.Proof.{Proof}
 use Rattle.mz_unification.specs.Spells.{dummy_of}
 use Rattle.mz_soundness.specs.Tables.{Tables, State, is_theorem, Heading}
 use Rattle.mz_logic.specs.Tree.{Tree}
 use Rattle.mz_unification.specs.Profile.{strict}
 use Rattle.mz_soundness.specs.ProofMachine.{proof_end}
 use Rattle.mz_soundness.specs.Bodies.{body_from, Runs}
-use Rattle.mz_soundness.specs.FileRows.{body_bytes}
-use Rattle.mz_machine.specs.Before.{MayRun, heading_of, tables_before}
-use Rattle.mz_machine.specs.declared.earlier.Rows.{Rows}
+use Rattle.mz_layout.specs.Heads.{body_bytes}
+use Rattle.mz_earlier.specs.OwnRow.{MayRun, heading_of}
+use Rattle.mz_earlier.specs.Before.{tables_before}
+use Rattle.mz_layout.specs.declared.taken.Rows.{Rows}
 use Rattle.mz_cmd.specs.declared.statement.StmtAt.TheVariants.{Head}
 use Rattle.mz_cmd.specs.StatementList.{statement_at}
 use Rattle.mz_tracing.specs.Traces.{Made, trace_from}

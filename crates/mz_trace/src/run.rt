@@ -3,9 +3,10 @@ ghost use Rattle.std.specs.Prelude.{ℕ, Some, slice_get, ◌≡◌, ◌≤◌, 
 ghost use Rattle.mz_layout.specs.Tables.{thm_count, thm_row};
 ghost use Rattle.mz_logic.specs.Declaration.{Declaration};
 ghost use Rattle.mz_soundness.specs.Tables.{Declares};
-ghost use Rattle.mz_soundness.specs.FileRows.{body_bytes};
-ghost use Rattle.mz_machine.specs.Before.{heading_of, tables_before};
-ghost use Rattle.mz_machine.specs.declared.earlier.Rows.{Rows};
+ghost use Rattle.mz_layout.specs.Heads.{body_bytes};
+ghost use Rattle.mz_earlier.specs.OwnRow.{heading_of};
+ghost use Rattle.mz_earlier.specs.Before.{tables_before};
+ghost use Rattle.mz_layout.specs.declared.taken.Rows.{Rows};
 ghost use Rattle.mz_trace.specs.Commands.{stage_of, begun};
 ghost use Rattle.mz_trace.specs.Runs.{IsTraced, ClaimsIn, IsTheoremAt, RunsOver, IsRunOf, RunsFrom, LeadsToEnd, HasRoot, IsFinished};
 

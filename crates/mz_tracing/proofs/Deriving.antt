@@ -12,7 +12,7 @@ use Rattle.mz_logic.specs.Conversions.{Conversions, unfold_conv, no_convs, more_
 use Rattle.mz_logic.specs.Derivations.{Uses, no_derivs, AllDerive}
 use Rattle.mz_logic.specs.declared.binder.Binder.{Binder}
 use Rattle.mz_logic.proofs.Offered.{extends_itself, sort_extends, fits_extends, apart_extends, fresh_extends}
-use Rattle.mz_mmu.specs.Proof.{Proof, Proofs, no_proofs, more_proofs}
+use Rattle.mz_forms.specs.Proof.{Proof, Proofs, no_proofs, more_proofs}
 use Rattle.mz_type.specs.Meaning.{derivations}
 use Rattle.mz_unification.specs.Streams.{of_definition}
 use Rattle.mz_unification.specs.Spells.{trees_of, Text, TermRow, SpellsForm, SpellsTerm, SpellsThm}

@@ -9,7 +9,7 @@ use Rattle.mz_cmd.specs.declared.code.ProofCode.TheVariants as code
 use Rattle.mz_logic.specs.Tree.{Tree, var, app, none, listed}
 use Rattle.mz_logic.specs.Conversions.{Conversion, Conversions, refl_conv, sym_conv, cong_conv, unfold_conv}
 use Rattle.mz_logic.specs.declared.binder.Binder.{Binder}
-use Rattle.mz_mmu.specs.Proof.{Proof, Proofs, by_hyp, by_name, by_citation, by_conv, no_proofs}
+use Rattle.mz_forms.specs.Proof.{Proof, Proofs, by_hyp, by_name, by_citation, by_conv, no_proofs}
 use Rattle.mz_unification.specs.Spells.{trees_of, dummy_of, TermRow, ThmRow}
 use Rattle.mz_unification.specs.Profile.{strict, tree_parts, Item, expr, proof, obligation, conversion}
 use Rattle.mz_unification.specs.Tests.{same_tree}

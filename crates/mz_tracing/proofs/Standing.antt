@@ -6,7 +6,7 @@ use Rattle.std.proofs.lemmas.List.{reverse-append, append_assoc}
 use Rattle.mz_cmd.specs.declared.rule.K.TheVariants as k
 use Rattle.mz_logic.specs.Tree.{Tree, app, none}
 use Rattle.mz_logic.specs.Conversions.{Conversion, Conversions, refl_conv, cong_conv, no_convs, more_convs}
-use Rattle.mz_mmu.specs.Proof.{Proof, Proofs, no_proofs, more_proofs}
+use Rattle.mz_forms.specs.Proof.{Proof, Proofs, no_proofs, more_proofs}
 use Rattle.mz_unification.specs.Profile.{strict, Item, expr, proof, obligation, conversion}
 use Rattle.mz_unification.specs.Tests.{same_tree}
 use Rattle.mz_unification.proofs.Offered.{from_bind, from_need, taken-is}

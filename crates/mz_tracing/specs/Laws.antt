@@ -4,7 +4,7 @@ use Rattle.mz_logic.specs.Declaration.{Assertion, Declaration, sorts, signatures
 use Rattle.mz_logic.specs.LegalLists.{AreDummies}
 use Rattle.mz_logic.specs.Legality.{IsLegalEnv}
 use Rattle.mz_logic.specs.declared.binder.Binder.{Binder}
-use Rattle.mz_mmu.specs.Proof.{Proof}
+use Rattle.mz_forms.specs.Proof.{Proof}
 use Rattle.mz_type.specs.Meaning.{IsProofOf}
 use Rattle.mz_unification.specs.Profile.{strict}
 use Rattle.mz_unification.specs.Spells.{SpellsThm}

@@ -11,7 +11,7 @@ use Rattle.mz_cmd.specs.Reading.{first_command}
 use Rattle.mz_logic.specs.Tree.{Tree, var, app}
 use Rattle.mz_logic.specs.Conversions.{refl_conv}
 use Rattle.mz_logic.specs.declared.binder.Binder.{Binder}
-use Rattle.mz_mmu.specs.Proof.{Proof, by_hyp, by_name, by_citation, by_let, no_proofs}
+use Rattle.mz_forms.specs.Proof.{Proof, by_hyp, by_name, by_citation, by_let, no_proofs}
 use Rattle.mz_unification.specs.Steps.{◌>>=◌, want, Turn, over, goes_on, follow}
 use Rattle.mz_unification.specs.Spells.{trees_of}
 use Rattle.mz_unification.specs.Profile.{strict, tree_parts}

@@ -1,7 +1,8 @@
 ghost use Rattle.std.specs.Prelude.{◌<◌, ◌^◌, length};
 
+use mz_forms::{Conv, Convs, Proof, Proofs};
 use mz_logic::{Binder, Decl, Expr, Exprs, TermForm};
-use mz_mmu::{Conv, Convs, Proof, Proofs, Text, TextRead, read_text};
+use mz_mmu::{Text, TextRead, read_text};
 use mz_mode::Mode;
 use std::alloc::{AllocError, Global};
 use std::test::Fail;

@@ -13,11 +13,11 @@ use Rattle.mz_logic.specs.Legality.{signature_at, sort_of}
 use Rattle.mz_logic.specs.Conversions.{Conversion, Conversions, refl_conv, sym_conv, cong_conv, unfold_conv, gap_conv, no_convs, more_convs, AreFresh, Between, AllBetween}
 use Rattle.mz_logic.specs.declared.binder.Binder.{Binder}
 use Rattle.mz_logic.proofs.Offered.{sort_is, signature_is, many_of_fits, signature_of_term}
-use Rattle.mz_type.specs.Parts.{part, is_list}
-use Rattle.mz_type.specs.Sides.{left, right, lefts, rights, term_at, is_defined, body_tree}
-use Rattle.mz_type.specs.Rules.{expr_rules, exprs_rules, operand_rules, conv_rules, convs_rules, unfold_rules, side_rules, variable_rules, conv_count, AreNew, refl_node}
-use Rattle.mz_type.specs.Names.{ConvThere, ConvsThere}
-use Rattle.mz_type.proofs.ExprRules.{sort_by_checks, fits_by_checks, checks_by_sort, checks_by_fits, operands_by_fits}
+use Rattle.mz_typing.specs.Parts.{part, is_list}
+use Rattle.mz_typing.specs.Sides.{left, right, lefts, rights, term_at, is_defined, body_tree}
+use Rattle.mz_typing.specs.Rules.{expr_rules, exprs_rules, operand_rules, conv_rules, convs_rules, unfold_rules, side_rules, variable_rules, conv_count, AreNew, refl_node}
+use Rattle.mz_typing.specs.Names.{ConvThere, ConvsThere}
+use Rattle.mz_typing.proofs.Offered.{checks_by_fits, checks_by_sort, fits_by_checks, operands_by_fits, sort_by_checks}
 
 pub sorted_sides : (env : List Declaration) (ctx : List Binder) (c : Conversion) (l r : Tree) → Between env ctx c l r → IsSorted env ctx l × IsSorted env ctx r
 sorted_sides env ctx (refl_conv e) l r h = (h.0, h.1)

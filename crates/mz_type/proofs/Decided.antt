@@ -13,7 +13,7 @@ use Rattle.mz_logic.specs.Conversions.{IsBoundOf}
 use Rattle.mz_logic.specs.declared.binder.Binder.{Binder}
 use Rattle.mz_logic.specs.declared.binder.SortMods.{SortMods}
 use Rattle.mz_logic.proofs.Offered.{one_at, none_some, each_from_all, all_from_each, DepsInside, free_below}
-use Rattle.mz_type.specs.Rules.{AreNew}
+use Rattle.mz_typing.specs.Rules.{AreNew}
 
 abbrev pub Decided : Type 0 → Type 0
 Decided P = P ⊎ (P → ⊥)

@@ -1,4 +1,3 @@
-pub mod ExprRules
 pub mod ConvRules
 pub mod ProofRules
 pub mod GapFree
@@ -10,14 +9,7 @@ pub mod Decided
 pub mod RulesDecided
 pub mod Turned
 pub mod Texts
-pub mod Judging
-pub mod Steps
-pub mod Building
-pub mod Claims
 pub mod Shaping
-pub mod ConvSteps
-pub mod ProofSteps
-pub mod StatementSteps
 pub mod Limits
 mod StatedSteps
 mod TypedSteps

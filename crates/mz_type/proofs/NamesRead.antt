@@ -5,13 +5,13 @@ use Rattle.mz_sexpr.specs.Node.{Node, Nodes, atom, list, no_nodes, node}
 use Rattle.mz_logic.specs.Tree.{Tree, Trees}
 use Rattle.mz_logic.specs.Conversions.{Conversion, Conversions}
 use Rattle.mz_logic.proofs.Offered.{none_some}
-use Rattle.mz_mmu.specs.Name.{Scope, number_of, HasNumber}
-use Rattle.mz_mmu.specs.Expressions.{IsExpr, AreExprs, IsExprList}
-use Rattle.mz_mmu.specs.Proof.{Proof, Proofs}
-use Rattle.mz_mmu.specs.declared.keyword.Keyword.{Keyword}
-use Rattle.mz_mmu.specs.declared.keyword.Keyword.TheVariants.{Conv as conv_word, Let as let_word, Refl as refl_word, Sym as sym_word, Unfold as unfold_word, Sorry as sorry_word, Other as no_word}
-use Rattle.mz_mmu.specs.Proofs.{conv_keyword, proof_keyword, IsConv, IsConvBy, AreConvs, IsFact, IsProof, IsProofBy, AreProofs}
-use Rattle.mz_type.specs.Names.{ExprThere, ExprsThere, ConvThere, ConvsThere, ProofThere, ProofsThere}
+use Rattle.mz_forms.specs.Name.{Scope, number_of, HasNumber}
+use Rattle.mz_forms.specs.Expressions.{IsExpr, AreExprs, IsExprList}
+use Rattle.mz_forms.specs.Proof.{Proof, Proofs}
+use Rattle.mz_forms.specs.declared.keyword.Keyword.{Keyword}
+use Rattle.mz_forms.specs.declared.keyword.Keyword.TheVariants.{Conv as conv_word, Let as let_word, Refl as refl_word, Sym as sym_word, Unfold as unfold_word, Sorry as sorry_word, Other as no_word}
+use Rattle.mz_forms.specs.Proofs.{conv_keyword, proof_keyword, IsConv, IsConvBy, AreConvs, IsFact, IsProof, IsProofBy, AreProofs}
+use Rattle.mz_typing.specs.Names.{ExprThere, ExprsThere, ConvThere, ConvsThere, ProofThere, ProofsThere}
 
 -- ---- numbers are in range
 

@@ -2,6 +2,5 @@
 pub use Rattle.mz_type.proofs.BothModes.{modes_agree}
 pub use Rattle.mz_type.proofs.GapFree.{allowed}
 pub use Rattle.mz_type.proofs.StatementsRead.{statements_there}
-pub use Rattle.mz_type.proofs.Steps.{size_step, trees_cut}
 pub use Rattle.mz_type.proofs.Texts.{stated_is_legal}
 pub use Rattle.mz_type.proofs.Turned.{fewer, taken, turned}

@@ -6,11 +6,12 @@ use Rattle.mz_checks.proofs.Offered.{Decides, decides-whole}
 use Rattle.mz_sexpr.specs.Node.{Nodes}
 use Rattle.mz_sexpr.specs.Number.{first, rest, node_count}
 use Rattle.mz_logic.specs.Declaration.{Declaration}
-use Rattle.mz_mmu.specs.Proof.{Statement}
-use Rattle.mz_mmu.specs.Statements.{no_names, AreStatements}
+use Rattle.mz_forms.specs.Proof.{Statement}
+use Rattle.mz_forms.specs.Statements.{no_names, AreStatements}
+use Rattle.mz_typing.specs.Names.{StatementsThere}
+use Rattle.mz_typing.specs.Rules.{statement_rules}
 use Rattle.mz_type.specs.Meaning.{LegalAsStated}
-use Rattle.mz_type.specs.Names.{StatementsThere}
-use Rattle.mz_type.specs.Rules.{statement_rules, rules_from, text_rules}
+use Rattle.mz_type.specs.TextRules.{rules_from, text_rules}
 use Rattle.mz_type.specs.StatedView.{Stated, with_decl, statements_of, IsTyped}
 use Rattle.mz_type.specs.Weight.{statement_weight, weight_after, weight_of}
 use Rattle.mz_type.specs.declared.typed.Beside.{Beside}

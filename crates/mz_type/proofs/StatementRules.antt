@@ -1,5 +1,5 @@
 -- The rules of a statement hold exactly where it is legal by its proof.
-use Rattle.std.proofs.Common.{ℕ, zero, suc, ◌≡◌, ◌+◌, Bool, true, true≢false, List, [], ◌∷◌, ◌++◌, slice_get, length, All, Contains, Option, Some, None, refl, sym, ◌∙◌, subst, arith, add-zero, add-suc, suc-add}
+use Rattle.std.proofs.Common.{ℕ, zero, suc, ◌≡◌, Bool, true, true≢false, List, [], ◌∷◌, ◌++◌, slice_get, length, All, Contains, Option, Some, None, refl, sym, ◌∙◌, subst}
 use Rattle.mz_checks.specs.Checks.{AllHold}
 use Rattle.mz_checks.proofs.Offered.{all_hold-first, all_hold-rest, all_hold-both}
 use Rattle.mz_sexpr.specs.Node.{Node, Nodes, parts}
@@ -10,49 +10,22 @@ use Rattle.mz_logic.specs.Declaration.{Form, plain_form, abstract_form, defined,
 use Rattle.mz_logic.specs.Modifiers.{MayBeDummySort}
 use Rattle.mz_logic.specs.Sorts.{HasSort, HasProvable, AreProvable}
 use Rattle.mz_logic.specs.Variables.{InFV}
-use Rattle.mz_logic.specs.Legality.{EachTree, IsParam, AreParams, IsDummy, IsLegalDecl}
+use Rattle.mz_logic.specs.Legality.{EachTree, IsDummy, IsLegalDecl}
 use Rattle.mz_logic.specs.LegalLists.{AreDummies}
 use Rattle.mz_logic.specs.Derivations.{Derives, no_derivs}
 use Rattle.mz_logic.specs.declared.binder.Binder.{Binder}
 use Rattle.mz_logic.proofs.Offered.{one_at, none_some, sort_is, each_from_all, all_from_each, legal_by_rules, terms_are_sorted, assertions_are_sorted}
-use Rattle.mz_mmu.specs.Gaps.{SomeLeavesOnly, HasGapsOnly}
-use Rattle.mz_mmu.specs.Proof.{Proof, Statement}
-use Rattle.mz_type.specs.Parts.{part, declared_parts}
-use Rattle.mz_type.specs.Rules.{expr_rules, param_rules, dummy_rules, claim_rules, claims_rules, hyp_node, body_rules, assertion_rules, theorem_rules, decl_rules, proof_rules, statement_rules}
+use Rattle.mz_forms.specs.Gaps.{SomeLeavesOnly, HasGapsOnly}
+use Rattle.mz_forms.specs.Proof.{Proof, Statement}
+use Rattle.mz_typing.specs.Parts.{part, declared_parts}
+use Rattle.mz_typing.specs.Rules.{expr_rules, param_rules, dummy_rules, claim_rules, claims_rules, hyp_node, body_rules, assertion_rules, theorem_rules, decl_rules, proof_rules, statement_rules}
+use Rattle.mz_typing.specs.Names.{ExprsThere, DummiesThere, StatedProofThere, DeclThere, StatementThere}
+use Rattle.mz_typing.proofs.Offered.{are_params, checks_by_sort, claim_from, claim_to, param_rules_hold, sort_by_checks}
 use Rattle.mz_type.specs.Meaning.{derivation, IsProofOf, IsProvedAsStated, IsLegalAsStated}
-use Rattle.mz_type.specs.Names.{ExprsThere, DummiesThere, StatedProofThere, DeclThere, StatementThere}
-use Rattle.mz_type.proofs.ExprRules.{sort_by_checks, checks_by_sort, claim_from, claim_to}
 use Rattle.mz_type.proofs.GapFree.{allowed}
 use Rattle.mz_type.proofs.ProofRules.{derives_by_checks, checks_by_derives}
 
--- ---- binders
-
-module _ (env : List Declaration) (params : List Binder) where
-  params_from : (i : ℕ) (bs : List Binder) (ns : Nodes) → AllHold (param_rules env params i bs ns)
-      → (k : ℕ) (b : Binder) → slice_get bs k ≡ Some b → IsParam (sorts env) params (i + k) b
-  params_from i [] ns all k b at = absurd (none_some at)
-  params_from i (c ∷ bs) ns (here, all) zero b at = subst (λ j. IsParam (sorts env) params j b) (sym (add-zero i)) (subst (IsParam (sorts env) params i) (one_at refl at) here)
-  params_from i (c ∷ bs) ns (here, all) (suc k) b at = subst (λ j. IsParam (sorts env) params j b) (suc-add i k ∙ sym (add-suc i k)) (params_from (suc i) bs (rest ns) all k b at)
-
-  params_to : (i : ℕ) (bs : List Binder) (ns : Nodes) → ((k : ℕ) (b : Binder) → slice_get bs k ≡ Some b → IsParam (sorts env) params (i + k) b)
-      → AllHold (param_rules env params i bs ns)
-  params_to i [] ns h = tt
-  params_to i (c ∷ bs) ns h = (
-    subst (λ j. IsParam (sorts env) params j c) (add-zero i) (h zero c refl),
-    params_to (suc i) bs (rest ns) (λ k b at. subst (λ j. IsParam (sorts env) params j b) (add-suc i k ∙ sym (suc-add i k)) (h (suc k) b at)),
-  )
-
-  pub are_params : (ns : Nodes) → AllHold (param_rules env params 0 params ns) → AreParams (sorts env) params
-  are_params ns all k b at = subst (λ j. IsParam (sorts env) params j b) (zero_add k) (params_from 0 params ns all k b at)
-    where
-      zero_add : (k : ℕ) → 0 + k ≡ k
-      zero_add k = omega arith
-
-  param_rules_hold : (ns : Nodes) → AreParams (sorts env) params → AllHold (param_rules env params 0 params ns)
-  param_rules_hold ns h = params_to 0 params ns (λ k b at. subst (λ j. IsParam (sorts env) params j b) (zero_add k) (h k b at))
-    where
-      zero_add : (k : ℕ) → k ≡ 0 + k
-      zero_add k = omega arith
+-- ---- dummies
 
 module _ (env : List Declaration) where
   dummies_from : (bs : List Binder) (ns : Nodes) → AllHold (dummy_rules env bs ns) → (i : ℕ) (b : Binder) → slice_get bs i ≡ Some b → MayBeDummySort (sorts env) b.sort

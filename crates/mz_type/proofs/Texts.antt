@@ -9,14 +9,15 @@ use Rattle.mz_logic.specs.Declaration.{Declaration, sort_decl, term_decl, assert
 use Rattle.mz_logic.specs.Derivations.{no_derivs}
 use Rattle.mz_logic.specs.LegalLists.{LegalAfter, IsProvedIfTheorem, allowed_with}
 use Rattle.mz_logic.specs.declared.binder.Binder.{Binder}
-use Rattle.mz_mmu.specs.Gaps.{HasGapsOnly}
-use Rattle.mz_mmu.specs.Order.{in_statement}
-use Rattle.mz_mmu.specs.Proof.{Proof, Statement}
-use Rattle.mz_mmu.specs.Statements.{no_names}
+use Rattle.mz_forms.specs.Gaps.{HasGapsOnly}
+use Rattle.mz_forms.specs.Order.{in_statement}
+use Rattle.mz_forms.specs.Proof.{Proof, Statement}
+use Rattle.mz_forms.specs.Statements.{no_names}
 use Rattle.mz_mmu.proofs.Offered.{only_drafts}
-use Rattle.mz_type.specs.Rules.{statement_rules, rules_from, text_rules}
+use Rattle.mz_typing.specs.Rules.{statement_rules}
+use Rattle.mz_typing.specs.Names.{StatementsThere}
+use Rattle.mz_type.specs.TextRules.{rules_from, text_rules}
 use Rattle.mz_type.specs.Meaning.{derivation, IsProvedAsStated, LegalAsStatedAfter, marked}
-use Rattle.mz_type.specs.Names.{StatementsThere}
 use Rattle.mz_type.specs.Laws.{RulesAreTheMeaning, StatedIsLegal, EachTypedOrRefused}
 use Rattle.mz_type.proofs.StatementRules.{legal_statement, rules_of_legal}
 use Rattle.mz_type.proofs.StatementsRead.{statements_there}

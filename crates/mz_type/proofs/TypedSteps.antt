@@ -7,21 +7,22 @@ use Rattle.mz_sexpr.specs.Node.{Node, Nodes, atom, list, no_nodes, node, parts}
 use Rattle.mz_sexpr.specs.Number.{first, rest}
 use Rattle.mz_sexpr.specs.declared.rule.TextRefusal.{TextRefusal}
 use Rattle.mz_logic.specs.Declaration.{Declaration}
-use Rattle.mz_mmu.specs.Name.{Names}
-use Rattle.mz_mmu.specs.Order.{in_statement}
-use Rattle.mz_mmu.specs.Proof.{Statement}
-use Rattle.mz_mmu.specs.Statements.{is_local_word, names_with, IsMarked, IsStatement, AreStatements}
-use Rattle.mz_mmu.specs.Stops.{Stops}
-use Rattle.mz_mmu.specs.declared.fault.Stop.{Stop}
-use Rattle.mz_mmu.specs.declared.fault.Stop.TheVariants as stop
+use Rattle.mz_forms.specs.Name.{Names}
+use Rattle.mz_forms.specs.Order.{in_statement}
+use Rattle.mz_forms.specs.Proof.{Statement}
+use Rattle.mz_forms.specs.Statements.{is_local_word, names_with, IsMarked, IsStatement, AreStatements}
+use Rattle.mz_forms.specs.Stops.{Stops}
+use Rattle.mz_forms.specs.declared.fault.Stop.{Stop}
+use Rattle.mz_forms.specs.declared.fault.Stop.TheVariants as stop
 use Rattle.mz_mmu.proofs.Offered.{retold_fails}
-use Rattle.mz_type.specs.Names.{StatementThere, StatementsThere}
-use Rattle.mz_type.specs.Rules.{statement_rules, rules_from}
+use Rattle.mz_typing.specs.Names.{StatementThere, StatementsThere}
+use Rattle.mz_typing.specs.Rules.{statement_rules}
+use Rattle.mz_typing.proofs.Offered.{left_fails, left_step}
+use Rattle.mz_type.specs.TextRules.{rules_from}
 use Rattle.mz_type.specs.Typing.{TextStops, IsStopped}
 use Rattle.mz_type.specs.Weight.{statement_weight, weight_after}
 use Rattle.mz_type.specs.declared.typed.TextStop.{TextStop}
 use Rattle.mz_type.specs.declared.typed.TextStop.TheVariants as text_stop
-use Rattle.mz_type.proofs.Judging.{left_fails, left_step}
 use Rattle.mz_type.proofs.Texts.{all_hold-retold}
 
 -- ---- marks

@@ -5,15 +5,15 @@ use Rattle.mz_logic.specs.Declaration.{Form, plain_form, abstract_form, defined,
 use Rattle.mz_logic.specs.Tree.{Tree, Trees, var, app, none, more, operand, followed_by, variables, size, trees_size, instance, instances}
 use Rattle.mz_logic.specs.View.{tree, trees}
 use Rattle.mz_logic.specs.declared.expr.Expr.{Expr}
-use Rattle.mz_mmu.specs.ConvView.{conversion, conversions}
-use Rattle.mz_mmu.specs.Proof.{more_proofs}
-use Rattle.mz_mmu.specs.ProofCode.{proof_steps, proofs_steps}
-use Rattle.mz_mmu.specs.ProofView.{proof_view, proofs_view}
-use Rattle.mz_mmu.specs.declared.conv.Conv.{Conv}
-use Rattle.mz_mmu.specs.declared.proof.Proof.{Proof}
-use Rattle.mz_type.specs.Sides.{body_tree}
+use Rattle.mz_forms.specs.ConvView.{conversion, conversions}
+use Rattle.mz_forms.specs.Proof.{more_proofs}
+use Rattle.mz_forms.specs.ProofCode.{proof_steps, proofs_steps}
+use Rattle.mz_forms.specs.ProofView.{proof_view, proofs_view}
+use Rattle.mz_forms.specs.declared.conv.Conv.{Conv}
+use Rattle.mz_forms.specs.declared.proof.Proof.{Proof}
+use Rattle.mz_typing.specs.Sides.{body_tree}
+use Rattle.mz_typing.proofs.Offered.{convs_cut, trees_cut}
 use Rattle.mz_type.specs.Weight.{conv_weight, convs_weight, proof_weight, proofs_weight}
-use Rattle.mz_type.proofs.Steps.{trees_cut, convs_cut}
 
 module _ (xs : List Expr) (i : ℕ) (e : Expr) (below : i < length xs) (is : e ≡ get_or xs i e) where
   pub size_cut : trees_size (trees (drop i xs)) ≡ size (tree e) + trees_size (trees (drop (i + 1) xs))

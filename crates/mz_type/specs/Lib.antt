@@ -1,12 +1,7 @@
-pub mod Parts
-pub mod Sides
-pub mod Rules
+pub mod TextRules
 pub mod Meaning
-pub mod Names
 pub mod TextOf
 pub mod Laws
-pub mod Claims
-pub mod Answers
 pub mod Weight
 pub mod StatedView
 pub mod TypedText

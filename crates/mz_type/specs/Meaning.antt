@@ -7,7 +7,7 @@ use Rattle.mz_logic.specs.Legality.{IsLegalDecl}
 use Rattle.mz_logic.specs.Derivations.{Derivation, Derivations, hypothesis, cite, convert, gap, no_derivs, more_derivs, Derives}
 use Rattle.mz_logic.specs.LegalLists.{Statement as Marked, MayBeLocal, AreDummies, allowed_with}
 use Rattle.mz_logic.specs.declared.binder.Binder.{Binder}
-use Rattle.mz_mmu.specs.Proof.{Proof, Proofs, by_hyp, by_name, by_citation, by_conv, by_let, by_gap, no_proofs, more_proofs, Statement}
+use Rattle.mz_forms.specs.Proof.{Proof, Proofs, by_hyp, by_name, by_citation, by_conv, by_let, by_gap, no_proofs, more_proofs, Statement}
 
 -- the i-th derivation; past the end, where no rule looks, a hypothesis
 abbrev pub derivation_at : Derivations → ℕ → Derivation

@@ -2,12 +2,12 @@
 use Rattle.std.specs.Prelude.{ℕ, ◌≡◌, ⊤, List}
 use Rattle.mz_checks.specs.Checks.{Checks, FailsFirst}
 use Rattle.mz_sexpr.specs.declared.rule.TextRefusal.{TextRefusal}
-use Rattle.mz_mmu.specs.Order.{in_statement}
+use Rattle.mz_forms.specs.Order.{in_statement}
+use Rattle.mz_forms.specs.declared.fault.Stop.{Stop}
+use Rattle.mz_forms.specs.declared.fault.Stop.TheVariants as stop
 use Rattle.mz_mmu.specs.TextView.{Forms}
-use Rattle.mz_mmu.specs.declared.fault.Stop.{Stop}
-use Rattle.mz_mmu.specs.declared.fault.Stop.TheVariants as stop
 use Rattle.mz_type.specs.Meaning.{LegalAsStated}
-use Rattle.mz_type.specs.Rules.{text_rules}
+use Rattle.mz_type.specs.TextRules.{text_rules}
 use Rattle.mz_type.specs.TextOf.{TextOf, TextFault}
 use Rattle.mz_type.specs.declared.typed.TextStop.{TextStop}
 use Rattle.mz_type.specs.declared.typed.TextStop.TheVariants as text_stop

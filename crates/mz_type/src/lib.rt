@@ -1,17 +1,10 @@
-//! The type rules of the proof text: a text is well typed where its statements are legal by the
-//! proofs that it states; the weight of a text, and the limits of a compiled file.
+//! Well-typed proof texts: the type rules of all statements, which hold exactly where these are legal
+//! by the proofs that the text states; the weight of a text, and the limits of a compiled file.
 #![tactic(auto)]
 
-mod binders;
-mod claim;
-mod convs;
-mod cursor;
-mod exprs;
 mod laws;
-mod proofs;
 mod shapes;
 mod sizes;
-mod statements;
 mod taking;
 mod typed;
 mod weigh;

@@ -2,27 +2,27 @@ ghost use Rattle.std.specs.Prelude.{◌≡◌, ◌<◌, ◌^◌, ◌∷◌, [], 
 ghost use Rattle.mz_sexpr.specs.Node.{parts};
 ghost use Rattle.mz_sexpr.specs.Number.{first};
 ghost use Rattle.mz_mode.specs.Gaps.{gaps_of};
+ghost use Rattle.mz_forms.specs.StatementView.{option_proof};
+ghost use Rattle.mz_forms.specs.Statements.{is_local_word, Reads};
 ghost use Rattle.mz_mmu.specs.EntryView.{entry as statement, IsRooted};
-ghost use Rattle.mz_mmu.specs.StatementView.{option_proof};
-ghost use Rattle.mz_mmu.specs.Statements.{is_local_word, Reads};
-ghost use Rattle.mz_type.specs.Answers.{Judged, stated};
+ghost use Rattle.mz_typing.specs.Answers.{Judged, stated};
+ghost use Rattle.mz_typing.specs.Names.{StatementThere};
+ghost use Rattle.mz_typing.specs.Rules.{statement_rules};
 ghost use Rattle.mz_type.specs.Meaning.{LegalAsStated};
-ghost use Rattle.mz_type.specs.Names.{StatementThere};
-ghost use Rattle.mz_type.specs.Parts;
-ghost use Rattle.mz_type.specs.Rules.{statement_rules, text_rules};
+ghost use Rattle.mz_type.specs.TextRules.{text_rules};
 ghost use Rattle.mz_type.specs.StatedView.{statements_of};
 ghost use Rattle.mz_type.specs.Typing.{IsTyping, IsTypingOf, TextStops, IsStopped, IsRefusal};
 ghost use Rattle.mz_type.specs.Weight.{declaration_weight};
 
-use crate::cursor::Cursor;
 use crate::shapes::Shaped;
-use crate::statements::check_decl;
 use crate::taking::take_last;
 use crate::weigh::statement_weight;
+use mz_forms::{Fault, Proof, ProofBox, Stop};
 use mz_logic::{Binders, Decl, Env};
-use mz_mmu::{Entry, Fault, Proof, ProofBox, Stop, Text};
+use mz_mmu::{Entry, Text};
 use mz_mode::Mode;
 use mz_sexpr::{Sexprs, TextRefusal};
+use mz_typing::{Cursor, check_statement, proof_in};
 use std::alloc::Global;
 use std::marker::Model;
 
@@ -103,37 +103,8 @@ fn in_statement(statement: u32, stop: Stop) -> TextStop
     }
 }
 
-/// A statement's parts from the word of its kind on.
-fn declared_parts<'n, 'a>(nodes: &Cursor<'n, 'a>, is_local: bool) -> Cursor<'n, 'a>
-    requires { is_local_word (first (parts (first nodes.now))) ≡ is_local }
-    ensures { result ≡ Parts.declared_parts (first nodes.now) }
-{
-    if is_local {
-        nodes.parts().rest()
-    } else {
-        nodes.parts()
-    }
-}
-
-/// The rules of a statement, whose node is the first, over those before it.
-fn check_statement(alloc: Global, env: &Env, entry: &Entry, nodes: &Cursor) -> Result<(), Stop>
-    requires there { StatementThere env.now (statement entry.now) }
-    requires marked { is_local_word (first (parts (first nodes.now))) ≡ entry.now.is_local }
-    ensures { Judged result (statement_rules env.now (statement entry.now) (first nodes.now)) }
-{
-    let parts = declared_parts(nodes, entry.is_local);
-    check_decl(
-        alloc,
-        env,
-        &entry.declared.decl,
-        entry.declared.dummies.as_slice(),
-        proof_in(&entry.declared.proof),
-        &parts,
-    )
-}
-
-/// The same; what the statement declares is added to what stands before the next, and what it says
-/// beside that to what others say.
+/// The rules of a statement, whose node is the first, over those before it; what it declares is added
+/// to what stands before the next, and what it says beside that to what others say.
 fn declare_statement<'a>(
     alloc: Global,
     env: &mut Shaped,
@@ -151,7 +122,7 @@ fn declare_statement<'a>(
     ensures many { OnOk result (length env.new ≡ length beside.new.items) }
     ensures told { OnOk result (statements_of env.new beside.new.items ≡ statements_of env.old beside.old.items ++ statement entry.entry ∷ []) }
 {
-    check_statement(alloc, env.env(), &entry, nodes)?;
+    check_statement(alloc, env.env(), entry.is_local, &entry.declared, nodes)?;
     let declared = entry.declared;
     env.push(alloc, declared.decl)?;
     beside.push(Beside {
@@ -230,7 +201,7 @@ pub fn check_text<'a>(alloc: Global, text: Text<'a>) -> TypedRead<'a>
 impl<'a> Typed<'a> {
     ghost use Rattle.std.specs.Prelude.{◌≡◌, ◌<◌, length, option_map, slice_get, Some};
     ghost use Rattle.mz_logic.specs.DeclView.{declaration};
-    ghost use Rattle.mz_mmu.specs.ProofView.{proof_view};
+    ghost use Rattle.mz_forms.specs.ProofView.{proof_view};
     ghost use Rattle.mz_type.specs.Meaning.{LegalAsStated};
     ghost use Rattle.mz_type.specs.StatedView.{AreRead};
 
@@ -292,15 +263,5 @@ impl<'a> Typed<'a> {
         ensures many { length result.0 ≡ length result.1.items }
     {
         (self.env, self.beside)
-    }
-}
-
-/// The proof in the box, if there is one.
-pub(crate) fn proof_in(proof: &Option<ProofBox>) -> Option<&Proof>
-    ensures { stated result ≡ option_proof proof.now }
-{
-    match proof {
-        None => None,
-        Some(proof) => Some(proof.get()),
     }
 }

@@ -3,19 +3,21 @@ ghost use Rattle.std.specs.Prelude.{◌≡◌, ◌<◌, ◌^◌, ◌+◌};
 ghost use Rattle.mz_logic.specs.DeclView.{declaration, term_of, assertion_of};
 ghost use Rattle.mz_logic.specs.Tree.{var, size, trees_size, instance, instances, followed_by, variables};
 ghost use Rattle.mz_logic.specs.View.{tree};
-ghost use Rattle.mz_mmu.specs.ConvView.{conversion};
+ghost use Rattle.mz_forms.specs.ConvView.{conversion};
+ghost use Rattle.mz_forms.specs.ProofView.{proof_view};
 ghost use Rattle.mz_mmu.specs.EntryView.{entry as statement};
-ghost use Rattle.mz_mmu.specs.ProofView.{proof_view};
-ghost use Rattle.mz_type.specs.Answers.{stated};
-ghost use Rattle.mz_type.specs.Sides;
+ghost use Rattle.mz_typing.specs.Answers.{stated};
+ghost use Rattle.mz_typing.specs.Sides;
 ghost use Rattle.mz_type.specs.Weight;
 ghost use Rattle.mz_type.specs.Weight.{weight_of};
 
 use crate::shapes::Shaped;
 use crate::sizes::{size_of, sizes_of};
-use crate::typed::{Typed, proof_in};
+use crate::typed::Typed;
+use mz_forms::{Conv, Convs, Proof, Proofs};
 use mz_logic::{Decl, TermDecl, ThmDecl};
-use mz_mmu::{Conv, Convs, Entry, Proof, Proofs};
+use mz_mmu::Entry;
+use mz_typing::proof_in;
 
 /// The weight of a conversion.
 #[cycle(conv_weight)]

@@ -9,7 +9,7 @@ use Rattle.mz_math.specs.Formula.{most}
 use Rattle.mz_printing.specs.Prefix.{IsShort}
 use Rattle.mz_printing.specs.Lines.{Line, lines_text}
 use Rattle.mz_readback.specs.Declared.{Named, Vocabulary, formula_of, AreShort, lines_of}
-use Rattle.mz_mmu.specs.Proof.{Statement}
+use Rattle.mz_forms.specs.Proof.{Statement}
 use Rattle.mz_type.specs.Meaning.{marked}
 use Rattle.mz_type.specs.TextOf.{TextOf}
 

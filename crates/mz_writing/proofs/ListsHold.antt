@@ -17,17 +17,18 @@ use Rattle.mz_logic.specs.declared.word.Word.{Word}
 use Rattle.mz_layout.specs.Normal.{Written, Parts, file_of}
 use Rattle.mz_layout.specs.Standing.{Fit, Stands, AreListed, body_place, next_place}
 use Rattle.mz_layout.proofs.Offered.{counts-said, stands-bytes}
-use Rattle.mz_soundness.specs.FileRows.{taken_by, rows_taken, body_bytes}
+use Rattle.mz_layout.specs.Heads.{AllTaken, body_bytes}
+use Rattle.mz_soundness.specs.FileRows.{taken_by, rows_taken}
 use Rattle.mz_soundness.specs.Tables.{Declares}
 use Rattle.mz_soundness.proofs.Offered.{pairs-long}
 use Rattle.mz_binary.specs.Chains.{IsGoodStatement, GoodTo, EndsAt}
-use Rattle.mz_binary.specs.Checking.{AllTaken, term_checks, thm_checks, kind_checks, checks_of}
+use Rattle.mz_binary.specs.Checking.{counts, kind_checks, checks_of}
 use Rattle.mz_binary.specs.Spelling.{IsKindOf, is_local_code}
 use Rattle.mz_binary.proofs.Offered.{well-chain}
 use Rattle.mz_steps.specs.Sameness.{IsSameTerm, IsSameEnv}
 use Rattle.mz_steps.proofs.Offered.{same-with-sort, same-with-term, same-with-assertion}
 use Rattle.mz_writing.specs.Writing.{SaySignature, IsWrittenForm, IsWrittenDeclaration, IsWrittenStatement, HaveNoMore, AreWritten}
-use Rattle.mz_writing.proofs.RowsHold.{IsGoodRow, sort-good, plain-good, definition-good, assertion-good}
+use Rattle.mz_writing.proofs.RowsHold.{IsGoodRow, term_code, assertion_code, sort-good, plain-good, definition-good, assertion-good}
 use Rattle.mz_binary.specs.Standards.{by_table}
 use Rattle.mz_binary.specs.declared.standard.Standard.{Standard}
 
@@ -44,7 +45,7 @@ module _ (gaps : Bool) (p : Parts) (fit : Fit p) (env env' : List Declaration) (
     term-good : (is_local : Bool) (signature : Signature) (form form' : Form) (ws : List Word) (result : Word) → IsLegalDecl env (term_decl (record { signature = signature; form = form }))
         → IsSameTerm (record { signature = signature; form = form }) (record { signature = signature; form = form' })
         → SaySignature (sorts env) ws result signature → IsWrittenForm gaps p env is_local signature ws result form form' bytes
-        → IsGoodRow file env' (term_decl (record { signature = signature; form = form' })) (term_checks (by_table gaps) file (taken_by env') at body next is_local)
+        → IsGoodRow file env' (term_decl (record { signature = signature; form = form' })) (kind_checks (by_table gaps) file (taken_by env') at body next (Some (term_code is_local)))
     term-good is_local signature plain_form plain_form ws result legal same-term say (row, mark, empty) =
         plain-good gaps p fit env env' same declares at body next bytes bytes-are is_local signature ws result say row mark empty
     term-good is_local signature plain_form abstract_form ws result legal same-term say w = absurd w
@@ -60,19 +61,19 @@ module _ (gaps : Bool) (p : Parts) (fit : Fit p) (env env' : List Declaration) (
     GoodBy code d = IsGoodRow file env' d (kind_checks (by_table gaps) file (taken_by env') at body next (statement_code code))
 
     term-by : (code : ℕ) (is_local : Bool) (d : Term) → (code ≡ 0x05) ⊎ (code ≡ 0x0D) → is_local ≡ is_local_code code
-        → IsGoodRow file env' (term_decl d) (term_checks (by_table gaps) file (taken_by env') at body next is_local) → GoodBy code (term_decl d)
+        → IsGoodRow file env' (term_decl d) (kind_checks (by_table gaps) file (taken_by env') at body next (Some (term_code is_local))) → GoodBy code (term_decl d)
     unfolding GoodBy
     term-by code is_local d (inl e) mark good =
         let l : is_local ≡ false = mark ∙ ap is_local_code e in
         subst (λ (c : ℕ). IsGoodRow file env' (term_decl d) (kind_checks (by_table gaps) file (taken_by env') at body next (statement_code c))) (sym e)
-        (subst (λ (z : Bool). IsGoodRow file env' (term_decl d) (term_checks (by_table gaps) file (taken_by env') at body next z)) l good)
+        (subst (λ (z : Bool). IsGoodRow file env' (term_decl d) (kind_checks (by_table gaps) file (taken_by env') at body next (Some (term_code z)))) l good)
     term-by code is_local d (inr e) mark good =
         let l : is_local ≡ true = mark ∙ ap is_local_code e in
         subst (λ (c : ℕ). IsGoodRow file env' (term_decl d) (kind_checks (by_table gaps) file (taken_by env') at body next (statement_code c))) (sym e)
-        (subst (λ (z : Bool). IsGoodRow file env' (term_decl d) (term_checks (by_table gaps) file (taken_by env') at body next z)) l good)
+        (subst (λ (z : Bool). IsGoodRow file env' (term_decl d) (kind_checks (by_table gaps) file (taken_by env') at body next (Some (term_code z)))) l good)
 
     assertion-by : (code : ℕ) (a : Assertion) (without_proof : Bool) → MatchBool without_proof (code ≡ 0x02) ((code ≡ 0x06) ⊎ (code ≡ 0x0E))
-        → IsGoodRow file env' (assertion_decl a) (thm_checks (by_table gaps) file (taken_by env') at body next without_proof) → GoodBy code (assertion_decl a)
+        → IsGoodRow file env' (assertion_decl a) (kind_checks (by_table gaps) file (taken_by env') at body next (Some (assertion_code without_proof))) → GoodBy code (assertion_decl a)
     unfolding GoodBy
     assertion-by code a true e good = subst (λ (c : ℕ). IsGoodRow file env' (assertion_decl a) (kind_checks (by_table gaps) file (taken_by env') at body next (statement_code c))) (sym e) good
     assertion-by code a false (inl e) good = subst (λ (c : ℕ). IsGoodRow file env' (assertion_decl a) (kind_checks (by_table gaps) file (taken_by env') at body next (statement_code c))) (sym e) good
@@ -89,14 +90,14 @@ module _ (gaps : Bool) (p : Parts) (fit : Fit p) (env env' : List Declaration) (
     good-by code is_local (term_decl d) (sort_decl m') legal kind mark w = absurd w
     good-by code is_local (term_decl d) (term_decl d') legal kind mark (same-term, (ws, result, say, form)) =
         term-by code is_local d' kind mark
-        (subst (λ (z : Signature). IsGoodRow file env' (term_decl (record { signature = z; form = d'.form })) (term_checks (by_table gaps) file (taken_by env') at body next is_local)) same-term.0
+        (subst (λ (z : Signature). IsGoodRow file env' (term_decl (record { signature = z; form = d'.form })) (kind_checks (by_table gaps) file (taken_by env') at body next (Some (term_code is_local)))) same-term.0
         (term-good is_local d.signature d.form d'.form ws result legal (refl, same-term.1) say form))
     good-by code is_local (term_decl d) (assertion_decl a') legal kind mark w = absurd w
     good-by code is_local (assertion_decl a) (sort_decl m') legal kind mark w = absurd w
     good-by code is_local (assertion_decl a) (term_decl d') legal kind mark w = absurd w
     good-by code is_local (assertion_decl a) (assertion_decl a') legal kind mark (is, w) =
         assertion-by code a' a'.is_axiom kind
-        (subst (λ (z : Assertion). IsGoodRow file env' (assertion_decl z) (thm_checks (by_table gaps) file (taken_by env') at body next z.is_axiom)) is
+        (subst (λ (z : Assertion). IsGoodRow file env' (assertion_decl z) (kind_checks (by_table gaps) file (taken_by env') at body next (Some (assertion_code z.is_axiom)))) is
         (assertion-good gaps p fit env env' same declares at body next bytes bytes-are a legal w))
 
   -- ---- a statement at its place
@@ -127,11 +128,11 @@ module _ (gaps : Bool) (p : Parts) (fit : Fit p) (env env' : List Declaration) (
 
   ends-here : (at : ℕ) → HaveNoMore p env → statement_at file at ≡ Ok End → EndsAt (by_table gaps) file env' at
   ends-here at none-left stands =
-      let counts = counts-said p fit.short in
-      let all : AllTaken file (taken_by env') = record {
-        sorts_taken = ap length (sym same.sorts_are) ∙ none-left.no_sorts ∙ sym counts.sorts;
-        terms_taken = sym (pairs-long IsSameTerm (terms env) (terms env') same.terms_are) ∙ none-left.no_terms ∙ sym counts.terms;
-        thms_taken = ap length (sym same.assertions_are) ∙ none-left.no_thms ∙ sym counts.thms;
+      let said = counts-said p fit.short in
+      let all : AllTaken file (counts (taken_by env')) = record {
+        sorts_taken = ap length (sym same.sorts_are) ∙ none-left.no_sorts ∙ sym said.sorts;
+        terms_taken = sym (pairs-long IsSameTerm (terms env) (terms env') same.terms_are) ∙ none-left.no_terms ∙ sym said.terms;
+        thms_taken = ap length (sym same.assertions_are) ∙ none-left.no_thms ∙ sym said.thms;
       } in
       record { ends = stands; passes = subst (λ (r : Result StmtAt StmtFault). AllHold (checks_of (by_table gaps) file (taken_by env') at r)) (sym stands) (all, tt) }
 

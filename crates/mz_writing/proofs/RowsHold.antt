@@ -4,6 +4,8 @@ use Rattle.std.specs.Prelude.{◌+◌, ◌*◌}
 use Rattle.std.proofs.lemmas.Option.{slice_get_within}
 use Rattle.mz_checks.specs.Checks.{Checks, AllHold}
 use Rattle.mz_checks.proofs.Offered.{all_hold-both}
+use Rattle.mz_cmd.specs.declared.code.StatementCode.{StatementCode}
+use Rattle.mz_cmd.specs.declared.code.StatementCode.TheVariants as codes
 use Rattle.mz_cmd.specs.declared.rule.K.{K}
 use Rattle.mz_logic.specs.Tree.{Tree, none}
 use Rattle.mz_logic.specs.Signature.{Signature}
@@ -22,12 +24,13 @@ use Rattle.mz_unification.specs.Profile.{plain}
 use Rattle.mz_unification.specs.Spells.{Text, TermRow, ThmRow, SpellsTerm, SpellsThm}
 use Rattle.mz_unification.specs.Streams.{of_assertion, of_definition}
 use Rattle.mz_soundness.specs.Bodies.{Runs, body_checks}
-use Rattle.mz_soundness.specs.FileRows.{taken_by, stream_of, term_of_file, thm_of_file, rows_taken, body_bytes}
+use Rattle.mz_soundness.specs.FileRows.{taken_by, stream_of, term_of_file, thm_of_file, rows_taken, Taken}
+use Rattle.mz_layout.specs.Heads.{body_bytes}
 use Rattle.mz_soundness.specs.Lists.{assertion_of, definition_of}
 use Rattle.mz_soundness.specs.RowWords.{IsResultWord, param_checks, word_checks}
 use Rattle.mz_soundness.specs.Tables.{Tables, Heading, is_definition, Declares}
 use Rattle.mz_soundness.proofs.Offered.{pairs-long, bodies-checked}
-use Rattle.mz_binary.specs.Checking.{MayStand, term_body_checks, sort_checks, term_checks, thm_checks}
+use Rattle.mz_binary.specs.Checking.{term_body_checks, term_checks, thm_checks, kind_checks}
 use Rattle.mz_binary.specs.Spelling.{SpellsRow}
 use Rattle.mz_steps.specs.Sameness.{IsSameTerm, IsSameForm, IsSameEnv}
 use Rattle.mz_steps.proofs.Offered.{same-signatures}
@@ -39,9 +42,25 @@ use Rattle.mz_writing.proofs.WordsHold.{params-hold, words-hold}
 use Rattle.mz_binary.proofs.Offered.{runs-with}
 use Rattle.mz_binary.specs.Standards.{profile_of, by_table}
 
-may-stand : (l b : Bool) → b ≡ true → MayStand l b
-may-stand true b is = is
-may-stand false b is = tt
+-- the code of a term's statement, and of an assertion's
+abbrev pub term_code : (is_local : Bool) → StatementCode
+term_code true = codes.LocalDefinition
+term_code false = codes.Term
+
+abbrev pub assertion_code : (without_proof : Bool) → StatementCode
+assertion_code true = codes.Axiom
+assertion_code false = codes.Theorem
+
+-- with their rows
+module _ (gaps : Bool) (file : List ℕ) (taken : Taken) (at body next : ℕ) where
+  definition-holds : (l : Bool) → taken.terms < term_count file → (term_row file taken.terms).words.has_body ≡ true → AllHold (term_checks (by_table gaps) file taken at body next)
+      → AllHold (kind_checks (by_table gaps) file taken at body next (Some (term_code l)))
+  definition-holds true below is all = (below, (is, all))
+  definition-holds false below is all = (below, (tt, all))
+
+  assertion-holds : (w : Bool) → taken.thms < thm_count file → AllHold (thm_checks (by_table gaps) file taken body next w) → AllHold (kind_checks (by_table gaps) file taken at body next (Some (assertion_code w)))
+  assertion-holds true below all = (below, all)
+  assertion-holds false below all = (below, all)
 
 holds-of : (gaps : Bool) (tables : Tables) (h : Heading) (at : ℕ) (bytes : List ℕ) → Runs (plain gaps) tables h at bytes → AllHold (body_checks (profile_of (by_table gaps)) tables h at bytes)
 holds-of gaps tables h at bytes runs = (bodies-checked (profile_of (by_table gaps)) tables h at bytes).0.1 (runs-with gaps tables h at bytes runs)
@@ -83,7 +102,7 @@ module _ (gaps : Bool) (p : Parts) (fit : Fit p) (env env' : List Declaration) (
   sigs : signatures env ≡ signatures env'
   sigs = same-signatures env env' same
 
-  pub sort-good : (m : SortMods) → slice_get p.sorts (length (sorts env)) ≡ Some m.0 → bytes ≡ [] → IsGoodRow file env' (sort_decl m) (sort_checks file (length (sorts env')) at body next)
+  pub sort-good : (m : SortMods) → slice_get p.sorts (length (sorts env)) ≡ Some m.0 → bytes ≡ [] → IsGoodRow file env' (sort_decl m) (kind_checks (by_table gaps) file (taken_by env') at body next (Some codes.Sort))
   sort-good m e empty =
       let n : ℕ = length (sorts env') in
       let here : slice_get p.sorts n ≡ Some m.0 = subst (λ (ss : List SortMods). slice_get p.sorts (length ss) ≡ Some m.0) same.sorts_are e in
@@ -112,7 +131,7 @@ module _ (gaps : Bool) (p : Parts) (fit : Fit p) (env env' : List Declaration) (
     is-below unify e = let within : length (terms env') < length p.terms = slice_get_within p.terms (length (terms env')) (row_of_term ws result unify) e in omega (arith, counts.terms)
 
     pub plain-good : slice_get p.terms (length (terms env)) ≡ Some (row_of_term ws result None) → is_local ≡ false → bytes ≡ []
-        → IsGoodRow file env' (term_decl (record { signature = signature; form = plain_form })) (term_checks (by_table gaps) file (taken_by env') at body next is_local)
+        → IsGoodRow file env' (term_decl (record { signature = signature; form = plain_form })) (kind_checks (by_table gaps) file (taken_by env') at body next (Some (term_code is_local)))
     plain-good e mark empty =
         let n : ℕ = length (terms env') in
         let here = get-row None e in
@@ -123,14 +142,14 @@ module _ (gaps : Bool) (p : Parts) (fit : Fit p) (env env' : List Declaration) (
         subst (λ (r : TermRow). AllHold (term_body_checks (by_table gaps) file (taken_by env') at body next r.stream)) (sym row) (inl (bytes-are ∙ empty), tt) in
         record {
           row = (below, subst (λ (r : TermRow). SpellsTerm (signatures env') r (record { signature = signature; form = plain_form })) (sym row) (refl, tt));
-          holds = subst (λ (l : Bool). AllHold (term_checks (by_table gaps) file (taken_by env') at body next l)) (sym mark)
+          holds = subst (λ (l : Bool). AllHold (kind_checks (by_table gaps) file (taken_by env') at body next (Some (term_code l)))) (sym mark)
               (below, (tt, all_hold-both (word_checks (sorts env') (term_row file n)) (term_body_checks (by_table gaps) file (taken_by env') at body next (term_of_file file n).stream) (words (term_row file n) None (term_place p n) row-is) ends));
         }
 
     pub definition-good : (stream : List ℕ) (dummies dummies' : List Binder) (e e' : Tree) → slice_get p.terms (length (terms env)) ≡ Some (row_of_term ws result (Some stream))
         → IsLegalDecl env (term_decl (record { signature = signature; form = defined dummies e })) → IsSameForm signature.params (defined dummies e) (defined dummies' e')
         → SpellsBefore of_definition (signatures env) signature.params stream none e' dummies' → IsBody gaps env is_definition signature.params dummies e [] bytes
-        → IsGoodRow file env' (term_decl (record { signature = signature; form = defined dummies' e' })) (term_checks (by_table gaps) file (taken_by env') at body next is_local)
+        → IsGoodRow file env' (term_decl (record { signature = signature; form = defined dummies' e' })) (kind_checks (by_table gaps) file (taken_by env') at body next (Some (term_code is_local)))
     definition-good stream dummies dummies' e e' get legal same-form spells b =
         let n : ℕ = length (terms env') in
         let here = get-row (Some stream) get in
@@ -148,18 +167,13 @@ module _ (gaps : Bool) (p : Parts) (fit : Fit p) (env env' : List Declaration) (
         let text : Text of_definition (signatures env') signature.params bytes' none e' dummies' = subst (λ (z : List Signature). Text of_definition z signature.params bytes' none e' dummies') sigs (spells further) in
         record {
           row = (below, subst (λ (r : TermRow). SpellsTerm (signatures env') r (record { signature = signature; form = defined dummies' e' })) (sym row) (refl, text));
-          holds = (
-            below,
-            (
-              may-stand is_local (term_row file n).words.has_body (ap (λ (r : TermRecord). r.words.has_body) row-is),
-              all_hold-both (word_checks (sorts env') (term_row file n)) (term_body_checks (by_table gaps) file (taken_by env') at body next (term_of_file file n).stream) (words (term_row file n) (Some stream) (term_place p n) row-is) ends,
-            ),
-          );
+          holds = definition-holds gaps file (taken_by env') at body next is_local below (ap (λ (r : TermRecord). r.words.has_body) row-is)
+              (all_hold-both (word_checks (sorts env') (term_row file n)) (term_body_checks (by_table gaps) file (taken_by env') at body next (term_of_file file n).stream) (words (term_row file n) (Some stream) (term_place p n) row-is) ends);
         }
 
   -- ---- axioms and theorems
 
-  pub assertion-good : (a : Assertion) → IsLegalDecl env (assertion_decl a) → IsWrittenAssertion gaps p env a bytes → IsGoodRow file env' (assertion_decl a) (thm_checks (by_table gaps) file (taken_by env') at body next a.is_axiom)
+  pub assertion-good : (a : Assertion) → IsLegalDecl env (assertion_decl a) → IsWrittenAssertion gaps p env a bytes → IsGoodRow file env' (assertion_decl a) (kind_checks (by_table gaps) file (taken_by env') at body next (Some (assertion_code a.is_axiom)))
   assertion-good a legal w =
       let n : ℕ = length (assertions env') in
       let here : slice_get p.thms n ≡ Some (row_of_thm w.words w.stream) = subst (λ (z : List Assertion). slice_get p.thms (length z) ≡ Some (row_of_thm w.words w.stream)) same.assertions_are w.row in
@@ -180,5 +194,6 @@ module _ (gaps : Bool) (p : Parts) (fit : Fit p) (env env' : List Declaration) (
       let text : Text of_assertion (signatures env') a.params bytes' a.hyps a.conclusion [] = subst (λ (z : List Signature). Text of_assertion z a.params bytes' a.hyps a.conclusion []) sigs (w.text.spells stands.rest) in
       record {
         row = (below, subst (λ (r : ThmRow). SpellsThm (signatures env') r a) (sym row) (refl, text));
-        holds = (below, all_hold-both (param_checks (sorts env') (thm_row file n).words_at (thm_row file n).params) (body_checks (profile_of (by_table gaps)) tables (assertion_of a.is_axiom (thm_of_file file n)) body (body_bytes file body next)) words ends);
+        holds = assertion-holds gaps file (taken_by env') at body next a.is_axiom below
+            (all_hold-both (param_checks (sorts env') (thm_row file n).words_at (thm_row file n).params) (body_checks (profile_of (by_table gaps)) tables (assertion_of a.is_axiom (thm_of_file file n)) body (body_bytes file body next)) words ends);
       }

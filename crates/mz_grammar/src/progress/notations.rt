@@ -1,156 +1,123 @@
 // General notations.
 ghost use Rattle.std.specs.Prelude.{◌≡◌, IfOk, [], option_map};
-ghost use Rattle.mz_grammar.specs.Code.{lexeme, level as level_lem, literal as literal_lem, tail as tail_lem};
-ghost use Rattle.mz_grammar.specs.CodeProgress.{constant as constant_lem, in_tail, notation as notation_lem, open_notation, progress as progress_lem};
-ghost use Rattle.mz_grammar.specs.Progress.{choose, literal_colon, literal_read, literal_rows, next as next_lem, notation_of, tail_level};
+ghost use Rattle.mz_grammar.specs.Code.{lexeme, literal as literal_lem};
+ghost use Rattle.mz_grammar.specs.CodeProgress.{at as at_lem, constant as constant_lem, in_tail, notation as notation_lem, open_notation};
+ghost use Rattle.mz_grammar.specs.Progress.{choose, literal_colon, literal_read, literal_rows, next as next_lem, tail_opened};
 
-use super::{Constant, Next, Notation, OpenNotation, Progress, Tail};
+use super::{At, Constant, Next, Notation, Parts, Tail, Whole};
 use crate::lexeme::Lexeme;
-use crate::statement::{Level, LiteralText, NotationText, Statement, TailText};
+use crate::statement::{Level, LiteralText};
 
-impl<'a> OpenNotation<'a> {
-    /// Behind these lexemes.
-    pub fn next(self, at: Notation<'a>, found: Lexeme<'a>) -> Next<'a>
-        ensures { IfOk result (λ r. option_map progress_lem r ≡ next_lem (notation_lem self.entry at.entry) (lexeme found.entry)) }
+impl<'a> Parts<'a> {
+    /// Within a notation.
+    pub fn notation(&mut self, at: Notation, found: Lexeme<'a>) -> Next
+        ensures { IfOk result (λ r. option_map (at_lem self.new) r ≡ next_lem (notation_lem self.old at) (lexeme found.entry)) }
     {
         match at {
             Notation::Wanted => Ok(self.literal(found)),
-            Notation::Read(last) => self.read(last, found),
+            Notation::Read => self.read(found),
             Notation::Constant(at) => Ok(self.constant(at, found)),
-            Notation::Tail(last, at) => Ok(self.tail(last, at, found)),
+            Notation::Tail(at) => Ok(self.tail(at, found)),
         }
     }
 
     /// The first lexeme of a literal.
-    fn literal(self, found: Lexeme<'a>) -> Option<Progress<'a>>
-        ensures { option_map progress_lem result ≡ choose (literal_rows (open_notation self.entry) []) found.entry.kind found.entry.bytes.now (lexeme found.entry) }
+    fn literal(&mut self, found: Lexeme<'a>) -> Option<At>
+        ensures { option_map (at_lem self.new) result ≡ choose (literal_rows (open_notation self.old) []) found.entry.kind found.entry.bytes.now (lexeme found.entry) }
     {
         if found.is_name() {
-            return Some(Progress::Notation(self, Notation::Read(LiteralText::Name(found))));
+            self.last = LiteralText::Name(found);
+            return Some(At::Notation(Notation::Read));
         }
         let opened = Notation::Constant(Constant::Opened);
-        found
-            .is_symbol(b"(")
-            .then_some(Progress::Notation(self, opened))
+        found.is_symbol(b"(").then_some(At::Notation(opened))
     }
 
     /// Behind a literal.
-    fn read(mut self, last: LiteralText<'a>, found: Lexeme<'a>) -> Next<'a>
-        ensures { IfOk result (λ r. option_map progress_lem r ≡ next_lem (literal_read (open_notation self.entry) (literal_lem last.entry)) (lexeme found.entry)) }
+    fn read(&mut self, found: Lexeme<'a>) -> Next
+        ensures { IfOk result (λ r. option_map (at_lem self.new) r ≡ next_lem (literal_read (open_notation self.old) (literal_lem self.old.last)) (lexeme found.entry)) }
     {
         if found.is_name() || found.is_symbol(b"(") {
-            self.literals.push(last)?;
+            self.literals.push(self.last)?;
             return Ok(self.literal(found));
         }
         if found.is_symbol(b":") {
-            let opened = Notation::Tail(last, Tail::Opened);
-            return Ok(Some(Progress::Notation(self, opened)));
+            return Ok(Some(At::Notation(Notation::Tail(Tail::Opened))));
         }
-        if found.is_symbol(b";") {
-            return Ok(Some(self.whole(last, None)));
-        }
-        Ok(None)
-    }
-
-    fn whole(self, last: LiteralText<'a>, tail: Option<TailText<'a>>) -> Progress<'a>
-        ensures { progress_lem result ≡ notation_of (open_notation self.entry) (literal_lem last.entry) (option_map tail_lem tail.entry) }
-    {
-        Progress::Whole(Statement::Notation(NotationText {
-            head: self.head,
-            result: self.result,
-            literals: self.literals,
-            last,
-            tail,
-        }))
+        let whole = At::Whole(Whole::Notation);
+        Ok(found.is_symbol(b";").then_some(whole))
     }
 
     /// Within a constant.
-    fn constant(self, at: Constant<'a>, found: Lexeme<'a>) -> Option<Progress<'a>>
-        ensures { option_map progress_lem result ≡ next_lem (constant_lem self.entry at.entry) (lexeme found.entry) }
+    fn constant(&mut self, at: Constant, found: Lexeme<'a>) -> Option<At>
+        ensures { option_map (at_lem self.new) result ≡ next_lem (constant_lem self.old at) (lexeme found.entry) }
     {
         match at {
             Constant::Opened => {
-                let string = Notation::Constant(Constant::String(found));
-                found
-                    .is_formula()
-                    .then_some(Progress::Notation(self, string))
+                self.formula = found;
+                let string = Notation::Constant(Constant::String);
+                found.is_formula().then_some(At::Notation(string))
             }
-            Constant::String(constant) => {
-                let colon = Notation::Constant(Constant::Colon(constant));
-                found
-                    .is_symbol(b":")
-                    .then_some(Progress::Notation(self, colon))
+            Constant::String => {
+                let colon = Notation::Constant(Constant::Colon);
+                found.is_symbol(b":").then_some(At::Notation(colon))
             }
-            Constant::Colon(constant) => self.leveled(constant, found),
-            Constant::Level(constant, level) => {
-                let literal = Notation::Read(LiteralText::Constant(constant, level));
+            Constant::Colon => self.leveled(found),
+            Constant::Level => {
+                self.last = LiteralText::Constant(self.formula, self.level);
                 found
                     .is_symbol(b")")
-                    .then_some(Progress::Notation(self, literal))
+                    .then_some(At::Notation(Notation::Read))
             }
         }
     }
 
     /// Behind the colon of a constant.
-    fn leveled(self, constant: Lexeme<'a>, found: Lexeme<'a>) -> Option<Progress<'a>>
-        ensures { option_map progress_lem result ≡ next_lem (literal_colon (open_notation self.entry) (lexeme constant.entry)) (lexeme found.entry) }
+    fn leveled(&mut self, found: Lexeme<'a>) -> Option<At>
+        ensures { option_map (at_lem self.new) result ≡ next_lem (literal_colon (open_notation self.old) (lexeme self.old.formula)) (lexeme found.entry) }
     {
+        let level = At::Notation(Notation::Constant(Constant::Level));
         if found.is_number() {
-            let level = Constant::Level(constant, Level::Number(found));
-            return Some(Progress::Notation(self, Notation::Constant(level)));
+            self.level = Level::Number(found);
+            return Some(level);
         }
-        let level = Constant::Level(constant, Level::Max);
-        found
-            .is_keyword(b"max")
-            .then_some(Progress::Notation(self, Notation::Constant(level)))
+        self.level = Level::Max;
+        found.is_keyword(b"max").then_some(level)
     }
 
     /// Within the tail.
-    fn tail(self, last: LiteralText<'a>, at: Tail<'a>, found: Lexeme<'a>) -> Option<Progress<'a>>
-        ensures { option_map progress_lem result ≡ next_lem (in_tail self.entry last.entry at.entry) (lexeme found.entry) }
+    fn tail(&mut self, at: Tail, found: Lexeme<'a>) -> Option<At>
+        ensures { option_map (at_lem self.new) result ≡ next_lem (in_tail self.old at) (lexeme found.entry) }
     {
         match at {
-            Tail::Opened => {
-                if found.is_number() {
-                    let level = Tail::Level(Level::Number(found));
-                    return Some(Progress::Notation(self, Notation::Tail(last, level)));
+            Tail::Opened => self.tail_leveled(found),
+            Tail::Level => {
+                if found.is_keyword(b"lassoc") {
+                    let left = Tail::Whole { is_right: false };
+                    return Some(At::Notation(Notation::Tail(left)));
                 }
-                let level = Tail::Level(Level::Max);
+                let right = Tail::Whole { is_right: true };
                 found
-                    .is_keyword(b"max")
-                    .then_some(Progress::Notation(self, Notation::Tail(last, level)))
+                    .is_keyword(b"rassoc")
+                    .then_some(At::Notation(Notation::Tail(right)))
             }
-            Tail::Level(level) => self.sided(last, level, found),
-            Tail::Whole(tail) => {
-                let whole = self.whole(last, Some(tail));
+            Tail::Whole { is_right } => {
+                let whole = At::Whole(Whole::Tailed { is_right });
                 found.is_symbol(b";").then_some(whole)
             }
         }
     }
 
-    /// Behind the level of the tail.
-    fn sided(
-        self,
-        last: LiteralText<'a>,
-        level: Level<'a>,
-        found: Lexeme<'a>,
-    ) -> Option<Progress<'a>>
-        ensures { option_map progress_lem result ≡ next_lem (tail_level (open_notation self.entry) (literal_lem last.entry) (level_lem level.entry)) (lexeme found.entry) }
+    /// Behind the colon of the tail.
+    fn tail_leveled(&mut self, found: Lexeme<'a>) -> Option<At>
+        ensures { option_map (at_lem self.new) result ≡ next_lem (tail_opened (open_notation self.old) (literal_lem self.old.last)) (lexeme found.entry) }
     {
-        if found.is_keyword(b"lassoc") {
-            let left = TailText {
-                level,
-                is_right: false,
-            };
-            return Some(Progress::Notation(self, Notation::Tail(last, Tail::Whole(left))));
+        let level = At::Notation(Notation::Tail(Tail::Level));
+        if found.is_number() {
+            self.level = Level::Number(found);
+            return Some(level);
         }
-        let right = TailText {
-            level,
-            is_right: true,
-        };
-        let whole = Notation::Tail(last, Tail::Whole(right));
-        found
-            .is_keyword(b"rassoc")
-            .then_some(Progress::Notation(self, whole))
+        self.level = Level::Max;
+        found.is_keyword(b"max").then_some(level)
     }
 }

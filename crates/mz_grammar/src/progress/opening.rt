@@ -1,10 +1,10 @@
 // The first lexemes of a statement.
 ghost use Rattle.std.specs.Prelude.{◌≡◌, option_map};
 ghost use Rattle.mz_grammar.specs.Code.{lexeme, modifiers};
-ghost use Rattle.mz_grammar.specs.CodeProgress.{progress as progress_lem};
+ghost use Rattle.mz_grammar.specs.CodeProgress.{LeadsTo, at as at_lem};
 ghost use Rattle.mz_grammar.specs.Progress.{beginnings, choose, head_opened, is_bare as is_bare_lem, next as next_lem, opening};
 
-use super::{Coercion, Delimiter, Operator, Progress};
+use super::{At, Coercion, Delimiter, Operator, Parts};
 use crate::kind::{AssertKind, Fixity, Kind};
 use crate::lexeme::Lexeme;
 use crate::statement::{Head, Modifiers};
@@ -26,78 +26,78 @@ impl Modifiers {
     }
 
     /// Behind these modifiers.
-    pub fn next<'a>(self, found: Lexeme<'a>) -> Option<Progress<'a>>
-        ensures { option_map progress_lem result ≡ next_lem (opening (modifiers self)) (lexeme found.entry) }
+    pub fn next(self, found: Lexeme<'_>) -> Option<At>
+        ensures { LeadsTo result (next_lem (opening (modifiers self)) (lexeme found.entry)) }
     {
         if found.is_keyword(b"pure") && self.is_bare() {
-            return Some(Progress::Opening(Modifiers {
+            return Some(At::Opening(Modifiers {
                 is_pure: true,
                 ..self
             }));
         }
         if found.is_keyword(b"strict") && !(self.is_strict || self.is_provable || self.is_free) {
-            return Some(Progress::Opening(Modifiers {
+            return Some(At::Opening(Modifiers {
                 is_strict: true,
                 ..self
             }));
         }
         if found.is_keyword(b"provable") && !(self.is_provable || self.is_free) {
-            return Some(Progress::Opening(Modifiers {
+            return Some(At::Opening(Modifiers {
                 is_provable: true,
                 ..self
             }));
         }
         if found.is_keyword(b"free") && !self.is_free {
-            return Some(Progress::Opening(Modifiers {
+            return Some(At::Opening(Modifiers {
                 is_free: true,
                 ..self
             }));
         }
         if found.is_keyword(b"sort") {
-            return Some(Progress::SortOpened(self));
+            return Some(At::SortOpened(self));
         }
         if self.is_bare() { begun(found) } else { None }
     }
 }
 
 /// The first lexeme of a statement without modifiers.
-fn begun<'a>(found: Lexeme<'a>) -> Option<Progress<'a>>
-    ensures { option_map progress_lem result ≡ choose beginnings found.entry.kind found.entry.bytes.now (lexeme found.entry) }
+fn begun(found: Lexeme<'_>) -> Option<At>
+    ensures { LeadsTo result (choose beginnings found.entry.kind found.entry.bytes.now (lexeme found.entry)) }
 {
     if found.is_keyword(b"term") {
-        Some(Progress::HeadOpened(Kind::Term))
+        Some(At::HeadOpened(Kind::Term))
     } else if found.is_keyword(b"axiom") {
-        Some(Progress::HeadOpened(Kind::Assert(AssertKind::Axiom)))
+        Some(At::HeadOpened(Kind::Assert(AssertKind::Axiom)))
     } else if found.is_keyword(b"theorem") {
-        Some(Progress::HeadOpened(Kind::Assert(AssertKind::Theorem)))
+        Some(At::HeadOpened(Kind::Assert(AssertKind::Theorem)))
     } else if found.is_keyword(b"def") {
-        Some(Progress::HeadOpened(Kind::Definition))
+        Some(At::HeadOpened(Kind::Definition))
     } else if found.is_keyword(b"notation") {
-        Some(Progress::HeadOpened(Kind::Notation))
+        Some(At::HeadOpened(Kind::Notation))
     } else if found.is_keyword(b"infixl") {
-        Some(Progress::Operator(Fixity::InfixLeft, Operator::Opened))
+        Some(At::Operator(Fixity::InfixLeft, Operator::Opened))
     } else if found.is_keyword(b"infixr") {
-        Some(Progress::Operator(Fixity::InfixRight, Operator::Opened))
+        Some(At::Operator(Fixity::InfixRight, Operator::Opened))
     } else if found.is_keyword(b"prefix") {
-        Some(Progress::Operator(Fixity::Prefix, Operator::Opened))
+        Some(At::Operator(Fixity::Prefix, Operator::Opened))
     } else if found.is_keyword(b"coercion") {
-        Some(Progress::Coercion(Coercion::Opened))
+        Some(At::Coercion(Coercion::Opened))
     } else if found.is_keyword(b"delimiter") {
-        Some(Progress::Delimiter(Delimiter::Opened))
+        Some(At::Delimiter(Delimiter::Opened))
     } else {
         None
     }
 }
 
-impl Kind {
+impl<'a> Parts<'a> {
     /// Behind the keyword.
-    pub fn next<'a>(self, alloc: Global, found: Lexeme<'a>) -> Option<Progress<'a>>
-        ensures { option_map progress_lem result ≡ next_lem (head_opened self) (lexeme found.entry) }
+    pub fn named(&mut self, alloc: Global, kind: Kind, found: Lexeme<'a>) -> Option<At>
+        ensures { option_map (at_lem self.new) result ≡ next_lem (head_opened kind) (lexeme found.entry) }
     {
-        let head = Head {
+        self.head = Head {
             name: found,
             groups: Vec::new(alloc),
         };
-        found.is_name().then_some(Progress::Headed(self, head))
+        found.is_name().then_some(At::Headed(kind))
     }
 }

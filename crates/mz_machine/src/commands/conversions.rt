@@ -10,13 +10,13 @@ ghost use Rattle.mz_soundness.specs.Premises.{pop_sides};
 ghost use Rattle.mz_soundness.specs.Tables.{Tables, State};
 ghost use Rattle.mz_soundness.specs.ProofMachine.{proof_row, sides};
 ghost use Rattle.mz_soundness.specs.Bodies.{row_steps};
-ghost use Rattle.mz_machine.specs.Before.{tables_of, signatures_of};
+ghost use Rattle.mz_earlier.specs.Before.{tables_of, signatures_of};
 ghost use Rattle.mz_machine.specs.OverStore.{with_stack, pop_unfolding, Gives, GivesRule, StopsBy, UnlessMem};
 
 use crate::command::Stop;
-use crate::earlier::Earlier;
 use crate::stack::{pop, pop_conversion, pop_expr, pop_obligation, pop_proof, push, put_back};
 use mz_cmd::{K, Steps};
+use mz_earlier::Earlier;
 use mz_logic::Terms;
 use mz_store::{Id, Item, Store};
 use mz_unify::{Unified, UnifyMode, unify};

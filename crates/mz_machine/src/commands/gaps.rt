@@ -7,13 +7,13 @@ ghost use Rattle.mz_unification.specs.Profile.{draft};
 ghost use Rattle.mz_unify.specs.Stored.{items_at, AreItemsIn};
 ghost use Rattle.mz_soundness.specs.Tables.{State};
 ghost use Rattle.mz_soundness.specs.ProofMachine.{proof_row};
-ghost use Rattle.mz_machine.specs.Before.{tables_of, signatures_of};
+ghost use Rattle.mz_earlier.specs.Before.{tables_of, signatures_of};
 ghost use Rattle.mz_machine.specs.OverStore.{with_stack, GivesRule};
 
 use crate::commands::heap::is_provable;
-use crate::earlier::Earlier;
 use crate::stack::{pop, put_back};
 use mz_cmd::K;
+use mz_earlier::Earlier;
 use mz_logic::Terms;
 use mz_store::{Item, Store};
 

@@ -11,15 +11,16 @@ ghost use Rattle.mz_unify.specs.declared.unified.UnifyMode.TheVariants.{Use};
 ghost use Rattle.mz_soundness.specs.Tables.{State};
 ghost use Rattle.mz_soundness.specs.ProofMachine.{proof_row, built, citation};
 ghost use Rattle.mz_soundness.specs.Bodies.{row_steps};
-ghost use Rattle.mz_machine.specs.Before.{tables_of, signatures_of};
+ghost use Rattle.mz_earlier.specs.Before.{tables_of, signatures_of};
 ghost use Rattle.mz_machine.specs.OverStore.{with_stack, Gives, UnlessMem, Grows};
 
 use crate::apart::are_apart;
 use crate::command::Stop;
-use crate::earlier::{Earlier, Row};
 use crate::fitting::{check_operands, pop_operands};
 use crate::stack::{pop_expr, push};
 use mz_cmd::{K, Steps};
+use mz_earlier::Earlier;
+use mz_layout::Row;
 use mz_logic::Terms;
 use mz_store::{Id, Item, Store};
 use mz_unify::{Unified, UnifyMode, unify};

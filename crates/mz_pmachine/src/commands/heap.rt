@@ -9,14 +9,14 @@ ghost use Rattle.mz_punify.specs.Stored.{items_at, item_at, AreItemsIn, IsItemIn
 ghost use Rattle.mz_soundness.specs.Tables.{Tables, State};
 ghost use Rattle.mz_soundness.specs.Premises.{is_provable_sort, may_be_dummy_sort};
 ghost use Rattle.mz_soundness.specs.ProofMachine.{proof_row, referred};
-ghost use Rattle.mz_machine.specs.Before.{tables_of, signatures_of};
+ghost use Rattle.mz_earlier.specs.Before.{tables_of, signatures_of};
 ghost use Rattle.mz_machine.specs.OverStore.{GivesRule};
 ghost use Rattle.mz_pmachine.specs.OverNodes.{heap_at, with_stack, Gives, Grows};
 ghost use Rattle.mz_numbered.specs.Numbered.{Numbered, portable};
 
-use crate::earlier::Earlier;
 use crate::stack::{conversion_of, is_obligation, kept_at, pop_expr, pop_obligation, push, top};
 use mz_cmd::K;
+use mz_earlier::Earlier;
 use mz_logic::Terms;
 use mz_nodes::Nodes;
 use mz_punify::Stop;

@@ -9,15 +9,16 @@ ghost use Rattle.mz_unify.specs.declared.unified.UnifyMode.TheVariants.{Use};
 ghost use Rattle.mz_soundness.specs.Tables.{State};
 ghost use Rattle.mz_soundness.specs.ProofMachine.{proof_row, built, citation};
 ghost use Rattle.mz_soundness.specs.Bodies.{row_steps};
-ghost use Rattle.mz_machine.specs.Before.{tables_of, signatures_of};
+ghost use Rattle.mz_earlier.specs.Before.{tables_of, signatures_of};
 ghost use Rattle.mz_pmachine.specs.OverNodes.{with_stack, Gives, UnlessMem, Grows};
 ghost use Rattle.mz_numbered.specs.Numbered.{Numbered, portable};
 
 use crate::apart::are_apart;
-use crate::earlier::{Earlier, Row};
 use crate::fitting::{check_operands, pop_operands};
 use crate::stack::{pop_expr, push};
 use mz_cmd::{K, Steps};
+use mz_earlier::Earlier;
+use mz_layout::Row;
 use mz_logic::Terms;
 use mz_nodes::Nodes;
 use mz_punify::{Stop, unify};

@@ -1,11 +1,12 @@
 use Rattle.std.proofs.Common.{◌≡◌, ◌+◌, ℕ, List, sym, subst}
 use Rattle.mz_soundness.specs.Bodies.{body_run, body_steps}
-use Rattle.mz_soundness.specs.FileRows.{body_bytes}
+use Rattle.mz_layout.specs.Heads.{body_bytes}
 use Rattle.mz_soundness.specs.Tables.{Heading}
-use Rattle.mz_machine.specs.Before.{heading_of, tables_before}
+use Rattle.mz_earlier.specs.OwnRow.{heading_of}
+use Rattle.mz_earlier.specs.Before.{tables_before}
 use Rattle.mz_machine.specs.BodyAnswers.{UnlessMem}
 use Rattle.mz_machine.specs.declared.body.BodyChecked.{BodyChecked}
-use Rattle.mz_machine.specs.declared.earlier.Rows.{Rows}
+use Rattle.mz_layout.specs.declared.taken.Rows.{Rows}
 use Rattle.mz_binary.specs.declared.standard.Standard.{Standard}
 use Rattle.mz_binary.specs.Judging.{IsBodyRun}
 use Rattle.mz_binary.specs.Standards.{profile_of}

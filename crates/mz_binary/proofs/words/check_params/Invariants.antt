@@ -1,6 +1,6 @@
 use Rattle.std.proofs.Common.{◌≡◌, ◌≤◌, length, take}
 use Rattle.mz_checks.proofs.Offered.{Decides, rows_from}
-use Rattle.mz_binary.specs.RowParams.{params_of, words_at_of}
+use Rattle.mz_layout.specs.Rows.{params_of, words_at_of}
 use Rattle.mz_soundness.specs.RowWords.{bound_count, first_sorts, param_check, param_checks}
 use Rattle.mz_binary.proofs.words.check_params.Given as goal
 

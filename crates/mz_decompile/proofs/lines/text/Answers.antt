@@ -1,7 +1,7 @@
 use Rattle.std.proofs.Common.{ℕ, sym, subst, arith}
 use Rattle.mz_cmd.specs.Codes.{statement_code}
 use Rattle.mz_binary.proofs.Offered.{head-at}
-use Rattle.mz_machine.specs.declared.earlier.Rows.{Rows}
+use Rattle.mz_layout.specs.declared.taken.Rows.{Rows}
 use Rattle.mz_phrasing.specs.Naming.{vocabulary_by}
 use Rattle.mz_decompile.specs.Standing.{no_rows}
 use Rattle.mz_decompile.proofs.Walking.{AreLow, IsWriting, writing-first, writing-stands, writing-more, writing-last, low-more}

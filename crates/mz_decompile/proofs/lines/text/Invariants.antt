@@ -1,5 +1,5 @@
 use Rattle.std.proofs.Common.{◌≤◌, ◌-◌, List, length}
-use Rattle.mz_mmu.specs.Proof.{Statement}
+use Rattle.mz_forms.specs.Proof.{Statement}
 use Rattle.mz_phrasing.specs.Naming.{vocabulary_by}
 use Rattle.mz_decompile.specs.Standing.{AreAll}
 use Rattle.mz_decompile.proofs.Walking.{AreLow, IsWriting}

@@ -4,8 +4,8 @@ use Rattle.std.proofs.lemmas.List.{length-map}
 use Rattle.mz_store.specs.declared.item.Id.{Id}
 use Rattle.mz_store.specs.Sharing.{tree_of}
 use Rattle.mz_unify.specs.Stored.{trees_at}
-use Rattle.mz_machine.specs.OperandRows.{params_of}
-use Rattle.mz_machine.proofs.ApartPlaces.{place-below, rows_from, rows-at}
+use Rattle.mz_layout.specs.Rows.{params_of}
+use Rattle.mz_earlier.proofs.Offered.{place-below, rows_from, rows-at}
 use Rattle.mz_machine.proofs.apart.are_apart.Goals as goal
 
 pub variables_at-all-requires-clause-within : goal.variables_at-all-requires-clause-within

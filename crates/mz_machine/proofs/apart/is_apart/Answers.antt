@@ -9,9 +9,9 @@ use Rattle.mz_store.specs.declared.item.Id.{Id}
 use Rattle.mz_unify.specs.Stored.{trees_at}
 use Rattle.mz_unify.proofs.Offered.{is-in-at, tree-at}
 use Rattle.mz_unification.proofs.Offered.{some_is}
-use Rattle.mz_machine.specs.Before.{signatures_of}
-use Rattle.mz_machine.specs.OperandRows.{params_of}
-use Rattle.mz_machine.proofs.ApartPlaces.{is-there, place-below, place-fits, decides-first, decides-end, decides-not, decides-next, row-asked}
+use Rattle.mz_earlier.specs.Before.{signatures_of}
+use Rattle.mz_layout.specs.Rows.{params_of}
+use Rattle.mz_earlier.proofs.Offered.{is-there, place-below, place-fits, decides-first, decides-end, decides-not, decides-next, row-asked}
 use Rattle.mz_machine.proofs.Apartness.{apart-at-once}
 use Rattle.mz_machine.proofs.apart.is_apart.Goals as goal
 

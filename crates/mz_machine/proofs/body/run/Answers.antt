@@ -1,18 +1,29 @@
-use Rattle.std.proofs.Common.{◌≡◌, ◌≤◌, ◌+◌, ◌*◌, ◌∙◌, length, sym, ap, refl, subst, arith}
-use Rattle.mz_machine.specs.Steps.{tables_for, heading_for}
-use Rattle.mz_machine.proofs.BodyUnderway.{at-first, cut-whole, long-whole, end-whole, end-refused, end-many, refused-whole, refused-many, goes-on, further, ends-there, goes-further}
-use Rattle.mz_machine.proofs.BodyRunning.{itself, goes, row-over, steps-over, most-over, end-answer, end-counts, more-steps, within-steps}
+use Rattle.std.proofs.Common.{◌≡◌, ◌+◌, ◌∙◌, false, length, sym, ap, subst, arith}
+use Rattle.mz_machine.specs.Running.{machine_of}
+use Rattle.mz_machine.specs.Steps.{Underway, tables_for, heading_for}
+use Rattle.mz_machine.proofs.BodyUnderway.{IsUnderway, at-first, cut-whole, long-whole, end-whole, end-refused, end-many, refused-whole, refused-many, goes-on, further, ends-there, goes-further}
+use Rattle.mz_machine.proofs.BodyRunning.{IsSameBody, itself, goes, row-over, steps-over, most-over, end-answer, end-counts, stop-answer, stop-counts, more-steps, within-steps}
 use Rattle.mz_machine.proofs.GapWalk.{gap-at-first, gap-ends, gap-goes-on}
 use Rattle.mz_machine.proofs.body.run.Goals as goal
 
 pub commands-init : goal.commands-init
 commands-init g c =
-    record { in_range = omega arith; same = itself c.args.start; underway = at-first c.args.start.gaps (tables_for c.args.start) (heading_for c.args.start) c.args.from c.args.bytes.now c.args.start.state c.args.steps.now; gap = gap-at-first c.args.bytes.now c.args.start.sorry c.requires.fresh; most = omega arith }
+    let v = machine_of c.start.inside.setting c.start.inside.parts in
+    let bytes = c.args.bytes.now in
+    record {
+      in_range = omega arith;
+      running = c.start.invariant;
+      same = subst (λ (u : Underway). IsSameBody u v) c.start.view_is (itself v);
+      underway = subst (λ (u : Underway). IsUnderway u.gaps (tables_for u) (heading_for u) c.args.from bytes u.state c.args.steps.now 0 v.state c.args.steps.now) c.start.view_is
+          (at-first v.gaps (tables_for v) (heading_for v) c.args.from bytes v.state c.args.steps.now);
+      gap = gap-at-first bytes v.sorry (subst (λ (u : Underway). u.sorry ≡ false) (sym c.start.view_is) c.requires.fresh);
+      most = omega arith;
+    }
 
 pub returns-in_default-clause-run : goal.returns-in_default-clause-run
 returns-in_default-clause-run g c =
     let u = c.args.start in
-    let v = c.commands.machine in
+    let v = machine_of c.start.inside.setting c.commands.parts in
     let same = c.commands.invariant.same in
     let on = c.commands.invariant.underway in
     let place = c.args.from + c.commands.at in
@@ -21,7 +32,7 @@ returns-in_default-clause-run g c =
 pub returns-in_default-clause-steps : goal.returns-in_default-clause-steps
 returns-in_default-clause-steps g c =
     let u = c.args.start in
-    let v = c.commands.machine in
+    let v = machine_of c.start.inside.setting c.commands.parts in
     let same = c.commands.invariant.same in
     let on = c.commands.invariant.underway in
     let place = c.args.from + c.commands.at in
@@ -30,7 +41,7 @@ returns-in_default-clause-steps g c =
 pub returns-then-next-bytes-clause-run : goal.returns-then-next-bytes-clause-run
 returns-then-next-bytes-clause-run g c =
     let u = c.args.start in
-    let v = c.commands.machine in
+    let v = machine_of c.start.inside.setting c.commands.parts in
     let same = c.commands.invariant.same in
     let on = c.commands.invariant.underway in
     let place = c.args.from + c.commands.at in
@@ -43,7 +54,7 @@ returns-then-next-bytes-clause-run g c =
 pub returns-then-next-bytes-clause-steps : goal.returns-then-next-bytes-clause-steps
 returns-then-next-bytes-clause-steps g c =
     let u = c.args.start in
-    let v = c.commands.machine in
+    let v = machine_of c.start.inside.setting c.commands.parts in
     let same = c.commands.invariant.same in
     let on = c.commands.invariant.underway in
     let place = c.args.from + c.commands.at in
@@ -56,7 +67,7 @@ returns-then-next-bytes-clause-steps g c =
 pub returns-then-cmd-eq-END-clause-run : goal.returns-then-cmd-eq-END-clause-run
 returns-then-cmd-eq-END-clause-run g c =
     let u = c.args.start in
-    let v = c.commands.machine in
+    let v = machine_of c.start.inside.setting c.commands.parts in
     let same = c.commands.invariant.same in
     let on = c.commands.invariant.underway in
     let place = c.args.from + c.commands.at in
@@ -73,7 +84,7 @@ returns-then-cmd-eq-END-clause-run g c =
 pub returns-then-cmd-eq-END-clause-steps : goal.returns-then-cmd-eq-END-clause-steps
 returns-then-cmd-eq-END-clause-steps g c =
     let u = c.args.start in
-    let v = c.commands.machine in
+    let v = machine_of c.start.inside.setting c.commands.parts in
     let same = c.commands.invariant.same in
     let on = c.commands.invariant.underway in
     let place = c.args.from + c.commands.at in
@@ -88,7 +99,7 @@ returns-then-cmd-eq-END-clause-steps g c =
 pub returns-then-cmd-eq-END-clause-most : goal.returns-then-cmd-eq-END-clause-most
 returns-then-cmd-eq-END-clause-most g c =
     let u = c.args.start in
-    let v = c.commands.machine in
+    let v = machine_of c.start.inside.setting c.commands.parts in
     let same = c.commands.invariant.same in
     let on = c.commands.invariant.underway in
     let place = c.args.from + c.commands.at in
@@ -98,56 +109,44 @@ returns-then-cmd-eq-END-clause-most g c =
     within-steps c.args.steps.now c.finish.new.steps (c.commands.at + cmd.len) (length c.args.bytes.now) (length u.file)
     (more-steps c.args.steps.now c.commands.steps c.finish.new.steps c.commands.at cmd.len (length u.file) c.commands.invariant.most (most-over u v c.finish.new.steps c.commands.steps same c.finish.ensures.most) ahead.0) ahead.1
 
-pub returns-in-Refused-clause-run : goal.returns-in-Refused-clause-run
-returns-in-Refused-clause-run g c =
+pub returns-in-Err-clause-run : goal.returns-in-Err-clause-run
+returns-in-Err-clause-run g c =
     let u = c.args.start in
-    let v = c.commands.machine in
+    let v = machine_of c.start.inside.setting c.commands.parts in
     let same = c.commands.invariant.same in
     let on = c.commands.invariant.underway in
     let place = c.args.from + c.commands.at in
     let cmd = c.in-Ok.cmd in
     let read = sym c.in-Ok.ensures.computed in
-    let ahead = further c.args.bytes.now c.commands.at cmd read c.commands.invariant.in_range in
-    refused-whole u.gaps (tables_for u) (heading_for u) c.args.from c.args.bytes.now u.state c.args.steps.now c.commands.at v.state c.commands.steps on cmd read c.if-cmd-eq-END.false c.in-Refused.rule (row-over u v place v.state cmd _ same (c.in-Refused.ensures.row place))
+    rw c.stopped.ensures
+    (stop-answer u v c.args.bytes.now _ place cmd (machine_of c.start.inside.setting c.advance.new.parts) c.in-Err.stop same
+    (λ d row. refused-whole u.gaps (tables_for u) (heading_for u) c.args.from c.args.bytes.now u.state c.args.steps.now c.commands.at v.state c.commands.steps on cmd read c.if-cmd-eq-END.false d row) (c.in-Err.ensures.row place))
 
-pub returns-in-Refused-clause-steps : goal.returns-in-Refused-clause-steps
-returns-in-Refused-clause-steps g c =
+pub returns-in-Err-clause-steps : goal.returns-in-Err-clause-steps
+returns-in-Err-clause-steps g c =
     let u = c.args.start in
-    let v = c.commands.machine in
+    let v = machine_of c.start.inside.setting c.commands.parts in
     let same = c.commands.invariant.same in
     let on = c.commands.invariant.underway in
     let place = c.args.from + c.commands.at in
     let cmd = c.in-Ok.cmd in
     let read = sym c.in-Ok.ensures.computed in
-    let ahead = further c.args.bytes.now c.commands.at cmd read c.commands.invariant.in_range in
-    refused-many u.gaps (tables_for u) (heading_for u) c.args.from c.args.bytes.now u.state c.args.steps.now c.commands.at v.state c.commands.steps on cmd read c.if-cmd-eq-END.false c.in-Refused.rule c.step.new.steps (row-over u v place v.state cmd _ same (c.in-Refused.ensures.row place))
-    (steps-over u v v.state cmd c.step.new.steps c.commands.steps same c.in-Refused.ensures.steps)
+    rw c.stopped.ensures
+    (stop-counts u v place c.advance.new.steps c.commands.steps _ cmd (machine_of c.start.inside.setting c.advance.new.parts) c.in-Err.stop same (c.in-Err.ensures.row place) c.in-Err.ensures.steps
+    (λ d row many. refused-many u.gaps (tables_for u) (heading_for u) c.args.from c.args.bytes.now u.state c.args.steps.now c.commands.at v.state c.commands.steps on cmd read c.if-cmd-eq-END.false d c.advance.new.steps row many))
 
-pub returns-in-Refused-clause-most : goal.returns-in-Refused-clause-most
-returns-in-Refused-clause-most g c =
+pub returns-in-Err-clause-most : goal.returns-in-Err-clause-most
+returns-in-Err-clause-most g c =
     let u = c.args.start in
-    let v = c.commands.machine in
+    let v = machine_of c.start.inside.setting c.commands.parts in
     let same = c.commands.invariant.same in
     let on = c.commands.invariant.underway in
     let place = c.args.from + c.commands.at in
     let cmd = c.in-Ok.cmd in
     let read = sym c.in-Ok.ensures.computed in
     let ahead = further c.args.bytes.now c.commands.at cmd read c.commands.invariant.in_range in
-    within-steps c.args.steps.now c.step.new.steps (c.commands.at + cmd.len) (length c.args.bytes.now) (length u.file)
-    (more-steps c.args.steps.now c.commands.steps c.step.new.steps c.commands.at cmd.len (length u.file) c.commands.invariant.most (most-over u v c.step.new.steps c.commands.steps same c.in-Refused.ensures.most) ahead.0) ahead.1
-
-pub returns-in-Mem-clause-most : goal.returns-in-Mem-clause-most
-returns-in-Mem-clause-most g c =
-    let u = c.args.start in
-    let v = c.commands.machine in
-    let same = c.commands.invariant.same in
-    let on = c.commands.invariant.underway in
-    let place = c.args.from + c.commands.at in
-    let cmd = c.in-Ok.cmd in
-    let read = sym c.in-Ok.ensures.computed in
-    let ahead = further c.args.bytes.now c.commands.at cmd read c.commands.invariant.in_range in
-    within-steps c.args.steps.now c.step.new.steps (c.commands.at + cmd.len) (length c.args.bytes.now) (length u.file)
-    (more-steps c.args.steps.now c.commands.steps c.step.new.steps c.commands.at cmd.len (length u.file) c.commands.invariant.most (most-over u v c.step.new.steps c.commands.steps same c.in-Mem.ensures.most) ahead.0) ahead.1
+    within-steps c.args.steps.now c.advance.new.steps (c.commands.at + cmd.len) (length c.args.bytes.now) (length u.file)
+    (more-steps c.args.steps.now c.commands.steps c.advance.new.steps c.commands.at cmd.len (length u.file) c.commands.invariant.most (most-over u v c.advance.new.steps c.commands.steps same c.advance.ensures.most) ahead.0) ahead.1
 
 pub commands-smaller : goal.commands-smaller
 commands-smaller g c =
@@ -159,17 +158,19 @@ commands-smaller g c =
 pub commands-preserved : goal.commands-preserved
 commands-preserved g c =
     let u = c.args.start in
-    let v = c.commands.machine in
+    let v = machine_of c.start.inside.setting c.commands.parts in
     let same = c.commands.invariant.same in
     let on = c.commands.invariant.underway in
     let place = c.args.from + c.commands.at in
     let cmd = c.in-Ok.cmd in
     let read = sym c.in-Ok.ensures.computed in
     let ahead = further c.args.bytes.now c.commands.at cmd read c.commands.invariant.in_range in
+    let after = machine_of c.start.inside.setting c.advance.new.parts in
     record {
       in_range = rw c.from.ensures ahead.1;
-      same = goes u v c.in-Machine.after cmd same (c.in-Machine.ensures.row place).1;
-      underway = rw c.from.ensures (goes-on u.gaps (tables_for u) (heading_for u) c.args.from c.args.bytes.now u.state c.args.steps.now c.commands.at v.state c.commands.steps on cmd read c.if-cmd-eq-END.false c.in-Machine.after.state c.step.new.steps (row-over u v place v.state cmd _ same (c.in-Machine.ensures.row place).0) (steps-over u v v.state cmd c.step.new.steps c.commands.steps same c.in-Machine.ensures.steps));
-      gap = rw c.from.ensures (gap-goes-on c.args.bytes.now c.commands.at cmd v.sorry c.in-Machine.after.sorry read (c.in-Machine.ensures.row place).1.sorry c.commands.invariant.gap);
-      most = rw c.from.ensures (more-steps c.args.steps.now c.commands.steps c.step.new.steps c.commands.at cmd.len (length u.file) c.commands.invariant.most (most-over u v c.step.new.steps c.commands.steps same c.in-Machine.ensures.most) ahead.0);
+      running = c.in-Ok-advance.ensures.running;
+      same = goes u v after cmd same (c.in-Ok-advance.ensures.row place).1;
+      underway = rw c.from.ensures (goes-on u.gaps (tables_for u) (heading_for u) c.args.from c.args.bytes.now u.state c.args.steps.now c.commands.at v.state c.commands.steps on cmd read c.if-cmd-eq-END.false after.state c.advance.new.steps (row-over u v place v.state cmd _ same (c.in-Ok-advance.ensures.row place).0) (steps-over u v v.state cmd c.advance.new.steps c.commands.steps same c.in-Ok-advance.ensures.steps));
+      gap = rw c.from.ensures (gap-goes-on c.args.bytes.now c.commands.at cmd v.sorry after.sorry read (c.in-Ok-advance.ensures.row place).1.sorry c.commands.invariant.gap);
+      most = rw c.from.ensures (more-steps c.args.steps.now c.commands.steps c.advance.new.steps c.commands.at cmd.len (length u.file) c.commands.invariant.most (most-over u v c.advance.new.steps c.commands.steps same c.in-Ok-advance.ensures.most) ahead.0);
     }

@@ -2,6 +2,7 @@ use Rattle.std.specs.Prelude.{◌↔◌}
 use Rattle.std.proofs.Common.{◌≡◌, ◌≤◌, ◌⊎◌, ◌+◌, ◌*◌, ◌-◌, true, length, drop}
 use Rattle.mz_machine.specs.BodyAnswers.{HasGap}
 use Rattle.mz_machine.specs.Steps.{tables_for, heading_for}
+use Rattle.mz_machine.specs.Running.{IsRunning, machine_of}
 use Rattle.mz_machine.proofs.BodyUnderway.{IsUnderway}
 use Rattle.mz_machine.proofs.BodyRunning.{IsSameBody}
 use Rattle.mz_machine.proofs.body.run.Given as goal
@@ -9,9 +10,10 @@ use Rattle.mz_machine.proofs.body.run.Given as goal
 abbrev pub invariant-commands : goal.invariant-commands
 invariant-commands g l = record {
   in_range : l.at ≤ length l.bytes;
-  same : IsSameBody l.fn.start l.machine;
-  underway : IsUnderway l.fn.start.gaps (tables_for l.fn.start) (heading_for l.fn.start) l.from l.bytes l.fn.start.state l.fn.steps l.at l.machine.state l.steps;
-  gap : HasGap l.bytes ↔ ((l.machine.sorry ≡ true) ⊎ HasGap (drop l.at l.bytes));
+  running : IsRunning l.setting l.parts;
+  same : IsSameBody l.fn.start (machine_of l.setting l.parts);
+  underway : IsUnderway l.fn.start.gaps (tables_for l.fn.start) (heading_for l.fn.start) l.from l.bytes l.fn.start.state l.fn.steps l.at (machine_of l.setting l.parts).state l.steps;
+  gap : HasGap l.bytes ↔ ((l.parts.sorry ≡ true) ⊎ HasGap (drop l.at l.bytes));
   most : l.steps ≤ l.fn.steps + l.at * (length l.fn.start.file + 1);
 }
 

@@ -1,7 +1,7 @@
 use Rattle.std.proofs.Common.{[], ◌∷◌, refl}
 use Rattle.std.proofs.lemmas.Result.{err_from_is_err_and}
 use Rattle.mz_unify.proofs.Offered.{items-in-both}
-use Rattle.mz_machine.specs.Before.{tables_of}
+use Rattle.mz_earlier.specs.Before.{tables_of}
 use Rattle.mz_machine.specs.OverStore.{state_at}
 use Rattle.mz_machine.proofs.RowResults.{sorry-row}
 use Rattle.mz_machine.proofs.commands.convert.Goals as goal

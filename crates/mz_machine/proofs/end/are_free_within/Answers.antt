@@ -1,11 +1,17 @@
-use Rattle.std.proofs.Common.{◌≡◌, Bool, sym, ap, subst, nat_eq}
-use Rattle.std.specs.Prelude.{bit_and}
-use Rattle.mz_logic.specs.Words.{word_deps}
-use Rattle.mz_machine.proofs.FreeWords.{free-test}
+use Rattle.std.proofs.Common.{subst}
+use Rattle.mz_store.specs.Bits.{Tells, bound_vars}
+use Rattle.mz_store.specs.Sharing.{IsTold, sort_of, tree_of}
+use Rattle.mz_earlier.specs.Before.{signatures_of}
+use Rattle.mz_earlier.proofs.Offered.{free-test}
 use Rattle.mz_machine.proofs.end.are_free_within.Goals as goal
 
 pub returns : goal.returns
 returns c =
+    let E = c.args.earlier.now in
+    let s = c.args.store.now in
+    let i = c.args.target.0 in
     let row = c.requires.row in
+    let (dummies, is, all) = c.requires.context in
     rw (c.deps.ensures, c.requires.word)
-    (free-test c.args.earlier.now c.args.store.now c.args.row c.args.target.0 c.deps-told.result row.3 c.requires.over c.requires.mode c.requires.context c.requires.target (c.deps-told.ensures.variables _ c.requires.over))
+    (free-test E c.args.row s.context dummies (tree_of s i) (sort_of s i) c.deps-told.result row.3 is all (c.requires.over i c.requires.target).0
+    (subst (λ m. Tells (bound_vars s.context) c.deps-told.result (IsTold m (signatures_of E) s.context (tree_of s i))) c.requires.mode (c.deps-told.ensures.variables _ c.requires.over)))

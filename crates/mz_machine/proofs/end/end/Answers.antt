@@ -1,15 +1,17 @@
-use Rattle.std.proofs.Common.{◌≡◌, ◌∙◌, map, ap, sym, subst, refl}
+use Rattle.std.proofs.Common.{◌∙◌, map, ap, sym, subst, refl}
 use Rattle.std.specs.List.{range_with_len}
 use Rattle.mz_logic.specs.Tree.{var}
 use Rattle.mz_store.specs.Sharing.{tree_of}
 use Rattle.mz_unification.specs.UnifyMachine.{unify, unify_steps}
-use Rattle.mz_machine.specs.Before.{heading_by, tables_of, signatures_of}
+use Rattle.mz_earlier.specs.OwnRow.{heading_by, kind_of}
+use Rattle.mz_earlier.specs.Before.{tables_of, signatures_of}
 use Rattle.mz_soundness.specs.ProofMachine.{last_item, ending}
 use Rattle.mz_soundness.specs.Tables.{Kind}
-use Rattle.mz_machine.specs.OverStore.{kind_of, state_at}
+use Rattle.mz_machine.specs.OverStore.{state_at}
 use Rattle.mz_machine.specs.Endings.{IsOwnRun}
 use Rattle.mz_unification.specs.Profile.{strict}
-use Rattle.mz_machine.proofs.Ending.{kind-is, no-last-item, not-ending, is-ending, stopped-end, no-end-steps, end-steps, own-end, own-matching}
+use Rattle.mz_earlier.proofs.Offered.{kind-is}
+use Rattle.mz_machine.proofs.Ending.{no-last-item, not-ending, is-ending, stopped-end, no-end-steps, end-steps, own-end, own-matching}
 use Rattle.mz_machine.proofs.Unfoldings.{no-more, unless-more}
 use Rattle.mz_machine.proofs.end.end.Goals as goal
 
@@ -70,7 +72,7 @@ returns-clause-row g c heap =
     let last = ap (λ (k : Kind). last_item k st.stack) is ∙ c.in-Ok.ensures.last in
     let ends = ap (λ (k : Kind). ending strict (tables_of E) h st k (tree_of s c.in-Ok.target.0)) is ∙ c.in_default.ensures st refl in
     let m = is-ending (tables_of E) h st _ _ last ends in
-    let own = own-matching h st kind s c.own_stream-stream.result.now c.in-Some.operands.items c.in-Ok.target c.in-Some-own_proofs.proofs.items c.own_stream-stream.ensures.stream (c.in-Some.ensures.trees ∙ ap (λ n. map var (range_with_len 0 n)) c.own_arity.ensures) c.in-Some-own_proofs.ensures.items in
+    let own = own-matching h st kind s c.own_stream-stream.result.now c.in-Some.operands.items c.in-Ok.target c.in-Some-own_proofs.proofs.items c.own_stream-stream.ensures.stream (c.in-Some.ensures.trees ∙ ap (λ n. map var (range_with_len 0 n)) c.own_arity.ensures.params) c.in-Some-own_proofs.ensures.items in
     own-end (tables_of E) h st _ c.run_own.result m (subst (λ n. IsOwnRun (unify strict (signatures_of E) s.context n) c.run_own.result) own c.run_own.ensures.run)
 
 pub returns-clause-steps : goal.returns-clause-steps
@@ -84,5 +86,5 @@ returns-clause-steps g c heap =
     let last = ap (λ (k : Kind). last_item k st.stack) is ∙ c.in-Ok.ensures.last in
     let ends = ap (λ (k : Kind). ending strict (tables_of E) h st k (tree_of s c.in-Ok.target.0)) is ∙ c.in_default.ensures st refl in
     let m = is-ending (tables_of E) h st _ _ last ends in
-    let own = own-matching h st kind s c.own_stream-stream.result.now c.in-Some.operands.items c.in-Ok.target c.in-Some-own_proofs.proofs.items c.own_stream-stream.ensures.stream (c.in-Some.ensures.trees ∙ ap (λ n. map var (range_with_len 0 n)) c.own_arity.ensures) c.in-Some-own_proofs.ensures.items in
+    let own = own-matching h st kind s c.own_stream-stream.result.now c.in-Some.operands.items c.in-Ok.target c.in-Some-own_proofs.proofs.items c.own_stream-stream.ensures.stream (c.in-Some.ensures.trees ∙ ap (λ n. map var (range_with_len 0 n)) c.own_arity.ensures.params) c.in-Some-own_proofs.ensures.items in
     unless-more c.run_own.result _ _ _ _ c.run_own.ensures.steps (end-steps (tables_of E) h st _ m ∙ sym (ap (λ n. unify_steps strict (signatures_of E) s.context n) own))

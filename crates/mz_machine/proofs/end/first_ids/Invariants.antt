@@ -1,6 +1,6 @@
 use Rattle.std.proofs.Common.{◌≡◌, map}
 use Rattle.std.specs.List.{range_with_len}
-use Rattle.mz_logic.specs.Tree.{Tree, var}
+use Rattle.mz_logic.specs.Tree.{var}
 use Rattle.mz_store.specs.Sharing.{AreIn}
 use Rattle.mz_unify.specs.Stored.{trees_at, AreVariables}
 use Rattle.mz_machine.proofs.end.first_ids.Given as goal

@@ -1,10 +1,8 @@
-use Rattle.std.proofs.Common.{ℕ, zero, suc, ◌≡◌, ◌≤◌, ◌<◌, ◌+◌, ◌-◌, ◌∷◌, [], ◌++◌, length, refl, sym, ap, ◌∙◌, subst, arith, length-append}
+use Rattle.std.proofs.Common.{ℕ, zero, suc, ◌≡◌, ◌+◌, ◌-◌, ◌∷◌, [], length, refl, sym, ap, ◌∙◌, arith, length-append}
 use Rattle.std.proofs.lemmas.List.{length-reverse}
-use Rattle.mz_store.specs.Sharing.{tree_of}
-use Rattle.mz_unify.specs.Stored.{items_at, trees_at, stack_at}
+use Rattle.mz_unify.specs.Stored.{stack_at}
 use Rattle.mz_unify.proofs.Offered.{stack-push, are-in-both, are-in-reverse}
-use Rattle.mz_soundness.specs.Premises.{pop_exprs}
-use Rattle.mz_machine.proofs.TakenOperands.{pop-next, pop-stop, pop-enough, pop-few}
+use Rattle.mz_machine.proofs.TakenOperands.{pop-next, pop-stop, pop-enough}
 use Rattle.mz_machine.proofs.fitting.pop_operands.Goals as goal
 
 pub operands-init : goal.operands-init

@@ -1,15 +1,13 @@
-use Rattle.std.proofs.Common.{◌≡◌, ◌+◌, ◌∙◌, arith, refl, suc, sym, ap, subst, Err}
+use Rattle.std.proofs.Common.{◌∙◌, arith, refl, sym, subst}
 use Rattle.std.proofs.lemmas.Result.{err_from_is_err_and}
-use Rattle.mz_cmd.specs.declared.rule.K.{K}
 use Rattle.mz_mode.specs.Gaps.{gaps_of}
-use Rattle.mz_machine.specs.Before.{kind_at, tables_of}
-use Rattle.mz_machine.specs.OverStore.{code_of, kind_of, state_at, Gives}
-use Rattle.mz_soundness.specs.Bodies.{BodyCommand, row_steps}
+use Rattle.mz_earlier.specs.OwnRow.{kind_at, kind_of}
+use Rattle.mz_earlier.specs.Before.{tables_of}
+use Rattle.mz_machine.specs.OverStore.{code_of, state_at}
+use Rattle.mz_soundness.specs.Bodies.{row_steps}
 use Rattle.mz_unification.specs.Profile.{strict}
 use Rattle.mz_machine.specs.Steps.{TakesNone}
-use Rattle.mz_soundness.specs.Tables.{Kind}
 use Rattle.mz_machine.proofs.Machines.{one-here, tells-all}
-use Rattle.mz_machine.proofs.Unfoldings.{unless-more}
 use Rattle.mz_machine.proofs.GapRows.{stands-here, its-row, its-gap, its-steps, gap-steps, gives-as, counts-as}
 use Rattle.mz_machine.proofs.machine.obey.Goals as goal
 

@@ -1,11 +1,11 @@
 use Rattle.std.proofs.Common.{◌≡◌, ◌++◌, drop}
 use Rattle.mz_logic.specs.Words.{binders_of, bound_places}
-use Rattle.mz_match.specs.RowWords.{words_of}
+use Rattle.mz_layout.specs.Rows.{params_of}
 use Rattle.mz_match.proofs.Spelled.{ParamsLeft}
 use Rattle.mz_match.proofs.signature.has_params.Given as goal
 
 abbrev pub invariant-loop-i : goal.invariant-loop-i
 invariant-loop-i l = record {
-  left : ParamsLeft l.params (words_of l.mmb l.row) (l.params ≡ binders_of (words_of l.mmb l.row)) l.i l.places.items;
-  places : l.places.items ++ bound_places l.i (drop l.i (words_of l.mmb l.row)) ≡ bound_places 0 (words_of l.mmb l.row);
+  left : ParamsLeft l.params (params_of l.mmb l.row) (l.params ≡ binders_of (params_of l.mmb l.row)) l.i l.places.items;
+  places : l.places.items ++ bound_places l.i (drop l.i (params_of l.mmb l.row)) ≡ bound_places 0 (params_of l.mmb l.row);
 }

@@ -2,17 +2,16 @@ use Rattle.std.proofs.Common.{◌≡◌, ◌+◌, ◌∙◌, suc, [], ◌∷◌,
 use Rattle.mz_checks.proofs.Offered.{Decides, decides-whole}
 use Rattle.mz_sexpr.specs.Number.{node_at, nodes_after}
 use Rattle.mz_mode.specs.Gaps.{gaps_of}
-use Rattle.mz_mmu.specs.Cursor.{nodes_from, IsThere, nodes_size}
+use Rattle.mz_forms.specs.Cursor.{nodes_from, IsThere, nodes_size}
 use Rattle.mz_mmu.specs.EntryView.{entry, root, AreNumbers}
-use Rattle.mz_mmu.specs.Statements.{no_names, AreStatements}
-use Rattle.mz_mmu.specs.Order.{statements_asked}
-use Rattle.mz_mmu.specs.ScopeView.{names}
-use Rattle.mz_mmu.specs.StatementView.{stated}
-use Rattle.mz_mmu.proofs.Cursors.{stands_from, stands_there, stepped, node_size_positive}
+use Rattle.mz_forms.specs.Statements.{no_names, AreStatements}
+use Rattle.mz_forms.specs.Order.{statements_asked}
+use Rattle.mz_forms.specs.ScopeView.{names}
+use Rattle.mz_forms.specs.StatementView.{stated}
+use Rattle.mz_forms.proofs.Offered.{length-more, node_size_positive, stands_from, stands_there, stepped}
 use Rattle.mz_mmu.proofs.Declared.{Agrees, statement_says}
-use Rattle.mz_mmu.proofs.Keys.{length-more}
 use Rattle.std.proofs.lemmas.List.{map-append}
-use Rattle.mz_mmu.specs.NamesMore.{AreFew}
+use Rattle.mz_forms.specs.NamesMore.{AreFew}
 use Rattle.mz_mmu.proofs.TextSteps.{statements_read_more, statements_asked_more, numbers_more, few_more, agrees_more, agrees_first, few_first, text_stops}
 use Rattle.mz_mmu.proofs.text.read_all.Goals as goal
 

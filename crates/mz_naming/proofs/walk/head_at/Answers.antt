@@ -1,5 +1,5 @@
 use Rattle.std.proofs.Common.{◌∙◌, sym}
-use Rattle.mz_binary.proofs.Offered.{stands-here}
+use Rattle.mz_layout.proofs.Offered.{stands-here}
 use Rattle.mz_naming.proofs.walk.head_at.Goals as goal
 
 pub returns-in-Ok-Head-clause-there : goal.returns-in-Ok-Head-clause-there

@@ -6,9 +6,9 @@ use Rattle.mz_logic.specs.declared.word.Word.{Word}
 use Rattle.mz_punify.specs.Stored.{trees_at}
 use Rattle.mz_punify.proofs.Offered.{is-in-at, length-trees, tree-at}
 use Rattle.mz_unification.proofs.Offered.{some_is}
-use Rattle.mz_machine.specs.Before.{signatures_of}
-use Rattle.mz_pmachine.specs.OperandRows.{params_of}
-use Rattle.mz_machine.proofs.Offered.{is-there, place-below, place-fits, decides-first, decides-end, decides-not, decides-next, row-asked}
+use Rattle.mz_earlier.specs.Before.{signatures_of}
+use Rattle.mz_layout.specs.Rows.{params_of}
+use Rattle.mz_earlier.proofs.Offered.{is-there, place-below, place-fits, decides-first, decides-end, decides-not, decides-next, row-asked}
 use Rattle.mz_pmachine.proofs.Apartness.{apart-at-once}
 use Rattle.mz_pmachine.proofs.apart.is_apart.Goals as goal
 

@@ -1,17 +1,18 @@
 use Rattle.std.proofs.Common.{◌+◌, ◌∙◌, length, sym, ap, arith}
+use Rattle.mz_pmachine.specs.Running.{machine_of}
 use Rattle.mz_pmachine.specs.Steps.{tables_for, heading_for}
 use Rattle.mz_pmachine.proofs.BodyUnderway.{at-first, cut-whole, long-whole, end-whole, end-refused, end-many, refused-whole, refused-many, goes-on, further, ends-there, goes-further}
-use Rattle.mz_pmachine.proofs.BodyRunning.{itself, goes, row-over, steps-over, most-over, end-answer, end-counts, more-steps, within-steps}
+use Rattle.mz_pmachine.proofs.BodyRunning.{itself, goes, row-over, steps-over, most-over, end-answer, end-counts, stop-answer, stop-counts, more-steps, within-steps}
 use Rattle.mz_pmachine.proofs.body.run.Goals as goal
 
 pub commands-init : goal.commands-init
 commands-init g c =
-    record { in_range = omega arith; same = itself c.args.start; underway = at-first (tables_for c.args.start) (heading_for c.args.start) c.args.from c.args.bytes.now c.args.start.state c.args.steps.now; first = omega (arith, c.requires.first); most = omega arith }
+    record { in_range = omega arith; running = c.requires.running; same = itself (machine_of c.args.start.setting c.args.start.parts); underway = at-first (tables_for (machine_of c.args.start.setting c.args.start.parts)) (heading_for (machine_of c.args.start.setting c.args.start.parts)) c.args.from c.args.bytes.now (machine_of c.args.start.setting c.args.start.parts).state c.args.steps.now; first = omega (arith, c.requires.first); most = omega arith }
 
 pub returns-in_default-clause-run : goal.returns-in_default-clause-run
 returns-in_default-clause-run g c =
-    let u = c.args.start in
-    let v = c.commands.machine in
+    let u = machine_of c.args.start.setting c.args.start.parts in
+    let v = machine_of c.args.start.setting c.commands.parts in
     let same = c.commands.invariant.same in
     let on = c.commands.invariant.underway in
     let place = c.args.from + c.commands.at in
@@ -19,8 +20,8 @@ returns-in_default-clause-run g c =
 
 pub returns-in_default-clause-steps : goal.returns-in_default-clause-steps
 returns-in_default-clause-steps g c =
-    let u = c.args.start in
-    let v = c.commands.machine in
+    let u = machine_of c.args.start.setting c.args.start.parts in
+    let v = machine_of c.args.start.setting c.commands.parts in
     let same = c.commands.invariant.same in
     let on = c.commands.invariant.underway in
     let place = c.args.from + c.commands.at in
@@ -28,8 +29,8 @@ returns-in_default-clause-steps g c =
 
 pub returns-then-next-bytes-clause-run : goal.returns-then-next-bytes-clause-run
 returns-then-next-bytes-clause-run g c =
-    let u = c.args.start in
-    let v = c.commands.machine in
+    let u = machine_of c.args.start.setting c.args.start.parts in
+    let v = machine_of c.args.start.setting c.commands.parts in
     let same = c.commands.invariant.same in
     let on = c.commands.invariant.underway in
     let place = c.args.from + c.commands.at in
@@ -41,8 +42,8 @@ returns-then-next-bytes-clause-run g c =
 
 pub returns-then-next-bytes-clause-steps : goal.returns-then-next-bytes-clause-steps
 returns-then-next-bytes-clause-steps g c =
-    let u = c.args.start in
-    let v = c.commands.machine in
+    let u = machine_of c.args.start.setting c.args.start.parts in
+    let v = machine_of c.args.start.setting c.commands.parts in
     let same = c.commands.invariant.same in
     let on = c.commands.invariant.underway in
     let place = c.args.from + c.commands.at in
@@ -54,8 +55,8 @@ returns-then-next-bytes-clause-steps g c =
 
 pub returns-then-cmd-eq-END-clause-run : goal.returns-then-cmd-eq-END-clause-run
 returns-then-cmd-eq-END-clause-run g c =
-    let u = c.args.start in
-    let v = c.commands.machine in
+    let u = machine_of c.args.start.setting c.args.start.parts in
+    let v = machine_of c.args.start.setting c.commands.parts in
     let same = c.commands.invariant.same in
     let on = c.commands.invariant.underway in
     let place = c.args.from + c.commands.at in
@@ -70,8 +71,8 @@ returns-then-cmd-eq-END-clause-run g c =
 
 pub returns-then-cmd-eq-END-clause-steps : goal.returns-then-cmd-eq-END-clause-steps
 returns-then-cmd-eq-END-clause-steps g c =
-    let u = c.args.start in
-    let v = c.commands.machine in
+    let u = machine_of c.args.start.setting c.args.start.parts in
+    let v = machine_of c.args.start.setting c.commands.parts in
     let same = c.commands.invariant.same in
     let on = c.commands.invariant.underway in
     let place = c.args.from + c.commands.at in
@@ -85,8 +86,8 @@ returns-then-cmd-eq-END-clause-steps g c =
 
 pub returns-then-cmd-eq-END-clause-most : goal.returns-then-cmd-eq-END-clause-most
 returns-then-cmd-eq-END-clause-most g c =
-    let u = c.args.start in
-    let v = c.commands.machine in
+    let u = machine_of c.args.start.setting c.args.start.parts in
+    let v = machine_of c.args.start.setting c.commands.parts in
     let same = c.commands.invariant.same in
     let on = c.commands.invariant.underway in
     let place = c.args.from + c.commands.at in
@@ -96,56 +97,44 @@ returns-then-cmd-eq-END-clause-most g c =
     within-steps c.args.steps.now c.finish.new.steps (c.commands.at + cmd.len) (length c.args.bytes.now) (length u.file)
     (more-steps c.args.steps.now c.commands.steps c.finish.new.steps c.commands.at cmd.len (length u.file) c.commands.invariant.most (most-over u v c.finish.new.steps c.commands.steps same c.finish.ensures.most) ahead.0) ahead.1
 
-pub returns-in-Refused-clause-run : goal.returns-in-Refused-clause-run
-returns-in-Refused-clause-run g c =
-    let u = c.args.start in
-    let v = c.commands.machine in
+pub returns-in-Err-clause-run : goal.returns-in-Err-clause-run
+returns-in-Err-clause-run g c =
+    let u = machine_of c.args.start.setting c.args.start.parts in
+    let v = machine_of c.args.start.setting c.commands.parts in
     let same = c.commands.invariant.same in
     let on = c.commands.invariant.underway in
     let place = c.args.from + c.commands.at in
     let cmd = c.in-Ok.cmd in
     let read = sym c.in-Ok.ensures.computed in
-    let ahead = further c.args.bytes.now c.commands.at cmd read c.commands.invariant.in_range in
-    refused-whole (tables_for u) (heading_for u) c.args.from c.args.bytes.now u.state c.args.steps.now c.commands.at v.state c.commands.steps on cmd read c.if-cmd-eq-END.false c.in-Refused.rule (row-over u v place v.state cmd _ same c.in-Refused.ensures.row)
+    rw c.stopped.ensures
+    (stop-answer u v _ place cmd (machine_of c.args.start.setting c.advance.new.parts) c.in-Err.stop same
+    (λ d row. refused-whole (tables_for u) (heading_for u) c.args.from c.args.bytes.now u.state c.args.steps.now c.commands.at v.state c.commands.steps on cmd read c.if-cmd-eq-END.false d row) c.in-Err.ensures.row)
 
-pub returns-in-Refused-clause-steps : goal.returns-in-Refused-clause-steps
-returns-in-Refused-clause-steps g c =
-    let u = c.args.start in
-    let v = c.commands.machine in
+pub returns-in-Err-clause-steps : goal.returns-in-Err-clause-steps
+returns-in-Err-clause-steps g c =
+    let u = machine_of c.args.start.setting c.args.start.parts in
+    let v = machine_of c.args.start.setting c.commands.parts in
     let same = c.commands.invariant.same in
     let on = c.commands.invariant.underway in
     let place = c.args.from + c.commands.at in
     let cmd = c.in-Ok.cmd in
     let read = sym c.in-Ok.ensures.computed in
-    let ahead = further c.args.bytes.now c.commands.at cmd read c.commands.invariant.in_range in
-    refused-many (tables_for u) (heading_for u) c.args.from c.args.bytes.now u.state c.args.steps.now c.commands.at v.state c.commands.steps on cmd read c.if-cmd-eq-END.false c.in-Refused.rule c.step.new.steps (row-over u v place v.state cmd _ same c.in-Refused.ensures.row)
-    (steps-over u v v.state cmd c.step.new.steps c.commands.steps same c.in-Refused.ensures.steps)
+    rw c.stopped.ensures
+    (stop-counts u v place c.advance.new.steps c.commands.steps _ cmd (machine_of c.args.start.setting c.advance.new.parts) c.in-Err.stop same c.in-Err.ensures.row c.in-Err.ensures.steps
+    (λ d row many. refused-many (tables_for u) (heading_for u) c.args.from c.args.bytes.now u.state c.args.steps.now c.commands.at v.state c.commands.steps on cmd read c.if-cmd-eq-END.false d c.advance.new.steps row many))
 
-pub returns-in-Refused-clause-most : goal.returns-in-Refused-clause-most
-returns-in-Refused-clause-most g c =
-    let u = c.args.start in
-    let v = c.commands.machine in
+pub returns-in-Err-clause-most : goal.returns-in-Err-clause-most
+returns-in-Err-clause-most g c =
+    let u = machine_of c.args.start.setting c.args.start.parts in
+    let v = machine_of c.args.start.setting c.commands.parts in
     let same = c.commands.invariant.same in
     let on = c.commands.invariant.underway in
     let place = c.args.from + c.commands.at in
     let cmd = c.in-Ok.cmd in
     let read = sym c.in-Ok.ensures.computed in
     let ahead = further c.args.bytes.now c.commands.at cmd read c.commands.invariant.in_range in
-    within-steps c.args.steps.now c.step.new.steps (c.commands.at + cmd.len) (length c.args.bytes.now) (length u.file)
-    (more-steps c.args.steps.now c.commands.steps c.step.new.steps c.commands.at cmd.len (length u.file) c.commands.invariant.most (most-over u v c.step.new.steps c.commands.steps same c.in-Refused.ensures.most) ahead.0) ahead.1
-
-pub returns-in-Mem-clause-most : goal.returns-in-Mem-clause-most
-returns-in-Mem-clause-most g c =
-    let u = c.args.start in
-    let v = c.commands.machine in
-    let same = c.commands.invariant.same in
-    let on = c.commands.invariant.underway in
-    let place = c.args.from + c.commands.at in
-    let cmd = c.in-Ok.cmd in
-    let read = sym c.in-Ok.ensures.computed in
-    let ahead = further c.args.bytes.now c.commands.at cmd read c.commands.invariant.in_range in
-    within-steps c.args.steps.now c.step.new.steps (c.commands.at + cmd.len) (length c.args.bytes.now) (length u.file)
-    (more-steps c.args.steps.now c.commands.steps c.step.new.steps c.commands.at cmd.len (length u.file) c.commands.invariant.most (most-over u v c.step.new.steps c.commands.steps same c.in-Mem.ensures.most) ahead.0) ahead.1
+    within-steps c.args.steps.now c.advance.new.steps (c.commands.at + cmd.len) (length c.args.bytes.now) (length u.file)
+    (more-steps c.args.steps.now c.commands.steps c.advance.new.steps c.commands.at cmd.len (length u.file) c.commands.invariant.most (most-over u v c.advance.new.steps c.commands.steps same c.advance.ensures.most) ahead.0) ahead.1
 
 pub commands-smaller : goal.commands-smaller
 commands-smaller g c =
@@ -156,20 +145,22 @@ commands-smaller g c =
 
 pub commands-preserved : goal.commands-preserved
 commands-preserved g c =
-    let u = c.args.start in
-    let v = c.commands.machine in
+    let u = machine_of c.args.start.setting c.args.start.parts in
+    let v = machine_of c.args.start.setting c.commands.parts in
     let same = c.commands.invariant.same in
     let on = c.commands.invariant.underway in
     let place = c.args.from + c.commands.at in
     let cmd = c.in-Ok.cmd in
     let read = sym c.in-Ok.ensures.computed in
     let ahead = further c.args.bytes.now c.commands.at cmd read c.commands.invariant.in_range in
+    let after = machine_of c.args.start.setting c.advance.new.parts in
     record {
       in_range = rw c.from.ensures ahead.1;
-      same = goes u v c.in-Machine.after place same c.in-Machine.ensures.row.1;
+      running = c.in-Ok-advance.ensures.running;
+      same = goes u v after place same c.in-Ok-advance.ensures.row.1;
       underway = rw c.from.ensures
-          (goes-on (tables_for u) (heading_for u) c.args.from c.args.bytes.now u.state c.args.steps.now c.commands.at v.state c.commands.steps on cmd read c.if-cmd-eq-END.false c.in-Machine.after.state c.step.new.steps
-          (row-over u v place v.state cmd _ same c.in-Machine.ensures.row.0) (steps-over u v v.state cmd c.step.new.steps c.commands.steps same c.in-Machine.ensures.steps));
-      first = rw c.from.ensures (omega (arith, ahead.0, c.in-Machine.ensures.row.1.next));
-      most = rw c.from.ensures (more-steps c.args.steps.now c.commands.steps c.step.new.steps c.commands.at cmd.len (length u.file) c.commands.invariant.most (most-over u v c.step.new.steps c.commands.steps same c.in-Machine.ensures.most) ahead.0);
+          (goes-on (tables_for u) (heading_for u) c.args.from c.args.bytes.now u.state c.args.steps.now c.commands.at v.state c.commands.steps on cmd read c.if-cmd-eq-END.false after.state c.advance.new.steps
+          (row-over u v place v.state cmd _ same c.in-Ok-advance.ensures.row.0) (steps-over u v v.state cmd c.advance.new.steps c.commands.steps same c.in-Ok-advance.ensures.steps));
+      first = rw c.from.ensures (omega (arith, ahead.0, c.in-Ok-advance.ensures.row.1.next));
+      most = rw c.from.ensures (more-steps c.args.steps.now c.commands.steps c.advance.new.steps c.commands.at cmd.len (length u.file) c.commands.invariant.most (most-over u v c.advance.new.steps c.commands.steps same c.in-Ok-advance.ensures.most) ahead.0);
     }

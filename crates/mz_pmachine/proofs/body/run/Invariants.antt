@@ -1,5 +1,6 @@
 use Rattle.std.proofs.Common.{◌≤◌, ◌+◌, ◌*◌, ◌-◌, length}
 use Rattle.mz_pmachine.specs.Steps.{tables_for, heading_for}
+use Rattle.mz_pmachine.specs.Running.{IsRunning, machine_of}
 use Rattle.mz_pmachine.proofs.BodyUnderway.{IsUnderway}
 use Rattle.mz_pmachine.proofs.BodyRunning.{IsSameBody}
 use Rattle.mz_pmachine.proofs.body.run.Given as goal
@@ -7,10 +8,11 @@ use Rattle.mz_pmachine.proofs.body.run.Given as goal
 abbrev pub invariant-commands : goal.invariant-commands
 invariant-commands g l = record {
   in_range : l.at ≤ length l.bytes;
-  same : IsSameBody l.fn.start l.machine;
-  underway : IsUnderway (tables_for l.fn.start) (heading_for l.fn.start) l.from l.bytes l.fn.start.state l.fn.steps l.at l.machine.state l.steps;
-  first : l.machine.next ≤ l.from + l.at;
-  most : l.steps ≤ l.fn.steps + l.at * (length l.fn.start.file + 1);
+  running : IsRunning l.setting l.parts;
+  same : IsSameBody (machine_of l.fn.start.setting l.fn.start.parts) (machine_of l.setting l.parts);
+  underway : IsUnderway (tables_for (machine_of l.fn.start.setting l.fn.start.parts)) (heading_for (machine_of l.fn.start.setting l.fn.start.parts)) l.from l.bytes (machine_of l.fn.start.setting l.fn.start.parts).state l.fn.steps l.at (machine_of l.setting l.parts).state l.steps;
+  first : (machine_of l.setting l.parts).next ≤ l.from + l.at;
+  most : l.steps ≤ l.fn.steps + l.at * (length l.fn.start.setting.earlier.file + 1);
 }
 
 abbrev pub decreases-commands : goal.decreases-commands

@@ -1,6 +1,6 @@
 use Rattle.std.proofs.Common.{sym, subst}
 use Rattle.mz_nodes.specs.Numbering.{IsOver}
-use Rattle.mz_machine.proofs.Offered.{signatures-before}
+use Rattle.mz_earlier.proofs.Offered.{signatures-before}
 use Rattle.mz_pmachine.proofs.end.run_own.Goals as goal
 
 pub unify-requires-clause-over : goal.unify-requires-clause-over

@@ -1,8 +1,9 @@
 use Rattle.std.proofs.Common.{arith, ap}
-use Rattle.mz_machine.specs.Before.{kind_at, tables_of}
+use Rattle.mz_earlier.specs.OwnRow.{kind_at, kind_of}
+use Rattle.mz_earlier.specs.Before.{tables_of}
 use Rattle.mz_numbered.specs.Numbered.{portable}
 use Rattle.mz_soundness.specs.Bodies.{row_steps}
-use Rattle.mz_pmachine.specs.OverNodes.{code_of, kind_of, state_at}
+use Rattle.mz_pmachine.specs.OverNodes.{code_of, state_at}
 use Rattle.mz_pmachine.specs.Steps.{row_by, steps_by}
 use Rattle.mz_pmachine.proofs.Machines.{one-here, gives-as, counts-as}
 use Rattle.mz_pmachine.proofs.machine.obey.Goals as goal

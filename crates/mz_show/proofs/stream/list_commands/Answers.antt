@@ -1,6 +1,6 @@
 use Rattle.std.proofs.Common.{◌+◌, ◌∙◌, ℕ, sym, subst, arith}
+use Rattle.mz_layout.proofs.Offered.{command-takes}
 use Rattle.mz_show.proofs.Appending.{Listed, listed-more}
-use Rattle.mz_show.proofs.Commands.{command-takes}
 use Rattle.mz_show.proofs.stream.list_commands.Goals as goal
 
 pub overflow_add-at : goal.overflow_add-at

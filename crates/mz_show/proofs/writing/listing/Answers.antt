@@ -6,6 +6,11 @@ use Rattle.mz_show.specs.Listing.{IsListing, IsListedUpTo, IsListed, IsNoBinary}
 use Rattle.mz_show.proofs.OneListing.{listing-excludes}
 use Rattle.mz_show.proofs.writing.listing.Goals as goal
 
+pub returns-in-Ok-clause-refused : goal.returns-in-Ok-clause-refused
+returns-in-Ok-clause-refused g c = λ refusal is.
+    let r = c.list_statements.ensures.refused refusal is in
+    (r.0, subst (λ (file : List ℕ). IsListedUpTo file r.0 refusal) c.in-Ok.ensures.0 r.1, r.2, r.3)
+
 pub returns-in-Ok-clause-prefix : goal.returns-in-Ok-clause-prefix
 returns-in-Ok-clause-prefix g c = λ which.
     let p = c.list_statements.ensures.prefix which in

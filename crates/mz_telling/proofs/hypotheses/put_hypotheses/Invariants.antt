@@ -2,7 +2,7 @@ use Rattle.std.proofs.Common.{drop}
 use Rattle.mz_phrasing.specs.Naming.{vocabulary_by}
 use Rattle.mz_stating.specs.ByNumber.{phrases_at}
 use Rattle.mz_telling.specs.Adding.{AreAdded}
-use Rattle.mz_telling.specs.Rows.{named}
+use Rattle.mz_telling.specs.Hypotheses.{named}
 use Rattle.mz_telling.proofs.hypotheses.put_hypotheses.Given as goal
 
 abbrev pub invariant-hypotheses : goal.invariant-hypotheses

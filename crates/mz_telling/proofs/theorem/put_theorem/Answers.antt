@@ -5,7 +5,7 @@ use Rattle.mz_phrasing.specs.Phrasing.{binders}
 use Rattle.mz_phrasing.specs.Naming.{vocabulary_by}
 use Rattle.mz_stating.specs.ByNumber.{phrases_at}
 use Rattle.mz_telling.specs.Adding.{Adds}
-use Rattle.mz_telling.specs.Rows.{named}
+use Rattle.mz_telling.specs.Hypotheses.{named}
 use Rattle.mz_telling.proofs.Statements.{theorem-told}
 use Rattle.mz_telling.proofs.theorem.put_theorem.Goals as goal
 

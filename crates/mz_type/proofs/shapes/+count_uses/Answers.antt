@@ -1,8 +1,8 @@
 use Rattle.std.proofs.Common.{◌+◌, drop, sym, ap, ◌∙◌, arith}
 use Rattle.mz_logic.specs.View.{tree, trees}
+use Rattle.mz_typing.proofs.Offered.{size_step, trees_cut}
 use Rattle.mz_type.specs.Shapes.{all_counted}
 use Rattle.mz_type.proofs.Shaping.{total, total_counted}
-use Rattle.mz_type.proofs.Steps.{size_step, trees_cut}
 use Rattle.mz_type.proofs.Weighing.{size_cut}
 use Rattle.mz_type.proofs.shapes.+count_uses.Goals as goal
 

@@ -2,12 +2,13 @@ use Rattle.std.proofs.Common.{◌≡◌, ◌∙◌, ℕ, true, false, Ok, Some, 
 use Rattle.mz_cmd.specs.declared.statement.StmtAt.TheVariants as there
 use Rattle.mz_cmd.specs.Codes.{statement_byte}
 use Rattle.mz_cmd.specs.StatementList.{statement_at}
-use Rattle.mz_machine.specs.Before.{taken_before}
+use Rattle.mz_earlier.specs.Before.{taken_before}
 use Rattle.mz_binary.specs.FileRun.{list_ends, find_at, after_kind}
 use Rattle.mz_binary.specs.Progress.{Progress, IsReached, CountsRows, StandsAt, found_of, is_assertion_kind}
 use Rattle.mz_binary.proofs.Finding.{find-head}
 use Rattle.mz_binary.proofs.GapMarks.{alone-kind, theorem-too}
-use Rattle.mz_binary.proofs.Passing.{code-of, ends-here, run-of}
+use Rattle.mz_binary.proofs.Heads.{code-of}
+use Rattle.mz_binary.proofs.Passing.{ends-here, run-of}
 use Rattle.mz_binary.proofs.Counting.{left-at-end}
 use Rattle.mz_binary.proofs.checker.Checker.check_next.Given.{Over}
 use Rattle.mz_binary.proofs.checker.Checker.check_next.Goals as goal
@@ -35,7 +36,7 @@ no-assertion g c =
     let at = c.self.inside.at in
     let stands = subst (StandsAt file at) c.in-Ok-Alone.field-0-is c.in-Ok-Alone.ensures.stands in
     let there : statement_at file at ≡ Ok (there.Head (statement_byte head.code) head.body head.next) =
-    subst (λ (n : ℕ). statement_at file n ≡ Ok (there.Head (statement_byte head.code) head.body head.next)) stands.1 stands.0 in
+    subst (λ (n : ℕ). statement_at file n ≡ Ok (there.Head (statement_byte head.code) head.body head.next)) stands.at_is stands.stands in
     alone-kind file (taken_before file rows) at head.body head.next (after_kind file (taken_before file rows) head.code) head.next head.code
     (sym (find-head file (taken_before file rows) at (statement_byte head.code) head.body head.next (Some head.code) there (code-of head.code)) ∙ c.in-Ok-Alone.ensures.found ∙ ap (λ s. Ok (found_of file rows s)) c.in-Ok-Alone.field-0-is)
 

@@ -1,7 +1,8 @@
 use Rattle.std.proofs.Common.{◌≡◌, ◌+◌, ◌-◌, ◌*◌, ◌∙◌, ℕ, List, length, refl, sym, ap, subst, arith}
 use Rattle.mz_cmd.specs.Codes.{statement_byte}
 use Rattle.mz_binary.specs.declared.statement.Statement.{Statement as Told}
-use Rattle.mz_binary.specs.Progress.{Progress, IsReached, marks_past, most_left, next_row, rows_past}
+use Rattle.mz_binary.specs.Progress.{Progress, IsReached, marks_past, most_left}
+use Rattle.mz_layout.specs.Heads.{next_row, rows_after}
 use Rattle.mz_binary.proofs.Heads.{head-at}
 use Rattle.mz_binary.proofs.Passing.{IsPast, passes, reached, further, taken-past}
 use Rattle.mz_binary.proofs.Counting.{left-past, most-past, most-here}
@@ -11,23 +12,23 @@ use Rattle.mz_binary.specs.Standards.{lets_gaps}
 use Rattle.mz_soundness.specs.FileRows.{Taken}
 use Rattle.mz_binary.proofs.checker.Checker.past.Goals as goal
 
-abbrev after_of : goal.After-after_rows → Progress
-after_of c = record { standard = c.self.inside.standard; file = c.self.inside.mmb.now; at = c.args.head.next; passed = c.self.inside.passed + 1; rows = c.after_rows.result; marks = c.mark.new.marks.items }
+abbrev after_of : goal.After-after → Progress
+after_of c = record { standard = c.self.inside.standard; file = c.self.inside.mmb.now; at = c.args.head.next; passed = c.self.inside.passed + 1; rows = c.after.result; marks = c.mark.new.marks.items }
 
-abbrev told_of : goal.After-after_rows → Told
-told_of c = record { number = c.self.inside.passed + 1; at = c.self.inside.at; kind = c.kind_of.result; row = c.row_of.result; local = c.is_local.result; gap = c.args.gap }
+abbrev told_of : goal.After-after → Told
+told_of c = record { number = c.self.inside.passed + 1; at = c.self.inside.at; kind = c.kind_of.result; row = c.next.result; local = c.is_local.result; gap = c.args.gap }
 
-past-of : (c : goal.After-after_rows) → IsPast c.args.self (after_of c) (told_of c) c.args.head
+past-of : (c : goal.After-after) → IsPast c.args.self (after_of c) (told_of c) c.args.head
 past-of c = record {
   same_file = ap (λ (q : Progress). q.file) c.self.view_is;
   same_standard = ap (λ (q : Progress). q.standard) c.self.view_is;
   goes_on = refl;
   one_more = ap (λ (q : Progress). q.passed + 1) c.self.view_is;
-  rows_are = c.after_rows.ensures ∙ ap (λ (q : Progress). rows_past q.rows c.args.head.code) c.self.view_is;
+  rows_are = c.after.ensures ∙ ap (λ (q : Progress). rows_after q.rows c.args.head.code) c.self.view_is;
   number = ap (λ (q : Progress). q.passed + 1) c.self.view_is;
   place = ap (λ (q : Progress). q.at) c.self.view_is;
   kind = c.kind_of.ensures;
-  row = c.row_of.ensures ∙ ap (λ (q : Progress). next_row q.rows c.args.head.code) c.self.view_is;
+  row = c.next.ensures ∙ ap (λ (q : Progress). next_row q.rows c.args.head.code) c.self.view_is;
   mark = c.is_local.ensures;
   gap = c.requires.gap;
   marks_are = c.in-Ok.ensures.ok ∙ ap (λ (q : Progress). marks_past (lets_gaps q.standard) c.args.head.code c.args.gap q.marks) c.self.view_is;

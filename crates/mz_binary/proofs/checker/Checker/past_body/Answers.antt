@@ -2,15 +2,17 @@ use Rattle.std.proofs.Common.{◌≡◌, ◌≤◌, ◌+◌, ◌-◌, ◌*◌, �
 use Rattle.mz_cmd.specs.declared.statement.StmtAt.TheVariants as there
 use Rattle.mz_cmd.specs.Codes.{statement_byte}
 use Rattle.mz_cmd.specs.StatementList.{statement_at}
-use Rattle.mz_soundness.specs.FileRows.{Taken, body_bytes}
-use Rattle.mz_machine.specs.Before.{MayRun, heading_of, taken_before}
-use Rattle.mz_binary.specs.declared.place.Head.{Head}
+use Rattle.mz_layout.specs.Heads.{body_bytes, next_row}
+use Rattle.mz_layout.specs.declared.head.Head.{Head}
+use Rattle.mz_soundness.specs.FileRows.{Taken}
+use Rattle.mz_earlier.specs.OwnRow.{MayRun, heading_of}
+use Rattle.mz_earlier.specs.Before.{taken_before}
 use Rattle.mz_binary.specs.declared.place.Found.TheVariants as seen
 use Rattle.mz_binary.specs.FileRun.{after_kind, find_at, onward, run_place}
-use Rattle.mz_binary.specs.Progress.{Progress, IsReached, found_of, kind_byte, next_row}
-use Rattle.mz_binary.proofs.Heads.{head-at}
+use Rattle.mz_binary.specs.Progress.{Progress, IsReached, found_of, kind_byte}
+use Rattle.mz_binary.proofs.Heads.{code-of, head-at}
 use Rattle.mz_binary.proofs.Finding.{find-head}
-use Rattle.mz_binary.proofs.Passing.{body-here, body-runs, body-stops, code-of}
+use Rattle.mz_binary.proofs.Passing.{body-here, body-runs, body-stops}
 use Rattle.mz_binary.proofs.Counting.{most-here}
 use Rattle.mz_binary.proofs.Running.{may-run}
 use Rattle.mz_binary.proofs.checker.Checker.past_body.Goals as goal
@@ -27,8 +29,8 @@ check_body_by-requires-clause-may_run g c =
     may-run p head.code head.body head.next (after_kind p.file taken head.code) (heading_of p.file (kind_byte head.code) (next_row p.rows head.code)) head.body (body_bytes p.file head.body head.next)
     (subst IsReached c.self.view_is c.self.invariant) there_is in
     let inside = subst (λ (q : Progress). MayRun q.file (kind_byte head.code) (next_row q.rows head.code) q.rows) (sym c.self.view_is) may in
-    subst (λ (k : ℕ). MayRun c.self.inside.mmb.now k c.row_of-row.result c.self.inside.rows) (sym c.kind_of-kind.ensures)
-    (subst (λ (row : ℕ). MayRun c.self.inside.mmb.now (kind_byte head.code) row c.self.inside.rows) (sym c.row_of-row.ensures) inside)
+    subst (λ (k : ℕ). MayRun c.self.inside.mmb.now k c.next-row.result c.self.inside.rows) (sym c.kind_of-kind.ensures)
+    (subst (λ (row : ℕ). MayRun c.self.inside.mmb.now (kind_byte head.code) row c.self.inside.rows) (sym c.next-row.ensures) inside)
 
 pub check_body_by-requires-clause-order : goal.check_body_by-requires-clause-order
 check_body_by-requires-clause-order g c = (head-at c.args.self.file c.args.head.at (statement_byte c.args.head.code) c.args.head.body c.args.head.next c.requires.head).order
@@ -81,12 +83,12 @@ past-requires-clause-runs g c =
     let s = c.self.inside in
     let (last, ran, _) = c.in-Good.ensures.run in
     subst (λ (q : Progress). run_place q.standard q.file (taken_before q.file q.rows) q.at ≡ Ok (onward (after_kind q.file (taken_before q.file q.rows) head.code) head.next)) c.self.view_is
-    (body-runs s.standard s.mmb.now s.rows s.at head (subst (IsFound head) (sym c.self.view_is) c.requires.body) c.kind_of-kind.result c.row_of-row.result c.kind_of-kind.ensures c.row_of-row.ensures last ran)
+    (body-runs s.standard s.mmb.now s.rows s.at head (subst (IsFound head) (sym c.self.view_is) c.requires.body) c.kind_of-kind.result c.next-row.result c.kind_of-kind.ensures c.next-row.ensures last ran)
 
 pub refused-requires : goal.refused-requires
 refused-requires g c =
     let head = c.args.head in
     let s = c.self.inside in
     subst (λ (q : Progress). run_place q.standard q.file (taken_before q.file q.rows) q.at ≡ Err (c.in-Refused.at, c.in-Refused.rule)) c.self.view_is
-    (body-stops s.standard s.mmb.now s.rows s.at head (subst (IsFound head) (sym c.self.view_is) c.requires.body) c.kind_of-kind.result c.row_of-row.result c.kind_of-kind.ensures c.row_of-row.ensures
+    (body-stops s.standard s.mmb.now s.rows s.at head (subst (IsFound head) (sym c.self.view_is) c.requires.body) c.kind_of-kind.result c.next-row.result c.kind_of-kind.ensures c.next-row.ensures
     (c.in-Refused.at, c.in-Refused.rule) c.in-Refused.ensures.run)

@@ -1,8 +1,8 @@
 use Rattle.std.proofs.Common.{ap, ◌∙◌, ◌∷◌}
 use Rattle.mz_cmd.specs.declared.code.ProofCode.TheVariants as code
 use Rattle.mz_logic.specs.View.{tree}
-use Rattle.mz_mmu.specs.ConvView.{conversion}
-use Rattle.mz_mmu.specs.ProofView.{proof_view}
+use Rattle.mz_forms.specs.ConvView.{conversion}
+use Rattle.mz_forms.specs.ProofView.{proof_view}
 use Rattle.mz_bodies.specs.Owes.{push, prove, give, to_do}
 use Rattle.mz_bodies.proofs.Growing.{convert_done, convert_cost, shared_as, vars_as}
 use Rattle.mz_bodies.proofs.body.Body.convert.Goals as goal

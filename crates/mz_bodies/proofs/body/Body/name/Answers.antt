@@ -1,6 +1,6 @@
 use Rattle.std.proofs.Common.{◌<◌, ◌+◌, ◌∷◌, [], sym, ap, ◌∙◌, subst, ℕ, Option}
-use Rattle.mz_mmu.specs.Proof.{by_name}
-use Rattle.mz_mmu.specs.ProofView.{proof_view}
+use Rattle.mz_forms.specs.Proof.{by_name}
+use Rattle.mz_forms.specs.ProofView.{proof_view}
 use Rattle.mz_bodies.specs.Owes.{prove, to_do, left, let_costs}
 use Rattle.mz_bodies.specs.Scopes.{in_sight}
 use Rattle.mz_bodies.specs.Costs.{cost}

@@ -1,5 +1,5 @@
 use Rattle.std.proofs.Common.{◌∷◌, [], ap, ◌∙◌, subst}
-use Rattle.mz_mmu.specs.ConvView.{conversion}
+use Rattle.mz_forms.specs.ConvView.{conversion}
 use Rattle.mz_bodies.specs.Owes.{pay, pay_all, to_do}
 use Rattle.mz_bodies.specs.Going.{Does}
 use Rattle.mz_bodies.proofs.Paying.{no_convs_left, first_conv, none_paid, more_paid}

@@ -1,5 +1,5 @@
 use Rattle.std.proofs.Common.{◌<◌, sym, ap, ◌∙◌, subst, ◌∷◌, []}
-use Rattle.mz_mmu.specs.ProofView.{proof_view}
+use Rattle.mz_forms.specs.ProofView.{proof_view}
 use Rattle.mz_bodies.specs.Owes.{prove, prove_all, to_do}
 use Rattle.mz_bodies.specs.Going.{Does, steps_left}
 use Rattle.mz_bodies.proofs.Moves.{cite_parts, hyp_there, hyp_within}

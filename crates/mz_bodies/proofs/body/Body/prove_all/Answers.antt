@@ -1,5 +1,5 @@
 use Rattle.std.proofs.Common.{◌∷◌, [], ap, ◌∙◌, subst}
-use Rattle.mz_mmu.specs.ProofView.{proof_view}
+use Rattle.mz_forms.specs.ProofView.{proof_view}
 use Rattle.mz_bodies.specs.Owes.{prove, prove_all, to_do}
 use Rattle.mz_bodies.specs.Going.{Does}
 use Rattle.mz_bodies.proofs.Moves.{no_proofs_left, first_proof, none_proved, more_proved}

@@ -1,6 +1,6 @@
 use Rattle.std.proofs.Common.{ap, [], ◌*◌}
 use Rattle.mz_bodies.specs.Weights.{proof_weight}
-use Rattle.mz_mmu.specs.ProofView.{proof_view}
+use Rattle.mz_forms.specs.ProofView.{proof_view}
 use Rattle.mz_unification.specs.Profile.{proof}
 use Rattle.mz_bodies.specs.Claims.{proved}
 use Rattle.mz_bodies.specs.Owes.{to_do}

@@ -4,7 +4,7 @@ use Rattle.mz_logic.specs.Signature.{Signature}
 use Rattle.mz_logic.specs.DeclView.{term_view}
 use Rattle.mz_logic.specs.Tree.{app, listed, instance, followed_by, variables}
 use Rattle.mz_logic.specs.View.{tree}
-use Rattle.mz_mmu.specs.ConvView.{conversion}
+use Rattle.mz_forms.specs.ConvView.{conversion}
 use Rattle.mz_store.specs.Sharing.{trees_of}
 use Rattle.mz_shared.specs.Instances.{InReach, AreSorted}
 use Rattle.mz_bodies.specs.Owes.{push, give, to_do}

@@ -11,8 +11,8 @@ use Rattle.mz_store.specs.Bits.{bound_vars}
 use Rattle.mz_store.specs.Sharing.{tree_of, trees_of}
 use Rattle.mz_store.specs.declared.item.Id.{Id}
 use Rattle.mz_unification.specs.Sorted.{Sorted}
-use Rattle.mz_machine.proofs.Offered.{binders_many}
-use Rattle.mz_type.specs.Answers.{stated}
+use Rattle.mz_earlier.proofs.Offered.{binders_many}
+use Rattle.mz_typing.specs.Answers.{stated}
 use Rattle.mz_shared.specs.Instances.{AreSorted}
 use Rattle.mz_shared.specs.Variables.{IsShared}
 use Rattle.mz_emit.specs.Emitting.{MakesBody, body_weight}

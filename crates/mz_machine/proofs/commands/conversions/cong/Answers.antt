@@ -2,7 +2,6 @@ use Rattle.std.proofs.Common.{◌∙◌, ap, sym}
 use Rattle.mz_unify.specs.Stored.{items_at}
 use Rattle.mz_unify.proofs.Offered.{heads-differ, heads-same}
 use Rattle.mz_soundness.specs.Premises.{pop_obligation}
-use Rattle.mz_soundness.specs.ProofMachine.{sides}
 use Rattle.mz_machine.proofs.Converting.{cong-variable, cong-other, cong-row, gives-stack, operand-trees}
 use Rattle.mz_machine.proofs.commands.conversions.cong.Goals as goal
 

@@ -1,5 +1,5 @@
-use Rattle.std.proofs.Common.{◌≡◌, ◌≤◌, ◌-◌, ◌<◌, ◌⊎◌, suc, ◌∷◌, length, get_or, slice_get, refl, sym, ap, ◌∙◌, arith}
-use Rattle.mz_unify.specs.Stored.{items_at, item_at}
+use Rattle.std.proofs.Common.{◌-◌, ◌∷◌, length, get_or, sym, ap, ◌∙◌, arith}
+use Rattle.mz_unify.specs.Stored.{items_at}
 use Rattle.std.proofs.lemmas.Option.{slice_get-get_or}
 use Rattle.mz_store.specs.Sharing.{tree_of}
 use Rattle.mz_store.specs.declared.item.Id.{Id}

@@ -1,12 +1,8 @@
-use Rattle.std.proofs.Common.{◌∙◌, ◌∷◌, ◌++◌, [], ap, sym, subst, refl}
-use Rattle.mz_logic.specs.Words.{signatures_of as signatures_by}
+use Rattle.std.proofs.Common.{◌∙◌, ◌++◌, ap, sym, subst}
 use Rattle.mz_store.specs.Sharing.{IsOver, tree_of}
-use Rattle.mz_unification.specs.Profile.{obligation}
-use Rattle.mz_unify.specs.Stored.{items_at, trees_at}
-use Rattle.mz_unify.proofs.Offered.{items-push}
-use Rattle.mz_machine.specs.Before.{tables_of, words_before}
+use Rattle.mz_unify.specs.Stored.{trees_at}
 use Rattle.mz_machine.specs.OverStore.{pop_unfolding}
-use Rattle.mz_machine.proofs.BeforeLaws.{signatures-before}
+use Rattle.mz_earlier.proofs.Offered.{signatures-before}
 use Rattle.mz_machine.proofs.Converting.{not-taken, of-variable, not-defined, is-unfolding, unfold-stopped, stopped-steps, unfold-refused, unfold-row, unfold-steps, gives-stack, operand-trees}
 use Rattle.mz_machine.proofs.Unfoldings.{term-there, row-there, stream-there, no-stream, same-run, same-count, no-more, so-many, ids-pushed, items-pushed, unless-mem}
 use Rattle.mz_machine.proofs.commands.conversions.unfold.Goals as goal

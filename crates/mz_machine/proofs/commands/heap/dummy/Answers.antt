@@ -1,9 +1,9 @@
-use Rattle.std.proofs.Common.{◌≡◌, ◌∙◌, ◌∷◌, [], ◌++◌, ◌<◌, ◌≤◌, true, false, length, sym, ap, arith, lt-ltb, le-ltb}
+use Rattle.std.proofs.Common.{◌≡◌, ◌∙◌, ◌∷◌, [], ◌++◌, ◌<◌, ◌≤◌, length, sym, ap, arith, lt-ltb, le-ltb}
 use Rattle.mz_logic.specs.Tree.{var}
 use Rattle.mz_store.specs.Sharing.{tree_of, dummy_binder}
 use Rattle.mz_unification.specs.Spells.{dummy_of}
 use Rattle.mz_soundness.specs.Premises.{bound_count}
-use Rattle.mz_machine.specs.Before.{tables_of}
+use Rattle.mz_earlier.specs.Before.{tables_of}
 use Rattle.mz_machine.proofs.RowResults.{dummy-sort-fails, dummy-many, dummy-row, count-is}
 use Rattle.mz_machine.proofs.Dummies.{a-dummy}
 use Rattle.mz_machine.proofs.commands.heap.dummy.Goals as goal

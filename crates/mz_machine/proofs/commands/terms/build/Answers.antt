@@ -1,4 +1,4 @@
-use Rattle.std.proofs.Common.{◌≡◌, ◌<◌, ◌≤◌, ◌∙◌, Err, Ok, [], length, refl, sym, ap, subst, arith, append-nil}
+use Rattle.std.proofs.Common.{◌≡◌, ◌<◌, ◌∙◌, Err, Ok, [], length, sym, ap, subst, arith, append-nil}
 use Rattle.std.proofs.lemmas.Result.{err_from_is_err_and}
 use Rattle.mz_logic.specs.Tree.{app}
 use Rattle.mz_logic.specs.Words.{binders_of}
@@ -6,13 +6,13 @@ use Rattle.mz_layout.specs.Tables.{term_row}
 use Rattle.mz_store.specs.Sharing.{tree_of, CanTake}
 use Rattle.mz_store.specs.Sharing.{trees_of as trees_in}
 use Rattle.mz_unification.specs.Spells.{trees_of}
-use Rattle.mz_unify.specs.Stored.{trees_at, items_at}
+use Rattle.mz_unify.specs.Stored.{trees_at}
 use Rattle.mz_unification.specs.Profile.{strict}
 use Rattle.mz_soundness.specs.ProofMachine.{built}
-use Rattle.mz_soundness.specs.Premises.{pop_operands, operands_fit}
-use Rattle.mz_machine.specs.Before.{tables_of, signatures_of, words_before}
+use Rattle.mz_soundness.specs.Premises.{operands_fit}
+use Rattle.mz_earlier.specs.Before.{tables_of, signatures_of, words_before}
 use Rattle.mz_soundness.specs.FileRows.{term_of_file}
-use Rattle.mz_machine.proofs.BeforeLaws.{term-before, no-term-before}
+use Rattle.mz_earlier.proofs.Offered.{term-before, no-term-before}
 use Rattle.mz_machine.proofs.Stopping.{stops-as}
 use Rattle.mz_machine.proofs.TermResults.{built-none, built-few, built-unfit, built-row, can-take, over-words, over-rows, items-kept, items-still, same-trees, takes-its-own}
 use Rattle.mz_machine.proofs.Dummies.{no-dummies}

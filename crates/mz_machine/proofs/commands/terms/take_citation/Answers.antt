@@ -7,7 +7,7 @@ use Rattle.mz_unify.specs.Stored.{trees_at}
 use Rattle.mz_unification.specs.Profile.{strict}
 use Rattle.mz_soundness.specs.ProofMachine.{citation}
 use Rattle.mz_soundness.specs.Premises.{operands_fit, are_apart}
-use Rattle.mz_machine.specs.Before.{tables_of, signatures_of}
+use Rattle.mz_earlier.specs.Before.{tables_of, signatures_of}
 use Rattle.mz_machine.proofs.Stopping.{stops-as}
 use Rattle.mz_machine.proofs.Citing.{cites-none, cites-few, cites-other, cites-without, cites-unfit, cites-meeting, cites-so}
 use Rattle.mz_machine.proofs.commands.terms.take_citation.Goals as goal

@@ -3,11 +3,11 @@ use Rattle.mz_mode.specs.Gaps.{gaps_of}
 use Rattle.mz_logic.specs.Words.{binders_of, BitsRight}
 use Rattle.mz_store.specs.Bits.{bound_vars}
 use Rattle.mz_soundness.specs.Tables.{signatures_in}
-use Rattle.mz_machine.specs.Before.{kind_at, tables_before, heading_of}
-use Rattle.mz_machine.specs.OverStore.{mode_for}
-use Rattle.mz_machine.specs.Stepping.{first_items}
+use Rattle.mz_earlier.specs.OwnRow.{kind_at, heading_of, mode_for, first_items}
+use Rattle.mz_earlier.specs.Before.{tables_before}
 use Rattle.mz_machine.proofs.GapRows.{start-plain}
-use Rattle.mz_machine.proofs.Beginning.{own-bits, params-are, params-many, is-begun, state-begun, words-are, AreVars}
+use Rattle.mz_earlier.proofs.Offered.{own-bits, words-are}
+use Rattle.mz_machine.proofs.Beginning.{params-are, params-many, is-begun, state-begun, AreVars}
 use Rattle.mz_machine.proofs.machine.Machine.begin.Goals as goal
 
 pub read_words-requires : goal.read_words-requires
@@ -29,7 +29,7 @@ invariant_of-result c =
     let mode = c.in_ok-begin.ensures.mode ∙ c.deps_mode.ensures ∙ ap mode_for c.kind_by-2.ensures in
     let begun = is-begun c.args.mmb.now c.args.kind c.args.row c.args.before s ws c.requires words ctx many trees (c.in_ok-begin.ensures.over (signatures_in (tables_before c.args.mmb.now c.args.before))) mode in
     let bound = c.bound_count-bound_params.ensures.many ∙ ap (λ ps. length (bound_vars ps)) (ctx ∙ sym (params-are c.args.mmb.now c.args.kind c.args.row c.args.before s ws c.requires words ctx many trees)) in
-    (rw (c.in_ok-heap.ensures ∙ ap first_items (c.len.ensures ∙ c.in_ok-words.words.ok.0), c.new.ensures.items, c.new-2.ensures.items) begun, bound)
+    rw (c.new-earlier.ensures.file, c.new-earlier.ensures.rows, c.in_ok-heap.ensures ∙ ap first_items (c.len.ensures ∙ c.in_ok-words.words.ok.0), c.new.ensures.items, c.new-2.ensures.items) (begun, bound)
 
 pub returns : goal.returns
 returns c =
@@ -41,10 +41,10 @@ returns c =
     let trees = subst (AreVars s) c.deref.ensures.value c.in_ok-begin.ensures.trees in
     record {
       gaps_are = refl;
-      file_is = refl;
+      file_is = c.new-earlier.ensures.file;
       kind_is = refl;
       row_is = refl;
-      before_is = refl;
+      before_is = c.new-earlier.ensures.rows;
       state = rw (c.in_ok-heap.ensures ∙ ap first_items (c.len.ensures ∙ c.in_ok-words.words.ok.0), c.new.ensures.items, c.new-2.ensures.items) (state-begun c.args.mmb.now c.args.kind c.args.row c.args.before s ws c.requires words ctx many trees ∙ sym (start-plain (gaps_of c.args.mode) (heading_of c.args.mmb.now c.args.kind c.args.row)));
       no_gap = refl;
       nodes = many ∙ sym (params-many c.args.mmb.now c.args.kind c.args.row c.args.before s ws c.requires words ctx many trees);

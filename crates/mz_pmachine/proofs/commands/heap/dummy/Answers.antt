@@ -4,7 +4,7 @@ use Rattle.mz_store.specs.Sharing.{dummy_binder}
 use Rattle.mz_nodes.specs.Numbering.{expr_of}
 use Rattle.mz_unification.specs.Spells.{dummy_of}
 use Rattle.mz_soundness.specs.Premises.{bound_count}
-use Rattle.mz_machine.specs.Before.{tables_of}
+use Rattle.mz_earlier.specs.Before.{tables_of}
 use Rattle.mz_pmachine.proofs.RowResults.{dummy-sort-fails, dummy-many, dummy-row}
 use Rattle.mz_machine.proofs.Offered.{count-is, a-dummy}
 use Rattle.mz_pmachine.proofs.commands.heap.dummy.Goals as goal

@@ -4,7 +4,7 @@ use Rattle.mz_nodes.specs.Numbering.{expr_of}
 use Rattle.mz_numbered.specs.Numbered.{portable}
 use Rattle.mz_soundness.specs.Premises.{pop_expr}
 use Rattle.mz_soundness.specs.ProofMachine.{has_provable_sort}
-use Rattle.mz_machine.specs.Before.{tables_of}
+use Rattle.mz_earlier.specs.Before.{tables_of}
 use Rattle.mz_pmachine.proofs.RowResults.{hyp-err, hyp-other, hyp-row, provable}
 use Rattle.mz_pmachine.proofs.commands.heap.hyp.Goals as goal
 

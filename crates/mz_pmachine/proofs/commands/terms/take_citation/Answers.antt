@@ -7,7 +7,7 @@ use Rattle.mz_punify.specs.Stored.{trees_at}
 use Rattle.mz_numbered.specs.Numbered.{portable}
 use Rattle.mz_soundness.specs.ProofMachine.{citation}
 use Rattle.mz_soundness.specs.Premises.{operands_fit, are_apart}
-use Rattle.mz_machine.specs.Before.{tables_of, signatures_of}
+use Rattle.mz_earlier.specs.Before.{tables_of, signatures_of}
 use Rattle.mz_pmachine.proofs.Stopping.{stops-as}
 use Rattle.mz_pmachine.proofs.Citing.{cites-none, cites-few, cites-other, cites-without, cites-unfit, cites-meeting, cites-so}
 use Rattle.mz_pmachine.proofs.commands.terms.take_citation.Goals as goal

@@ -4,8 +4,8 @@ use Rattle.mz_grammar.specs.Code.{literal}
 use Rattle.mz_grammar.specs.Statement.{LiteralText}
 use Rattle.mz_spec.specs.Forms.{AreLiterals}
 use Rattle.mz_spec.specs.Noting.{IsNumeral}
-use Rattle.mz_spec.specs.Rules.{Every}
-use Rattle.mz_spec.specs.View.{literal_levels}
+use Rattle.mz_variables.specs.Dependencies.{Every}
+use Rattle.mz_variables.specs.View.{literal_levels}
 use Rattle.mz_spec.proofs.Spans.{levels_in}
 use Rattle.mz_spec.proofs.literals.Literals.of.Given as goal
 

@@ -7,8 +7,9 @@ use Rattle.mz_grammar.specs.Reading.{OnFault}
 use Rattle.mz_spec.specs.Answers.{JudgesStatement}
 use Rattle.mz_spec.specs.Entries.{state}
 use Rattle.mz_spec.specs.Noting.{IsNumeral}
-use Rattle.mz_spec.specs.Rules.{Every, is_level}
-use Rattle.mz_spec.specs.View.{literal_levels}
+use Rattle.mz_variables.specs.Dependencies.{Every}
+use Rattle.mz_spec.specs.Rules.{is_level}
+use Rattle.mz_variables.specs.View.{literal_levels}
 use Rattle.mz_spec.proofs.Numerals.{notation-numerals}
 use Rattle.mz_spec.proofs.Noted.{general-literals, general-tail}
 use Rattle.mz_spec.proofs.state.State.add_notation.Goals as goal

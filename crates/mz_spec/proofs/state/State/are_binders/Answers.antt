@@ -1,8 +1,8 @@
 use Rattle.std.proofs.Common.{[], map, refl, sym, true≢false}
-use Rattle.mz_spec.specs.Code.{variable}
+use Rattle.mz_variables.specs.Code.{variable}
 use Rattle.mz_spec.specs.Entries.{state}
 use Rattle.mz_spec.specs.Rules.{AreBinders}
-use Rattle.mz_spec.proofs.Indexed.{binders-step, binders-out}
+use Rattle.mz_spec.proofs.Binding.{binders-step, binders-out}
 use Rattle.mz_spec.proofs.Loops.{test-in, test-out}
 use Rattle.mz_spec.proofs.state.State.are_binders.Goals as goal
 

@@ -1,6 +1,6 @@
 use Rattle.std.proofs.Common.{[], map, take, drop}
 use Rattle.std.specs.Prelude.{◌↔◌}
-use Rattle.mz_spec.specs.Code.{variable}
+use Rattle.mz_variables.specs.Code.{variable}
 use Rattle.mz_spec.specs.Entries.{state}
 use Rattle.mz_spec.specs.Rules.{AreBinders}
 use Rattle.mz_spec.proofs.state.State.are_binders.Given as goal

@@ -5,7 +5,7 @@ use Rattle.mz_grammar.specs.Code.{assertion, head, group, lexeme, source}
 use Rattle.mz_spec.specs.Answers.{JudgesOrMem}
 use Rattle.mz_spec.specs.Entries.{state}
 use Rattle.mz_spec.specs.Rules.{new_name, body_rules, statement_checks}
-use Rattle.mz_spec.specs.View.{view, stated_of}
+use Rattle.mz_variables.specs.View.{view, stated_of}
 use Rattle.mz_spec.proofs.Judged.{parts-halt, rest-halt, parts-hold, few-sorts, few-params, parts-names}
 use Rattle.mz_spec.proofs.Naming.{stated-small}
 use Rattle.mz_spec.proofs.Strung.{stated-to_formulas, free-none}

@@ -1,5 +1,5 @@
 use Rattle.std.proofs.Common.{◌≡◌, ◌++◌, map, drop}
-use Rattle.mz_spec.specs.Code.{variable}
+use Rattle.mz_variables.specs.Code.{variable}
 use Rattle.mz_spec.specs.Entries.{state}
 use Rattle.mz_spec.specs.State.{binder_of}
 use Rattle.mz_spec.proofs.state.State.binders_by.Given as goal

@@ -10,12 +10,12 @@ use Rattle.mz_notation.specs.Notation.{Variables}
 use Rattle.mz_math.specs.Formula.{Reader, IsFormula, formula_checks}
 use Rattle.mz_math.specs.declared.formula.Wanted.TheVariants.{Sort as of_sort}
 use Rattle.mz_spec.specs.Answers.{JudgesOrMem}
-use Rattle.mz_spec.specs.Code.{variable}
+use Rattle.mz_variables.specs.Code.{variable}
 use Rattle.mz_spec.specs.Entries.{state}
 use Rattle.mz_spec.specs.Formulas.{inner, told}
 use Rattle.mz_spec.specs.Rules.{body_rules}
 use Rattle.mz_spec.specs.State.{binder_of, sort_number}
-use Rattle.mz_spec.specs.View.{Variable, body, params_of}
+use Rattle.mz_variables.specs.View.{Variable, body, params_of}
 use Rattle.mz_spec.proofs.Judged.{few-sorts}
 use Rattle.mz_spec.proofs.Loops.{test-in, test-out}
 use Rattle.mz_spec.proofs.Sorted.{body-sorted}

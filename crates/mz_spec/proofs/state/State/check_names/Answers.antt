@@ -4,11 +4,11 @@ use Rattle.mz_checks.specs.Checks.{AllHold, FailsFirst, each_in_order, ◌>>◌}
 use Rattle.mz_checks.proofs.Offered.{all_hold-both, fails-before, fails-after}
 use Rattle.mz_grammar.specs.Code.{lexeme, type_text}
 use Rattle.mz_spec.specs.Answers.{JudgesOrMem}
-use Rattle.mz_spec.specs.Code.{variable}
+use Rattle.mz_variables.specs.Code.{variable}
 use Rattle.mz_spec.specs.Entries.{state}
 use Rattle.mz_spec.specs.Noting.{named_rules}
 use Rattle.mz_spec.specs.Rules.{are_others, is_known, type_checks}
-use Rattle.mz_spec.specs.View.{names_of}
+use Rattle.mz_variables.specs.View.{names_of}
 use Rattle.mz_spec.proofs.Loops.{mem-before}
 use Rattle.mz_spec.proofs.state.State.check_names.Goals as goal
 

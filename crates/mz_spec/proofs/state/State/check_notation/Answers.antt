@@ -5,7 +5,7 @@ use Rattle.mz_checks.proofs.Offered.{all_hold-both}
 use Rattle.mz_grammar.specs.Code.{lexeme, type_text}
 use Rattle.mz_grammar.specs.Reading.{OnFault}
 use Rattle.mz_spec.specs.Answers.{JudgesOrMem}
-use Rattle.mz_spec.specs.Code.{variable}
+use Rattle.mz_variables.specs.Code.{variable}
 use Rattle.mz_spec.specs.Entries.{state}
 use Rattle.mz_spec.specs.Noting.{named_rules, noting_rules}
 use Rattle.mz_spec.specs.Rules.{binder_rules}

@@ -4,10 +4,10 @@ use Rattle.mz_checks.specs.Checks.{AllHold, FailsFirst, each_in_order}
 use Rattle.mz_checks.proofs.Offered.{all_hold-both, fails-after}
 use Rattle.mz_grammar.specs.Code.{type_text}
 use Rattle.mz_spec.specs.Answers.{JudgesOrMem}
-use Rattle.mz_spec.specs.Code.{variable}
+use Rattle.mz_variables.specs.Code.{variable}
 use Rattle.mz_spec.specs.Entries.{state}
 use Rattle.mz_spec.specs.Rules.{are_others, type_checks, variable_rules}
-use Rattle.mz_spec.specs.View.{names_of}
+use Rattle.mz_variables.specs.View.{names_of}
 use Rattle.mz_spec.proofs.Loops.{mem-before}
 use Rattle.mz_spec.proofs.state.State.check_variables.Goals as goal
 

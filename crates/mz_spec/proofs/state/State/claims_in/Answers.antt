@@ -11,8 +11,8 @@ use Rattle.mz_spec.specs.Answers.{JudgesOrMem}
 use Rattle.mz_spec.specs.Code.{EndsSmall}
 use Rattle.mz_spec.specs.Entries.{state}
 use Rattle.mz_spec.specs.Formulas.{AreHyps, AreTokens, inner, told, strings_checks}
-use Rattle.mz_spec.specs.Rules.{Every}
-use Rattle.mz_spec.specs.View.{claim, stated_claim, stated_of, view}
+use Rattle.mz_variables.specs.Dependencies.{Every}
+use Rattle.mz_variables.specs.View.{claim, stated_claim, stated_of, view}
 use Rattle.mz_spec.proofs.Strung.{before-halt, last-halt, all-strings, stated-of_formulas}
 use Rattle.mz_spec.proofs.state.State.claims_in.Goals as goal
 

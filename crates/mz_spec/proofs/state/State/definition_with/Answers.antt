@@ -8,11 +8,11 @@ use Rattle.mz_logic.specs.DeclView.{form}
 use Rattle.mz_logic.specs.declared.binder.Binder.{Binder}
 use Rattle.mz_logic.specs.declared.binder.ResultType.{ResultType}
 use Rattle.mz_spec.specs.Answers.{JudgesOrMem}
-use Rattle.mz_spec.specs.Code.{variable}
+use Rattle.mz_variables.specs.Code.{variable}
 use Rattle.mz_spec.specs.Entries.{state}
 use Rattle.mz_spec.specs.Rules.{new_name, body_rules, statement_checks}
 use Rattle.mz_spec.specs.State.{binder_of, param_binders}
-use Rattle.mz_spec.specs.View.{Variable, view, params_of}
+use Rattle.mz_variables.specs.View.{Variable, view, params_of}
 use Rattle.mz_spec.proofs.Bodied.{bodies-small}
 use Rattle.mz_spec.proofs.Judged.{parts-halt, rest-halt, parts-hold, few-sorts, few-params, parts-names}
 use Rattle.mz_spec.proofs.Loops.{mem-before}

@@ -10,7 +10,7 @@ use Rattle.mz_spec.specs.Answers.{JudgesOrMem}
 use Rattle.mz_spec.specs.Code.{EndsSmall, stated}
 use Rattle.mz_spec.specs.Entries.{state}
 use Rattle.mz_spec.specs.Formulas.{AreHyps, inner, told, strings_checks}
-use Rattle.mz_spec.specs.View.{stated_claim}
+use Rattle.mz_variables.specs.View.{stated_claim}
 use Rattle.mz_lex.specs.declared.token.TokenKind.TheVariants as kinds
 use Rattle.mz_spec.specs.declared.formulas.Stated.{Stated as StatedRead}
 use Rattle.mz_spec.proofs.Loops.{left-none, item-is}

@@ -5,9 +5,9 @@ use Rattle.mz_tokens.specs.declared.pieces.Piece.{Piece}
 use Rattle.mz_spec.specs.Code.{EndsSmall, stated}
 use Rattle.mz_spec.specs.Entries.{state}
 use Rattle.mz_spec.specs.Formulas.{AreHyps, AreTokens, strings_checks}
-use Rattle.mz_spec.specs.Rules.{Every}
+use Rattle.mz_variables.specs.Dependencies.{Every}
 use Rattle.mz_spec.specs.State.{scope_of}
-use Rattle.mz_spec.specs.View.{Variable, stated_claim}
+use Rattle.mz_variables.specs.View.{Variable, stated_claim}
 use Rattle.mz_spec.proofs.state.State.hyps_of.Given as goal
 
 abbrev pub invariant-loop-hyp : goal.invariant-loop-hyp

@@ -8,7 +8,7 @@ use Rattle.mz_spec.specs.Answers.{JudgesStatement}
 use Rattle.mz_spec.specs.Entries.{state}
 use Rattle.mz_spec.specs.Noting.{named_rules}
 use Rattle.mz_spec.specs.Rules.{are_others, binder_rules, is_known, type_checks}
-use Rattle.mz_spec.specs.View.{names_of, view}
+use Rattle.mz_variables.specs.View.{names_of, view}
 use Rattle.mz_spec.proofs.Noted.{general-rules, general-fault, general-holds}
 use Rattle.mz_spec.proofs.state.State.notation_with.Goals as goal
 

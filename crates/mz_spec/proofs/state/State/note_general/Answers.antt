@@ -4,7 +4,7 @@ use Rattle.mz_notation.specs.Forms.{General}
 use Rattle.mz_grammar.specs.Code.{head, literal, notation, tail, type_text}
 use Rattle.mz_spec.specs.Entries.{state}
 use Rattle.mz_spec.specs.Forms.{AreLiterals}
-use Rattle.mz_spec.specs.View.{view}
+use Rattle.mz_variables.specs.View.{view}
 use Rattle.mz_spec.proofs.Judged.{few-sorts, few-terms, few-params}
 use Rattle.mz_spec.proofs.Naming.{variables-named}
 use Rattle.mz_spec.proofs.Noted.{parts-variables, general-answer, general-after}

@@ -3,7 +3,7 @@ use Rattle.std.proofs.lemmas.List.{length-map}
 use Rattle.std.specs.Prelude.{IsTrue}
 use Rattle.mz_lex.specs.Kinds.{is_name}
 use Rattle.mz_notation.specs.Kept.{AreVariables}
-use Rattle.mz_spec.specs.Code.{variable}
+use Rattle.mz_variables.specs.Code.{variable}
 use Rattle.mz_spec.specs.State.{variable_bytes}
 use Rattle.mz_spec.proofs.Loops.{left-at}
 use Rattle.mz_spec.proofs.Places.{next-named, next-other}

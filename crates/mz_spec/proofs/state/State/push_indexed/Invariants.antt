@@ -1,5 +1,5 @@
 use Rattle.std.proofs.Common.{◌≡◌, ◌++◌, map, drop}
-use Rattle.mz_spec.specs.Code.{variable}
+use Rattle.mz_variables.specs.Code.{variable}
 use Rattle.mz_spec.specs.Entries.{state}
 use Rattle.mz_spec.specs.State.{binder_of, variable_bytes}
 use Rattle.mz_spec.proofs.state.State.push_indexed.Given as goal

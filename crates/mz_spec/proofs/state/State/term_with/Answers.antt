@@ -5,7 +5,7 @@ use Rattle.mz_grammar.specs.Code.{lexeme, term}
 use Rattle.mz_spec.specs.Answers.{JudgesOrMem}
 use Rattle.mz_spec.specs.Entries.{state}
 use Rattle.mz_spec.specs.Rules.{new_name, statement_checks}
-use Rattle.mz_spec.specs.View.{view}
+use Rattle.mz_variables.specs.View.{view}
 use Rattle.mz_spec.proofs.Judged.{parts-halt, parts-hold, few-sorts, few-params}
 use Rattle.mz_spec.proofs.state.State.term_with.Goals as goal
 

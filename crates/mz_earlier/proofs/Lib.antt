@@ -1,0 +1,6 @@
+pub mod FromPlaces
+pub mod BeforeLaws
+pub mod ApartPlaces
+mod FreeWords
+mod OwnWords
+pub mod Offered

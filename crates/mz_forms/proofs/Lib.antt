@@ -1,0 +1,12 @@
+pub mod Keys
+pub mod Hold
+pub mod HoldStatements
+pub mod Stopping
+pub mod Cursors
+pub mod ExprLists
+pub mod BinderLists
+pub mod ConvLists
+pub mod ProofLists
+pub mod Dispatch
+pub mod StatementDispatch
+pub mod Offered

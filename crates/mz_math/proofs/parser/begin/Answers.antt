@@ -1,0 +1,49 @@
+use Rattle.std.proofs.Common.{◌≡◌, ◌∙◌, ◌+◌, ◌-◌, [], false, refl, sym, subst, drop, arith}
+use Rattle.std.proofs.lemmas.Bool.{true≢false}
+use Rattle.mz_math.specs.Grammar.{operands_at_max, head_level, applied}
+use Rattle.mz_logic.specs.Tree.{app, none}
+use Rattle.mz_math.specs.Reading.{NoReading}
+use Rattle.mz_math.specs.Steps.{IsPending, IsUnderWay}
+use Rattle.mz_math.proofs.Waiting.{leading-under-way, applied-under-way}
+use Rattle.mz_math.proofs.Readings.{no-tokens, variable-begun, none-begins}
+use Rattle.mz_math.proofs.parser.begin.Goals as goal
+
+pub returns-in-None-clause-says : goal.returns-in-None-clause-says
+returns-in-None-clause-says c =
+    subst (NoReading c.args.words.now c.args.level) (sym c.in-None.ensures.token) (no-tokens c.args.words.now c.requires.readable c.args.level)
+
+pub returns-in-Some-variable-clause-says : goal.returns-in-Some-variable-clause-says
+returns-in-Some-variable-clause-says c =
+    let found = c.in-Some-variable.ensures in (
+      refl,
+      variable-begun c.args.words.now c.requires.readable c.args.level (drop c.args.at c.args.tokens.now) (drop (c.args.at + 1) c.args.tokens.now) c.in-Some.token.now c.in-Some-variable.place
+          (omega (arith, c.ranges.level.fits)) c.in-Some.ensures.token found.0 found.1,
+    )
+
+pub returns-clause-says : goal.returns-clause-says
+returns-clause-says c =
+    none-begins c.args.words.now c.requires.readable c.args.level (drop c.args.at c.args.tokens.now) (drop (c.args.at + 1) c.args.tokens.now) c.in-Some.token.now c.in-Some.ensures.token
+    c.in_default.ensures c.in_default-leading.ensures c.in_default-term.ensures (λ e. true≢false (sym (c.is_open.ensures.1 e) ∙ c.if-is_open.false))
+
+pub returns-in-Some-leading-clause-says : goal.returns-in-Some-leading-clause-says
+returns-in-Some-leading-clause-says c =
+    let found = c.in-Some-leading.ensures in
+    subst (λ p. (p.level ≡ c.args.level) × IsPending c.args.words.now (drop c.args.at c.args.tokens.now) (drop (c.args.at + 1) c.args.tokens.now) p) (sym c.begun-pending.ensures) (
+      refl,
+      leading-under-way c.args.words.now c.requires.readable c.args.level (drop c.args.at c.args.tokens.now) (drop (c.args.at + 1) c.args.tokens.now) c.in-Some-leading.notation.now c.in-Some.token.now
+          c.in-Some.ensures.token found.0 found.1 c.in_default.ensures,
+    )
+
+pub returns-in-Some-term-clause-says : goal.returns-in-Some-term-clause-says
+returns-in-Some-term-clause-says c =
+    let ws = c.args.words.now in
+    let from = drop c.args.at c.args.tokens.now in
+    let here = drop (c.args.at + 1) c.args.tokens.now in
+    let t = c.in-Some-term.term in
+    let n = c.in-Some-term.many in
+    let all : n ≡ n - 0 = omega arith in
+    subst (λ p. (p.level ≡ c.args.level) × IsPending ws from here p) (sym c.begun-pending-in-Some-term.ensures) (
+      refl,
+      subst (λ m. IsUnderWay ws c.args.level from here (operands_at_max m) none (app t) (head_level (applied [] 0 n)) false) all
+          (applied-under-way ws c.requires.readable c.args.level from here c.in-Some.token.now t n c.in-Some.ensures.token c.in-Some-term.ensures c.in_default.ensures c.in_default-leading.ensures),
+    )

@@ -1,0 +1,258 @@
+// Forms: what they ask for, and the expressions that they make of their operands.
+ghost use Rattle.std.specs.Prelude.{◌≡◌, ◌↔◌, ◌≤◌, ◌<◌, ◌+◌, ◌∷◌, [], IsTrue, MatchOption, IfSome, length, drop};
+ghost use Rattle.mz_logic.specs.Tree.{app, none};
+ghost use Rattle.mz_logic.specs.View.{tree, trees};
+ghost use Rattle.mz_notation.specs.Notation.{above, places, slots as in_places};
+ghost use Rattle.mz_math.specs.Grammar.{items, level_before, last_level, notated_tree, head_level, applied, operand_for, arranged as in_order};
+ghost use Rattle.mz_math.specs.Answers.{MayLead};
+ghost use Rattle.mz_math.specs.Steps.{IsNextPart, asked, tree_made, level_made, is_left_made};
+
+use mz_copies::copy_of;
+use mz_logic::{Expr, Exprs};
+use mz_notation::{Element, MAX, Notation};
+use mz_tokens::Bytes;
+use std::alloc::Global;
+
+/// A form that makes an expression of operands.
+#[derive(Clone, Copy)]
+pub enum Form<'w> {
+    /// A term's name, before so many operands.
+    Term(u32, usize),
+    /// A notation that begins with a constant.
+    Leading(&'w Notation),
+    /// A notation that begins with an operand.
+    Infix(&'w Notation),
+}
+
+/// What a form asks for next.
+#[derive(Clone, Copy)]
+pub enum Part<'w> {
+    /// Nothing more.
+    End,
+    /// A constant.
+    Constant(&'w Bytes),
+    /// An operand of at least this level.
+    Operand(u32),
+}
+
+impl<'w> Form<'w> {
+    /// What stands in it behind so many parts.
+    pub fn part(self, from: usize) -> Part<'w>
+        ensures { IsNextPart result from (asked self.entry from) (asked self.entry (from + 1)) }
+    {
+        match self {
+            Form::Term(_, many) => {
+                if from < many {
+                    Part::Operand(MAX)
+                } else {
+                    Part::End
+                }
+            }
+            Form::Leading(notation) => part_of(notation, from, notation.level),
+            Form::Infix(notation) => part_of(notation, from, level_of_last(notation)),
+        }
+    }
+
+    /// The level of its expressions.
+    pub fn level(self) -> u32
+        ensures { result ≡ level_made self.entry }
+    {
+        match self {
+            Form::Term(_, many) => applied_level(many),
+            Form::Leading(notation) | Form::Infix(notation) => notation.level,
+        }
+    }
+
+    /// Whether it's an infix form that groups to the left.
+    pub fn is_left(self) -> bool
+        ensures { result ≡ is_left_made self.entry }
+    {
+        match self {
+            Form::Term(_, _) | Form::Leading(_) => false,
+            Form::Infix(notation) => !notation.is_right,
+        }
+    }
+
+    /// The expression that it makes, where there is memory.
+    pub fn made(self, alloc: Global, operands: Exprs) -> Option<Expr>
+        ensures { IfSome result (λ e. tree e ≡ tree_made self.entry operands) }
+    {
+        match self {
+            Form::Term(term, _) => Some(Expr::App(term, operands)),
+            Form::Leading(notation) | Form::Infix(notation) => notated(alloc, notation, operands),
+        }
+    }
+}
+
+/// The part of a notation behind so many; the last operand is of the level `last`.
+fn part_of<'w>(notation: &'w Notation, from: usize, last: u32) -> Part<'w>
+    ensures { IsNextPart result from (items (drop from notation.now.elements) last) (items (drop (from + 1) notation.now.elements) last) }
+{
+    let elements = notation.elements.as_slice();
+    match element_at(elements, from) {
+        None => Part::End,
+        Some(Element::Fixed(constant, _)) => Part::Constant(constant),
+        Some(Element::Slot(_)) => Part::Operand(operand_level(elements, from + 1, last)),
+    }
+}
+
+/// The next level; none is above max.
+fn above_level(level: u32) -> u32
+    ensures { result ≡ above level }
+{
+    if level == MAX { MAX } else { level + 1 }
+}
+
+fn element_at(elements: &[Element], at: usize) -> Option<&Element>
+    ensures element { MatchOption result (drop at elements.now ≡ []) (λ l. drop at elements.now ≡ l.now ∷ drop (at + 1) elements.now) }
+    ensures within { MatchOption result (length elements.now ≤ at) (λ l. at < length elements.now) }
+{
+    elements.get(at)
+}
+
+/// The level of the application of a term with so many parameters.
+fn applied_level(many: usize) -> u32
+    ensures { result ≡ head_level (applied [] 0 many) }
+{
+    if many == 0 { MAX } else { 1024 }
+}
+
+/// The level of a last operand.
+fn level_of_last(notation: &Notation) -> u32
+    ensures { result ≡ last_level notation.now }
+{
+    if notation.is_right {
+        notation.level
+    } else {
+        above_level(notation.level)
+    }
+}
+
+/// Whether a notation's first operand may be an expression of this level.
+pub fn can_lead(notation: &Notation, level: u32, is_left: bool) -> bool
+    ensures { IsTrue result ↔ MayLead notation.now level is_left }
+{
+    above_level(notation.level) <= level
+        || (!notation.is_right && is_left && level == notation.level)
+}
+
+/// The level of an operand that stands before these elements.
+fn operand_level(elements: &[Element], from: usize, last: u32) -> u32
+    requires from { from ≤ length elements.now }
+    ensures { result ≡ level_before (drop from elements.now) last }
+{
+    if from == elements.len() {
+        return last;
+    }
+    match &elements[from] {
+        Element::Fixed(_, level) => above_level(*level),
+        Element::Slot(_) => MAX,
+    }
+}
+
+/// The tree of a notation, of operands in the order of its elements.
+fn notated(alloc: Global, notation: &Notation, operands: Exprs) -> Option<Expr>
+    ensures { IfSome result (λ e. tree e ≡ notated_tree notation.now operands) }
+{
+    let elements = notation.elements.as_slice();
+    if let Some(many) = many_in_order(elements) {
+        if many == operands.len() {
+            return Some(Expr::App(notation.term, operands));
+        }
+    }
+    let many = slots(elements);
+    let all = arranged(alloc, elements, operands.as_slice(), many)?;
+    Some(Expr::App(notation.term, all))
+}
+
+/// How many parameters stand there, if they stand in their own order.
+fn many_in_order(elements: &[Element]) -> Option<usize>
+    ensures { IfSome result (λ n. places elements.now ≡ places (in_places 0 n)) }
+{
+    let mut next = 0;
+    for element in elements {
+        match element {
+            Element::Fixed(_, _) => {}
+            Element::Slot(slot) => {
+                if *slot != next {
+                    return None;
+                }
+                next += 1;
+            }
+        }
+    }
+    Some(next)
+}
+
+/// How many parameters stand there.
+fn slots(elements: &[Element]) -> usize
+    ensures { result ≡ length (places elements.now) }
+{
+    let mut many = 0;
+    for element in elements {
+        match element {
+            Element::Fixed(_, _) => {}
+            Element::Slot(_) => many += 1,
+        }
+    }
+    many
+}
+
+/// The operands of so many parameters, in their order.
+fn arranged(alloc: Global, elements: &[Element], operands: &[Expr], many: usize) -> Option<Exprs>
+    ensures { IfSome result (λ es. es ≡ in_order (places elements.now) (trees operands.now) 0 many) }
+{
+    let mut all = Exprs::new(alloc);
+    for place in 0..many {
+        let operand = operand_of(alloc, elements, operands, place)?;
+        let Ok(()) = all.push(operand) else {
+            return None;
+        };
+    }
+    Some(all)
+}
+
+/// A copy of the operand of a parameter.
+fn operand_of(alloc: Global, elements: &[Element], operands: &[Expr], place: usize) -> Option<Expr>
+    ensures { IfSome result (λ e. tree e ≡ operand_for (places elements.now) (trees operands.now) place) }
+{
+    let mut next = 0;
+    for element in elements {
+        match element {
+            Element::Fixed(_, _) => {}
+            Element::Slot(slot) => {
+                let Some(operand) = expr_at(operands, next) else {
+                    return Some(absent(alloc));
+                };
+                if *slot == place {
+                    return copied(alloc, operand);
+                }
+                next += 1;
+            }
+        }
+    }
+    Some(absent(alloc))
+}
+
+/// What stands for an operand that isn't there.
+fn absent(alloc: Global) -> Expr
+    ensures { tree result ≡ app 0 none }
+{
+    Expr::App(0, Exprs::new(alloc))
+}
+
+fn copied(alloc: Global, expr: &Expr) -> Option<Expr>
+    ensures { IfSome result (λ e. tree e ≡ tree expr.now) }
+{
+    match copy_of(alloc, expr) {
+        Ok(copy) => Some(copy),
+        Err(_) => None,
+    }
+}
+
+fn expr_at(operands: &[Expr], at: usize) -> Option<&Expr>
+    ensures expr { MatchOption result (drop at operands.now ≡ []) (λ e. drop at operands.now ≡ e.now ∷ drop (at + 1) operands.now) }
+    ensures within { MatchOption result (length operands.now ≤ at) (λ e. at < length operands.now) }
+{
+    operands.get(at)
+}

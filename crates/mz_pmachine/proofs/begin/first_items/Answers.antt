@@ -1,7 +1,0 @@
-use Rattle.std.proofs.Common.{◌∙◌, ◌++◌, ◌∷◌, [], ap}
-use Rattle.mz_store.specs.declared.item.Item.TheVariants.{Expr}
-use Rattle.mz_machine.proofs.Offered.{items-next}
-use Rattle.mz_pmachine.proofs.begin.first_items.Goals as goal
-
-pub ids-preserved : goal.ids-preserved
-ids-preserved c = c.in-Ok.ensures.items ∙ ap (λ is. is ++ Expr (record { 0 = c.ids.i }) ∷ []) c.ids.invariant ∙ items-next c.ids.i

@@ -1,8 +1,0 @@
-use Rattle.std.proofs.Common.{◌≡◌, ◌++◌, map, drop}
-use Rattle.mz_grammar.specs.Code.{type_text}
-use Rattle.mz_spec.specs.Code.{variable}
-use Rattle.mz_spec.specs.View.{unnamed}
-use Rattle.mz_spec.proofs.parts.push_arguments.Given as goal
-
-abbrev pub invariant-loop-ty : goal.invariant-loop-ty
-invariant-loop-ty l = map variable l.variables.items ++ map unnamed (map type_text (drop l.ty-index l.arguments)) ≡ map variable l.initial.variables.items ++ map unnamed (map type_text l.arguments)

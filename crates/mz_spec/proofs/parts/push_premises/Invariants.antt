@@ -1,9 +1,0 @@
-use Rattle.std.proofs.Common.{◌≡◌, ◌++◌, map, drop}
-use Rattle.mz_grammar.specs.Code.{source}
-use Rattle.mz_spec.specs.Code.{variable}
-use Rattle.mz_spec.specs.View.{types_of, unnamed}
-use Rattle.mz_spec.proofs.parts.push_premises.Given as goal
-
-abbrev pub invariant-loop-premise : goal.invariant-loop-premise
-invariant-loop-premise l = map variable l.variables.items ++ map unnamed (types_of (map source (drop l.premise-index l.premises)))
-    ≡ map variable l.initial.variables.items ++ map unnamed (types_of (map source l.premises))

@@ -1,7 +1,0 @@
-use Rattle.std.proofs.Common.{◌≡◌, ◌++◌, map, drop}
-use Rattle.mz_spec.specs.Code.{variable}
-use Rattle.mz_spec.specs.View.{dummies_of}
-use Rattle.mz_spec.proofs.variables.dummies_of.Given as goal
-
-abbrev pub invariant-loop-variable : goal.invariant-loop-variable
-invariant-loop-variable l = map variable l.dummies.items ++ dummies_of (map variable (drop l.variable-index l.variables)) ≡ dummies_of (map variable l.variables)

@@ -1,7 +1,0 @@
-use Rattle.std.proofs.Common.{◌≡◌, ◌++◌, map, drop}
-use Rattle.mz_spec.specs.Code.{variable}
-use Rattle.mz_spec.specs.View.{params_of}
-use Rattle.mz_spec.proofs.variables.params_of.Given as goal
-
-abbrev pub invariant-loop-variable : goal.invariant-loop-variable
-invariant-loop-variable l = map variable l.params.items ++ params_of (map variable (drop l.variable-index l.variables)) ≡ params_of (map variable l.variables)

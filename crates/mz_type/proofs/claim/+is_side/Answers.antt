@@ -1,9 +1,0 @@
-use Rattle.std.proofs.Common.{true≢false, sym}
-use Rattle.mz_type.proofs.Claims.{put_length, sides_length, lengths_differ}
-use Rattle.mz_type.proofs.claim.+is_side.Goals as goal
-
-pub are_sides-returns-then-convs-es : goal.are_sides-returns-then-convs-es
-are_sides-returns-then-convs-es t c = (
-  λ h. absurd (true≢false (sym h)),
-  λ same. absurd (lengths_differ _ _ _ _ (sides_length c.args.right c.args.convs.now) (put_length c.args.put c.args.es.now) c.if-convs-es.true same),
-)

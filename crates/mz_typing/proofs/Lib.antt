@@ -1,0 +1,10 @@
+pub mod ExprRules
+pub mod ParamRules
+pub mod Judging
+pub mod Steps
+pub mod Building
+pub mod Claims
+pub mod ConvSteps
+pub mod ProofSteps
+pub mod StatementSteps
+pub mod Offered

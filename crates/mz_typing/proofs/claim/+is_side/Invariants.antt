@@ -1,0 +1,20 @@
+use Rattle.std.proofs.Common.{◌≡◌, ◌↔◌, ◌≤◌, ◌+◌, ◌*◌, drop, length}
+use Rattle.mz_logic.specs.View.{trees}
+use Rattle.mz_forms.specs.ConvCode.{conv_steps, convs_steps}
+use Rattle.mz_forms.specs.ConvView.{conversion, conversions}
+use Rattle.mz_typing.specs.Claims.{all_put_in}
+use Rattle.mz_typing.specs.Sides.{sides}
+use Rattle.mz_typing.proofs.claim.+is_side.Given as goal
+
+abbrev pub decreases-are_sides : goal.decreases-are_sides
+decreases-are_sides l = 2 * convs_steps (conversions l.convs.now) + 1
+
+abbrev pub decreases-is_side : goal.decreases-is_side
+decreases-is_side l = 2 * conv_steps (conversion l.conv.now)
+
+abbrev pub invariant-are_sides-loop-i : goal.invariant-are_sides-loop-i
+invariant-are_sides-loop-i l = record {
+  so_far : (sides l.right (conversions (drop l.i l.convs)) ≡ all_put_in l.put (trees (drop l.i l.es))) ↔ (sides l.right (conversions l.convs) ≡ all_put_in l.put (trees l.es));
+  many : length l.convs ≡ length l.es;
+  small : convs_steps (conversions (drop l.i l.convs)) ≤ convs_steps (conversions l.convs);
+}

@@ -1,0 +1,63 @@
+use Rattle.std.proofs.Common.{◌+◌, drop, sym, ap, ◌∙◌, subst, length, inl}
+use Rattle.mz_checks.specs.Checks.{FailsFirst, Judges}
+use Rattle.mz_checks.proofs.Offered.{fails-before, fails-after, judges-after, Decides}
+use Rattle.mz_sexpr.specs.Node.{place}
+use Rattle.mz_sexpr.specs.Number.{first}
+use Rattle.mz_logic.specs.Declaration.{signatures}
+use Rattle.mz_logic.specs.View.{tree, trees}
+use Rattle.mz_typing.specs.Rules.{expr_rules, exprs_rules, operand_rules}
+use Rattle.mz_typing.proofs.Judging.{handed_before, handed_within, judges_asked}
+use Rattle.mz_typing.proofs.Steps.{app_rules, exprs_left, exprs_step, size_step}
+use Rattle.mz_typing.proofs.exprs.+check_expr.Goals as goal
+
+pub check_app-returns-in_err-check_exprs : goal.check_app-returns-in_err-check_exprs
+check_app-returns-in_err-check_exprs t c =
+    let sigs = signatures c.args.env.now in
+    let ctx = c.args.ctx.now in
+    let n = first c.args.nodes.now in
+    subst (λ ms. Judges c.from_residual.result (app_rules sigs ctx c.args.term c.args.es.now (place n) ms)) c.parts_after-operands.ensures
+    (handed_before (exprs_rules sigs ctx c.args.es.now c.parts_after-operands.result) _ c.from_residual.result c.in_err-check_exprs.field-0.0 c.from_residual.ensures.1 c.in_err-check_exprs.ensures)
+
+pub check_app-returns-then-len-params : goal.check_app-returns-then-len-params
+check_app-returns-then-len-params t c =
+    let sigs = signatures c.args.env.now in
+    let ctx = c.args.ctx.now in
+    let n = first c.args.nodes.now in
+    subst (λ ms. FailsFirst (app_rules sigs ctx c.args.term c.args.es.now (place n) ms) c.fault.result) c.parts_after-operands.ensures
+    (fails-after (exprs_rules sigs ctx c.args.es.now c.parts_after-operands.result) _ c.fault.result c.in_ok-check_exprs.ensures
+    (inl (λ many. c.if-len-params.true (c.len.ensures ∙ many ∙ ap length (sym c.params_of-params.ensures)), c.fault.ensures)))
+
+pub check_app-returns : goal.check_app-returns
+check_app-returns t c =
+    let sigs = signatures c.args.env.now in
+    let ctx = c.args.ctx.now in
+    let n = first c.args.nodes.now in
+    let ns = c.parts_after-operands.result in
+    subst (λ ms. Judges c.check_operands.result (app_rules sigs ctx c.args.term c.args.es.now (place n) ms)) c.parts_after-operands.ensures
+    (judges-after (exprs_rules sigs ctx c.args.es.now ns) _ c.check_operands.result c.in_ok-check_exprs.ensures
+    (judges_asked _ _ (operand_rules sigs ctx c.args.es.now ns _) c.check_operands.result
+    (sym c.len.ensures ∙ c.if-len-params.false ∙ ap length c.params_of-params.ensures)
+    (subst (λ ps. Judges c.check_operands.result (operand_rules sigs ctx c.args.es.now ns ps)) c.params_of-params.ensures c.check_operands.ensures)))
+
+pub check_exprs-returns-in_err-check_expr : goal.check_exprs-returns-in_err-check_expr
+check_exprs-returns-in_err-check_expr t c =
+    let sigs = signatures c.args.env.now in
+    let ctx = c.args.ctx.now in
+    let items = c.as_slice-e-items.result.now in
+    let whole = exprs_rules sigs ctx c.args.es.now c.args.nodes.now in
+    handed_within _ whole c.from_residual.result c.in_err-check_expr.field-0.0
+    (exprs_left items c.loop-e.e-index c.e-item.result c.loop-e-test.true c.e-item.is sigs ctx c.loop-e.left whole c.loop-e.invariant.decides)
+    c.from_residual.ensures.1
+    (fails-before (expr_rules sigs ctx (tree c.e-item.result) (first c.loop-e.left)) _ c.in_err-check_expr.field-0.0 c.in_err-check_expr.ensures)
+
+pub check_exprs-loop-e-preserved : goal.check_exprs-loop-e-preserved
+check_exprs-loop-e-preserved t c =
+    let sigs = signatures c.args.env.now in
+    let ctx = c.args.ctx.now in
+    let items = c.as_slice-e-items.result.now in
+    let whole = exprs_rules sigs ctx c.args.es.now c.args.nodes.now in
+    record {
+      decides = subst (λ ns. Decides (exprs_rules sigs ctx (trees (drop (c.loop-e.e-index + 1) items)) ns) whole) (sym c.rest-left.ensures)
+          (exprs_step items c.loop-e.e-index c.e-item.result c.loop-e-test.true c.e-item.is sigs ctx c.loop-e.left whole c.in_ok-check_expr.ensures c.loop-e.invariant.decides);
+      small = (size_step items c.loop-e.e-index c.e-item.result c.loop-e-test.true c.e-item.is _ c.loop-e.invariant.small).1;
+    }

@@ -1,0 +1,71 @@
+use Rattle.std.proofs.Common.{◌++◌, true≢false, refl, sym, ap, ◌∙◌, subst, inl}
+use Rattle.mz_checks.specs.Checks.{AllHold, Judges}
+use Rattle.mz_checks.proofs.Offered.{fails-after, all_hold-both}
+use Rattle.mz_sexpr.specs.Node.{parts, place}
+use Rattle.mz_sexpr.specs.Number.{first}
+use Rattle.mz_sexpr.specs.declared.rule.U.{U}
+use Rattle.mz_logic.specs.Tree.{none}
+use Rattle.mz_logic.specs.DeclView.{assertion_view}
+use Rattle.mz_forms.specs.Order.{fault}
+use Rattle.mz_forms.specs.ProofView.{proof_view}
+use Rattle.mz_forms.specs.Stops.{Stops}
+use Rattle.std.specs.Prelude.{Some}
+use Rattle.mz_typing.specs.Claims.{claim_trees}
+use Rattle.mz_typing.specs.Parts.{part}
+use Rattle.mz_typing.specs.Rules.{dummy_rules, proof_rules, theorem_rules}
+use Rattle.mz_typing.specs.Sides.{proved}
+use Rattle.mz_typing.proofs.Judging.{stop_handed_on, stopped_before, stopped_after, told_stop, told_holds}
+use Rattle.mz_typing.proofs.statements.check_stated_proof.Goals as goal
+
+pub returns-in_err-refuse : goal.returns-in_err-refuse
+returns-in_err-refuse c =
+    let env = c.args.env.now in
+    let ps = c.args.parts.now in
+    let a = assertion_view c.args.thm.now in
+    let ds = c.args.dummies.now in
+    let p = proof_view c.args.proof.now in
+    let ctx = a.params ++ ds in
+    let A = dummy_rules env ds (parts (part ps 5)) in
+    let B = proof_rules env ctx a.hyps none p (part ps 6) in
+    let s = c.in_err-refuse.field-0.0 in
+    stop_handed_on (theorem_rules env a ds (Some p) ps) c.from_residual.result s c.from_residual.ensures.1
+    (stopped_before A _ s (told_stop A c.check_dummies.result c.refuse.result s c.refuse.ensures c.in_err-refuse.was (subst (λ ns. Judges c.check_dummies.result (dummy_rules env ds ns)) (c.parts.ensures ∙ ap (λ ms. parts (first ms)) c.after.ensures) c.check_dummies.ensures)))
+
+pub returns-in_err-claim : goal.returns-in_err-claim
+returns-in_err-claim c =
+    let env = c.args.env.now in
+    let ps = c.args.parts.now in
+    let a = assertion_view c.args.thm.now in
+    let ds = c.args.dummies.now in
+    let p = proof_view c.args.proof.now in
+    let ctx = a.params ++ ds in
+    let A = dummy_rules env ds (parts (part ps 5)) in
+    let B = proof_rules env ctx a.hyps none p (part ps 6) in
+    let s = c.in_err-claim.field-0.0 in
+    stop_handed_on (theorem_rules env a ds (Some p) ps) c.from_residual-in_err-claim.result s c.from_residual-in_err-claim.ensures.1
+    (stopped_after A _ s (told_holds A c.check_dummies.result c.refuse.result c.in_ok-refuse.field-0 c.refuse.ensures c.in_ok-refuse.was (subst (λ ns. Judges c.check_dummies.result (dummy_rules env ds ns)) (c.parts.ensures ∙ ap (λ ms. parts (first ms)) c.after.ensures) c.check_dummies.ensures)) (stopped_before B _ s (subst (λ cs. Stops s cs) (ap (λ k. proof_rules env k a.hyps (claim_trees c.new-lets.result.items) p (first c.after-2.result)) (c.new-ctx.ensures ∙ ap (λ qs. qs ++ ds) c.as_slice.ensures) ∙ ap (λ ls. proof_rules env ctx a.hyps (claim_trees ls) p (first c.after-2.result)) c.new-lets.ensures.items ∙ ap (λ m. proof_rules env ctx a.hyps none p (first m)) c.after-2.ensures) c.in_err-claim.ensures.proved)))
+
+pub returns-then-same_claim : goal.returns-then-same_claim
+returns-then-same_claim c =
+    let env = c.args.env.now in
+    let ps = c.args.parts.now in
+    let a = assertion_view c.args.thm.now in
+    let ds = c.args.dummies.now in
+    let p = proof_view c.args.proof.now in
+    let ctx = a.params ++ ds in
+    let A = dummy_rules env ds (parts (part ps 5)) in
+    let B = proof_rules env ctx a.hyps none p (part ps 6) in
+    all_hold-both A _ (told_holds A c.check_dummies.result c.refuse.result c.in_ok-refuse.field-0 c.refuse.ensures c.in_ok-refuse.was (subst (λ ns. Judges c.check_dummies.result (dummy_rules env ds ns)) (c.parts.ensures ∙ ap (λ ms. parts (first ms)) c.after.ensures) c.check_dummies.ensures)) (all_hold-both B _ (subst (λ cs. AllHold cs) (ap (λ k. proof_rules env k a.hyps (claim_trees c.new-lets.result.items) p (first c.after-2.result)) (c.new-ctx.ensures ∙ ap (λ qs. qs ++ ds) c.as_slice.ensures) ∙ ap (λ ls. proof_rules env ctx a.hyps (claim_trees ls) p (first c.after-2.result)) c.new-lets.ensures.items ∙ ap (λ m. proof_rules env ctx a.hyps none p (first m)) c.after-2.ensures) c.in_ok-claim.ensures.proved.0) (sym (c.in_ok-claim.ensures.proved.1 ∙ ap (λ ls. proved env a.hyps (claim_trees ls) p) c.new-lets.ensures.items) ∙ c.if-same_claim.ensures.0 refl ∙ c.of.ensures, tt))
+
+pub returns : goal.returns
+returns c =
+    let env = c.args.env.now in
+    let ps = c.args.parts.now in
+    let a = assertion_view c.args.thm.now in
+    let ds = c.args.dummies.now in
+    let p = proof_view c.args.proof.now in
+    let ctx = a.params ++ ds in
+    let A = dummy_rules env ds (parts (part ps 5)) in
+    let B = proof_rules env ctx a.hyps none p (part ps 6) in
+    fails-after A _ c.fault.result (told_holds A c.check_dummies.result c.refuse.result c.in_ok-refuse.field-0 c.refuse.ensures c.in_ok-refuse.was (subst (λ ns. Judges c.check_dummies.result (dummy_rules env ds ns)) (c.parts.ensures ∙ ap (λ ms. parts (first ms)) c.after.ensures) c.check_dummies.ensures)) (fails-after B _ c.fault.result (subst (λ cs. AllHold cs) (ap (λ k. proof_rules env k a.hyps (claim_trees c.new-lets.result.items) p (first c.after-2.result)) (c.new-ctx.ensures ∙ ap (λ qs. qs ++ ds) c.as_slice.ensures) ∙ ap (λ ls. proof_rules env ctx a.hyps (claim_trees ls) p (first c.after-2.result)) c.new-lets.ensures.items ∙ ap (λ m. proof_rules env ctx a.hyps none p (first m)) c.after-2.ensures) c.in_ok-claim.ensures.proved.0)
+    (inl (λ is. true≢false (sym (c.if-same_claim.ensures.1 ((c.in_ok-claim.ensures.proved.1 ∙ ap (λ ls. proved env a.hyps (claim_trees ls) p) c.new-lets.ensures.items) ∙ is ∙ sym c.of.ensures))), c.fault.ensures ∙ ap (λ m. fault (place (first m)) U.Conclusion) c.after-else-same_claim.ensures)))

@@ -1,0 +1,38 @@
+-- What checks that take memory answer.
+use Rattle.std.specs.Prelude.{◌≡◌, Option, Some, None, Result, Ok, Err, Vec}
+use Rattle.std.specs.Borrow.{Bor}
+use Rattle.mz_checks.specs.Checks.{Checks, AllHold}
+use Rattle.mz_logic.specs.Tree.{Tree, Trees}
+use Rattle.mz_forms.specs.Proof.{Proof}
+use Rattle.mz_forms.specs.ProofView.{proof_view}
+use Rattle.mz_forms.specs.declared.proof.Proof.{Proof as Coded}
+use Rattle.mz_forms.specs.Stops.{Stops}
+use Rattle.mz_forms.specs.declared.fault.Fault.{Fault}
+use Rattle.mz_forms.specs.declared.fault.Stop.{Stop}
+use Rattle.mz_forms.specs.declared.fault.Stop.TheVariants.{Refused}
+use Rattle.mz_typing.specs.Claims.{claim_tree, claim_trees}
+use Rattle.mz_typing.specs.declared.claim.Claim.{Claim}
+
+-- all hold, or the first that doesn't is told, or there was no memory
+abbrev pub Judged : {A : Type 0} → Result A Stop → Checks Fault → Type 0
+Judged (Ok _) cs = AllHold cs
+Judged (Err stop) cs = Stops stop cs
+
+-- the same answer, where memory may be missing too
+abbrev pub told : Result (Unit {0}) Fault → Result (Unit {0}) Stop
+told (Ok x) = Ok x
+told (Err f) = Err (Refused f)
+
+-- the same, where a claim is answered
+abbrev pub IsProved : Result Claim Stop → Checks Fault → Tree → Type 0
+IsProved (Ok claim) cs x = AllHold cs × (claim_tree claim ≡ x)
+IsProved (Err stop) cs x = Stops stop cs
+
+abbrev pub AreProved : {Z : Type 0} → Result (Vec Claim Z) Stop → Checks Fault → Trees → Type 0
+AreProved (Ok claims) cs xs = AllHold cs × (claim_trees claims.items ≡ xs)
+AreProved (Err stop) cs xs = Stops stop cs
+
+-- the proof that a statement states, if it states one
+abbrev pub stated : Option (Bor Coded) → Option Proof
+stated None = None
+stated (Some p) = Some (proof_view p.now)

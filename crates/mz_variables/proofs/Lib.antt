@@ -1,0 +1,5 @@
+pub mod Walking
+pub mod Numbers
+pub mod Places
+pub mod Indexed
+pub mod Offered

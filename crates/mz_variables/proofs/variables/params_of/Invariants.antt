@@ -1,0 +1,7 @@
+use Rattle.std.proofs.Common.{◌≡◌, ◌++◌, map, drop}
+use Rattle.mz_variables.specs.Code.{variable}
+use Rattle.mz_variables.specs.View.{params_of}
+use Rattle.mz_variables.proofs.variables.params_of.Given as goal
+
+abbrev pub invariant-loop-variable : goal.invariant-loop-variable
+invariant-loop-variable l = map variable l.params.items ++ params_of (map variable (drop l.variable-index l.variables)) ≡ params_of (map variable l.variables)

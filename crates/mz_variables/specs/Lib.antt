@@ -1,0 +1,5 @@
+pub mod Names
+pub mod View
+pub mod Dependencies
+pub mod Index
+pub mod Code

@@ -1,0 +1,184 @@
+// What the rules see of a statement: its variables, its types and its result.
+ghost use Rattle.std.specs.Prelude.{◌++◌, ◌∷◌, ◌≡◌, [], IfOk, OnOk, map, option_map};
+ghost use Rattle.mz_grammar.specs.Code.{assertion as assertion_lem, definition as definition_lem, group as group_lem, notation as notation_lem, source as source_lem, term as term_lem, type_text};
+ghost use Rattle.mz_variables.specs.Code.{AreParts, all_of, variable};
+ghost use Rattle.mz_variables.specs.View.{group_types as group_types_lem, types_of as types_of_lem, unnamed, view};
+
+use crate::variables::{Variable, dummies_of, params_of, push_groups};
+use mz_grammar::{AssertText, DefinitionText, Group, NotationText, Source, TermText, TypeText};
+use std::alloc::{AllocError, Global};
+
+/// A type where it stands in the statement.
+#[derive(Clone, Copy)]
+pub struct TypeAt<'t, 'a> {
+    pub ty: &'t TypeText<'a>,
+}
+
+/// The variables in order, and the parameters and dummies among them; the types in order; and the type
+/// of the result, where there is one.
+#[derive(Drop)]
+pub struct Parts<'t, 'a> {
+    pub variables: Vec<Variable<'t, 'a>>,
+    pub params: Vec<Variable<'t, 'a>>,
+    pub dummies: Vec<Variable<'t, 'a>>,
+    pub types: Vec<TypeAt<'t, 'a>>,
+    pub result: Option<&'t TypeText<'a>>,
+}
+
+impl<'t, 'a> Parts<'t, 'a> {
+    /// These variables, types and result.
+    fn new(
+        alloc: Global,
+        variables: Vec<Variable<'t, 'a>>,
+        types: Vec<TypeAt<'t, 'a>>,
+        result_type: Option<&'t TypeText<'a>>,
+    ) -> Result<Parts<'t, 'a>, AllocError>
+        ensures { IfOk result (λ parts. AreParts parts (map variable variables.entry.items) (map (λ t. type_text t.ty.now) types.entry.items) (all_of (option_map (λ t. type_text t.now) result_type.entry))) }
+    {
+        let params = params_of(alloc, &variables)?;
+        let dummies = dummies_of(alloc, &variables)?;
+        Ok(Parts {
+            variables,
+            params,
+            dummies,
+            types,
+            result: result_type,
+        })
+    }
+
+    /// Those of a term.
+    pub fn of_term(alloc: Global, term: &'t TermText<'a>) -> Result<Parts<'t, 'a>, AllocError>
+        ensures { IfOk result (λ parts. AreParts parts (view (term_lem term.now)).variables (view (term_lem term.now)).types (view (term_lem term.now)).result) }
+    {
+        let mut variables = Vec::new(alloc);
+        push_groups(&mut variables, &term.head.groups)?;
+        push_arguments(&mut variables, &term.arguments)?;
+        let mut types = Vec::new(alloc);
+        push_group_types(&mut types, &term.head.groups)?;
+        push_types(&mut types, &term.arguments)?;
+        types.push(TypeAt { ty: &term.result })?;
+        Parts::new(alloc, variables, types, Some(&term.result))
+    }
+
+    /// Those of an axiom or a theorem.
+    pub fn of_assertion(
+        alloc: Global,
+        assertion: &'t AssertText<'a>,
+    ) -> Result<Parts<'t, 'a>, AllocError>
+        ensures { IfOk result (λ parts. AreParts parts (view (assertion_lem assertion.now)).variables (view (assertion_lem assertion.now)).types (view (assertion_lem assertion.now)).result) }
+    {
+        let mut variables = Vec::new(alloc);
+        push_groups(&mut variables, &assertion.head.groups)?;
+        push_premises(&mut variables, &assertion.premises)?;
+        let mut types = Vec::new(alloc);
+        push_group_types(&mut types, &assertion.head.groups)?;
+        push_premise_types(&mut types, &assertion.premises)?;
+        Parts::new(alloc, variables, types, None)
+    }
+
+    /// Those of a definition.
+    pub fn of_definition(
+        alloc: Global,
+        definition: &'t DefinitionText<'a>,
+    ) -> Result<Parts<'t, 'a>, AllocError>
+        ensures { IfOk result (λ parts. AreParts parts (view (definition_lem definition.now)).variables (view (definition_lem definition.now)).types (view (definition_lem definition.now)).result) }
+    {
+        let mut variables = Vec::new(alloc);
+        push_groups(&mut variables, &definition.head.groups)?;
+        let mut types = Vec::new(alloc);
+        push_group_types(&mut types, &definition.head.groups)?;
+        types.push(TypeAt {
+            ty: &definition.result,
+        })?;
+        Parts::new(alloc, variables, types, Some(&definition.result))
+    }
+
+    /// Those of a general notation.
+    pub fn of_notation(
+        alloc: Global,
+        notation: &'t NotationText<'a>,
+    ) -> Result<Parts<'t, 'a>, AllocError>
+        ensures { IfOk result (λ parts. AreParts parts (view (notation_lem notation.now)).variables (view (notation_lem notation.now)).types (view (notation_lem notation.now)).result) }
+    {
+        let mut variables = Vec::new(alloc);
+        push_groups(&mut variables, &notation.head.groups)?;
+        let mut types = Vec::new(alloc);
+        push_group_types(&mut types, &notation.head.groups)?;
+        types.push(TypeAt {
+            ty: &notation.result,
+        })?;
+        Parts::new(alloc, variables, types, Some(&notation.result))
+    }
+}
+
+// ---- variables
+
+/// Adds an unnamed parameter for each type before a `>`.
+fn push_arguments<'t, 'a>(
+    variables: &mut Vec<Variable<'t, 'a>>,
+    arguments: &'t [TypeText<'a>],
+) -> Result<(), AllocError>
+    ensures { OnOk result (map variable variables.new.items ≡ map variable variables.old.items ++ map unnamed (map type_text arguments.now)) }
+{
+    for ty in arguments {
+        variables.push(Variable::unnamed(ty))?;
+    }
+    Ok(())
+}
+
+/// Adds an unnamed parameter for each type among what stands before a `>`.
+fn push_premises<'t, 'a>(
+    variables: &mut Vec<Variable<'t, 'a>>,
+    premises: &'t [Source<'a>],
+) -> Result<(), AllocError>
+    ensures { OnOk result (map variable variables.new.items ≡ map variable variables.old.items ++ map unnamed (types_of_lem (map source_lem premises.now))) }
+{
+    for premise in premises {
+        if let Source::Type(ty) = premise {
+            variables.push(Variable::unnamed(ty))?;
+        }
+    }
+    Ok(())
+}
+
+// ---- types
+
+fn push_types<'t, 'a>(
+    types: &mut Vec<TypeAt<'t, 'a>>,
+    more: &'t [TypeText<'a>],
+) -> Result<(), AllocError>
+    ensures { OnOk result (map (λ t. type_text t.ty.now) types.new.items ≡ map (λ t. type_text t.ty.now) types.old.items ++ map type_text more.now) }
+{
+    for ty in more {
+        types.push(TypeAt { ty })?;
+    }
+    Ok(())
+}
+
+fn push_group_types<'t, 'a>(
+    types: &mut Vec<TypeAt<'t, 'a>>,
+    groups: &'t [Group<'a>],
+) -> Result<(), AllocError>
+    ensures { OnOk result (map (λ t. type_text t.ty.now) types.new.items ≡ map (λ t. type_text t.ty.now) types.old.items ++ group_types_lem (map group_lem groups.now)) }
+{
+    for group in groups {
+        if let Source::Type(ty) = &group.source {
+            types.push(TypeAt { ty })?;
+        }
+    }
+    Ok(())
+}
+
+fn push_premise_types<'t, 'a>(
+    types: &mut Vec<TypeAt<'t, 'a>>,
+    premises: &'t [Source<'a>],
+) -> Result<(), AllocError>
+    ensures { OnOk result (map (λ t. type_text t.ty.now) types.new.items ≡ map (λ t. type_text t.ty.now) types.old.items ++ types_of_lem (map source_lem premises.now)) }
+{
+    for premise in premises {
+        if let Source::Type(ty) = premise {
+            types.push(TypeAt { ty })?;
+        }
+    }
+    Ok(())
+}

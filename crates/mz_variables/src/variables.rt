@@ -1,0 +1,192 @@
+// The variables of a statement.
+ghost use Rattle.std.specs.Prelude.{◌≡◌, ◌↔◌, ◌<◌, ◌^◌, ◌++◌, length, IfOk, IsTrue, OnOk, bytes_eq, true, map, option_map};
+ghost use Rattle.std.specs.List.{list_any};
+ghost use Rattle.mz_grammar.specs.Code.{group as group_lem, lexeme, name_text, type_text};
+ghost use Rattle.mz_variables.specs.Code.{variable};
+ghost use Rattle.mz_variables.specs.Dependencies.{IsBoundAmong, IsCalled, dep_places as dep_places_lem};
+ghost use Rattle.mz_variables.specs.View.{dummies_of as dummies_lem, group_variables, is_among as is_among_lem, name_of as name_of_lem, params_of as params_lem, unnamed, variable_of as variable_of_lem, variables_of as variables_of_lem};
+
+use mz_grammar::{Group, Lexeme, NameText, Source, TypeText};
+use mz_logic::Deps;
+use std::alloc::{AllocError, Global};
+
+/// A variable; one that is written `_`, or not at all, has no name.
+#[derive(Clone, Copy)]
+pub struct Variable<'t, 'a> {
+    pub name: Option<Lexeme<'a>>,
+    pub is_dummy: bool,
+    pub is_bound: bool,
+    pub ty: &'t TypeText<'a>,
+}
+
+impl<'t, 'a> Variable<'t, 'a> {
+    /// The variable of a name in a group, of a type.
+    fn new(is_bound: bool, ty: &'t TypeText<'a>, name: NameText<'a>) -> Variable<'t, 'a>
+        ensures { variable result ≡ variable_of_lem is_bound (type_text ty.now) (name_text name.entry) }
+    {
+        Variable {
+            name: name_of(name.name),
+            is_dummy: name.is_dummy,
+            is_bound: is_bound || name.is_dummy,
+            ty,
+        }
+    }
+
+    /// A regular parameter without a name.
+    pub fn unnamed(ty: &'t TypeText<'a>) -> Variable<'t, 'a>
+        ensures { variable result ≡ unnamed (type_text ty.now) }
+    {
+        Variable {
+            name: None,
+            is_dummy: false,
+            is_bound: false,
+            ty,
+        }
+    }
+}
+
+/// Adds the variables of groups, in order.
+pub fn push_groups<'t, 'a>(
+    variables: &mut Vec<Variable<'t, 'a>>,
+    groups: &'t [Group<'a>],
+) -> Result<(), AllocError>
+    ensures { OnOk result (map variable variables.new.items ≡ map variable variables.old.items ++ variables_of_lem (map group_lem groups.now)) }
+{
+    for group in groups {
+        push_group(variables, group)?;
+    }
+    Ok(())
+}
+
+/// Adds the variables of a group; a formula's names are none.
+fn push_group<'t, 'a>(
+    variables: &mut Vec<Variable<'t, 'a>>,
+    group: &'t Group<'a>,
+) -> Result<(), AllocError>
+    ensures { OnOk result (map variable variables.new.items ≡ map variable variables.old.items ++ group_variables (group_lem group.now)) }
+{
+    match &group.source {
+        Source::Type(ty) => push_names(variables, group.is_bound, ty, &group.names),
+        Source::Formula(_) => Ok(()),
+    }
+}
+
+fn push_names<'t, 'a>(
+    variables: &mut Vec<Variable<'t, 'a>>,
+    is_bound: bool,
+    ty: &'t TypeText<'a>,
+    names: &[NameText<'a>],
+) -> Result<(), AllocError>
+    ensures { OnOk result (map variable variables.new.items ≡ map variable variables.old.items ++ map (variable_of_lem is_bound (type_text ty.now)) (map name_text names.now)) }
+{
+    for name in names {
+        variables.push(Variable::new(is_bound, ty, *name))?;
+    }
+    Ok(())
+}
+
+/// The name, where it isn't `_`.
+fn name_of(found: Lexeme<'_>) -> Option<Lexeme<'_>>
+    ensures { option_map lexeme result ≡ name_of_lem (lexeme found.entry) }
+{
+    if found.bytes == b"_".as_slice() {
+        None
+    } else {
+        Some(found)
+    }
+}
+
+/// The parameters among the variables, in order.
+pub fn params_of<'t, 'a>(
+    alloc: Global,
+    variables: &[Variable<'t, 'a>],
+) -> Result<Vec<Variable<'t, 'a>>, AllocError>
+    ensures { IfOk result (λ params. map variable params.items ≡ params_lem (map variable variables.now)) }
+{
+    let mut params = Vec::new(alloc);
+    for variable in variables {
+        if !variable.is_dummy {
+            params.push(*variable)?;
+        }
+    }
+    Ok(params)
+}
+
+/// The dummies among the variables, in order.
+pub fn dummies_of<'t, 'a>(
+    alloc: Global,
+    variables: &[Variable<'t, 'a>],
+) -> Result<Vec<Variable<'t, 'a>>, AllocError>
+    ensures { IfOk result (λ dummies. map variable dummies.items ≡ dummies_lem (map variable variables.now)) }
+{
+    let mut dummies = Vec::new(alloc);
+    for variable in variables {
+        if variable.is_dummy {
+            dummies.push(*variable)?;
+        }
+    }
+    Ok(dummies)
+}
+
+/// Whether one of the variables is bound and has the name.
+pub fn is_bound(variables: &[Variable<'_, '_>], dep: Lexeme<'_>) -> bool
+    ensures { IsTrue result ↔ IsBoundAmong (map variable variables.now) (lexeme dep.entry) }
+{
+    for variable in variables {
+        if is_bound_as(variable, dep) {
+            return true;
+        }
+    }
+    false
+}
+
+fn is_bound_as(variable: &Variable<'_, '_>, dep: Lexeme<'_>) -> bool
+    ensures { IsTrue result ↔ ((variable.now.is_bound ≡ true) × IsCalled (option_map lexeme variable.now.name) dep.entry.bytes.now) }
+{
+    match variable.name {
+        Some(name) => variable.is_bound && name.bytes == dep.bytes,
+        None => false,
+    }
+}
+
+/// The places of the variables that are among the dependencies.
+pub fn dep_places(
+    alloc: Global,
+    variables: &[Variable<'_, '_>],
+    deps: &[Lexeme<'_>],
+) -> Result<Deps, AllocError>
+    requires { length variables.now < 2 ^ 32 }
+    ensures { IfOk result (λ places. places ≡ dep_places_lem 0 (map variable variables.now) (map lexeme deps.now)) }
+{
+    if deps.is_empty() {
+        return Ok(Deps::new(alloc));
+    }
+    let mut places = Deps::new(alloc);
+    for (i, variable) in variables.iter().enumerate() {
+        if is_among(deps, variable.name) {
+            places.push(i as u32)?;
+        }
+    }
+    Ok(places)
+}
+
+/// Whether the name is one of these dependencies.
+fn is_among(deps: &[Lexeme<'_>], name: Option<Lexeme<'_>>) -> bool
+    ensures { result ≡ is_among_lem (map lexeme deps.now) (option_map lexeme name.entry) }
+{
+    match name {
+        Some(name) => has_name(deps, name.bytes),
+        None => false,
+    }
+}
+
+fn has_name(deps: &[Lexeme<'_>], name: &[u8]) -> bool
+    ensures { result ≡ list_any (λ d. bytes_eq d.text name.now) (map lexeme deps.now) }
+{
+    for dep in deps {
+        if dep.bytes == name {
+            return true;
+        }
+    }
+    false
+}
