@@ -1,12 +1,9 @@
 -- What is printed of the supports (this project's own).
-use Rattle.std.specs.Prelude.{◌≡◌, ◌<◌, ◌-◌, ◌++◌, ℕ, List, [], take, drop, length, All, slice_get, Option, Some, None, codes, flat_map}
+use Rattle.std.specs.Prelude.{◌≡◌, ◌<◌, ◌++◌, ℕ, List, [], length, All, slice_get, Option, Some, None, codes, flat_map}
+use Rattle.mz_layout.specs.Heads.{body_bytes as bytes_between}
 use Rattle.mz_spec.specs.State.{Entry}
 use Rattle.mz_spec.specs.Spec.{SpecMakes}
 use Rattle.mz_axioms.specs.Lists.{TheoremSupport, AreSupports}
-
--- the bytes of a text from a place up to another
-abbrev pub bytes_between : List ℕ → ℕ → ℕ → List ℕ
-bytes_between text from to = take (to - from) (drop from text)
 
 abbrev pub name_in : List ℕ → Option Entry → List ℕ
 name_in text None = []

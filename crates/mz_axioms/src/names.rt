@@ -2,7 +2,8 @@
 ghost use Rattle.std.specs.Prelude.{◌≡◌, ◌<◌, ◌++◌, ◌^◌, List, length, IfOk, OnOk};
 ghost use Rattle.mz_spec.specs.State.{Entry};
 ghost use Rattle.mz_spec.specs.Spec.{SpecMakes};
-ghost use Rattle.mz_axioms.specs.Text.{bytes_between, name_at};
+ghost use Rattle.mz_layout.specs.Heads.{body_bytes as bytes_between};
+ghost use Rattle.mz_axioms.specs.Text.{name_at};
 
 use mz_cmd::Mem;
 use mz_spec::{Spec, SpecRead, read_spec};

@@ -3,7 +3,7 @@ use Rattle.std.proofs.Common.{◌≡◌, ℕ, true, false, List, Result}
 use Rattle.mz_cmd.specs.declared.rule.K.{K}
 use Rattle.mz_mode.specs.declared.mode.Mode.{Mode}
 use Rattle.mz_logic.specs.Tree.{Tree}
-use Rattle.mz_soundness.specs.Tables.{State, Heading}
+use Rattle.mz_soundness.specs.MachineState.{State, Heading}
 use Rattle.mz_machine.specs.BodyAnswers.{IsBodyRun as IsRunOverTrees}
 use Rattle.mz_machine.specs.declared.body.BodyChecked.{BodyChecked}
 use Rattle.mz_machine.specs.declared.body.BodyChecked.TheVariants.{Good, Refused, Mem}

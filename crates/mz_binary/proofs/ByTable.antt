@@ -17,8 +17,8 @@ use Rattle.mz_unification.specs.Profile.{plain, strict}
 use Rattle.mz_soundness.specs.Bodies.{Runs, body_checks}
 use Rattle.mz_soundness.specs.FileRows.{Taken, taken_by, term_of_file, thm_of_file, rows_taken}
 use Rattle.mz_soundness.specs.Lists.{definition_of, assertion_of}
-use Rattle.mz_soundness.specs.RowWords.{param_checks, word_checks}
-use Rattle.mz_soundness.specs.Tables.{Tables, Heading}
+use Rattle.mz_words.specs.RowWords.{param_checks, word_checks}
+use Rattle.mz_soundness.specs.MachineState.{RowsBefore, Heading}
 use Rattle.mz_soundness.proofs.Offered.{bodies-checked}
 use Rattle.mz_numbered.specs.Numbered.{portable}
 use Rattle.mz_numbered.proofs.Offered.{bodies-strict}
@@ -32,12 +32,12 @@ use Rattle.mz_binary.specs.Chains.{IsGoodStatement}
 use Rattle.mz_binary.specs.WholeLaws.{PortableFilesAreGood}
 use Rattle.mz_binary.proofs.ChainLaws.{chain-weaker}
 
-pub runs-by-table : (standard : Standard) (tables : Tables) (h : Heading) (at : ℕ) (bytes : List ℕ) → Runs (profile_of standard) tables h at bytes → Runs (plain (lets_gaps standard)) tables h at bytes
+pub runs-by-table : (standard : Standard) (tables : RowsBefore) (h : Heading) (at : ℕ) (bytes : List ℕ) → Runs (profile_of standard) tables h at bytes → Runs (plain (lets_gaps standard)) tables h at bytes
 runs-by-table (Published mode) tables h at bytes runs = runs
 runs-by-table Portable tables h at bytes runs = bodies-strict tables h at bytes runs
 
 -- the published table with gaps, or without
-pub runs-with : (gaps : Bool) (tables : Tables) (h : Heading) (at : ℕ) (bytes : List ℕ) → Runs (plain gaps) tables h at bytes → Runs (profile_of (by_table gaps)) tables h at bytes
+pub runs-with : (gaps : Bool) (tables : RowsBefore) (h : Heading) (at : ℕ) (bytes : List ℕ) → Runs (plain gaps) tables h at bytes → Runs (profile_of (by_table gaps)) tables h at bytes
 runs-with false tables h at bytes runs = runs
 runs-with true tables h at bytes runs = runs
 
@@ -45,7 +45,7 @@ pub lets-with : (gaps : Bool) → lets_gaps (by_table gaps) ≡ gaps
 lets-with false = refl
 lets-with true = refl
 
-body : (tables : Tables) (h : Heading) (at : ℕ) (bytes : List ℕ) → AllHold (body_checks portable tables h at bytes) → AllHold (body_checks strict tables h at bytes)
+body : (tables : RowsBefore) (h : Heading) (at : ℕ) (bytes : List ℕ) → AllHold (body_checks portable tables h at bytes) → AllHold (body_checks strict tables h at bytes)
 body tables h at bytes all = (bodies-checked strict tables h at bytes).0.1 (bodies-strict tables h at bytes ((bodies-checked portable tables h at bytes).0.0 all))
 
 module _ (file : List ℕ) (taken : Taken) (at from next : ℕ) where
@@ -64,7 +64,7 @@ module _ (file : List ℕ) (taken : Taken) (at from next : ℕ) where
   thm without_proof all =
       let words : Checks (ℕ × K) = param_checks taken.sorts (thm_row file taken.thms).words_at (thm_row file taken.thms).params in
       let h : Heading = assertion_of without_proof (thm_of_file file taken.thms) in
-      let tables : Tables = rows_taken file taken in
+      let tables : RowsBefore = rows_taken file taken in
       let bytes : List ℕ = body_bytes file from next in
       all_hold-both words (body_checks strict tables h from bytes) (all_hold-first words (body_checks portable tables h from bytes) all) (body tables h from bytes (all_hold-rest words (body_checks portable tables h from bytes) all))
 

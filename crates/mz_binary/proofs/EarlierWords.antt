@@ -6,7 +6,7 @@ use Rattle.mz_logic.specs.Declaration.{Declaration, sort_decl, term_decl, assert
 use Rattle.mz_logic.specs.LegalLists.{Statement}
 use Rattle.mz_logic.specs.declared.binder.SortMods.{SortMods}
 use Rattle.mz_layout.specs.Tables.{term_row, thm_row}
-use Rattle.mz_soundness.specs.RowWords.{param_checks, word_checks}
+use Rattle.mz_words.specs.RowWords.{param_checks, word_checks}
 use Rattle.mz_earlier.specs.Before.{HasRightWords, HasRightParams}
 use Rattle.mz_binary.specs.Chains.{GoodTo}
 use Rattle.mz_binary.proofs.Declared.{sorts-many, terms-many, assertions-many}

@@ -1,26 +1,26 @@
 -- A statement whose checks hold, as an entry of a list of rows with their bodies.
-use Rattle.std.proofs.Common.{◌≡◌, ◌+◌, ◌*◌, ℕ, Bool, true, false, cond, List, length, drop, Some, None, refl}
+use Rattle.std.proofs.Common.{◌≡◌, ℕ, Bool, true, false, cond, List, length, drop, Some, None, refl}
 use Rattle.std.specs.Prelude.{MatchBool, ⊤}
-use Rattle.mz_checks.specs.Checks.{Checks, AllHold, demand}
-use Rattle.mz_checks.proofs.Offered.{all_hold-first, all_hold-rest, all_hold-rows}
+use Rattle.mz_checks.specs.Checks.{Checks, AllHold}
+use Rattle.mz_checks.proofs.Offered.{all_hold-first, all_hold-rest}
 use Rattle.mz_cmd.specs.declared.code.StatementCode.{StatementCode}
 use Rattle.mz_cmd.specs.declared.code.StatementCode.TheVariants as codes
 use Rattle.mz_cmd.specs.declared.rule.K.{K}
-use Rattle.mz_cmd.specs.declared.rule.K.TheVariants as rules
 use Rattle.mz_logic.specs.Words.{binders_of, result_of}
 use Rattle.mz_logic.specs.declared.binder.SortMods.{SortMods}
 use Rattle.mz_logic.specs.declared.word.Word.{Word}
 use Rattle.mz_logic.proofs.Offered.{words_say_results}
-use Rattle.mz_layout.specs.Tables.{TermRow as TermRecord, mods_of, term_row, thm_row}
-use Rattle.mz_soundness.specs.Tables.{Tables, Heading}
+use Rattle.mz_layout.specs.Tables.{TermRow, mods_of, term_row, thm_row}
+use Rattle.mz_soundness.specs.MachineState.{RowsBefore, Heading}
 use Rattle.mz_soundness.specs.Bodies.{Runs, body_checks}
 use Rattle.mz_soundness.specs.Sound.{AreRowParams, IsRowResult}
 use Rattle.mz_soundness.specs.Lists.{Body, Entry, a_sort, a_term, an_assertion, definition_of, assertion_of, BodyIsGood, IsGoodEntry}
-use Rattle.mz_soundness.specs.RowWords.{param_check, param_checks, word_checks, IsResultWord}
+use Rattle.mz_words.specs.RowWords.{AreParamWords, IsResultWord, param_checks, word_checks}
 use Rattle.mz_layout.specs.Heads.{body_bytes}
 use Rattle.mz_soundness.specs.FileRows.{Taken, stream_of, term_of_file, thm_of_file, rows_taken}
 use Rattle.mz_binary.specs.Checking.{term_body_checks, term_checks, thm_checks, kind_checks}
-use Rattle.mz_soundness.proofs.Offered.{bodies-checked, right-words}
+use Rattle.mz_soundness.proofs.Offered.{bodies-checked}
+use Rattle.mz_words.proofs.Offered.{params-right, result-right, right-words, term-params-right}
 use Rattle.mz_binary.specs.declared.standard.Standard.{Standard}
 use Rattle.mz_binary.specs.Standards.{lets_gaps, profile_of}
 use Rattle.mz_binary.proofs.ByTable.{runs-by-table}
@@ -41,27 +41,21 @@ entry_of file taken body next codes.LocalTheorem = an_assertion true false (thm_
 
 -- ---- words
 
-module _ (ss : List SortMods) (at : ℕ) (ws : List Word) where
-  row-params : AllHold (param_checks ss at ws) → AreRowParams ss (binders_of ws)
-  row-params all =
-      let right = right-words ss ws (λ i below. (all_hold-rows (param_check ss at ws) (length ws) i all below).0) in
-      (right.0, right.1)
+row-params : (ss : List SortMods) (ws : List Word) → AreParamWords ss ws → AreRowParams ss (binders_of ws)
+row-params ss ws right = let say = right-words ss ws right in (say.0, say.1)
 
-module _ (ss : List SortMods) (row : TermRecord) (all : AllHold (word_checks ss row)) where
-  abbrev result_check : Checks (ℕ × K)
-  result_check = demand (row.words_at + 8 * length row.words.params, rules.Result) (IsResultWord ss row)
-
+module _ (ss : List SortMods) (row : TermRow) (all : AllHold (word_checks ss row)) where
   term-params : AreRowParams ss (binders_of row.words.params)
-  term-params = row-params ss row.words_at row.words.params (all_hold-first (param_checks ss row.words_at row.words.params) result_check all)
+  term-params = row-params ss row.words.params (term-params-right ss row all)
 
   term-result : IsRowResult ss (binders_of row.words.params) (result_of row.words)
   term-result =
-      let right : IsResultWord ss row = (all_hold-rest (param_checks ss row.words_at row.words.params) result_check all).0 in
+      let right : IsResultWord ss row = result-right ss row all in
       (rw right.named right.may_be, words_say_results row.words)
 
 -- ---- bodies
 
-runs-of : (standard : Standard) (tables : Tables) (h : Heading) (at : ℕ) (bytes : List ℕ) → AllHold (body_checks (profile_of standard) tables h at bytes) → Runs (plain (lets_gaps standard)) tables h at bytes
+runs-of : (standard : Standard) (tables : RowsBefore) (h : Heading) (at : ℕ) (bytes : List ℕ) → AllHold (body_checks (profile_of standard) tables h at bytes) → Runs (plain (lets_gaps standard)) tables h at bytes
 runs-of standard tables h at bytes all = runs-by-table standard tables h at bytes ((bodies-checked (profile_of standard) tables h at bytes).0.0 all)
 
 module _ (standard : Standard) (file : List ℕ) (taken : Taken) (at body next : ℕ) where
@@ -73,7 +67,7 @@ module _ (standard : Standard) (file : List ℕ) (taken : Taken) (at body next :
 
   term-good : (is_local : Bool) → MatchBool is_local ((term_row file taken.terms).words.has_body ≡ true) ⊤ → AllHold (term_checks standard file taken at body next) → IsGoodEntry (lets_gaps standard) (rows_taken file taken) (a_term is_local (term_of_file file taken.terms) (body_of file body next))
   term-good is_local mark all =
-      let row : TermRecord = term_row file taken.terms in
+      let row : TermRow = term_row file taken.terms in
       let words = all_hold-first (word_checks taken.sorts row) (term_body_checks standard file taken at body next (stream_of file row)) all in
       let run = all_hold-rest (word_checks taken.sorts row) (term_body_checks standard file taken at body next (stream_of file row)) all in
       (term-params taken.sorts row words, term-result taken.sorts row words, body-good is_local row.words.has_body (drop row.stream_at file) run mark)
@@ -84,7 +78,7 @@ module _ (standard : Standard) (file : List ℕ) (taken : Taken) (at body next :
       let row = thm_row file taken.thms in
       let run : Checks (ℕ × K) = body_checks (profile_of standard) (rows_taken file taken) (assertion_of without_proof (thm_of_file file taken.thms)) body (body_bytes file body next) in
       let words = all_hold-first (param_checks taken.sorts row.words_at row.params) run all in
-      (mark, row-params taken.sorts row.words_at row.params words, runs-of standard (rows_taken file taken) (assertion_of without_proof (thm_of_file file taken.thms)) body (body_bytes file body next) (all_hold-rest (param_checks taken.sorts row.words_at row.params) run all))
+      (mark, row-params taken.sorts row.params (params-right taken.sorts row.words_at row.params words), runs-of standard (rows_taken file taken) (assertion_of without_proof (thm_of_file file taken.thms)) body (body_bytes file body next) (all_hold-rest (param_checks taken.sorts row.words_at row.params) run all))
 
   pub entry-good : (k : StatementCode) → AllHold (kind_checks standard file taken at body next (Some k)) → IsGoodEntry (lets_gaps standard) (rows_taken file taken) (entry_of file taken body next k)
   entry-good codes.Sort all = tt

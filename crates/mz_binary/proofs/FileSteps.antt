@@ -12,11 +12,11 @@ use Rattle.mz_cmd.specs.declared.statement.StmtAt.TheVariants.{End, Head}
 use Rattle.mz_cmd.specs.declared.statement.StmtFault.{StmtFault}
 use Rattle.mz_cmd.specs.Codes.{statement_code}
 use Rattle.mz_cmd.specs.StatementList.{statement_at}
-use Rattle.mz_layout.specs.Tables.{TermRow as TermRecord, list_at, term_row, thm_row}
+use Rattle.mz_layout.specs.Tables.{TermRow, list_at, term_row, thm_row}
 use Rattle.mz_layout.specs.Heads.{body_bytes}
 use Rattle.mz_unification.specs.Steps.{◌>>=◌, ◌>>◌ as ◌then◌}
-use Rattle.mz_unification.specs.Spells.{TermRow, ThmRow}
-use Rattle.mz_soundness.specs.Tables.{Heading}
+use Rattle.mz_unification.specs.Spells.{SpelledTerm, SpelledThm}
+use Rattle.mz_soundness.specs.MachineState.{Heading}
 use Rattle.mz_soundness.specs.Bodies.{body_run, body_steps, body_start}
 use Rattle.mz_soundness.specs.Laws.{StreamsWithin}
 use Rattle.mz_soundness.specs.Lists.{assertion_of}
@@ -57,10 +57,10 @@ streams-within file taken h own = record {
   own = own;
   of_terms = λ t row stream at is.
       let (i, row-is) = mapped (term_of_file file) (range_with_len 0 taken.terms) t row at in
-      stream-within file stream (term_row file i).stream_at (term_row file i).words.has_body (sym (ap (λ (r : TermRow). r.stream) row-is) ∙ is);
+      stream-within file stream (term_row file i).stream_at (term_row file i).words.has_body (sym (ap (λ (r : SpelledTerm). r.stream) row-is) ∙ is);
   of_thms = λ t row at.
       let (i, row-is) = mapped (thm_of_file file) (range_with_len 0 taken.thms) t row at in
-      subst (λ (r : ThmRow). length r.stream ≤ length file) (sym row-is) (dropped (thm_row file i).stream_at file);
+      subst (λ (r : SpelledThm). length r.stream ≤ length file) (sym row-is) (dropped (thm_row file i).stream_at file);
 }
 
 -- ---- what is found
@@ -86,7 +86,7 @@ module _ (file : List ℕ) (body next : ℕ) where
 
   term-within : (taken : Taken) (at : ℕ) → Within file body next (find_term_parts file taken at body next)
   term-within taken at =
-      let row : TermRecord = term_row file taken.terms in
+      let row : TermRow = term_row file taken.terms in
       then-within (test_words taken.sorts row) (find_term_body file taken at body next (stream_of file row)) (term-body-within taken at row.words.has_body row.stream_at)
 
   thm-within : (taken : Taken) (w : Bool) → Within file body next (find_thm_parts file taken body next w)

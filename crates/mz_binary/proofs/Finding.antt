@@ -18,11 +18,11 @@ use Rattle.mz_layout.specs.declared.head.Head.{Head}
 use Rattle.mz_layout.specs.declared.taken.Rows.{Rows}
 use Rattle.mz_layout.specs.Tables.{sort_count, term_row, thm_row}
 use Rattle.mz_unification.specs.Steps.{◌>>◌ as ◌then◌}
-use Rattle.mz_soundness.specs.Tables.{Heading}
+use Rattle.mz_soundness.specs.MachineState.{Heading}
 use Rattle.mz_soundness.specs.Lists.{definition_of, assertion_of}
 use Rattle.mz_soundness.specs.FileRows.{Taken, term_of_file, thm_of_file}
-use Rattle.mz_soundness.specs.RowWords.{param_checks, word_checks}
-use Rattle.mz_soundness.proofs.Offered.{length-first_sorts}
+use Rattle.mz_words.specs.RowWords.{param_checks, word_checks}
+use Rattle.mz_words.proofs.Offered.{length-first_sorts}
 use Rattle.mz_earlier.specs.OwnRow.{heading_of}
 use Rattle.mz_earlier.specs.Before.{taken_before}
 use Rattle.mz_binary.specs.Checking.{counts}

@@ -14,7 +14,7 @@ use Rattle.mz_logic.specs.LegalLists.{Statement, IsProvedBy, IsLegalStatement, a
 use Rattle.mz_logic.specs.declared.binder.SortMods.{SortMods}
 use Rattle.mz_layout.specs.Tables.{mods_of}
 use Rattle.mz_layout.proofs.Offered.{code-is, slice_get-sorts}
-use Rattle.mz_soundness.specs.Tables.{Tables, Declares}
+use Rattle.mz_soundness.specs.MachineState.{RowsBefore, Declares}
 use Rattle.mz_soundness.specs.Sound.{cites_as}
 use Rattle.mz_soundness.specs.Lists.{Entry, with_entry, SpellsEntry, an_assertion, ProvedByBody}
 use Rattle.mz_soundness.proofs.Offered.{follows}
@@ -160,7 +160,7 @@ module _ (standard : Standard) (file : List ℕ) (env : List Declaration) (at co
       → AllHold (kind_checks standard file (taken_by env) at body next (Some k)) → FollowedBy standard file env at body next k
   unfolding Spelled
   followed k is legal-env declares all =
-      let tables : Tables = rows_taken file (taken_by env) in
+      let tables : RowsBefore = rows_taken file (taken_by env) in
       let e : Entry = entry_of file (taken_by env) body next k in
       let (s, spells, legal, proved, grown) = follows (lets_gaps standard) tables env legal-env declares e (entry-good standard file (taken_by env) at body next k all) in
       let (spelled, taken) = spelled-as k s (code-is k code is) all spells in

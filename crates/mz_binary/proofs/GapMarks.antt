@@ -45,6 +45,13 @@ pub gapped-within : (bodies : List AssertionBody) (T : ℕ) → IsGapped bodies 
 gapped-within bodies T (leaves_gap T0 bytes there gap) = get-within bodies T _ there
 gapped-within bodies T (rests_on T0 U bytes there cited earlier on) = get-within bodies T _ there
 
+-- before the first statement nothing is marked
+pub no-marks : (file : List ℕ) → AreMarks file [] []
+no-marks file = record {
+  many = refl;
+  each = λ T. (λ marked. absurd (none_some marked), λ gapped. absurd (let lt = gapped-within [] T gapped in omega (arith, lt)));
+}
+
 module _ (bodies more : List AssertionBody) where
   there-on : (T : ℕ) (bytes : List ℕ) → IsTheoremBody bodies T bytes → IsTheoremBody (bodies ++ more) T bytes
   there-on T bytes is = get-first bodies more T (get-within bodies T _ is) ∙ is

@@ -14,7 +14,7 @@ use Rattle.mz_logic.specs.LegalLists.{Statement}
 use Rattle.mz_layout.specs.Tables.{list_at, mods_of, sort_count, term_count, thm_count}
 use Rattle.mz_layout.specs.Layout.{IsBinary}
 use Rattle.mz_unification.specs.Steps.{◌>>=◌}
-use Rattle.mz_soundness.specs.Tables.{Heading, State}
+use Rattle.mz_soundness.specs.MachineState.{Heading, State}
 use Rattle.mz_soundness.specs.Bodies.{body_run}
 use Rattle.mz_earlier.specs.OwnRow.{heading_of}
 use Rattle.mz_earlier.specs.Before.{tables_before, taken_before}

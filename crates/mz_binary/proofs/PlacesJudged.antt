@@ -23,7 +23,7 @@ use Rattle.mz_layout.specs.Heads.{AllTaken, IsEmptyBody, body_bytes, empty_check
 use Rattle.mz_layout.specs.Heads as heads
 use Rattle.mz_layout.specs.Numbers.{byte_at}
 use Rattle.mz_layout.specs.declared.taken.Rows.{Rows}
-use Rattle.mz_layout.specs.Tables.{term_row, thm_row, sort_count, term_count, thm_count, terms_at, thms_at, list_at, term_record, thm_record, words_at, param_count, TermRow as TermRecord}
+use Rattle.mz_layout.specs.Tables.{term_row, thm_row, sort_count, term_count, thm_count, terms_at, thms_at, list_at, term_record, thm_record, words_at, param_count, TermRow}
 use Rattle.mz_layout.specs.Layout.{HoldsRecords, HoldsWords, header_checks, table_checks, row_checks, term_check, thm_check, layout_checks}
 use Rattle.mz_logic.specs.Words.{word_bound, word_sort, word_deps}
 use Rattle.mz_logic.specs.declared.binder.SortMods.{SortMods}
@@ -35,7 +35,7 @@ use Rattle.mz_soundness.specs.Bodies as bodies
 use Rattle.mz_soundness.specs.Lists.{definition_of, assertion_of}
 use Rattle.mz_soundness.specs.FileRows.{Taken, term_of_file, thm_of_file, rows_taken}
 use Rattle.mz_binary.specs.Checking.{counts, term_body_checks, term_checks, thm_checks, part_checks, kind_checks, checks_of, place_checks}
-use Rattle.mz_soundness.specs.RowWords.{bound_count, IsParamWord, IsParamAt, IsResultWord, param_check, param_checks, word_checks}
+use Rattle.mz_words.specs.RowWords.{bound_count, IsParamWord, IsParamAt, IsResultWord, param_check, param_checks, word_checks}
 use Rattle.mz_binary.specs.FileRun.{Passing, with_sort, with_term, test, test_each, holds_records, test_header, test_tables, test_rows, test_layout, may_be, is_param_word, is_param_at, test_params, is_result_word, test_words, Found, list_ends, stands_alone, has_body, is_empty_body, find_empty, find_term_body, find_term_parts, find_thm_parts, find_parts, suits_row, test_row, find_kind, all_taken, find_of, find_at, Onward, onward, if_runs, run_found, run_place}
 use Rattle.mz_binary.specs.declared.standard.Standard.{Standard}
 use Rattle.mz_binary.specs.Standards.{profile_of}
@@ -146,7 +146,7 @@ not-decides : (b : Bool) → IsDecidedBy (not b) (b ≡ false)
 not-decides true = ((λ h. absurd cc), λ h. absurd cc)
 not-decides false = ((λ h. refl), λ h. refl)
 
-result-decides : (ss : List SortMods) (row : TermRecord) → IsDecidedBy (is_result_word ss row) (IsResultWord ss row)
+result-decides : (ss : List SortMods) (row : TermRow) → IsDecidedBy (is_result_word ss row) (IsResultWord ss row)
 result-decides ss row =
     let whole = Decides-and (not (word_bound row.words.result)) _ (not-decides (word_bound row.words.result))
     (Decides-and (word_sort row.words.result == row.sort) _ (Decides-eqb (word_sort row.words.result) row.sort)
@@ -155,7 +155,7 @@ result-decides ss row =
       (λ r. whole.1 (r.is_regular, (r.named, (r.may_be, r.bits)))),
     )
 
-pub words-judged : (ss : List SortMods) (row : TermRecord) → Judges (test_words ss row) (word_checks ss row)
+pub words-judged : (ss : List SortMods) (row : TermRow) → Judges (test_words ss row) (word_checks ss row)
 words-judged ss row = judges-then _ _ (param_checks ss row.words_at row.words.params) _ (params-judged ss row.words_at row.words.params) λ _. judges-test _ _ _ (result-decides ss row)
 
 -- ---- heads

@@ -1,13 +1,12 @@
 -- The row of a good statement.
 use Rattle.std.proofs.Common.{◌≡◌, ◌⊎◌, ◌<◌, ◌∙◌, ℕ, Bool, true, false, cond, List, length, drop, Option, None, Some, Result, refl, sym, subst, inl, inr, arith}
-use Rattle.std.specs.Prelude.{◌+◌, ◌*◌, ⊤, MatchBool}
+use Rattle.std.specs.Prelude.{⊤, MatchBool}
 use Rattle.std.proofs.lemmas.Option.{slice_get_within}
-use Rattle.mz_checks.specs.Checks.{Checks, AllHold, demand}
-use Rattle.mz_checks.proofs.Offered.{all_hold-first, all_hold-rest, all_hold-rows}
+use Rattle.mz_checks.specs.Checks.{Checks, AllHold}
+use Rattle.mz_checks.proofs.Offered.{all_hold-first}
 use Rattle.mz_cmd.specs.declared.code.StatementCode.{StatementCode}
 use Rattle.mz_cmd.specs.declared.code.StatementCode.TheVariants as codes
 use Rattle.mz_cmd.specs.declared.rule.K.{K}
-use Rattle.mz_cmd.specs.declared.rule.K.TheVariants as rules
 use Rattle.mz_cmd.specs.declared.statement.StmtAt.{StmtAt}
 use Rattle.mz_cmd.specs.declared.statement.StmtFault.{StmtFault}
 use Rattle.mz_cmd.specs.Codes.{statement_byte, statement_code}
@@ -16,7 +15,6 @@ use Rattle.mz_logic.specs.LegalLists.{Statement}
 use Rattle.mz_logic.specs.Signature.{Signature}
 use Rattle.mz_logic.specs.declared.binder.Binder.{Binder}
 use Rattle.mz_logic.specs.declared.binder.SortMods.{SortMods}
-use Rattle.mz_logic.specs.declared.word.Word.{Word}
 use Rattle.mz_layout.specs.Tables.{TermRow, tables_of, sort_count, term_row, thm_row}
 use Rattle.mz_layout.proofs.Offered.{code-is, length-sorts, slice_get-sorts}
 use Rattle.mz_unification.specs.Spells.{SpellsForm}
@@ -24,7 +22,8 @@ use Rattle.mz_soundness.specs.Bodies.{body_checks}
 use Rattle.mz_soundness.specs.Lists.{assertion_of}
 use Rattle.mz_layout.specs.Heads.{body_bytes}
 use Rattle.mz_soundness.specs.FileRows.{taken_by, rows_taken, term_of_file, thm_of_file}
-use Rattle.mz_soundness.specs.RowWords.{IsResultWord, param_check, param_checks, word_checks, AreParamWords}
+use Rattle.mz_words.specs.RowWords.{param_checks, word_checks}
+use Rattle.mz_words.proofs.Offered.{params-right, result-right, term-params-right}
 use Rattle.mz_binary.specs.Spelling.{IsKindOf, SpellsRow}
 use Rattle.mz_binary.specs.Checking.{term_body_checks, term_checks, thm_checks, kind_checks, checks_of}
 use Rattle.mz_binary.specs.Chains.{IsGoodStatement}
@@ -34,21 +33,6 @@ use Rattle.mz_binary.specs.Standards.{profile_of}
 
 same-mods : {m n : SortMods} → Some m ≡ Some n → m ≡ n
 same-mods e = cc
-
--- ---- words
-
-params-hold : (ss : List SortMods) (at : ℕ) (ws : List Word) → AllHold (param_checks ss at ws) → AreParamWords ss ws
-params-hold ss at ws all i below = (all_hold-rows (param_check ss at ws) (length ws) i all below).0
-
-module _ (ss : List SortMods) (row : TermRow) (all : AllHold (word_checks ss row)) where
-  abbrev result_check : Checks (ℕ × K)
-  result_check = demand (row.words_at + 8 * length row.words.params, rules.Result) (IsResultWord ss row)
-
-  term-params : AreParamWords ss row.words.params
-  term-params = params-hold ss row.words_at row.words.params (all_hold-first (param_checks ss row.words_at row.words.params) result_check all)
-
-  term-result : IsResultWord ss row
-  term-result = (all_hold-rest (param_checks ss row.words_at row.words.params) result_check all).0
 
 -- ---- rows
 
@@ -134,13 +118,13 @@ module _ (file : List ℕ) (env : List Declaration) where
         record {
           signature = sym spells.0;
           form = spelled-form (signatures env) (term_of_file file (length (terms env))).signature.params row.words.has_body (drop row.stream_at file) d.form spells.1;
-          params = term-params (sorts env) row right;
-          result = term-result (sorts env) row right;
+          params = term-params-right (sorts env) row right;
+          result = result-right (sorts env) row right;
         },
       )
   says (assertion_decl a) (here, spells) right =
       let row = thm_row file (length (assertions env)) in
-      (here, record { signature = sym spells.0; params = params-hold (sorts env) row.words_at row.params right })
+      (here, record { signature = sym spells.0; params = params-right (sorts env) row.words_at row.params right })
 
 pub good-rows : GoodStatementsHaveRows
 good-rows standard file env at s next good = says file env s.decl good.spelled.row (right-row standard file env at s next good)

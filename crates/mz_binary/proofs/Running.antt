@@ -5,10 +5,10 @@ use Rattle.mz_cmd.specs.declared.code.StatementCode.{StatementCode}
 use Rattle.mz_cmd.specs.declared.code.StatementCode.TheVariants as codes
 use Rattle.mz_cmd.specs.declared.rule.K.{K}
 use Rattle.mz_cmd.specs.declared.rule.K.TheVariants as rules
-use Rattle.mz_layout.specs.Tables.{TermRow as TermRecord, term_row, thm_row, list_at}
+use Rattle.mz_layout.specs.Tables.{TermRow, term_row, thm_row, list_at}
 use Rattle.mz_unification.specs.Steps.{◌>>◌ as ◌then◌}
-use Rattle.mz_soundness.specs.Tables.{Heading}
-use Rattle.mz_soundness.specs.RowWords.{param_checks, word_checks}
+use Rattle.mz_soundness.specs.MachineState.{Heading}
+use Rattle.mz_words.specs.RowWords.{param_checks, word_checks}
 use Rattle.mz_soundness.specs.FileRows.{Taken, thm_of_file}
 use Rattle.mz_layout.specs.Heads.{body_bytes, next_row, row_checks}
 use Rattle.mz_earlier.specs.OwnRow.{IsNextRow, MayRun, kind_at}
@@ -53,7 +53,7 @@ module _ (file : List ℕ) (taken : Taken) (at body next : ℕ) (f : Found) (is 
 
   term-runs : find_term_parts file taken at body next ≡ Ok f → TermRuns
   term-runs e =
-      let row : TermRecord = term_row file taken.terms in
+      let row : TermRow = term_row file taken.terms in
       let run : Result Found (ℕ × K) = find_term_body file taken at body next (cond row.words.has_body (Some (drop row.stream_at file)) None) in
       record {
         is_defined = defined row.words.has_body (drop row.stream_at file) (then-ok (test_words taken.sorts row) run f e);

@@ -6,7 +6,7 @@ use Rattle.mz_logic.specs.Declaration.{Declaration, sort_decl, term_decl, assert
 use Rattle.mz_logic.specs.LegalLists.{Statement}
 use Rattle.mz_logic.specs.declared.binder.SortMods.{SortMods}
 use Rattle.mz_layout.specs.Tables.{list_at, tables_of}
-use Rattle.mz_soundness.specs.RowWords.{first_sorts}
+use Rattle.mz_words.specs.RowWords.{first_sorts}
 use Rattle.mz_earlier.specs.Before.{taken_before}
 use Rattle.mz_binary.specs.Spelling.{SpellsRow}
 use Rattle.mz_binary.specs.Chains.{GoodTo}

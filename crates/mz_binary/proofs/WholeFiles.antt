@@ -18,7 +18,7 @@ use Rattle.mz_logic.proofs.Offered.{legal_push}
 use Rattle.mz_layout.specs.Tables.{list_at}
 use Rattle.mz_layout.specs.Layout.{Layout, layout_checks}
 use Rattle.mz_layout.proofs.Offered.{parts-of_layout}
-use Rattle.mz_soundness.specs.Tables.{Declares}
+use Rattle.mz_soundness.specs.MachineState.{Declares}
 use Rattle.mz_soundness.specs.FileRows.{Taken, nothing_taken, taken_by, rows_taken}
 use Rattle.mz_binary.specs.Spelling.{IsSpelled}
 use Rattle.mz_binary.specs.Checking.{kind_checks, checks_of, place_checks}

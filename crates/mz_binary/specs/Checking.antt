@@ -17,7 +17,7 @@ use Rattle.mz_layout.specs.Tables.{term_row, thm_row}
 use Rattle.mz_layout.specs.declared.taken.Rows.{Rows}
 use Rattle.mz_soundness.specs.Bodies.{body_checks}
 use Rattle.mz_soundness.specs.Lists.{definition_of, assertion_of}
-use Rattle.mz_soundness.specs.RowWords.{param_checks, word_checks}
+use Rattle.mz_words.specs.RowWords.{param_checks, word_checks}
 use Rattle.mz_soundness.specs.FileRows.{Taken, taken_by, term_of_file, thm_of_file, rows_taken}
 use Rattle.mz_binary.specs.declared.standard.Standard.{Standard}
 use Rattle.mz_binary.specs.Standards.{profile_of}

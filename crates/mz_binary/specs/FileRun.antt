@@ -18,13 +18,13 @@ use Rattle.mz_logic.specs.declared.word.Word.{Word}
 use Rattle.mz_layout.specs.Numbers.{byte_at}
 use Rattle.mz_layout.specs.Heads.{body_bytes, next_row, row_count, rule_of}
 use Rattle.mz_layout.specs.declared.taken.Rows.{Rows}
-use Rattle.mz_layout.specs.Tables.{TermRow as TermRecord, sort_count, term_count, thm_count, terms_at, thms_at, list_at, term_record, thm_record, param_count, words_at, mods_of, term_row, thm_row}
+use Rattle.mz_layout.specs.Tables.{TermRow, sort_count, term_count, thm_count, terms_at, thms_at, list_at, term_record, thm_record, param_count, words_at, mods_of, term_row, thm_row}
 use Rattle.mz_unification.specs.Steps.{◌>>=◌, ◌>>◌}
 use Rattle.mz_unification.specs.Tests.{has_bit}
-use Rattle.mz_soundness.specs.Tables.{Heading}
+use Rattle.mz_soundness.specs.MachineState.{Heading}
 use Rattle.mz_soundness.specs.Bodies.{body_run, body_steps}
 use Rattle.mz_soundness.specs.Lists.{definition_of, assertion_of}
-use Rattle.mz_soundness.specs.RowWords.{bound_count}
+use Rattle.mz_words.specs.RowWords.{bound_count}
 use Rattle.mz_soundness.specs.FileRows.{Taken, nothing_taken, term_of_file, thm_of_file, rows_taken}
 use Rattle.mz_binary.specs.Checking.{counts}
 use Rattle.mz_binary.specs.declared.standard.Standard.{Standard}
@@ -94,11 +94,11 @@ is_param_at ss k (Some w) = is_param_word ss k w
 abbrev pub test_params : List SortMods → ℕ → List Word → Passing
 test_params ss words_at ws = test_each (λ i. test (is_param_at ss (bound_count (take i ws)) (slice_get ws i)) (words_at + 8 * i, rules.Binder)) (range_with_len 0 (length ws))
 
-abbrev pub is_result_word : List SortMods → TermRecord → Bool
+abbrev pub is_result_word : List SortMods → TermRow → Bool
 is_result_word ss row = not (word_bound row.words.result) && (word_sort row.words.result == row.sort
     && (may_be 0 (slice_get ss row.sort) && nat_lt (word_deps row.words.result) (2 ^ bound_count row.words.params)))
 
-abbrev pub test_words : List SortMods → TermRecord → Passing
+abbrev pub test_words : List SortMods → TermRow → Passing
 test_words ss row = do
   test_params ss row.words_at row.words.params
   test (is_result_word ss row) (row.words_at + 8 * length row.words.params, rules.Result)

@@ -5,10 +5,7 @@ use Rattle.std.proofs.Math.ListN.{replicate}
 abbrev pub zeros : ℕ → List ℕ
 zeros n = replicate n 0
 
--- the byte at a place is this one; these bytes stand from a place on; the bytes from a place to another are left out
-abbrev pub with_byte : ℕ → ℕ → List ℕ → List ℕ
-with_byte at value file = take at file ++ value ∷ drop (at + 1) file
-
+-- these bytes stand from a place on; the bytes from a place to another are left out
 abbrev pub with_bytes : ℕ → List ℕ → List ℕ → List ℕ
 with_bytes at bytes file = take at file ++ bytes ++ drop (at + length bytes) file
 

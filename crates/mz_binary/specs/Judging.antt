@@ -11,7 +11,7 @@ use Rattle.mz_binary.specs.declared.checker.Next.{Next}
 use Rattle.mz_binary.specs.declared.checker.Next.TheVariants as next
 use Rattle.mz_binary.specs.declared.whole.Checked.{Checked}
 use Rattle.mz_binary.specs.declared.whole.Checked.TheVariants as checked
-use Rattle.mz_soundness.specs.Tables.{State}
+use Rattle.mz_soundness.specs.MachineState.{State}
 use Rattle.mz_soundness.specs.FileRows.{taken_by}
 use Rattle.mz_machine.specs.BodyAnswers.{HasGap}
 use Rattle.mz_machine.specs.declared.body.BodyChecked.{BodyChecked}

@@ -5,7 +5,7 @@ use Rattle.mz_logic.specs.LegalLists.{Statement}
 use Rattle.mz_logic.specs.Words.{binders_of, signature_of}
 use Rattle.mz_logic.specs.declared.binder.SortMods.{SortMods}
 use Rattle.mz_layout.specs.Tables.{TermRow, ThmRow, sort_count, term_count, thm_count, mods_of, term_row, thm_row}
-use Rattle.mz_soundness.specs.RowWords.{IsResultWord, AreParamWords}
+use Rattle.mz_words.specs.RowWords.{IsResultWord, AreParamWords}
 use Rattle.mz_binary.specs.Chains.{IsGoodStatement}
 use Rattle.mz_binary.specs.declared.standard.Standard.{Standard}
 

@@ -4,10 +4,11 @@ use Rattle.std.specs.Prelude.{◌≡◌, ℕ, List, [], ◌∷◌, take, Option,
 use Rattle.mz_cmd.specs.declared.rule.K.{K}
 use Rattle.mz_cmd.specs.declared.rule.K.TheVariants as k
 use Rattle.mz_cmd.specs.declared.rule.Refusal.{Refusal}
+use Rattle.mz_soundness.specs.Cases.{with_byte}
 use Rattle.mz_binary.specs.declared.standard.Standard.TheVariants.{Portable}
 use Rattle.mz_binary.specs.Standards.{strict_standard, draft_standard}
 use Rattle.mz_binary.specs.FileRun.{run_file, file_steps}
-use Rattle.mz_binary.specs.Files.{with_byte, with_bytes, without, one, empty, imp, gen, fold, saved, dummy, bound_inside}
+use Rattle.mz_binary.specs.Files.{with_bytes, without, one, empty, imp, gen, fold, saved, dummy, bound_inside}
 
 abbrev pub fault_of : {A : Type 0} → Result A Refusal → Option Refusal
 fault_of (Ok x) = None

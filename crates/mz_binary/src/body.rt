@@ -8,19 +8,21 @@ ghost use Rattle.mz_layout.specs.Heads.{body_bytes};
 ghost use Rattle.mz_binary.specs.Judging.{IsBodyRun};
 ghost use Rattle.mz_binary.specs.Standards.{profile_of};
 
+use crate::rooms::Rooms;
 use crate::standard::Standard;
 use crate::statement::Rows;
 use mz_cmd::Steps;
 use mz_layout::Mmb;
-use mz_machine::{BodyChecked, check_body};
-use mz_pmachine::check_portable;
+use mz_machine::{BodyChecked, check_body_in};
+use mz_pmachine::check_portable_in;
 use std::alloc::Global;
 use std::sync::ledger::Ledger;
 
 /// Runs the body of a statement on the standard's machine: a body of this kind, for this row, after these
-/// rows.
+/// rows. It takes the room that earlier ones have left.
 pub fn check_body_by<L: Ledger>(
     alloc: Global,
+    rooms: &mut Rooms,
     mmb: &Mmb,
     standard: Standard,
     kind: u8,
@@ -37,7 +39,26 @@ pub fn check_body_by<L: Ledger>(
     ensures steps { UnlessMem result (steps.new ≡ steps.old + body_steps (profile_of standard) (tables_before mmb.now before) (heading_of mmb.now kind row) body.0 (body_bytes mmb.now body.0 body.1)) }
 {
     match standard {
-        Standard::Published(mode) => check_body(alloc, mmb, mode, kind, row, before, body, steps),
-        Standard::Portable => check_portable(alloc, mmb, kind, row, before, body, steps),
+        Standard::Published(mode) => check_body_in(
+            alloc,
+            &mut rooms.published,
+            mmb,
+            mode,
+            kind,
+            row,
+            before,
+            body,
+            steps,
+        ),
+        Standard::Portable => check_portable_in(
+            alloc,
+            &mut rooms.portable,
+            mmb,
+            kind,
+            row,
+            before,
+            body,
+            steps,
+        ),
     }
 }

@@ -13,6 +13,7 @@ ghost use Rattle.mz_binary.specs.Standards.{lets_gaps};
 use crate::body::check_body_by;
 use crate::gaps::cites_marked;
 use crate::place::{Found, found_at, is_local};
+use crate::rooms::Rooms;
 use crate::standard::Standard;
 use crate::statement::{Rows, Statement};
 use mz_cmd::{Mem, Refusal, StatementCode, Steps};
@@ -33,6 +34,7 @@ pub struct Checker<'a> {
     passed: u32,
     at: u32,
     gapped: Vec<bool>,
+    rooms: Rooms,
 }
 
 impl<'a> Model for Checker<'a> {
@@ -81,6 +83,7 @@ impl<'a> Checker<'a> {
             passed: 0,
             at,
             gapped: Vec::new(alloc),
+            rooms: Rooms::new(),
         }
     }
 
@@ -100,7 +103,7 @@ impl<'a> Checker<'a> {
     }
 
     /// Runs the statement's body, and goes past it.
-    fn past_body<L: Ledger>(self, head: Head, steps: &mut Steps<L>) -> Next<'a>
+    fn past_body<L: Ledger>(mut self, head: Head, steps: &mut Steps<L>) -> Next<'a>
         requires head { IsHead self.file head }
         requires at { head.at ≡ self.at }
         requires body { find_at self.file (taken_before self.file self.rows) self.at ≡ Ok (found_of self.file self.rows (Found.WithBody head)) }
@@ -109,19 +112,12 @@ impl<'a> Checker<'a> {
         ensures most { IsMost self.entry steps.old steps.new result }
         ensures left { IsLeft self.entry result }
     {
+        let (alloc, mmb, standard, rows) = (self.alloc, self.mmb, self.standard, self.rows);
         let kind = kind_of(head.code);
-        let row = self.rows.next(head.code);
+        let row = rows.next(head.code);
         let body = (head.body, head.next);
-        match check_body_by(
-            self.alloc,
-            self.mmb,
-            self.standard,
-            kind,
-            row,
-            self.rows,
-            body,
-            steps,
-        ) {
+        let rooms = &mut self.rooms;
+        match check_body_by(alloc, rooms, mmb, standard, kind, row, rows, body, steps) {
             BodyChecked::Good(end) => {
                 let gap = self.rests_on_gap(head, end.sorry);
                 self.past(head, gap)
@@ -170,6 +166,7 @@ impl<'a> Checker<'a> {
             standard,
             rows,
             mut gapped,
+            rooms,
             ..
         } = self;
         let Ok(()) = mark(standard, head.code, gap, &mut gapped) else {
@@ -183,6 +180,7 @@ impl<'a> Checker<'a> {
             passed: told.number,
             at: head.next,
             gapped,
+            rooms,
         };
         Next::Statement(after, told)
     }

@@ -12,15 +12,15 @@ mod gaps;
 mod laws;
 mod line;
 mod place;
+mod rooms;
 mod standard;
 mod statement;
 mod whole;
 mod whole_laws;
-mod words;
 
 pub use checker::{Checker, Next};
 pub use examples::worked_files;
-pub use laws::{good_statements_have_rows, right_words_say_params};
+pub use laws::good_statements_have_rows;
 pub use line::refusal_line;
 pub use standard::Standard;
 pub use statement::{Rows, Statement};

@@ -8,10 +8,10 @@ ghost use Rattle.mz_binary.specs.FileRun.{find_at, find_parts};
 ghost use Rattle.mz_binary.specs.Progress.{Finds, IsAssertionKind, IsOf, IsTermKind, StandsAt, is_local_kind};
 
 use crate::statement::Rows;
-use crate::words::{check_term_words, check_thm_words};
 use mz_cmd::{K, StatementCode};
 use mz_layout::{Fault, Head, HeadOrEnd, Mmb, head_at};
 use mz_logic::Terms;
+use mz_words::{check_term_words, check_thm_words};
 
 /// What stands at a place, all that is asked of it met, but that its body runs.
 #[derive(Clone, Copy)]

@@ -13,7 +13,7 @@ use Rattle.mz_store.specs.declared.item.Id.{Id}
 use Rattle.mz_unification.specs.Profile.{Item, expr, proof, plain}
 use Rattle.mz_soundness.specs.Bodies.{stands_in}
 use Rattle.mz_soundness.specs.Premises.{bound_count}
-use Rattle.mz_soundness.specs.Tables.{Kind}
+use Rattle.mz_soundness.specs.MachineState.{Kind}
 use Rattle.mz_forms.specs.Proof.{Proof}
 use Rattle.mz_steps.specs.Works.{Work, work_start}
 use Rattle.mz_steps.specs.Steps.{Step, command_bytes}

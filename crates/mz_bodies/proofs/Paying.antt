@@ -6,7 +6,7 @@ use Rattle.std.proofs.lemmas.Option.{get_or_from_slice_get, slice_get_within}
 use Rattle.mz_cmd.specs.declared.code.ProofCode.TheVariants as code
 use Rattle.mz_logic.specs.Tree.{Tree, Trees, app, none, more, listed, instance, followed_by, variables, size}
 use Rattle.mz_logic.specs.Signature.{Signature}
-use Rattle.mz_logic.specs.Declaration.{Form, plain_form, abstract_form, defined, body_of, Term, Declaration, terms, signatures}
+use Rattle.mz_logic.specs.Declaration.{Form, plain_form, abstract_form, defined, body_of, Term, Declaration, terms, signatures, body_tree}
 use Rattle.mz_logic.specs.Sorts.{HasSort, Fits, IsSorted}
 use Rattle.mz_logic.specs.Legality.{IsLegalEnv}
 use Rattle.mz_logic.specs.Conversions.{Conversion, Conversions, refl_conv, sym_conv, cong_conv, unfold_conv, gap_conv, no_convs, more_convs, IsDefined, AreFresh, Between, AllBetween}
@@ -22,7 +22,7 @@ use Rattle.mz_steps.specs.Steps.{stacked, Step, command_bytes}
 use Rattle.mz_shared.specs.Instances.{Grows, InReach}
 use Rattle.mz_shared.specs.Variables.{IsShared}
 use Rattle.mz_bodies.specs.Sight.{parts}
-use Rattle.mz_bodies.specs.Costs.{body_tree, body_at, pay_cost}
+use Rattle.mz_bodies.specs.Costs.{body_at, pay_cost}
 use Rattle.mz_forms.specs.ConvView.{conversion, conversions}
 use Rattle.mz_forms.specs.declared.conv.Conv.{Conv}
 use Rattle.mz_bodies.specs.Claims.{Goes, AllGo}

@@ -5,7 +5,7 @@ use Rattle.mz_cmd.specs.declared.code.ProofCode.{ProofCode}
 use Rattle.mz_cmd.specs.declared.code.ProofCode.TheVariants as code
 use Rattle.mz_store.specs.declared.item.Id.{Id}
 use Rattle.mz_unification.specs.Profile.{plain}
-use Rattle.mz_soundness.specs.Tables.{Kind, is_theorem}
+use Rattle.mz_soundness.specs.MachineState.{Kind, is_theorem}
 use Rattle.mz_soundness.specs.Bodies.{stands_in}
 use Rattle.mz_steps.specs.Endings.{MayStand}
 use Rattle.mz_bodies.specs.Owes.{Task, push, make, MakesExpression, IsOfExpressions}

@@ -1,15 +1,10 @@
 -- How many steps a proof takes, its lets written out at each name: for the end of the loop alone.
 use Rattle.std.specs.Prelude.{ℕ, ◌+◌, ◌*◌, List, [], ◌∷◌, ◌++◌, get_or}
-use Rattle.mz_logic.specs.Tree.{Tree, app, none, instance, followed_by, variables, size, trees_size}
-use Rattle.mz_logic.specs.Declaration.{Form, plain_form, abstract_form, defined, Declaration, terms}
+use Rattle.mz_logic.specs.Tree.{Tree, app, instance, followed_by, variables, size, trees_size}
+use Rattle.mz_logic.specs.Declaration.{plain_form, Declaration, terms, body_tree}
 use Rattle.mz_logic.specs.Conversions.{Conversion, Conversions, refl_conv, sym_conv, cong_conv, unfold_conv, gap_conv, no_convs, more_convs}
 use Rattle.mz_forms.specs.Proof.{Proof, Proofs, by_hyp, by_name, by_citation, by_conv, by_let, by_gap, no_proofs, more_proofs}
 use Rattle.mz_bodies.specs.Claims.{conclusion_of}
-
-abbrev pub body_tree : Form → Tree
-body_tree plain_form = app 0 none
-body_tree abstract_form = app 0 none
-body_tree (defined _ e) = e
 
 abbrev pub body_at : List Declaration → ℕ → Tree
 body_at env t = body_tree (get_or (terms env) t (record { signature = record { params = []; result = record { sort = 0; deps = [] } }; form = plain_form })).form

@@ -11,7 +11,7 @@ use Rattle.mz_store.specs.Sharing.{Sharing, IsIn, Holds, tree_of}
 use Rattle.mz_store.specs.declared.item.Id.{Id}
 use Rattle.mz_unification.specs.Spells.{dummy_of}
 use Rattle.mz_unification.specs.Profile.{Item, expr, proof, plain}
-use Rattle.mz_soundness.specs.Tables.{Kind, is_theorem}
+use Rattle.mz_soundness.specs.MachineState.{Kind, is_theorem}
 use Rattle.mz_steps.specs.Works.{Work, work_start}
 use Rattle.mz_steps.specs.SharedBodies.{Builds, AreDistinct, ArePlain}
 use Rattle.mz_steps.specs.Steps.{command_bytes}

@@ -11,7 +11,7 @@ use Rattle.mz_store.specs.declared.item.Id.{Id}
 use Rattle.mz_unification.specs.Profile.{Item, plain}
 use Rattle.mz_unification.specs.Spells.{dummy_of}
 use Rattle.mz_soundness.specs.Bodies.{stands_in}
-use Rattle.mz_soundness.specs.Tables.{Kind}
+use Rattle.mz_soundness.specs.MachineState.{Kind}
 use Rattle.mz_forms.specs.Proof.{Proof}
 use Rattle.mz_bodies.specs.Claims.{IsSound}
 use Rattle.mz_shared.specs.Variables.{IsShared}

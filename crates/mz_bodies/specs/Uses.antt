@@ -8,7 +8,7 @@ use Rattle.mz_logic.specs.Conversions.{Conversion, Conversions, refl_conv, sym_c
 use Rattle.mz_logic.specs.Tree.{Tree}
 use Rattle.mz_logic.specs.Declaration.{Declaration}
 use Rattle.mz_logic.specs.declared.binder.Binder.{Binder}
-use Rattle.mz_soundness.specs.Tables.{Kind}
+use Rattle.mz_soundness.specs.MachineState.{Kind}
 use Rattle.mz_steps.specs.SharedBodies.{IsSharedBody}
 use Rattle.mz_forms.specs.Proof.{Proof, Proofs, by_hyp, by_name, by_citation, by_conv, by_let, by_gap, no_proofs, more_proofs}
 

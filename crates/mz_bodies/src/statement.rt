@@ -4,7 +4,7 @@ ghost use Rattle.mz_logic.specs.Sorts.{AreProvable};
 ghost use Rattle.mz_logic.specs.Tree.{listed, size, trees_size};
 ghost use Rattle.mz_logic.specs.declared.binder.Binder.{Binder as BinderOf};
 ghost use Rattle.mz_soundness.specs.Premises.{bound_count};
-ghost use Rattle.mz_soundness.specs.Tables.{is_axiom, is_definition, is_theorem};
+ghost use Rattle.mz_soundness.specs.MachineState.{is_axiom, is_definition, is_theorem};
 ghost use Rattle.mz_forms.specs.ProofView.{proof_view};
 ghost use Rattle.mz_steps.specs.SharedBodies.{IsSharedBody};
 ghost use Rattle.mz_store.specs.Sharing.{AreIn, IsIn, tree_of, trees_of};

@@ -7,7 +7,7 @@ use Rattle.mz_logic.specs.Signature.{Signature}
 use Rattle.mz_logic.specs.declared.binder.Binder.{Binder}
 use Rattle.mz_logic.proofs.Offered.{extends_append, split_at}
 use Rattle.mz_unification.specs.Streams.{UnifyCommand}
-use Rattle.mz_unification.specs.Spells.{Marks, marked, HasOperands, TermRow, at_first}
+use Rattle.mz_unification.specs.Spells.{Marks, marked, HasOperands, SpelledTerm, at_first}
 use Rattle.mz_unification.proofs.Offered.{some_is}
 use Rattle.mz_streams.specs.Writing.{body_spelled}
 use Rattle.mz_streams.specs.Sharing.{Built, Builds, BuildsAll}
@@ -46,14 +46,14 @@ shared-at-first t row at = absurd cc
 
 pub shared-with-term : SharedWithTerm
 shared-with-term rows row shared one t r at =
-    let sigs : List Signature = map (λ (z : TermRow). z.signature) rows in
+    let sigs : List Signature = map (λ (z : SpelledTerm). z.signature) rows in
     let here : IsSharedRow sigs r = elim (split_at rows (row ∷ []) t r at) [
       | inl before ↦ shared t r before
       | inr (k, _, there) ↦ last k there
     ] in
     λ stream is.
-    subst (λ (z : List Signature). SharesBody z r.signature.params stream) (sym (map-append (λ (z : TermRow). z.signature) rows (row ∷ []))) (longer-body sigs (row.signature ∷ []) r.signature.params stream (here stream is))
+    subst (λ (z : List Signature). SharesBody z r.signature.params stream) (sym (map-append (λ (z : SpelledTerm). z.signature) rows (row ∷ []))) (longer-body sigs (row.signature ∷ []) r.signature.params stream (here stream is))
   where
-    last : (k : ℕ) → slice_get (row ∷ []) k ≡ Some r → IsSharedRow (map (λ (z : TermRow). z.signature) rows) r
-    last zero there = subst (IsSharedRow (map (λ (z : TermRow). z.signature) rows)) (some_is refl there) one
+    last : (k : ℕ) → slice_get (row ∷ []) k ≡ Some r → IsSharedRow (map (λ (z : SpelledTerm). z.signature) rows) r
+    last zero there = subst (IsSharedRow (map (λ (z : SpelledTerm). z.signature) rows)) (some_is refl there) one
     last (suc k) there = absurd cc

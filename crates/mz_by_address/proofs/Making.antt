@@ -15,7 +15,7 @@ use Rattle.mz_logic.specs.declared.binder.Binder.{Binder}
 use Rattle.mz_unification.specs.Steps.{◌>>=◌, Turn, over}
 use Rattle.mz_unification.specs.Profile.{Item, expr, proof, obligation, conversion}
 use Rattle.mz_unification.proofs.Offered.{from_bind, some_is, taken-is}
-use Rattle.mz_soundness.specs.Tables.{Tables, State, Heading}
+use Rattle.mz_soundness.specs.MachineState.{RowsBefore, State, Heading}
 use Rattle.mz_soundness.specs.ProofMachine.{push, saved, built as application, proof_row, proof_end}
 use Rattle.mz_soundness.specs.Bodies.{body_turn}
 use Rattle.mz_steps.specs.Works.{renamed, item_renamed, name_in, Work, machine}
@@ -42,7 +42,7 @@ top-renamed g (proof e ∷ xs) = refl
 top-renamed g (obligation l r ∷ xs) = refl
 top-renamed g (conversion l r ∷ xs) = refl
 
-module _ (tables : Tables) (ctx : List Binder) where
+module _ (tables : RowsBefore) (ctx : List Binder) where
   row-builds : (at : ℕ) (c : ProofCode) (n : ℕ) (st : State Tree) (w : Work) → proof_row portable_trees tables at c n st ≡ Ok (machine ctx w)
       → trees_made (row_makes portable_trees tables at c n st) ≡ map (renamed (name_in w.met)) (built c w)
   unfolding proof_row
@@ -59,11 +59,11 @@ module _ (tables : Tables) (ctx : List Binder) where
 -- ---- a body
 
 -- commands that go through one after another over trees, to states that are right
-abbrev pub GoThrough : Tables → (env : List Declaration) → ℕ → (ctx : List Binder) → Type 0
+abbrev pub GoThrough : RowsBefore → (env : List Declaration) → ℕ → (ctx : List Binder) → Type 0
 GoThrough tables env n ctx = (at : ℕ) (c : ProofCode × ℕ) (w w' : Work) → IsRight (signatures env) n ctx w → Step false env ctx w c.0 c.1 w'
     → (proof_row portable_trees tables at c.0 c.1 (machine ctx w) ≡ Ok (machine ctx w')) × IsRight (signatures env) n ctx w'
 
-module _ (tables : Tables) (env : List Declaration) (n : ℕ) (ctx : List Binder) (go : GoThrough tables env n ctx) (h : Heading) where
+module _ (tables : RowsBefore) (env : List Declaration) (n : ℕ) (ctx : List Binder) (go : GoThrough tables env n ctx) (h : Heading) where
   -- what is made is what is built, and right
   abbrev Makes : List (ℕ × Tree) → Work → List Tree → Type 0
   Makes made w bs = (trees_made made ≡ map (renamed (name_in w.met)) bs) × AreRightTrees (signatures env) ctx w.met bs

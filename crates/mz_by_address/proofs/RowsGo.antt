@@ -11,13 +11,13 @@ use Rattle.mz_logic.specs.Signature.{Signature}
 use Rattle.mz_logic.specs.Legality.{sort_of}
 use Rattle.mz_logic.specs.declared.binder.Binder.{Binder}
 use Rattle.mz_unification.specs.Steps.{◌>>=◌, ◌>>◌, need, rule_of}
-use Rattle.mz_unification.specs.Spells.{trees_of, variables_from, TermRow}
+use Rattle.mz_unification.specs.Spells.{trees_of, variables_from, SpelledTerm}
 use Rattle.mz_unification.specs.Sorted.{Sorted}
 use Rattle.mz_unification.specs.Profile.{strict, Item, expr, obligation}
 use Rattle.mz_unification.specs.UnifyMachine.{Matching, UnifyState, unify}
 use Rattle.mz_unification.specs.Laws.{unfolding_by}
 use Rattle.mz_unification.proofs.Offered.{length-params, from_bind, from_need, rule_of-ok, taken-is, same_tree-refl, listed-trees_of}
-use Rattle.mz_soundness.specs.Tables.{Tables, signatures_in, State, Kind, is_axiom, is_theorem, is_definition, Heading}
+use Rattle.mz_soundness.specs.MachineState.{RowsBefore, signatures_in, State, Kind, is_axiom, is_theorem, is_definition, Heading}
 use Rattle.mz_soundness.specs.FreeVars.{free_within}
 use Rattle.mz_soundness.specs.ProofMachine.{push, matched_by, unfolding_of, proof_row, own_variables, ends_with, proof_end}
 use Rattle.mz_soundness.proofs.Offered.{own-are}
@@ -35,13 +35,13 @@ pub own-too : (i : ℕ) (ps : List Binder) → own_variables portable_trees i ps
 own-too i [] = refl
 own-too i (p ∷ ps) = ap (λ (z : List Tree). var i ∷ z) (own-too (suc i) ps)
 
-module _ (tables : Tables) where
+module _ (tables : RowsBefore) where
   abbrev sigs : List Signature
   sigs = signatures_in tables
 
   -- ---- Unfold
 
-  module _ (at n t : ℕ) (st : State Tree) (es : List Tree) (e r : Tree) (rest : List (Item Tree)) (row : TermRow) (stream : List ℕ) (row-at : slice_get tables.terms t ≡ Some row) (stream-is : row.stream ≡ Some stream)
+  module _ (at n t : ℕ) (st : State Tree) (es : List Tree) (e r : Tree) (rest : List (Item Tree)) (row : SpelledTerm) (stream : List ℕ) (row-at : slice_get tables.terms t ≡ Some row) (stream-is : row.stream ≡ Some stream)
       (on : st.stack ≡ expr e ∷ expr (app t (trees_of es)) ∷ obligation (app t (trees_of es)) r ∷ rest) where
     by-table : proof_row strict tables at code.Unfold n st ≡ (rule_of (unify strict sigs st.ctx (unfolding_by stream es e)) >>= λ u. Ok (push (obligation e r) rest st))
     unfolding proof_row unfolding_of

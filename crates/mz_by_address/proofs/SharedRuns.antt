@@ -13,7 +13,7 @@ use Rattle.mz_unification.specs.Spells.{trees_of}
 use Rattle.mz_unification.specs.Sorted.{Sorted}
 use Rattle.mz_unification.specs.Profile.{strict, expr, obligation}
 use Rattle.mz_unification.proofs.Offered.{from_bind, fits-length}
-use Rattle.mz_soundness.specs.Tables.{Tables, signatures_in, State, Heading, Declares}
+use Rattle.mz_soundness.specs.MachineState.{RowsBefore, signatures_in, State, Heading, Declares}
 use Rattle.mz_soundness.specs.Premises.{bound_count}
 use Rattle.mz_soundness.specs.ProofMachine.{proof_row, proof_end}
 use Rattle.mz_soundness.specs.Bodies.{body_start, body_run, Runs}
@@ -35,7 +35,7 @@ use Rattle.mz_by_address.proofs.Turns.{may-stand, end-of}
 use Rattle.mz_by_address.proofs.RowsGo.{is-unfold, unfold-too, own-too, end-too}
 use Rattle.mz_by_address.proofs.Making.{GoThrough, run-makes, made-once}
 
-module _ (tables : Tables) (env env' : List Declaration) (declares : Declares tables env') (same : IsSameEnv env env') (rows : AreSharedRows tables.terms)
+module _ (tables : RowsBefore) (env env' : List Declaration) (declares : Declares tables env') (same : IsSameEnv env env') (rows : AreSharedRows tables.terms)
     (n : ℕ) (ctx : List Binder) (first : DependOnFirst n ctx) (few : bound_count ctx ≤ 55) where
   abbrev Sigs : List Signature
   Sigs = signatures env
@@ -82,7 +82,7 @@ start-too h = ap begun (own-are 0 h.params ∙ sym (own-too 0 h.params))
     begun : List Tree → State Tree
     begun es = record { ctx = h.params; heap = map expr es; stack = []; hyps = [] }
 
-from-table : (tables : Tables) (env env' : List Declaration) → Declares tables env' → IsSameEnv env env' → AreSharedRows tables.terms
+from-table : (tables : RowsBefore) (env env' : List Declaration) → Declares tables env' → IsSameEnv env env' → AreSharedRows tables.terms
     → (h : Heading) (dummies : List Binder) → IsSharedHeading (signatures_in tables) h → DependOnFirst (length h.params) (h.params ++ dummies)
     → (e : Tree) (hyps : List Tree) (at : ℕ) (bytes : List ℕ) → IsSharedBody false env h.kind h.params dummies e hyps bytes → Runs strict tables h at bytes → Runs portable tables h at bytes
 from-table tables env env' declares same rows h dummies own first e hyps at bytes b (last, ran) =

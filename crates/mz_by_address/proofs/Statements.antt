@@ -3,10 +3,10 @@ use Rattle.std.proofs.Common.{◌≡◌, Bool, true, false, List, [], ◌∷◌,
 use Rattle.mz_logic.specs.Tree.{listed}
 use Rattle.mz_logic.specs.Signature.{Signature}
 use Rattle.mz_logic.specs.Declaration.{sorts, signatures}
-use Rattle.mz_unification.specs.Spells.{TermRow}
+use Rattle.mz_unification.specs.Spells.{SpelledTerm}
 use Rattle.mz_unification.specs.Profile.{strict}
 use Rattle.mz_soundness.specs.Bodies.{Runs}
-use Rattle.mz_soundness.specs.Tables.{signatures_in, is_definition, Heading}
+use Rattle.mz_soundness.specs.MachineState.{signatures_in, is_definition, Heading}
 use Rattle.mz_soundness.specs.Lists.{kind_of, assertion_of, definition_of}
 use Rattle.mz_unification.proofs.Offered.{some_is}
 use Rattle.mz_steps.proofs.Offered.{contexts-depend, in-tables}
@@ -27,12 +27,12 @@ assertions-run tables env env' declares same rows a dummies stream at bytes para
 
 pub definitions-run : DefinitionsRunByAddress
 definitions-run tables env env' declares same rows signature dummies dummies' e e' stream further at bytes params plain-ones text b row is =
-    let made : TermRow = record { signature = signature; stream = Some (stream ++ further) } in
+    let made : SpelledTerm = record { signature = signature; stream = Some (stream ++ further) } in
     let h : Heading = definition_of made (stream ++ further) in
     let shares : SharesBody (signatures_in tables) signature.params (stream ++ further) =
     subst (λ (z : List Signature). SharesBody z signature.params (stream ++ further)) (sym (in-tables tables env env' declares same)) (texts-share (signatures env) signature.params stream e' dummies' text further) in
     let one : IsSharedRow (signatures_in tables) made = λ s s-is. subst (SharesBody (signatures_in tables) signature.params) (some_is refl s-is) shares in
-    subst (λ (r : TermRow). (Runs strict tables (definition_of r (stream ++ further)) at bytes → Runs portable tables (definition_of r (stream ++ further)) at bytes) × AreSharedRows (tables.terms ++ r ∷ [])) (sym is) (
+    subst (λ (r : SpelledTerm). (Runs strict tables (definition_of r (stream ++ further)) at bytes → Runs portable tables (definition_of r (stream ++ further)) at bytes) × AreSharedRows (tables.terms ++ r ∷ [])) (sym is) (
       (shared-runs tables env env' declares same rows h dummies (λ kind. shares) (contexts-depend (sorts env) signature.params dummies params plain-ones) e [] at bytes b).0,
       shared-with-term tables.terms made rows one,
     )

@@ -10,7 +10,7 @@ use Rattle.mz_cmd.proofs.Offered.{Spells-again}
 use Rattle.mz_unification.specs.Steps.{◌>>=◌, at_place, Turn, over, goes_on, follow}
 use Rattle.mz_unification.specs.Profile.{Profile, strict}
 use Rattle.mz_unification.proofs.Offered.{from_bind, taken, taken-is}
-use Rattle.mz_soundness.specs.Tables.{Tables, State, Kind, Heading}
+use Rattle.mz_soundness.specs.MachineState.{RowsBefore, State, Kind, Heading}
 use Rattle.mz_soundness.specs.ProofMachine.{matched_by, proof_row, ends_with, proof_end}
 use Rattle.mz_soundness.specs.Bodies.{stands_in, proves, if_allowed, body_command, body_turn, body_from, body_start, body_run}
 use Rattle.mz_steps.specs.Steps.{command_bytes, run_commands}
@@ -55,7 +55,7 @@ may-stand kind (c ∷ cs) (one, plain) (stands, short, stand) = (stands-too kind
 
 -- ---- turns
 
-module _ (P : Profile) (tables : Tables) (h : Heading) where
+module _ (P : Profile) (tables : RowsBefore) (h : Heading) where
   -- the command is read from the front
   is-read : (c : ProofCode × ℕ) (rest : List ℕ) → c.1 < 2 ^ 32 → first_command (command_bytes c ++ rest) ≡ Ok (record { code = proof_byte c.0; value = c.1; len = length (command_bytes c) })
   is-read c rest short = Spells-again (command_bytes c) rest (proof_byte c.0) c.1 (shortest-spells (proof_byte c.0) c.1 (read-again P h.kind c.1 c.0).0 short)

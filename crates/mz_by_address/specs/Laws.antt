@@ -7,9 +7,9 @@ use Rattle.mz_logic.specs.Legality.{Each, AreParams}
 use Rattle.mz_logic.specs.declared.binder.Binder.{Binder}
 use Rattle.mz_unification.specs.Streams.{of_definition}
 use Rattle.mz_unification.specs.Sorted.{Sorted}
-use Rattle.mz_unification.specs.Spells.{TermRow}
+use Rattle.mz_unification.specs.Spells.{SpelledTerm}
 use Rattle.mz_unification.specs.Profile.{strict}
-use Rattle.mz_soundness.specs.Tables.{Tables, signatures_in, is_definition, Heading, Declares}
+use Rattle.mz_soundness.specs.MachineState.{RowsBefore, signatures_in, is_definition, Heading, Declares}
 use Rattle.mz_soundness.specs.Lists.{kind_of, assertion_of, definition_of}
 use Rattle.mz_soundness.specs.Bodies.{Runs}
 use Rattle.mz_steps.specs.Endings.{Ends}
@@ -26,7 +26,7 @@ use Rattle.mz_by_address.specs.SharedRows.{SharesBody, IsSharedRow, AreSharedRow
 -- Over rows whose definitions' streams share, a body that is shared and has no gaps (`IsSharedBody`) runs by address:
 -- where it runs by the published table, and where its steps have made what its row spells.
 abbrev pub SharedBodiesRunByAddress : Type 0
-SharedBodiesRunByAddress = (tables : Tables) (env env' : List Declaration) → Declares tables env' → IsSameEnv env env' → AreSharedRows tables.terms
+SharedBodiesRunByAddress = (tables : RowsBefore) (env env' : List Declaration) → Declares tables env' → IsSameEnv env env' → AreSharedRows tables.terms
     → (h : Heading) (dummies : List Binder) → IsSharedHeading (signatures_in tables) h → DependOnFirst (length h.params) (h.params ++ dummies)
     → (e : Tree) (hyps : List Tree) (at : ℕ) (bytes : List ℕ) (b : IsSharedBody false env h.kind h.params dummies e hyps bytes)
     → (Runs strict tables h at bytes → Runs portable tables h at bytes) × (Ends env (h.params ++ dummies) h b.body.work → Runs portable tables h at bytes)
@@ -36,7 +36,7 @@ SharedBodiesRunByAddress = (tables : Tables) (env env' : List Declaration) → D
 -- The body of an axiom or a theorem whose parameters are right, which shares over dummies without dependencies, runs by
 -- address where it runs by the published table, whatever stream the row has.
 abbrev pub AssertionsRunByAddress : Type 0
-AssertionsRunByAddress = (tables : Tables) (env env' : List Declaration) → Declares tables env' → IsSameEnv env env' → AreSharedRows tables.terms
+AssertionsRunByAddress = (tables : RowsBefore) (env env' : List Declaration) → Declares tables env' → IsSameEnv env env' → AreSharedRows tables.terms
     → (a : Assertion) (dummies : List Binder) (stream : List ℕ) (at : ℕ) (bytes : List ℕ) → AreParams (sorts env) a.params → Each dummies (λ _ b. b.deps ≡ [])
     → IsSharedBody false env (kind_of a.is_axiom) a.params dummies a.conclusion (listed a.hyps) bytes
     → Runs strict tables (assertion_of a.is_axiom (record { params = a.params; stream = stream })) at bytes
@@ -44,10 +44,10 @@ AssertionsRunByAddress = (tables : Tables) (env env' : List Declaration) → Dec
 
 -- So does a definition's body, where its stream shares too; and the table with its row shares.
 abbrev pub DefinitionsRunByAddress : Type 0
-DefinitionsRunByAddress = (tables : Tables) (env env' : List Declaration) → Declares tables env' → IsSameEnv env env' → AreSharedRows tables.terms
+DefinitionsRunByAddress = (tables : RowsBefore) (env env' : List Declaration) → Declares tables env' → IsSameEnv env env' → AreSharedRows tables.terms
     → (signature : Signature) (dummies dummies' : List Binder) (e e' : Tree) (stream further : List ℕ) (at : ℕ) (bytes : List ℕ) → AreParams (sorts env) signature.params → Each dummies (λ _ b. b.deps ≡ [])
     → IsSharedText of_definition (signatures env) signature.params stream none e' dummies' → IsSharedBody false env is_definition signature.params dummies e [] bytes
-    → (row : TermRow) → row ≡ record { signature = signature; stream = Some (stream ++ further) }
+    → (row : SpelledTerm) → row ≡ record { signature = signature; stream = Some (stream ++ further) }
     → (Runs strict tables (definition_of row (stream ++ further)) at bytes → Runs portable tables (definition_of row (stream ++ further)) at bytes) × AreSharedRows (tables.terms ++ row ∷ [])
 
 -- ---- rows
@@ -68,4 +68,4 @@ SharedAtFirst = AreSharedRows []
 
 -- and so does one with one more row, whose stream, if it has one, shares over the terms before it
 abbrev pub SharedWithTerm : Type 0
-SharedWithTerm = (rows : List TermRow) (row : TermRow) → AreSharedRows rows → IsSharedRow (map (λ r. r.signature) rows) row → AreSharedRows (rows ++ row ∷ [])
+SharedWithTerm = (rows : List SpelledTerm) (row : SpelledTerm) → AreSharedRows rows → IsSharedRow (map (λ r. r.signature) rows) row → AreSharedRows (rows ++ row ∷ [])

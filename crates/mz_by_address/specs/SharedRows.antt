@@ -4,8 +4,8 @@ use Rattle.mz_logic.specs.Tree.{Tree, none}
 use Rattle.mz_logic.specs.Signature.{Signature}
 use Rattle.mz_logic.specs.declared.binder.Binder.{Binder}
 use Rattle.mz_unification.specs.Streams.{of_definition}
-use Rattle.mz_unification.specs.Spells.{TermRow}
-use Rattle.mz_soundness.specs.Tables.{is_definition, Heading}
+use Rattle.mz_unification.specs.Spells.{SpelledTerm}
+use Rattle.mz_soundness.specs.MachineState.{is_definition, Heading}
 use Rattle.mz_streams.specs.Sharing.{SharedStream}
 
 -- the stream spells a body, and builds no application twice once all its dummies are met
@@ -13,12 +13,12 @@ abbrev pub SharesBody : List Signature → List Binder → List ℕ → Type 0
 SharesBody sigs params stream = (body : Tree) × SharedStream of_definition sigs params stream none body
 
 -- the stream of the row, if it has one, does
-abbrev pub IsSharedRow : List Signature → TermRow → Type 0
+abbrev pub IsSharedRow : List Signature → SpelledTerm → Type 0
 IsSharedRow sigs row = (stream : List ℕ) → row.stream ≡ Some stream → SharesBody sigs row.signature.params stream
 
 -- each stream of a table does
-abbrev pub AreSharedRows : List TermRow → Type 0
-AreSharedRows rows = (t : ℕ) (row : TermRow) → slice_get rows t ≡ Some row → IsSharedRow (map (λ r. r.signature) rows) row
+abbrev pub AreSharedRows : List SpelledTerm → Type 0
+AreSharedRows rows = (t : ℕ) (row : SpelledTerm) → slice_get rows t ≡ Some row → IsSharedRow (map (λ r. r.signature) rows) row
 
 -- and that of the statement whose body runs, if it is a definition
 abbrev pub IsSharedHeading : List Signature → Heading → Type 0

@@ -1,3 +1,4 @@
 pub mod CheckLaws
 pub mod InOrder
 pub mod Offered
+pub mod Retold

@@ -1,20 +1,12 @@
 -- The weights of stated proofs are those of the text's limits.
 use Rattle.std.specs.Prelude.{ℕ, ◌≡◌, ◌+◌, List}
 use Rattle.std.proofs.Common.{refl, ap, arith}
-use Rattle.mz_logic.specs.Tree.{Tree, instance, followed_by, variables, size}
-use Rattle.mz_logic.specs.Declaration.{Form, plain_form, abstract_form, defined, Declaration}
+use Rattle.mz_logic.specs.Declaration.{Declaration}
 use Rattle.mz_logic.specs.Conversions.{Conversion, Conversions, refl_conv, sym_conv, cong_conv, unfold_conv, gap_conv, no_convs, more_convs}
 use Rattle.mz_forms.specs.Proof.{Proof, Proofs, by_hyp, by_name, by_citation, by_conv, by_let, by_gap, no_proofs, more_proofs}
-use Rattle.mz_typing.specs.Sides.{term_at, body_tree}
 use Rattle.mz_type.specs.Weight.{conv_weight, convs_weight, proof_weight, proofs_weight}
-use Rattle.mz_bodies.specs.Costs.{body_tree as body_of_form}
 use Rattle.mz_bodies.specs.Weights as body
 use Rattle.mz_claims.specs.Laws.{WeightsAreTheTexts}
-
-same_body : (f : Form) → body_of_form f ≡ body_tree f
-same_body plain_form = refl
-same_body abstract_form = refl
-same_body (defined dummies e) = refl
 
 module _ (env : List Declaration) where
   mutual
@@ -22,8 +14,7 @@ module _ (env : List Declaration) where
     conv-weighs (refl_conv e) = refl
     conv-weighs (sym_conv c) = ap (λ (n : ℕ). 1 + n) (conv-weighs c)
     conv-weighs (cong_conv t cs) = ap (λ (n : ℕ). 1 + n) (convs-weigh cs)
-    conv-weighs (unfold_conv t es ys c) =
-        (let a = conv-weighs c in let b = ap (λ (e : Tree). size (instance (followed_by es (variables ys)) e)) (same_body (term_at env t).form) in omega (arith, a, b))
+    conv-weighs (unfold_conv t es ys c) = (let a = conv-weighs c in omega (arith, a))
     conv-weighs (gap_conv l r) = refl
 
     convs-weigh : (cs : Conversions) → body.convs_weight env cs ≡ convs_weight env cs

@@ -1,24 +1,19 @@
 -- What is kept for two sorts, and how it stays right with one more coercion.
-use Rattle.std.proofs.Common.{◌≡◌, ◌<◌, ◌≤◌, ◌+◌, ◌-◌, ◌↔◌, ◌⊎◌, ◌++◌, ◌∙◌, ℕ, List, [], ◌∷◌, length, Bool, true, false, Some, None, Option, slice_get, get_or, ap, sym, refl, subst, inl, inr, arith, Contains}
+use Rattle.std.proofs.Common.{◌≡◌, ◌<◌, ◌≤◌, ◌+◌, ◌-◌, ◌↔◌, ◌⊎◌, ◌++◌, ◌∙◌, ℕ, List, [], ◌∷◌, length, Bool, true, false, Some, None, Option, slice_get, get_or, ap, sym, refl, subst, inl, inr, arith, Contains, length-append}
 use Rattle.std.specs.Prelude.{IsTrue, MatchOption}
 use Rattle.std.specs.Option.{is_some}
-use Rattle.std.specs.Ordering.{is_eq, nat_cmp, ordering_then}
-use Rattle.std.specs.declared.cmp.Ordering.{Ordering}
-use Rattle.std.specs.declared.cmp.Ordering.TheVariants.{Less, Equal, Greater}
 use Rattle.std.proofs.lemmas.Bool.{true≢false}
-use Rattle.std.proofs.lemmas.Cmp.{ranked}
 use Rattle.std.proofs.lemmas.List.{get_or_default}
-use Rattle.std.specs.BTreeMap as tree
-use Rattle.std.specs.BTreeMap.{BTreeMap, is_at}
-use Rattle.std.specs.Map.{lookup}
+use Rattle.std.proofs.lemmas.Option.{get_or_from_slice_get}
 use Rattle.mz_logic.specs.Tree.{Tree, app, none, more}
 use Rattle.mz_tokens.proofs.Offered.{AllSoFar, all_so_far_more, all-members, contains_at, contains_first, contains_last, contains_either, place_last}
 use Rattle.mz_coercions.specs.declared.coercion.Coercion.{Coercion}
 use Rattle.mz_coercions.specs.declared.firsts.Start.{Start}
-use Rattle.mz_coercions.specs.Coercions.{IsPath, OnePath, Reaches, wrapped}
+use Rattle.mz_coercions.specs.declared.steps.FirstSteps.{FirstSteps}
+use Rattle.mz_coercions.specs.Coercions.{IsPath, OnePath, Reaches, coercion_term, wrapped}
 use Rattle.mz_coercions.specs.Answers.{AreEnds, AreStarts, HasLength, HasPath, IsBefore, IsNext}
-use Rattle.mz_coercions.specs.Firsts.{pair_cmp, first_of, AreForgotten, AreLed, AreMet, IsChanged, IsForgotten, IsOfStart, IsOfStarts}
-use Rattle.mz_coercions.proofs.Paths.{path-join, path-more, clash-two, taken, no-return, last-end, contains-middle, stays-one, wrap-step}
+use Rattle.mz_coercions.specs.Firsts.{first_of, AreForgotten, AreLed, AreMet, IsChanged, IsForgotten, IsOfStart, IsOfStarts, IsPut, IsSame}
+use Rattle.mz_coercions.proofs.Paths.{path-join, path-more, clash-two, taken, no-return, last-end, contains-middle, never-reach, stays-one}
 
 some-one : {A : Type 0} {x y : A} → Some x ≡ Some y → x ≡ y
 some-one e = cc
@@ -35,10 +30,10 @@ item-in xs i e below = (i, below, get_or_default xs i (get_or xs i e) e below)
 
 -- ---- reading
 
-pub no-first : (cs : List Coercion) (m : BTreeMap (ℕ × ℕ) ℕ) (from to : ℕ) → AreLed cs m → first_of m from to ≡ None → (p : ℕ) (path : List ℕ) → IsPath cs from (p ∷ path) to → ⊥
+pub no-first : (cs : List Coercion) (m : FirstSteps) (from to : ℕ) → AreLed cs m → first_of m from to ≡ None → (p : ℕ) (path : List ℕ) → IsPath cs from (p ∷ path) to → ⊥
 no-first cs m from to led gone p path on = none-some (sym gone ∙ (led from to).0 p path on)
 
-pub next-at : (cs : List Coercion) (m : BTreeMap (ℕ × ℕ) ℕ) (from to place : ℕ) (o : Option Coercion) → AreLed cs m → first_of m from to ≡ Some place → o ≡ slice_get cs place
+pub next-at : (cs : List Coercion) (m : FirstSteps) (from to place : ℕ) (o : Option Coercion) → AreLed cs m → first_of m from to ≡ Some place → o ≡ slice_get cs place
     → MatchOption o ((p : ℕ) (path : List ℕ) → IsPath cs from (p ∷ path) to → ⊥) (λ c. (p : ℕ) × IsNext cs from to p c)
 next-at cs m from to place None led some at =
     let (path, (d, at-d, begins, rest)) = (led from to).1 place some in
@@ -68,8 +63,32 @@ next-reach cs most from to p c (at-p, begins-p, there, one) other (q ∷ path, (
     let same : d ≡ c = some-one (sym at ∙ ap (slice_get cs) here ∙ at-p) in
     (path, subst (λ x. IsPath cs x.to path to) same rest, omega (arith, le))
 
-pub next-length : (cs : List Coercion) (most from to p r : ℕ) (c : Coercion) → IsNext cs from to p c → 0 < most → HasLength cs (most - 1) c.to to r → HasLength cs most from to (r + 1)
-next-length cs most from to p r c (at, begins, there, one) some (path, on, many, le) = (p ∷ path, (c, at, begins, on), omega (arith, many), omega (arith, some, le))
+-- what is known when so many coercions of a path have been taken, of at most so many
+pub record IsAlong (cs : List Coercion) (most from to sort many : ℕ) : Type 0 where
+  pub within : many ≤ most
+  pub taken_so_far : (path : List ℕ) × IsPath cs from path sort × (length path ≡ many)
+  pub left : Reaches cs most from to → Reaches cs (most - many) sort to
+
+pub none-along : (cs : List Coercion) (most from to : ℕ) → IsAlong cs most from to from 0
+none-along cs most from to = record { within = omega arith; taken_so_far = ([], refl, refl); left = λ reach. subst (λ n. Reaches cs n from to) (let e : most ≡ most - 0 = omega arith in e) reach }
+
+module _ (cs : List Coercion) (most from to sort many : ℕ) (along : IsAlong cs most from to sort many) where
+  pub one-along : (p : ℕ) (c : Coercion) → IsNext cs sort to p c → (sort ≡ to → ⊥) → (many ≡ most → ⊥) → IsAlong cs most from to c.to (many + 1)
+  one-along p c next other under =
+      let (path, on, long) = along.taken_so_far in record {
+        within = omega (arith, along.within, under);
+        taken_so_far = (path ++ p ∷ [], path-join cs from sort c.to path (p ∷ []) on (c, next.0, next.1, refl), length-append path (p ∷ []) ∙ ap (λ n. n + 1) long);
+        left = λ reach. subst (λ n. Reaches cs n c.to to) (let e : (most - many) - 1 ≡ most - (many + 1) = omega arith in e) (next-reach cs (most - many) sort to p c next other (along.left reach));
+      }
+
+  pub all-along : sort ≡ to → HasLength cs most from to many
+  all-along there = let (path, on, long) = along.taken_so_far in (path, subst (IsPath cs from path) there on, long, along.within)
+
+  pub too-long : (sort ≡ to → ⊥) → many ≡ most → Reaches cs most from to → ⊥
+  too-long other whole reach = never-reach cs sort to other (subst (λ n. Reaches cs n sort to) (let e : most - many ≡ 0 = omega (arith, whole) in e) (along.left reach))
+
+  pub no-further : (sort ≡ to → ⊥) → ((p : ℕ) (path : List ℕ) → IsPath cs sort (p ∷ path) to → ⊥) → Reaches cs most from to → ⊥
+  no-further other never reach = stuck cs (most - many) sort to other never (along.left reach)
 
 -- ---- one coercion more
 
@@ -83,7 +102,7 @@ behind cs c to q one on = elim (taken cs c c.to to q on) [
 pub before-here : (cs : List Coercion) (c : Coercion) (from : ℕ) → from ≡ c.from → IsBefore cs c from (length cs)
 before-here cs c from same = ([], [], same, refl)
 
-pub before-first : (cs : List Coercion) (c : Coercion) (m : BTreeMap (ℕ × ℕ) ℕ) (from : ℕ) (o : Option ℕ) → AreLed cs m → o ≡ first_of m from c.from → (from ≡ c.from → ⊥) → MatchOption o (HasPath cs from c.from → ⊥) (λ p. IsBefore cs c from p)
+pub before-first : (cs : List Coercion) (c : Coercion) (m : FirstSteps) (from : ℕ) (o : Option ℕ) → AreLed cs m → o ≡ first_of m from c.from → (from ≡ c.from → ⊥) → MatchOption o (HasPath cs from c.from → ⊥) (λ p. IsBefore cs c from p)
 before-first cs c m from None led is other = λ has. go has.0 has.1
   where
     go : (path : List ℕ) → IsPath cs from path c.from → ⊥
@@ -95,18 +114,8 @@ before-first cs c m from (Some p) led is other =
 
 -- ---- what is kept for a pair
 
-pair-same : (a b x y : ℕ) → is_eq (ordering_then (nat_cmp a x) (nat_cmp b y)) ≡ true → (a ≡ x) × (b ≡ y)
-pair-same a b x y e = go (nat_cmp a x) (nat_cmp b y) refl refl e
-  where
-    go : (o r : Ordering) → nat_cmp a x ≡ o → nat_cmp b y ≡ r → is_eq (ordering_then o r) ≡ true → (a ≡ x) × (b ≡ y)
-    go Less r o-is r-is e = absurd cc
-    go Greater r o-is r-is e = absurd cc
-    go Equal Less o-is r-is e = absurd cc
-    go Equal Greater o-is r-is e = absurd cc
-    go Equal Equal o-is r-is e = (ranked a x Equal (sym o-is), ranked b y Equal (sym r-is))
-
 abbrev Kept : Type 0
-Kept = BTreeMap (ℕ × ℕ) ℕ
+Kept = FirstSteps
 
 -- two changes
 pub then-changed : (m n o : Kept) (P Q : ℕ → ℕ → Option ℕ → Type 0) → ((s t : ℕ) (w : Option ℕ) → Q s t w → P s t w) → IsChanged m n P → IsChanged n o Q → IsChanged m o P
@@ -120,35 +129,24 @@ pub then-kept : (m n : Kept) (P Q : ℕ → ℕ → Option ℕ → Type 0) → (
 then-kept m n P Q is change s t put = elim (change s t) [ inl same ↦ subst (P s t) (sym same) put | inr new ↦ is s t (first_of n s t) new ]
 
 -- nothing changed
-pub un-changed : (m n : Kept) (P : ℕ → ℕ → Option ℕ → Type 0) → n.entries ≡ m.entries → IsChanged m n P
-un-changed m n P same s t = inl (ap (λ es. lookup (is_at (pair_cmp (s, t))) es) same)
-
-module _ (m n : Kept) (s t : ℕ) (w : Option ℕ) (put : tree.Updates pair_cmp m n (s, t) w) where
-  pub put-here : first_of n s t ≡ w
-  put-here = put.1
-
-  pub put-changed : IsChanged m n (λ x y o. (s ≡ x) × (t ≡ y) × (o ≡ w))
-  put-changed x y = go (is_eq (pair_cmp (s, t) (x, y))) refl
-    where
-      go : (b : Bool) → is_eq (pair_cmp (s, t) (x, y)) ≡ b → (first_of n x y ≡ first_of m x y) ⊎ ((s ≡ x) × (t ≡ y) × (first_of n x y ≡ w))
-      go true e = let (a, b) = pair-same s t x y e in inr (a, b, ap (λ i. first_of n i y) (sym a) ∙ ap (λ j. first_of n s j) (sym b) ∙ put.1)
-      go false e = inl (put.2 (x, y) e)
+pub un-changed : (m n : Kept) (P : ℕ → ℕ → Option ℕ → Type 0) → IsSame m n → IsChanged m n P
+un-changed m n P same s t = inl (same s t)
 
 -- ---- one end more
 
-module _ (m n : Kept) (f : Start) (ends : List ℕ) (end : ℕ) (has : Contains ends end) (put : tree.Updates pair_cmp m n (f.sort, end) (Some f.place)) where
+module _ (m n : Kept) (f : Start) (ends : List ℕ) (end : ℕ) (has : Contains ends end) (put : IsPut m n f.sort end (Some f.place)) where
   pub end-changed : (l : Kept) → IsChanged l m (IsOfStart f ends) → IsChanged l n (IsOfStart f ends)
-  end-changed l before = then-changed l m n (IsOfStart f ends) (λ x y o. (f.sort ≡ x) × (end ≡ y) × (o ≡ Some f.place)) (λ x y o h. (h.0, subst (Contains ends) h.1 has, h.2)) before (put-changed m n f.sort end (Some f.place) put)
+  end-changed l before = then-changed l m n (IsOfStart f ends) (λ x y o. (f.sort ≡ x) × (end ≡ y) × (o ≡ Some f.place)) (λ x y o h. (h.0, subst (Contains ends) h.1 has, h.2)) before put.1
 
   pub end-kept : (t : ℕ) → first_of m f.sort t ≡ Some f.place → first_of n f.sort t ≡ Some f.place
-  end-kept t is = then-kept m n (λ x y o. o ≡ Some f.place) (λ x y o. (f.sort ≡ x) × (end ≡ y) × (o ≡ Some f.place)) (λ x y o h. h.2) (put-changed m n f.sort end (Some f.place) put) f.sort t is
+  end-kept t is = then-kept m n (λ x y o. o ≡ Some f.place) (λ x y o. (f.sort ≡ x) × (end ≡ y) × (o ≡ Some f.place)) (λ x y o h. h.2) put.1 f.sort t is
 
-module _ (m n : Kept) (from : ℕ) (ends : List ℕ) (end : ℕ) (has : Contains ends end) (put : tree.Updates pair_cmp m n (from, end) None) where
+module _ (m n : Kept) (from : ℕ) (ends : List ℕ) (end : ℕ) (has : Contains ends end) (put : IsPut m n from end None) where
   pub gone-changed : (l : Kept) → IsChanged l m (IsForgotten from ends) → IsChanged l n (IsForgotten from ends)
-  gone-changed l before = then-changed l m n (IsForgotten from ends) (λ x y o. (from ≡ x) × (end ≡ y) × (o ≡ None)) (λ x y o h. (h.0, subst (Contains ends) h.1 has, h.2)) before (put-changed m n from end None put)
+  gone-changed l before = then-changed l m n (IsForgotten from ends) (λ x y o. (from ≡ x) × (end ≡ y) × (o ≡ None)) (λ x y o h. (h.0, subst (Contains ends) h.1 has, h.2)) before put.1
 
   pub gone-kept : (t : ℕ) → first_of m from t ≡ None → first_of n from t ≡ None
-  gone-kept t is = then-kept m n (λ x y o. o ≡ None) (λ x y o. (from ≡ x) × (end ≡ y) × (o ≡ None)) (λ x y o h. h.2) (put-changed m n from end None put) from t is
+  gone-kept t is = then-kept m n (λ x y o. o ≡ None) (λ x y o. (from ≡ x) × (end ≡ y) × (o ≡ None)) (λ x y o h. h.2) put.1 from t is
 
 -- ---- one start more
 
@@ -354,7 +352,7 @@ met-more cs c xs met from-there to-there d has = elim (contains_either cs c d ha
 no-path : (s to p : ℕ) (path : List ℕ) → IsPath [] s (p ∷ path) to → ⊥
 no-path s to p path (c, at, begins, rest) = none-some at
 
-pub none-led : (cs : List Coercion) (xs : List ℕ) (m : BTreeMap (ℕ × ℕ) ℕ) → cs ≡ [] → m.entries ≡ [] → OnePath cs × AreMet cs xs × AreLed cs m
+pub none-led : (cs : List Coercion) (xs : List ℕ) (m : FirstSteps) → cs ≡ [] → ((s to : ℕ) → first_of m s to ≡ None) → OnePath cs × AreMet cs xs × AreLed cs m
 none-led cs xs m is gone = subst (λ (ds : List Coercion). OnePath ds × AreMet ds xs × AreLed ds m) (sym is) (one, met, led)
   where
     one : OnePath []
@@ -365,15 +363,26 @@ none-led cs xs m is gone = subst (λ (ds : List Coercion). OnePath ds × AreMet 
     met : AreMet [] xs
     met c (k, below, at) = absurd (omega arith)
 
-    empty : (s to : ℕ) → first_of m s to ≡ None
-    empty s to = ap (λ es. lookup (is_at (pair_cmp (s, to))) es) gone
-
     led : AreLed [] m
-    led s to = (λ p path on. absurd (no-path s to p path on), λ p kept. absurd (none-some (sym (empty s to) ∙ kept)))
+    led s to = (λ p path on. absurd (no-path s to p path on), λ p kept. absurd (none-some (sym (gone s to) ∙ kept)))
 
-pub next-wrapped : (cs : List Coercion) (from to p : ℕ) (c : Coercion) (path : List ℕ) (e f : Tree) → IsNext cs from to p c → IsPath cs c.to path to → f ≡ wrapped cs path (app c.term (more e none))
-    → (q : List ℕ) × IsPath cs from q to × (f ≡ wrapped cs q e)
-next-wrapped cs from to p c path e f next on is = wrap-step cs p from to c path e f next.0 next.1 on is
+-- ---- an expression under the terms of a path
+
+wrapped-last : (cs : List Coercion) (path : List ℕ) (p : ℕ) (e : Tree) → wrapped cs (path ++ p ∷ []) e ≡ app (coercion_term cs p) (more (wrapped cs path e) none)
+wrapped-last cs [] p e = refl
+wrapped-last cs (q ∷ path) p e = wrapped-last cs path p (app (coercion_term cs q) (more e none))
+
+-- what a way along the path has made of it
+abbrev pub IsWrapped : List Coercion → ℕ → ℕ → Tree → Tree → Type 0
+IsWrapped cs from to e f = (path : List ℕ) × IsPath cs from path to × (f ≡ wrapped cs path e)
+
+pub wrapped-more : (cs : List Coercion) (from at to p : ℕ) (c : Coercion) (e f g : Tree) → IsNext cs at to p c → IsWrapped cs from at e f → g ≡ app c.term (more f none) → IsWrapped cs from c.to e g
+wrapped-more cs from at to p c e f g (there, begins, rest, one) (path, on, was) is =
+    let term : coercion_term cs p ≡ c.term = ap (λ d. d.term) (get_or_from_slice_get cs p c (record { term = 0; from = 0; to = 0 }) there) in (
+      path ++ p ∷ [],
+      path-join cs from at c.to path (p ∷ []) on (c, there, begins, refl),
+      is ∙ ap (λ t. app t (more f none)) (sym term) ∙ ap (λ x. app (coercion_term cs p) (more x none)) was ∙ sym (wrapped-last cs path p e),
+    )
 
 pub reach-some : (cs : List Coercion) (most from to : ℕ) → (from ≡ to → ⊥) → Reaches cs most from to → 0 < most
 reach-some cs most from to other ([], on, le) = absurd (other on)

@@ -1,3 +1,4 @@
 pub mod Paths
+mod Cells
 mod Leading
 pub mod Offered

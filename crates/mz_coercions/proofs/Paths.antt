@@ -7,9 +7,8 @@ use Rattle.std.specs.List.{AllByRecursion, IsDistinct, list_any}
 use Rattle.std.proofs.lemmas.Bool.{true≢false, eqb-true}
 use Rattle.std.proofs.lemmas.Map.Steps.{length-le_from_distinct_below}
 use Rattle.std.proofs.lemmas.Option.{slice_get_within, get_or_from_slice_get}
-use Rattle.mz_logic.specs.Tree.{Tree, app, none, more}
 use Rattle.mz_coercions.specs.declared.coercion.Coercion.{Coercion}
-use Rattle.mz_coercions.specs.Coercions.{IsPath, OnePath, coercion_term, wrapped, Reaches}
+use Rattle.mz_coercions.specs.Coercions.{IsPath, OnePath, Reaches}
 use Rattle.mz_coercions.specs.Answers.{HasLength, MayStart, MayEnd, IsClashAt}
 use Rattle.mz_tokens.proofs.Offered.{place_first, place_last, place_either}
 
@@ -39,13 +38,6 @@ one-reach cs most n i from to r c one at begins (path, on, many, le) = (i ∷ pa
 
 pub reaches-length : (cs : List Coercion) (most from to r : ℕ) → HasLength cs most from to r → Reaches cs most from to
 reaches-length cs most from to r (path, on, many, le) = (path, on, omega (arith, many, le))
-
--- a path goes on by one coercion
-pub wrap-step : (cs : List Coercion) (i from to : ℕ) (c : Coercion) (path : List ℕ) (e f : Tree) → slice_get cs i ≡ Some c → c.from ≡ from → IsPath cs c.to path to → f ≡ wrapped cs path (app c.term (more e none))
-    → (p : List ℕ) × IsPath cs from p to × (f ≡ wrapped cs p e)
-wrap-step cs i from to c path e f at begins on is =
-    let here : coercion_term cs i ≡ c.term = ap (λ d. d.term) (get_or_from_slice_get cs i c (record { term = 0; from = 0; to = 0 }) at) in
-    (i ∷ path, (c, at, begins, on), is ∙ ap (λ t. wrapped cs path (app t (more e none))) (sym here))
 
 -- ---- where there is one path at most, none is longer than the list
 

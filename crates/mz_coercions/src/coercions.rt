@@ -1,5 +1,6 @@
 // Coercions in the order in which they were declared, and their paths.
 ghost use Rattle.std.specs.Prelude.{◌≡◌, ◌↔◌, ◌≤◌, ◌++◌, ◌∷◌, [], ℕ, List, Contains, IsTrue, IfOk, OnOk, OnErr, MatchBool, MatchOption, length};
+ghost use Rattle.mz_logic.specs.Tree.{app, more, none};
 ghost use Rattle.mz_logic.specs.View.{tree};
 ghost use Rattle.mz_coercions.specs.Coercions.{IsPath, OnePath, Reaches, wrapped};
 ghost use Rattle.mz_coercions.specs.declared.coercion.Coercion.{Coercion};
@@ -10,9 +11,9 @@ use crate::coercion::Coercion;
 use crate::firsts::{
     Start, are_joined, ends_of, is_reached, lead_all, next_coercion, starts_of, steps_between,
 };
+use crate::steps::FirstSteps;
 use mz_logic::{Expr, Exprs};
 use std::alloc::{AllocError, Global};
-use std::collections::BTreeMap;
 use std::marker::Model;
 
 /// The coercions in order. Between two sorts they have one path at most, and it is found in as many
@@ -23,7 +24,7 @@ pub struct Coercions {
     // the sorts between which they lead
     sorts: Vec<u32>,
     // for two sorts the place of the first coercion of the path
-    firsts: BTreeMap<(u32, u32), usize>,
+    firsts: FirstSteps,
 }
 
 impl Model for Coercions {
@@ -47,7 +48,7 @@ impl Coercions {
         Coercions {
             items: Vec::new(alloc),
             sorts: Vec::new(alloc),
-            firsts: BTreeMap::new(alloc),
+            firsts: FirstSteps::new(alloc),
         }
     }
 
@@ -85,7 +86,7 @@ impl Coercions {
 /// Adds a coercion, and keeps the first coercions of the paths that go by it.
 fn push(
     items: &mut Vec<Coercion>,
-    firsts: &mut BTreeMap<(u32, u32), usize>,
+    firsts: &mut FirstSteps,
     coercion: Coercion,
     starts: &[Start],
     ends: &[u32],
@@ -159,35 +160,26 @@ pub fn wrap(
     requires { Reaches coercions.now (length coercions.now) from to }
     ensures { IfOk result (λ e. (path : List ℕ) × IsPath coercions.now from path to × (tree e ≡ wrapped coercions.now path (tree expr))) }
 {
-    wrap_within(alloc, coercions, from, to, coercions.as_slice().len(), expr)
+    let mut sort = from;
+    let mut built = expr;
+    // so many coercions are left at most
+    let mut most = coercions.items.len();
+    'steps: while sort != to {
+        let Some(coercion) = next_coercion(&coercions.items, &coercions.firsts, sort, to) else {
+            unreachable!()
+        };
+        built = applied(alloc, coercion.term, built)?;
+        sort = coercion.to;
+        most -= 1;
+    }
+    Ok(built)
 }
 
-/// The same where the path is of at most so many coercions.
-fn wrap_within(
-    alloc: Global,
-    coercions: &Coercions,
-    from: u32,
-    to: u32,
-    most: usize,
-    expr: Expr,
-) -> Result<Expr, AllocError>
-    requires { Reaches coercions.now most from to }
-    ensures { IfOk result (λ e. (path : List ℕ) × IsPath coercions.now from path to × (tree e ≡ wrapped coercions.now path (tree expr))) }
+/// A term applied to one operand.
+fn applied(alloc: Global, term: u32, operand: Expr) -> Result<Expr, AllocError>
+    ensures { IfOk result (λ e. tree e ≡ app term (more (tree operand) none)) }
 {
-    if from == to {
-        return Ok(expr);
-    }
-    let Some(coercion) = next_coercion(&coercions.items, &coercions.firsts, from, to) else {
-        unreachable!()
-    };
-    let mut operands = Exprs::new(alloc);
-    operands.push(expr)?;
-    wrap_within(
-        alloc,
-        coercions,
-        coercion.to,
-        to,
-        most - 1,
-        Expr::App(coercion.term, operands),
-    )
+    let mut operands = Exprs::with_capacity(alloc, 1)?;
+    operands.push(operand)?;
+    Ok(Expr::App(term, operands))
 }

@@ -2,13 +2,13 @@
 ghost use Rattle.std.specs.Prelude.{◌≡◌, ◌↔◌, ◌≤◌, ◌++◌, ◌∷◌, [], ℕ, List, Contains, IsTrue, IfOk, MatchOption, OnOk, OnErr, None, Some, length, slice_get};
 ghost use Rattle.mz_coercions.specs.Coercions.{IsPath, OnePath, Reaches};
 ghost use Rattle.mz_coercions.specs.Answers.{AreEnds, AreStarts, HasLength, HasPath, IsBefore, IsNext};
-ghost use Rattle.mz_coercions.specs.Firsts.{AreLed, AreMet, IsChanged, IsForgotten, IsOfStart, IsOfStarts, AreForgotten, first_of as first_lem};
+ghost use Rattle.mz_coercions.specs.Firsts.{AreLed, AreMet, IsChanged, IsForgotten, IsOfStart, IsOfStarts, AreForgotten, first_of};
 ghost use Rattle.mz_coercions.specs.declared.coercion.Coercion.{Coercion};
 ghost use Rattle.mz_coercions.specs.declared.firsts.Start.{Start};
 
 use crate::coercion::Coercion;
+use crate::steps::FirstSteps;
 use std::alloc::{AllocError, Global};
-use std::collections::BTreeMap;
 
 /// A sort from which a new coercion is reached, and the place of the coercion that begins the path
 /// by the new one.
@@ -24,24 +24,17 @@ fn coercion_at(items: &[Coercion], place: usize) -> Option<Coercion>
     items.get(place).copied()
 }
 
-/// What is kept for two sorts.
-fn first_of(firsts: &BTreeMap<(u32, u32), usize>, from: u32, to: u32) -> Option<usize>
-    ensures { result ≡ first_lem firsts.now from to }
-{
-    firsts.get(&(from, to)).copied()
-}
-
 /// The coercion that begins the path from a sort to another, if there is such a path.
 pub fn next_coercion(
     items: &[Coercion],
-    firsts: &BTreeMap<(u32, u32), usize>,
+    firsts: &FirstSteps,
     from: u32,
     to: u32,
 ) -> Option<Coercion>
     requires { AreLed items.now firsts.now }
     ensures { MatchOption result ((p : ℕ) (path : List ℕ) → IsPath items.now from (p ∷ path) to → ⊥) (λ c. (p : ℕ) × IsNext items.now from to p c) }
 {
-    match first_of(firsts, from, to) {
+    match firsts.get(from, to) {
         Some(place) => coercion_at(items, place),
         None => None,
     }
@@ -50,7 +43,7 @@ pub fn next_coercion(
 /// The length of the path from a sort to another, if it is of at most so many coercions.
 pub fn steps_between(
     items: &[Coercion],
-    firsts: &BTreeMap<(u32, u32), usize>,
+    firsts: &FirstSteps,
     from: u32,
     to: u32,
     most: usize,
@@ -58,28 +51,23 @@ pub fn steps_between(
     requires { AreLed items.now firsts.now }
     ensures { MatchOption result (Reaches items.now most from to → ⊥) (HasLength items.now most from to) }
 {
-    if from == to {
-        return Some(0);
+    let mut sort = from;
+    let mut many = 0;
+    'steps: while sort != to {
+        if many == most {
+            return None;
+        }
+        let Some(coercion) = next_coercion(items, firsts, sort, to) else {
+            return None;
+        };
+        sort = coercion.to;
+        many += 1;
     }
-    if most == 0 {
-        return None;
-    }
-    let Some(coercion) = next_coercion(items, firsts, from, to) else {
-        return None;
-    };
-    match steps_between(items, firsts, coercion.to, to, most - 1) {
-        Some(rest) => Some(rest + 1),
-        None => None,
-    }
+    Some(many)
 }
 
 /// Whether there is a path from a sort to another.
-pub fn is_reached(
-    items: &[Coercion],
-    firsts: &BTreeMap<(u32, u32), usize>,
-    from: u32,
-    to: u32,
-) -> bool
+pub fn is_reached(items: &[Coercion], firsts: &FirstSteps, from: u32, to: u32) -> bool
     requires { AreLed items.now firsts.now }
     ensures { IsTrue result ↔ HasPath items.now from to }
 {
@@ -93,7 +81,7 @@ pub fn is_reached(
 /// will be the last.
 fn place_before(
     items: &[Coercion],
-    firsts: &BTreeMap<(u32, u32), usize>,
+    firsts: &FirstSteps,
     coercion: Coercion,
     from: u32,
 ) -> Option<usize>
@@ -103,7 +91,7 @@ fn place_before(
     if from == coercion.from {
         return Some(items.len());
     }
-    first_of(firsts, from, coercion.from)
+    firsts.get(from, coercion.from)
 }
 
 /// The sorts from which a new coercion is reached.
@@ -115,7 +103,7 @@ pub fn starts_of(
     alloc: Global,
     items: &[Coercion],
     sorts: &[u32],
-    firsts: &BTreeMap<(u32, u32), usize>,
+    firsts: &FirstSteps,
     coercion: Coercion,
 ) -> Result<Vec<Start>, AllocError>
     requires led { AreLed items.now firsts.now }
@@ -140,7 +128,7 @@ pub fn ends_of(
     alloc: Global,
     items: &[Coercion],
     sorts: &[u32],
-    firsts: &BTreeMap<(u32, u32), usize>,
+    firsts: &FirstSteps,
     coercion: Coercion,
 ) -> Result<Vec<u32>, AllocError>
     requires led { AreLed items.now firsts.now }
@@ -157,12 +145,7 @@ pub fn ends_of(
 }
 
 /// Whether a path leads from a sort to one of the ends.
-fn reaches_any(
-    items: &[Coercion],
-    firsts: &BTreeMap<(u32, u32), usize>,
-    from: u32,
-    ends: &[u32],
-) -> bool
+fn reaches_any(items: &[Coercion], firsts: &FirstSteps, from: u32, ends: &[u32]) -> bool
     requires { AreLed items.now firsts.now }
     ensures { IsTrue result ↔ ((t : ℕ) × Contains ends.now t × HasPath items.now from t) }
 {
@@ -175,12 +158,7 @@ fn reaches_any(
 }
 
 /// Whether a path leads from one of the starts to one of the ends.
-pub fn are_joined(
-    items: &[Coercion],
-    firsts: &BTreeMap<(u32, u32), usize>,
-    starts: &[Start],
-    ends: &[u32],
-) -> bool
+pub fn are_joined(items: &[Coercion], firsts: &FirstSteps, starts: &[Start], ends: &[u32]) -> bool
     requires { AreLed items.now firsts.now }
     ensures { IsTrue result ↔ ((f : Start) × (t : ℕ) × Contains starts.now f × Contains ends.now t × HasPath items.now f.sort t) }
 {
@@ -193,34 +171,30 @@ pub fn are_joined(
 }
 
 /// Keeps the place of a start between it and each end.
-fn lead_from(
-    firsts: &mut BTreeMap<(u32, u32), usize>,
-    start: Start,
-    ends: &[u32],
-) -> Result<(), AllocError>
+fn lead_from(firsts: &mut FirstSteps, start: Start, ends: &[u32]) -> Result<(), AllocError>
     ensures others { IsChanged firsts.old firsts.new (IsOfStart start ends.now) }
-    ensures ok { OnOk result ((t : ℕ) → Contains ends.now t → first_lem firsts.new start.sort t ≡ Some start.place) }
+    ensures ok { OnOk result ((t : ℕ) → Contains ends.now t → first_of firsts.new start.sort t ≡ Some start.place) }
 {
     for end in ends {
-        firsts.insert((start.sort, *end), start.place)?;
+        firsts.insert(start.sort, *end, start.place)?;
     }
     Ok(())
 }
 
 /// Forgets what is kept between a sort and each end.
-fn forget_from(firsts: &mut BTreeMap<(u32, u32), usize>, from: u32, ends: &[u32])
+fn forget_from(firsts: &mut FirstSteps, from: u32, ends: &[u32])
     ensures others { IsChanged firsts.old firsts.new (IsForgotten from ends.now) }
-    ensures gone { (t : ℕ) → Contains ends.now t → first_lem firsts.new from t ≡ None }
+    ensures gone { (t : ℕ) → Contains ends.now t → first_of firsts.new from t ≡ None }
 {
     for end in ends {
-        firsts.remove(&(from, *end));
+        firsts.remove(from, *end);
     }
 }
 
 /// Forgets what is kept between the starts and the ends.
-fn forget_all(firsts: &mut BTreeMap<(u32, u32), usize>, starts: &[Start], ends: &[u32])
+fn forget_all(firsts: &mut FirstSteps, starts: &[Start], ends: &[u32])
     ensures others { IsChanged firsts.old firsts.new (AreForgotten starts.now ends.now) }
-    ensures gone { (f : Start) (t : ℕ) → Contains starts.now f → Contains ends.now t → first_lem firsts.new f.sort t ≡ None }
+    ensures gone { (f : Start) (t : ℕ) → Contains starts.now f → Contains ends.now t → first_of firsts.new f.sort t ≡ None }
 {
     for start in starts {
         forget_from(firsts, start.sort, ends);
@@ -232,15 +206,11 @@ fn forget_all(firsts: &mut BTreeMap<(u32, u32), usize>, starts: &[Start], ends: 
 /// # Errors
 ///
 /// Where there is no memory. The same is kept as before then.
-pub fn lead_all(
-    firsts: &mut BTreeMap<(u32, u32), usize>,
-    starts: &[Start],
-    ends: &[u32],
-) -> Result<(), AllocError>
-    requires { (f : Start) (t : ℕ) → Contains starts.now f → Contains ends.now t → first_lem firsts.old f.sort t ≡ None }
+pub fn lead_all(firsts: &mut FirstSteps, starts: &[Start], ends: &[u32]) -> Result<(), AllocError>
+    requires { (f : Start) (t : ℕ) → Contains starts.now f → Contains ends.now t → first_of firsts.old f.sort t ≡ None }
     ensures others { OnOk result (IsChanged firsts.old firsts.new (IsOfStarts starts.now ends.now)) }
-    ensures ok { OnOk result ((f : Start) (t : ℕ) → Contains starts.now f → Contains ends.now t → IsOfStarts starts.now ends.now f.sort t (first_lem firsts.new f.sort t)) }
-    ensures err { OnErr result ((s t : ℕ) → first_lem firsts.new s t ≡ first_lem firsts.old s t) }
+    ensures ok { OnOk result ((f : Start) (t : ℕ) → Contains starts.now f → Contains ends.now t → IsOfStarts starts.now ends.now f.sort t (first_of firsts.new f.sort t)) }
+    ensures err { OnErr result ((s t : ℕ) → first_of firsts.new s t ≡ first_of firsts.old s t) }
 {
     for start in starts {
         let Ok(()) = lead_from(firsts, *start, ends) else {

@@ -7,6 +7,7 @@
 mod coercion;
 mod coercions;
 mod firsts;
+mod steps;
 
 pub use coercion::Coercion;
 pub use coercions::{Coercions, distance, reaches, wrap};

@@ -23,8 +23,8 @@ use Rattle.mz_unification.specs.Profile.{strict}
 use Rattle.mz_soundness.specs.Bodies.{Runs}
 use Rattle.mz_layout.specs.Heads.{body_bytes}
 use Rattle.mz_soundness.specs.FileRows.{Taken, taken_by, rows_taken, term_of_file}
-use Rattle.mz_soundness.specs.RowWords.{first_sorts, param_checks}
-use Rattle.mz_soundness.specs.Tables.{Declares}
+use Rattle.mz_words.specs.RowWords.{first_sorts, param_checks}
+use Rattle.mz_soundness.specs.MachineState.{Declares}
 use Rattle.mz_soundness.proofs.Offered.{signature-at}
 use Rattle.mz_earlier.specs.Before.{AreWithin, HasRightParams, taken_before}
 use Rattle.mz_earlier.specs.OwnRow.{MayRun, heading_of}

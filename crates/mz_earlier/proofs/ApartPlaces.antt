@@ -12,9 +12,10 @@ use Rattle.mz_logic.specs.Legality.{sort_of}
 use Rattle.mz_logic.specs.Words.{word_bound, word_deps, bound_places, places_set, binder_of, binders_of}
 use Rattle.mz_logic.specs.declared.binder.Binder.{Binder}
 use Rattle.mz_logic.specs.declared.word.Word.{Word}
+use Rattle.mz_logic.specs.Variables.{is_member}
 use Rattle.mz_store.specs.declared.item.Id.{Id}
 use Rattle.mz_unification.specs.Steps.{◌>>◌, need}
-use Rattle.mz_unification.specs.Tests.{is_member, is_bound_var, var_within}
+use Rattle.mz_unification.specs.Tests.{is_bound_var, var_within}
 use Rattle.mz_unification.proofs.Offered.{from_then, from_need, need_ok, some_is}
 use Rattle.mz_soundness.specs.Premises.{operands_fit, apart_from, apart_at}
 use Rattle.mz_soundness.proofs.Offered.{or-not}

@@ -14,11 +14,11 @@ use Rattle.mz_layout.specs.Tables.{term_row, term_count, thm_count, term_words}
 use Rattle.mz_layout.specs.declared.row.Row.{Row}
 use Rattle.mz_layout.specs.declared.row.Row.TheVariants.{Term, Thm}
 use Rattle.mz_layout.proofs.Offered.{slice_get-rows, length-term_words, term_at-words}
-use Rattle.mz_unification.specs.Spells.{TermRow}
+use Rattle.mz_unification.specs.Spells.{SpelledTerm}
 use Rattle.mz_soundness.specs.FileRows.{term_of_file, thm_of_file}
 use Rattle.mz_earlier.specs.Before.{Before, AreWithin, tables_of, signatures_of, words_before, sorts_before}
 use Rattle.mz_earlier.specs.OperandRows.{IsBefore}
-use Rattle.mz_soundness.proofs.Offered.{length-first_sorts}
+use Rattle.mz_words.proofs.Offered.{length-first_sorts}
 
 pub length-words : (b : Before) → length (words_before b) ≡ b.rows.terms
 length-words b = length-map-range_with_len (λ t. (term_row b.file t).words) 0 b.rows.terms
@@ -41,7 +41,7 @@ pub ruleset before_facts = (length-words, words-at, words-in-file, words-of-file
 
 -- ---- as the machine reads them
 
-same-signatures : (file : List ℕ) (ts : List ℕ) → signatures_by (map (λ t. (term_row file t).words) ts) ≡ map (λ (r : TermRow). r.signature) (map (term_of_file file) ts)
+same-signatures : (file : List ℕ) (ts : List ℕ) → signatures_by (map (λ t. (term_row file t).words) ts) ≡ map (λ (r : SpelledTerm). r.signature) (map (term_of_file file) ts)
 same-signatures file [] = refl
 same-signatures file (t ∷ ts) = ap (λ (ds : List Signature). signature_of (term_row file t).words ∷ ds) (same-signatures file ts)
 

@@ -1,8 +1,7 @@
 -- Free variables by words: that one word's bits are another's.
-use Rattle.std.proofs.Common.{◌≡◌, ◌<◌, ◌+◌, ◌*◌, ◌^◌, ℕ, zero, suc, Bool, true, false, List, [], ◌∷◌, ◌++◌, length, Some, All, slice_get, min, nat_eq, leb-true, leb-false, eq-eqb, refl, sym, ap, ◌∙◌, subst, inl, inr, arith}
+use Rattle.std.proofs.Common.{◌≡◌, ◌<◌, ◌+◌, ◌^◌, ℕ, zero, suc, Bool, true, false, List, [], ◌∷◌, ◌++◌, length, Some, All, slice_get, min, nat_eq, leb-true, leb-false, eq-eqb, refl, sym, ap, ◌∙◌, subst, inl, inr, arith}
 use Rattle.std.specs.Prelude.{◌⊎◌, Contains, bit_and, if◌then◌else◌, ◌||◌, ◌&&◌, not, nat_le}
 use Rattle.std.specs.Int.{bit_at}
-use Rattle.std.specs.List.{filter}
 use Rattle.std.proofs.lemmas.Nat.Bits.{bit_at_and, bit_at-lt, bit_at_above, same_from_bits}
 use Rattle.std.proofs.lemmas.Option.{slice_get_within, get_or_from_slice_get}
 use Rattle.std.proofs.lemmas.Bool.{eqb-true}
@@ -11,27 +10,24 @@ use Rattle.std.proofs.lemmas.List.Elements.{All-contains}
 use Rattle.mz_logic.specs.Tree.{Tree, Trees, var, app, none, more, operand}
 use Rattle.mz_logic.specs.Signature.{Signature}
 use Rattle.mz_logic.specs.Sorts.{HasSort, Fits, IsBoundVar}
-use Rattle.mz_logic.specs.Variables.{InV, InFV, InSomeFV, IsBoundAt}
+use Rattle.mz_logic.specs.Variables.{InV, InFV, InSomeFV, IsBoundAt, is_member}
 use Rattle.mz_logic.specs.Legality.{AreParams, IsDummy}
 use Rattle.mz_logic.specs.Words.{word_bound, word_deps, bound_places, places_set, binders_from, binders_of, result_of}
 use Rattle.mz_logic.specs.declared.binder.Binder.{Binder}
 use Rattle.mz_logic.specs.declared.binder.SortMods.{SortMods}
 use Rattle.mz_logic.specs.declared.word.Word.{Word}
 use Rattle.mz_logic.proofs.Offered.{one_at}
-use Rattle.mz_checks.specs.Checks.{Checks, demand, AllHold}
-use Rattle.mz_checks.proofs.Offered.{all_hold-first, all_hold-rest, all_hold-rows}
-use Rattle.mz_cmd.specs.declared.rule.K.{K}
-use Rattle.mz_cmd.specs.declared.rule.K.TheVariants as rules
+use Rattle.mz_checks.specs.Checks.{AllHold}
 use Rattle.mz_layout.specs.Tables.{term_row}
-use Rattle.mz_layout.specs.Tables.{TermRow as TermRecord}
+use Rattle.mz_layout.specs.Tables.{TermRow}
 use Rattle.mz_store.specs.Bits.{Tells, bound_from, bound_vars}
-use Rattle.mz_unification.specs.Tests.{is_member}
 use Rattle.mz_store.proofs.Offered.{bound-once, set-to, set-from, bound-has}
 use Rattle.mz_unification.proofs.Offered.{contains-member, not-both}
 use Rattle.mz_soundness.specs.FreeVars.{in_fv, free_within}
 use Rattle.mz_earlier.specs.Before.{Before, signatures_of, HasRightWords}
-use Rattle.mz_soundness.specs.RowWords.{bound_count, first_sorts, IsResultWord, param_check, param_checks, word_checks}
-use Rattle.mz_soundness.proofs.Offered.{right-words, in-fv-true, free-within}
+use Rattle.mz_words.specs.RowWords.{bound_count, first_sorts, word_checks}
+use Rattle.mz_soundness.proofs.Offered.{in-fv-true, free-within}
+use Rattle.mz_words.proofs.Offered.{bound-many, result-right, right-words, term-params-right}
 
 -- ---- free variables are bound variables of the context
 
@@ -110,15 +106,6 @@ bound-front i (b ∷ bs) cs = let (rest, is) = bound-front (suc i) bs cs in (res
     go true rest is = ap (λ (xs : List ℕ). i ∷ xs) is
     go false rest is = is
 
-pub bound-many : (i : ℕ) (ws : List Word) → length (bound_places i ws) ≡ bound_count ws
-bound-many i [] = refl
-bound-many i (w ∷ ws) = go (word_bound w) (bound-many (suc i) ws)
-  where
-    go : (v : Bool) → length (bound_places (suc i) ws) ≡ bound_count ws
-        → length (if v then i ∷ bound_places (suc i) ws else bound_places (suc i) ws) ≡ length (if v then w ∷ filter word_bound ws else filter word_bound ws)
-    go true h = ap suc h
-    go false h = h
-
 -- ---- the test
 
 -- where each free variable of the context is at one of the places, the test passes
@@ -194,17 +181,9 @@ module _ (sigs : List Signature) (ss : List SortMods) (ws : List Word) (dummies 
 
 -- ---- of a definition's row
 
-module _ (ss : List SortMods) (row : TermRecord) (all : AllHold (word_checks ss row)) where
-  abbrev result_check : Checks (ℕ × K)
-  result_check = demand (row.words_at + 8 * length row.words.params, rules.Result) (IsResultWord ss row)
-
+module _ (ss : List SortMods) (row : TermRow) (all : AllHold (word_checks ss row)) where
   row-params : AreParams ss (binders_of row.words.params)
-  row-params =
-      let params = all_hold-first (param_checks ss row.words_at row.words.params) result_check all in
-      (right-words ss row.words.params (λ i below. (all_hold-rows (param_check ss row.words_at row.words.params) (length row.words.params) i params below).0)).1
-
-  row-result : IsResultWord ss row
-  row-result = (all_hold-rest (param_checks ss row.words_at row.words.params) result_check all).0
+  row-params = (right-words ss row.words.params (term-params-right ss row all)).1
 
 -- the word's bits are among those that its result is allowed exactly where it depends on the free variables
 pub free-test : (b : Before) (row : ℕ) (full dummies : List Binder) (e : Tree) (s told : ℕ) → HasRightWords b.file b.rows.sorts row
@@ -215,5 +194,5 @@ free-test b row full dummies e s told words is all sorted tells =
     let rec = term_row b.file row in
     let ss = first_sorts b.file b.rows.sorts in
     subst (λ (c : List Binder). nat_eq (bit_and told (word_deps rec.words.result)) told ≡ free_within (signatures_of b) c (result_of rec.words).deps e (length c)) (sym is)
-    (free-by-words (signatures_of b) ss rec.words.params dummies (row-params ss rec words) all (word_deps rec.words.result) told s (row-result ss rec words).bits e
+    (free-by-words (signatures_of b) ss rec.words.params dummies (row-params ss rec words) all (word_deps rec.words.result) told s (result-right ss rec words).bits e
     (subst (λ (c : List Binder). HasSort (signatures_of b) c e s) is sorted) (subst (λ (c : List Binder). Tells (bound_vars c) told (λ x. InFV (signatures_of b) c x e)) is tells) _ refl)

@@ -3,4 +3,4 @@ pub use Rattle.mz_earlier.proofs.ApartPlaces.{AmongFirst, Decides, among-all, am
 pub use Rattle.mz_earlier.proofs.BeforeLaws.{binders_many, drop-within, length-words, no-term-before, no-thm-before, row-in-file, signatures-before, term-before, thm-before, words-at}
 pub use Rattle.mz_earlier.proofs.FreeWords.{free-test}
 pub use Rattle.mz_earlier.proofs.FromPlaces.{next-at, none-left}
-pub use Rattle.mz_earlier.proofs.OwnWords.{kind-is, own-binders, own-bits, range-next, words-are}
+pub use Rattle.mz_earlier.proofs.OwnWords.{byte-kind, kind-byte, kind-is, own-binders, own-bits, words-are}

@@ -1,26 +1,46 @@
--- The words of a statement's own row, and the ids of its parameters.
-use Rattle.std.proofs.Common.{◌≡◌, ◌≤◌, ◌+◌, ◌*◌, ◌∙◌, ℕ, zero, suc, List, [], ◌∷◌, ◌++◌, length, map, take, slice_get, Some, refl, sym, ap, arith}
+-- The kind of a statement's own row and its words, the ids of its parameters, and hypotheses as proofs.
+use Rattle.std.proofs.Common.{◌≡◌, ◌≤◌, ◌+◌, ◌*◌, ◌∙◌, ℕ, zero, suc, ◌⊎◌, List, [], ◌∷◌, ◌++◌, length, map, take, slice_get, Some, refl, sym, ap, inl, inr, arith}
 use Rattle.std.specs.List.{range_with_len}
 use Rattle.std.proofs.lemmas.List.{map-append}
-use Rattle.mz_checks.specs.Checks.{AllHold, demand}
-use Rattle.mz_checks.proofs.Offered.{all_hold-first, all_hold-rows}
-use Rattle.mz_cmd.specs.declared.rule.K.TheVariants as rules
+use Rattle.mz_checks.specs.Checks.{AllHold}
 use Rattle.mz_logic.specs.Words.{binders_of, BitsRight}
 use Rattle.mz_logic.specs.declared.binder.SortMods.{SortMods}
 use Rattle.mz_logic.specs.declared.word.Word.{Word}
 use Rattle.mz_layout.specs.Tables.{TermRow, term_row, thm_row}
 use Rattle.mz_layout.specs.declared.taken.Rows.{Rows}
-use Rattle.mz_store.specs.declared.item.Item.TheVariants.{Expr}
-use Rattle.mz_soundness.specs.Tables.{Kind, is_axiom, is_theorem, is_definition}
-use Rattle.mz_soundness.specs.RowWords.{first_sorts, param_check, param_checks, word_checks, IsResultWord}
-use Rattle.mz_soundness.proofs.Offered.{right-words}
-use Rattle.mz_earlier.specs.OwnRow.{heading_by, own_words, first_items, IsNextRow}
+use Rattle.mz_store.specs.declared.item.Id.{Id}
+use Rattle.mz_store.specs.declared.item.Item.{Item as Kept}
+use Rattle.mz_store.specs.declared.item.Item.TheVariants.{Expr, Proof}
+use Rattle.mz_soundness.specs.MachineState.{Kind, is_axiom, is_theorem, is_definition}
+use Rattle.mz_words.specs.RowWords.{first_sorts, param_checks, word_checks}
+use Rattle.mz_words.proofs.Offered.{params-right, right-words, term-params-right}
+use Rattle.mz_earlier.specs.OwnRow.{byte_of, kind_at, kind_of, heading_by, own_words, id_at, first_ids, first_items, IsNextRow}
+use Rattle.mz_earlier.specs.declared.own.BodyKind.{BodyKind}
+use Rattle.mz_earlier.specs.declared.own.BodyKind.TheVariants.{Axiom, Definition, Theorem}
 
 -- a row's heading has its kind
 pub kind-is : (file : List ℕ) (row : ℕ) (kind : Kind) → (heading_by file row kind).kind ≡ kind
 kind-is file row is_axiom = refl
 kind-is file row is_theorem = refl
 kind-is file row is_definition = refl
+
+-- a kind is that of its code
+pub kind-byte : (k : BodyKind) → kind_at (byte_of k) ≡ kind_of k
+kind-byte Axiom = refl
+kind-byte Definition = refl
+kind-byte Theorem = refl
+
+-- and has it, where it was told by a code that is one of the three
+pub byte-kind : (code : ℕ) (k : BodyKind) → (code ≡ 0x02) ⊎ (code ≡ 0x05) ⊎ (code ≡ 0x06) → kind_of k ≡ kind_at code → byte_of k ≡ code
+byte-kind code Axiom (inl is) told = sym is
+byte-kind code Axiom (inr (inl is)) told = let wrong : is_axiom ≡ is_definition = told ∙ ap kind_at is in absurd cc
+byte-kind code Axiom (inr (inr is)) told = let wrong : is_axiom ≡ is_theorem = told ∙ ap kind_at is in absurd cc
+byte-kind code Definition (inl is) told = let wrong : is_definition ≡ is_axiom = told ∙ ap kind_at is in absurd cc
+byte-kind code Definition (inr (inl is)) told = sym is
+byte-kind code Definition (inr (inr is)) told = let wrong : is_definition ≡ is_theorem = told ∙ ap kind_at is in absurd cc
+byte-kind code Theorem (inl is) told = let wrong : is_theorem ≡ is_axiom = told ∙ ap kind_at is in absurd cc
+byte-kind code Theorem (inr (inl is)) told = let wrong : is_theorem ≡ is_definition = told ∙ ap kind_at is in absurd cc
+byte-kind code Theorem (inr (inr is)) told = sym is
 
 -- ---- the words
 
@@ -30,12 +50,10 @@ own-binders file row is_theorem = refl
 own-binders file row is_definition = refl
 
 right-params : (ss : List SortMods) (at : ℕ) (ws : List Word) → AllHold (param_checks ss at ws) → BitsRight ws
-right-params ss at ws all = (right-words ss ws (λ i below. (all_hold-rows (param_check ss at ws) (length ws) i all below).0)).2
+right-params ss at ws all = (right-words ss ws (params-right ss at ws all)).2
 
 right-row : (ss : List SortMods) (row : TermRow) → AllHold (word_checks ss row) → BitsRight row.words.params
-right-row ss row all =
-    right-params ss row.words_at row.words.params
-    (all_hold-first (param_checks ss row.words_at row.words.params) (demand (row.words_at + 8 * length row.words.params, rules.Result) (IsResultWord ss row)) all)
+right-row ss row all = (right-words ss row.words.params (term-params-right ss row all)).2
 
 pub own-bits : (file : List ℕ) (before : Rows) (row : ℕ) (kind : Kind) → IsNextRow file before row kind → BitsRight (own_words file row kind)
 own-bits file before row is_axiom next = right-params (first_sorts file before.sorts) (thm_row file row).words_at (thm_row file row).params next.2
@@ -67,3 +85,25 @@ items-next n =
     sym (map-append (λ i. Expr (record { 0 = i })) (range_with_len 0 n) (n ∷ []))
     ∙ ap (map (λ i. Expr (record { 0 = i })))
     (sym (range-next 0 n ∙ ap (λ (x : ℕ). range_with_len 0 n ++ x ∷ []) (let e : 0 + n ≡ n = omega arith in e)) ∙ ap (range_with_len 0) (let e : suc n ≡ n + 1 = omega arith in e))
+
+pub ids-next : (n : ℕ) → first_ids n ++ id_at n ∷ [] ≡ first_ids (n + 1)
+ids-next n =
+    sym (map-append id_at (range_with_len 0 n) (n ∷ []))
+    ∙ ap (map id_at)
+    (sym (range-next 0 n ∙ ap (λ (x : ℕ). range_with_len 0 n ++ x ∷ []) (let e : 0 + n ≡ n = omega arith in e)) ∙ ap (range_with_len 0) (let e : suc n ≡ n + 1 = omega arith in e))
+
+-- ---- hypotheses as proofs
+
+shift : (k : ℕ) → suc (k + 1) ≡ suc k + 1
+shift k = omega arith
+
+pub taken-next : (hyps : List Id) (k : ℕ) (h : Id) → slice_get hyps k ≡ Some h → map Proof (take k hyps) ++ Proof h ∷ [] ≡ map Proof (take (k + 1) hyps)
+taken-next [] k h at = absurd cc
+taken-next (x ∷ xs) zero h at = let same : x ≡ h = cc in rw same refl
+taken-next (x ∷ xs) (suc k) h at = ap (λ (ys : List Kept). Proof x ∷ ys) (taken-next xs k h at) ∙ ap (λ (m : ℕ). map Proof (take m (x ∷ xs))) (shift k)
+
+pub taken-all : (hyps : List Id) (k : ℕ) → length hyps ≤ k → map Proof (take k hyps) ≡ map Proof hyps
+taken-all [] zero le = refl
+taken-all [] (suc k) le = refl
+taken-all (x ∷ xs) zero le = absurd (omega (arith, le))
+taken-all (x ∷ xs) (suc k) le = ap (λ (ys : List Kept). Proof x ∷ ys) (taken-all xs k (omega (arith, le)))

@@ -6,8 +6,8 @@ use Rattle.mz_logic.specs.Signature.{Signature}
 use Rattle.mz_logic.specs.Words.{TermWords}
 use Rattle.mz_logic.specs.declared.binder.SortMods.{SortMods}
 use Rattle.mz_layout.specs.Tables.{sort_count, term_count, thm_count, term_row, thm_row}
-use Rattle.mz_soundness.specs.Tables.{Tables, signatures_in}
-use Rattle.mz_soundness.specs.RowWords.{first_sorts, param_checks, word_checks}
+use Rattle.mz_soundness.specs.MachineState.{RowsBefore, signatures_in}
+use Rattle.mz_words.specs.RowWords.{first_sorts, param_checks, word_checks}
 use Rattle.mz_soundness.specs.FileRows.{Taken, rows_taken}
 use Rattle.mz_layout.specs.declared.taken.Rows.{Rows}
 
@@ -26,10 +26,10 @@ abbrev pub taken_before : List ℕ → Rows → Taken
 taken_before file rows = record { sorts = first_sorts file rows.sorts; terms = rows.terms; thms = rows.thms }
 
 -- these rows, as the machine reads them
-abbrev pub tables_before : List ℕ → Rows → Tables
+abbrev pub tables_before : List ℕ → Rows → RowsBefore
 tables_before file rows = rows_taken file (taken_before file rows)
 
-abbrev pub tables_of : Before → Tables
+abbrev pub tables_of : Before → RowsBefore
 tables_of b = tables_before b.file b.rows
 
 abbrev pub signatures_of : Before → List Signature

@@ -1,3 +1,5 @@
 pub mod Before
 pub mod OperandRows
 pub mod OwnRow
+pub mod CommandCodes
+pub mod Items

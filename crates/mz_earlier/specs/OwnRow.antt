@@ -1,13 +1,14 @@
 -- A statement's own row, and what its body is run for (the .mmb format, its list of statements).
-use Rattle.std.specs.Prelude.{◌≡◌, ◌<◌, ◌≤◌, ◌⊎◌, ℕ, true, false, ◌==◌, if◌then◌else◌, List, drop, map}
+use Rattle.std.specs.Prelude.{◌≡◌, ◌<◌, ◌≤◌, ◌⊎◌, ℕ, true, false, ◌==◌, if◌then◌else◌, List, [], drop, map}
 use Rattle.std.specs.List.{range_with_len}
 use Rattle.mz_logic.specs.declared.word.Word.{Word}
 use Rattle.mz_layout.specs.Tables.{term_count, thm_count, term_row, thm_row}
 use Rattle.mz_store.specs.declared.item.Item.{Item as Kept}
-use Rattle.mz_store.specs.declared.item.Item.TheVariants.{Expr}
+use Rattle.mz_store.specs.declared.item.Id.{Id}
+use Rattle.mz_store.specs.declared.item.Item.TheVariants.{Expr, Proof}
 use Rattle.mz_store.specs.declared.item.DepsMode.{DepsMode}
 use Rattle.mz_store.specs.declared.item.DepsMode.TheVariants.{All, Free}
-use Rattle.mz_soundness.specs.Tables.{Kind, is_axiom, is_theorem, is_definition, Heading}
+use Rattle.mz_soundness.specs.MachineState.{Kind, is_axiom, is_theorem, is_definition, Heading}
 use Rattle.mz_soundness.specs.Lists.{definition_of, assertion_of}
 use Rattle.mz_soundness.specs.FileRows.{term_of_file, thm_of_file}
 use Rattle.mz_earlier.specs.Before.{AreWithin, HasRightWords, HasRightParams}
@@ -25,6 +26,12 @@ abbrev pub kind_of : BodyKind → Kind
 kind_of Axiom = is_axiom
 kind_of Definition = is_definition
 kind_of Theorem = is_theorem
+
+-- the code of such a statement, without the mark of a local one
+abbrev pub byte_of : BodyKind → ℕ
+byte_of Axiom = 0x02
+byte_of Definition = 0x05
+byte_of Theorem = 0x06
 
 -- which variables the words of expressions tell: in a definition's body the free ones
 abbrev pub mode_for : Kind → DepsMode
@@ -48,6 +55,19 @@ abbrev pub own_words : List ℕ → ℕ → Kind → List Word
 own_words file row is_axiom = (thm_row file row).params
 own_words file row is_theorem = (thm_row file row).params
 own_words file row is_definition = (term_row file row).words.params
+
+-- the first n ids
+abbrev pub id_at : ℕ → Id
+id_at i = record { 0 = i }
+
+abbrev pub first_ids : ℕ → List Id
+first_ids n = map id_at (range_with_len 0 n)
+
+-- hypotheses as proofs, of which a definition has none
+abbrev pub own_proofs : Kind → List Id → List Kept
+own_proofs is_axiom hyps = map Proof hyps
+own_proofs is_theorem hyps = map Proof hyps
+own_proofs is_definition hyps = []
 
 -- the first n ids, as expressions
 abbrev pub first_items : ℕ → List Kept

@@ -75,7 +75,7 @@ impl<'a> Earlier<'a> {
         self.mmb.unify_of_thm(i).1
     }
 
-    /// How many parameters the axiom or theorem has, whose row may also be the next one.
+    /// How many parameters the axiom or theorem of a row of the file has, be it before or not.
     pub fn own_thm_arity(&self, row: u32) -> u32
         requires { row < thm_count self.now.file }
         ensures { result ≡ length (thm_row self.now.file row).params }
@@ -83,7 +83,8 @@ impl<'a> Earlier<'a> {
         self.mmb.thm_arity(row)
     }
 
-    /// The word of the axiom's or theorem's j-th parameter, whose row may also be the next one.
+    /// The word of the j-th parameter of the axiom or theorem of a row of the file, be it before or
+    /// not.
     pub fn own_thm_param(&self, row: u32, j: u32) -> Word
         requires row { row < thm_count self.now.file }
         requires place { j < length (thm_row self.now.file row).params }
@@ -92,7 +93,7 @@ impl<'a> Earlier<'a> {
         self.mmb.thm_param(row, j)
     }
 
-    /// How many parameters the term has, whose row may also be the next one.
+    /// How many parameters the term of a row of the file has, be it before or not.
     pub fn own_term_arity(&self, row: u32) -> u32
         requires { row < term_count self.now.file }
         ensures { result ≡ length (term_row self.now.file row).words.params }
@@ -117,7 +118,8 @@ impl<'a> Earlier<'a> {
         self.mmb.result(row)
     }
 
-    /// The unify stream of the axiom or theorem, whose row may also be the next one.
+    /// The unify stream of the axiom or theorem of a row of the file, be it before or not, from its
+    /// first byte to the file's end.
     pub fn own_thm_stream(&self, row: u32) -> &'a [u8]
         requires { row < thm_count self.now.file }
         ensures stream { result.now ≡ drop (thm_row self.now.file row).stream_at self.now.file }
@@ -127,7 +129,8 @@ impl<'a> Earlier<'a> {
         self.mmb.unify_of_thm(row).1
     }
 
-    /// The unify stream of the definition, whose row may also be the next one.
+    /// The unify stream of the definition of a row of the file, be it before or not, from its first
+    /// byte to the file's end.
     pub fn own_term_stream(&self, row: u32) -> &'a [u8]
         requires { row < term_count self.now.file }
         ensures stream { result.now ≡ drop (term_row self.now.file row).stream_at self.now.file }

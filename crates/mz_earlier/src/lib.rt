@@ -1,12 +1,20 @@
 //! The rows that are declared before a statement, read in place, and the statement's own row.
 //!
-//! Both machines read them so: the one over a store, and the one that compares addresses.
+//! Both machines read them so, the one over a store and the one that compares addresses; and what else they
+//! say alike of a body stands here once.
 #![tactic(auto)]
 
+mod command;
 mod earlier;
+mod items;
 mod own;
 mod places;
 
+pub use command::{Converting, Making};
 pub use earlier::Earlier;
-pub use own::{BodyKind, deps_mode, first_items, kind_by, own_arity, own_stream, read_words};
+pub use items::{is_obligation, kept_at, put_back, top};
+pub use own::{
+    BodyKind, deps_mode, first_ids, first_items, kind_by, own_arity, own_proofs, own_stream,
+    read_words,
+};
 pub use places::{bound_places, dependencies, may_meet};

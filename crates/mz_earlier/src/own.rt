@@ -1,6 +1,7 @@
 //! A statement's own row, which comes right after the rows before it, and the kind of its body.
-ghost use Rattle.std.specs.Prelude.{◌≡◌, ◌≤◌, ◌<◌, ◌^◌, IfOk, length, slice_get, Some};
-ghost use Rattle.mz_earlier.specs.OwnRow.{IsNextRow, kind_at, kind_of, mode_for, heading_by, own_words, first_items};
+ghost use Rattle.std.specs.Prelude.{◌≡◌, ◌≤◌, ◌<◌, ◌^◌, IfOk, OnOk, length, map, slice_get, Some};
+ghost use Rattle.mz_store.specs.declared.item.Item.TheVariants.{Proof};
+ghost use Rattle.mz_earlier.specs.OwnRow.{IsNextRow, kind_at, kind_of, mode_for, heading_by, own_words, own_proofs, first_ids, first_items};
 
 use crate::earlier::Earlier;
 use mz_logic::Word;
@@ -18,7 +19,7 @@ pub enum BodyKind {
     Theorem,
 }
 
-/// The kind of a statement with this code: 02 an axiom, 05 a definition, 06 a theorem.
+/// The kind of a statement with this code: 02 an axiom, 05 a definition, 06 and all else a theorem.
 pub fn kind_by(code: u8) -> BodyKind
     ensures { kind_of result ≡ kind_at code }
 {
@@ -47,8 +48,7 @@ pub fn own_arity(earlier: &Earlier, kind: BodyKind, row: u32) -> u32
     ensures params { result ≡ length (heading_by earlier.now.file row (kind_of kind)).params }
 {
     match kind {
-        BodyKind::Axiom => earlier.own_thm_arity(row),
-        BodyKind::Theorem => earlier.own_thm_arity(row),
+        BodyKind::Axiom | BodyKind::Theorem => earlier.own_thm_arity(row),
         BodyKind::Definition => earlier.own_term_arity(row),
     }
 }
@@ -60,49 +60,87 @@ fn own_word(earlier: &Earlier, kind: BodyKind, row: u32, j: u32) -> Word
     ensures { slice_get (own_words earlier.now.file row (kind_of kind)) j ≡ Some result }
 {
     match kind {
-        BodyKind::Axiom => earlier.own_thm_param(row, j),
-        BodyKind::Theorem => earlier.own_thm_param(row, j),
+        BodyKind::Axiom | BodyKind::Theorem => earlier.own_thm_param(row, j),
         BodyKind::Definition => earlier.own_term_param(row, j),
     }
 }
 
-/// The words of its parameters.
+/// The words of its parameters, in the place of what the list had.
 ///
 /// # Errors
 ///
 /// Where there is no memory.
 pub fn read_words(
-    alloc: Global,
+    words: &mut Vec<Word>,
     earlier: &Earlier,
     kind: BodyKind,
     row: u32,
-) -> Result<Vec<Word>, AllocError>
+) -> Result<(), AllocError>
     requires { IsNextRow earlier.now.file earlier.now.rows row (kind_of kind) }
-    ensures { IfOk result (λ words. words.items ≡ own_words earlier.now.file row (kind_of kind)) }
+    ensures { OnOk result (words.new.items ≡ own_words earlier.now.file row (kind_of kind)) }
 {
     let count = own_arity(earlier, kind, row);
-    let mut words = Vec::new(alloc);
+    words.clear();
+    words.reserve(count as usize)?;
     'params: for j in 0..count {
-        let Ok(()) = words.push(own_word(earlier, kind, row, j)) else {
-            return Err(AllocError);
-        };
+        words.push(own_word(earlier, kind, row, j))?;
     }
-    Ok(words)
+    Ok(())
 }
 
-/// The first ids, which are those of the parameters, as expressions.
+/// The first ids, which are those of the parameters, as expressions, in the place of what the list
+/// had.
 ///
 /// # Errors
 ///
 /// Where there is no memory.
-pub fn first_items(alloc: Global, count: usize) -> Result<Vec<Item>, AllocError>
-    ensures { IfOk result (λ items. items.items ≡ first_items count) }
+pub fn first_items(items: &mut Vec<Item>, count: usize) -> Result<(), AllocError>
+    ensures { OnOk result (items.new.items ≡ first_items count) }
+{
+    items.clear();
+    items.reserve(count)?;
+    'ids: for i in 0..count {
+        items.push(Item::Expr(Id(i as u64)))?;
+    }
+    Ok(())
+}
+
+/// The first ids, which are those of the parameters.
+///
+/// # Errors
+///
+/// Where there is no memory.
+pub fn first_ids(alloc: Global, count: u32) -> Result<Vec<Id>, AllocError>
+    ensures { IfOk result (λ ids. ids.items ≡ first_ids count) }
+{
+    let mut ids = Vec::new(alloc);
+    'params: for i in 0..count {
+        ids.push(Id(u64::from(i)))?;
+    }
+    Ok(ids)
+}
+
+/// Hypotheses as proofs, of which a definition has none.
+///
+/// # Errors
+///
+/// Where there is no memory.
+pub fn own_proofs(alloc: Global, kind: BodyKind, hyps: &[Id]) -> Result<Vec<Item>, AllocError>
+    ensures { IfOk result (λ items. items.items ≡ own_proofs (kind_of kind) hyps.now) }
+{
+    match kind {
+        BodyKind::Definition => Ok(Vec::new(alloc)),
+        BodyKind::Axiom | BodyKind::Theorem => proofs_of(alloc, hyps),
+    }
+}
+
+/// Expressions as proofs.
+fn proofs_of(alloc: Global, hyps: &[Id]) -> Result<Vec<Item>, AllocError>
+    ensures { IfOk result (λ items. items.items ≡ map Proof hyps.now) }
 {
     let mut items = Vec::new(alloc);
-    'ids: for i in 0..count {
-        let Ok(()) = items.push(Item::Expr(Id(i as u64))) else {
-            return Err(AllocError);
-        };
+    'hyps: for hyp in hyps {
+        items.push(Item::Proof(*hyp))?;
     }
     Ok(items)
 }
@@ -115,8 +153,7 @@ pub fn own_stream<'a>(earlier: &Earlier<'a>, kind: BodyKind, row: u32) -> &'a [u
     ensures within { length result.now ≤ length earlier.now.file }
 {
     match kind {
-        BodyKind::Axiom => earlier.own_thm_stream(row),
-        BodyKind::Theorem => earlier.own_thm_stream(row),
+        BodyKind::Axiom | BodyKind::Theorem => earlier.own_thm_stream(row),
         BodyKind::Definition => earlier.own_term_stream(row),
     }
 }

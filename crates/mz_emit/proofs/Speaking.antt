@@ -19,7 +19,7 @@ use Rattle.mz_unification.specs.Spells.{dummy_of}
 use Rattle.mz_unification.specs.Streams.{of_definition, of_assertion}
 use Rattle.mz_soundness.specs.Lists.{kind_of}
 use Rattle.mz_soundness.specs.Premises.{bound_count as bound_in}
-use Rattle.mz_soundness.specs.Tables.{is_theorem, is_definition}
+use Rattle.mz_soundness.specs.MachineState.{is_theorem, is_definition}
 use Rattle.mz_earlier.proofs.Offered.{binders_many}
 use Rattle.mz_forms.specs.Proof.{Proof}
 use Rattle.mz_steps.specs.SharedBodies.{IsSharedBody}

@@ -6,7 +6,7 @@ use Rattle.mz_cmd.specs.declared.code.ProofCode.TheVariants as code
 use Rattle.mz_logic.specs.Tree.{Tree}
 use Rattle.mz_logic.specs.Declaration.{Declaration}
 use Rattle.mz_logic.specs.declared.binder.Binder.{Binder}
-use Rattle.mz_soundness.specs.Tables.{Kind}
+use Rattle.mz_soundness.specs.MachineState.{Kind}
 use Rattle.mz_forms.specs.Proof.{Proof}
 use Rattle.mz_bodies.specs.Uses.{Use, a_gap, assertion, uses, command_uses, commands_use, IsBodyUsing}
 use Rattle.mz_writing.specs.Gaps.{LeaveGap, Cite, SaysItsGaps}

@@ -1,19 +1,11 @@
 -- A body is written in proportion to the weight of its proof.
-use Rattle.std.proofs.Common.{◌≡◌, List, Option, Some, None, refl, ap, arith}
-use Rattle.mz_logic.specs.Tree.{size, instance, followed_by, variables}
-use Rattle.mz_logic.specs.Declaration.{Form, plain_form, abstract_form, defined, Declaration}
+use Rattle.std.proofs.Common.{◌≡◌, List, Option, Some, None, refl, arith}
+use Rattle.mz_logic.specs.Declaration.{Declaration}
 use Rattle.mz_logic.specs.Conversions.{Conversion, Conversions, refl_conv, sym_conv, cong_conv, unfold_conv, gap_conv, no_convs, more_convs}
 use Rattle.mz_forms.specs.Proof.{Proof, Proofs, by_hyp, by_name, by_citation, by_conv, by_let, by_gap, no_proofs, more_proofs}
-use Rattle.mz_typing.specs.Sides.{term_at, body_tree}
 use Rattle.mz_type.specs.Weight.{conv_weight, convs_weight, proof_weight, proofs_weight, stated_weight}
-use Rattle.mz_bodies.specs.Costs.{body_tree as body_written}
 use Rattle.mz_bodies.specs.Weights.{conv_weight as conv_written, convs_weight as convs_written, proof_weight as proof_written, proofs_weight as proofs_written}
 use Rattle.mz_emit.specs.Emitting.{body_weight}
-
-same_tree : (f : Form) → body_written f ≡ body_tree f
-same_tree plain_form = refl
-same_tree abstract_form = refl
-same_tree (defined _ e) = refl
 
 module _ (env : List Declaration) where
   mutual
@@ -21,8 +13,7 @@ module _ (env : List Declaration) where
     conv_same (refl_conv e) = refl
     conv_same (sym_conv c) = omega (arith, conv_same c)
     conv_same (cong_conv t cs) = omega (arith, convs_same cs)
-    conv_same (unfold_conv t es ys c) =
-        omega (arith, ap (λ e. size (instance (followed_by es (variables ys)) e)) (same_tree (term_at env t).form), conv_same c)
+    conv_same (unfold_conv t es ys c) = omega (arith, conv_same c)
     conv_same (gap_conv l r) = refl
 
     convs_same : (cs : Conversions) → convs_written env cs ≡ convs_weight env cs

@@ -4,6 +4,10 @@ pub mod HoldStatements
 pub mod Stopping
 pub mod Cursors
 pub mod ExprLists
+pub mod Nesting
+pub mod Enclosing
+pub mod ConvNesting
+pub mod ProofNesting
 pub mod BinderLists
 pub mod ConvLists
 pub mod ProofLists

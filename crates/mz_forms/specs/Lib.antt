@@ -5,6 +5,7 @@ pub mod Proofs
 pub mod Statements
 pub mod Order
 pub mod Stops
+pub mod Steps
 pub mod Cursor
 pub mod SpaceView
 pub mod ScopeView
@@ -14,6 +15,8 @@ pub mod NamesMore
 pub mod ConvCode
 pub mod ConvView
 pub mod ConvFalls
+pub mod ConvSteps
 pub mod ProofCode
 pub mod ProofView
 pub mod ProofFalls
+pub mod ProofSteps

@@ -1,3 +1,4 @@
+//! Parameters, dummies and results, and the lists of variables in them.
 ghost use Rattle.std.specs.Prelude.{◌≡◌, ◌<◌, ◌≤◌, ◌+◌, ◌++◌, ◌∷◌, [], ◌^◌, length, IfOk, IfErr};
 ghost use Rattle.mz_sexpr.specs.Number.{node_count, node_at};
 ghost use Rattle.mz_forms.specs.Cursor.{node_size};

@@ -1,3 +1,4 @@
+//! Conversions, with names resolved.
 ghost use Rattle.std.specs.Prelude.{◌≡◌, IfOk};
 ghost use Rattle.mz_forms.specs.ConvView.{conversion, conversions};
 

@@ -1,3 +1,4 @@
+//! Why reading stops.
 use mz_sexpr::U;
 use std::alloc::{AllocError, AllocFailed};
 

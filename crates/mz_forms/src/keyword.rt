@@ -1,3 +1,4 @@
+//! The words with which conversions, proofs and statements begin.
 ghost use Rattle.std.specs.Prelude.{◌≡◌, bytes_eq};
 ghost use Rattle.mz_forms.specs.Proofs.{conv_keyword_of, proof_keyword_of};
 ghost use Rattle.mz_forms.specs.Statements.{kind_of_word};

@@ -1,3 +1,4 @@
+//! Which words are names.
 ghost use Rattle.std.specs.Prelude.{◌≡◌};
 ghost use Rattle.mz_forms.specs.Name;
 

@@ -1,3 +1,4 @@
+//! Proofs, with names resolved.
 ghost use Rattle.std.specs.Prelude.{◌≡◌, IfOk};
 ghost use Rattle.mz_forms.specs.ProofView.{proof_view, proofs_view};
 

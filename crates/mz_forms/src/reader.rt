@@ -1,3 +1,4 @@
+//! What the reading of all forms rests on: names, their numbers, and lists of so many nodes.
 ghost use Rattle.std.specs.Prelude.{◌≡◌, ◌<◌, ◌≤◌, ◌+◌, ◌^◌, IfOk, IfErr};
 ghost use Rattle.mz_sexpr.specs.Node;
 ghost use Rattle.mz_sexpr.specs.Node.{place, list};
@@ -18,7 +19,9 @@ use std::alloc::Global;
 /// Reads the forms and names of nodes, which are spoken of by their numbers.
 #[derive(Clone, Copy)]
 pub struct Reader<'r, 'a> {
+    /// Where what is read is put.
     pub alloc: Global,
+    /// The nodes of the text.
     pub nodes: &'r Sexprs<'a>,
 }
 

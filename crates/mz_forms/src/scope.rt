@@ -1,3 +1,4 @@
+//! The names that are known at a place of the text.
 ghost use Rattle.std.specs.Prelude.{◌≡◌, ◌^◌, ◌-◌, OnOk};
 ghost use Rattle.mz_logic.specs.DeclView.{declaration};
 ghost use Rattle.mz_mode.specs.Gaps.{gaps_of};
@@ -11,14 +12,18 @@ use mz_logic::Decl;
 use mz_mode::Mode;
 use std::alloc::{AllocError, Global};
 
-/// The names of the statements so far, and whether proofs may have gaps.
+/// The names of the statements so far, and the mode in which the text is read.
 #[derive(Drop)]
 pub struct Names<'a> {
+    /// Whether proofs may have gaps.
     pub mode: Mode,
+    /// The sorts.
     pub sorts: Space<'a>,
+    /// The terms and definitions.
     pub terms: Space<'a>,
-    /// The terms without parameters; at the place of another one stands an empty word.
+    /// Those without parameters; at the place of another one stands an empty word.
     pub constants: Space<'a>,
+    /// The axioms and theorems.
     pub assertions: Space<'a>,
 }
 
@@ -75,6 +80,8 @@ impl<'a> Names<'a> {
 /// What an expression sees.
 #[derive(Clone, Copy)]
 pub struct Scope<'s, 'a> {
+    /// The names of the statements before.
     pub names: &'s Names<'a>,
+    /// The variables of its own statement.
     pub vars: &'s Space<'a>,
 }

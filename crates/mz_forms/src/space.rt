@@ -1,3 +1,4 @@
+//! The names of one space, by their numbers.
 ghost use Rattle.std.specs.Prelude.{◌≡◌, ◌++◌, ◌⊎◌, ◌∷◌, [], ◌<◌, ◌+◌, ◌^◌, ℕ, List, false, length, OnOk};
 ghost use Rattle.mz_forms.specs.Name.{is_identifier, hidden, number_of, IsName, IsNew};
 

@@ -1,3 +1,4 @@
+//! Reading a statement.
 ghost use Rattle.std.specs.Prelude.{◌≡◌, ◌<◌, ◌^◌, [], Bool, length, IfOk, IfErr};
 ghost use Rattle.mz_logic.specs.View.{tree};
 ghost use Rattle.mz_sexpr.specs.Node.{place};
@@ -106,12 +107,16 @@ fn bit(set: bool, value: u8) -> u8
     if set { value } else { 0 }
 }
 
-/// What a statement declares, with its name; a theorem has dummies and a proof.
+/// What a statement declares, with its name.
 #[derive(Drop)]
 pub struct Declared<'a> {
+    /// The name, as it stands in the text.
     pub name: &'a [u8],
+    /// The declaration.
     pub decl: Decl,
+    /// A theorem's dummies; a definition's stand in its declaration.
     pub dummies: Binders,
+    /// A theorem's proof; nothing else has one.
     pub proof: Option<ProofBox>,
 }
 
@@ -469,7 +474,12 @@ impl<'r, 'a> Reader<'r, 'a> {
         }
     }
 
-    /// The statement that the node is, with its mark.
+    /// The statement that the node is, and whether it's marked as local.
+    ///
+    /// # Errors
+    ///
+    /// The first of the rules on forms, gaps and names that the node breaks, at its place; or where
+    /// there is no memory.
     pub fn statement(&self, names: &Names<'a>, n: u32) -> Result<(bool, Declared<'a>), Stop>
         requires within { n < node_count self.now.nodes.now }
         requires few { node_size (node_at self.now.nodes.now n) < 2 ^ 32 }

@@ -1,9 +1,9 @@
 // How far a statement has been read.
-ghost use Rattle.std.specs.Prelude.{◌≡◌, IfOk, None, if◌then◌else◌, option_map};
-ghost use Rattle.mz_grammar.specs.Code.{head as head_lem, lexeme, statement, tail as tail_lem, type_text};
+ghost use Rattle.std.specs.Prelude.{◌≡◌, IfOk, None, if◌then◌else◌, map, option_map};
+ghost use Rattle.mz_grammar.specs.Code.{head as head_lem, lexeme, source, statement, tail as tail_lem, type_text};
 ghost use Rattle.mz_grammar.specs.CodeProgress.{at as at_lem, notation_with as notation_lem, whole as whole_lem};
 ghost use Rattle.mz_grammar.specs.Progress.{next as next_lem};
-ghost use Rattle.mz_grammar.specs.Statement.{definition_statement};
+ghost use Rattle.mz_grammar.specs.Statement.{assert_statement, definition_statement, term_statement};
 
 use crate::kind::{AssertKind, Fixity, Kind};
 use crate::lexeme::Lexeme;
@@ -92,7 +92,9 @@ pub enum At {
 /// A group whose names are being read.
 #[derive(Clone, Copy)]
 pub struct OpenGroup {
+    /// The kind of its statement.
     pub kind: Kind,
+    /// Whether it stands in braces.
     pub is_bound: bool,
 }
 
@@ -114,30 +116,45 @@ pub enum Slot {
 /// Behind each lexeme of an infix or prefix notation.
 #[derive(Clone, Copy)]
 pub enum Operator {
+    /// The keyword.
     Opened,
+    /// The term's name.
     Named,
+    /// The colon.
     Colon,
+    /// The constant.
     Constant,
+    /// `prec`
     Prec,
+    /// The level.
     Level,
 }
 
 /// Behind each lexeme of a coercion.
 #[derive(Clone, Copy)]
 pub enum Coercion {
+    /// The keyword.
     Opened,
+    /// The term's name.
     Named,
+    /// The colon.
     Colon,
+    /// The sort from which it leads.
     From,
+    /// `>`
     Greater,
+    /// The sort to which it leads.
     To,
 }
 
 /// Behind each lexeme of delimiters.
 #[derive(Clone, Copy)]
 pub enum Delimiter {
+    /// The keyword.
     Opened,
+    /// The first string.
     Left,
+    /// The second string.
     Right,
 }
 
@@ -157,35 +174,49 @@ pub enum Notation {
 /// Behind each lexeme of a constant.
 #[derive(Clone, Copy)]
 pub enum Constant {
+    /// The bracket.
     Opened,
+    /// The string.
     String,
+    /// The colon.
     Colon,
+    /// The level.
     Level,
 }
 
 /// Behind each lexeme of a tail.
 #[derive(Clone, Copy)]
 pub enum Tail {
+    /// The colon.
     Opened,
+    /// The level.
     Level,
+    /// `rassoc`, or `lassoc`.
     Whole { is_right: bool },
 }
 
 /// What statement has been read.
 #[derive(Clone, Copy)]
 pub enum Whole {
+    /// A sort.
     Sort(Modifiers),
+    /// A term.
     Term,
+    /// An axiom or a theorem.
     Assert(AssertKind),
+    /// A definition with a body.
     Definition,
     /// A definition without a body.
     Abstract,
+    /// An infix or prefix notation.
     Operator(Fixity),
+    /// A coercion.
     Coercion,
     /// Delimiters of both sides.
     Delimiter,
     /// Left and right delimiters.
     Delimiters,
+    /// A notation without a tail.
     Notation,
     /// A notation with a tail.
     Tailed { is_right: bool },
@@ -269,17 +300,8 @@ impl<'a> Parts<'a> {
                 modifiers,
                 name: self.head.name,
             },
-            Whole::Term => Statement::Term(TermText {
-                head: self.taken_head(alloc),
-                arguments: mem::replace(&mut self.arguments, Vec::new(alloc)),
-                result: self.taken_type(alloc),
-            }),
-            Whole::Assert(kind) => Statement::Assert(AssertText {
-                kind,
-                head: self.taken_head(alloc),
-                premises: mem::replace(&mut self.premises, Vec::new(alloc)),
-                conclusion: self.formula,
-            }),
+            Whole::Term => self.term(alloc),
+            Whole::Assert(kind) => self.assertion(alloc, kind),
             Whole::Definition => self.definition(alloc, Some(self.formula)),
             Whole::Abstract => self.definition(alloc, None),
             Whole::Operator(fixity) => Statement::Operator(OperatorText {
@@ -307,6 +329,27 @@ impl<'a> Parts<'a> {
                 self.notation_with(alloc, Some(TailText { level, is_right }))
             }
         }
+    }
+
+    fn term(&mut self, alloc: Global) -> Statement<'a>
+        ensures { statement result ≡ term_statement (head_lem self.old.head) (map type_text self.old.arguments.items) (type_text self.old.ty) }
+    {
+        Statement::Term(TermText {
+            head: self.taken_head(alloc),
+            arguments: mem::replace(&mut self.arguments, Vec::new(alloc)),
+            result: self.taken_type(alloc),
+        })
+    }
+
+    fn assertion(&mut self, alloc: Global, kind: AssertKind) -> Statement<'a>
+        ensures { statement result ≡ assert_statement kind (head_lem self.old.head) (map source self.old.premises.items) (lexeme self.old.formula) }
+    {
+        Statement::Assert(AssertText {
+            kind,
+            head: self.taken_head(alloc),
+            premises: mem::replace(&mut self.premises, Vec::new(alloc)),
+            conclusion: self.formula,
+        })
     }
 
     fn definition(&mut self, alloc: Global, body: Option<Lexeme<'a>>) -> Statement<'a>

@@ -14,11 +14,14 @@ use crate::statement::{Modifiers, Statement};
 use mz_lex::{LexFault, S, next_token};
 use std::alloc::Global;
 
-/// A statement, its first byte, and the place behind it.
+/// A statement, and where it stands in the text, in bytes.
 #[derive(Drop)]
 pub struct StatementRead<'a> {
+    /// The statement.
     pub statement: Statement<'a>,
+    /// The place of its first byte.
     pub place: u32,
+    /// The place behind its last one.
     pub end: usize,
 }
 

@@ -16,6 +16,7 @@ pub struct Head {
     pub code: StatementCode,
     /// Where it begins.
     pub at: u32,
+    /// Where its body begins, right behind the command.
     pub body: u32,
     /// Where the next statement begins.
     pub next: u32,
@@ -35,8 +36,8 @@ pub enum HeadOrEnd {
 /// # Errors
 ///
 /// The first rule that fails, at this place: no command, one that begins no statement, a distance
-/// that leads into the command or past the file's end, no row for the statement, a local definition whose row has no body; at the
-/// end, rows that are left.
+/// that leads into the command or past the file's end, no row for the statement, a local definition
+/// whose row has no body; at the end, rows that are left.
 pub fn head_at(mmb: &Mmb, rows: Rows, at: u32) -> Result<HeadOrEnd, Fault>
     ensures judged { Judges result (head_checks mmb.now rows at) }
     ensures stands { IfOk result (StandsAt mmb.now rows at) }

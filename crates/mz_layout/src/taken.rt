@@ -7,7 +7,9 @@ use mz_cmd::StatementCode;
 /// How many rows of each table have had their statement.
 #[derive(Clone, Copy, Debug, PartialEq, Eq)]
 pub struct Rows {
+    /// Sorts.
     pub sorts: u32,
+    /// Terms and definitions.
     pub terms: u32,
     /// Axioms and theorems.
     pub thms: u32,

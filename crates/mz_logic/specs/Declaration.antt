@@ -1,7 +1,8 @@
 -- Declarations, and the environments that they make (mm0.md, sections on sorts, terms, definitions,
 -- axioms and theorems).
-use Rattle.std.specs.Prelude.{Bool, List, [], ◌∷◌, ◌++◌}
-use Rattle.mz_logic.specs.Tree.{Tree, Trees, none, more}
+use Rattle.std.specs.Prelude.{Bool, true, false, List, [], ◌∷◌, ◌++◌, All}
+use Rattle.std.specs.List.Sorted.{IsStrictlyIncreasing}
+use Rattle.mz_logic.specs.Tree.{Tree, Trees, app, none, more}
 use Rattle.mz_logic.specs.Signature.{Signature}
 use Rattle.mz_logic.specs.declared.binder.Binder.{Binder}
 use Rattle.mz_logic.specs.declared.binder.SortMods.{SortMods}
@@ -28,20 +29,35 @@ pub data Declaration : Type 0 where
   term_decl : Term → Declaration
   assertion_decl : Assertion → Declaration
 
--- the dummies of a term's form, and its body, if it has one
+-- the dummies of a term's form, whether it has a body, and the body, if it has one
 abbrev pub dummies_of : Form → List Binder
 dummies_of plain_form = []
 dummies_of abstract_form = []
 dummies_of (defined dummies _) = dummies
+
+abbrev pub is_defined : Form → Bool
+is_defined plain_form = false
+is_defined abstract_form = false
+is_defined (defined _ _) = true
 
 abbrev pub body_of : Form → Trees
 body_of plain_form = none
 body_of abstract_form = none
 body_of (defined _ body) = more body none
 
+-- the body; where there is none, and no rule looks, an application of the term 0
+abbrev pub body_tree : Form → Tree
+body_tree plain_form = app 0 none
+body_tree abstract_form = app 0 none
+body_tree (defined _ body) = body
+
 -- the context of a term's body: its parameters, and after them its dummies
 abbrev pub context_of : Term → List Binder
 context_of d = d.signature.params ++ dummies_of d.form
+
+-- the dependencies of each stand in ascending order, each once
+abbrev pub DepsAscend : List Binder → Type 0
+DepsAscend bs = All (λ b. IsStrictlyIncreasing b.deps) bs
 
 -- ---- an environment is a list of declarations; in it the sorts, the terms, and the axioms and
 -- theorems are numbered, each kind by itself

@@ -1,6 +1,6 @@
 -- The variables on which an expression depends: all of them (V), and the free ones (FV)
 -- (Carneiro, the section on variables and dependencies). Only bound variables are in either.
-use Rattle.std.specs.Prelude.{ℕ, ◌≡◌, ◌⊎◌, true, false, List, [], ◌∷◌, slice_get, Contains, Some}
+use Rattle.std.specs.Prelude.{ℕ, ◌≡◌, ◌⊎◌, Bool, true, false, ◌==◌, ◌||◌, List, [], ◌∷◌, slice_get, Contains, Some}
 use Rattle.mz_logic.specs.Tree.{Tree, Trees, var, app, none, more, operand}
 use Rattle.mz_logic.specs.Signature.{Signature}
 use Rattle.mz_logic.specs.declared.binder.Binder.{Binder}
@@ -64,3 +64,8 @@ ApartAt ctx es params i j = (x : ℕ) (p q : Binder)
 -- Carneiro, the rule of theorem application)
 abbrev pub Apart : List Binder → Trees → List Binder → Type 0
 Apart ctx es params = (i j : ℕ) → ApartAt ctx es params i j
+
+-- `Contains` as a test
+abbrev pub is_member : ℕ → List ℕ → Bool
+is_member x [] = false
+is_member x (y ∷ ys) = x == y || is_member x ys

@@ -190,7 +190,7 @@ fn is_param(env: &Env, params: &[Binder], place: usize, binder: &Binder) -> bool
 }
 
 /// Whether the places are those of bound parameters before `end`.
-fn are_bound_before(params: &[Binder], end: usize, places: &Deps) -> bool
+pub fn are_bound_before(params: &[Binder], end: usize, places: &Deps) -> bool
     ensures { IsTrue result ↔ All (λ j. (j < end) × IsBoundAt params.now j) places.now }
 {
     for j in places.as_slice() {

@@ -19,7 +19,7 @@ mod vars;
 mod word;
 
 pub use binder::{Binder, Binders, Deps, ResultType, SortMods};
-pub use check::check_decl;
+pub use check::{are_bound_before, check_decl};
 pub use context::Context;
 pub use decl::{Decl, DeclFault, TermDecl, TermForm, ThmDecl, ThmForm};
 pub use disjoint::are_apart;

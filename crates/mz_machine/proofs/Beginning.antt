@@ -8,7 +8,7 @@ use Rattle.mz_store.specs.Sharing.{Sharing, tree_of, IsIn, IsOver}
 use Rattle.mz_store.specs.declared.item.Item.TheVariants.{Expr}
 use Rattle.mz_unification.specs.Profile.{strict, Item, expr}
 use Rattle.mz_unify.specs.Stored.{AreItemsIn}
-use Rattle.mz_soundness.specs.Tables.{signatures_in}
+use Rattle.mz_soundness.specs.MachineState.{signatures_in}
 use Rattle.mz_soundness.specs.Bodies.{body_start}
 use Rattle.mz_earlier.specs.OwnRow.{kind_at, heading_of, MayRun, mode_for, own_words, first_items}
 use Rattle.mz_earlier.specs.Before.{tables_before}

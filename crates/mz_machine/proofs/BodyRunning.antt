@@ -4,17 +4,17 @@ use Rattle.std.proofs.Common.{◌≡◌, ◌≤◌, ◌+◌, ◌*◌, ℕ, true,
 use Rattle.std.proofs.Math.Nat.{add-mul, mul-le-mul_right}
 use Rattle.mz_cmd.specs.declared.rule.K.{K}
 use Rattle.mz_logic.specs.Tree.{Tree}
-use Rattle.mz_soundness.specs.Tables.{State}
+use Rattle.mz_soundness.specs.MachineState.{State}
 use Rattle.mz_soundness.specs.ProofMachine.{proof_end}
 use Rattle.mz_unification.specs.Profile.{plain}
 use Rattle.mz_machine.specs.BodyAnswers.{HasGap, IsBodyRun}
 use Rattle.mz_machine.specs.BodyAnswers.{UnlessMem as UnlessBodyMem}
 use Rattle.mz_machine.specs.Steps.{Underway, tables_for, heading_for, row_of, steps_for, end_steps}
 use Rattle.mz_cmd.specs.declared.command.Cmd.{Cmd}
-use Rattle.mz_machine.specs.OverStore.{StopsBy}
+use Rattle.mz_unify.specs.Rows.{StopsBy}
 use Rattle.mz_machine.specs.Stepping.{GoesOn, IsFinished, IsStepped, UnlessEndMem, ended_at, stepped_to, stopped_at}
-use Rattle.mz_machine.specs.declared.command.Stop.{Stop}
-use Rattle.mz_machine.specs.declared.command.Stop.TheVariants.{Rule, Mem}
+use Rattle.mz_unify.specs.declared.stop.Stop.{Stop}
+use Rattle.mz_unify.specs.declared.stop.Stop.TheVariants.{Rule, Mem}
 use Rattle.mz_machine.specs.declared.machine.Finished.{Finished}
 use Rattle.mz_machine.specs.declared.machine.Finished.TheVariants as finished
 

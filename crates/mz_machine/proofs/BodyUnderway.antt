@@ -15,7 +15,7 @@ use Rattle.mz_unification.specs.Steps.{◌>>=◌, Turn, over, goes_on, goes_to}
 use Rattle.mz_unification.specs.Profile.{plain}
 use Rattle.mz_unification.specs.UnifyMachine.{is_empty}
 use Rattle.mz_unification.proofs.Offered.{command-long, drop-less}
-use Rattle.mz_soundness.specs.Tables.{Tables, State, Kind, Heading}
+use Rattle.mz_soundness.specs.MachineState.{RowsBefore, State, Kind, Heading}
 use Rattle.mz_soundness.specs.ProofMachine.{proof_end, ends_with}
 use Rattle.mz_soundness.specs.Bodies.{BodyCommand, ends, proves, stands_in, if_allowed, body_command, body_turn_by, body_turn, body_from, match_steps, command_steps, body_steps_from}
 use Rattle.mz_soundness.proofs.Offered.{bound-never-ends, count-is-whole}
@@ -30,7 +30,7 @@ onward len s = Ok (goes_on len s)
 plus-zero : (n : ℕ) → n ≡ n + 0
 plus-zero n = omega arith
 
-drop-all : {A : Type 0} (xs : List A) (n : ℕ) → length xs ≤ n → drop n xs ≡ []
+pub drop-all : {A : Type 0} (xs : List A) (n : ℕ) → length xs ≤ n → drop n xs ≡ []
 drop-all [] zero h = refl
 drop-all [] (suc n) h = refl
 drop-all (x ∷ xs) zero h = absurd (omega (arith, h))
@@ -41,7 +41,7 @@ some-left [] n h = absurd (omega (arith, h))
 some-left (x ∷ xs) zero h = refl
 some-left (x ∷ xs) (suc n) h = some-left xs n (omega (arith, h))
 
-module _ (gaps : Bool) (T : Tables) (h : Heading) where
+module _ (gaps : Bool) (T : RowsBefore) (h : Heading) where
   -- what is left of a body, at a place of the file
   abbrev pub left_run : ℕ → List ℕ → State Tree → Result (State Tree) (ℕ × K)
   left_run at bytes st = body_from (plain gaps) T h (length bytes) at bytes st

@@ -12,12 +12,12 @@ use Rattle.mz_layout.specs.Tables.{thm_row}
 use Rattle.mz_store.specs.Sharing.{Sharing}
 use Rattle.mz_store.specs.declared.item.Id.{Id}
 use Rattle.mz_store.specs.declared.item.Item.{Item as Kept}
-use Rattle.mz_unification.specs.Spells.{ThmRow}
+use Rattle.mz_unification.specs.Spells.{SpelledThm}
 use Rattle.mz_unification.specs.Profile.{strict, Item, proof}
 use Rattle.mz_unification.specs.UnifyMachine.{in_citation, Matching, UnifyState, unify, unify_steps}
 use Rattle.mz_unify.specs.Stored.{item_at, items_at, matching_at}
 use Rattle.mz_unify.specs.declared.unified.UnifyMode.TheVariants.{Use}
-use Rattle.mz_soundness.specs.Tables.{Tables, State, signatures_in}
+use Rattle.mz_soundness.specs.MachineState.{RowsBefore, State, signatures_in}
 use Rattle.mz_soundness.specs.Premises.{pop_expr, pop_operands, operands_fit, are_apart}
 use Rattle.mz_soundness.specs.ProofMachine.{proof_row, citation, cited}
 use Rattle.mz_soundness.specs.Bodies.{row_steps}
@@ -30,12 +30,12 @@ use Rattle.mz_machine.proofs.TermResults.{map-same}
 
 -- ---- what is asked, one after another
 
-module _ (tables : Tables) (t : ℕ) (st : State Tree) where
+module _ (tables : RowsBefore) (t : ℕ) (st : State Tree) where
   unknown : slice_get tables.thms t ≡ None → citation strict tables t st ≡ Err k.TheoremIndex
   unfolding citation
   unknown h = rw h refl
 
-  module _ (row : ThmRow) (there : slice_get tables.thms t ≡ Some row) where
+  module _ (row : SpelledThm) (there : slice_get tables.thms t ≡ Some row) where
     few : nat_le (suc (length row.params)) (length st.stack) ≡ false → citation strict tables t st ≡ Err k.Underflow
     unfolding citation
     few h = rw (there, h) refl
@@ -119,7 +119,7 @@ module _ (b : Before) (t : ℕ) (st : State Tree) where
 
 -- ---- the rows
 
-module _ (tables : Tables) (at t : ℕ) (st : State Tree) where
+module _ (tables : RowsBefore) (at t : ℕ) (st : State Tree) where
   module _ (rule : K) (stopped : citation strict tables t st ≡ Err rule) where
     pub thm-stopped : proof_row strict tables at code.Thm t st ≡ Err rule
     unfolding proof_row cited
@@ -148,10 +148,10 @@ module _ (tables : Tables) (at t : ℕ) (st : State Tree) where
       unfolding proof_row cited
       thm-save-row = rw (asked, done) refl
 
-pub thm-stopped-steps : (tables : Tables) (t : ℕ) (st : State Tree) (rule : K) → citation strict tables t st ≡ Err rule → row_steps strict tables code.Thm t st ≡ 0
+pub thm-stopped-steps : (tables : RowsBefore) (t : ℕ) (st : State Tree) (rule : K) → citation strict tables t st ≡ Err rule → row_steps strict tables code.Thm t st ≡ 0
 thm-stopped-steps tables t st rule stopped = rw stopped refl
 
-pub thm-steps : (tables : Tables) (t : ℕ) (st : State Tree) (m : Matching Tree) → citation strict tables t st ≡ Ok m → row_steps strict tables code.Thm t st ≡ unify_steps strict (signatures_in tables) st.ctx m
+pub thm-steps : (tables : RowsBefore) (t : ℕ) (st : State Tree) (m : Matching Tree) → citation strict tables t st ≡ Ok m → row_steps strict tables code.Thm t st ≡ unify_steps strict (signatures_in tables) st.ctx m
 thm-steps tables t st m asked = rw asked refl
 
 -- ---- the run

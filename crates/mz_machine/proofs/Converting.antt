@@ -17,13 +17,15 @@ use Rattle.mz_unification.specs.UnifyMachine.{in_definition, Matching, UnifyStat
 use Rattle.mz_unify.specs.Stored.{IsItemIn, AreItemsIn, trees_at}
 use Rattle.mz_unify.proofs.Offered.{items-in-both, listed-trees}
 use Rattle.mz_unification.proofs.Offered.{taken-is, same_tree-true, same_tree-refl}
-use Rattle.mz_soundness.specs.Tables.{Tables, State, signatures_in}
+use Rattle.mz_soundness.specs.MachineState.{RowsBefore, State, signatures_in}
 use Rattle.mz_soundness.specs.Premises.{pop, pop_expr, pop_obligation, pop_sides}
 use Rattle.mz_soundness.specs.ProofMachine.{proof_row, sides, same_term, stream_of, unfolding_of}
 use Rattle.mz_soundness.specs.Bodies.{row_steps}
-use Rattle.mz_machine.specs.OverStore.{with_stack, pop_unfolding, Gives, StopsBy}
-use Rattle.mz_machine.specs.declared.command.Stop.{Stop}
-use Rattle.mz_machine.specs.declared.command.Stop.TheVariants.{Rule, Mem}
+use Rattle.mz_machine.specs.OverStore.{with_stack, pop_unfolding, Gives}
+use Rattle.mz_unify.specs.Rows.{StopsBy}
+use Rattle.mz_unify.specs.declared.stop.Stop.{Stop}
+use Rattle.mz_unify.specs.declared.stop.Stop.TheVariants.{Rule, Mem}
+use Rattle.mz_machine.proofs.BodyUnderway.{drop-all}
 
 pub true-false : true ≡ false → ⊥
 true-false e = cc
@@ -56,7 +58,7 @@ no-one-term : (p : Option (ℕ × List Tree)) → same_term p None ≡ None
 no-one-term None = refl
 no-one-term (Some p) = refl
 
-module _ (tables : Tables) (at n : ℕ) (st : State Tree) (l r : Tree) (xs : List (Item Tree)) (taken : pop_obligation st.stack ≡ Ok (l, r, xs)) where
+module _ (tables : RowsBefore) (at n : ℕ) (st : State Tree) (l r : Tree) (xs : List (Item Tree)) (taken : pop_obligation st.stack ≡ Ok (l, r, xs)) where
   pub refl-row : l ≡ r → proof_row strict tables at code.Refl n st ≡ Ok (with_stack st xs)
   unfolding proof_row
   refl-row e = rw (taken, same l r e) refl
@@ -96,18 +98,12 @@ module _ (tables : Tables) (at n : ℕ) (st : State Tree) (l r : Tree) (xs : Lis
 -- ---- the sides of operands
 
 -- from an item on there are those from the next on, and it before them
-drop-next : {A : Type 0} (xs : List A) (n : ℕ) (x : A) → slice_get xs n ≡ Some x → drop n xs ≡ x ∷ drop (suc n) xs
+pub drop-next : {A : Type 0} (xs : List A) (n : ℕ) (x : A) → slice_get xs n ≡ Some x → drop n xs ≡ x ∷ drop (suc n) xs
 drop-next [] n x h = absurd cc
 drop-next (y ∷ ys) zero x h = let is : y ≡ x = cc in rw is refl
 drop-next (y ∷ ys) (suc n) x h = drop-next ys n x h
 
-drop-all : {A : Type 0} (xs : List A) (n : ℕ) → length xs ≤ n → drop n xs ≡ []
-drop-all [] zero h = refl
-drop-all [] (suc n) h = refl
-drop-all (x ∷ xs) zero h = absurd (omega (arith, h))
-drop-all (x ∷ xs) (suc n) h = drop-all xs n (omega (arith, h))
-
-no-right : {T : Type 0} (es : List T) (xs : List (Item T)) → sides es [] xs ≡ xs
+pub no-right : {T : Type 0} (es : List T) (xs : List (Item T)) → sides es [] xs ≡ xs
 no-right [] xs = refl
 no-right (e ∷ es) xs = refl
 
@@ -137,12 +133,12 @@ module _ (xs ys : List (Item Tree)) (m l r : Tree) (zs : List (Item Tree)) (is :
   sides-other h = rw (is, taken, differ m l h) refl
 
 -- the definition's stream and operands, beside what an unfolding has taken
-abbrev unfolds : Tables → Tree × Tree × Tree × List (Item Tree) → Result (Matching Tree × Tree × List (Item Tree)) K
+abbrev unfolds : RowsBefore → Tree × Tree × Tree × List (Item Tree) → Result (Matching Tree × Tree × List (Item Tree)) K
 unfolds tables (e, l, r, xs) =
     want (tree_parts l) k.Unfold >>= λ p. (want (stream_of (slice_get tables.terms p.0)) k.Unfold >>= λ stream.
     Ok (record { mode = in_definition; stream = stream; operands = p.1; target = e; items = [] }, r, xs))
 
-module _ (tables : Tables) (st : State Tree) where
+module _ (tables : RowsBefore) (st : State Tree) where
   by-taken : unfolding_of strict tables st ≡ (pop_unfolding st.stack >>= unfolds tables)
   unfolding unfolding_of
   by-taken = go (pop_expr st.stack)

@@ -1,45 +1,56 @@
 -- The END of a body over a store: the row's own stream, and what it is run on.
-use Rattle.std.proofs.Common.{◌≡◌, ◌≤◌, ◌+◌, ℕ, zero, suc, List, [], ◌∷◌, ◌++◌, length, map, take, Some, Result, Ok, Err, slice_get, refl, sym, ap, ◌∙◌, arith}
+use Rattle.std.proofs.Common.{◌≡◌, ◌≤◌, ◌<◌, ◌+◌, ℕ, zero, suc, List, [], ◌∷◌, ◌++◌, length, map, Result, Ok, Err, refl, sym, ap, ◌∙◌, arith}
 use Rattle.std.specs.Prelude.{reverse}
 use Rattle.std.specs.List.{range_with_len}
 use Rattle.std.proofs.lemmas.List.{map-append, reverse-append}
 use Rattle.mz_cmd.specs.declared.rule.K.{K}
 use Rattle.mz_logic.specs.Tree.{Tree, var}
 use Rattle.mz_logic.specs.declared.binder.Binder.{Binder}
-use Rattle.mz_store.specs.Sharing.{Sharing, tree_of}
+use Rattle.mz_store.specs.Sharing.{Sharing, tree_of, IsIn, AreIn}
 use Rattle.mz_store.specs.declared.item.Id.{Id}
 use Rattle.mz_store.specs.declared.item.Item.{Item as Kept}
 use Rattle.mz_store.specs.declared.item.Item.TheVariants.{Proof}
 use Rattle.mz_unification.specs.Profile.{strict, Item, proof}
 use Rattle.mz_unification.specs.UnifyMachine.{Matching, unify, unify_steps}
-use Rattle.mz_unify.specs.Stored.{item_at, items_at, trees_at, matching_at, AreVariables}
+use Rattle.mz_unify.specs.Stored.{item_at, items_at, trees_at, matching_at, AreVariables, AreItemsIn}
 use Rattle.mz_unify.proofs.Offered.{trees-append}
-use Rattle.mz_soundness.specs.Tables.{Tables, State, Kind, is_axiom, is_theorem, is_definition, Heading, signatures_in}
+use Rattle.mz_soundness.specs.MachineState.{RowsBefore, State, Kind, is_axiom, is_theorem, is_definition, Heading, signatures_in}
 use Rattle.mz_soundness.specs.ProofMachine.{last_item, as_proofs, own_variables, ending, ends_with, proof_end}
 use Rattle.mz_soundness.specs.Bodies.{match_steps}
-use Rattle.mz_earlier.proofs.Offered.{range-next}
-use Rattle.mz_machine.specs.OverStore.{Gives}
+use Rattle.mz_earlier.specs.OwnRow.{id_at, first_ids, own_proofs}
+use Rattle.mz_machine.specs.OverStore.{Gives, AreFirst}
 use Rattle.mz_machine.specs.Endings.{mode_at, items_of, ended, IsOwnRun}
-use Rattle.mz_machine.specs.declared.command.Stop.{Stop}
-use Rattle.mz_machine.specs.declared.command.Stop.TheVariants.{Rule, Mem}
+use Rattle.mz_unify.specs.declared.stop.Stop.{Stop}
+use Rattle.mz_unify.specs.declared.stop.Stop.TheVariants.{Rule, Mem}
 
 -- ---- the first variables
-
-zero-more : (n : ℕ) → 0 + n ≡ n
-zero-more n = omega arith
 
 next-is : (i : ℕ) → suc i ≡ i + 1
 next-is i = omega arith
 
-pub variables-next : (s : Sharing) (ids : List Id) (i : Id) (n : ℕ) → trees_at s ids ≡ map var (range_with_len 0 n) → tree_of s i.0 ≡ var n
-    → trees_at s (ids ++ i ∷ []) ≡ map var (range_with_len 0 (n + 1))
-variables-next s ids i n are is =
-    trees-append s ids (i ∷ []) ∙ (ap (λ (ts : List Tree). ts ++ tree_of s i.0 ∷ []) are ∙ (ap (λ (t : Tree). map var (range_with_len 0 n) ++ t ∷ []) is
-    ∙ sym (ap (map var) (range-next 0 n ∙ ap (λ (x : ℕ). range_with_len 0 n ++ x ∷ []) (zero-more n)) ∙ map-append var (range_with_len 0 n) (n ∷ [])) ∙ ap (λ (m : ℕ). map var (range_with_len 0 m)) (next-is n)))
+trees-from : (s : Sharing) (i n : ℕ) → ((j : ℕ) → i ≤ j → j < i + n → IsIn s j × (tree_of s j ≡ var j)) → trees_at s (map id_at (range_with_len i n)) ≡ map var (range_with_len i n)
+trees-from s i zero first = refl
+trees-from s i (suc n) first =
+    ap (λ (e : Tree). e ∷ trees_at s (map id_at (range_with_len (i + 1) n))) (first i (omega arith) (omega arith)).1
+    ∙ ap (λ (es : List Tree). var i ∷ es) (trees-from s (i + 1) n (λ j le below. first j (omega (arith, le)) (omega (arith, below))))
 
-pub variables-more : (s : Sharing) (ids : List Id) (i : Id) (n : ℕ) → AreVariables s ids → tree_of s i.0 ≡ var n → AreVariables s (ids ++ i ∷ [])
-variables-more s [] i n all is = (rw is tt, tt)
-variables-more s (x ∷ xs) i n (one, all) is = (one, variables-more s xs i n all is)
+in-from : (s : Sharing) (i n : ℕ) → ((j : ℕ) → i ≤ j → j < i + n → IsIn s j × (tree_of s j ≡ var j)) → AreIn s (map id_at (range_with_len i n))
+in-from s i zero first = tt
+in-from s i (suc n) first = ((first i (omega arith) (omega arith)).0, in-from s (i + 1) n (λ j le below. first j (omega (arith, le)) (omega (arith, below))))
+
+variables-from : (s : Sharing) (i n : ℕ) → ((j : ℕ) → i ≤ j → j < i + n → IsIn s j × (tree_of s j ≡ var j)) → AreVariables s (map id_at (range_with_len i n))
+variables-from s i zero first = tt
+variables-from s i (suc n) first =
+    (rw ((first i (omega arith) (omega arith)).1) tt, variables-from s (i + 1) n (λ j le below. first j (omega (arith, le)) (omega (arith, below))))
+
+pub first-trees : (s : Sharing) (n : ℕ) → AreFirst s n → trees_at s (first_ids n) ≡ map var (range_with_len 0 n)
+first-trees s n first = trees-from s 0 n (λ j le below. first j (omega (arith, below)))
+
+pub first-in : (s : Sharing) (n : ℕ) → AreFirst s n → AreIn s (first_ids n)
+first-in s n first = in-from s 0 n (λ j le below. first j (omega (arith, below)))
+
+pub first-variables : (s : Sharing) (n : ℕ) → AreFirst s n → AreVariables s (first_ids n)
+first-variables s n first = variables-from s 0 n (λ j le below. first j (omega (arith, below)))
 
 pub own-are : (i : ℕ) (ps : List Binder) → own_variables strict i ps ≡ map var (range_with_len i (length ps))
 own-are i [] = refl
@@ -63,22 +74,22 @@ items-are : (s : Sharing) (ids : List Id) → map (item_at s) (map Proof ids) �
 items-are s [] = refl
 items-are s (i ∷ is) = ap (λ (xs : List (Item Tree)). proof (tree_of s i.0) ∷ xs) (items-are s is)
 
-pub proofs-are : (s : Sharing) (hyps : List Id) → items_at s (map Proof hyps) ≡ as_proofs (trees_at s hyps)
+proofs-are : (s : Sharing) (hyps : List Id) → items_at s (map Proof hyps) ≡ as_proofs (trees_at s hyps)
 proofs-are s hyps = ap (map (item_at s)) (kept-reverse hyps) ∙ (items-are s (reverse hyps) ∙ ap (map proof) (sym (trees-reverse s hyps)))
 
-shift : (k : ℕ) → suc (k + 1) ≡ suc k + 1
-shift k = omega arith
+pub own-items : (s : Sharing) (kind : Kind) (hyps : List Id) → items_at s (own_proofs kind hyps) ≡ items_of kind (trees_at s hyps)
+own-items s is_axiom hyps = proofs-are s hyps
+own-items s is_theorem hyps = proofs-are s hyps
+own-items s is_definition hyps = refl
 
-pub taken-next : (hyps : List Id) (k : ℕ) (h : Id) → slice_get hyps k ≡ Some h → map Proof (take k hyps) ++ Proof h ∷ [] ≡ map Proof (take (k + 1) hyps)
-taken-next [] k h at = absurd cc
-taken-next (x ∷ xs) zero h at = let same : x ≡ h = cc in rw same refl
-taken-next (x ∷ xs) (suc k) h at = ap (λ (ys : List Kept). Proof x ∷ ys) (taken-next xs k h at) ∙ ap (λ (m : ℕ). map Proof (take m (x ∷ xs))) (shift k)
+proofs-in : (s : Sharing) (hyps : List Id) → AreIn s hyps → AreItemsIn s (map Proof hyps)
+proofs-in s [] inside = tt
+proofs-in s (h ∷ hs) (one, more) = (one, proofs-in s hs more)
 
-pub taken-all : (hyps : List Id) (k : ℕ) → length hyps ≤ k → map Proof (take k hyps) ≡ map Proof hyps
-taken-all [] zero le = refl
-taken-all [] (suc k) le = refl
-taken-all (x ∷ xs) zero le = absurd (omega (arith, le))
-taken-all (x ∷ xs) (suc k) le = ap (λ (ys : List Kept). Proof x ∷ ys) (taken-all xs k (omega (arith, le)))
+pub own-items-in : (s : Sharing) (kind : Kind) (hyps : List Id) → AreIn s hyps → AreItemsIn s (own_proofs kind hyps)
+own-items-in s is_axiom hyps inside = proofs-in s hyps inside
+own-items-in s is_theorem hyps inside = proofs-in s hyps inside
+own-items-in s is_definition hyps inside = tt
 
 -- ---- the row's own stream
 
@@ -89,7 +100,7 @@ own-matching h st is_axiom s stream operands target proofs a b c = rw (a, b, c, 
 own-matching h st is_theorem s stream operands target proofs a b c = rw (a, b, c, own-are 0 h.params) refl
 own-matching h st is_definition s stream operands target proofs a b c = rw (a, b, c, own-are 0 h.params) refl
 
-module _ (tables : Tables) (h : Heading) (st : State Tree) where
+module _ (tables : RowsBefore) (h : Heading) (st : State Tree) where
   pub no-last-item : (d : K) → last_item h.kind st.stack ≡ Err d → ends_with strict tables h st ≡ Err d
   unfolding ends_with
   no-last-item d e = rw e refl

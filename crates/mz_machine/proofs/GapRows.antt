@@ -11,15 +11,15 @@ use Rattle.mz_logic.proofs.Offered.{sort_is}
 use Rattle.mz_unification.specs.Profile.{plain, strict, draft, Item, expr, proof, obligation, conversion}
 use Rattle.mz_unification.specs.UnifyMachine.{Matching}
 use Rattle.mz_unification.proofs.Offered.{unify_steps-plain}
-use Rattle.mz_soundness.specs.Tables.{Tables, State, signatures_in, Kind, Heading}
+use Rattle.mz_soundness.specs.MachineState.{RowsBefore, State, signatures_in, Kind, Heading}
 use Rattle.mz_soundness.specs.Premises.{pop, is_provable_sort}
 use Rattle.mz_soundness.specs.ProofMachine.{proof_row, citation, unfolding_of, ends_with}
 use Rattle.mz_soundness.specs.Bodies.{proves, body_command, match_steps, fst_of, row_steps, body_start}
 use Rattle.mz_machine.specs.Steps.{row_by, steps_by, is_sorry}
 use Rattle.mz_earlier.specs.Before.{Before, tables_of, signatures_of}
 use Rattle.mz_machine.specs.OverStore.{with_stack, Gives, UnlessMem}
-use Rattle.mz_machine.specs.declared.command.Stop.{Stop}
-use Rattle.mz_machine.specs.declared.command.Stop.TheVariants.{Rule, Mem}
+use Rattle.mz_unify.specs.declared.stop.Stop.{Stop}
+use Rattle.mz_unify.specs.declared.stop.Stop.TheVariants.{Rule, Mem}
 use Rattle.mz_soundness.proofs.Offered.{citation-plain, unfolding-plain, row-plain, ends-plain, own-plain, command-plain}
 
 module _ (b : Before) (at n : ℕ) (st : State Tree) where
@@ -56,7 +56,7 @@ module _ (b : Before) (at n : ℕ) (st : State Tree) where
 
 -- ---- steps
 
-module _ (gaps : Bool) (tables : Tables) (st : State Tree) where
+module _ (gaps : Bool) (tables : RowsBefore) (st : State Tree) where
   pub match-plain : (r : Result (Matching Tree) K) → match_steps (plain gaps) tables st r ≡ match_steps strict tables st r
   match-plain (Err d) = refl
   match-plain (Ok m) = unify_steps-plain gaps (signatures_in tables) st.ctx m
@@ -116,11 +116,11 @@ sorry-is code.Save e = absurd cc
 sorry-is code.Sorry e = refl
 
 -- it is the published table's where gaps aren't let through, or where it is no gap
-by-table : (gaps : Bool) (tables : Tables) (at : ℕ) (c : ProofCode) (n : ℕ) (st : State Tree) → (gaps && is_sorry (Some c)) ≡ false → proof_row (plain gaps) tables at c n st ≡ proof_row strict tables at c n st
+by-table : (gaps : Bool) (tables : RowsBefore) (at : ℕ) (c : ProofCode) (n : ℕ) (st : State Tree) → (gaps && is_sorry (Some c)) ≡ false → proof_row (plain gaps) tables at c n st ≡ proof_row strict tables at c n st
 by-table false tables at c n st no_ = refl
 by-table true tables at c n st no_ = row-plain true tables at c n st (λ is. let bad : true ≡ false = ap (λ x. is_sorry (Some x)) (sym is) ∙ no_ in cc)
 
-module _ (gaps : Bool) (tables : Tables) (kind : Kind) (byte value : ℕ) (c : ProofCode) (here : body_command strict kind byte value ≡ Some (proves c value)) where
+module _ (gaps : Bool) (tables : RowsBefore) (kind : Kind) (byte value : ℕ) (c : ProofCode) (here : body_command strict kind byte value ≡ Some (proves c value)) where
   pub stands-here : body_command (plain gaps) kind byte value ≡ Some (proves c value)
   stands-here = command-plain gaps kind byte value ∙ here
 

@@ -1,8 +1,8 @@
 pub mod GapRows
 pub mod GapWalk
 pub mod Popping
-mod Converting
-mod Unfoldings
+pub mod Converting
+pub mod Unfoldings
 mod Citing
 pub mod RowResults
 pub mod TakenOperands

@@ -13,15 +13,15 @@ use Rattle.mz_store.specs.declared.item.DepsMode.TheVariants.{All}
 use Rattle.mz_unification.specs.Profile.{strict}
 use Rattle.mz_unify.specs.Stored.{AreItemsIn}
 use Rattle.mz_unify.proofs.Offered.{still-in}
-use Rattle.mz_soundness.specs.Tables.{Kind, is_axiom, is_theorem, is_definition, signatures_in}
+use Rattle.mz_soundness.specs.MachineState.{Kind, is_axiom, is_theorem, is_definition, signatures_in}
 use Rattle.mz_soundness.specs.Bodies.{BodyCommand, ends, proves, stands_in, if_allowed, body_command}
 use Rattle.mz_earlier.specs.Before.{tables_before}
 use Rattle.mz_earlier.specs.OwnRow.{heading_of, mode_for}
 use Rattle.mz_machine.specs.OverStore.{code_of, for_theorems, Grows, IsUnderway}
 use Rattle.mz_machine.specs.declared.command.Command.{Command}
 use Rattle.mz_machine.specs.declared.command.Command.TheVariants.{Makes, Keeps, Converts}
-use Rattle.mz_machine.specs.declared.command.Making.TheVariants as making
-use Rattle.mz_machine.specs.declared.command.Converting.TheVariants as converting
+use Rattle.mz_earlier.specs.declared.command.Making.TheVariants as making
+use Rattle.mz_earlier.specs.declared.command.Converting.TheVariants as converting
 use Rattle.mz_layout.specs.declared.taken.Rows.{Rows}
 use Rattle.mz_machine.proofs.TermResults.{tree-kept}
 
@@ -106,15 +106,6 @@ goes-on file kind row before s s' heap stack heap' stack' hyps hyps' was grows i
 
 pub one-more : (sigs : List Signature) (s s' : Sharing) → Grows sigs s s' → length s'.entries ≤ length s.entries + 1
 one-more sigs s s' grows = let few : length grows.keeps.0 ≤ 1 = grows.keeps.2 in omega (arith, ap length grows.keeps.1, length-append s.entries grows.keeps.0, few)
-
--- ---- a command of the body, or none
-
-module _ (kind k : Kind) (same : k ≡ kind) (byte value : ℕ) where
-  pub none-here : ((v : ℕ) → body_command strict k byte v ≡ None) → body_command strict kind byte value ≡ None
-  none-here none = subst (λ (x : Kind). body_command strict x byte value ≡ None) same (none value)
-
-  pub one-here : (c : ProofCode) → ((v : ℕ) → body_command strict k byte v ≡ Some (proves c v)) → body_command strict kind byte value ≡ Some (proves c value)
-  one-here c some = subst (λ (x : Kind). body_command strict x byte value ≡ Some (proves c value)) same (some value)
 
 -- ---- the same in other words
 

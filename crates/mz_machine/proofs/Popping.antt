@@ -12,9 +12,10 @@ use Rattle.mz_store.specs.declared.item.Item.TheVariants.{Expr, Proof, Obligatio
 use Rattle.mz_unification.specs.Profile.{Item}
 use Rattle.mz_unify.specs.Stored.{item_at, items_at, IsItemIn, AreItemsIn}
 use Rattle.mz_unify.proofs.Offered.{items-in-left, items-in-right, items-push}
-use Rattle.mz_soundness.specs.Premises.{is_conversion}
+use Rattle.mz_soundness.specs.Premises.{is_conversion, is_obligation}
 use Rattle.mz_machine.specs.Steps.{is_conversion_at}
 use Rattle.mz_machine.specs.OverStore.{heap_at}
+use Rattle.mz_earlier.specs.Items.{is_owed}
 
 pub popped : (s : Sharing) (old new : List Kept) (x : Kept) → old ≡ new ++ x ∷ [] → AreItemsIn s old → IsItemIn s x × AreItemsIn s new
 popped s old new x is h =
@@ -42,6 +43,13 @@ no-last (y ∷ z ∷ zs) h =
     absurd cc
 
 module _ (s : Sharing) where
+  -- what is still to be shown is an obligation
+  pub owed : (x : Kept) → is_obligation (item_at s x) ≡ is_owed x
+  owed (Expr i) = refl
+  owed (Proof i) = refl
+  owed (Obligation i j) = refl
+  owed (Conversion i j) = refl
+
   pub top-is : (xs : List Kept) (x : Kept) → slice_get xs (length xs - 1) ≡ Some x → (rest : List (Item Tree)) × (items_at s xs ≡ item_at s x ∷ rest)
   top-is xs x h = let (front, is) = last-splits xs x h in (items_at s front, ap (items_at s) is ∙ items-push s front x)
 

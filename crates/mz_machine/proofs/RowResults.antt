@@ -13,7 +13,7 @@ use Rattle.mz_unification.specs.Spells.{dummy_of}
 use Rattle.mz_unification.specs.Profile.{strict, Item, expr, proof, obligation, conversion}
 use Rattle.mz_unification.specs.Tests.{same_tree}
 use Rattle.mz_unification.proofs.Offered.{same_tree-true, same_tree-refl}
-use Rattle.mz_soundness.specs.Tables.{Tables, State}
+use Rattle.mz_soundness.specs.MachineState.{RowsBefore, State}
 use Rattle.mz_soundness.specs.Premises.{pop_expr, pop_obligation, is_conversion, is_obligation, may_be_dummy_sort, is_provable_sort, bound_count}
 use Rattle.mz_soundness.specs.ProofMachine.{proof_row, referred, has_provable_sort}
 use Rattle.mz_earlier.specs.Before.{Before, tables_of, signatures_of}
@@ -48,7 +48,7 @@ module _ (st : State Tree) (l r : Tree) where
   pub pay-row : (a b : Tree) (rest : List (Item Tree)) → pop_obligation st.stack ≡ Ok (a, b, rest) → l ≡ a → r ≡ b → referred strict (conversion l r) st ≡ Ok (with_stack st rest)
   pay-row a b rest h left right = rw (h, left, right, same_tree-refl a, same_tree-refl b) refl
 
-module _ (tables : Tables) (at n : ℕ) (st : State Tree) where
+module _ (tables : RowsBefore) (at n : ℕ) (st : State Tree) where
   -- ---- Ref and ConvRef
 
   pub ref-none : slice_get st.heap n ≡ None → proof_row strict tables at code.Ref n st ≡ Err k.HeapIndex

@@ -1,9 +1,9 @@
 -- What stops a command.
 use Rattle.std.proofs.Common.{◌≡◌, subst}
 use Rattle.mz_cmd.specs.declared.rule.K.{K}
-use Rattle.mz_machine.specs.OverStore.{StopsBy}
-use Rattle.mz_machine.specs.declared.command.Stop.{Stop}
-use Rattle.mz_machine.specs.declared.command.Stop.TheVariants.{Rule, Mem}
+use Rattle.mz_unify.specs.Rows.{StopsBy}
+use Rattle.mz_unify.specs.declared.stop.Stop.{Stop}
+use Rattle.mz_unify.specs.declared.stop.Stop.TheVariants.{Rule, Mem}
 
 pub stops-as : (stop : Stop) (P Q : K → Type 0) → ((k : K) → P k → Q k) → StopsBy stop P → StopsBy stop Q
 stops-as (Rule k) P Q f h = f k h

@@ -15,7 +15,7 @@ use Rattle.mz_store.specs.Sharing.{trees_of as trees_in}
 use Rattle.mz_store.specs.declared.item.Id.{Id}
 use Rattle.mz_store.specs.declared.item.Item.{Item as Kept}
 use Rattle.mz_store.specs.declared.item.Item.TheVariants.{Expr, Proof, Obligation, Conversion}
-use Rattle.mz_unification.specs.Spells.{TermRow, trees_of}
+use Rattle.mz_unification.specs.Spells.{SpelledTerm, trees_of}
 use Rattle.mz_unification.specs.Sorted.{AllSorted}
 use Rattle.mz_unification.specs.Profile.{strict, Item, expr, proof}
 use Rattle.mz_unify.specs.Stored.{trees_at, item_at, items_at, IsItemIn, AreItemsIn}
@@ -23,7 +23,7 @@ use Rattle.mz_unification.specs.Steps.{◌>>=◌}
 use Rattle.std.specs.Prelude.{reverse}
 use Rattle.std.proofs.lemmas.List.{length-map, reverse-append}
 use Rattle.mz_unify.proofs.Offered.{items-in-both, still-in}
-use Rattle.mz_soundness.specs.Tables.{Tables, signatures_in, State}
+use Rattle.mz_soundness.specs.MachineState.{RowsBefore, signatures_in, State}
 use Rattle.mz_soundness.specs.Premises.{pop_operands, operands_fit}
 use Rattle.mz_soundness.specs.ProofMachine.{proof_row, built, push, saved}
 use Rattle.mz_earlier.specs.Before.{Before, signatures_of, words_before}
@@ -36,7 +36,7 @@ pub map-same : {A : Type 0} (xs : List A) → map (λ (x : A). x) xs ≡ xs
 map-same [] = refl
 map-same (x ∷ xs) = ap (λ ys. x ∷ ys) (map-same xs)
 
-module _ (tables : Tables) (at t : ℕ) (st : State Tree) where
+module _ (tables : RowsBefore) (at t : ℕ) (st : State Tree) where
   -- ---- what is made decides
 
   pub term-of : (r : Result (Tree × List (Item Tree)) K) → built strict tables at t st ≡ r → proof_row strict tables at code.Term t st ≡ (r >>= λ e. Ok (push (expr e.0) e.1 st))
@@ -51,7 +51,7 @@ module _ (tables : Tables) (at t : ℕ) (st : State Tree) where
   unfolding built
   built-none h = rw h refl
 
-  module _ (row : TermRow) (there : slice_get tables.terms t ≡ Some row) where
+  module _ (row : SpelledTerm) (there : slice_get tables.terms t ≡ Some row) where
     pub built-few : (rule : K) → pop_operands (length row.signature.params) st.stack ≡ Err rule → built strict tables at t st ≡ Err rule
     unfolding built
     built-few rule h = rw (there, h) refl

@@ -20,8 +20,8 @@ use Rattle.mz_unify.proofs.Offered.{items-push}
 use Rattle.mz_unify.specs.declared.unified.UnifyMode.TheVariants.{Body}
 use Rattle.mz_soundness.specs.ProofMachine.{stream_of}
 use Rattle.mz_machine.specs.OverStore.{UnlessMem}
-use Rattle.mz_machine.specs.declared.command.Stop.{Stop}
-use Rattle.mz_machine.specs.declared.command.Stop.TheVariants.{Rule, Mem}
+use Rattle.mz_unify.specs.declared.stop.Stop.{Stop}
+use Rattle.mz_unify.specs.declared.stop.Stop.TheVariants.{Rule, Mem}
 use Rattle.mz_earlier.specs.Before.{Before, tables_of, signatures_of, words_before}
 use Rattle.mz_earlier.proofs.Offered.{signatures-before, length-words, term-before}
 use Rattle.mz_machine.proofs.Converting.{put_in}

@@ -6,10 +6,10 @@ use Rattle.mz_unification.specs.Profile.{strict, Item}
 use Rattle.mz_unification.specs.UnifyMachine.{Matching, UnifyState, at_end, in_definition}
 use Rattle.mz_unify.specs.declared.unified.UnifyMode.{UnifyMode}
 use Rattle.mz_unify.specs.declared.unified.UnifyMode.TheVariants.{Final, Body}
-use Rattle.mz_soundness.specs.Tables.{State, Kind, is_axiom, is_theorem, is_definition, Heading}
+use Rattle.mz_soundness.specs.MachineState.{State, Kind, is_axiom, is_theorem, is_definition, Heading}
 use Rattle.mz_soundness.specs.ProofMachine.{own_stream, as_proofs}
-use Rattle.mz_machine.specs.declared.command.Stop.{Stop}
-use Rattle.mz_machine.specs.declared.command.Stop.TheVariants.{Rule, Mem}
+use Rattle.mz_unify.specs.declared.stop.Stop.{Stop}
+use Rattle.mz_unify.specs.declared.stop.Stop.TheVariants.{Rule, Mem}
 
 abbrev pub mode_at : Kind → UnifyMode
 mode_at is_axiom = Final
@@ -17,7 +17,7 @@ mode_at is_theorem = Final
 mode_at is_definition = Body
 
 -- the items from which the row's own stream takes hypotheses
-abbrev pub items_of : Kind → List Tree → List (Item Tree)
+abbrev pub items_of : {T : Type 0} → Kind → List T → List (Item T)
 items_of is_axiom hyps = as_proofs hyps
 items_of is_theorem hyps = as_proofs hyps
 items_of is_definition hyps = []
@@ -29,7 +29,7 @@ ended h st is_theorem e = own_stream strict h at_end e (as_proofs st.hyps)
 ended h st is_definition e = own_stream strict h in_definition e []
 
 -- the run ends, or is stopped by this rule
-abbrev pub IsOwnRun : {A : Type 0} → Result (UnifyState Tree) (ℕ × K) → Result A Stop → Type 0
-IsOwnRun r (Ok x) = (u : UnifyState Tree) × (r ≡ Ok u)
+abbrev pub IsOwnRun : {T A : Type 0} → Result (UnifyState T) (ℕ × K) → Result A Stop → Type 0
+IsOwnRun {T} r (Ok x) = (u : UnifyState T) × (r ≡ Ok u)
 IsOwnRun r (Err (Rule k)) = (at : ℕ) × (r ≡ Err (at, k))
 IsOwnRun r (Err Mem) = ⊤

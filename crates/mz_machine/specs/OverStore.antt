@@ -10,25 +10,25 @@ use Rattle.mz_store.specs.declared.item.Id.{Id}
 use Rattle.mz_store.specs.declared.item.Item.{Item as Kept}
 use Rattle.mz_unification.specs.Profile.{Item}
 use Rattle.mz_unify.specs.Stored.{trees_at, item_at, items_at, AreItemsIn}
-use Rattle.mz_soundness.specs.Tables.{State}
+use Rattle.mz_soundness.specs.MachineState.{State}
 use Rattle.mz_earlier.specs.OwnRow.{kind_at, heading_of, MayRun, mode_for}
 use Rattle.mz_earlier.specs.Before.{tables_before}
-use Rattle.mz_soundness.specs.Tables.{signatures_in}
+use Rattle.mz_earlier.specs.CommandCodes.{code_of_making, code_of_converting}
+use Rattle.mz_soundness.specs.MachineState.{signatures_in}
 use Rattle.mz_unification.specs.Steps.{◌>>=◌}
 use Rattle.mz_unification.specs.Profile.{strict}
 use Rattle.mz_soundness.specs.Premises.{pop_expr, pop_sides}
 use Rattle.mz_cmd.specs.declared.code.ProofCode.{ProofCode}
 use Rattle.mz_cmd.specs.declared.code.ProofCode.TheVariants as code
-use Rattle.mz_machine.specs.declared.command.Making.{Making}
-use Rattle.mz_machine.specs.declared.command.Making.TheVariants as making
+use Rattle.mz_earlier.specs.declared.command.Making.{Making}
+use Rattle.mz_earlier.specs.declared.command.Making.TheVariants as making
 use Rattle.mz_machine.specs.declared.command.Keeping.{Keeping}
 use Rattle.mz_machine.specs.declared.command.Keeping.TheVariants as keeping
-use Rattle.mz_machine.specs.declared.command.Converting.{Converting}
-use Rattle.mz_machine.specs.declared.command.Converting.TheVariants as converting
 use Rattle.mz_machine.specs.declared.command.Command.{Command}
 use Rattle.mz_machine.specs.declared.command.Command.TheVariants.{Makes, Keeps, Converts}
-use Rattle.mz_machine.specs.declared.command.Stop.{Stop}
-use Rattle.mz_machine.specs.declared.command.Stop.TheVariants.{Rule, Mem}
+use Rattle.mz_unify.specs.declared.stop.Stop.{Stop}
+use Rattle.mz_unify.specs.declared.stop.Stop.TheVariants.{Mem}
+use Rattle.mz_unify.specs.Rows.{StopsBy}
 use Rattle.mz_layout.specs.declared.taken.Rows.{Rows}
 
 -- ---- states
@@ -51,12 +51,6 @@ pop_unfolding xs = pop_expr xs >>= λ e. (pop_sides strict e.1 >>= λ o. Ok (e.0
 
 -- ---- commands
 
-abbrev pub code_of_making : Making → ProofCode
-code_of_making making.Term = code.Term
-code_of_making making.TermSave = code.TermSave
-code_of_making making.Thm = code.Thm
-code_of_making making.ThmSave = code.ThmSave
-
 -- an axiom or a theorem is cited
 abbrev pub cites : Making → Bool
 cites making.Term = false
@@ -71,16 +65,6 @@ code_of_keeping keeping.Dummy = code.Dummy
 code_of_keeping keeping.Hyp = code.Hyp
 code_of_keeping keeping.Save = code.Save
 
-abbrev pub code_of_converting : Converting → ProofCode
-code_of_converting converting.Conv = code.Conv
-code_of_converting converting.Refl = code.Refl
-code_of_converting converting.Symm = code.Symm
-code_of_converting converting.Cong = code.Cong
-code_of_converting converting.Unfold = code.Unfold
-code_of_converting converting.ConvCut = code.ConvCut
-code_of_converting converting.ConvSave = code.ConvSave
-code_of_converting converting.Sorry = code.Sorry
-
 abbrev pub code_of : Command → ProofCode
 code_of (Makes c) = code_of_making c
 code_of (Keeps c) = code_of_keeping c
@@ -93,11 +77,6 @@ for_theorems (Keeps c) = false
 for_theorems (Converts c) = true
 
 -- ---- answers
-
--- where a rule stops the command, it is one of which this holds; want of memory says nothing
-abbrev pub StopsBy : Stop → (K → Type 0) → Type 0
-StopsBy (Rule k) P = P k
-StopsBy Mem P = ⊤
 
 -- what goes through gives what is computed, and what a rule stops is refused by it
 abbrev pub Gives : {A B : Type 0} → Result B K → Result A Stop → (A → B) → Type 0

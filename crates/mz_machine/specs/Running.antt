@@ -2,7 +2,7 @@
 use Rattle.std.specs.Prelude.{◌≡◌, length}
 use Rattle.mz_mode.specs.Gaps.{gaps_of}
 use Rattle.mz_store.specs.Bits.{bound_vars}
-use Rattle.mz_earlier.specs.OwnRow.{heading_of}
+use Rattle.mz_earlier.specs.OwnRow.{byte_of, heading_of}
 use Rattle.mz_machine.specs.OverStore.{IsUnderway, state_at}
 use Rattle.mz_machine.specs.Steps.{Underway}
 use Rattle.mz_machine.specs.declared.machine.Setting.{Setting}
@@ -10,9 +10,9 @@ use Rattle.mz_machine.specs.declared.machine.Parts.{Parts}
 
 -- the machine that both are
 abbrev pub machine_of : Setting → Parts → Underway
-machine_of t p = record { gaps = gaps_of t.mode; file = t.earlier.file; kind = t.kind; row = t.row; before = t.earlier.rows; state = state_at p.store p.heap.items p.stack.items p.hyps.items; sorry = p.sorry; nodes = length p.store.entries }
+machine_of t p = record { gaps = gaps_of t.mode; file = t.earlier.file; kind = byte_of t.kind; row = t.row; before = t.earlier.rows; state = state_at p.store p.heap.items p.stack.items p.hyps.items; sorry = p.sorry; nodes = length p.store.entries }
 
 abbrev pub IsRunning : Setting → Parts → Type 0
 IsRunning t p =
-    IsUnderway t.earlier.file t.kind t.row t.earlier.rows p.store p.heap.items p.stack.items p.hyps.items
-    × (t.bound_params ≡ length (bound_vars (heading_of t.earlier.file t.kind t.row).params))
+    IsUnderway t.earlier.file (byte_of t.kind) t.row t.earlier.rows p.store p.heap.items p.stack.items p.hyps.items
+    × (t.bound_params ≡ length (bound_vars (heading_of t.earlier.file (byte_of t.kind) t.row).params))

@@ -4,15 +4,15 @@ use Rattle.mz_cmd.specs.declared.command.Cmd.{Cmd}
 use Rattle.mz_cmd.specs.Codes.{proof_code}
 use Rattle.mz_unification.specs.Profile.{plain}
 use Rattle.mz_logic.specs.Tree.{Tree}
-use Rattle.mz_soundness.specs.Tables.{State}
+use Rattle.mz_soundness.specs.MachineState.{State}
 use Rattle.mz_soundness.specs.ProofMachine.{proof_end}
 use Rattle.mz_soundness.specs.Bodies.{body_command, body_start}
 use Rattle.mz_earlier.specs.OwnRow.{heading_of}
 use Rattle.mz_machine.specs.Steps.{Underway, tables_for, heading_for, row_of, is_sorry, TakesNone}
 use Rattle.mz_machine.specs.BodyAnswers.{CountsOf}
 use Rattle.mz_layout.specs.declared.taken.Rows.{Rows}
-use Rattle.mz_machine.specs.declared.command.Stop.{Stop}
-use Rattle.mz_machine.specs.declared.command.Stop.TheVariants as stop
+use Rattle.mz_unify.specs.declared.stop.Stop.{Stop}
+use Rattle.mz_unify.specs.declared.stop.Stop.TheVariants as stop
 use Rattle.mz_machine.specs.declared.machine.Stepped.{Stepped}
 use Rattle.mz_machine.specs.declared.machine.Stepped.TheVariants as stepped
 use Rattle.mz_machine.specs.declared.body.BodyChecked.{BodyChecked}

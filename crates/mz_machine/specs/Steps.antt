@@ -7,7 +7,7 @@ use Rattle.mz_cmd.specs.declared.code.ProofCode.{ProofCode}
 use Rattle.mz_cmd.specs.declared.code.ProofCode.TheVariants as code
 use Rattle.mz_logic.specs.Tree.{Tree}
 use Rattle.mz_unification.specs.Profile.{plain, Item}
-use Rattle.mz_soundness.specs.Tables.{Tables, State, Heading}
+use Rattle.mz_soundness.specs.MachineState.{RowsBefore, State, Heading}
 use Rattle.mz_soundness.specs.Premises.{is_conversion}
 use Rattle.mz_soundness.specs.ProofMachine.{proof_row, ends_with}
 use Rattle.mz_soundness.specs.Bodies.{BodyCommand, ends, proves, body_command, row_steps, match_steps}
@@ -27,7 +27,7 @@ pub record Underway : Type 0 where
   pub sorry : Bool
   pub nodes : ℕ
 
-abbrev pub tables_for : Underway → Tables
+abbrev pub tables_for : Underway → RowsBefore
 tables_for u = tables_before u.file u.before
 
 abbrev pub heading_for : Underway → Heading
@@ -36,12 +36,12 @@ heading_for u = heading_of u.file u.kind u.row
 -- ---- one command
 
 -- the row of a command other than END; one that is not of this body has none
-abbrev pub row_by : Bool → Tables → ℕ → State Tree → Option BodyCommand → Result (State Tree) K
+abbrev pub row_by : Bool → RowsBefore → ℕ → State Tree → Option BodyCommand → Result (State Tree) K
 row_by gaps tables at st None = Err k.Command
 row_by gaps tables at st (Some ends) = Err k.Command
 row_by gaps tables at st (Some (proves c value)) = proof_row (plain gaps) tables at c value st
 
-abbrev pub row_of : Bool → Tables → Heading → ℕ → State Tree → Cmd → Result (State Tree) K
+abbrev pub row_of : Bool → RowsBefore → Heading → ℕ → State Tree → Cmd → Result (State Tree) K
 row_of gaps tables h at st c = row_by gaps tables at st (body_command (plain gaps) h.kind c.code c.value)
 
 -- it is Sorry, which leaves a gap
@@ -51,16 +51,16 @@ is_sorry (Some code.Sorry) = true
 is_sorry (Some c) = false
 
 -- it and the unify commands that it executes
-abbrev pub steps_by : Bool → Tables → State Tree → Option BodyCommand → ℕ
+abbrev pub steps_by : Bool → RowsBefore → State Tree → Option BodyCommand → ℕ
 steps_by gaps tables st None = 1
 steps_by gaps tables st (Some ends) = 1
 steps_by gaps tables st (Some (proves c value)) = suc (row_steps (plain gaps) tables c value st)
 
-abbrev pub steps_for : Bool → Tables → Heading → State Tree → Cmd → ℕ
+abbrev pub steps_for : Bool → RowsBefore → Heading → State Tree → Cmd → ℕ
 steps_for gaps tables h st c = steps_by gaps tables st (body_command (plain gaps) h.kind c.code c.value)
 
 -- the END, and the commands of the row's own stream that it executes
-abbrev pub end_steps : Bool → Tables → Heading → State Tree → ℕ
+abbrev pub end_steps : Bool → RowsBefore → Heading → State Tree → ℕ
 end_steps gaps tables h st = suc (match_steps (plain gaps) tables st (ends_with (plain gaps) tables h st))
 
 -- ---- commands that take no memory

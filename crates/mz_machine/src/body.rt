@@ -8,13 +8,15 @@ ghost use Rattle.mz_layout.specs.Heads.{body_bytes};
 ghost use Rattle.mz_earlier.specs.OwnRow.{MayRun, heading_of};
 ghost use Rattle.mz_earlier.specs.Before.{tables_before};
 ghost use Rattle.mz_machine.specs.BodyAnswers.{IsBodyRun, UnlessMem};
+ghost use Rattle.mz_machine.specs.Running.{IsRunning, machine_of};
 ghost use Rattle.mz_machine.specs.Stepping.{ended_at, stopped_at};
 
-use crate::command::Stop;
-use crate::machine::{Finished, Machine};
+use crate::machine::{Finished, Parts, Setting};
+use crate::room::{Desk, Room};
 use mz_cmd::{END, K, Steps, cmd_at};
 use mz_layout::{Mmb, Rows};
 use mz_mode::Mode;
+use mz_unify::Stop;
 use std::alloc::Global;
 use std::sync::ledger::Ledger;
 
@@ -38,6 +40,29 @@ pub enum BodyChecked {
     Refused { at: u32, rule: K },
     /// Want of memory.
     Mem,
+}
+
+impl BodyChecked {
+    /// What became of a body whose command at a place is stopped.
+    pub fn stopped(at: u32, stop: Stop) -> BodyChecked
+        ensures { result ≡ stopped_at at stop }
+    {
+        match stop {
+            Stop::Rule(rule) => BodyChecked::Refused { at, rule },
+            Stop::Mem => BodyChecked::Mem,
+        }
+    }
+
+    /// What the END at a place makes of a body.
+    pub fn ended(at: u32, finished: Finished) -> BodyChecked
+        ensures { result ≡ ended_at at finished }
+    {
+        match finished {
+            Finished::Body(end) => BodyChecked::Good(end),
+            Finished::Refused(rule) => BodyChecked::Refused { at, rule },
+            Finished::Mem => BodyChecked::Mem,
+        }
+    }
 }
 
 /// Runs the body of a statement, whose bytes are those from the first place of `body` up to the
@@ -65,22 +90,88 @@ pub fn check_body<L: Ledger>(
     ensures most { steps.new ≤ steps.old + (body.1 - body.0) * (length mmb.now + 1) }
     ensures steps { UnlessMem result (steps.new ≡ steps.old + body_steps (plain (gaps_of mode)) (tables_before mmb.now before) (heading_of mmb.now kind row) body.0 (body_bytes mmb.now body.0 body.1)) }
 {
-    let Ok(machine) = Machine::begin(alloc, mmb, mode, kind, row, before) else {
+    let mut room = Room::new();
+    check_body_in(alloc, &mut room, mmb, mode, kind, row, before, body, steps)
+}
+
+/// Runs the body of a statement as `check_body` does, in room that earlier bodies may have left.
+pub fn check_body_in<L: Ledger>(
+    alloc: Global,
+    room: &mut Room,
+    mmb: &Mmb,
+    mode: Mode,
+    kind: u8,
+    row: u32,
+    before: Rows,
+    body: (u32, u32),
+    steps: &mut Steps<L>,
+) -> BodyChecked
+    requires may_run { MayRun mmb.now kind row before }
+    requires order { body.0 ≤ body.1 }
+    requires within { body.1 ≤ length mmb.now }
+    ensures run { IsBodyRun (heading_of mmb.now kind row) (body_bytes mmb.now body.0 body.1) (body_run (plain (gaps_of mode)) (tables_before mmb.now before) (heading_of mmb.now kind row) body.0 (body_bytes mmb.now body.0 body.1)) result }
+    ensures most { steps.new ≤ steps.old + (body.1 - body.0) * (length mmb.now + 1) }
+    ensures steps { UnlessMem result (steps.new ≡ steps.old + body_steps (plain (gaps_of mode)) (tables_before mmb.now before) (heading_of mmb.now kind row) body.0 (body_bytes mmb.now body.0 body.1)) }
+{
+    let Ok(mut desk) = room.take(alloc) else {
+        return BodyChecked::Mem;
+    };
+    let checked = check_on(alloc, &mut desk, mmb, mode, kind, row, before, body, steps);
+    room.keep(desk);
+    checked
+}
+
+/// Runs the body of a statement on a desk, whatever lies on it.
+fn check_on<L: Ledger>(
+    alloc: Global,
+    desk: &mut Desk,
+    mmb: &Mmb,
+    mode: Mode,
+    kind: u8,
+    row: u32,
+    before: Rows,
+    body: (u32, u32),
+    steps: &mut Steps<L>,
+) -> BodyChecked
+    requires may_run { MayRun mmb.now kind row before }
+    requires order { body.0 ≤ body.1 }
+    requires within { body.1 ≤ length mmb.now }
+    ensures run { IsBodyRun (heading_of mmb.now kind row) (body_bytes mmb.now body.0 body.1) (body_run (plain (gaps_of mode)) (tables_before mmb.now before) (heading_of mmb.now kind row) body.0 (body_bytes mmb.now body.0 body.1)) result }
+    ensures most { steps.new ≤ steps.old + (body.1 - body.0) * (length mmb.now + 1) }
+    ensures steps { UnlessMem result (steps.new ≡ steps.old + body_steps (plain (gaps_of mode)) (tables_before mmb.now before) (heading_of mmb.now kind row) body.0 (body_bytes mmb.now body.0 body.1)) }
+{
+    let Ok(setting) = Setting::begin(
+        alloc,
+        mmb,
+        mode,
+        kind,
+        row,
+        before,
+        &mut desk.words,
+        &mut desk.parts,
+    ) else {
         return BodyChecked::Mem;
     };
     let bytes = &mmb.file()[body.0 as usize..body.1 as usize];
-    run(machine, bytes, body.0, steps)
+    run(&setting, &mut desk.parts, bytes, body.0, steps)
 }
 
-/// Runs the commands of a body, whose first byte stands at a place of the file.
-fn run<L: Ledger>(start: Machine, bytes: &[u8], from: u32, steps: &mut Steps<L>) -> BodyChecked
+/// Runs the commands of a body, whose first byte stands at a place of the file, on the parts before
+/// the first one.
+fn run<L: Ledger>(
+    setting: &Setting,
+    parts: &mut Parts,
+    bytes: &[u8],
+    from: u32,
+    steps: &mut Steps<L>,
+) -> BodyChecked
     requires within { from + length bytes.now < 2 ^ 32 }
-    requires fresh { start.sorry ≡ false }
-    ensures run { IsBodyRun (heading_for start.entry) bytes.now (body_from (plain start.entry.gaps) (tables_for start.entry) (heading_for start.entry) (length bytes.now) from bytes.now start.entry.state) result }
-    ensures steps { UnlessMem result (steps.new ≡ steps.old + body_steps_from (plain start.entry.gaps) (tables_for start.entry) (heading_for start.entry) (length bytes.now) from bytes.now start.entry.state) }
-    ensures most { steps.new ≤ steps.old + length bytes.now * (length start.entry.file + 1) }
+    requires running { IsRunning setting.now parts.old }
+    requires fresh { parts.old.sorry ≡ false }
+    ensures run { IsBodyRun (heading_for (machine_of setting.now parts.old)) bytes.now (body_from (plain (gaps_of setting.now.mode)) (tables_for (machine_of setting.now parts.old)) (heading_for (machine_of setting.now parts.old)) (length bytes.now) from bytes.now (machine_of setting.now parts.old).state) result }
+    ensures steps { UnlessMem result (steps.new ≡ steps.old + body_steps_from (plain (gaps_of setting.now.mode)) (tables_for (machine_of setting.now parts.old)) (heading_for (machine_of setting.now parts.old)) (length bytes.now) from bytes.now (machine_of setting.now parts.old).state) }
+    ensures most { steps.new ≤ steps.old + length bytes.now * (length setting.now.earlier.file + 1) }
 {
-    let Machine { setting, mut parts } = start;
     let mut at = 0;
     'commands: loop {
         let Ok(cmd) = cmd_at(bytes, at) else {
@@ -97,32 +188,11 @@ fn run<L: Ledger>(start: Machine, bytes: &[u8], from: u32, steps: &mut Steps<L>)
                     rule: K::StatementLength,
                 };
             }
-            return ended(from + at, setting.finish(&parts, steps));
+            return BodyChecked::ended(from + at, setting.finish(parts, steps));
         }
-        match setting.advance(&mut parts, cmd, steps) {
+        match setting.advance(parts, cmd, steps) {
             Ok(()) => at = next,
-            Err(stop) => return stopped(from + at, stop),
+            Err(stop) => return BodyChecked::stopped(from + at, stop),
         }
-    }
-}
-
-/// What stops a command at a place, as what became of the body.
-fn stopped(at: u32, stop: Stop) -> BodyChecked
-    ensures { result ≡ stopped_at at stop }
-{
-    match stop {
-        Stop::Rule(rule) => BodyChecked::Refused { at, rule },
-        Stop::Mem => BodyChecked::Mem,
-    }
-}
-
-/// What the END at a place makes of the body.
-fn ended(at: u32, finished: Finished) -> BodyChecked
-    ensures { result ≡ ended_at at finished }
-{
-    match finished {
-        Finished::Body(end) => BodyChecked::Good(end),
-        Finished::Refused(rule) => BodyChecked::Refused { at, rule },
-        Finished::Mem => BodyChecked::Mem,
     }
 }

@@ -5,37 +5,8 @@ ghost use Rattle.mz_soundness.specs.Bodies.{stands_in, body_command, proves};
 ghost use Rattle.mz_earlier.specs.OwnRow.{kind_of};
 ghost use Rattle.mz_machine.specs.OverStore.{code_of};
 
-use mz_cmd::{K, ProofCode};
-use mz_earlier::BodyKind;
-
-/// Why a command doesn't go through.
-#[derive(Clone, Copy, Debug, PartialEq, Eq)]
-pub(crate) enum Stop {
-    /// A premise fails.
-    Rule(K),
-    /// Want of memory.
-    Mem,
-}
-
-impl From<K> for Stop {
-    ghost use Rattle.std.specs.Prelude.{◌≡◌};
-    ghost use Rattle.mz_machine.specs.declared.command.Stop.TheVariants.{Rule};
-
-    ghost from_gives = { λ rule stop. stop ≡ Rule rule };
-
-    fn from(rule: K) -> Stop {
-        Stop::Rule(rule)
-    }
-}
-
-/// A command that makes an expression or a proof.
-#[derive(Clone, Copy, Debug, PartialEq, Eq)]
-pub(crate) enum Making {
-    Term,
-    TermSave,
-    Thm,
-    ThmSave,
-}
+use mz_cmd::ProofCode;
+use mz_earlier::{BodyKind, Converting, Making};
 
 /// A command over the heap.
 #[derive(Clone, Copy, Debug, PartialEq, Eq)]
@@ -45,19 +16,6 @@ pub(crate) enum Keeping {
     Dummy,
     Hyp,
     Save,
-}
-
-/// A command on conversions, and the gap.
-#[derive(Clone, Copy, Debug, PartialEq, Eq)]
-pub(crate) enum Converting {
-    Conv,
-    Refl,
-    Symm,
-    Cong,
-    Unfold,
-    ConvCut,
-    ConvSave,
-    Sorry,
 }
 
 /// A command of a body other than END; its operand stands beside it.

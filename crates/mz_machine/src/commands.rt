@@ -14,17 +14,19 @@ ghost use Rattle.mz_unify.specs.Stored.{AreItemsIn};
 ghost use Rattle.mz_soundness.specs.ProofMachine.{proof_row};
 ghost use Rattle.mz_soundness.specs.Bodies.{row_steps};
 ghost use Rattle.mz_earlier.specs.Before.{tables_of, signatures_of};
+ghost use Rattle.mz_earlier.specs.CommandCodes.{code_of_making, code_of_converting};
 ghost use Rattle.mz_machine.specs.Steps.{takes_none};
-ghost use Rattle.mz_machine.specs.OverStore.{state_at, code_of, code_of_making, code_of_keeping, code_of_converting, cites, for_theorems, Gives, NeverWants, StopsBy, UnlessMem, Grows};
+ghost use Rattle.mz_machine.specs.OverStore.{state_at, code_of, code_of_keeping, cites, for_theorems, Gives, NeverWants, UnlessMem, Grows};
+ghost use Rattle.mz_unify.specs.Rows.{StopsBy};
 
-use crate::command::{Command, Converting, Keeping, Making, Stop};
-use crate::stack::{push, push_id};
+use crate::command::{Command, Keeping};
 use conversions::{cong, conv, conv_cut, conv_save, refl, symm, unfold};
 pub(crate) use gaps::gap;
 use heap::{conv_refer, dummy, hyp, refer, save};
 use mz_cmd::{K, Steps};
-use mz_earlier::Earlier;
+use mz_earlier::{Converting, Earlier, Making};
 use mz_store::{Id, Item, Store};
+use mz_unify::{Stop, push};
 use std::alloc::Global;
 use std::sync::ledger::Ledger;
 use terms::{term, thm};
@@ -126,7 +128,11 @@ fn keep(
 }
 
 /// Keeps a hypothesis, and a proof of it in the heap. There is no place for 2^32 hypotheses.
-fn assume(claim: Id, heap: &mut Vec<Item>, hyps: &mut Vec<Id>) -> Result<(), Stop>
+///
+/// # Errors
+///
+/// Where there is no memory or no place.
+pub fn assume(claim: Id, heap: &mut Vec<Item>, hyps: &mut Vec<Id>) -> Result<(), Stop>
     requires few { length hyps.old.items < 2 ^ 32 }
     ensures heap { OnOk result (heap.new.items ≡ heap.old.items ++ Proof claim ∷ []) }
     ensures hyps { OnOk result (hyps.new.items ≡ hyps.old.items ++ claim ∷ []) }
@@ -137,7 +143,7 @@ fn assume(claim: Id, heap: &mut Vec<Item>, hyps: &mut Vec<Id>) -> Result<(), Sto
         return Err(Stop::Mem);
     }
     push(heap, Item::Proof(claim))?;
-    push_id(hyps, claim)?;
+    push(hyps, claim)?;
     Ok(())
 }
 

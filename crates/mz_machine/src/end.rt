@@ -1,30 +1,28 @@
 //! The END of a body: the one item that is left, and the row's own stream on it.
-ghost use Rattle.std.specs.Prelude.{◌≡◌, ◌≤◌, ◌<◌, ◌^◌, ◌+◌, ◌∷◌, [], List, IfOk, IfSome, length, map};
-ghost use Rattle.std.specs.List.{range_with_len};
-ghost use Rattle.mz_logic.specs.Tree.{Tree, var};
+ghost use Rattle.std.specs.Prelude.{◌≡◌, ◌≤◌, ◌<◌, ◌^◌, ◌+◌, ◌∷◌, [], List, IfOk, length};
+ghost use Rattle.mz_logic.specs.Tree.{Tree};
 ghost use Rattle.mz_layout.specs.Tables.{term_row};
 ghost use Rattle.mz_store.specs.Sharing.{AreIn, IsIn, IsOver, tree_of};
 ghost use Rattle.mz_store.specs.declared.item.Item.{Item as Kept};
 ghost use Rattle.mz_store.specs.declared.item.DepsMode.TheVariants.{Free};
 ghost use Rattle.mz_unification.specs.Profile.{strict};
 ghost use Rattle.mz_unification.specs.UnifyMachine.{unify, unify_steps};
-ghost use Rattle.mz_unify.specs.Stored.{items_at, item_at, trees_at, matching_at, AreItemsIn, IsItemIn, AreVariables};
-ghost use Rattle.mz_soundness.specs.Tables.{State, is_axiom, is_definition};
+ghost use Rattle.mz_unify.specs.Stored.{items_at, item_at, matching_at, AreItemsIn, IsItemIn, AreVariables};
+ghost use Rattle.mz_soundness.specs.MachineState.{State, is_axiom, is_definition};
 ghost use Rattle.mz_soundness.specs.FreeVars.{free_within};
-ghost use Rattle.mz_soundness.specs.ProofMachine.{proof_end, ends_with, ending, last_item, as_proofs};
+ghost use Rattle.mz_soundness.specs.ProofMachine.{proof_end, ends_with, ending, last_item};
 ghost use Rattle.mz_soundness.specs.Bodies.{match_steps};
 ghost use Rattle.mz_earlier.specs.Before.{tables_of, signatures_of};
 ghost use Rattle.mz_earlier.specs.OwnRow.{heading_by, IsNextRow, kind_of, mode_for};
 ghost use Rattle.mz_machine.specs.OverStore.{state_at, AreFirst, IsContextOf, Gives, GivesRule, UnlessMem};
-ghost use Rattle.mz_machine.specs.Endings.{mode_at, ended, items_of, IsOwnRun};
+ghost use Rattle.mz_machine.specs.Endings.{mode_at, ended, IsOwnRun};
 
-use crate::command::Stop;
 use crate::commands::heap::is_provable;
 use mz_cmd::{K, Steps};
-use mz_earlier::{BodyKind, Earlier, own_arity, own_stream};
+use mz_earlier::{BodyKind, Earlier, first_ids, own_arity, own_proofs, own_stream};
 use mz_logic::Word;
 use mz_store::{Id, Item, Store};
-use mz_unify::{Unified, UnifyMode, unify};
+use mz_unify::{Stop, Unified, UnifyMode, unify};
 use std::alloc::Global;
 use std::sync::ledger::Ledger;
 
@@ -58,10 +56,10 @@ pub(crate) fn end<L: Ledger>(
     if let Err(rule) = check_target(earlier, kind, row, store, target) {
         return Err(Stop::Rule(rule));
     }
-    let Some(operands) = first_ids(alloc, store, own_arity(earlier, kind, row)) else {
+    let Ok(operands) = first_ids(alloc, own_arity(earlier, kind, row)) else {
         return Err(Stop::Mem);
     };
-    let Some(proofs) = own_proofs(alloc, kind, store, hyps) else {
+    let Ok(proofs) = own_proofs(alloc, kind, hyps) else {
         return Err(Stop::Mem);
     };
     let stream = own_stream(earlier, kind, row);
@@ -110,7 +108,8 @@ fn run_own<L: Ledger>(
     }
 }
 
-fn mode_of(kind: BodyKind) -> UnifyMode
+/// Where the own stream of a row of the kind runs, at its END.
+pub fn mode_of(kind: BodyKind) -> UnifyMode
     ensures { result ≡ mode_at (kind_of kind) }
 {
     match kind {
@@ -212,47 +211,4 @@ fn are_free_within(earlier: &Earlier, row: u32, store: &Store, target: Id, word:
 {
     let told = store.deps(target);
     told & word.deps() == told
-}
-
-/// The ids of the row's parameters, which are the store's first; none where memory is wanting.
-fn first_ids(alloc: Global, store: &Store, count: u32) -> Option<Vec<Id>>
-    requires { AreFirst store.now count }
-    ensures trees { IfSome result (λ ids. trees_at store.now ids.items ≡ map var (range_with_len 0 count)) }
-    ensures ids { IfSome result (λ ids. AreIn store.now ids.items) }
-    ensures variables { IfSome result (λ ids. AreVariables store.now ids.items) }
-{
-    let mut ids = Vec::new(alloc);
-    'params: for i in 0..count {
-        let Ok(()) = ids.push(Id(u64::from(i))) else {
-            return None;
-        };
-    }
-    Some(ids)
-}
-
-/// The hypotheses as proofs, of which a definition has none; none where memory is wanting.
-fn own_proofs(alloc: Global, kind: BodyKind, store: &Store, hyps: &[Id]) -> Option<Vec<Item>>
-    requires { AreIn store.now hyps.now }
-    ensures items { IfSome result (λ items. items_at store.now items.items ≡ items_of (kind_of kind) (trees_at store.now hyps.now)) }
-    ensures ids { IfSome result (λ items. AreItemsIn store.now items.items) }
-{
-    match kind {
-        BodyKind::Definition => Some(Vec::new(alloc)),
-        BodyKind::Axiom | BodyKind::Theorem => proofs_of(alloc, store, hyps),
-    }
-}
-
-/// The hypotheses as proofs.
-fn proofs_of(alloc: Global, store: &Store, hyps: &[Id]) -> Option<Vec<Item>>
-    requires { AreIn store.now hyps.now }
-    ensures items { IfSome result (λ items. items_at store.now items.items ≡ as_proofs (trees_at store.now hyps.now)) }
-    ensures ids { IfSome result (λ items. AreItemsIn store.now items.items) }
-{
-    let mut items = Vec::new(alloc);
-    'hyps: for hyp in hyps {
-        let Ok(()) = items.push(Item::Proof(*hyp)) else {
-            return None;
-        };
-    }
-    Some(items)
 }

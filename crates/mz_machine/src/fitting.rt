@@ -12,13 +12,13 @@ ghost use Rattle.mz_earlier.specs.Before.{signatures_of};
 ghost use Rattle.mz_earlier.specs.OperandRows.{IsBefore};
 ghost use Rattle.mz_machine.specs.OverStore.{Gives, GivesRule};
 
-use crate::command::Stop;
-use crate::stack::{pop_expr, push_id};
+use crate::stack::pop_expr;
 use mz_cmd::K;
 use mz_earlier::Earlier;
 use mz_layout::Row;
 use mz_logic::Word;
 use mz_store::{Id, Item, Store};
+use mz_unify::{Stop, push};
 use std::alloc::Global;
 
 /// Takes so many expressions from the stack, of which the last is on top.
@@ -39,7 +39,7 @@ pub(crate) fn pop_operands(
     let mut taken = Vec::new(alloc);
     'operands: for i in 0..count {
         match pop_expr(store, stack) {
-            Ok(id) => push_id(&mut taken, id)?,
+            Ok(id) => push(&mut taken, id)?,
             Err(rule) => return Err(Stop::Rule(rule)),
         }
     }

@@ -7,7 +7,7 @@ ghost use Rattle.mz_store.specs.Sharing.{AreIn, IsOver};
 ghost use Rattle.mz_unification.specs.Profile.{plain};
 ghost use Rattle.mz_unify.specs.Stored.{AreItemsIn};
 ghost use Rattle.mz_soundness.specs.Bodies.{body_command};
-ghost use Rattle.mz_earlier.specs.OwnRow.{MayRun, kind_at, mode_for};
+ghost use Rattle.mz_earlier.specs.OwnRow.{MayRun, kind_of, mode_for};
 ghost use Rattle.mz_earlier.specs.Before.{tables_of, signatures_of};
 ghost use Rattle.mz_machine.specs.OverStore.{state_at, code_of, Gives, NeverWants, Grows};
 ghost use Rattle.mz_machine.specs.OverStore.{UnlessMem as OrMem};
@@ -16,17 +16,22 @@ ghost use Rattle.mz_machine.specs.Stepping.{IsBegun, IsStepped, IsFinished, step
 ghost use Rattle.mz_machine.specs.Running.{IsRunning, machine_of};
 
 use crate::body::BodyEnd;
-use crate::command::{Command, Converting, Stop, decoded};
+use crate::command::{Command, decoded};
 use crate::commands::{execute, gap};
 use crate::end::end;
 use mz_cmd::{Cmd, K, ProofCode, Steps};
-use mz_earlier::{Earlier, deps_mode, first_items, kind_by, read_words};
+use mz_earlier::{BodyKind, Converting, Earlier, deps_mode, first_items, kind_by, read_words};
 use mz_layout::{Mmb, Rows};
+use mz_logic::Word;
 use mz_mode::Mode;
 use mz_store::{Id, Item, Store};
+use mz_unify::Stop;
 use std::alloc::{AllocError, Global};
 use std::marker::Model;
 use std::sync::ledger::Ledger;
+
+/// So many expressions a body may have whose parts are kept for the next one.
+const MOST_KEPT: usize = 1_000;
 
 /// The statement whose body runs, and the rows before it.
 #[derive(Drop)]
@@ -34,7 +39,7 @@ pub(crate) struct Setting<'a> {
     alloc: Global,
     earlier: Earlier<'a>,
     mode: Mode,
-    kind: u8,
+    kind: BodyKind,
     row: u32,
     bound_params: u32,
 }
@@ -113,29 +118,10 @@ impl<'a> Machine<'a> {
         requires { MayRun mmb.now kind row before }
         ensures { IfOk result (λ machine. IsBegun (gaps_of mode) mmb.now kind row before machine) }
     {
-        let earlier = Earlier::new(mmb, before);
-        let words = read_words(alloc, &earlier, kind_by(kind), row)?;
-        let mut store = Store::new(alloc);
-        store.begin(&words, deps_mode(kind_by(kind)))?;
-        let heap = first_items(alloc, words.len())?;
-        let bound_params = store.bound_count();
-        Ok(Machine {
-            setting: Setting {
-                alloc,
-                earlier,
-                mode,
-                kind,
-                row,
-                bound_params,
-            },
-            parts: Parts {
-                store,
-                heap,
-                stack: Vec::new(alloc),
-                hyps: Vec::new(alloc),
-                sorry: false,
-            },
-        })
+        let mut words = Vec::new(alloc);
+        let mut parts = Parts::new(alloc);
+        let setting = Setting::begin(alloc, mmb, mode, kind, row, before, &mut words, &mut parts)?;
+        Ok(Machine { setting, parts })
     }
 
     /// Executes a command other than END. A step is counted for it, and one for each command of the
@@ -166,7 +152,65 @@ impl<'a> Machine<'a> {
     }
 }
 
+impl Parts {
+    /// Nothing, which takes no memory.
+    pub(crate) fn new(alloc: Global) -> Parts {
+        Parts {
+            store: Store::new(alloc),
+            heap: Vec::new(alloc),
+            stack: Vec::new(alloc),
+            hyps: Vec::new(alloc),
+            sorry: false,
+        }
+    }
+
+    /// Whether they are few enough to be kept for the next body: it costs as much to take them out as
+    /// there are.
+    pub(crate) fn are_few(&self) -> bool {
+        self.store.len() <= MOST_KEPT
+    }
+}
+
 impl<'a> Setting<'a> {
+    /// The setting of a statement's body, as `Machine::begin` says. The words become those of the row,
+    /// and the parts those before the first command, whatever they were.
+    ///
+    /// # Errors
+    ///
+    /// Where there is no memory.
+    pub(crate) fn begin(
+        alloc: Global,
+        mmb: &'a Mmb<'a>,
+        mode: Mode,
+        kind: u8,
+        row: u32,
+        before: Rows,
+        words: &mut Vec<Word>,
+        parts: &mut Parts,
+    ) -> Result<Setting<'a>, AllocError>
+        requires { MayRun mmb.now kind row before }
+        ensures running { IfOk result (λ setting. IsRunning setting parts.new) }
+        ensures begun { IfOk result (λ setting. IsBegun (gaps_of mode) mmb.now kind row before (machine_of setting parts.new)) }
+    {
+        let earlier = Earlier::new(mmb, before);
+        let kind = kind_by(kind);
+        read_words(words, &earlier, kind, row)?;
+        parts.store.begin(words.as_slice(), deps_mode(kind))?;
+        first_items(&mut parts.heap, words.len())?;
+        parts.stack.clear();
+        parts.hyps.clear();
+        parts.sorry = false;
+        let bound_params = parts.store.bound_count();
+        Ok(Setting {
+            alloc,
+            earlier,
+            mode,
+            kind,
+            row,
+            bound_params,
+        })
+    }
+
     /// Executes a command other than END on the parts, which are in place, and counts its steps.
     pub(crate) fn advance<L: Ledger>(
         &self,
@@ -207,7 +251,7 @@ impl<'a> Setting<'a> {
         match end(
             self.alloc,
             &self.earlier,
-            kind_by(self.kind),
+            self.kind,
             self.row,
             &parts.store,
             &parts.stack,
@@ -232,7 +276,7 @@ fn obey<L: Ledger>(
     alloc: Global,
     earlier: &Earlier,
     mode: Mode,
-    kind: u8,
+    kind: BodyKind,
     cmd: Cmd,
     store: &mut Store,
     heap: &mut Vec<Item>,
@@ -242,7 +286,7 @@ fn obey<L: Ledger>(
 ) -> Result<(), Stop>
     requires code { cmd.code ≡ 0 → ⊥ }
     requires over { IsOver (signatures_of earlier.now) store.old }
-    requires told { store.old.mode ≡ mode_for (kind_at kind) }
+    requires told { store.old.mode ≡ mode_for (kind_of kind) }
     requires heap { AreItemsIn store.old heap.old.items }
     requires stack { AreItemsIn store.old stack.old.items }
     requires hyps { AreIn store.old hyps.old.items }
@@ -250,13 +294,13 @@ fn obey<L: Ledger>(
     ensures grows { OnOk result (Grows (signatures_of earlier.now) store.old store.new) }
     ensures ids { OnOk result (AreItemsIn store.new heap.new.items × AreItemsIn store.new stack.new.items × AreIn store.new hyps.new.items) }
     ensures few { OnOk result (length hyps.new.items < 2 ^ 32) }
-    ensures row { (at : ℕ) → Gives (row_by (gaps_of mode) (tables_of earlier.now) at (state_at store.old heap.old.items stack.old.items hyps.old.items) (body_command (plain (gaps_of mode)) (kind_at kind) cmd.code cmd.value)) result (λ _. state_at store.new heap.new.items stack.new.items hyps.new.items) }
-    ensures never { TakesNone (state_at store.old heap.old.items stack.old.items hyps.old.items) (body_command (plain (gaps_of mode)) (kind_at kind) cmd.code cmd.value) → NeverWants result }
-    ensures steps { OrMem result (steps.new ≡ steps.old + steps_by (gaps_of mode) (tables_of earlier.now) (state_at store.old heap.old.items stack.old.items hyps.old.items) (body_command (plain (gaps_of mode)) (kind_at kind) cmd.code cmd.value)) }
+    ensures row { (at : ℕ) → Gives (row_by (gaps_of mode) (tables_of earlier.now) at (state_at store.old heap.old.items stack.old.items hyps.old.items) (body_command (plain (gaps_of mode)) (kind_of kind) cmd.code cmd.value)) result (λ _. state_at store.new heap.new.items stack.new.items hyps.new.items) }
+    ensures never { TakesNone (state_at store.old heap.old.items stack.old.items hyps.old.items) (body_command (plain (gaps_of mode)) (kind_of kind) cmd.code cmd.value) → NeverWants result }
+    ensures steps { OrMem result (steps.new ≡ steps.old + steps_by (gaps_of mode) (tables_of earlier.now) (state_at store.old heap.old.items stack.old.items hyps.old.items) (body_command (plain (gaps_of mode)) (kind_of kind) cmd.code cmd.value)) }
     ensures most { steps.new ≤ steps.old + (1 + length earlier.now.file) }
 {
     steps.tick();
-    let Some(command) = decoded(kind_by(kind), cmd.code) else {
+    let Some(command) = decoded(kind, cmd.code) else {
         return Err(Stop::Rule(K::Command));
     };
     if leaves_gap(mode, command) {

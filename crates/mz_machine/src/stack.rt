@@ -1,12 +1,11 @@
 //! What a command takes from the stack, whose top is its last item.
-ghost use Rattle.std.specs.Prelude.{◌≡◌, ◌≤◌, ◌<◌, ◌-◌, ◌+◌, ◌++◌, ◌∷◌, [], ⊤, false, IfOk, OnOk, IfSome, IfNone, MatchResult, length, slice_get, vec_len, vec_capacity};
+ghost use Rattle.std.specs.Prelude.{◌≡◌, ◌≤◌, ◌<◌, ◌-◌, ◌+◌, ◌++◌, ◌∷◌, [], false, IfOk, OnOk, IfSome, IfNone, vec_len, vec_capacity};
 ghost use Rattle.mz_store.specs.Sharing.{Sharing, IsIn, tree_of};
 ghost use Rattle.mz_store.specs.declared.item.Item.TheVariants.{Conversion};
 ghost use Rattle.mz_unify.specs.Stored.{items_at, item_at, AreItemsIn, IsItemIn};
-ghost use Rattle.mz_soundness.specs.Premises.{pop, pop_expr, pop_proof, pop_obligation, pop_conversion, is_conversion, is_obligation};
-ghost use Rattle.mz_machine.specs.OverStore.{GivesRule, StopsBy};
+ghost use Rattle.mz_soundness.specs.Premises.{pop, pop_expr, pop_proof, pop_obligation, pop_conversion, is_conversion};
+ghost use Rattle.mz_machine.specs.OverStore.{GivesRule};
 
-use crate::command::Stop;
 use mz_cmd::K;
 use mz_store::{Id, Item, Store};
 
@@ -85,20 +84,6 @@ pub(crate) fn pop_conversion(store: &Store, stack: &mut Vec<Item>) -> Result<(Id
     }
 }
 
-/// The top item.
-pub(crate) fn top(stack: &[Item]) -> Option<Item>
-    ensures { result ≡ slice_get stack.now (length stack.now - 1) }
-{
-    stack.last().copied()
-}
-
-/// The item at a place of the heap.
-pub(crate) fn kept_at(heap: &[Item], place: u32) -> Option<Item>
-    ensures { result ≡ slice_get heap.now place }
-{
-    heap.get(place as usize).copied()
-}
-
 /// The sides of a conversion.
 pub(crate) fn conversion_of(item: Item) -> Option<(Id, Id)>
     ensures some { IfSome result (λ sides. item ≡ Conversion sides.0 sides.1) }
@@ -108,48 +93,4 @@ pub(crate) fn conversion_of(item: Item) -> Option<(Id, Id)>
         Item::Conversion(left, right) => Some((left, right)),
         Item::Expr(_) | Item::Proof(_) | Item::Obligation(_, _) => None,
     }
-}
-
-/// Whether something is still to be shown.
-pub(crate) fn is_obligation(item: Item) -> bool
-    ensures { (s : Sharing) → result ≡ is_obligation (item_at s item) }
-{
-    match item {
-        Item::Obligation(_, _) => true,
-        Item::Expr(_) | Item::Proof(_) | Item::Conversion(_, _) => false,
-    }
-}
-
-/// Puts an item at the end, of the stack or of the heap.
-pub(crate) fn push(items: &mut Vec<Item>, item: Item) -> Result<(), Stop>
-    ensures ok { OnOk result (items.new.items ≡ items.old.items ++ item ∷ []) }
-    ensures err { MatchResult result (λ _. ⊤) (λ stop. StopsBy stop (λ _. ⊥)) }
-{
-    match items.push(item) {
-        Ok(()) => Ok(()),
-        Err(_) => Err(Stop::Mem),
-    }
-}
-
-/// Puts an expression at the end.
-pub(crate) fn push_id(ids: &mut Vec<Id>, id: Id) -> Result<(), Stop>
-    ensures ok { OnOk result (ids.new.items ≡ ids.old.items ++ id ∷ []) }
-    ensures err { MatchResult result (λ _. ⊤) (λ stop. StopsBy stop (λ _. ⊥)) }
-{
-    match ids.push(id) {
-        Ok(()) => Ok(()),
-        Err(_) => Err(Stop::Mem),
-    }
-}
-
-/// Puts an item at the end, where there is room.
-pub(crate) fn put_back(items: &mut Vec<Item>, item: Item)
-    requires room { vec_len items.old < vec_capacity items.old }
-    ensures items { items.new.items ≡ items.old.items ++ item ∷ [] }
-    ensures len { vec_len items.new ≡ vec_len items.old + 1 }
-    ensures capacity { vec_capacity items.old ≤ vec_capacity items.new }
-{
-    let Ok(()) = items.push(item) else {
-        unreachable!();
-    };
 }

@@ -29,17 +29,18 @@ use Rattle.mz_unification.specs.Profile.{plain, strict, Item, expr, proof, oblig
 use Rattle.mz_unification.specs.Sorted.{Sorted, ItemsSorted}
 use Rattle.mz_unification.specs.UnifyMachine.{in_definition, is_empty}
 use Rattle.mz_unification.proofs.Offered.{from_bind, from_need, from_want, taken, taken-is, place-ok, place_from, renamed, definition-spelled, unfolding-is, one-text}
-use Rattle.mz_soundness.specs.Tables.{Tables, signatures_in, State, Kind, is_definition, Heading, Declares}
+use Rattle.mz_soundness.specs.MachineState.{RowsBefore, signatures_in, State, Kind, is_definition, Heading, Declares}
 use Rattle.mz_logic.specs.Legality.{sort_of}
 use Rattle.mz_soundness.specs.FreeVars.{free_within}
 use Rattle.mz_soundness.specs.Premises.{bound_count, pop, pop_obligation, is_obligation, may_be_dummy_sort}
-use Rattle.mz_soundness.specs.RowWords.{bound_count as bound_words, word_checks}
+use Rattle.mz_words.specs.RowWords.{bound_count as bound_words, word_checks}
 use Rattle.mz_soundness.specs.Lists.{definition_of}
 use Rattle.mz_layout.specs.Heads.{body_bytes}
 use Rattle.mz_soundness.specs.FileRows.{taken_by, rows_taken, term_of_file}
 use Rattle.mz_soundness.specs.ProofMachine.{ends_with, matched_by, built, referred, proof_row, proof_end, last_item, ending, own_stream}
 use Rattle.mz_soundness.specs.Bodies.{BodyCommand, ends, proves, stands_in, if_allowed, body_command, body_turn, body_turn_by, body_from, body_start, Runs}
-use Rattle.mz_soundness.proofs.Offered.{bodies-checked, body-fact, end-ran, own-run, right-words}
+use Rattle.mz_soundness.proofs.Offered.{bodies-checked, body-fact, end-ran, own-run}
+use Rattle.mz_words.proofs.Offered.{right-words}
 use Rattle.mz_binary.specs.Chains.{IsGoodStatement, GoodTo}
 use Rattle.mz_binary.specs.Checking.{checks_of, kind_checks, term_checks, term_body_checks}
 use Rattle.mz_binary.specs.Laws.{HasRow}
@@ -73,7 +74,7 @@ module _ (gaps : Bool) where
       from_bind (pop_obligation st.stack) _ st' is λ o popped e1.
       from_need ((plain gaps).same l o.0 && (plain gaps).same r o.1) k.ConversionReference _ st' e1 λ t e2. few-same _ st' e2 few
 
-  row-few : (tables : Tables) (at : ℕ) (c : ProofCode) (n : ℕ) (st st' : State Tree) → stands_in (plain gaps) is_definition c ≡ true → proof_row (plain gaps) tables at c n st ≡ Ok st' → Few st → Few st'
+  row-few : (tables : RowsBefore) (at : ℕ) (c : ProofCode) (n : ℕ) (st st' : State Tree) → stands_in (plain gaps) is_definition c ≡ true → proof_row (plain gaps) tables at c n st ≡ Ok st' → Few st → Few st'
   unfolding proof_row
   row-few tables at code.Term n st st' may e few = from_bind (built (plain gaps) tables at n st) _ st' e λ r made e1. few-same _ st' e1 few
   row-few tables at code.TermSave n st st' may e few = from_bind (built (plain gaps) tables at n st) _ st' e λ r made e1. few-same _ st' e1 few
@@ -103,7 +104,7 @@ module _ (gaps : Bool) where
   from_follow (Ok (over s)) rest y e ended went = ended s refl cc
   from_follow (Ok (goes_on len s)) rest y e ended went = went len s refl e
 
-  module _ (tables : Tables) (h : Heading) (kind : h.kind ≡ is_definition) where
+  module _ (tables : RowsBefore) (h : Heading) (kind : h.kind ≡ is_definition) where
     end-few : (st s : State Tree) → proof_end (plain gaps) tables h st ≡ Ok s → Few st → Few s
     unfolding proof_end
     end-few st s done few =
@@ -237,7 +238,7 @@ last-expr : (sigs : List _) (ctx : List Binder) (xs : List (Item Tree)) (e : Tre
 last-expr sigs ctx (expr x ∷ []) e is (s, _) = subst (Sorted sigs ctx) (taken-is x e is) s
 last-expr sigs ctx _ e is h = absurd cc
 
-run-few : (gaps : Bool) (tables : Tables) (env : List Declaration) → Declares tables env → (h : Heading) (at : ℕ) (bytes : List ℕ) → h.kind ≡ is_definition → bound_count h.params ≤ 55 → Runs (plain gaps) tables h at bytes
+run-few : (gaps : Bool) (tables : RowsBefore) (env : List Declaration) → Declares tables env → (h : Heading) (at : ℕ) (bytes : List ℕ) → h.kind ≡ is_definition → bound_count h.params ≤ 55 → Runs (plain gaps) tables h at bytes
     → (ds : List Binder) (body : Tree) → SpellsForm (signatures env) h.params (Some h.stream) (defined ds body) → length ds ≤ 55
 run-few gaps tables env declares h at bytes kind few (last, run-is) ds body text =
     let (fact, done) = body-fact gaps tables env declares h at bytes last run-is in

@@ -1,13 +1,13 @@
 -- What a row's words say, word by word.
 use Rattle.std.proofs.Common.{◌≡◌, ◌∙◌, ◌<◌, ◌≤◌, ◌+◌, ◌++◌, ℕ, zero, suc, Bool, true, false, List, [], ◌∷◌, length, drop, get_or, refl, sym, ap, ap₂, arith, drop-cons, append_assoc, length-append}
 use Rattle.std.specs.Prelude.{◌↔◌, ◌==◌, ◌/◌, ◌%◌, if◌then◌else◌}
-use Rattle.std.specs.List.{filter}
 use Rattle.std.proofs.lemmas.List.{drop_all, append-nil, get_or_default}
 use Rattle.std.proofs.lemmas.Bool.{eq-eqb, ne_eqb}
 use Rattle.mz_logic.specs.declared.binder.Binder.{Binder}
 use Rattle.mz_logic.specs.declared.word.Word.{Word}
 use Rattle.mz_logic.specs.Words.{word_bound, bound_places, places_set, binder_of, binders_from}
-use Rattle.mz_soundness.specs.RowWords.{bound_count}
+use Rattle.mz_words.specs.RowWords.{bound_count}
+use Rattle.mz_words.proofs.Offered.{bound-many}
 
 -- the element at hand, and what is left behind it
 left-at : {X : Type 0} → (xs : List X) (i : ℕ) (x : X) → i < length xs → x ≡ get_or xs i x → drop i xs ≡ x ∷ drop (i + 1) xs
@@ -75,15 +75,6 @@ module _ (deps places : List ℕ) (W : Type 0) (k found bits : ℕ) where
 pub length-binders : (i : ℕ) (places : List ℕ) (ws : List Word) → length (binders_from i places ws) ≡ length ws
 length-binders i places [] = refl
 length-binders i places (w ∷ ws) = ap suc (length-binders (suc i) (if word_bound w then places ++ i ∷ [] else places) ws)
-
-pub bound-many : (i : ℕ) (ws : List Word) → length (bound_places i ws) ≡ bound_count ws
-bound-many i [] = refl
-bound-many i (w ∷ ws) = go (word_bound w) (bound-many (suc i) ws)
-  where
-    go : (b : Bool) → length (bound_places (suc i) ws) ≡ bound_count ws
-        → length (if b then i ∷ bound_places (suc i) ws else bound_places (suc i) ws) ≡ length (if b then w ∷ filter word_bound ws else filter word_bound ws)
-    go true e = ap suc e
-    go false e = e
 
 abbrev pub places_after : Bool → List ℕ → ℕ → List ℕ
 places_after b places i = if b then places ++ i ∷ [] else places

@@ -10,7 +10,7 @@ use Rattle.mz_logic.specs.declared.binder.Binder.{Binder}
 use Rattle.mz_layout.specs.Tables.{list_at, term_count, mods_of, term_row, thm_row}
 use Rattle.mz_unification.specs.Streams.{StreamKind, of_assertion, of_definition, UnifyCommand, StreamIs}
 use Rattle.mz_unification.specs.Spells.{Marks, SpellsText, Text, SpellsForm, at_first, variables_from}
-use Rattle.mz_soundness.proofs.Offered.{right-words}
+use Rattle.mz_words.proofs.Offered.{right-words}
 use Rattle.mz_soundness.specs.FileRows.{stream_of, term_of_file}
 use Rattle.mz_binary.specs.declared.statement.Statement.{Statement as Told}
 use Rattle.mz_binary.specs.Chains.{GoodTo}

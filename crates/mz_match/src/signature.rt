@@ -4,7 +4,7 @@ ghost use Rattle.mz_checks.specs.Checks.{Judges};
 ghost use Rattle.mz_logic.specs.Words.{binder_of, binders_of, bound_places, places_set, result_of, signature_of, word_bound};
 ghost use Rattle.mz_layout.specs.Rows.{IsRow, params_of};
 ghost use Rattle.mz_layout.specs.Tables.{term_count, term_row};
-ghost use Rattle.mz_soundness.specs.RowWords.{bound_count};
+ghost use Rattle.mz_words.specs.RowWords.{bound_count};
 ghost use Rattle.mz_match.specs.Match.{signature_checks};
 
 use crate::rule::M;

@@ -8,8 +8,10 @@ pub mod Waiting
 pub mod OneMeaning
 pub mod Example
 pub mod Meanings
+pub mod Uncoerced
 pub mod Judging
 pub mod Knowing
+pub mod KnownTokens
 pub mod Deciding
 pub mod Standing
 pub mod Existing

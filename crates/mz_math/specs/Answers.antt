@@ -93,6 +93,12 @@ IfNotParsed ws tokens (syntax.Tree e) = ⊤
 IfNotParsed ws tokens syntax.No = (t : Tree) → Exp ws 0 t tokens → ⊥
 IfNotParsed ws tokens syntax.Mem = ⊤
 
+-- the tokens aren't too many and have this tree; or they are, or have none
+abbrev pub IsTreeOfFew : Words → List (List ℕ) → Syntax → Type 0
+IsTreeOfFew ws tokens (syntax.Tree e) = (length tokens ≤ most) × Exp ws 0 (tree e) tokens
+IsTreeOfFew ws tokens syntax.No = length tokens ≤ most → (t : Tree) → Exp ws 0 t tokens → ⊥
+IsTreeOfFew ws tokens syntax.Mem = ⊤
+
 -- what a first operand of a level, of a form that groups to the left or not, must be
 abbrev pub MayLead : Notation → ℕ → Bool → Type 0
 MayLead k level is_left = (above k.level ≤ level) ⊎ ((k.is_right ≡ false) × (is_left ≡ true) × (level ≡ k.level))

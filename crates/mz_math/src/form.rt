@@ -128,7 +128,8 @@ fn level_of_last(notation: &Notation) -> u32
     }
 }
 
-/// Whether a notation's first operand may be an expression of this level.
+/// Whether a notation's first operand may be an expression of this level, made by an infix form
+/// that groups to the left or not.
 pub fn can_lead(notation: &Notation, level: u32, is_left: bool) -> bool
     ensures { IsTrue result ↔ MayLead notation.now level is_left }
 {

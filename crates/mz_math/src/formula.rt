@@ -3,13 +3,16 @@ ghost use Rattle.std.specs.Prelude.{◌≡◌, ◌≢◌, ◌↔◌, ◌≤◌, 
 ghost use Rattle.mz_logic.specs.Declaration.{sorts};
 ghost use Rattle.mz_logic.specs.Modifiers.{MayBeClaimSort};
 ghost use Rattle.mz_logic.specs.View.{tree};
-ghost use Rattle.mz_math.specs.Answers.{IsClaimRead, IsFirstUnknown, IsJudged, settled};
+ghost use Rattle.mz_math.specs.Answers.{IsClaimRead, IsFirstUnknown, IsJudged, IsTreeOfFew, settled};
 ghost use Rattle.mz_coercions.specs.Coercions.{IsPath, OnePath, Reaches};
-ghost use Rattle.mz_math.specs.Formula.{IsParsed};
+ghost use Rattle.mz_math.specs.Formula.{IsParsed, Reader, words as words_lem};
 ghost use Rattle.mz_math.specs.Meaning.{IsGoal};
+ghost use Rattle.mz_math.specs.declared.formula.Wanted.{Wanted};
+ghost use Rattle.mz_math.specs.Readable.{IsReadable};
 ghost use Rattle.mz_notation.specs.Kept.{AreVariables};
+ghost use Rattle.mz_tokens.specs.Pieces.{Pieces, piece_texts};
 
-use crate::meaning::{Built, build, sort_of};
+use crate::meaning::{Built, coerced, sort_of};
 use crate::parser::{Syntax, parse};
 use crate::words::Vocabulary;
 use mz_coercions::{Coercions, distance, wrap};
@@ -66,21 +69,43 @@ pub fn parse_formula(
     };
     let words = Vocabulary::new(notations, env, scope);
     let ctx = Context::of(scope.binders());
-    if let Some(at) = first_unknown(&words, text, &pieces) {
+    let tokens = Tokens::new(text, &pieces);
+    match parse_few(alloc, &words, &tokens) {
+        Syntax::Mem => Parsed::Mem,
+        Syntax::No => unread(&words, text, &pieces),
+        Syntax::Tree(tree) => meaning_of(alloc, notations, env, scope, &ctx, tree, wanted),
+    }
+}
+
+/// The tree of the tokens, where they aren't too many.
+fn parse_few(alloc: Global, words: &Vocabulary<'_>, tokens: &Tokens<'_>) -> Syntax
+    requires { IsReadable words.now }
+    ensures { IsTreeOfFew words.now tokens.now result }
+{
+    if tokens.len() > MOST {
+        return Syntax::No;
+    }
+    parse(alloc, words, tokens)
+}
+
+/// Why a string is refused whose tokens are too many or have no tree. Tokens that have one are known,
+/// so only here they are looked up once more.
+fn unread(words: &Vocabulary<'_>, text: &[u8], pieces: &[Piece]) -> Parsed
+    requires within { All (λ p. (p.from ≤ p.to) × (p.to ≤ length text.now)) pieces.now }
+    requires small { length text.now < 2 ^ 32 }
+    requires no_tree { IsTreeOfFew words.now (piece_texts text.now pieces.now) Syntax.No }
+    ensures { (r : Reader) (wanted : Wanted) → words_lem r ≡ words.now → Pieces r.table.delimiters text.now pieces.now → IsParsed r wanted text.now result }
+{
+    if let Some(at) = first_unknown(words, text, pieces) {
         return Parsed::Refused {
             at,
             rule: S::MathToken,
         };
     }
-    let tokens = Tokens::new(text, &pieces);
-    if tokens.len() > MOST {
+    if pieces.len() > MOST {
         return refused(S::Depth);
     }
-    match parse(alloc, &words, &tokens) {
-        Syntax::Mem => Parsed::Mem,
-        Syntax::No => refused(S::MathSyntax),
-        Syntax::Tree(tree) => meaning_of(alloc, notations, env, scope, &ctx, &tree, wanted),
-    }
+    refused(S::MathSyntax)
 }
 
 /// The first byte of the first token that is unknown.
@@ -105,15 +130,15 @@ fn meaning_of(
     env: &Env,
     scope: &Scope,
     ctx: &Context<'_>,
-    syntax: &Expr,
+    syntax: Expr,
     wanted: Wanted,
 ) -> Parsed
     requires ctx { ctx.now ≡ scope.now.binders }
     requires names { AreVariables scope.now.names }
-    ensures { IsJudged (record { env = env.now; table = notations.now; scope = scope.now }) wanted (tree syntax.now) result }
+    ensures { IsJudged (record { env = env.now; table = notations.now; scope = scope.now }) wanted (tree syntax) result }
 {
     let coercions = notations.coercions();
-    let Some(sort) = sort_of(env, coercions, ctx, syntax) else {
+    let Some(sort) = sort_of(env, coercions, ctx, &syntax) else {
         return refused(S::NoCoercion);
     };
     let goal = settled_sort(wanted, sort);
@@ -123,7 +148,7 @@ fn meaning_of(
     if many > MOST {
         return refused(S::Depth);
     }
-    match build(alloc, env, coercions, ctx, syntax, MOST - many) {
+    match coerced(alloc, env, coercions, ctx, syntax, MOST - many) {
         Built::Mem => Parsed::Mem,
         Built::High => refused(S::Depth),
         Built::Tree(expr) => match wrap(alloc, coercions, sort, goal, expr) {

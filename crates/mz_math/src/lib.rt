@@ -7,6 +7,7 @@
 
 mod form;
 mod formula;
+mod height;
 mod laws;
 mod meaning;
 mod parser;

@@ -1,12 +1,13 @@
 // The expression that a tree of the notation grammar stands for.
-ghost use Rattle.std.specs.Prelude.{◌≡◌, ◌↔◌, ℕ, IsTrue, MatchOption, length};
+ghost use Rattle.std.specs.Prelude.{◌≡◌, ◌↔◌, [], ℕ, IsTrue, MatchOption, length};
 ghost use Rattle.mz_logic.specs.Declaration.{signatures};
-ghost use Rattle.mz_logic.specs.Tree.{Tree, Trees, none};
+ghost use Rattle.mz_logic.specs.Tree.{Tree, Trees, none, var};
 ghost use Rattle.mz_logic.specs.View.{tree as tree_lem};
 ghost use Rattle.mz_math.specs.Answers.{FitsParam, IsBuilt, IsAdded, AreAdded, AddsWrapped};
 ghost use Rattle.mz_coercions.specs.Coercions.{OnePath, Reaches};
 ghost use Rattle.mz_math.specs.Meaning.{Coerced, CoercedAll};
 
+use crate::height::is_low;
 use mz_coercions::{Coercions, distance, reaches, wrap};
 use mz_logic::{Binder, Context, Env, Expr, Exprs, is_bound_var};
 use std::alloc::Global;
@@ -14,16 +15,22 @@ use std::alloc::Global;
 /// An expression, where it isn't too high.
 #[derive(Drop)]
 pub enum Built {
+    /// The expression.
     Tree(Expr),
+    /// It's too high.
     High,
+    /// No memory was left.
     Mem,
 }
 
 /// Whether expressions were added, where none is too high.
 #[derive(Clone, Copy)]
 pub enum Added {
+    /// They were.
     Done,
+    /// One is too high.
     High,
+    /// No memory was left.
     Mem,
 }
 
@@ -94,8 +101,37 @@ fn fits(env: &Env, coercions: &Coercions, ctx: &Context<'_>, operand: &Expr, par
     is_bound_var(ctx, operand)
 }
 
+/// The tree with its operands wrapped, where it is at most so high. Without coercions it is the tree
+/// itself, and no other is built.
+pub fn coerced(
+    alloc: Global,
+    env: &Env,
+    coercions: &Coercions,
+    ctx: &Context<'_>,
+    tree: Expr,
+    most: usize,
+) -> Built
+    requires one { OnePath coercions.now }
+    requires there { (e : Tree) × (s : ℕ) × Coerced (signatures env.now) coercions.now ctx.now (tree_lem tree) e s }
+    ensures { IsBuilt (signatures env.now) coercions.now ctx.now (tree_lem tree) most result }
+{
+    if !are_none(coercions) {
+        return build(alloc, env, coercions, ctx, &tree, most);
+    }
+    if is_low(&tree, most) {
+        return Built::Tree(tree);
+    }
+    Built::High
+}
+
+fn are_none(coercions: &Coercions) -> bool
+    ensures { IsTrue result ↔ (coercions.now ≡ []) }
+{
+    coercions.as_slice().is_empty()
+}
+
 /// The tree with its operands wrapped, where it is at most so high.
-pub fn build(
+fn build(
     alloc: Global,
     env: &Env,
     coercions: &Coercions,
@@ -115,7 +151,9 @@ pub fn build(
         Expr::App(t, operands) => match env.term(*t) {
             None => unreachable!(),
             Some(term) => {
-                let mut all = Exprs::new(alloc);
+                let Ok(mut all) = Exprs::with_capacity(alloc, operands.len()) else {
+                    return Built::Mem;
+                };
                 match add_operands(
                     alloc,
                     env,
@@ -187,11 +225,13 @@ fn add_operand(
         return Added::High;
     }
     match operand {
-        Expr::Var(x) => add_wrapped(alloc, coercions, sort, param.sort, Expr::Var(*x), all),
+        Expr::Var(x) => add_variable(alloc, coercions, sort, param.sort, *x, all),
         Expr::App(t, operands) => match env.term(*t) {
             None => unreachable!(),
             Some(term) => {
-                let mut own = Exprs::new(alloc);
+                let Ok(mut own) = Exprs::with_capacity(alloc, operands.len()) else {
+                    return Added::Mem;
+                };
                 match add_operands(
                     alloc,
                     env,
@@ -213,10 +253,26 @@ fn add_operand(
     }
 }
 
+/// Adds a variable of a sort, wrapped to another, where there is memory.
+#[inline(never)]
+fn add_variable(
+    alloc: Global,
+    coercions: &Coercions,
+    from: u32,
+    to: u32,
+    x: u32,
+    all: &mut Exprs,
+) -> Added
+    requires { Reaches coercions.now (length coercions.now) from to }
+    ensures { AddsWrapped coercions.now from to (var x) all.old all.new result }
+{
+    add_wrapped(alloc, coercions, from, to, Expr::Var(x), all)
+}
+
 /// Adds an expression of a sort, wrapped to another, where there is memory.
 ///
-/// It isn't inlined: operands are added to one another, and what is only needed here would take
-/// stack for each of them.
+/// Neither it nor what is above is inlined: operands stand deep in one another, and what is only
+/// needed here would take stack for each of them.
 #[inline(never)]
 fn add_wrapped(
     alloc: Global,
@@ -239,6 +295,8 @@ fn add_wrapped(
 }
 
 /// The sort of a tree that has one.
+///
+/// It isn't inlined, for the reason that `add_wrapped` isn't.
 #[inline(never)]
 fn head_sort(env: &Env, coercions: &Coercions, ctx: &Context<'_>, tree: &Expr) -> u32
     requires { (e : Tree) × (s : ℕ) × Coerced (signatures env.now) coercions.now ctx.now (tree_lem tree.now) e s }

@@ -15,21 +15,26 @@ use mz_notation::{MAX, Notation};
 use mz_tokens::Tokens;
 use std::alloc::Global;
 
-/// An expression at the front of the tokens, and where the others begin.
+/// An expression at the front of the tokens.
 #[derive(Drop)]
 pub struct Found {
     tree: Expr,
+    /// The level of its form, or max.
     level: u32,
+    /// Whether it's of an infix form that groups to the left.
     is_left: bool,
+    /// How many tokens stand before what comes behind it.
     next: usize,
 }
 
 /// A form whose parts are being read.
 #[derive(Drop)]
 pub struct Pending<'w> {
+    /// The form, which tells its parts in order.
     form: Form<'w>,
     /// The part that is next.
     part: usize,
+    /// What was read for its operands so far, in the order of its parts.
     operands: Exprs,
     /// The level of the expression in which it stands, at least.
     level: u32,
@@ -44,7 +49,7 @@ pub enum Outer<'w> {
     Operand(Pending<'w>),
 }
 
-/// How far the innermost expression has been read.
+/// How far the innermost expression has been read. Places are numbers of tokens.
 #[derive(Drop)]
 pub enum Step<'w> {
     /// Up to an expression of this level within it, which begins here.
@@ -55,15 +60,20 @@ pub enum Step<'w> {
     Begun(Found, u32),
     /// The whole: nothing can be joined.
     Whole(Found),
+    /// Not further: the tokens are no expression.
     No,
+    /// Not further: no memory was left.
     Mem,
 }
 
 /// What tokens make.
 #[derive(Drop)]
 pub enum Syntax {
+    /// The tree of all tokens.
     Tree(Expr),
+    /// No tree.
     No,
+    /// No memory was left.
     Mem,
 }
 

@@ -28,6 +28,7 @@ impl<'a> Model for Vocabulary<'a> {
 }
 
 impl<'a> Vocabulary<'a> {
+    /// What these notations, declarations and variables offer.
     pub fn new(notations: &'a Notations, env: &'a Env, scope: &'a Scope) -> Vocabulary<'a>
         ensures { result ≡ words_of notations.now (signatures env.now) scope.now.names }
     {

@@ -1,8 +1,8 @@
 -- Each fact that is asked of a text's forms and names holds or fails.
 use Rattle.std.proofs.Common.{ℕ, suc, ◌≡◌, ◌⊎◌, inl, inr, Bool, true, false, true≢false, List, [], ◌∷◌, ◌++◌, Option, Some, None, refl, sym}
 use Rattle.std.specs.Prelude.{⊤, IsTrue, unwrap_or}
-use Rattle.mz_checks.specs.Checks.{Checks, nothing, ask, ◌>>◌, retold, AreDecided}
-use Rattle.mz_checks.proofs.Offered.{are_decided-both, bytes-decided}
+use Rattle.mz_checks.specs.Checks.{Checks, ◌>>◌, retold, AreDecided}
+use Rattle.mz_checks.proofs.Offered.{are_decided-both, bytes-decided, retold-decided}
 use Rattle.mz_sexpr.specs.Node.{Node, Nodes, atom, list, no_nodes, node, word, parts}
 use Rattle.mz_forms.specs.declared.fault.Fault.{Fault}
 use Rattle.mz_forms.specs.Name.{Names, Scope, hidden, number_of, is_identifier}
@@ -294,10 +294,6 @@ statement names (list at no_nodes) = no-decided
 statement names (list at (node k ns)) = marked (is_local_word k) at names k ns
 
 -- ---- the whole text
-
-retold-decided : {Q R : Type 0} (f : Q → R) (cs : Checks Q) → AreDecided cs → AreDecided (retold f cs)
-retold-decided f nothing d = tt
-retold-decided f (ask q P cs) (d, later) = (d, λ p. retold-decided f cs (later p))
 
 pub statements-decided : (k : ℕ) (names : Names) (ns : Nodes) → AreDecided (statements_asked k names ns)
 statements-decided k names no_nodes = tt

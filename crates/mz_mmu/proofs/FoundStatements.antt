@@ -1,8 +1,8 @@
 -- Where all that is asked of a text's nodes holds, they are a list of statements.
 use Rattle.std.proofs.Common.{ℕ, suc, ◌≡◌, Bool, true, false, List, [], ◌∷◌, ◌++◌, Some, None, refl, ap, subst, append_assoc, append-nil}
 use Rattle.std.specs.Prelude.{unwrap_or}
-use Rattle.mz_checks.specs.Checks.{Checks, nothing, ask, ◌>>◌, retold, AllHold}
-use Rattle.mz_checks.proofs.Offered.{all_hold-first, all_hold-rest}
+use Rattle.mz_checks.specs.Checks.{◌>>◌, retold, AllHold}
+use Rattle.mz_checks.proofs.Offered.{all_hold-first, all_hold-rest, retold-held}
 use Rattle.mz_sexpr.specs.Node.{Node, Nodes, atom, list, no_nodes, node, word, parts}
 use Rattle.mz_logic.specs.Tree.{Tree, Trees, none, more}
 use Rattle.mz_logic.specs.Declaration.{sort_decl, term_decl, assertion_decl, plain_form, defined}
@@ -208,16 +208,12 @@ statement_found names (list at (node k ns)) a = marked_found (is_local_word k) a
 
 -- ---- the whole text
 
-as_told : {Q R : Type 0} (f : Q → R) (cs : Checks Q) → AllHold (retold f cs) → AllHold cs
-as_told f nothing a = tt
-as_told f (ask q P cs) a = (a.0, as_told f cs a.1)
-
 pub statements_found : (k : ℕ) (names : Names) (ns : Nodes) → AllHold (statements_asked k names ns) → (ss : List Statement) × AreStatements names ns ss
 statements_found k names no_nodes a = ([], refl)
 statements_found k names (node n ns) a =
     let first = retold (in_statement k) (statement_asked names n) in
     let later = statements_asked (suc k) (names_after names n) ns in
-    let s = statement_found names n (as_told (in_statement k) (statement_asked names n) (all_hold-first first later a)) in
+    let s = statement_found names n (retold-held (in_statement k) (statement_asked names n) (all_hold-first first later a)) in
     let after = (statement_says names n s.0 s.1).1 in
     let ss = statements_found (suc k) (names_with names s.0.name s.0.decl) ns (subst (λ x. AllHold (statements_asked (suc k) x ns)) after (all_hold-rest first later a)) in
     (s.0 ∷ ss.0, (s.0, ss.0, s.1, ss.1, refl))

@@ -2,5 +2,5 @@
 pub use Rattle.mz_mmu.proofs.Declared.{Agrees}
 pub use Rattle.mz_mmu.proofs.OneAnswer.{one_reading, some_answer}
 pub use Rattle.mz_mmu.proofs.OnlyDrafts.{only_drafts}
-pub use Rattle.mz_mmu.proofs.TextSteps.{agrees_first, agrees_more, retold_fails}
+pub use Rattle.mz_mmu.proofs.TextSteps.{agrees_first, agrees_more}
 pub use Rattle.mz_mmu.proofs.Whole.{are_whole}

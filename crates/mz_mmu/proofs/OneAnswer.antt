@@ -1,7 +1,7 @@
 -- A text has one answer.
 use Rattle.std.proofs.Common.{ℕ, suc, ◌≡◌, ◌⊎◌, inl, inr, Bool, List, sym, subst}
 use Rattle.mz_checks.specs.Checks.{AllHold, FailsFirst, retold}
-use Rattle.mz_checks.proofs.Offered.{all_hold-both, fails_first-unique, all_hold-excludes, all_hold-or_fails}
+use Rattle.mz_checks.proofs.Offered.{all_hold-both, fails_first-unique, all_hold-excludes, all_hold-or_fails, retold-holds}
 use Rattle.mz_sexpr.specs.declared.rule.TextRefusal.{TextRefusal}
 use Rattle.mz_sexpr.specs.Grammar.{Reads as Spells}
 use Rattle.mz_sexpr.specs.Node.{Nodes, no_nodes, node}
@@ -15,13 +15,12 @@ use Rattle.mz_mmu.proofs.Declared.{statement_says}
 use Rattle.mz_mmu.proofs.Decided.{statements-decided}
 use Rattle.mz_mmu.proofs.FoundStatements.{statements_found}
 use Rattle.mz_mmu.proofs.OneStatement.{statements_once}
-use Rattle.mz_mmu.proofs.TextSteps.{retold_holds}
 
 statements_hold : (k : ℕ) (names : Names) (ns : Nodes) (ss : List Statement) → AreStatements names ns ss → AllHold (statements_asked k names ns)
 statements_hold k names no_nodes ss h = tt
 statements_hold k names (node n ns) ss (s, rest, h, r, is) =
     let says = statement_says names n s h in
-    all_hold-both (retold (in_statement k) (statement_asked names n)) (statements_asked (suc k) (names_after names n) ns) (retold_holds (in_statement k) (statement_asked names n) says.0)
+    all_hold-both (retold (in_statement k) (statement_asked names n)) (statements_asked (suc k) (names_after names n) ns) (retold-holds (in_statement k) (statement_asked names n) says.0)
     (subst (λ x. AllHold (statements_asked (suc k) x ns)) (sym says.1) (statements_hold (suc k) (names_with names s.name s.decl) ns rest r))
 
 never : (gaps : Bool) (text : List ℕ) (ns : Nodes) (ss : List Statement) (r : TextRefusal) → Reads gaps text ns ss → Refuses gaps text r → ⊥

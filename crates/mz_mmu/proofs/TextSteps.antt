@@ -1,8 +1,8 @@
 -- Statements, one after another.
-use Rattle.std.proofs.Common.{ℕ, suc, ◌≡◌, ◌≤◌, ◌<◌, ◌+◌, ◌-◌, ◌∙◌, inl, inr, Bool, true, false, List, [], ◌∷◌, ◌++◌, length, Option, Some, None, sym, ap, refl, subst, arith, append_assoc, append-nil}
+use Rattle.std.proofs.Common.{ℕ, suc, ◌≡◌, ◌≤◌, ◌<◌, ◌+◌, ◌-◌, ◌∙◌, Bool, true, false, List, [], ◌∷◌, ◌++◌, length, Option, Some, None, sym, ap, refl, subst, arith, append_assoc, append-nil}
 use Rattle.std.specs.Prelude.{option_map, bytes_eq, if◌then◌else◌}
-use Rattle.mz_checks.specs.Checks.{Checks, nothing, ask, retold, AllHold, FailsFirst}
-use Rattle.mz_checks.proofs.Offered.{Decides, decides-after, fails-before}
+use Rattle.mz_checks.specs.Checks.{Checks, retold, FailsFirst}
+use Rattle.mz_checks.proofs.Offered.{Decides, decides-after, fails-before, retold-fails, retold-holds}
 use Rattle.mz_sexpr.specs.Node.{Node, Nodes, no_nodes, node}
 use Rattle.mz_sexpr.specs.Number.{node_count, node_at}
 use Rattle.mz_sexpr.specs.declared.rule.TextRefusal.{TextRefusal}
@@ -29,15 +29,6 @@ use Rattle.mz_forms.specs.Order.{statement_asked, statements_asked, in_statement
 use Rattle.mz_forms.proofs.Offered.{length-more}
 use Rattle.mz_mmu.proofs.Declared.{Agrees, statement_says}
 
-pub retold_holds : {Q R : Type 0} (f : Q → R) (cs : Checks Q) → AllHold cs → AllHold (retold f cs)
-retold_holds f nothing a = tt
-retold_holds f (ask q P cs) a = (a.0, retold_holds f cs a.1)
-
-pub retold_fails : {Q R : Type 0} (f : Q → R) (cs : Checks Q) (q : Q) → FailsFirst cs q → FailsFirst (retold f cs) (f q)
-retold_fails f nothing q h = absurd h
-retold_fails f (ask p P cs) q (inl h) = inl (h.0, ap f h.1)
-retold_fails f (ask p P cs) q (inr h) = inr (h.0, retold_fails f cs q h.1)
-
 module _ (names later : Names) (left ns : Nodes) (n : Node) (is : left ≡ node n ns) (s : Statement) (h : IsStatement names n s) (after : later ≡ names_with names s.name s.decl) where
   pub statements_read_more : (P : List Statement → Type 0) (sofar now : List Statement) → now ≡ sofar ++ s ∷ [] → ((ss : List Statement) → AreStatements names left ss → P (sofar ++ ss))
       → (ss : List Statement) → AreStatements later ns ss → P (now ++ ss)
@@ -49,14 +40,14 @@ module _ (names later : Names) (left ns : Nodes) (n : Node) (is : left ≡ node 
   statements_asked_more k whole d =
       let says = statement_says names n s h in
       subst (λ x. Decides (statements_asked (suc k) x ns) whole) (says.1 ∙ sym after)
-      (decides-after (retold (in_statement k) (statement_asked names n)) (statements_asked (suc k) (names_after names n) ns) whole (retold_holds (in_statement k) (statement_asked names n) says.0)
+      (decides-after (retold (in_statement k) (statement_asked names n)) (statements_asked (suc k) (names_after names n) ns) whole (retold-holds (in_statement k) (statement_asked names n) says.0)
       (subst (λ l. Decides (statements_asked k names l) whole) is d))
 
 pub statements_stop : (names : Names) (left ns : Nodes) (n : Node) (k : ℕ) (whole : Checks TextRefusal) (f : Fault) → left ≡ node n ns → Decides (statements_asked k names left) whole → FailsFirst (statement_asked names n) f
     → FailsFirst whole (in_statement k f)
 statements_stop names left ns n k whole f is d h =
     d.fails (in_statement k f) (subst (λ l. FailsFirst (statements_asked k names l) (in_statement k f)) (sym is)
-    (fails-before (retold (in_statement k) (statement_asked names n)) (statements_asked (suc k) (names_after names n) ns) (in_statement k f) (retold_fails (in_statement k) (statement_asked names n) f h)))
+    (fails-before (retold (in_statement k) (statement_asked names n)) (statements_asked (suc k) (names_after names n) ns) (in_statement k f) (retold-fails (in_statement k) (statement_asked names n) f h)))
 
 pub numbers_more : (all left ns : Nodes) (k : ℕ) → left ≡ node (node_at all k) ns → k < node_count all → (P : List ℕ → Type 0) (sofar now : List ℕ) → now ≡ sofar ++ k ∷ []
     → ((ks : List ℕ) → AreNumbers all left ks → P (sofar ++ ks)) → (ks : List ℕ) → AreNumbers all ns ks → P (now ++ ks)

@@ -4,6 +4,7 @@ use Rattle.std.specs.List.Sorted.{IsStrictlyIncreasing}
 use Rattle.std.proofs.lemmas.List.Elements.{All-nil, All-cons}
 use Rattle.mz_sexpr.specs.Node.{Node, Nodes, atom, list, no_nodes, node}
 use Rattle.mz_logic.specs.Tree.{none, more}
+use Rattle.mz_logic.specs.Declaration.{DepsAscend}
 use Rattle.mz_logic.specs.LegalLists.{MayBeLocal}
 use Rattle.mz_logic.specs.declared.binder.Binder.{Binder}
 use Rattle.mz_logic.specs.declared.binder.ResultType.{ResultType}
@@ -13,7 +14,7 @@ use Rattle.mz_forms.specs.Proof.{Statement}
 use Rattle.mz_forms.specs.declared.keyword.Kind.{Kind}
 use Rattle.mz_forms.specs.declared.keyword.Kind.TheVariants.{Sort as sort_kind, Term as term_kind, Axiom as axiom_kind, Def as def_kind, Theorem as theorem_kind, Other as no_kind}
 use Rattle.mz_forms.specs.Statements.{kind_of, is_local_word, IsDeclared, IsLocal, IsMarked, IsStatement, names_with}
-use Rattle.mz_mmu.specs.Laws.{DepsAscend, Ascends, HasItsProof, IsWhole, AreWhole}
+use Rattle.mz_mmu.specs.Laws.{Ascends, HasItsProof, IsWhole, AreWhole}
 
 -- ---- dependencies
 

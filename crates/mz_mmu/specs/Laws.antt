@@ -1,9 +1,8 @@
 -- Laws on the statements of texts.
 use Rattle.std.specs.Prelude.{ℕ, ◌≡◌, ◌⊎◌, ⊤, Bool, true, List, [], All, Some, None, MatchBool}
 use Rattle.std.specs.List.Sorted.{IsStrictlyIncreasing}
-use Rattle.mz_logic.specs.Declaration.{Declaration, sort_decl, term_decl, assertion_decl, dummies_of}
+use Rattle.mz_logic.specs.Declaration.{Declaration, sort_decl, term_decl, assertion_decl, dummies_of, DepsAscend}
 use Rattle.mz_logic.specs.LegalLists.{MayBeLocal}
-use Rattle.mz_logic.specs.declared.binder.Binder.{Binder}
 use Rattle.mz_sexpr.specs.declared.rule.TextRefusal.{TextRefusal}
 use Rattle.mz_sexpr.specs.Node.{Nodes}
 use Rattle.mz_forms.specs.Gaps.{HasGapsOnly}
@@ -33,10 +32,6 @@ pub record IsReadOrRefused (gaps : Bool) (text : List ℕ) : Type 0 where
   pub one_refusal : (q r : TextRefusal) → Refuses gaps text q → Refuses gaps text r → q ≡ r
 
 -- ---- what each statement of a text has
-
--- dependencies stand in ascending order, each once
-abbrev pub DepsAscend : List Binder → Type 0
-DepsAscend bs = All (λ b. IsStrictlyIncreasing b.deps) bs
 
 abbrev pub Ascends : Declaration → Type 0
 Ascends (sort_decl _) = ⊤

@@ -1,4 +1,4 @@
--- Why reading a text's nodes stops.
+-- Why reading or checking a text stops.
 use Rattle.std.specs.Prelude.{ℕ, ◌≡◌, ⊤}
 use Rattle.mz_checks.specs.Checks.{Checks, FailsFirst}
 use Rattle.mz_sexpr.specs.declared.rule.TextRefusal.{TextRefusal}

@@ -9,4 +9,4 @@ pub use laws::{
     one_reading, only_drafts_have_gaps, read_or_refused, read_or_refused_once, statements_are_whole,
 };
 pub use mz_forms::{Conv, ConvBox, Convs, Proof, ProofBox, Proofs, Vars};
-pub use text::{Entry, Text, TextRead, read_text};
+pub use text::{Entry, Text, TextRead, TextStop, in_statement, read_text};

@@ -1,3 +1,4 @@
+//! Reading a whole text.
 ghost use Rattle.std.specs.Prelude.{◌≡◌, ◌<◌, ◌^◌, ◌-◌, ◌++◌, ◌∷◌, [], length, IfOk, IfErr, OnOk};
 ghost use Rattle.mz_logic.specs.DeclView.{declaration};
 ghost use Rattle.mz_mode.specs.Gaps.{gaps_of};
@@ -18,11 +19,14 @@ use mz_sexpr::{SexprRead, Sexprs, TextRefusal, read_sexprs};
 use std::alloc::{AllocError, Global};
 use std::marker::Model;
 
-/// A statement of a text, with the number of its node and its mark.
+/// A statement of a text.
 #[derive(Drop)]
 pub struct Entry<'a> {
+    /// The number of its node.
     pub root: u32,
+    /// Whether it's marked as local.
     pub is_local: bool,
+    /// What it declares.
     pub declared: Declared<'a>,
 }
 
@@ -60,15 +64,17 @@ pub enum TextRead<'a> {
     Mem,
 }
 
-/// Why a text has no statements.
+/// Why reading or checking a text stops.
 #[derive(Clone, Copy)]
-enum TextStop {
+pub enum TextStop {
+    /// The first rule that it breaks.
     Refused(TextRefusal),
+    /// No memory was left.
     Mem,
 }
 
-/// What the stop of the statement of this number is to the text.
-fn in_statement(statement: u32, stop: Stop) -> TextStop
+/// What the stop of the statement of this number, from 1, is to the text.
+pub fn in_statement(statement: u32, stop: Stop) -> TextStop
     ensures { IsStopped statement stop result }
 {
     match stop {

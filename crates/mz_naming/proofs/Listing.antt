@@ -3,7 +3,7 @@ use Rattle.std.proofs.Common.{◌≡◌, ◌∙◌, ◌≤◌, ◌-◌, ◌++◌
 use Rattle.std.proofs.lemmas.List.{take-append-le, drop-append-le, length-drop, map-append}
 use Rattle.std.proofs.lemmas.Bool.{cases_lt}
 use Rattle.std.proofs.Math.Seq.{take-length, drop-append_seam}
-use Rattle.mz_axioms.specs.Text.{bytes_between}
+use Rattle.mz_layout.specs.Heads.{body_bytes as bytes_between}
 use Rattle.mz_naming.specs.declared.list.Span.{Span}
 use Rattle.mz_naming.specs.Spans.{name_at, names_at, AreWithin}
 

@@ -1,6 +1,6 @@
 -- Names that stand in one run of bytes.
 use Rattle.std.specs.Prelude.{◌≤◌, ⊤, ℕ, List, [], ◌∷◌, map}
-use Rattle.mz_axioms.specs.Text.{bytes_between}
+use Rattle.mz_layout.specs.Heads.{body_bytes as bytes_between}
 use Rattle.mz_naming.specs.declared.list.Span.{Span}
 
 abbrev pub name_at : List ℕ → Span → List ℕ

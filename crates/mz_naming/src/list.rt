@@ -1,6 +1,6 @@
 // Names by their numbers, in one run of bytes.
 ghost use Rattle.std.specs.Prelude.{◌≡◌, ◌++◌, ◌∷◌, [], get_or, IfOk, OnOk};
-ghost use Rattle.mz_axioms.specs.Text.{bytes_between};
+ghost use Rattle.mz_layout.specs.Heads.{body_bytes as bytes_between};
 
 use mz_cmd::Mem;
 use std::alloc::Global;

@@ -8,16 +8,16 @@ use Rattle.mz_logic.proofs.Offered.{none_some, DepsInside}
 use Rattle.mz_store.specs.Bits.{bound_vars}
 use Rattle.mz_store.specs.Nodes.{binder_after, IsVariableWord}
 use Rattle.mz_store.specs.declared.item.DepsMode.{DepsMode}
-use Rattle.mz_store.proofs.Offered.{bound-push}
+use Rattle.mz_store.proofs.Offered.{bound-push, inside-grown}
 use Rattle.mz_numbered.specs.Numbered.{Numbered, Operands, a_variable, an_application}
-use Rattle.mz_nodes.specs.Numbering.{Entry, Numbering, expr_of, exprs_of, IsIn, AreIn, IsMadeBefore, IsOver}
+use Rattle.mz_nodes.specs.Numbering.{Entry, Numbering, expr_of, exprs_of, IsIn, IsMadeBefore, IsOver}
 use Rattle.mz_nodes.specs.Entering.{entered, context_with, expr_with, next_with, numbering_of, no_expressions, IsNewIn}
 use Rattle.mz_nodes.specs.Kept.{Forms, Shows, IsKept}
 use Rattle.mz_nodes.specs.declared.node.Node.{Node}
 use Rattle.mz_nodes.specs.declared.node.Form.{Form}
 use Rattle.mz_nodes.specs.declared.node.Form.TheVariants.{Variable, Application}
 use Rattle.mz_nodes.proofs.Growing.{entered-all-push, entered-begins, entry-new, kept-grown, are-in-kept, exprs-kept}
-use Rattle.mz_nodes.proofs.Entered.{inside-grown, over-entered}
+use Rattle.mz_nodes.proofs.Entered.{over-entered}
 
 -- ---- what a pushed node makes
 

@@ -1,18 +1,11 @@
 -- The variables of all operands, gathered one operand after another.
-use Rattle.std.proofs.Common.{ℕ, zero, suc, ◌≡◌, ◌<◌, ◌≤◌, ◌⊎◌, List, [], ◌∷◌, length, drop, get_or, refl, ap, sym, ◌∙◌, subst, inl, inr, arith, bit_or}
+use Rattle.std.proofs.Common.{ℕ, suc, ◌≡◌, ◌<◌, ◌≤◌, ◌⊎◌, List, length, drop, get_or, ap, sym, ◌∙◌, subst, inl, inr, bit_or}
 use Rattle.mz_logic.specs.Tree.{Tree, more}
 use Rattle.mz_logic.specs.Variables.{InV, InSomeV}
 use Rattle.mz_store.specs.Bits.{Tells, bound_vars}
 use Rattle.mz_nodes.specs.Numbering.{Numbering, tree_of, trees_of}
 use Rattle.mz_store.specs.declared.item.Id.{Id}
-use Rattle.mz_nodes.proofs.Gathering.{Gathers, gather-step, gather-end}
-use Rattle.mz_store.proofs.Offered.{nothing, next-id}
-
-pub drop-past : {A : Type 0} (xs : List A) (j : ℕ) → length xs ≤ j → drop j xs ≡ []
-drop-past [] zero h = refl
-drop-past [] (suc j) h = refl
-drop-past (x ∷ xs) zero h = absurd (omega arith)
-drop-past (x ∷ xs) (suc j) h = drop-past xs j (omega arith)
+use Rattle.mz_store.proofs.Offered.{nothing, next-id, drop-past, Gathers, gather-step, gather-end}
 
 pub all-step : (s : Numbering) (is : List Id) (i j word part : ℕ) → i < length is → j ≡ suc i → (P : ℕ → Type 0)
     → Gathers (bound_vars s.context) word P (λ x. InSomeV s.context x (trees_of s (drop i is)))

@@ -1,50 +1,23 @@
 -- The operands of bound parameters, gathered one parameter after another.
-use Rattle.std.proofs.Common.{ℕ, zero, suc, ◌≡◌, ◌<◌, ◌≤◌, ◌+◌, ◌%◌, ◌/◌, ◌==◌, ◌⊎◌, ◌++◌, Bool, true, false, List, [], ◌∷◌, length, take, get_or, slice_get, Contains, Some, refl, ap, sym, ◌∙◌, subst, inl, inr, arith, bit_or, if◌then◌else◌}
-use Rattle.std.specs.Int.{bit_at}
-use Rattle.std.proofs.lemmas.Nat.Bits.{bit_at-zero}
-use Rattle.std.proofs.lemmas.Option.{slice_get-get_or, slice_get_within}
-use Rattle.std.proofs.lemmas.List.Elements.{Contains-append_cases}
-use Rattle.mz_logic.specs.Tree.{Trees, var, operand}
+use Rattle.std.proofs.Common.{ℕ, ◌≡◌, ◌<◌, ◌≤◌, ◌%◌, ◌/◌, ◌==◌, ◌⊎◌, true, List, [], ◌∷◌, length, take, get_or, Contains, ap, sym, subst, inl, inr, arith, bit_or, if◌then◌else◌}
+use Rattle.std.proofs.lemmas.Option.{slice_get_within}
+use Rattle.mz_logic.specs.Tree.{var, operand}
 use Rattle.mz_logic.specs.Signature.{Signature}
 use Rattle.mz_logic.specs.Sorts.{Fits}
 use Rattle.mz_logic.specs.Variables.{IsBoundAt, IsOperandAt}
-use Rattle.mz_logic.specs.Words.{word_bound, bound_places, places_set, binder_of, binders_of}
+use Rattle.mz_logic.specs.Words.{bound_places, places_set, binders_of}
 use Rattle.mz_logic.specs.declared.word.Word.{Word}
 use Rattle.mz_logic.specs.declared.binder.Binder.{Binder}
-use Rattle.mz_logic.proofs.Offered.{contains_cases, one_at, none_some}
 use Rattle.mz_store.specs.Bits.{Tells, bound_vars}
 use Rattle.mz_store.specs.Sharing.{IsTold}
 use Rattle.mz_nodes.specs.Numbering.{Numbering, tree_of, trees_of}
 use Rattle.mz_store.specs.declared.item.Id.{Id}
-use Rattle.mz_nodes.proofs.Gathering.{Gathers, gather-step, gather-end, tells-same}
 use Rattle.mz_nodes.proofs.Params.{fits-many, bound-at, operand-at}
-use Rattle.mz_store.proofs.Offered.{nothing, binder-at, operand-none, operand-zero, operand-split, operand-here, operand-later, tells-bound, none-in}
+use Rattle.mz_store.proofs.Offered.{nothing, operand-none, operand-zero, tells-bound, Gathers, gather-step, gather-end, set-split, set-here, set-later, tells-chosen, places-are-bound}
 
 -- the operands at those of the places whose bits are set
 abbrev pub At : Numbering → List Id → List Binder → ℕ → List ℕ → ℕ → Type 0
 At s is params bits places x = IsOperandAt params (trees_of s is) (places_set bits places) x
-
-set-split : (params : List Binder) (es : Trees) (i : ℕ) (rs : List ℕ) (x : ℕ) (v : Bool) → IsOperandAt params es (if v then i ∷ rs else rs) x
-    → ((v ≡ true) × (IsBoundAt params i × (operand es i ≡ var x))) ⊎ IsOperandAt params es rs x
-set-split params es i rs x true h = elim (operand-split params es i rs x h) [ inl here ↦ inl (refl, here) | inr later ↦ inr later ]
-set-split params es i rs x false h = inr h
-
-set-here : (params : List Binder) (es : Trees) (i : ℕ) (rs : List ℕ) (x : ℕ) (v : Bool) → (v ≡ true) × (IsBoundAt params i × (operand es i ≡ var x))
-    → IsOperandAt params es (if v then i ∷ rs else rs) x
-set-here params es i rs x true (_, h) = operand-here params es i rs x h
-set-here params es i rs x false (off, h) = absurd cc
-
-set-later : (params : List Binder) (es : Trees) (i : ℕ) (rs : List ℕ) (x : ℕ) (v : Bool) → IsOperandAt params es rs x → IsOperandAt params es (if v then i ∷ rs else rs) x
-set-later params es i rs x true h = operand-later params es i rs x h
-set-later params es i rs x false h = h
-
-tells-chosen : (places : List ℕ) (word part : ℕ) (v : Bool) (S : ℕ → Type 0) → part ≡ (if v then word else 0) → Tells places word S → Tells places part (λ x. (v ≡ true) × S x)
-tells-chosen places word part true S is tells k =
-    subst (λ n. Tells places n (λ x. (true ≡ true) × S x)) (sym is) (tells-same places word S (λ x. (true ≡ true) × S x) (λ x h. (refl, h)) (λ x h. h.1) tells) k
-tells-chosen places word part false S is tells k = (
-  λ bit. absurd (let e : bit_at part k ≡ 0 = ap (λ n. bit_at n k) is ∙ bit_at-zero k in omega arith),
-  λ has. absurd (let e : false ≡ true = has.2.0 in cc),
-)
 
 -- one place more, of a bound parameter
 pub take-place : (s : Numbering) (is : List Id) (sigs : List Signature) (params : List Binder) → Fits sigs s.context (trees_of s is) params
@@ -87,56 +60,9 @@ places-over s is params places left word none-left P so-far =
     gather-end (bound_vars s.context) word P (At s is params left places) so-far
     (λ x h. operand-none params (trees_of s is) x (subst (λ ps. At s is params left ps x) none-left h))
 
--- ---- the places of bound parameters, one parameter after another
+-- ---- the places of bound parameters
 
--- with one parameter more
-pub places-more : (j : ℕ) (ws : List Word) (i : ℕ) (w : Word) (v : Bool) → slice_get ws i ≡ Some w → word_bound w ≡ v
-    → bound_places j (take (suc i) ws) ≡ (if v then bound_places j (take i ws) ++ (j + i) ∷ [] else bound_places j (take i ws))
-places-more j [] i w v at is = absurd (none_some at)
-places-more j (u ∷ ws) zero w v at is =
-    ap (λ b. if b then j ∷ [] else []) (ap word_bound (one_at refl at) ∙ is)
-    ∙ ap (λ n. if v then n ∷ [] else []) (let e : j ≡ j + 0 = omega arith in e)
-places-more j (u ∷ ws) (suc i) w v at is =
-    ap (λ (ps : List ℕ). if word_bound u then j ∷ ps else ps) (places-more (suc j) ws i w v at is)
-    ∙ inside (word_bound u) v
-    ∙ ap (λ n. if v then (if word_bound u then j ∷ bound_places (suc j) (take i ws) else bound_places (suc j) (take i ws)) ++ n ∷ [] else (if word_bound u then j ∷ bound_places (suc j) (take i ws) else bound_places (suc j) (take i ws)))
-    (let e : suc j + i ≡ j + suc i = omega arith in e)
-  where
-    inside : (b c : Bool) → (if b then j ∷ (if c then bound_places (suc j) (take i ws) ++ (suc j + i) ∷ [] else bound_places (suc j) (take i ws)) else (if c then bound_places (suc j) (take i ws) ++ (suc j + i) ∷ [] else bound_places (suc j) (take i ws)))
-        ≡ (if c then (if b then j ∷ bound_places (suc j) (take i ws) else bound_places (suc j) (take i ws)) ++ (suc j + i) ∷ [] else (if b then j ∷ bound_places (suc j) (take i ws) else bound_places (suc j) (take i ws)))
-    inside true true = refl
-    inside true false = refl
-    inside false true = refl
-    inside false false = refl
-
-pub places-next : (ws : List Word) (i j : ℕ) (w : Word) (v : Bool) → slice_get ws i ≡ Some w → j ≡ suc i → word_bound w ≡ v
-    → bound_places 0 (take j ws) ≡ (if v then bound_places 0 (take i ws) ++ i ∷ [] else bound_places 0 (take i ws))
-places-next ws i j w v at next is = ap (λ k. bound_places 0 (take k ws)) next ∙ places-more 0 ws i w v at is
-    ∙ ap (λ n. if v then bound_places 0 (take i ws) ++ n ∷ [] else bound_places 0 (take i ws)) (let e : 0 + i ≡ i = omega arith in e)
-
-step-bound : (ws : List Word) (i j : ℕ) (w : Word) (b : Bool) → slice_get ws i ≡ Some w → word_bound w ≡ b
-    → (Contains (bound_places 0 (take i ws)) j → IsBoundAt (binders_of ws) j)
-    → Contains (if b then bound_places 0 (take i ws) ++ (0 + i) ∷ [] else bound_places 0 (take i ws)) j → IsBoundAt (binders_of ws) j
-step-bound ws i j w true at bd before inside = elim (Contains-append_cases (bound_places 0 (take i ws)) ((0 + i) ∷ []) j inside) [
-  | inl old ↦ before old
-  | inr here ↦ elim (contains_cases (0 + i) j [] here) [
-    | inl same ↦ (binder_of (bound_places 0 (take i ws)) w, ap (slice_get (binders_of ws)) (let e : j ≡ i = omega (arith, same) in e) ∙ binder-at ws i w at, bd)
-    | inr none ↦ absurd (none-in j none)
-  ]
-]
-step-bound ws i j w false at regular before inside = before inside
-
--- a bound parameter stands at each of them
-pub places-are-bound : (ws : List Word) (i : ℕ) → i ≤ length ws → (j : ℕ) → Contains (bound_places 0 (take i ws)) j → IsBoundAt (binders_of ws) j
-places-are-bound [] zero within j has = absurd (none-in j has)
-places-are-bound (v ∷ ws) zero within j has = absurd (none-in j has)
-places-are-bound ws (suc i) within j has =
-    let w = get_or ws i (record { 0 = 0 }) in
-    let at : slice_get ws i ≡ Some w = slice_get-get_or ws i _ within in
-    step-bound ws i j w (word_bound w) at refl (places-are-bound ws i (omega arith) j)
-    (subst (λ ps. Contains ps j) (places-more 0 ws i w (word_bound w) at refl) has)
-
--- and an operand too
+-- an operand stands at each of them
 pub places-within : (sigs : List Signature) (s : Numbering) (is : List Id) (ws : List Word) → Fits sigs s.context (trees_of s is) (binders_of ws) → (i : ℕ) → i ≤ length ws
     → (places : List ℕ) → places ≡ bound_places 0 (take i ws) → (j : ℕ) → Contains places j → j < length is
 places-within sigs s is ws fits i within places are j has =

@@ -12,10 +12,7 @@ use Rattle.mz_store.specs.Sharing.{IsTold, CanTake}
 use Rattle.mz_nodes.specs.Numbering.{Numbering, tree_of, trees_of}
 use Rattle.mz_store.specs.declared.item.DepsMode.TheVariants as of
 use Rattle.mz_store.specs.declared.item.Id.{Id}
-use Rattle.mz_nodes.proofs.Gathering.{Gathers, gather-first, gather-step, gather-skip, gather-end, tells-same, tells-without}
-use Rattle.mz_nodes.proofs.OverTerms.{signature-at}
-use Rattle.mz_nodes.proofs.AllVariables.{drop-past}
-use Rattle.mz_store.proofs.Offered.{nothing, next-id, next-binder, taken-all}
+use Rattle.mz_store.proofs.Offered.{nothing, next-id, next-binder, taken-all, drop-past, signature-at, Gathers, gather-first, gather-step, gather-skip, gather-end, tells-same, tells-without}
 
 -- the operands of bound parameters among the first `end` that the bits name
 abbrev pub Named : Numbering → List Id → List Word → ℕ → ℕ → ℕ → Type 0

@@ -1,10 +1,8 @@
-mod Longer
 pub mod Growing
 mod Entered
 mod Adding
 mod Beginning
 mod OverTerms
-mod Gathering
 pub mod Params
 mod AllVariables
 mod BoundOperands

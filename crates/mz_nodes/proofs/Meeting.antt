@@ -10,9 +10,8 @@ use Rattle.mz_logic.specs.Variables.{InV, IsBoundAt}
 use Rattle.mz_logic.specs.declared.binder.Binder.{Binder}
 use Rattle.mz_logic.proofs.Offered.{one_at}
 use Rattle.mz_store.specs.Bits.{Tells, bound_vars}
-use Rattle.mz_store.proofs.Offered.{bound-has, bound-once}
+use Rattle.mz_store.proofs.Offered.{bound-has, bound-once, zero-or-one}
 use Rattle.mz_nodes.specs.Numbering.{Numbering, tree_of, vars_of, IsIn, IsOver}
-use Rattle.mz_nodes.proofs.Gathering.{zero-or-one}
 
 v-is : (ctx : List Binder) (x y : ℕ) → IsBoundAt ctx x → InV ctx y (var x) → y ≡ x
 v-is ctx x y bd (c, at, inl (_, same)) = same

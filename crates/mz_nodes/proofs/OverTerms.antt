@@ -1,5 +1,5 @@
 -- The words of expressions stay right when a term over expressions is added.
-use Rattle.std.proofs.Common.{ℕ, zero, suc, ◌≡◌, ◌<◌, List, [], ◌∷◌, length, slice_get, Some, Vec, Global, inl, inr, Result, Ok, Err, OnOk, refl, sym, subst, arith}
+use Rattle.std.proofs.Common.{ℕ, ◌≡◌, List, Vec, Global, inl, inr, sym, subst}
 use Rattle.mz_logic.specs.Tree.{app}
 use Rattle.mz_logic.specs.Variables.{InSomeV}
 use Rattle.mz_logic.specs.Words.{TermWords, term_at, word_sort, signature_of, signatures_of}
@@ -7,16 +7,12 @@ use Rattle.mz_store.specs.Bits.{Tells, bound_vars}
 use Rattle.mz_store.specs.Sharing.{IsTold, CanTake}
 use Rattle.mz_store.specs.declared.item.Id.{Id}
 use Rattle.mz_numbered.specs.Numbered.{an_application}
+use Rattle.mz_store.proofs.Offered.{signature-at}
 use Rattle.mz_nodes.specs.Numbering.{Numbering, entry_of, exprs_of, trees_of, IsOver, IsRightEntry}
 use Rattle.mz_nodes.specs.Entering.{entered}
 use Rattle.mz_nodes.specs.declared.node.Node.{Node}
 use Rattle.mz_nodes.specs.declared.node.Form.TheVariants.{Application}
 use Rattle.mz_nodes.proofs.Growing.{entered-begins, entry-kept, entry-new, in-cases}
-
-pub signature-at : (terms : List TermWords) (t : ℕ) → t < length terms → slice_get (signatures_of terms) t ≡ Some (signature_of (term_at terms t))
-signature-at [] t less = absurd (omega arith)
-signature-at (d ∷ ds) zero less = refl
-signature-at (d ∷ ds) (suc t) less = signature-at ds t (omega arith)
 
 pub over-term : (terms : List TermWords) (s : Numbering) (number t : ℕ) (is : List Id) (sort vars deps : ℕ) (operands : Vec Id Global)
     → IsOver (signatures_of terms) s → CanTake terms s.context t (trees_of s is) → operands.items ≡ is → sort ≡ word_sort (term_at terms t).result
@@ -35,7 +31,3 @@ over-term terms s number t is sort vars deps operands over (there, fits) same so
   where
     n : Node
     n = record { sort = sort; vars = vars; deps = deps; form = Application number t operands }
-
-pub on-ok-from : {A E : Type 0} (P Q : Type 0) (r : Result A E) → (P → Q) → OnOk r P → OnOk r Q
-on-ok-from P Q (Ok x) f p = f p
-on-ok-from P Q (Err e) f p = tt

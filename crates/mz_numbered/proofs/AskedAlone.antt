@@ -21,7 +21,7 @@ use Rattle.mz_unification.specs.Tests.{same_tree}
 use Rattle.mz_unification.specs.Profile.{strict, tree_parts, Item, expr, proof, obligation, conversion}
 use Rattle.mz_unification.specs.UnifyMachine.{UnifyMode, in_citation, at_end, kind_of, Matching, UnifyState, top_target, is_empty, next_hypothesis, operands_of, nothing_left, unify_row, unify_turn_by, unify_turn, unify_from, at_start, unify}
 use Rattle.mz_unification.proofs.Offered.{from_bind, from_then, from_want, taken-is, bind-same}
-use Rattle.mz_soundness.specs.Tables.{Tables, signatures_in, State, Kind, is_axiom, is_theorem, is_definition, Heading}
+use Rattle.mz_soundness.specs.MachineState.{RowsBefore, signatures_in, State, Kind, is_axiom, is_theorem, is_definition, Heading}
 use Rattle.mz_soundness.specs.Premises.{pop_expr, pop_operands, is_conversion, operands_fit, are_apart}
 use Rattle.mz_soundness.specs.ProofMachine.{push, saved, built, citation, matched_by, cited, referred, has_provable_sort, proof_row, last_item, as_proofs, own_variables, own_stream, ending, ends_with, proof_end}
 use Rattle.mz_numbered.specs.Making.{portable_trees}
@@ -117,7 +117,7 @@ streams-too sigs ctx m u kind e =
 abbrev OfAssertion : Matching Tree → Type 0
 OfAssertion m = kind_of m.mode ≡ of_assertion
 
-module _ (tables : Tables) where
+module _ (tables : RowsBefore) where
   matched-same : (ctx : List Binder) (m : Matching Tree) → OfAssertion m → Goes Same (matched_by strict tables ctx m) (matched_by portable_trees tables ctx m)
   matched-same ctx m kind = goes-rule Same (unify strict (signatures_in tables) ctx m) (unify portable_trees (signatures_in tables) ctx m) (unify-same (signatures_in tables) ctx m kind)
 
@@ -197,7 +197,7 @@ own-same : (i : ℕ) (bs : List Binder) → own_variables portable_trees i bs �
 own-same i [] = refl
 own-same i (b ∷ bs) = ap (λ (z : List Tree). var i ∷ z) (own-same (suc i) bs)
 
-module _ (tables : Tables) (h : Heading) where
+module _ (tables : RowsBefore) (h : Heading) where
   stream-same : (mode : UnifyMode) (e : Tree) (items : List (Item Tree)) → own_stream portable_trees h mode e items ≡ own_stream strict h mode e items
   stream-same mode e items = ap (λ (z : List Tree). record { mode = mode; stream = h.stream; operands = z; target = e; items = items }) (own-same 0 h.params)
 

@@ -17,7 +17,7 @@ use Rattle.mz_unification.specs.Steps.{◌>>◌, need, goes_on}
 use Rattle.mz_unification.specs.Profile.{Profile, Item, expr, proof, obligation, conversion}
 use Rattle.mz_unification.specs.UnifyMachine.{UnifyMode, at_end, in_definition, Matching, UnifyState, unify, is_empty}
 use Rattle.mz_unification.proofs.Offered.{map-reverse}
-use Rattle.mz_soundness.specs.Tables.{Tables, signatures_in, State, Kind, is_axiom, is_theorem, is_definition, Heading}
+use Rattle.mz_soundness.specs.MachineState.{RowsBefore, signatures_in, State, Kind, is_axiom, is_theorem, is_definition, Heading}
 use Rattle.mz_soundness.specs.FreeVars.{free_within}
 use Rattle.mz_soundness.specs.ProofMachine.{matched_by, has_provable_sort, proof_row, last_item, as_proofs, own_variables, own_stream, ending, ends_with, proof_end}
 use Rattle.mz_soundness.specs.Bodies.{BodyCommand, ends, proves, stands_in, if_allowed, body_command, body_turn, body_turn_by, body_from, body_start, Runs}
@@ -109,7 +109,7 @@ module _ (P Q : Profile) (f : P.T → Q.T) (Right : ℕ → P.T → Type 0) (emb
   last-goes is_definition (obligation l r ∷ xs) = λ y e. absurd cc
   last-goes is_definition (conversion l r ∷ xs) = λ y e. absurd cc
 
-  module _ (tables : Tables) (h : Heading) where
+  module _ (tables : RowsBefore) (h : Heading) where
     abbrev StreamIs : Matching P.T → Matching Q.T → Type 0
     StreamIs = Is (matching_onto f)
 
@@ -205,7 +205,7 @@ module _ (P Q : Profile) (f : P.T → Q.T) (Right : ℕ → P.T → Type 0) (emb
   stated : (r : Result (State Q.T) K) (s : State P.T) (y : State Q.T) → r ≡ Ok y → state_onto f s ≡ y → r ≡ Ok (state_onto f s)
   stated r s y run is = run ∙ ap (λ (z : State Q.T). Ok z) (sym is)
 
-  pub row-runs : (tables : Tables) (at : ℕ) (c : ProofCode) (value : ℕ) (st s : State P.T) → MakesRight P Q f Right embeds tables at c value st
+  pub row-runs : (tables : RowsBefore) (at : ℕ) (c : ProofCode) (value : ℕ) (st s : State P.T) → MakesRight P Q f Right embeds tables at c value st
       → proof_row P tables at c value st ≡ Ok s → proof_row Q tables at c value (state_onto f st) ≡ Ok (state_onto f s)
   row-runs tables at c value st s right e =
       let (y, run, is) = row-goes P Q f Right embeds tables at c value st right s e in

@@ -13,7 +13,7 @@ use Rattle.mz_unification.specs.Spells.{trees_of}
 use Rattle.mz_unification.specs.Profile.{tree_parts}
 use Rattle.mz_unification.specs.Tests.{same_tree}
 use Rattle.mz_unification.proofs.Offered.{same_tree-true, same_tree-refl}
-use Rattle.mz_soundness.specs.Tables.{Tables, State, Heading}
+use Rattle.mz_soundness.specs.MachineState.{RowsBefore, State, Heading}
 use Rattle.mz_soundness.specs.ProofMachine.{built}
 use Rattle.mz_soundness.specs.Bodies.{BodyCommand, ends, proves, body_command, body_turn, body_start}
 use Rattle.mz_numbered.specs.Numbered.{Numbered, Operands, an_application, one_more, operands_from, operand_list, tree_of, operand_trees, equal, parts_of, portable}
@@ -79,7 +79,7 @@ module _ (g : Tree → ℕ) where
   made-placed {U = U} at (Ok y) are x e = subst (λ (z : Tree × U). g z.0 ≡ at) (went-is {F = K} y x e) are.0
   made-placed at (Err d) are x e = absurd cc
 
-  module _ (tables : Tables) where
+  module _ (tables : RowsBefore) where
     row-placed : (at : ℕ) (c : ProofCode) (n : ℕ) (st : State Tree) → AreNumbered g (row_makes portable_trees tables at c n st) → MakesRight portable_trees portable (numbered g) Placed by-address tables at c n st
     row-placed at code.Term n st are = made-placed at (built portable_trees tables at n st) are
     row-placed at code.TermSave n st are = made-placed at (built portable_trees tables at n st) are

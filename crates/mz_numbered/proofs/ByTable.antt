@@ -11,7 +11,7 @@ use Rattle.mz_unification.specs.Spells.{trees_of}
 use Rattle.mz_unification.specs.Profile.{strict, tree_parts}
 use Rattle.mz_unification.specs.Tests.{same_tree}
 use Rattle.mz_unification.proofs.Offered.{same_tree-refl}
-use Rattle.mz_soundness.specs.Tables.{Tables, State, Heading}
+use Rattle.mz_soundness.specs.MachineState.{RowsBefore, State, Heading}
 use Rattle.mz_soundness.specs.Bodies.{BodyCommand, ends, proves, body_command}
 use Rattle.mz_numbered.specs.Numbered.{Numbered, Operands, a_variable, an_application, no_more, one_more, operands_from, operand_list, tree_of, operand_trees, equal, parts_of, portable}
 use Rattle.mz_numbered.specs.Laws.{BodiesRunStrict, RowsRunStrict, StreamsRunStrict}
@@ -54,12 +54,12 @@ by-table = record {
   asks_less = λ asks. absurd cc;
 }
 
-row-any : (tables : Tables) (at : ℕ) (c : ProofCode) (n : ℕ) (st : State Numbered) → MakesRight portable strict tree_of Any by-table tables at c n st
+row-any : (tables : RowsBefore) (at : ℕ) (c : ProofCode) (n : ℕ) (st : State Numbered) → MakesRight portable strict tree_of Any by-table tables at c n st
 row-any tables at code.Term n st = λ x e. tt
 row-any tables at code.TermSave n st = λ x e. tt
 row-any tables at c n st = tt
 
-module _ (tables : Tables) (h : Heading) where
+module _ (tables : RowsBefore) (h : Heading) where
   command-any : (at : ℕ) (st : State Numbered) (o : Option BodyCommand) → CommandMakes portable strict tree_of Any by-table tables h at st o
   command-any at st None = tt
   command-any at st (Some ends) = tt

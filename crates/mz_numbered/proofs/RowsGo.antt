@@ -13,7 +13,7 @@ use Rattle.mz_unification.specs.Spells.{dummy_of}
 use Rattle.mz_unification.specs.Profile.{Profile, Item, expr, proof, obligation, conversion}
 use Rattle.mz_unification.specs.UnifyMachine.{in_citation, in_definition, Matching, UnifyState, unify}
 use Rattle.mz_unification.proofs.Offered.{both-true}
-use Rattle.mz_soundness.specs.Tables.{Tables, signatures_in, State}
+use Rattle.mz_soundness.specs.MachineState.{RowsBefore, signatures_in, State}
 use Rattle.mz_soundness.specs.Premises.{pop, pop_expr, pop_proof, pop_obligation, pop_conversion, pop_exprs, pop_operands, pop_sides, is_conversion, is_obligation, may_be_dummy_sort, is_provable_sort, bound_count, operands_fit, are_apart}
 use Rattle.mz_soundness.specs.ProofMachine.{push, saved, built, citation, matched_by, cited, referred, sides, same_term, stream_of, unfolding_of, gapped, has_provable_sort, proof_row}
 use Rattle.mz_numbered.specs.Mapping.{item_onto, items_onto, state_onto, matching_onto}
@@ -120,7 +120,7 @@ module _ (P Q : Profile) (f : P.T → Q.T) (Right : ℕ → P.T → Type 0) (emb
   sides-mapped (e ∷ es) [] xs = refl
   sides-mapped (e ∷ es) (d ∷ ds) xs = ap (λ (z : List (Item Q.T)). obligation (f e) (f d) ∷ z) (sides-mapped es ds xs)
 
-  module _ (tables : Tables) where
+  module _ (tables : RowsBefore) where
     abbrev pub StateIs : State P.T → State Q.T → Type 0
     StateIs = Is (state_onto f)
 

@@ -12,7 +12,7 @@ use Rattle.mz_unification.specs.UnifyMachine.{kind_of, Matching, UnifyState, uni
 use Rattle.mz_unification.specs.Spells.{Marks, SpellsText}
 use Rattle.mz_unification.specs.Sorted.{Sorted}
 use Rattle.mz_unification.specs.Laws.{RunsLeaving, unfolding_by}
-use Rattle.mz_soundness.specs.Tables.{Tables, State, is_definition, Heading}
+use Rattle.mz_soundness.specs.MachineState.{RowsBefore, State, is_definition, Heading}
 use Rattle.mz_soundness.specs.ProofMachine.{proof_row, proof_end}
 use Rattle.mz_soundness.specs.Bodies.{Runs}
 use Rattle.mz_numbered.specs.Numbered.{Numbered, tree_of, equal, portable}
@@ -24,11 +24,11 @@ use Rattle.mz_numbered.specs.Making.{portable_trees, row_makes, body_makes, Made
 
 -- a body that runs by address runs by the published table
 abbrev pub BodiesRunStrict : Type 0
-BodiesRunStrict = (tables : Tables) (h : Heading) (at : ℕ) (bytes : List ℕ) → Runs portable tables h at bytes → Runs strict tables h at bytes
+BodiesRunStrict = (tables : RowsBefore) (h : Heading) (at : ℕ) (bytes : List ℕ) → Runs portable tables h at bytes → Runs strict tables h at bytes
 
 -- each row that goes through goes through, numbers forgotten
 abbrev pub RowsRunStrict : Type 0
-RowsRunStrict = (tables : Tables) (at : ℕ) (c : ProofCode) (value : ℕ) (st s : State Numbered)
+RowsRunStrict = (tables : RowsBefore) (at : ℕ) (c : ProofCode) (value : ℕ) (st s : State Numbered)
     → proof_row portable tables at c value st ≡ Ok s → proof_row strict tables at c value (state_onto tree_of st) ≡ Ok (state_onto tree_of s)
 
 -- and each stream, with the heap and the items that it leaves
@@ -41,12 +41,12 @@ StreamsRunStrict = (sigs : List Signature) (ctx : List Binder) (m : Matching Num
 
 -- where no application is made by two commands, a body that meets all else that is asked runs by address
 abbrev pub SharedBodiesRun : Type 0
-SharedBodiesRun = (tables : Tables) (h : Heading) (at : ℕ) (bytes : List ℕ)
+SharedBodiesRun = (tables : RowsBefore) (h : Heading) (at : ℕ) (bytes : List ℕ)
     → Runs portable_trees tables h at bytes → MadeOnce (body_makes portable_trees tables h at bytes) → Runs portable tables h at bytes
 
 -- each row does, if numbers are the places of what is made
 abbrev pub NumberedRowsRun : Type 0
-NumberedRowsRun = (g : Tree → ℕ) (tables : Tables) (at : ℕ) (c : ProofCode) (value : ℕ) (st s : State Tree)
+NumberedRowsRun = (g : Tree → ℕ) (tables : RowsBefore) (at : ℕ) (c : ProofCode) (value : ℕ) (st s : State Tree)
     → AreNumbered g (row_makes portable_trees tables at c value st)
     → proof_row portable_trees tables at c value st ≡ Ok s → proof_row portable tables at c value (state_onto (numbered g) st) ≡ Ok (state_onto (numbered g) s)
 
@@ -66,12 +66,12 @@ AssertionsRunToo = (sigs : List Signature) (ctx : List Binder) (m : Matching Tre
 
 -- nor of a row but Unfold's
 abbrev pub RowsRunToo : Type 0
-RowsRunToo = (tables : Tables) (at : ℕ) (c : ProofCode) (value : ℕ) (st s : State Tree)
+RowsRunToo = (tables : RowsBefore) (at : ℕ) (c : ProofCode) (value : ℕ) (st s : State Tree)
     → (c ≡ code.Unfold → ⊥) → proof_row strict tables at c value st ≡ Ok s → proof_row portable_trees tables at c value st ≡ Ok s
 
 -- nor of an END but a definition's
 abbrev pub EndsRunToo : Type 0
-EndsRunToo = (tables : Tables) (h : Heading) (st s : State Tree)
+EndsRunToo = (tables : RowsBefore) (h : Heading) (st s : State Tree)
     → (h.kind ≡ is_definition → ⊥) → proof_end strict tables h st ≡ Ok s → proof_end portable_trees tables h st ≡ Ok s
 
 -- a definition's stream, of which saved applications have their dummies met before them, runs too

@@ -10,7 +10,7 @@ use Rattle.mz_cmd.specs.Reading.{first_command}
 use Rattle.mz_logic.specs.Tree.{Tree, Trees, var, app, none, more}
 use Rattle.mz_unification.specs.Steps.{Turn, over, goes_on}
 use Rattle.mz_unification.specs.Profile.{Profile, strict}
-use Rattle.mz_soundness.specs.Tables.{Tables, State, Heading}
+use Rattle.mz_soundness.specs.MachineState.{RowsBefore, State, Heading}
 use Rattle.mz_soundness.specs.ProofMachine.{built}
 use Rattle.mz_soundness.specs.Bodies.{BodyCommand, ends, proves, body_command, body_turn, body_start}
 use Rattle.mz_numbered.specs.Numbered.{Numbered, Operands, a_variable, an_application, no_more, one_more}
@@ -28,17 +28,17 @@ made_of at (Ok p) = (at, p.0) ∷ []
 made_of at (Err rule) = []
 
 -- in the row of a command, before it
-abbrev pub row_makes : (P : Profile) → Tables → ℕ → ProofCode → ℕ → State P.T → List (ℕ × P.T)
+abbrev pub row_makes : (P : Profile) → RowsBefore → ℕ → ProofCode → ℕ → State P.T → List (ℕ × P.T)
 row_makes P tables at code.Term t st = made_of at (built P tables at t st)
 row_makes P tables at code.TermSave t st = made_of at (built P tables at t st)
 row_makes P tables at c t st = []
 
-abbrev pub command_makes : (P : Profile) → Tables → ℕ → State P.T → Option BodyCommand → List (ℕ × P.T)
+abbrev pub command_makes : (P : Profile) → RowsBefore → ℕ → State P.T → Option BodyCommand → List (ℕ × P.T)
 command_makes P tables at st None = []
 command_makes P tables at st (Some ends) = []
 command_makes P tables at st (Some (proves c value)) = row_makes P tables at c value st
 
-abbrev pub first_makes : (P : Profile) → Tables → Heading → ℕ → State P.T → Result Cmd CmdFault → List (ℕ × P.T)
+abbrev pub first_makes : (P : Profile) → RowsBefore → Heading → ℕ → State P.T → Result Cmd CmdFault → List (ℕ × P.T)
 first_makes P tables h at st (Err f) = []
 first_makes P tables h at st (Ok c) = command_makes P tables at st (body_command P h.kind c.code c.value)
 
@@ -49,13 +49,13 @@ and_then (Ok (over s)) rest = []
 and_then (Ok (goes_on len s)) rest = rest len s
 
 -- in what is left of a body, as far as it runs
-unfoldable pub makes_from : (P : Profile) → Tables → Heading → ℕ → ℕ → List ℕ → State P.T → List (ℕ × P.T)
+unfoldable pub makes_from : (P : Profile) → RowsBefore → Heading → ℕ → ℕ → List ℕ → State P.T → List (ℕ × P.T)
 makes_from P tables h zero at bytes st = []
 makes_from P tables h (suc n) at bytes st =
     first_makes P tables h at st (first_command bytes)
     ++ and_then (body_turn P tables h at bytes st (first_command bytes)) (λ len s. makes_from P tables h n (at + len) (drop len bytes) s)
 
-abbrev pub body_makes : (P : Profile) → Tables → Heading → ℕ → List ℕ → List (ℕ × P.T)
+abbrev pub body_makes : (P : Profile) → RowsBefore → Heading → ℕ → List ℕ → List (ℕ × P.T)
 body_makes P tables h at bytes = makes_from P tables h (length bytes) at bytes (body_start P h)
 
 -- no application is made by two commands

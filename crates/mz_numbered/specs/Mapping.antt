@@ -3,7 +3,7 @@
 use Rattle.std.specs.Prelude.{List, map}
 use Rattle.mz_unification.specs.Profile.{Item, expr, proof, obligation, conversion}
 use Rattle.mz_unification.specs.UnifyMachine.{Matching}
-use Rattle.mz_soundness.specs.Tables.{State}
+use Rattle.mz_soundness.specs.MachineState.{State}
 
 abbrev pub item_onto : {A B : Type 0} → (A → B) → Item A → Item B
 item_onto f (expr e) = expr (f e)

@@ -5,6 +5,7 @@ use Rattle.std.specs.List.Sorted.{IsStrictlyIncreasing}
 use Rattle.std.proofs.lemmas.List.Elements.{All-weaker}
 use Rattle.mz_sexpr.specs.Node.{Node}
 use Rattle.mz_logic.specs.Tree.{Trees, none, more, listed}
+use Rattle.mz_logic.specs.Declaration.{DepsAscend}
 use Rattle.mz_logic.specs.Signature.{Signature}
 use Rattle.mz_logic.specs.Legality.{AllInRange, IsBinderThere, AreBindersThere, AreParams as HasRightParams}
 use Rattle.mz_logic.specs.Variables.{IsBoundAt}
@@ -17,7 +18,6 @@ use Rattle.mz_forms.specs.Expressions.{AreDeps, IsParam, IsDummy, AreBinders, Ar
 use Rattle.mz_forms.specs.Statements.{AreHyps, AreNamedHyps, scope_of}
 use Rattle.mz_phrasing.specs.Phrases.{a_word, a_list}
 use Rattle.mz_phrasing.specs.Phrasing.{Vocabulary, list_of, variable_names, binder, binders, result, named_hypotheses}
-use Rattle.mz_phrasing.specs.Phrasable.{DepsAscend}
 use Rattle.mz_phrasing.proofs.Saying.{Says, AllSay, a-word, a-list, take, done, so, all-so}
 use Rattle.mz_phrasing.proofs.Numbers.{Numbered, AreOwn, upto, new-next, numbered-upto}
 use Rattle.mz_phrasing.proofs.Atoms.{name-atom}

@@ -1,9 +1,9 @@
 -- Which statements can be read of the phrases that state them (this project's own form).
-use Rattle.std.specs.Prelude.{◌≡◌, ◌<◌, ◌≤◌, ⊤, ℕ, suc, Bool, true, false, List, [], ◌∷◌, ◌++◌, length, All, Option, Some, None}
+use Rattle.std.specs.Prelude.{◌≡◌, ◌<◌, ◌≤◌, ⊤, ℕ, suc, Bool, true, false, List, [], ◌∷◌, ◌++◌, length, Option, Some, None}
 use Rattle.std.specs.List.Sorted.{IsStrictlyIncreasing}
 use Rattle.mz_sexpr.specs.Node.{depth_limit}
 use Rattle.mz_logic.specs.Tree.{listed}
-use Rattle.mz_logic.specs.Declaration.{Form, plain_form, abstract_form, defined, context_of, Declaration, sort_decl, term_decl, assertion_decl, sorts, signatures, assertions}
+use Rattle.mz_logic.specs.Declaration.{Form, plain_form, abstract_form, defined, context_of, Declaration, sort_decl, term_decl, assertion_decl, sorts, signatures, assertions, DepsAscend}
 use Rattle.mz_logic.specs.declared.binder.Binder.{Binder}
 use Rattle.mz_forms.specs.Name.{Names, IsName, IsNew}
 use Rattle.mz_forms.specs.Statements.{no_names, names_with}
@@ -42,10 +42,6 @@ abbrev mutual
   pub AllSeeLets : ℕ → ℕ → Proofs → Type 0
   AllSeeLets n k no_proofs = ⊤
   AllSeeLets n k (more_proofs p ps) = SeesLets n k p × AllSeeLets n k ps
-
--- dependencies stand in ascending order
-abbrev pub DepsAscend : List Binder → Type 0
-DepsAscend bs = All (λ b. IsStrictlyIncreasing b.deps) bs
 
 abbrev pub HasForm : Form → Type 0
 HasForm plain_form = ⊤

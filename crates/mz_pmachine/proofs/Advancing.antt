@@ -1,16 +1,17 @@
 -- A command on the parts of a machine, in the words of the machine that they make.
 use Rattle.std.specs.Prelude.{OnOk}
-use Rattle.std.proofs.Common.{◌≡◌, ◌≤◌, ◌+◌, ◌<◌, ◌^◌, ℕ, length, Result, Ok, Err, refl, sym, subst}
+use Rattle.std.proofs.Common.{◌≡◌, ◌≤◌, ◌+◌, ◌<◌, ◌^◌, ℕ, length, Result, Ok, Err, refl, sym, ◌∙◌, subst}
 use Rattle.mz_cmd.specs.declared.command.Cmd.{Cmd}
 use Rattle.mz_cmd.specs.declared.rule.K.{K}
 use Rattle.mz_numbered.specs.Numbered.{Numbered, portable}
-use Rattle.mz_soundness.specs.Tables.{Kind, State}
+use Rattle.mz_soundness.specs.MachineState.{Kind, State}
 use Rattle.mz_soundness.specs.Bodies.{body_command}
 use Rattle.mz_earlier.specs.Before.{signatures_of, tables_of}
-use Rattle.mz_earlier.specs.OwnRow.{kind_at, heading_of}
-use Rattle.mz_punify.specs.declared.command.Stop.{Stop}
-use Rattle.mz_punify.specs.declared.command.Stop.TheVariants.{Rule, Mem}
-use Rattle.mz_pmachine.specs.OverNodes.{Gives, Grows, UnlessMem}
+use Rattle.mz_earlier.specs.OwnRow.{byte_of, kind_at, kind_of, heading_of}
+use Rattle.mz_unify.specs.declared.stop.Stop.{Stop}
+use Rattle.mz_unify.specs.declared.stop.Stop.TheVariants.{Rule, Mem}
+use Rattle.mz_pmachine.specs.OverNodes.{Grows}
+use Rattle.mz_machine.specs.OverStore.{Gives, UnlessMem}
 use Rattle.mz_pmachine.specs.Running.{IsRunning, machine_of}
 use Rattle.mz_pmachine.specs.Stepping.{IsStepped}
 use Rattle.mz_pmachine.specs.Steps.{row_by, steps_by, steps_for, heading_for}
@@ -18,14 +19,17 @@ use Rattle.mz_pmachine.specs.declared.machine.Parts.{Parts}
 use Rattle.mz_pmachine.specs.declared.machine.Setting.{Setting}
 use Rattle.mz_nodes.specs.Numbering.{AreIn}
 use Rattle.mz_punify.specs.Stored.{AreItemsIn}
-use Rattle.mz_earlier.proofs.Offered.{kind-is}
+use Rattle.mz_earlier.proofs.Offered.{kind-byte, kind-is}
 use Rattle.mz_pmachine.proofs.Machines.{goes-on}
 
 module _ (t : Setting) (p q : Parts) where
+  row-kind : (heading_of t.earlier.file (byte_of t.kind) t.row).kind ≡ kind_of t.kind
+  row-kind = kind-is t.earlier.file t.row (kind_at (byte_of t.kind)) ∙ kind-byte t.kind
+
   pub keeps : {A : Type 0} (result : Result A Stop) → IsRunning t p → OnOk result (Grows (signatures_of t.earlier) p.nodes q.nodes)
       → OnOk result (AreItemsIn q.nodes q.heap.items × AreItemsIn q.nodes q.stack.items × AreIn q.nodes q.hyps.items) → OnOk result (length q.hyps.items < 2 ^ 32) → OnOk result (IsRunning t q)
   keeps (Ok x) was grows ids few =
-      (goes-on t.earlier.file t.kind t.row t.earlier.rows p.nodes q.nodes p.heap.items p.stack.items q.heap.items q.stack.items p.hyps.items q.hyps.items was.0 grows ids.0 ids.1 ids.2 few, was.1)
+      (goes-on t.earlier.file (byte_of t.kind) t.row t.earlier.rows p.nodes q.nodes p.heap.items p.stack.items q.heap.items q.stack.items p.hyps.items q.hyps.items was.0 grows ids.0 ids.1 ids.2 few, was.1)
   keeps (Err stop) was grows ids few = tt
 
   module _ (c : Cmd) where
@@ -33,16 +37,16 @@ module _ (t : Setting) (p q : Parts) where
     by_kind at k = row_by (tables_of t.earlier) at (machine_of t p).state (body_command portable k c.code c.value)
 
     -- it is of a body of its row's kind
-    its-kind : (at : ℕ) (r : Result (State Numbered) K) → by_kind at (kind_at t.kind) ≡ r → by_kind at (heading_of t.earlier.file t.kind t.row).kind ≡ r
-    its-kind at r is = subst (λ (k : Kind). by_kind at k ≡ r) (sym (kind-is t.earlier.file t.row (kind_at t.kind))) is
+    its-kind : (at : ℕ) (r : Result (State Numbered) K) → by_kind at (kind_of t.kind) ≡ r → by_kind at (heading_of t.earlier.file (byte_of t.kind) t.row).kind ≡ r
+    its-kind at r is = subst (λ (k : Kind). by_kind at k ≡ r) (sym row-kind) is
 
-    pub stepped : {A : Type 0} (at : ℕ) (result : Result A Stop) → Gives (by_kind at (kind_at t.kind)) result (λ _. (machine_of t q).state) → (OnOk result (q.nodes.next ≤ at + 1))
+    pub stepped : {A : Type 0} (at : ℕ) (result : Result A Stop) → Gives (by_kind at (kind_of t.kind)) result (λ _. (machine_of t q).state) → (OnOk result (q.nodes.next ≤ at + 1))
         → IsStepped (machine_of t p) c at (machine_of t q) result
     stepped at (Ok x) is next = (its-kind at (Ok (machine_of t q).state) is, record { file = refl; kind = refl; row = refl; before = refl; next = next })
     stepped at (Err (Rule k)) is next = its-kind at (Err k) is
     stepped at (Err Mem) is next = tt
 
-    pub counted : {A : Type 0} (result : Result A Stop) (old new : ℕ) → UnlessMem result (new ≡ old + steps_by (tables_of t.earlier) (machine_of t p).state (body_command portable (kind_at t.kind) c.code c.value))
+    pub counted : {A : Type 0} (result : Result A Stop) (old new : ℕ) → UnlessMem result (new ≡ old + steps_by (tables_of t.earlier) (machine_of t p).state (body_command portable (kind_of t.kind) c.code c.value))
         → UnlessMem result (new ≡ old + steps_for (tables_of t.earlier) (heading_for (machine_of t p)) (machine_of t p).state c)
     counted result old new =
-        subst (λ (k : Kind). UnlessMem result (new ≡ old + steps_by (tables_of t.earlier) (machine_of t p).state (body_command portable k c.code c.value))) (sym (kind-is t.earlier.file t.row (kind_at t.kind)))
+        subst (λ (k : Kind). UnlessMem result (new ≡ old + steps_by (tables_of t.earlier) (machine_of t p).state (body_command portable k c.code c.value))) (sym row-kind)

@@ -5,7 +5,7 @@ use Rattle.mz_logic.specs.Words.{binders_of}
 use Rattle.mz_logic.specs.declared.word.Word.{Word}
 use Rattle.mz_store.specs.declared.item.Item.TheVariants.{Expr}
 use Rattle.mz_unification.specs.Profile.{Item, expr}
-use Rattle.mz_soundness.specs.Tables.{signatures_in}
+use Rattle.mz_soundness.specs.MachineState.{signatures_in}
 use Rattle.mz_soundness.specs.Bodies.{body_start}
 use Rattle.mz_earlier.specs.OwnRow.{kind_at, heading_of, MayRun, mode_for, own_words, first_items}
 use Rattle.mz_earlier.specs.Before.{tables_before}

@@ -1,20 +1,20 @@
 -- The loop over a body: what the machine keeps, and how many steps it counts at the most.
-use Rattle.std.proofs.Common.{◌≡◌, ◌≤◌, ◌+◌, ◌*◌, ℕ, List, length, Result, Ok, Err, refl, ◌∙◌, subst, arith}
-use Rattle.std.proofs.Math.Nat.{add-mul, mul-le-mul_right}
+use Rattle.std.proofs.Common.{◌≡◌, ◌≤◌, ◌+◌, ℕ, List, length, Result, Ok, Err, refl, ◌∙◌, subst}
 use Rattle.mz_cmd.specs.declared.rule.K.{K}
 use Rattle.mz_numbered.specs.Numbered.{Numbered, portable}
-use Rattle.mz_soundness.specs.Tables.{State}
+use Rattle.mz_soundness.specs.MachineState.{State}
 use Rattle.mz_soundness.specs.ProofMachine.{proof_end}
 use Rattle.mz_pmachine.specs.BodyAnswers.{IsBodyRun}
 use Rattle.mz_machine.specs.BodyAnswers.{UnlessMem as UnlessBodyMem}
 use Rattle.mz_pmachine.specs.Steps.{Underway, tables_for, heading_for, row_of, steps_for, end_steps}
 use Rattle.mz_cmd.specs.declared.command.Cmd.{Cmd}
-use Rattle.mz_punify.specs.Rows.{StopsBy}
-use Rattle.mz_pmachine.specs.Stepping.{GoesOn, IsFinished, IsStepped, UnlessEndMem, ended_at, stopped_at}
-use Rattle.mz_punify.specs.declared.command.Stop.{Stop}
-use Rattle.mz_punify.specs.declared.command.Stop.TheVariants.{Rule, Mem}
-use Rattle.mz_pmachine.specs.declared.machine.Finished.{Finished}
-use Rattle.mz_pmachine.specs.declared.machine.Finished.TheVariants as finished
+use Rattle.mz_unify.specs.Rows.{StopsBy}
+use Rattle.mz_pmachine.specs.Stepping.{GoesOn, IsFinished, IsStepped}
+use Rattle.mz_machine.specs.Stepping.{UnlessEndMem, ended_at, stopped_at}
+use Rattle.mz_unify.specs.declared.stop.Stop.{Stop}
+use Rattle.mz_unify.specs.declared.stop.Stop.TheVariants.{Rule, Mem}
+use Rattle.mz_machine.specs.declared.machine.Finished.{Finished}
+use Rattle.mz_machine.specs.declared.machine.Finished.TheVariants as finished
 
 -- the same body
 pub record IsSameBody (u v : Underway) : Type 0 where
@@ -34,16 +34,6 @@ same-tables u v same = rw (same.file, same.before) refl
 
 pub same-heading : (u v : Underway) → IsSameBody u v → heading_for v ≡ heading_for u
 same-heading u v same = rw (same.file, same.kind, same.row) refl
-
--- a command that takes at least a byte counts at most so many steps more
-pub more-steps : (first steps later at len size : ℕ) → steps ≤ first + at * (size + 1) → later ≤ steps + (1 + size) → 1 ≤ len → later ≤ first + (at + len) * (size + 1)
-more-steps first steps later at len size most more one =
-    let wide : (at + len) * (size + 1) ≡ at * (size + 1) + len * (size + 1) = add-mul at len (size + 1) in
-    let once : 1 * (size + 1) ≤ len * (size + 1) = mul-le-mul_right (size + 1) one in
-    omega (arith, wide, once, most, more)
-
-pub within-steps : (first steps at whole size : ℕ) → steps ≤ first + at * (size + 1) → at ≤ whole → steps ≤ first + whole * (size + 1)
-within-steps first steps at whole size most le = let all : at * (size + 1) ≤ whole * (size + 1) = mul-le-mul_right (size + 1) le in omega (arith, all, most)
 
 pub row-over : (u v : Underway) (at : ℕ) (st : State Numbered) (c : Cmd) (r : Result (State Numbered) K) → IsSameBody u v → row_of (tables_for v) (heading_for v) at st c ≡ r → row_of (tables_for u) (heading_for u) at st c ≡ r
 row-over u v at st c r same is = rw (← same-tables u v same, ← same-heading u v same) is

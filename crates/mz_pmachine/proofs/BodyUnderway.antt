@@ -1,8 +1,8 @@
 -- A body that is underway: the run from here is the whole run, and so is the count.
-use Rattle.std.proofs.Common.{◌≡◌, ℕ, zero, suc, ◌+◌, ◌≤◌, ◌<◌, Bool, true, false, List, [], ◌∷◌, length, drop, Option, Some, None, Result, Ok, Err, refl, sym, ap, ◌∙◌, arith, nat_eq}
+use Rattle.std.proofs.Common.{◌≡◌, ℕ, suc, ◌+◌, Bool, true, false, List, [], ◌∷◌, length, drop, Option, Some, None, Result, Ok, Err, refl, sym, ap, ◌∙◌, arith, nat_eq}
 use Rattle.std.specs.Prelude.{if◌then◌else◌}
 use Rattle.std.proofs.lemmas.Bool.{eqb-true}
-use Rattle.std.proofs.lemmas.List.{drop-drop, length-drop}
+use Rattle.std.proofs.lemmas.List.{drop-drop}
 use Rattle.mz_cmd.specs.declared.rule.K.{K}
 use Rattle.mz_cmd.specs.declared.rule.K.TheVariants as k
 use Rattle.mz_cmd.specs.declared.command.Cmd.{Cmd}
@@ -14,7 +14,7 @@ use Rattle.mz_unification.specs.Steps.{◌>>=◌, Turn, over, goes_on, goes_to}
 use Rattle.mz_numbered.specs.Numbered.{Numbered, portable}
 use Rattle.mz_unification.specs.UnifyMachine.{is_empty}
 use Rattle.mz_unification.proofs.Offered.{command-long, drop-less}
-use Rattle.mz_soundness.specs.Tables.{Tables, State, Kind, Heading}
+use Rattle.mz_soundness.specs.MachineState.{RowsBefore, State, Kind, Heading}
 use Rattle.mz_soundness.specs.ProofMachine.{proof_end, ends_with}
 use Rattle.mz_soundness.specs.Bodies.{BodyCommand, ends, proves, stands_in, if_allowed, body_command, body_turn_by, body_turn, body_from, match_steps, command_steps, body_steps_from}
 use Rattle.mz_soundness.proofs.Offered.{bound-never-ends, count-is-whole}
@@ -29,18 +29,7 @@ onward len s = Ok (goes_on len s)
 plus-zero : (n : ℕ) → n ≡ n + 0
 plus-zero n = omega arith
 
-drop-all : {A : Type 0} (xs : List A) (n : ℕ) → length xs ≤ n → drop n xs ≡ []
-drop-all [] zero h = refl
-drop-all [] (suc n) h = refl
-drop-all (x ∷ xs) zero h = absurd (omega (arith, h))
-drop-all (x ∷ xs) (suc n) h = drop-all xs n (omega (arith, h))
-
-some-left : {A : Type 0} (xs : List A) (n : ℕ) → n < length xs → is_empty (drop n xs) ≡ false
-some-left [] n h = absurd (omega (arith, h))
-some-left (x ∷ xs) zero h = refl
-some-left (x ∷ xs) (suc n) h = some-left xs n (omega (arith, h))
-
-module _ (T : Tables) (h : Heading) where
+module _ (T : RowsBefore) (h : Heading) where
   -- what is left of a body, at a place of the file
   abbrev pub left_run : ℕ → List ℕ → State Numbered → Result (State Numbered) (ℕ × K)
   left_run at bytes st = body_from portable T h (length bytes) at bytes st
@@ -220,14 +209,3 @@ module _ (T : Tables) (h : Heading) where
             )
 
 -- ---- reading in place
-
-pub further : (bytes : List ℕ) (at : ℕ) (c : Cmd) → first_command (drop at bytes) ≡ Ok c → at ≤ length bytes → (1 ≤ c.len) × (at + c.len ≤ length bytes)
-further bytes at c read le =
-    let (one, within) = command-long (drop at bytes) c read in
-    (one, omega (arith, within, length-drop at bytes))
-
-pub ends-there : (bytes : List ℕ) (at len : ℕ) → length bytes ≡ at + len → is_empty (drop len (drop at bytes)) ≡ true
-ends-there bytes at len is = ap is_empty (drop-drop len at bytes ∙ drop-all bytes (at + len) (omega (arith, is)))
-
-pub goes-further : (bytes : List ℕ) (at len : ℕ) → (length bytes ≡ at + len → ⊥) → at + len ≤ length bytes → is_empty (drop len (drop at bytes)) ≡ false
-goes-further bytes at len more le = ap is_empty (drop-drop len at bytes) ∙ some-left bytes (at + len) (omega (arith, le, more))

@@ -12,12 +12,12 @@ use Rattle.mz_layout.specs.Tables.{thm_row}
 use Rattle.mz_nodes.specs.Numbering.{Numbering}
 use Rattle.mz_store.specs.declared.item.Id.{Id}
 use Rattle.mz_store.specs.declared.item.Item.{Item as Kept}
-use Rattle.mz_unification.specs.Spells.{ThmRow}
+use Rattle.mz_unification.specs.Spells.{SpelledThm}
 use Rattle.mz_unification.specs.Profile.{Item, proof}
 use Rattle.mz_unification.specs.UnifyMachine.{in_citation, Matching, UnifyState, unify, unify_steps}
 use Rattle.mz_punify.specs.Stored.{item_at, items_at, matching_at}
 use Rattle.mz_unify.specs.declared.unified.UnifyMode.TheVariants.{Use}
-use Rattle.mz_soundness.specs.Tables.{Tables, State, signatures_in}
+use Rattle.mz_soundness.specs.MachineState.{RowsBefore, State, signatures_in}
 use Rattle.mz_soundness.specs.Premises.{pop_expr, pop_operands, operands_fit, are_apart}
 use Rattle.mz_soundness.specs.ProofMachine.{proof_row, citation, cited}
 use Rattle.mz_soundness.specs.Bodies.{row_steps}
@@ -29,12 +29,12 @@ use Rattle.mz_pmachine.proofs.TakenOperands.{too-few}
 
 -- ---- what is asked, one after another
 
-module _ (tables : Tables) (t : ℕ) (st : State Numbered) where
+module _ (tables : RowsBefore) (t : ℕ) (st : State Numbered) where
   unknown : slice_get tables.thms t ≡ None → citation portable tables t st ≡ Err k.TheoremIndex
   unfolding citation
   unknown h = rw h refl
 
-  module _ (row : ThmRow) (there : slice_get tables.thms t ≡ Some row) where
+  module _ (row : SpelledThm) (there : slice_get tables.thms t ≡ Some row) where
     few : nat_le (suc (length row.params)) (length st.stack) ≡ false → citation portable tables t st ≡ Err k.Underflow
     unfolding citation
     few h = rw (there, h) refl
@@ -118,7 +118,7 @@ module _ (b : Before) (t : ℕ) (st : State Numbered) where
 
 -- ---- the rows
 
-module _ (tables : Tables) (at t : ℕ) (st : State Numbered) where
+module _ (tables : RowsBefore) (at t : ℕ) (st : State Numbered) where
   module _ (rule : K) (stopped : citation portable tables t st ≡ Err rule) where
     pub thm-stopped : proof_row portable tables at code.Thm t st ≡ Err rule
     unfolding proof_row cited
@@ -147,10 +147,10 @@ module _ (tables : Tables) (at t : ℕ) (st : State Numbered) where
       unfolding proof_row cited
       thm-save-row = rw (asked, done) refl
 
-pub thm-stopped-steps : (tables : Tables) (t : ℕ) (st : State Numbered) (rule : K) → citation portable tables t st ≡ Err rule → row_steps portable tables code.Thm t st ≡ 0
+pub thm-stopped-steps : (tables : RowsBefore) (t : ℕ) (st : State Numbered) (rule : K) → citation portable tables t st ≡ Err rule → row_steps portable tables code.Thm t st ≡ 0
 thm-stopped-steps tables t st rule stopped = rw stopped refl
 
-pub thm-steps : (tables : Tables) (t : ℕ) (st : State Numbered) (m : Matching Numbered) → citation portable tables t st ≡ Ok m → row_steps portable tables code.Thm t st ≡ unify_steps portable (signatures_in tables) st.ctx m
+pub thm-steps : (tables : RowsBefore) (t : ℕ) (st : State Numbered) (m : Matching Numbered) → citation portable tables t st ≡ Ok m → row_steps portable tables code.Thm t st ≡ unify_steps portable (signatures_in tables) st.ctx m
 thm-steps tables t st m asked = rw asked refl
 
 -- ---- the run

@@ -1,7 +1,7 @@
 -- Codes of commands.
 use Rattle.std.proofs.Common.{◌≡◌, false, refl}
 use Rattle.mz_cmd.specs.declared.code.ProofCode.TheVariants as code
-use Rattle.mz_soundness.specs.Tables.{Kind, is_axiom, is_theorem, is_definition}
+use Rattle.mz_soundness.specs.MachineState.{Kind, is_axiom, is_theorem, is_definition}
 use Rattle.mz_soundness.specs.Bodies.{stands_in}
 use Rattle.mz_numbered.specs.Numbered.{portable}
 

@@ -1,8 +1,7 @@
 -- The rows on conversions, case by case.
-use Rattle.std.proofs.Common.{◌≡◌, ◌≤◌, ◌⊎◌, inl, inr, arith, ℕ, zero, suc, ◌-◌, ◌<◌, Bool, true, false, List, [], ◌∷◌, ◌++◌, length, drop, min, leb-true, leb-false, Option, Some, None, Result, Ok, Err, slice_get, refl, sym, ap, ◌∙◌, subst, eq-eqb}
-use Rattle.std.specs.Prelude.{⊤, if◌then◌else◌, ◌==◌, nat_le, OnOk, MatchResult}
+use Rattle.std.proofs.Common.{◌≡◌, ◌≤◌, ◌⊎◌, inl, inr, ℕ, suc, ◌-◌, Bool, true, false, List, [], ◌∷◌, ◌++◌, length, drop, Option, Some, None, Result, Ok, Err, slice_get, refl, sym, ap, ◌∙◌, subst, eq-eqb}
+use Rattle.std.specs.Prelude.{⊤, if◌then◌else◌, ◌==◌, OnOk, MatchResult}
 use Rattle.std.proofs.lemmas.Bool.{eqb-true}
-use Rattle.std.proofs.Math.Nat.{min-le_left, min-le_right, min-eq_left, min-eq_right}
 use Rattle.mz_cmd.specs.declared.rule.K.{K}
 use Rattle.mz_cmd.specs.declared.rule.K.TheVariants as k
 use Rattle.mz_cmd.specs.declared.code.ProofCode.TheVariants as code
@@ -17,17 +16,16 @@ use Rattle.mz_punify.specs.Stored.{IsItemIn, AreItemsIn, exprs_at}
 use Rattle.mz_unification.proofs.Offered.{taken-is}
 use Rattle.mz_punify.proofs.Offered.{items-in-both, listed-exprs}
 use Rattle.mz_numbered.proofs.Offered.{equal-same, equal-refl}
-use Rattle.mz_soundness.specs.Tables.{Tables, State, signatures_in}
+use Rattle.mz_soundness.specs.MachineState.{RowsBefore, State, signatures_in}
 use Rattle.mz_soundness.specs.Premises.{pop_expr, pop_obligation, pop_sides}
 use Rattle.mz_soundness.specs.ProofMachine.{proof_row, sides, same_term, stream_of, unfolding_of}
 use Rattle.mz_soundness.specs.Bodies.{row_steps}
-use Rattle.mz_pmachine.specs.OverNodes.{with_stack, pop_unfolding, Gives}
-use Rattle.mz_punify.specs.Rows.{StopsBy}
-use Rattle.mz_punify.specs.declared.command.Stop.{Stop}
-use Rattle.mz_punify.specs.declared.command.Stop.TheVariants.{Rule, Mem}
-
-pub true-false : true ≡ false → ⊥
-true-false e = cc
+use Rattle.mz_pmachine.specs.OverNodes.{with_stack, pop_unfolding}
+use Rattle.mz_machine.specs.OverStore.{Gives}
+use Rattle.mz_unify.specs.Rows.{StopsBy}
+use Rattle.mz_unify.specs.declared.stop.Stop.{Stop}
+use Rattle.mz_unify.specs.declared.stop.Stop.TheVariants.{Rule, Mem}
+use Rattle.mz_machine.proofs.Offered.{drop-all, drop-next, no-right}
 
 -- with one item more
 pub put_in : (s : Numbering) (old new : List Kept) (x : Kept) → new ≡ old ++ x ∷ [] → IsItemIn s x → AreItemsIn s old → AreItemsIn s new
@@ -57,7 +55,7 @@ no-one-term : (p : Option (ℕ × List Numbered)) → same_term p None ≡ None
 no-one-term None = refl
 no-one-term (Some p) = refl
 
-module _ (tables : Tables) (at n : ℕ) (st : State Numbered) (l r : Numbered) (xs : List (Item Numbered)) (taken : pop_obligation st.stack ≡ Ok (l, r, xs)) where
+module _ (tables : RowsBefore) (at n : ℕ) (st : State Numbered) (l r : Numbered) (xs : List (Item Numbered)) (taken : pop_obligation st.stack ≡ Ok (l, r, xs)) where
   pub refl-row : l ≡ r → proof_row portable tables at code.Refl n st ≡ Ok (with_stack st xs)
   unfolding proof_row
   refl-row e = rw (taken, same l r e) refl
@@ -95,22 +93,6 @@ module _ (tables : Tables) (at n : ℕ) (st : State Numbered) (l r : Numbered) (
   cong-row t h i = rw (taken, one-term t h i) refl
 
 -- ---- the sides of operands
-
--- from an item on there are those from the next on, and it before them
-drop-next : {A : Type 0} (xs : List A) (n : ℕ) (x : A) → slice_get xs n ≡ Some x → drop n xs ≡ x ∷ drop (suc n) xs
-drop-next [] n x h = absurd cc
-drop-next (y ∷ ys) zero x h = let is : y ≡ x = cc in rw is refl
-drop-next (y ∷ ys) (suc n) x h = drop-next ys n x h
-
-drop-all : {A : Type 0} (xs : List A) (n : ℕ) → length xs ≤ n → drop n xs ≡ []
-drop-all [] zero h = refl
-drop-all [] (suc n) h = refl
-drop-all (x ∷ xs) zero h = absurd (omega (arith, h))
-drop-all (x ∷ xs) (suc n) h = drop-all xs n (omega (arith, h))
-
-no-right : {T : Type 0} (es : List T) (xs : List (Item T)) → sides es [] xs ≡ xs
-no-right [] xs = refl
-no-right (e ∷ es) xs = refl
 
 module _ (s : Numbering) (ls rs : List Id) (xs : List (Item Numbered)) where
   -- the obligations between the operands from the n-th on
@@ -160,12 +142,12 @@ no-middle (obligation l r ∷ zs) d e = let is : k.Kind ≡ d = cc in rw is refl
 no-middle (conversion l r ∷ zs) d e = let is : k.Kind ≡ d = cc in rw is refl
 
 -- the definition's stream and operands, beside what an unfolding has taken
-abbrev unfolds : Tables → Numbered × Numbered × Numbered × List (Item Numbered) → Result (Matching Numbered × Numbered × List (Item Numbered)) K
+abbrev unfolds : RowsBefore → Numbered × Numbered × Numbered × List (Item Numbered) → Result (Matching Numbered × Numbered × List (Item Numbered)) K
 unfolds tables (e, l, r, xs) =
     want (parts_of l) k.Unfold >>= λ p. (want (stream_of (slice_get tables.terms p.0)) k.Unfold >>= λ stream.
     Ok (record { mode = in_definition; stream = stream; operands = p.1; target = e; items = [] }, r, xs))
 
-module _ (tables : Tables) (st : State Numbered) where
+module _ (tables : RowsBefore) (st : State Numbered) where
   by-taken : unfolding_of portable tables st ≡ (pop_unfolding st.stack >>= unfolds tables)
   unfolding unfolding_of
   by-taken = go (pop_expr st.stack)
@@ -219,16 +201,6 @@ module _ (tables : Tables) (st : State Numbered) where
 
     pub unfold-steps : (n : ℕ) → row_steps portable tables code.Unfold n st ≡ unify_steps portable (signatures_in tables) st.ctx m
     unfold-steps n = rw is refl
-
-pub least : (m n : ℕ) → (min m n ≤ m) × (min m n ≤ n) × ((m ≤ min m n) ⊎ (n ≤ min m n))
-least m n = (min-le_left m n, min-le_right m n, go (nat_le m n) refl)
-  where
-    go : (b : Bool) → nat_le m n ≡ b → (m ≤ min m n) ⊎ (n ≤ min m n)
-    go true is = inl (let same = min-eq_left (leb-true m n is) in omega (arith, same))
-    go false is = inr (let same = min-eq_right {n = n} {m = m} (omega (arith, leb-false m n is)) in omega (arith, same))
-
-pub one-before : (n : ℕ) → 0 < n → suc (n - 1) ≡ n
-one-before n h = omega (arith, h)
 
 -- what is put on the stack, or want of memory
 pub gives-stack : {A : Type 0} (st : State Numbered) (row : Result (State Numbered) K) (ys zs : List (Item Numbered)) (result : Result A Stop)

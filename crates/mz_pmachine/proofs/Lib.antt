@@ -8,7 +8,6 @@ mod TakenOperands
 mod FittingOperands
 mod Apartness
 mod TermResults
-mod Stopping
 mod Ending
 mod Advancing
 mod BodyUnderway

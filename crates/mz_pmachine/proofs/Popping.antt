@@ -1,5 +1,5 @@
 -- Items taken from a stack, and put on it.
-use Rattle.std.proofs.Common.{◌≡◌, ℕ, zero, suc, List, [], ◌∷◌, ◌++◌, Some, None, length, refl, ap, ◌∙◌, subst, arith}
+use Rattle.std.proofs.Common.{◌≡◌, ℕ, zero, suc, List, [], ◌∷◌, ◌++◌, Some, None, length, refl, ap, ◌∙◌, subst}
 use Rattle.std.specs.Prelude.{slice_get, ◌-◌}
 use Rattle.std.specs.Option.{option_map}
 use Rattle.std.proofs.lemmas.Option.{slice_get-map}
@@ -11,6 +11,10 @@ use Rattle.mz_unification.specs.Profile.{Item}
 use Rattle.mz_punify.specs.Stored.{item_at, items_at, IsItemIn, AreItemsIn}
 use Rattle.mz_punify.proofs.Offered.{items-in-left, items-in-right, items-push}
 use Rattle.mz_pmachine.specs.OverNodes.{heap_at}
+use Rattle.mz_machine.proofs.Offered.{last-splits, no-last}
+use Rattle.mz_soundness.specs.Premises.{is_obligation}
+use Rattle.mz_earlier.specs.Items.{is_owed}
+use Rattle.mz_store.specs.declared.item.Item.TheVariants.{Expr, Proof, Obligation, Conversion}
 
 pub popped : (s : Numbering) (old new : List Kept) (x : Kept) → old ≡ new ++ x ∷ [] → AreItemsIn s old → IsItemIn s x × AreItemsIn s new
 popped s old new x is h =
@@ -19,25 +23,14 @@ popped s old new x is h =
 
 -- ---- the top
 
-one-less : (n : ℕ) → suc (suc n) - 1 ≡ suc (suc n - 1)
-one-less n = omega arith
-
--- the last of a list
-pub last-splits : {A : Type 0} (xs : List A) (x : A) → slice_get xs (length xs - 1) ≡ Some x → (front : List A) × (xs ≡ front ++ x ∷ [])
-last-splits [] x h = absurd cc
-last-splits (y ∷ []) x h = let same : y ≡ x = cc in ([], rw same refl)
-last-splits (y ∷ z ∷ zs) x h =
-    let (front, is) = last-splits (z ∷ zs) x (subst (λ n. slice_get (y ∷ z ∷ zs) n ≡ Some x) (one-less (length zs)) h) in
-    (y ∷ front, ap (λ ws. y ∷ ws) is)
-
-pub no-last : {A : Type 0} (xs : List A) → slice_get xs (length xs - 1) ≡ None → xs ≡ []
-no-last [] h = refl
-no-last (y ∷ []) h = absurd cc
-no-last (y ∷ z ∷ zs) h =
-    let none : z ∷ zs ≡ [] = no-last (z ∷ zs) (subst (λ n. slice_get (y ∷ z ∷ zs) n ≡ None) (one-less (length zs)) h) in
-    absurd cc
-
 module _ (s : Numbering) where
+  -- what is still to be shown is an obligation
+  pub owed : (x : Kept) → is_obligation (item_at s x) ≡ is_owed x
+  owed (Expr i) = refl
+  owed (Proof i) = refl
+  owed (Obligation i j) = refl
+  owed (Conversion i j) = refl
+
   pub top-is : (xs : List Kept) (x : Kept) → slice_get xs (length xs - 1) ≡ Some x → (rest : List (Item Numbered)) × (items_at s xs ≡ item_at s x ∷ rest)
   top-is xs x h = let (front, is) = last-splits xs x h in (items_at s front, ap (items_at s) is ∙ items-push s front x)
 

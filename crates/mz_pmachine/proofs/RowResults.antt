@@ -11,7 +11,7 @@ use Rattle.mz_unification.specs.Spells.{dummy_of}
 use Rattle.mz_numbered.specs.Numbered.{Numbered, a_variable, tree_of, equal, portable}
 use Rattle.mz_unification.specs.Profile.{Item, expr, proof, obligation, conversion}
 use Rattle.mz_numbered.proofs.Offered.{equal-same, equal-refl}
-use Rattle.mz_soundness.specs.Tables.{Tables, State}
+use Rattle.mz_soundness.specs.MachineState.{RowsBefore, State}
 use Rattle.mz_soundness.specs.Premises.{pop_expr, pop_obligation, is_conversion, is_obligation, may_be_dummy_sort, is_provable_sort, bound_count}
 use Rattle.mz_soundness.specs.ProofMachine.{proof_row, referred, has_provable_sort}
 use Rattle.mz_earlier.specs.Before.{Before, tables_of, signatures_of}
@@ -46,7 +46,7 @@ module _ (st : State Numbered) (l r : Numbered) where
   pub pay-row : (a b : Numbered) (rest : List (Item Numbered)) → pop_obligation st.stack ≡ Ok (a, b, rest) → l ≡ a → r ≡ b → referred portable (conversion l r) st ≡ Ok (with_stack st rest)
   pay-row a b rest h left right = rw (h, left, right, equal-refl a, equal-refl b) refl
 
-module _ (tables : Tables) (at n : ℕ) (st : State Numbered) where
+module _ (tables : RowsBefore) (at n : ℕ) (st : State Numbered) where
   -- ---- Ref
 
   pub ref-none : slice_get st.heap n ≡ None → proof_row portable tables at code.Ref n st ≡ Err k.HeapIndex

@@ -15,7 +15,7 @@ use Rattle.mz_nodes.specs.Numbering.{trees_of as trees_in}
 use Rattle.mz_store.specs.declared.item.Id.{Id}
 use Rattle.mz_store.specs.declared.item.Item.{Item as Kept}
 use Rattle.mz_store.specs.declared.item.Item.TheVariants.{Expr, Proof, Obligation, Conversion}
-use Rattle.mz_unification.specs.Spells.{TermRow, trees_of}
+use Rattle.mz_unification.specs.Spells.{SpelledTerm, trees_of}
 use Rattle.mz_unification.specs.Sorted.{AllSorted}
 use Rattle.mz_numbered.specs.Numbered.{Numbered, an_application, operands_from, tree_of, portable}
 use Rattle.mz_unification.specs.Profile.{Item, expr, proof}
@@ -24,7 +24,7 @@ use Rattle.mz_unification.specs.Steps.{◌>>=◌}
 use Rattle.std.specs.Prelude.{reverse}
 use Rattle.std.proofs.lemmas.List.{reverse-append}
 use Rattle.mz_punify.proofs.Offered.{items-in-both, still-in, length-trees, trees-of}
-use Rattle.mz_soundness.specs.Tables.{Tables, signatures_in, State}
+use Rattle.mz_soundness.specs.MachineState.{RowsBefore, signatures_in, State}
 use Rattle.mz_soundness.specs.Premises.{pop_operands, operands_fit}
 use Rattle.mz_soundness.specs.ProofMachine.{proof_row, built, push, saved}
 use Rattle.mz_earlier.specs.Before.{Before, signatures_of, words_before}
@@ -34,7 +34,7 @@ use Rattle.mz_earlier.proofs.Offered.{length-words, words-at, signatures-before}
 use Rattle.mz_store.proofs.Offered.{binders-many}
 use Rattle.mz_nodes.proofs.Offered.{entry-kept}
 
-module _ (tables : Tables) (at t : ℕ) (st : State Numbered) where
+module _ (tables : RowsBefore) (at t : ℕ) (st : State Numbered) where
   -- ---- what is made decides
 
   pub term-of : (r : Result (Numbered × List (Item Numbered)) K) → built portable tables at t st ≡ r → proof_row portable tables at code.Term t st ≡ (r >>= λ e. Ok (push (expr e.0) e.1 st))
@@ -49,7 +49,7 @@ module _ (tables : Tables) (at t : ℕ) (st : State Numbered) where
   unfolding built
   built-none h = rw h refl
 
-  module _ (row : TermRow) (there : slice_get tables.terms t ≡ Some row) where
+  module _ (row : SpelledTerm) (there : slice_get tables.terms t ≡ Some row) where
     pub built-few : (rule : K) → pop_operands (length row.signature.params) st.stack ≡ Err rule → built portable tables at t st ≡ Err rule
     unfolding built
     built-few rule h = rw (there, h) refl

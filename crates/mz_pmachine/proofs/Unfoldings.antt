@@ -1,5 +1,5 @@
 -- Unfoldings over a store: what stands on the stack, and what the unify machine makes of it.
-use Rattle.std.proofs.Common.{◌≡◌, ◌<◌, ◌+◌, ℕ, List, [], ◌∷◌, ◌++◌, length, drop, true, false, Some, None, Result, Ok, Err, slice_get, refl, sym, ap, ◌∙◌, subst, arith}
+use Rattle.std.proofs.Common.{◌≡◌, ◌<◌, ◌+◌, ℕ, List, [], ◌∷◌, ◌++◌, length, drop, Some, Result, Ok, Err, slice_get, refl, sym, ap, ◌∙◌, subst}
 use Rattle.std.specs.Prelude.{OnOk}
 use Rattle.std.proofs.lemmas.Option.{slice_get_within}
 use Rattle.std.proofs.lemmas.List.{length-map}
@@ -17,12 +17,8 @@ use Rattle.mz_unification.specs.UnifyMachine.{in_definition, Matching, unify, un
 use Rattle.mz_punify.specs.Stored.{IsItemIn, AreItemsIn, item_at, items_at, exprs_at, matching_at}
 use Rattle.mz_punify.proofs.Offered.{items-push}
 use Rattle.mz_unify.specs.declared.unified.UnifyMode.TheVariants.{Body}
-use Rattle.mz_soundness.specs.ProofMachine.{stream_of}
-use Rattle.mz_pmachine.specs.OverNodes.{UnlessMem}
-use Rattle.mz_punify.specs.declared.command.Stop.{Stop}
-use Rattle.mz_punify.specs.declared.command.Stop.TheVariants.{Rule, Mem}
-use Rattle.mz_earlier.specs.Before.{Before, tables_of, signatures_of, words_before}
-use Rattle.mz_earlier.proofs.Offered.{signatures-before, length-words, term-before}
+use Rattle.mz_earlier.specs.Before.{Before, signatures_of, words_before}
+use Rattle.mz_earlier.proofs.Offered.{signatures-before}
 use Rattle.mz_pmachine.proofs.Converting.{put_in}
 
 -- ---- terms of expressions
@@ -39,17 +35,6 @@ pub term-there : (b : Before) (s : Numbering) → IsOver (signatures_of b) s →
 term-there b s over i t within is =
     subst (λ n. t < n) (ap length (sym (signatures-before b)) ∙ as-many (words_before b)) (head-there (signatures_of b) s.context (expr_of s i) _ t (over i within).0.0 is)
 
-pub row-there : (b : Before) (t : ℕ) → t < length (words_before b) → t < b.rows.terms
-row-there b t below = omega (arith, below, length-words b)
-
--- a definition's stream, and that a plain term has none
-pub stream-there : (b : Before) (t : ℕ) → t < b.rows.terms → (term_row b.file t).words.has_body ≡ true
-    → stream_of (slice_get (tables_of b).terms t) ≡ Some (drop (term_row b.file t).stream_at b.file)
-stream-there b t below has = ap stream_of (term-before b t below) ∙ rw has refl
-
-pub no-stream : (b : Before) (t : ℕ) → t < b.rows.terms → (term_row b.file t).words.has_body ≡ false → stream_of (slice_get (tables_of b).terms t) ≡ None
-no-stream b t below has = ap stream_of (term-before b t below) ∙ rw has refl
-
 -- ---- the run
 
 module _ (b : Before) (s : Numbering) (ctx : List Binder) (same : ctx ≡ s.context) (t : ℕ) (l : Numbered) (target : Id) where
@@ -65,12 +50,6 @@ module _ (b : Before) (s : Numbering) (ctx : List Binder) (same : ctx ≡ s.cont
 
 -- ---- counting
 
-pub no-more : (m n : ℕ) → n ≡ 0 → m ≡ m + n
-no-more m n is = omega (arith, is)
-
-pub so-many : (m n k l : ℕ) → k ≡ m + l → n ≡ l → k ≡ m + n
-so-many m n k l is same = omega (arith, is, same)
-
 pub ids-pushed : {A F : Type 0} (s : Numbering) (old new : List Kept) (x : Kept) (result : Result A F) → OnOk result (new ≡ old ++ x ∷ []) → IsItemIn s x → AreItemsIn s old → OnOk result (AreItemsIn s new)
 ids-pushed s old new x (Ok y) is one all = put_in s old new x is one all
 ids-pushed s old new x (Err f) is one all = tt
@@ -78,13 +57,3 @@ ids-pushed s old new x (Err f) is one all = tt
 pub items-pushed : {A F : Type 0} (s : Numbering) (old new : List Kept) (x : Kept) (result : Result A F) → OnOk result (new ≡ old ++ x ∷ []) → OnOk result (items_at s new ≡ item_at s x ∷ items_at s old)
 items-pushed s old new x (Ok y) is = ap (items_at s) is ∙ items-push s old x
 items-pushed s old new x (Err f) is = tt
-
-pub unless-mem : {A P : Type 0} (result : Result A Stop) → P → UnlessMem result P
-unless-mem (Ok x) p = p
-unless-mem (Err Mem) p = tt
-unless-mem (Err (Rule k)) p = p
-
-pub unless-more : {A : Type 0} (result : Result A Stop) (m n k l : ℕ) → UnlessMem result (k ≡ m + l) → n ≡ l → UnlessMem result (k ≡ m + n)
-unless-more (Ok x) m n k l h same = so-many m n k l h same
-unless-more (Err Mem) m n k l h same = tt
-unless-more (Err (Rule d)) m n k l h same = so-many m n k l h same

@@ -1,7 +1,7 @@
 -- What is answered where a body has run by address.
 use Rattle.std.specs.Prelude.{◌≡◌, ℕ, ⊤, ◌+◌, false, length, Result, Ok, Err}
 use Rattle.mz_cmd.specs.declared.rule.K.{K}
-use Rattle.mz_soundness.specs.Tables.{State, Heading}
+use Rattle.mz_soundness.specs.MachineState.{State, Heading}
 use Rattle.mz_machine.specs.declared.body.BodyEnd.{BodyEnd}
 use Rattle.mz_machine.specs.declared.body.BodyChecked.{BodyChecked}
 use Rattle.mz_machine.specs.declared.body.BodyChecked.TheVariants.{Good, Refused, Mem}

@@ -1,5 +1,5 @@
 -- The proof machine over nodes: expressions are ids, and a state is that of the expressions, numbers and all.
-use Rattle.std.specs.Prelude.{◌≡◌, ℕ, ◌<◌, ◌^◌, List, ◌++◌, length, map, All as Every, MatchResult, Result, Ok, Err}
+use Rattle.std.specs.Prelude.{◌≡◌, ℕ, ◌<◌, ◌^◌, List, ◌++◌, length, map, All as Every, Result, Ok}
 use Rattle.mz_cmd.specs.declared.rule.K.{K}
 use Rattle.mz_cmd.specs.declared.code.ProofCode.{ProofCode}
 use Rattle.mz_cmd.specs.declared.code.ProofCode.TheVariants as code
@@ -10,23 +10,18 @@ use Rattle.mz_store.specs.declared.item.Id.{Id}
 use Rattle.mz_store.specs.declared.item.Item.{Item as Kept}
 use Rattle.mz_unification.specs.Steps.{◌>>=◌}
 use Rattle.mz_unification.specs.Profile.{Item}
-use Rattle.mz_soundness.specs.Tables.{State, signatures_in}
+use Rattle.mz_soundness.specs.MachineState.{State, signatures_in}
 use Rattle.mz_soundness.specs.Premises.{pop_expr, pop_sides}
 use Rattle.mz_earlier.specs.OwnRow.{kind_at, heading_of, MayRun, mode_for}
 use Rattle.mz_earlier.specs.Before.{tables_before}
+use Rattle.mz_earlier.specs.CommandCodes.{code_of_making, code_of_converting}
 use Rattle.mz_machine.specs.OverStore.{IsContextOf}
 use Rattle.mz_layout.specs.declared.taken.Rows.{Rows}
 use Rattle.mz_numbered.specs.Numbered.{Numbered, a_variable, portable}
 use Rattle.mz_nodes.specs.Numbering.{Numbering, expr_of, IsIn, AreIn, IsOver, KeepsIds}
 use Rattle.mz_punify.specs.Stored.{exprs_at, item_at, items_at, AreItemsIn}
-use Rattle.mz_punify.specs.Rows.{StopsBy}
-use Rattle.mz_punify.specs.declared.command.Stop.{Stop}
-use Rattle.mz_pmachine.specs.declared.command.Making.{Making}
-use Rattle.mz_pmachine.specs.declared.command.Making.TheVariants as making
 use Rattle.mz_pmachine.specs.declared.command.Keeping.{Keeping}
 use Rattle.mz_pmachine.specs.declared.command.Keeping.TheVariants as keeping
-use Rattle.mz_pmachine.specs.declared.command.Converting.{Converting}
-use Rattle.mz_pmachine.specs.declared.command.Converting.TheVariants as converting
 use Rattle.mz_pmachine.specs.declared.command.Command.{Command}
 use Rattle.mz_pmachine.specs.declared.command.Command.TheVariants.{Makes, Keeps, Converts}
 
@@ -50,42 +45,16 @@ pop_unfolding xs = pop_expr xs >>= λ e. (pop_sides portable e.1 >>= λ o. Ok (e
 
 -- ---- commands
 
-abbrev pub code_of_making : Making → ProofCode
-code_of_making making.Term = code.Term
-code_of_making making.TermSave = code.TermSave
-code_of_making making.Thm = code.Thm
-code_of_making making.ThmSave = code.ThmSave
-
 abbrev pub code_of_keeping : Keeping → ProofCode
 code_of_keeping keeping.Ref = code.Ref
 code_of_keeping keeping.Dummy = code.Dummy
 code_of_keeping keeping.Hyp = code.Hyp
 code_of_keeping keeping.Save = code.Save
 
-abbrev pub code_of_converting : Converting → ProofCode
-code_of_converting converting.Conv = code.Conv
-code_of_converting converting.Refl = code.Refl
-code_of_converting converting.Symm = code.Symm
-code_of_converting converting.Cong = code.Cong
-code_of_converting converting.Unfold = code.Unfold
-code_of_converting converting.ConvCut = code.ConvCut
-code_of_converting converting.ConvSave = code.ConvSave
-code_of_converting converting.Sorry = code.Sorry
-
 abbrev pub code_of : Command → ProofCode
 code_of (Makes c) = code_of_making c
 code_of (Keeps c) = code_of_keeping c
 code_of (Converts c) = code_of_converting c
-
--- ---- answers
-
--- what goes through gives what is computed, and what a rule stops is refused by it
-abbrev pub Gives : {A B : Type 0} → Result B K → Result A Stop → (A → B) → Type 0
-Gives r result value = MatchResult result (λ x. r ≡ Ok (value x)) (λ stop. StopsBy stop (λ k. r ≡ Err k))
-
--- it isn't want of memory, and this holds; or it is
-abbrev pub UnlessMem : {A : Type 0} → Result A Stop → Type 0 → Type 0
-UnlessMem result P = MatchResult result (λ _. P) (λ stop. StopsBy stop (λ _. P))
 
 -- ---- the nodes under a command
 

@@ -1,7 +1,7 @@
 -- A machine in two parts: the statement whose body runs, and what its commands change.
 use Rattle.std.specs.Prelude.{◌≡◌, length}
 use Rattle.mz_store.specs.Bits.{bound_vars}
-use Rattle.mz_earlier.specs.OwnRow.{heading_of}
+use Rattle.mz_earlier.specs.OwnRow.{byte_of, heading_of}
 use Rattle.mz_pmachine.specs.OverNodes.{IsUnderway, state_at}
 use Rattle.mz_pmachine.specs.Steps.{Underway}
 use Rattle.mz_pmachine.specs.declared.machine.Setting.{Setting}
@@ -9,9 +9,9 @@ use Rattle.mz_pmachine.specs.declared.machine.Parts.{Parts}
 
 -- the machine that both are
 abbrev pub machine_of : Setting → Parts → Underway
-machine_of t p = record { file = t.earlier.file; kind = t.kind; row = t.row; before = t.earlier.rows; state = state_at p.nodes p.heap.items p.stack.items p.hyps.items; next = p.nodes.next }
+machine_of t p = record { file = t.earlier.file; kind = byte_of t.kind; row = t.row; before = t.earlier.rows; state = state_at p.nodes p.heap.items p.stack.items p.hyps.items; next = p.nodes.next }
 
 abbrev pub IsRunning : Setting → Parts → Type 0
 IsRunning t p =
-    IsUnderway t.earlier.file t.kind t.row t.earlier.rows p.nodes p.heap.items p.stack.items p.hyps.items
-    × (t.bound_params ≡ length (bound_vars (heading_of t.earlier.file t.kind t.row).params))
+    IsUnderway t.earlier.file (byte_of t.kind) t.row t.earlier.rows p.nodes p.heap.items p.stack.items p.hyps.items
+    × (t.bound_params ≡ length (bound_vars (heading_of t.earlier.file (byte_of t.kind) t.row).params))

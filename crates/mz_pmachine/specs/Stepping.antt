@@ -1,20 +1,18 @@
 -- What a machine answers to a command, and to the END.
 use Rattle.std.specs.Prelude.{◌≡◌, ℕ, ⊤, ◌+◌, ◌≤◌, List, Result, Ok, Err}
 use Rattle.mz_cmd.specs.declared.command.Cmd.{Cmd}
-use Rattle.mz_soundness.specs.Tables.{State}
+use Rattle.mz_soundness.specs.MachineState.{State}
 use Rattle.mz_soundness.specs.ProofMachine.{proof_end}
 use Rattle.mz_soundness.specs.Bodies.{body_start}
 use Rattle.mz_earlier.specs.OwnRow.{heading_of}
 use Rattle.mz_layout.specs.declared.taken.Rows.{Rows}
-use Rattle.mz_machine.specs.declared.body.BodyChecked.{BodyChecked}
-use Rattle.mz_machine.specs.declared.body.BodyChecked.TheVariants.{Good, Refused, Mem}
 use Rattle.mz_numbered.specs.Numbered.{Numbered, portable}
 use Rattle.mz_pmachine.specs.Steps.{Underway, tables_for, heading_for, row_of}
 use Rattle.mz_pmachine.specs.BodyAnswers.{CountsOf}
-use Rattle.mz_punify.specs.declared.command.Stop.{Stop}
-use Rattle.mz_punify.specs.declared.command.Stop.TheVariants as stop
-use Rattle.mz_pmachine.specs.declared.machine.Finished.{Finished}
-use Rattle.mz_pmachine.specs.declared.machine.Finished.TheVariants as finished
+use Rattle.mz_unify.specs.declared.stop.Stop.{Stop}
+use Rattle.mz_unify.specs.declared.stop.Stop.TheVariants as stop
+use Rattle.mz_machine.specs.declared.machine.Finished.{Finished}
+use Rattle.mz_machine.specs.declared.machine.Finished.TheVariants as finished
 
 -- the machine before the first command
 pub record IsBegun (file : List ℕ) (kind row : ℕ) (before : Rows) (u : Underway) : Type 0 where
@@ -41,11 +39,6 @@ IsStepped u c at after (Ok x) = (row_of (tables_for u) (heading_for u) at u.stat
 IsStepped u c at after (Err (stop.Rule rule)) = row_of (tables_for u) (heading_for u) at u.state c ≡ Err rule
 IsStepped u c at after (Err stop.Mem) = ⊤
 
--- what stops a command at a place, as what became of the body
-abbrev pub stopped_at : ℕ → Stop → BodyChecked
-stopped_at at (stop.Rule rule) = Refused at rule
-stopped_at at stop.Mem = Mem
-
 -- ---- the END
 
 -- what the END leads to; want of memory says nothing
@@ -53,14 +46,3 @@ abbrev pub IsFinished : Underway → Finished → Type 0
 IsFinished u (finished.Body end) = (last : State Numbered) × (proof_end portable (tables_for u) (heading_for u) u.state ≡ Ok last) × CountsOf (heading_for u) last end
 IsFinished u (finished.Refused rule) = proof_end portable (tables_for u) (heading_for u) u.state ≡ Err rule
 IsFinished u finished.Mem = ⊤
-
-abbrev pub UnlessEndMem : Finished → Type 0 → Type 0
-UnlessEndMem (finished.Body end) P = P
-UnlessEndMem (finished.Refused rule) P = P
-UnlessEndMem finished.Mem P = ⊤
-
--- what the END at a place makes of the body
-abbrev pub ended_at : ℕ → Finished → BodyChecked
-ended_at at (finished.Body end) = Good end
-ended_at at (finished.Refused rule) = Refused at rule
-ended_at at finished.Mem = Mem

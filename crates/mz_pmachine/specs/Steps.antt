@@ -3,7 +3,7 @@ use Rattle.std.specs.Prelude.{ℕ, suc, List, Option, Some, None, Result, Err}
 use Rattle.mz_cmd.specs.declared.rule.K.{K}
 use Rattle.mz_cmd.specs.declared.rule.K.TheVariants as k
 use Rattle.mz_cmd.specs.declared.command.Cmd.{Cmd}
-use Rattle.mz_soundness.specs.Tables.{Tables, State, Heading}
+use Rattle.mz_soundness.specs.MachineState.{RowsBefore, State, Heading}
 use Rattle.mz_soundness.specs.ProofMachine.{proof_row, ends_with}
 use Rattle.mz_soundness.specs.Bodies.{BodyCommand, ends, proves, body_command, row_steps, match_steps}
 use Rattle.mz_earlier.specs.OwnRow.{heading_of}
@@ -21,7 +21,7 @@ pub record Underway : Type 0 where
   pub state : State Numbered
   pub next : ℕ
 
-abbrev pub tables_for : Underway → Tables
+abbrev pub tables_for : Underway → RowsBefore
 tables_for u = tables_before u.file u.before
 
 abbrev pub heading_for : Underway → Heading
@@ -30,23 +30,23 @@ heading_for u = heading_of u.file u.kind u.row
 -- ---- one command
 
 -- the row of a command other than END; one that is not of this body has none
-abbrev pub row_by : Tables → ℕ → State Numbered → Option BodyCommand → Result (State Numbered) K
+abbrev pub row_by : RowsBefore → ℕ → State Numbered → Option BodyCommand → Result (State Numbered) K
 row_by tables at st None = Err k.Command
 row_by tables at st (Some ends) = Err k.Command
 row_by tables at st (Some (proves c value)) = proof_row portable tables at c value st
 
-abbrev pub row_of : Tables → Heading → ℕ → State Numbered → Cmd → Result (State Numbered) K
+abbrev pub row_of : RowsBefore → Heading → ℕ → State Numbered → Cmd → Result (State Numbered) K
 row_of tables h at st c = row_by tables at st (body_command portable h.kind c.code c.value)
 
 -- it and the unify commands that it executes
-abbrev pub steps_by : Tables → State Numbered → Option BodyCommand → ℕ
+abbrev pub steps_by : RowsBefore → State Numbered → Option BodyCommand → ℕ
 steps_by tables st None = 1
 steps_by tables st (Some ends) = 1
 steps_by tables st (Some (proves c value)) = suc (row_steps portable tables c value st)
 
-abbrev pub steps_for : Tables → Heading → State Numbered → Cmd → ℕ
+abbrev pub steps_for : RowsBefore → Heading → State Numbered → Cmd → ℕ
 steps_for tables h st c = steps_by tables st (body_command portable h.kind c.code c.value)
 
 -- the END, and the commands of the row's own stream that it executes
-abbrev pub end_steps : Tables → Heading → State Numbered → ℕ
+abbrev pub end_steps : RowsBefore → Heading → State Numbered → ℕ
 end_steps tables h st = suc (match_steps portable tables st (ends_with portable tables h st))

@@ -8,14 +8,13 @@ ghost use Rattle.mz_earlier.specs.OwnRow.{MayRun, heading_of};
 ghost use Rattle.mz_earlier.specs.Before.{tables_before};
 ghost use Rattle.mz_machine.specs.BodyAnswers.{UnlessMem};
 ghost use Rattle.mz_pmachine.specs.BodyAnswers.{IsBodyRun};
-ghost use Rattle.mz_pmachine.specs.Stepping.{ended_at, stopped_at};
 ghost use Rattle.mz_pmachine.specs.Running.{IsRunning, machine_of};
 
-use crate::machine::{Finished, Machine};
+use crate::machine::{Parts, Setting};
+use crate::room::{Desk, PortableRoom};
 use mz_cmd::{END, K, Steps, cmd_at};
 use mz_layout::{Mmb, Rows};
 use mz_machine::BodyChecked;
-use mz_punify::Stop;
 use std::alloc::Global;
 use std::sync::ledger::Ledger;
 
@@ -43,23 +42,85 @@ pub fn check_portable<L: Ledger>(
     ensures most { steps.new ≤ steps.old + (body.1 - body.0) * (length mmb.now + 1) }
     ensures steps { UnlessMem result (steps.new ≡ steps.old + body_steps portable (tables_before mmb.now before) (heading_of mmb.now kind row) body.0 (body_bytes mmb.now body.0 body.1)) }
 {
-    let Ok(machine) = Machine::begin(alloc, mmb, kind, row, before) else {
+    let mut room = PortableRoom::new();
+    check_portable_in(alloc, &mut room, mmb, kind, row, before, body, steps)
+}
+
+/// Runs the body of a statement as `check_portable` does, in room that earlier bodies may have left.
+pub fn check_portable_in<L: Ledger>(
+    alloc: Global,
+    room: &mut PortableRoom,
+    mmb: &Mmb,
+    kind: u8,
+    row: u32,
+    before: Rows,
+    body: (u32, u32),
+    steps: &mut Steps<L>,
+) -> BodyChecked
+    requires may_run { MayRun mmb.now kind row before }
+    requires order { body.0 ≤ body.1 }
+    requires within { body.1 ≤ length mmb.now }
+    ensures run { IsBodyRun (heading_of mmb.now kind row) (body_run portable (tables_before mmb.now before) (heading_of mmb.now kind row) body.0 (body_bytes mmb.now body.0 body.1)) result }
+    ensures most { steps.new ≤ steps.old + (body.1 - body.0) * (length mmb.now + 1) }
+    ensures steps { UnlessMem result (steps.new ≡ steps.old + body_steps portable (tables_before mmb.now before) (heading_of mmb.now kind row) body.0 (body_bytes mmb.now body.0 body.1)) }
+{
+    let Ok(mut desk) = room.take(alloc) else {
+        return BodyChecked::Mem;
+    };
+    let checked = check_on(alloc, &mut desk, mmb, kind, row, before, body, steps);
+    room.keep(desk);
+    checked
+}
+
+/// Runs the body of a statement on a desk, whatever lies on it.
+fn check_on<L: Ledger>(
+    alloc: Global,
+    desk: &mut Desk,
+    mmb: &Mmb,
+    kind: u8,
+    row: u32,
+    before: Rows,
+    body: (u32, u32),
+    steps: &mut Steps<L>,
+) -> BodyChecked
+    requires may_run { MayRun mmb.now kind row before }
+    requires order { body.0 ≤ body.1 }
+    requires within { body.1 ≤ length mmb.now }
+    ensures run { IsBodyRun (heading_of mmb.now kind row) (body_run portable (tables_before mmb.now before) (heading_of mmb.now kind row) body.0 (body_bytes mmb.now body.0 body.1)) result }
+    ensures most { steps.new ≤ steps.old + (body.1 - body.0) * (length mmb.now + 1) }
+    ensures steps { UnlessMem result (steps.new ≡ steps.old + body_steps portable (tables_before mmb.now before) (heading_of mmb.now kind row) body.0 (body_bytes mmb.now body.0 body.1)) }
+{
+    let Ok(setting) = Setting::begin(
+        alloc,
+        mmb,
+        kind,
+        row,
+        before,
+        &mut desk.words,
+        &mut desk.parts,
+    ) else {
         return BodyChecked::Mem;
     };
     let bytes = &mmb.file()[body.0 as usize..body.1 as usize];
-    run(machine, bytes, body.0, steps)
+    run(&setting, &mut desk.parts, bytes, body.0, steps)
 }
 
-/// Runs the commands of a body, whose first byte stands at a place of the file.
-fn run<L: Ledger>(start: Machine, bytes: &[u8], from: u32, steps: &mut Steps<L>) -> BodyChecked
+/// Runs the commands of a body, whose first byte stands at a place of the file, on the parts before
+/// the first one.
+fn run<L: Ledger>(
+    setting: &Setting,
+    parts: &mut Parts,
+    bytes: &[u8],
+    from: u32,
+    steps: &mut Steps<L>,
+) -> BodyChecked
     requires within { from + length bytes.now < 2 ^ 32 }
-    requires running { IsRunning start.setting start.parts }
-    requires first { (machine_of start.setting start.parts).next ≡ 0 }
-    ensures run { IsBodyRun (heading_for (machine_of start.entry.setting start.entry.parts)) (body_from portable (tables_for (machine_of start.entry.setting start.entry.parts)) (heading_for (machine_of start.entry.setting start.entry.parts)) (length bytes.now) from bytes.now (machine_of start.entry.setting start.entry.parts).state) result }
-    ensures steps { UnlessMem result (steps.new ≡ steps.old + body_steps_from portable (tables_for (machine_of start.entry.setting start.entry.parts)) (heading_for (machine_of start.entry.setting start.entry.parts)) (length bytes.now) from bytes.now (machine_of start.entry.setting start.entry.parts).state) }
-    ensures most { steps.new ≤ steps.old + length bytes.now * (length start.entry.setting.earlier.file + 1) }
+    requires running { IsRunning setting.now parts.old }
+    requires first { (machine_of setting.now parts.old).next ≡ 0 }
+    ensures run { IsBodyRun (heading_for (machine_of setting.now parts.old)) (body_from portable (tables_for (machine_of setting.now parts.old)) (heading_for (machine_of setting.now parts.old)) (length bytes.now) from bytes.now (machine_of setting.now parts.old).state) result }
+    ensures steps { UnlessMem result (steps.new ≡ steps.old + body_steps_from portable (tables_for (machine_of setting.now parts.old)) (heading_for (machine_of setting.now parts.old)) (length bytes.now) from bytes.now (machine_of setting.now parts.old).state) }
+    ensures most { steps.new ≤ steps.old + length bytes.now * (length setting.now.earlier.file + 1) }
 {
-    let Machine { setting, mut parts } = start;
     let mut at = 0;
     'commands: loop {
         let Ok(cmd) = cmd_at(bytes, at) else {
@@ -76,32 +137,11 @@ fn run<L: Ledger>(start: Machine, bytes: &[u8], from: u32, steps: &mut Steps<L>)
                     rule: K::StatementLength,
                 };
             }
-            return ended(from + at, setting.finish(&parts, steps));
+            return BodyChecked::ended(from + at, setting.finish(parts, steps));
         }
-        match setting.advance(&mut parts, from + at, cmd, steps) {
+        match setting.advance(parts, from + at, cmd, steps) {
             Ok(()) => at = next,
-            Err(stop) => return stopped(from + at, stop),
+            Err(stop) => return BodyChecked::stopped(from + at, stop),
         }
-    }
-}
-
-/// What stops a command at a place, as what became of the body.
-fn stopped(at: u32, stop: Stop) -> BodyChecked
-    ensures { result ≡ stopped_at at stop }
-{
-    match stop {
-        Stop::Rule(rule) => BodyChecked::Refused { at, rule },
-        Stop::Mem => BodyChecked::Mem,
-    }
-}
-
-/// What the END at a place makes of the body.
-fn ended(at: u32, finished: Finished) -> BodyChecked
-    ensures { result ≡ ended_at at finished }
-{
-    match finished {
-        Finished::Body(end) => BodyChecked::Good(end),
-        Finished::Refused(rule) => BodyChecked::Refused { at, rule },
-        Finished::Mem => BodyChecked::Mem,
     }
 }

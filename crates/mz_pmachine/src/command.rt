@@ -7,16 +7,7 @@ ghost use Rattle.mz_pmachine.specs.OverNodes.{code_of};
 ghost use Rattle.mz_numbered.specs.Numbered.{portable};
 
 use mz_cmd::ProofCode;
-use mz_earlier::BodyKind;
-
-/// A command that makes an expression or a proof.
-#[derive(Clone, Copy, Debug, PartialEq, Eq)]
-pub(crate) enum Making {
-    Term,
-    TermSave,
-    Thm,
-    ThmSave,
-}
+use mz_earlier::{BodyKind, Converting, Making};
 
 /// A command over the heap.
 #[derive(Clone, Copy, Debug, PartialEq, Eq)]
@@ -25,19 +16,6 @@ pub(crate) enum Keeping {
     Dummy,
     Hyp,
     Save,
-}
-
-/// A command on conversions, and the gap.
-#[derive(Clone, Copy, Debug, PartialEq, Eq)]
-pub(crate) enum Converting {
-    Conv,
-    Refl,
-    Symm,
-    Cong,
-    Unfold,
-    ConvCut,
-    ConvSave,
-    Sorry,
 }
 
 /// A command of a body other than END; its operand stands beside it.

@@ -3,27 +3,27 @@ pub(crate) mod conversions;
 pub(crate) mod heap;
 pub(crate) mod terms;
 
-ghost use Rattle.std.specs.Prelude.{ℕ, ◌≡◌, ◌<◌, ◌≤◌, ◌+◌, ◌++◌, ◌∷◌, ◌^◌, [], ⊤, List, OnOk, IsTrue, MatchResult, length};
+ghost use Rattle.std.specs.Prelude.{ℕ, ◌≡◌, ◌<◌, ◌≤◌, ◌+◌, ◌^◌, List, OnOk, length};
 ghost use Rattle.mz_nodes.specs.Numbering.{AreIn, IsOver};
 ghost use Rattle.mz_store.specs.declared.item.Id.{Id};
-ghost use Rattle.mz_store.specs.declared.item.Item.TheVariants.{Proof};
 ghost use Rattle.mz_punify.specs.Stored.{AreItemsIn};
 ghost use Rattle.mz_soundness.specs.ProofMachine.{proof_row};
 ghost use Rattle.mz_soundness.specs.Bodies.{row_steps};
 ghost use Rattle.mz_earlier.specs.Before.{tables_of, signatures_of};
-ghost use Rattle.mz_pmachine.specs.OverNodes.{state_at, code_of, code_of_making, code_of_keeping, code_of_converting, Gives, UnlessMem, Grows};
-ghost use Rattle.mz_punify.specs.Rows.{StopsBy};
+ghost use Rattle.mz_pmachine.specs.OverNodes.{state_at, code_of, code_of_keeping, Grows};
+ghost use Rattle.mz_earlier.specs.CommandCodes.{code_of_making, code_of_converting};
+ghost use Rattle.mz_machine.specs.OverStore.{Gives, UnlessMem};
 ghost use Rattle.mz_numbered.specs.Numbered.{portable};
 
-use crate::command::{Command, Converting, Keeping, Making};
-use crate::stack::{push, push_id};
+use crate::command::{Command, Keeping};
 use conversions::{cong, conv, conv_cut, conv_save, refl, symm, unfold};
 use heap::{dummy, hyp, refer, save};
 use mz_cmd::{K, Steps};
-use mz_earlier::Earlier;
+use mz_earlier::{Converting, Earlier, Making};
+use mz_machine::assume;
 use mz_nodes::Nodes;
-use mz_punify::Stop;
 use mz_store::{Id, Item};
+use mz_unify::{Stop, push};
 use std::alloc::Global;
 use std::sync::ledger::Ledger;
 use terms::{term, thm};
@@ -120,22 +120,6 @@ fn keep(
             Err(rule) => Err(Stop::Rule(rule)),
         },
     }
-}
-
-/// Keeps a hypothesis, and a proof of it in the heap. There is no place for 2^32 hypotheses.
-fn assume(claim: Id, heap: &mut Vec<Item>, hyps: &mut Vec<Id>) -> Result<(), Stop>
-    requires few { length hyps.old.items < 2 ^ 32 }
-    ensures heap { OnOk result (heap.new.items ≡ heap.old.items ++ Proof claim ∷ []) }
-    ensures hyps { OnOk result (hyps.new.items ≡ hyps.old.items ++ claim ∷ []) }
-    ensures few { OnOk result (length hyps.new.items < 2 ^ 32) }
-    ensures err { MatchResult result (λ _. ⊤) (λ stop. StopsBy stop (λ _. ⊥)) }
-{
-    if hyps.len() >= u32::MAX as usize {
-        return Err(Stop::Mem);
-    }
-    push(heap, Item::Proof(claim))?;
-    push_id(hyps, claim)?;
-    Ok(())
 }
 
 /// Executes a command on conversions. A gap is refused.

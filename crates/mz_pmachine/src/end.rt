@@ -1,32 +1,32 @@
 //! The END of a body: the one item that is left, and the row's own stream on it.
-ghost use Rattle.std.specs.Prelude.{◌≡◌, ◌≤◌, ◌<◌, ◌^◌, ◌+◌, ◌∷◌, [], List, IfOk, IfSome, length, map};
-ghost use Rattle.std.specs.List.{range_with_len};
+ghost use Rattle.std.specs.Prelude.{◌≡◌, ◌≤◌, ◌<◌, ◌^◌, ◌+◌, ◌∷◌, [], List, IfOk, length};
 ghost use Rattle.mz_layout.specs.Tables.{term_row};
 ghost use Rattle.mz_nodes.specs.Numbering.{AreIn, IsIn, IsOver, expr_of, tree_of};
 ghost use Rattle.mz_store.specs.declared.item.Item.{Item as Kept};
 ghost use Rattle.mz_store.specs.declared.item.DepsMode.TheVariants.{Free};
 ghost use Rattle.mz_unification.specs.UnifyMachine.{unify, unify_steps};
-ghost use Rattle.mz_punify.specs.Stored.{items_at, item_at, exprs_at, matching_at, AreItemsIn, IsItemIn};
-ghost use Rattle.mz_soundness.specs.Tables.{State, is_axiom, is_definition};
+ghost use Rattle.mz_punify.specs.Stored.{items_at, item_at, matching_at, AreItemsIn, IsItemIn};
+ghost use Rattle.mz_soundness.specs.MachineState.{State, is_axiom, is_definition};
 ghost use Rattle.mz_soundness.specs.FreeVars.{free_within};
-ghost use Rattle.mz_soundness.specs.ProofMachine.{proof_end, ends_with, ending, last_item, as_proofs};
+ghost use Rattle.mz_soundness.specs.ProofMachine.{proof_end, ends_with, ending, last_item};
 ghost use Rattle.mz_soundness.specs.Bodies.{match_steps};
 ghost use Rattle.mz_earlier.specs.Before.{tables_of, signatures_of};
 ghost use Rattle.mz_earlier.specs.OwnRow.{heading_by, IsNextRow, mode_for, kind_of};
-ghost use Rattle.mz_machine.specs.OverStore.{IsContextOf, GivesRule};
-ghost use Rattle.mz_pmachine.specs.OverNodes.{state_at, AreFirst, Gives, UnlessMem};
-ghost use Rattle.mz_machine.specs.Endings.{mode_at};
-ghost use Rattle.mz_pmachine.specs.Endings.{ended, items_of, IsOwnRun};
-ghost use Rattle.mz_numbered.specs.Numbered.{Numbered, a_variable, portable};
+ghost use Rattle.mz_machine.specs.OverStore.{IsContextOf, Gives, GivesRule, UnlessMem};
+ghost use Rattle.mz_pmachine.specs.OverNodes.{state_at, AreFirst};
+ghost use Rattle.mz_machine.specs.Endings.{mode_at, IsOwnRun};
+ghost use Rattle.mz_pmachine.specs.Endings.{ended};
+ghost use Rattle.mz_numbered.specs.Numbered.{Numbered, portable};
 
 use crate::commands::heap::is_provable;
 use mz_cmd::{K, Steps};
-use mz_earlier::{BodyKind, Earlier, own_arity, own_stream};
+use mz_earlier::{BodyKind, Earlier, first_ids, own_arity, own_proofs, own_stream};
 use mz_logic::Word;
+use mz_machine::mode_of;
 use mz_nodes::Nodes;
-use mz_punify::{Stop, unify};
+use mz_punify::unify;
 use mz_store::{Id, Item};
-use mz_unify::{Unified, UnifyMode};
+use mz_unify::{Stop, Unified};
 use std::alloc::Global;
 use std::sync::ledger::Ledger;
 
@@ -60,10 +60,10 @@ pub(crate) fn end<L: Ledger>(
     if let Err(rule) = check_target(earlier, kind, row, nodes, target) {
         return Err(Stop::Rule(rule));
     }
-    let Some(operands) = first_ids(alloc, nodes, own_arity(earlier, kind, row)) else {
+    let Ok(operands) = first_ids(alloc, own_arity(earlier, kind, row)) else {
         return Err(Stop::Mem);
     };
-    let Some(proofs) = own_proofs(alloc, kind, nodes, hyps) else {
+    let Ok(proofs) = own_proofs(alloc, kind, hyps) else {
         return Err(Stop::Mem);
     };
     let stream = own_stream(earlier, kind, row);
@@ -108,15 +108,6 @@ fn run_own<L: Ledger>(
         Unified::Done { .. } => Ok(()),
         Unified::Refused { rule, .. } => Err(Stop::Rule(rule)),
         Unified::Mem => Err(Stop::Mem),
-    }
-}
-
-fn mode_of(kind: BodyKind) -> UnifyMode
-    ensures { result ≡ mode_at (kind_of kind) }
-{
-    match kind {
-        BodyKind::Axiom | BodyKind::Theorem => UnifyMode::Final,
-        BodyKind::Definition => UnifyMode::Body,
     }
 }
 
@@ -213,46 +204,4 @@ fn are_free_within(earlier: &Earlier, row: u32, nodes: &Nodes, target: Id, word:
 {
     let told = nodes.deps(target);
     told & word.deps() == told
-}
-
-/// The ids of the row's parameters, which are the first; none where memory is wanting.
-fn first_ids(alloc: Global, nodes: &Nodes, count: u32) -> Option<Vec<Id>>
-    requires { AreFirst nodes.now count }
-    ensures exprs { IfSome result (λ ids. exprs_at nodes.now ids.items ≡ map a_variable (range_with_len 0 count)) }
-    ensures ids { IfSome result (λ ids. AreIn nodes.now ids.items) }
-{
-    let mut ids = Vec::new(alloc);
-    'params: for i in 0..count {
-        let Ok(()) = ids.push(Id(u64::from(i))) else {
-            return None;
-        };
-    }
-    Some(ids)
-}
-
-/// The hypotheses as proofs, of which a definition has none; none where memory is wanting.
-fn own_proofs(alloc: Global, kind: BodyKind, nodes: &Nodes, hyps: &[Id]) -> Option<Vec<Item>>
-    requires { AreIn nodes.now hyps.now }
-    ensures items { IfSome result (λ items. items_at nodes.now items.items ≡ items_of (kind_of kind) (exprs_at nodes.now hyps.now)) }
-    ensures ids { IfSome result (λ items. AreItemsIn nodes.now items.items) }
-{
-    match kind {
-        BodyKind::Definition => Some(Vec::new(alloc)),
-        BodyKind::Axiom | BodyKind::Theorem => proofs_of(alloc, nodes, hyps),
-    }
-}
-
-/// The hypotheses as proofs.
-fn proofs_of(alloc: Global, nodes: &Nodes, hyps: &[Id]) -> Option<Vec<Item>>
-    requires { AreIn nodes.now hyps.now }
-    ensures items { IfSome result (λ items. items_at nodes.now items.items ≡ as_proofs (exprs_at nodes.now hyps.now)) }
-    ensures ids { IfSome result (λ items. AreItemsIn nodes.now items.items) }
-{
-    let mut items = Vec::new(alloc);
-    'hyps: for hyp in hyps {
-        let Ok(()) = items.push(Item::Proof(*hyp)) else {
-            return None;
-        };
-    }
-    Some(items)
 }

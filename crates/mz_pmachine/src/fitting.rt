@@ -9,17 +9,16 @@ ghost use Rattle.mz_punify.specs.Stored.{items_at, exprs_at, trees_at, AreItemsI
 ghost use Rattle.mz_soundness.specs.Premises.{pop_operands, operands_fit};
 ghost use Rattle.mz_earlier.specs.Before.{signatures_of};
 ghost use Rattle.mz_earlier.specs.OperandRows.{IsBefore};
-ghost use Rattle.mz_machine.specs.OverStore.{GivesRule};
-ghost use Rattle.mz_pmachine.specs.OverNodes.{Gives};
+ghost use Rattle.mz_machine.specs.OverStore.{GivesRule, Gives};
 
-use crate::stack::{pop_expr, push_id};
+use crate::stack::pop_expr;
 use mz_cmd::K;
 use mz_earlier::Earlier;
 use mz_layout::Row;
 use mz_logic::Word;
 use mz_nodes::Nodes;
-use mz_punify::Stop;
 use mz_store::{Id, Item};
+use mz_unify::{Stop, push};
 use std::alloc::Global;
 
 /// Takes so many expressions from the stack, of which the last is on top.
@@ -40,7 +39,7 @@ pub(crate) fn pop_operands(
     let mut taken = Vec::new(alloc);
     'operands: for i in 0..count {
         match pop_expr(nodes, stack) {
-            Ok(id) => push_id(&mut taken, id)?,
+            Ok(id) => push(&mut taken, id)?,
             Err(rule) => return Err(Stop::Rule(rule)),
         }
     }

@@ -11,6 +11,8 @@ mod commands;
 mod end;
 mod fitting;
 mod machine;
+mod room;
 mod stack;
 
-pub use body::check_portable;
+pub use body::{check_portable, check_portable_in};
+pub use room::PortableRoom;

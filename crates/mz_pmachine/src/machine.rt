@@ -4,25 +4,28 @@ ghost use Rattle.mz_store.specs.Bits.{bound_vars};
 ghost use Rattle.mz_nodes.specs.Numbering.{AreIn, IsOver};
 ghost use Rattle.mz_punify.specs.Stored.{AreItemsIn};
 ghost use Rattle.mz_soundness.specs.Bodies.{body_command};
-ghost use Rattle.mz_earlier.specs.OwnRow.{MayRun, kind_at};
+ghost use Rattle.mz_earlier.specs.OwnRow.{MayRun, kind_of};
 ghost use Rattle.mz_earlier.specs.Before.{tables_of, signatures_of};
-ghost use Rattle.mz_pmachine.specs.OverNodes.{state_at, Gives, Grows};
-ghost use Rattle.mz_pmachine.specs.OverNodes.{UnlessMem as OrMem};
+ghost use Rattle.mz_pmachine.specs.OverNodes.{state_at, Grows};
+ghost use Rattle.mz_machine.specs.OverStore.{Gives};
+ghost use Rattle.mz_machine.specs.OverStore.{UnlessMem as OrMem};
 ghost use Rattle.mz_pmachine.specs.Steps.{heading_for, tables_for, steps_for, row_by, steps_by, end_steps};
 ghost use Rattle.mz_numbered.specs.Numbered.{portable};
 ghost use Rattle.mz_pmachine.specs.Running.{IsRunning, machine_of};
-ghost use Rattle.mz_pmachine.specs.Stepping.{IsBegun, IsStepped, IsFinished, UnlessEndMem};
+ghost use Rattle.mz_pmachine.specs.Stepping.{IsBegun, IsStepped, IsFinished};
+ghost use Rattle.mz_machine.specs.Stepping.{UnlessEndMem};
 
 use crate::command::decoded;
 use crate::commands::execute;
 use crate::end::end;
 use mz_cmd::{Cmd, K, Steps};
-use mz_earlier::{Earlier, deps_mode, first_items, kind_by, read_words};
+use mz_earlier::{BodyKind, Earlier, deps_mode, first_items, kind_by, read_words};
 use mz_layout::{Mmb, Rows};
-use mz_machine::BodyEnd;
+use mz_logic::Word;
+use mz_machine::{BodyEnd, Finished};
 use mz_nodes::Nodes;
-use mz_punify::Stop;
 use mz_store::{Id, Item};
+use mz_unify::Stop;
 use std::alloc::{AllocError, Global};
 use std::sync::ledger::Ledger;
 
@@ -31,7 +34,7 @@ use std::sync::ledger::Ledger;
 pub(crate) struct Setting<'a> {
     alloc: Global,
     earlier: Earlier<'a>,
-    kind: u8,
+    kind: BodyKind,
     row: u32,
     bound_params: u32,
 }
@@ -45,29 +48,24 @@ pub(crate) struct Parts {
     hyps: Vec<Id>,
 }
 
-/// A machine between two commands of a body.
-#[derive(Drop)]
-pub(crate) struct Machine<'a> {
-    pub(crate) setting: Setting<'a>,
-    pub(crate) parts: Parts,
+impl Parts {
+    /// Nothing, which takes no memory.
+    pub(crate) fn new(alloc: Global) -> Parts {
+        Parts {
+            nodes: Nodes::new(alloc),
+            heap: Vec::new(alloc),
+            stack: Vec::new(alloc),
+            hyps: Vec::new(alloc),
+        }
+    }
 }
 
-/// What became of the END.
-#[derive(Clone, Copy, Debug, PartialEq, Eq)]
-pub(crate) enum Finished {
-    /// The body has run.
-    Body(BodyEnd),
-    /// The first rule that fails.
-    Refused(K),
-    /// Want of memory.
-    Mem,
-}
-
-impl<'a> Machine<'a> {
-    /// The machine before the first command of a statement's body: the row's parameters are in the
-    /// heap. The statement's kind is 02 for an axiom, 05 for a definition and 06 for a theorem;
-    /// `row` is the next row of its table, and `before` counts the rows that were declared before.
-    /// The words of the row and of those before it are right.
+impl<'a> Setting<'a> {
+    /// The setting of a statement's body. The statement's kind is 02 for an axiom, 05 for a definition
+    /// and 06 for a theorem; `row` is the next row of its table, and `before` counts the rows that were
+    /// declared before. The words of the row and of those before it are right. The words become those
+    /// of the row, and the parts those before the first command, whatever they were: the row's
+    /// parameters are in the heap.
     ///
     /// # Errors
     ///
@@ -78,36 +76,30 @@ impl<'a> Machine<'a> {
         kind: u8,
         row: u32,
         before: Rows,
-    ) -> Result<Machine<'a>, AllocError>
+        words: &mut Vec<Word>,
+        parts: &mut Parts,
+    ) -> Result<Setting<'a>, AllocError>
         requires { MayRun mmb.now kind row before }
-        ensures running { IfOk result (λ machine. IsRunning machine.setting machine.parts) }
-        ensures begun { IfOk result (λ machine. IsBegun mmb.now kind row before (machine_of machine.setting machine.parts)) }
+        ensures running { IfOk result (λ setting. IsRunning setting parts.new) }
+        ensures begun { IfOk result (λ setting. IsBegun mmb.now kind row before (machine_of setting parts.new)) }
     {
         let earlier = Earlier::new(mmb, before);
-        let words = read_words(alloc, &earlier, kind_by(kind), row)?;
-        let mut nodes = Nodes::new(alloc);
-        nodes.begin(&words, deps_mode(kind_by(kind)))?;
-        let heap = first_items(alloc, words.len())?;
-        let bound_params = nodes.bound_count();
-        Ok(Machine {
-            setting: Setting {
-                alloc,
-                earlier,
-                kind,
-                row,
-                bound_params,
-            },
-            parts: Parts {
-                nodes,
-                heap,
-                stack: Vec::new(alloc),
-                hyps: Vec::new(alloc),
-            },
+        let kind = kind_by(kind);
+        read_words(words, &earlier, kind, row)?;
+        parts.nodes.begin(words.as_slice(), deps_mode(kind))?;
+        first_items(&mut parts.heap, words.len())?;
+        parts.stack.clear();
+        parts.hyps.clear();
+        let bound_params = parts.nodes.bound_count();
+        Ok(Setting {
+            alloc,
+            earlier,
+            kind,
+            row,
+            bound_params,
         })
     }
-}
 
-impl<'a> Setting<'a> {
     /// Executes the command at a place on the parts, which are in place. It is no END and comes after
     /// all that were executed. A step is counted for it, and one for each command of the stream that it
     /// runs.
@@ -152,7 +144,7 @@ impl<'a> Setting<'a> {
         match end(
             self.alloc,
             &self.earlier,
-            kind_by(self.kind),
+            self.kind,
             self.row,
             &parts.nodes,
             &parts.stack,
@@ -171,7 +163,7 @@ impl<'a> Setting<'a> {
 fn obey<L: Ledger>(
     alloc: Global,
     earlier: &Earlier,
-    kind: u8,
+    kind: BodyKind,
     at: u32,
     cmd: Cmd,
     nodes: &mut Nodes,
@@ -191,12 +183,12 @@ fn obey<L: Ledger>(
     ensures ids { OnOk result (AreItemsIn nodes.new heap.new.items × AreItemsIn nodes.new stack.new.items × AreIn nodes.new hyps.new.items) }
     ensures few { OnOk result (length hyps.new.items < 2 ^ 32) }
     ensures next { OnOk result (nodes.new.next ≤ at + 1) }
-    ensures row { Gives (row_by (tables_of earlier.now) at (state_at nodes.old heap.old.items stack.old.items hyps.old.items) (body_command portable (kind_at kind) cmd.code cmd.value)) result (λ _. state_at nodes.new heap.new.items stack.new.items hyps.new.items) }
-    ensures steps { OrMem result (steps.new ≡ steps.old + steps_by (tables_of earlier.now) (state_at nodes.old heap.old.items stack.old.items hyps.old.items) (body_command portable (kind_at kind) cmd.code cmd.value)) }
+    ensures row { Gives (row_by (tables_of earlier.now) at (state_at nodes.old heap.old.items stack.old.items hyps.old.items) (body_command portable (kind_of kind) cmd.code cmd.value)) result (λ _. state_at nodes.new heap.new.items stack.new.items hyps.new.items) }
+    ensures steps { OrMem result (steps.new ≡ steps.old + steps_by (tables_of earlier.now) (state_at nodes.old heap.old.items stack.old.items hyps.old.items) (body_command portable (kind_of kind) cmd.code cmd.value)) }
     ensures most { steps.new ≤ steps.old + (1 + length earlier.now.file) }
 {
     steps.tick();
-    let Some(command) = decoded(kind_by(kind), cmd.code) else {
+    let Some(command) = decoded(kind, cmd.code) else {
         return Err(Stop::Rule(K::Command));
     };
     execute(

@@ -12,8 +12,8 @@ use Rattle.mz_soundness.specs.Bodies.{Runs, body_checks}
 use Rattle.mz_layout.specs.Heads.{body_bytes}
 use Rattle.mz_soundness.specs.FileRows.{Taken, term_of_file, thm_of_file, rows_taken}
 use Rattle.mz_soundness.specs.Lists.{definition_of, assertion_of}
-use Rattle.mz_soundness.specs.RowWords.{param_checks, word_checks}
-use Rattle.mz_soundness.specs.Tables.{Tables, Heading}
+use Rattle.mz_words.specs.RowWords.{param_checks, word_checks}
+use Rattle.mz_soundness.specs.MachineState.{RowsBefore, Heading}
 use Rattle.mz_soundness.proofs.Offered.{bodies-checked}
 use Rattle.mz_numbered.specs.Numbered.{portable}
 use Rattle.mz_binary.specs.declared.standard.Standard.TheVariants.{Portable}
@@ -22,11 +22,11 @@ use Rattle.mz_binary.specs.Checking.{term_body_checks, term_checks, thm_checks, 
 use Rattle.mz_binary.specs.Spelling.{IsKindOf}
 
 -- the bytes of a body run by address where they run by the published table
-abbrev pub RunsToo : Tables → Heading → ℕ → List ℕ → Type 0
+abbrev pub RunsToo : RowsBefore → Heading → ℕ → List ℕ → Type 0
 RunsToo tables h at bytes = Runs strict tables h at bytes → Runs portable tables h at bytes
 
 module _ (file : List ℕ) (taken : Taken) (body next : ℕ) where
-  abbrev tables : Tables
+  abbrev tables : RowsBefore
   tables = rows_taken file taken
 
   abbrev bytes : List ℕ

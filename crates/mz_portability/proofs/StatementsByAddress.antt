@@ -12,12 +12,12 @@ use Rattle.mz_logic.specs.declared.word.Word.{Word}
 use Rattle.mz_logic.proofs.Offered.{each_from_all, assertions_are_sorted, terms_are_sorted}
 use Rattle.mz_layout.specs.Normal.{Parts, row_of_term, file_of}
 use Rattle.mz_layout.specs.Standing.{Fit}
-use Rattle.mz_unification.specs.Spells.{TermRow, ThmRow, SpellsForm}
+use Rattle.mz_unification.specs.Spells.{SpelledTerm, SpelledThm, SpellsForm}
 use Rattle.mz_unification.proofs.Offered.{some_is}
 use Rattle.mz_layout.specs.Heads.{body_bytes}
 use Rattle.mz_soundness.specs.FileRows.{taken_by, term_of_file, thm_of_file, rows_taken}
 use Rattle.mz_soundness.specs.Lists.{definition_of, assertion_of}
-use Rattle.mz_soundness.specs.Tables.{Tables, Declares}
+use Rattle.mz_soundness.specs.MachineState.{RowsBefore, Declares}
 use Rattle.mz_soundness.proofs.Offered.{pairs-long}
 use Rattle.mz_binary.specs.Spelling.{SpellsRow}
 use Rattle.mz_binary.proofs.Offered.{terms-many, rows-after}
@@ -38,14 +38,14 @@ module _ (p : Parts) (fit : Fit p) (env env' : List Declaration) (same : IsSameE
   abbrev file : List ℕ
   file = file_of p
 
-  abbrev tables : Tables
+  abbrev tables : RowsBefore
   tables = rows_taken file (taken_by env')
 
   -- the row that the next term has, and the next assertion
-  abbrev term-row : TermRow
+  abbrev term-row : SpelledTerm
   term-row = term_of_file file (length (terms env'))
 
-  abbrev thm-row : ThmRow
+  abbrev thm-row : SpelledThm
   thm-row = thm_of_file file (length (assertions env'))
 
   -- the declaration's body runs by address too, and the rows after it share
@@ -63,7 +63,7 @@ module _ (p : Parts) (fit : Fit p) (env env' : List Declaration) (same : IsSameE
   one-row : (d : Declaration) → length (terms (d ∷ [])) ≡ 1 → AreSharedRows (tables.terms ++ term-row ∷ []) → AreSharedRows (rows_taken file (taken_by (env' ++ d ∷ []))).terms
   one-row d one rows =
       let many : length (terms (env' ++ d ∷ [])) ≡ length (terms env') + 1 = terms-many env' (d ∷ []) ∙ ap (λ (k : ℕ). length (terms env') + k) one in
-      subst AreSharedRows (sym (ap (λ (k : ℕ). map (term_of_file file) (range_with_len 0 k)) many ∙ ap (λ (t : Tables). t.terms) (rows-after file (taken_by env') body next codes.Term))) rows
+      subst AreSharedRows (sym (ap (λ (k : ℕ). map (term_of_file file) (range_with_len 0 k)) many ∙ ap (λ (t : RowsBefore). t.terms) (rows-after file (taken_by env') body next codes.Term))) rows
 
   -- ---- terms
 
@@ -79,7 +79,7 @@ module _ (p : Parts) (fit : Fit p) (env env' : List Declaration) (same : IsSameE
       subst (λ (n : ℕ). slice_get p.terms n ≡ Some (row_of_term ws result (Some stream))) (pairs-long IsSameTerm (terms env) (terms env') same.terms_are) row in
       let (further, is) = definition-row p fit (length (terms env')) signature ws result stream say.said here in
       let (too, rows) = definitions-run tables env env' declares same shared signature dummies dummies' e e' stream further body bytes params plain-ones text shares term-row is in
-      let whole : term-row.stream ≡ Some (stream ++ further) = ap (λ (r : TermRow). r.stream) is in (
+      let whole : term-row.stream ≡ Some (stream ++ further) = ap (λ (r : SpelledTerm). r.stream) is in (
         (λ s s-is.
             subst (λ (z : List ℕ). RunsToo tables (definition_of term-row z) body (body_bytes file body next)) (some_is whole s-is)
             (subst (RunsToo tables (definition_of term-row (stream ++ further)) body) (sym bytes-are) too)),

@@ -1,7 +1,6 @@
 -- What the row of a command gives, case by case.
-use Rattle.std.proofs.Common.{◌≡◌, ℕ, Bool, true, false, eqb, List, [], ◌∷◌, ◌++◌, Option, Some, None, Ok, Err, refl, sym, ap, ◌∙◌, eq-eqb}
-use Rattle.std.specs.Prelude.{reverse, slice_get, if◌then◌else◌, ◌==◌, not}
-use Rattle.std.specs.Option.{option_eq}
+use Rattle.std.proofs.Common.{◌≡◌, ℕ, Bool, true, false, List, [], ◌∷◌, ◌++◌, Some, None, Ok, Err, refl, sym, ap, ◌∙◌, eq-eqb}
+use Rattle.std.specs.Prelude.{reverse, slice_get, if◌then◌else◌, ◌==◌}
 use Rattle.std.proofs.lemmas.Bool.{eqb-true}
 use Rattle.mz_cmd.specs.declared.rule.K.{K}
 use Rattle.mz_cmd.specs.declared.rule.K.TheVariants as k
@@ -15,7 +14,7 @@ use Rattle.mz_unification.specs.Streams.{u_term, u_term_save, u_ref, u_dummy, u_
 use Rattle.mz_unification.specs.Profile.{Item}
 use Rattle.mz_unification.specs.UnifyMachine.{UnifyMode, UnifyState, is_empty, operands_of, is_fresh, nothing_left, next_hypothesis, unify_row}
 use Rattle.mz_punify.specs.Stored.{stack_at}
-use Rattle.mz_punify.specs.Rows.{with_targets}
+use Rattle.mz_unify.specs.Rows.{with_targets}
 use Rattle.mz_punify.proofs.StoredIds.{listed-exprs, stack-operands}
 use Rattle.mz_numbered.proofs.Offered.{equal-same, equal-refl}
 
@@ -132,21 +131,3 @@ module _ (sigs : List Signature) (ctx : List Binder) (mode : UnifyMode) (st : Un
   end-row h l = rw (h, l) refl
 
 -- ---- whether two heads are the same
-
-pub heads-differ : (o : Option ℕ) (t : ℕ) → not (option_eq eqb o (Some t)) ≡ true → o ≡ Some t → ⊥
-heads-differ None t h is = cc
-heads-differ (Some n) t h is =
-    let same : n ≡ t = cc in
-    let eq : eqb n t ≡ true = eq-eqb n t same in
-    absurd (true-false (sym h ∙ ap not eq))
-  where
-    true-false : true ≡ false → ⊥
-    true-false e = cc
-
-pub heads-same : (o : Option ℕ) (t : ℕ) → not (option_eq eqb o (Some t)) ≡ false → o ≡ Some t
-heads-same None t h = absurd cc
-heads-same (Some n) t h = ap (λ (x : ℕ). Some x) (eqb-true n t (back (eqb n t) h))
-  where
-    back : (b : Bool) → not b ≡ false → b ≡ true
-    back true e = refl
-    back false e = absurd cc

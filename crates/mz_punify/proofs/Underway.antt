@@ -1,6 +1,6 @@
 -- A run over nodes that is underway: the run from here is the whole run, and so is the count.
-use Rattle.std.proofs.Common.{◌≡◌, ℕ, suc, ◌+◌, ◌≤◌, List, [], ◌∷◌, ◌++◌, length, drop, map, Some, None, Result, Ok, Err, refl, sym, ap, ◌∙◌, arith, append_assoc, length-append}
-use Rattle.std.proofs.lemmas.List.{append-nil, drop-drop, length-drop}
+use Rattle.std.proofs.Common.{◌≡◌, ℕ, suc, ◌+◌, List, [], ◌∷◌, length, drop, map, Some, None, Result, Ok, Err, refl, sym, ap, ◌∙◌, arith}
+use Rattle.std.proofs.lemmas.List.{drop-drop}
 use Rattle.mz_cmd.specs.declared.rule.K.{K}
 use Rattle.mz_cmd.specs.declared.rule.K.TheVariants as k
 use Rattle.mz_cmd.specs.declared.command.Cmd.{Cmd}
@@ -13,17 +13,15 @@ use Rattle.mz_store.specs.declared.item.Item.{Item as Kept}
 use Rattle.mz_unification.specs.Streams.{UnifyCommand, IsEnd, unify_command}
 use Rattle.mz_numbered.specs.Numbered.{Numbered, tree_of, portable}
 use Rattle.mz_unification.specs.UnifyMachine.{UnifyMode as Mode, kind_of, UnifyState, unify_row, unify_from, unify_steps_from, unify, unify_steps}
-use Rattle.mz_unify.specs.Stored.{mode_of, AreLeft, Says}
-use Rattle.mz_unify.specs.Rows.{TellsAny}
+use Rattle.mz_unify.specs.Stored.{mode_of, Says}
+use Rattle.mz_unify.specs.Rows.{TellsAny, StopsBy, stopped_at}
 use Rattle.mz_punify.specs.Stored.{exprs_at, items_at, matching_at, EndsWith}
-use Rattle.mz_punify.specs.Rows.{command_of, StopsBy, state_at, stopped_at}
+use Rattle.mz_punify.specs.Rows.{state_at}
 use Rattle.mz_unify.specs.declared.unified.Unified.{Unified}
 use Rattle.mz_unify.specs.declared.unified.UnifyMode.{UnifyMode}
-use Rattle.mz_punify.specs.declared.command.Command.{Command}
-use Rattle.mz_punify.specs.declared.command.Command.TheVariants.{Term, TermSave, Ref, Dummy, Hyp, End}
-use Rattle.mz_punify.specs.declared.command.Stop.{Stop}
-use Rattle.mz_punify.specs.declared.command.Stop.TheVariants.{Rule, Mem}
-use Rattle.mz_unification.proofs.Offered.{command-long}
+use Rattle.mz_unify.specs.declared.command.Command.{Command}
+use Rattle.mz_unify.specs.declared.stop.Stop.{Stop}
+use Rattle.mz_unify.specs.declared.stop.Stop.TheVariants.{Rule, Mem}
 use Rattle.mz_punify.proofs.UnifyTurns.{run_left, count_left, cut-run, cut-count, other-run, other-count, stopped-run, stopped-count, ended-run, ended-count, went-run, went-count}
 
 -- from here, at a place of the stream, what is left gives the whole
@@ -32,27 +30,6 @@ IsUnderway s mode stream sigs start first at word heap targets hyps steps =
     (es : List Numbered) × TellsAny s.context word (map tree_of es)
     × (run_left sigs s.context mode 0 stream start ≡ run_left sigs s.context mode at (drop at stream) (state_at s heap es targets hyps))
     × (steps + count_left sigs s.context mode (drop at stream) (state_at s heap es targets hyps) ≡ first + count_left sigs s.context mode stream start)
-
--- a command that is read lies within the stream
-pub further : (stream : List ℕ) (at : ℕ) (c : Cmd) → first_command (drop at stream) ≡ Ok c → at ≤ length stream → (1 ≤ c.len) × (at + c.len ≤ length stream)
-further stream at c read le =
-    let (one, within) = command-long (drop at stream) c read in
-    (one, omega (arith, length-drop at stream))
-
-pub not-end : (n : Command) → (n ≡ End → ⊥) → IsEnd (command_of n) → ⊥
-not-end (Term t) h e = e
-not-end (TermSave t) h e = e
-not-end (Ref i) h e = e
-not-end (Dummy s) h e = e
-not-end Hyp h e = e
-not-end End h e = h refl
-
-pub left-none : {A : Type 0} (xs : List A) → AreLeft xs xs 0
-left-none xs = ([], sym (append-nil xs), refl)
-
-pub left-both : {A : Type 0} (xs ys zs : List A) (m n : ℕ) → AreLeft xs ys m → AreLeft ys zs n → AreLeft xs zs (m + n)
-left-both xs ys zs m n (gone, is, many) (more, are, count) =
-    (more ++ gone, is ∙ ap (λ ws. ws ++ gone) are ∙ append_assoc zs more gone, length-append more gone ∙ omega arith)
 
 module _ (s : Numbering) (mode : Mode) (stream : List ℕ) (sigs : List Signature) (start : UnifyState Numbered) (first at word : ℕ) (heap targets : List Id) (hyps : List Kept) (steps : ℕ) (h : IsUnderway s mode stream sigs start first at word heap targets hyps steps) where
   abbrev whole : Result (UnifyState Numbered) (ℕ × K)

@@ -1,47 +1,12 @@
 -- One command over nodes: how the code's state stands for the machine's.
-use Rattle.std.specs.Prelude.{◌≡◌, ℕ, ⊤, List, MatchResult, Result, Ok, Err}
-use Rattle.mz_cmd.specs.declared.rule.K.{K}
+use Rattle.std.specs.Prelude.{List}
 use Rattle.mz_numbered.specs.Numbered.{Numbered}
 use Rattle.mz_nodes.specs.Numbering.{Numbering}
 use Rattle.mz_store.specs.declared.item.Id.{Id}
 use Rattle.mz_store.specs.declared.item.Item.{Item as Kept}
-use Rattle.mz_unification.specs.Streams.{UnifyCommand, u_term, u_term_save, u_ref, u_dummy, u_hyp, u_end}
 use Rattle.mz_unification.specs.UnifyMachine.{UnifyState}
 use Rattle.mz_punify.specs.Stored.{exprs_at, stack_at, items_at}
-use Rattle.mz_unify.specs.declared.unified.Unified.{Unified}
-use Rattle.mz_unify.specs.declared.unified.Unified.TheVariants as said
-use Rattle.mz_unify.specs.declared.unified.Unified.TheVariants.{Refused}
-use Rattle.mz_punify.specs.declared.command.Command.{Command}
-use Rattle.mz_punify.specs.declared.command.Command.TheVariants.{Term, TermSave, Ref, Dummy, Hyp, End}
-use Rattle.mz_punify.specs.declared.command.Stop.{Stop}
-use Rattle.mz_punify.specs.declared.command.Stop.TheVariants.{Rule, Mem}
-
-abbrev pub command_of : Command → UnifyCommand
-command_of (Term t) = u_term t
-command_of (TermSave t) = u_term_save t
-command_of (Ref i) = u_ref i
-command_of (Dummy s) = u_dummy s
-command_of Hyp = u_hyp
-command_of End = u_end
-
--- where a rule stops the command, it is one of which this holds; want of memory says nothing
-abbrev pub StopsBy : Stop → (K → Type 0) → Type 0
-StopsBy (Rule k) P = P k
-StopsBy Mem P = ⊤
 
 -- the machine's state: what a dummy is kept apart from has no ids, only the word of its variables
 abbrev pub state_at : Numbering → List Id → List Numbered → List Id → List Kept → UnifyState Numbered
 state_at s heap apart targets hyps = record { heap = exprs_at s heap; apart = apart; targets = stack_at s targets; items = items_at s hyps }
-
--- the state with other targets
-abbrev pub with_targets : UnifyState Numbered → List Numbered → UnifyState Numbered
-with_targets st es = record st { targets = es }
-
--- a row that goes through leads to the state, and one that a rule stops is refused by it
-abbrev pub IsRow : {A : Type 0} → Result (UnifyState Numbered) K → Result A Stop → (A → UnifyState Numbered) → Type 0
-IsRow row result after = MatchResult result (λ x. row ≡ Ok (after x)) (λ stop. StopsBy stop (λ k. row ≡ Err k))
-
--- what is said where a command at this place is stopped
-abbrev pub stopped_at : ℕ → Stop → Unified
-stopped_at at (Rule k) = Refused at k
-stopped_at at Mem = said.Mem

@@ -4,9 +4,7 @@
 //! `specs/Stored.antt` says how ids of nodes stand for expressions.
 #![tactic(auto)]
 
-mod command;
 mod rows;
 mod running;
 
-pub use command::Stop;
 pub use running::unify;

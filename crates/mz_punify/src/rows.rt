@@ -1,5 +1,5 @@
 //! What each command does: its premises in order, and what it leaves.
-ghost use Rattle.std.specs.Prelude.{ℕ, ◌≡◌, ◌≤◌, ⊤, ◌+◌, ◌++◌, ◌∷◌, ◌⊎◌, [], List, Ok, Err, OnOk, IfOk, IfSome, IfNone, MatchResult, map, reverse, length};
+ghost use Rattle.std.specs.Prelude.{ℕ, ◌≡◌, ◌≤◌, ⊤, ◌+◌, ◌++◌, ◌∷◌, ◌⊎◌, [], List, Ok, Err, OnOk, IfOk, IfSome, IfNone, MatchResult, map, length};
 ghost use Rattle.mz_cmd.specs.declared.rule.K.{K};
 ghost use Rattle.mz_logic.specs.Signature.{Signature};
 ghost use Rattle.mz_nodes.specs.Numbering.{IsIn, AreIn, expr_of, IsOver};
@@ -7,15 +7,14 @@ ghost use Rattle.mz_numbered.specs.Numbered.{Numbered, tree_of, portable};
 ghost use Rattle.mz_unification.specs.Streams.{UnifyCommand, u_term, u_term_save, u_ref, u_dummy, u_hyp, u_end};
 ghost use Rattle.mz_unification.specs.UnifyMachine.{UnifyMode as Mode, UnifyState, unify_row, is_fresh, next_hypothesis, nothing_left};
 ghost use Rattle.mz_unify.specs.Stored.{mode_of, AreLeft};
-ghost use Rattle.mz_unify.specs.Rows.{TellsAny};
+ghost use Rattle.mz_unify.specs.Rows.{command_of, IsRow, StopsBy, TellsAny, with_targets};
 ghost use Rattle.mz_punify.specs.Stored.{exprs_at, stack_at, items_at, AreItemsIn};
-ghost use Rattle.mz_punify.specs.Rows.{command_of, StopsBy, state_at, with_targets, IsRow};
+ghost use Rattle.mz_punify.specs.Rows.{state_at};
 
-use crate::command::{Command, Stop};
 use mz_cmd::K;
 use mz_nodes::Nodes;
 use mz_store::{Id, Item};
-use mz_unify::UnifyMode;
+use mz_unify::{Command, Stop, UnifyMode, push, push_operands};
 
 /// The word of the variables of all these.
 pub(crate) fn variables(nodes: &Nodes, ids: &[Id]) -> u64
@@ -27,19 +26,6 @@ pub(crate) fn variables(nodes: &Nodes, ids: &[Id]) -> u64
         word |= nodes.vars(*id);
     }
     word
-}
-
-/// Puts the operands on the targets, the first one on top.
-fn push_operands(targets: &mut Vec<Id>, operands: &[Id]) -> Result<(), Stop>
-    ensures ok { OnOk result (targets.new.items ≡ targets.old.items ++ reverse operands.now) }
-    ensures err { MatchResult result (λ _. ⊤) (λ stop. StopsBy stop (λ _. ⊥)) }
-{
-    let from = targets.len();
-    let Ok(()) = targets.extend_from_slice(operands) else {
-        return Err(Stop::Mem);
-    };
-    targets[from..].reverse();
-    Ok(())
 }
 
 /// Takes the top target.
@@ -184,17 +170,6 @@ fn end(nodes: &Nodes, mode: UnifyMode, targets: &[Id], hyps: &[Item]) -> Result<
         return Err(Stop::Rule(K::UnifyRest));
     }
     Ok(())
-}
-
-/// Puts an expression at the end.
-fn push(ids: &mut Vec<Id>, id: Id) -> Result<(), Stop>
-    ensures ok { OnOk result (ids.new.items ≡ ids.old.items ++ id ∷ []) }
-    ensures err { MatchResult result (λ _. ⊤) (λ stop. StopsBy stop (λ _. ⊥)) }
-{
-    match ids.push(id) {
-        Ok(()) => Ok(()),
-        Err(_) => Err(Stop::Mem),
-    }
 }
 
 /// Puts an expression at the end of the heap; dummies are then kept apart from it too, whether it was

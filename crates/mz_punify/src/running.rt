@@ -7,15 +7,14 @@ ghost use Rattle.mz_numbered.specs.Numbered.{portable};
 ghost use Rattle.mz_unification.specs.UnifyMachine.{unify, unify_from, unify_steps, unify_steps_from};
 ghost use Rattle.mz_unify.specs.Stored.{mode_of, OnDone, UnlessMem, AreLeft};
 ghost use Rattle.mz_punify.specs.Stored.{exprs_at, items_at, AreItemsIn, matching_at, IsRun};
-ghost use Rattle.mz_punify.specs.Rows.{state_at, stopped_at};
+ghost use Rattle.mz_punify.specs.Rows.{state_at};
 
-use crate::command::{Command, Stop, decoded};
 use crate::rows::{step, variables};
 use mz_cmd::{K, Steps, cmd_at};
 use mz_logic::Terms;
 use mz_nodes::Nodes;
 use mz_store::{Id, Item};
-use mz_unify::{Unified, UnifyMode};
+use mz_unify::{Command, Stop, Unified, UnifyMode, decoded};
 use std::sync::ledger::Ledger;
 
 /// Runs a unify stream, which is read in place, from its first byte to its END: it takes the target
@@ -82,29 +81,19 @@ fn run<L: Ledger>(
     let mut at = 0;
     'commands: loop {
         let Ok(cmd) = cmd_at(stream, at) else {
-            return stopped(at, Stop::Rule(K::Command));
+            return Unified::stopped(at, Stop::Rule(K::Command));
         };
         steps.tick();
         let Some(next) = decoded(mode, cmd) else {
-            return stopped(at, Stop::Rule(K::Command));
+            return Unified::stopped(at, Stop::Rule(K::Command));
         };
         if let Err(stop) = step(nodes, mode, next, heap, &mut apart, &mut targets, hyps) {
-            return stopped(at, stop);
+            return Unified::stopped(at, stop);
         }
         if let Command::End = next {
             let taken = (held - hyps.len()) as u32;
             return Unified::Done { taken };
         }
         at += u32::from(cmd.len);
-    }
-}
-
-/// What is said where a command is stopped.
-fn stopped(at: u32, stop: Stop) -> Unified
-    ensures { result ≡ stopped_at at stop }
-{
-    match stop {
-        Stop::Rule(rule) => Unified::Refused { at, rule },
-        Stop::Mem => Unified::Mem,
     }
 }

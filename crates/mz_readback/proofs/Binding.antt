@@ -7,7 +7,7 @@ use Rattle.std.proofs.lemmas.Option.{slice_get_within, slice_get-get_or}
 use Rattle.mz_checks.specs.Checks.{AllHold, each_in_order, ◌>>◌}
 use Rattle.mz_checks.proofs.Offered.{all_hold-both}
 use Rattle.mz_lex.specs.Lexemes.{Lexeme}
-use Rattle.mz_logic.specs.Declaration.{sorts}
+use Rattle.mz_logic.specs.Declaration.{sorts, DepsAscend}
 use Rattle.mz_logic.specs.Modifiers.{IsPure, IsStrict, IsFree, MayBeResultSort, MayBeDummySort}
 use Rattle.mz_logic.specs.Variables.{IsBoundAt}
 use Rattle.mz_logic.specs.Legality.{IsParam, AreParams, AreBindersThere, IsDummy}
@@ -23,7 +23,7 @@ use Rattle.mz_variables.specs.View.{Variable, name_texts, group_types}
 use Rattle.mz_spec.specs.State.{State, sort_number, binder_of}
 use Rattle.mz_variables.specs.Dependencies.{dep_places, Every, IsCalled, IsBoundAmong}
 use Rattle.mz_spec.specs.Rules.{are_others, is_other, is_known, type_checks, mods_of, HasSortThat, IsBinder, AreBinders, DependsOnNothing, IsDummySort, IsNotPure}
-use Rattle.mz_readback.specs.Declared.{Vocabulary, HasVariables, plain_binders, plain_dummies, plain_param, plain_dummy, plain_type, DepsAscend}
+use Rattle.mz_readback.specs.Declared.{Vocabulary, HasVariables, plain_binders, plain_dummies, plain_param, plain_dummy, plain_type}
 use Rattle.mz_readback.proofs.Names.{new-more, known-first, known-later}
 use Rattle.mz_readback.proofs.Shown.{AreTexts, IsTyped, typed-at, IsShown, AreShown, AllShown, names_from}
 use Rattle.mz_readback.proofs.Places.{Above, AllBelow, below-all, ascending, among-same, places-are}

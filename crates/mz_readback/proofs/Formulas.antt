@@ -4,8 +4,8 @@ use Rattle.std.specs.Prelude.{⊤, slice_get, All, IsTrue, codes, not, Contains,
 use Rattle.std.specs.List.{list_all}
 use Rattle.std.proofs.lemmas.Bool.{and_parts, and_from, or_cases, or_left, eqb-true, ne_eqb, leb-true, le-leb, false≢true}
 use Rattle.std.proofs.lemmas.Option.{get_or_from_slice_get}
-use Rattle.mz_checks.specs.Checks.{Checks, nothing, ask, AllHold, retold, each_in_order, ◌>>◌}
-use Rattle.mz_checks.proofs.Offered.{all_hold-both}
+use Rattle.mz_checks.specs.Checks.{AllHold, each_in_order, ◌>>◌}
+use Rattle.mz_checks.proofs.Offered.{all_hold-both, retold-holds}
 use Rattle.mz_lex.specs.Kinds.{is_name, is_name_start, is_name_byte, is_between, is_space, is_math_byte, is_allowed, inside_of}
 use Rattle.mz_logic.specs.Tree.{Tree, Trees, var, app, none, more}
 use Rattle.mz_logic.specs.Declaration.{sorts, signatures}
@@ -142,10 +142,6 @@ module _ (v : Vocabulary) (n : ℕ) (variables : HasVariables v n) (σ : State) 
 abbrev pub AllMeant : State → List Variable → List Formula → Type 0
 AllMeant σ vs [] = ⊤
 AllMeant σ vs (f ∷ fs) = ((e : Tree) × IsMeant σ vs f e) × AllMeant σ vs fs
-
-retold-holds : {Q R : Type 0} (f : Q → R) (cs : Checks Q) → AllHold cs → AllHold (retold f cs)
-retold-holds f nothing all = tt
-retold-holds f (ask p P cs) (holds, rest) = (holds, retold-holds f cs rest)
 
 pub strung : (σ : State) (vs : List Variable) (fs : List Formula) → AllMeant σ vs fs → (tokens : List (List Piece)) × AreTokens σ fs tokens × AllHold (strings_checks σ vs fs tokens)
 strung σ vs [] meant = ([], tt, tt)

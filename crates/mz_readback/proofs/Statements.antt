@@ -11,7 +11,7 @@ use Rattle.mz_lex.specs.Lexemes.{Lexeme}
 use Rattle.mz_lex.specs.Kinds.{is_name}
 use Rattle.mz_logic.specs.Tree.{Tree, Trees, none, more}
 use Rattle.mz_logic.specs.Signature.{Signature}
-use Rattle.mz_logic.specs.Declaration.{Form, plain_form, abstract_form, defined, Term, Assertion, Declaration, sort_decl, term_decl, assertion_decl, sorts, signatures}
+use Rattle.mz_logic.specs.Declaration.{Form, plain_form, abstract_form, defined, Term, Assertion, Declaration, sort_decl, term_decl, assertion_decl, sorts, signatures, DepsAscend}
 use Rattle.mz_logic.specs.Sorts.{HasSort}
 use Rattle.mz_math.specs.declared.formula.Wanted.TheVariants.{Provable as provable, Sort as of_sort}
 use Rattle.mz_math.specs.Formula.{IsFormula}
@@ -38,7 +38,7 @@ use Rattle.mz_spec.specs.Rules.{is_new, are_others, type_checks, binder_rules, b
 use Rattle.mz_variables.specs.Dependencies.{Every, IsBoundAmong}
 use Rattle.mz_spec.specs.Declaring.{IsForm, is_axiom}
 use Rattle.mz_spec.specs.Spec.{IsGood}
-use Rattle.mz_readback.specs.Declared.{Vocabulary, HasVariables, DepsAscend, AreShort, HasShortBody, formula_of, formulas_of, plain_type, plain_binders}
+use Rattle.mz_readback.specs.Declared.{Vocabulary, HasVariables, AreShort, HasShortBody, formula_of, formulas_of, plain_type, plain_binders}
 use Rattle.mz_printing.specs.Prefix.{IsShort}
 use Rattle.mz_readback.proofs.Shown.{AreShown, AllShown, IsTyped, typed-at, binders-shown, params-shown, dummies-apart, names_from, names-join, bytes-are, all-names}
 use Rattle.mz_readback.proofs.Places.{AllBelow, below-all}

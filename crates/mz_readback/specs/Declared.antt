@@ -1,10 +1,10 @@
 -- Declarations with names, and the lines that are printed of them (mm0.md, section on the grammar: sorts, terms,
 -- definitions, axioms and theorems).
-use Rattle.std.specs.Prelude.{◌≡◌, ◌<◌, ◌≤◌, ◌++◌, ◌+◌, ◌/◌, ◌%◌, ◌==◌, ⊤, ℕ, suc, List, [], ◌∷◌, map, length, Bool, true, false, Some, None, IsTrue, All, if◌then◌else◌}
+use Rattle.std.specs.Prelude.{◌≡◌, ◌<◌, ◌≤◌, ◌++◌, ◌+◌, ◌/◌, ◌%◌, ◌==◌, ⊤, ℕ, suc, List, [], ◌∷◌, map, length, Bool, true, false, Some, None, IsTrue, if◌then◌else◌}
 use Rattle.std.specs.List.Sorted.{IsStrictlyIncreasing}
 use Rattle.mz_lex.specs.Kinds.{is_name}
 use Rattle.mz_logic.specs.Tree.{Tree, Trees, none, more}
-use Rattle.mz_logic.specs.Declaration.{Form, plain_form, abstract_form, defined, dummies_of, context_of, Term, Declaration, sort_decl, term_decl, assertion_decl, sorts, signatures}
+use Rattle.mz_logic.specs.Declaration.{Form, plain_form, abstract_form, defined, dummies_of, context_of, Term, Declaration, sort_decl, term_decl, assertion_decl, sorts, signatures, DepsAscend}
 use Rattle.mz_logic.specs.Signature.{Signature}
 use Rattle.mz_logic.specs.Legality.{IsLegalDecl}
 use Rattle.mz_logic.specs.declared.binder.Binder.{Binder}
@@ -97,10 +97,6 @@ HasNewName v n env used name (sort_decl m) = (name ≡ v.sort (length (sorts env
 HasNewName v n env used name (term_decl d) = (name ≡ v.term (length (signatures env))) × ((t : ℕ) → t < length (signatures env) → v.term t ≡ name → ⊥)
     × ((x : ℕ) → x < n → v.variable x ≡ name → ⊥)
 HasNewName v n env used name (assertion_decl a) = IsNew used name
-
--- dependencies stand in ascending order
-abbrev pub DepsAscend : List Binder → Type 0
-DepsAscend bs = All (λ b. IsStrictlyIncreasing b.deps) bs
 
 abbrev pub HasShortBody : Vocabulary → Form → Type 0
 HasShortBody v plain_form = ⊤

@@ -29,10 +29,10 @@ use Rattle.mz_unification.specs.Profile.{strict, tree_parts, Item, expr, proof, 
 use Rattle.mz_unification.specs.Sorted.{Sorted, ItemsSorted}
 use Rattle.mz_unification.specs.UnifyMachine.{in_definition, is_empty}
 use Rattle.mz_unification.proofs.Offered.{from_bind, from_need, from_want, taken, taken-is, place-ok, place_from, renamed, definition-spelled, unfolding-is, one-text}
-use Rattle.mz_soundness.specs.Tables.{Tables, signatures_in, State, Kind, is_definition, Heading, Declares}
+use Rattle.mz_soundness.specs.MachineState.{RowsBefore, signatures_in, State, Kind, is_definition, Heading, Declares}
 use Rattle.mz_soundness.specs.FreeVars.{free_within}
 use Rattle.mz_soundness.specs.Premises.{bound_count, pop, pop_expr, pop_proof, pop_obligation, pop_conversion, is_conversion, is_obligation, may_be_dummy_sort}
-use Rattle.mz_soundness.specs.RowWords.{bound_count as bound_words}
+use Rattle.mz_words.specs.RowWords.{bound_count as bound_words}
 use Rattle.mz_soundness.specs.ProofMachine.{ends_with, matched_by, built, cited, referred, same_term, unfolding_of, has_provable_sort, proof_row, proof_end, last_item, ending, own_stream}
 use Rattle.mz_soundness.specs.Bodies.{BodyCommand, ends, proves, body_command, body_turn, body_turn_by, body_from, body_start, Runs}
 use Rattle.mz_soundness.proofs.Offered.{body-fact, end-ran, own-run}
@@ -64,7 +64,7 @@ referred-few (conversion l r) st st' is few =
     from_bind (pop_obligation st.stack) _ st' is λ o popped e1.
     from_need (strict.same l o.0 && strict.same r o.1) k.ConversionReference _ st' e1 λ t e2. few-same _ st' e2 few
 
-row-few : (tables : Tables) (at : ℕ) (c : ProofCode) (n : ℕ) (st st' : State Tree) → proof_row strict tables at c n st ≡ Ok st' → Few st → Few st'
+row-few : (tables : RowsBefore) (at : ℕ) (c : ProofCode) (n : ℕ) (st st' : State Tree) → proof_row strict tables at c n st ≡ Ok st' → Few st → Few st'
 unfolding proof_row
 row-few tables at code.Term n st st' e few = from_bind (built strict tables at n st) _ st' e λ r made e1. few-same _ st' e1 few
 row-few tables at code.TermSave n st st' e few = from_bind (built strict tables at n st) _ st' e λ r made e1. few-same _ st' e1 few
@@ -99,7 +99,7 @@ abbrev Left : {S : Type 0} → (S → State Tree) → Turn S → Type 0
 Left f (over s) = Few (f s)
 Left f (goes_on len s) = Few (f s)
 
-module _ (tables : Tables) (h : Heading) where
+module _ (tables : RowsBefore) (h : Heading) where
   abbrev state : State Tree × Trace → State Tree
   state s = s.0
 
@@ -171,7 +171,7 @@ context-few : (ss : List SortMods) (ctx params ds : List Binder) → ctx ≡ par
 context-few ss ctx params ds is are few = omega (arith, few, ap bound_count is, bound-append params ds, dummies-bound ss ds are)
 
 -- a theorem's
-pub theorem-few : (tables : Tables) (h : Heading) (bytes : List ℕ) (ss : List SortMods) (dummies : List Binder) (lets : List Proof) (root : Proof)
+pub theorem-few : (tables : RowsBefore) (h : Heading) (bytes : List ℕ) (ss : List SortMods) (dummies : List Binder) (lets : List Proof) (root : Proof)
     → Made tables h bytes dummies lets root → AreDummies ss dummies
     → bound_count h.params ≤ 55 → bound_count h.params + length dummies ≤ 55
 theorem-few tables h bytes ss dummies lets root made are few =
@@ -272,7 +272,7 @@ last-expr : (sigs : List Signature) (ctx : List Binder) (xs : List (Item Tree)) 
 last-expr sigs ctx (expr x ∷ []) e is (s, _) = subst (Sorted sigs ctx) (taken-is x e is) s
 last-expr sigs ctx _ e is h = absurd cc
 
-pub definition-few : (tables : Tables) (env : List Declaration) → Declares tables env → (h : Heading) (at : ℕ) (bytes : List ℕ) → h.kind ≡ is_definition
+pub definition-few : (tables : RowsBefore) (env : List Declaration) → Declares tables env → (h : Heading) (at : ℕ) (bytes : List ℕ) → h.kind ≡ is_definition
     → bound_count h.params ≤ 55 → Runs strict tables h at bytes
     → (ds : List Binder) (body : Tree) → SpellsForm (signatures env) h.params (Some h.stream) (defined ds body) → bound_count h.params + length ds ≤ 55
 definition-few tables env declares h at bytes kind few (last, run-is) ds body text =

@@ -11,7 +11,7 @@ use Rattle.mz_logic.specs.Tree.{Tree, Trees, var, app, none, more, listed}
 use Rattle.mz_logic.specs.Signature.{Signature}
 use Rattle.mz_logic.specs.Declaration.{Assertion}
 use Rattle.mz_unification.specs.Streams.{StreamKind, of_assertion, UnifyCommand, StreamIs}
-use Rattle.mz_unification.specs.Spells.{Marks, marked, at_first, Spells, SpellsAll, SpellsHyps, ThmRow, SpellsThm}
+use Rattle.mz_unification.specs.Spells.{Marks, marked, at_first, Spells, SpellsAll, SpellsHyps, SpelledThm, SpellsThm}
 
 -- ---- a command takes a byte at least, and stands within the bytes
 
@@ -58,7 +58,7 @@ hyps-use n sigs m us (h ∷ hs) m' (rest, mid, us', is, first, all) =
     let b = hyps-use n sigs mid us' hs m' all in
     omega (arith, ap length is, a, b)
 
-pub hyps-few : (sigs : List Signature) (row : ThmRow) (a : Assertion) → SpellsThm sigs row a → length (listed a.hyps) ≤ length row.stream
+pub hyps-few : (sigs : List Signature) (row : SpelledThm) (a : Assertion) → SpellsThm sigs row a → length (listed a.hyps) ≤ length row.stream
 hyps-few sigs row a (params, (last, (us, is, mid, rest, first, hyps), no_dummies)) =
     let long = stream-long of_assertion row.stream us is in
     let used = uses (length row.params) sigs (at_first row.params) us a.conclusion mid rest first in

@@ -15,7 +15,7 @@ use Rattle.mz_forms.specs.Gaps.{LeavesOnly, AllLeaveOnly}
 use Rattle.mz_unification.specs.Steps.{Turn, over, goes_on}
 use Rattle.mz_unification.specs.Profile.{strict, tree_parts}
 use Rattle.mz_unification.proofs.Offered.{from_bind, from_want, taken, taken-is}
-use Rattle.mz_soundness.specs.Tables.{Tables, State, Heading}
+use Rattle.mz_soundness.specs.MachineState.{RowsBefore, State, Heading}
 use Rattle.mz_soundness.specs.Premises.{pop_expr, pop_proof, pop_obligation, pop_sides}
 use Rattle.mz_soundness.specs.ProofMachine.{citation, matched_by, unfolding_of, proof_row}
 use Rattle.mz_soundness.specs.Bodies.{BodyCommand, ends, proves, body_command}
@@ -245,7 +245,7 @@ conversion-step : (xs : List Part) (tr : Trace) → (IsFine tr → PartsPlain (l
 conversion-step (converted c ∷ xs) tr f = kept-step tr (paid c xs) (converted c) (λ fine. paid-plain (length tr.lets) c xs (f fine).0 (f fine).1) (λ fine. (f fine).0)
 conversion-step _ tr f = (λ fine. fine, omega arith)
 
-module _ (tables : Tables) where
+module _ (tables : RowsBefore) where
   cited-plain : (t : ℕ) (st : State Tree) (tr : Trace) (p : Proof × List Part) → cited tables t st tr ≡ Ok p → IsFine tr → Plain (length tr.lets) p.0 × PartsPlain (length tr.lets) p.1
   cited-plain t st tr p e fine =
       from_bind (citation strict tables t st) _ p e λ m is e1.
@@ -304,7 +304,7 @@ module _ (tables : Tables) where
 
 -- ---- a whole body
 
-module _ (tables : Tables) (h : Heading) where
+module _ (tables : RowsBefore) (h : Heading) where
   -- a turn that ends leaves the trace, one that goes on is a command's
   abbrev Turns : Trace → Turn (State Tree × Trace) → Type 0
   Turns tr (over s) = s.1 ≡ tr

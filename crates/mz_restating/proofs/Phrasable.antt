@@ -15,7 +15,7 @@ use Rattle.mz_forms.specs.Statements.{names_with}
 use Rattle.mz_forms.specs.Proof.{Statement}
 use Rattle.mz_type.specs.Meaning.{marked}
 use Rattle.mz_type.specs.Weight.{parameter_limit, bound_limit, params_of, parameter_count, bound_count as bound_in, each_within}
-use Rattle.mz_soundness.specs.Tables.{Declares}
+use Rattle.mz_soundness.specs.MachineState.{Declares}
 use Rattle.mz_soundness.specs.Premises.{bound_count}
 use Rattle.mz_soundness.specs.FileRows.{taken_by, rows_taken}
 use Rattle.mz_binary.specs.Chains.{IsGoodStatement, GoodTo}

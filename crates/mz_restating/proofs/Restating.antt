@@ -7,7 +7,7 @@ use Rattle.mz_logic.specs.Legality.{IsLegalEnv}
 use Rattle.mz_logic.specs.declared.binder.Binder.{Binder}
 use Rattle.mz_forms.specs.Proof.{Proof, Statement}
 use Rattle.mz_layout.specs.Tables.{list_at}
-use Rattle.mz_soundness.specs.Tables.{Declares}
+use Rattle.mz_soundness.specs.MachineState.{Declares}
 use Rattle.mz_layout.specs.Heads.{body_bytes}
 use Rattle.mz_soundness.specs.FileRows.{taken_by, rows_taken}
 use Rattle.mz_binary.specs.Chains.{IsGoodStatement, GoodTo}

@@ -10,7 +10,7 @@ use Rattle.mz_cmd.specs.declared.statement.StmtFault.{StmtFault}
 use Rattle.mz_cmd.specs.Codes.{statement_code}
 use Rattle.mz_logic.specs.Tree.{listed}
 use Rattle.mz_logic.specs.Signature.{Signature}
-use Rattle.mz_logic.specs.Declaration.{Form, plain_form, abstract_form, defined, dummies_of, Declaration, sort_decl, term_decl, assertion_decl, Term, Assertion, sorts, terms, signatures, assertions}
+use Rattle.mz_logic.specs.Declaration.{Form, plain_form, abstract_form, defined, dummies_of, Declaration, sort_decl, term_decl, assertion_decl, Term, Assertion, sorts, terms, signatures, assertions, DepsAscend}
 use Rattle.mz_logic.specs.LegalLists.{Statement}
 use Rattle.mz_logic.specs.Words.{word_bound, binders_from, binders_of, signature_of}
 use Rattle.mz_logic.specs.declared.binder.Binder.{Binder}
@@ -20,20 +20,20 @@ use Rattle.mz_layout.specs.Numbers.{number_at}
 use Rattle.mz_layout.specs.Tables.{param_count, params_of, term_record, thm_record, term_row, thm_row}
 use Rattle.mz_layout.proofs.Offered.{length-params}
 use Rattle.mz_unification.specs.Spells.{SpellsForm}
-use Rattle.mz_soundness.specs.Tables.{Heading, Declares}
+use Rattle.mz_soundness.specs.MachineState.{Heading, Declares}
 use Rattle.mz_soundness.specs.Premises.{bound_count}
-use Rattle.mz_soundness.specs.RowWords.{AreParamWords}
+use Rattle.mz_words.specs.RowWords.{AreParamWords}
 use Rattle.mz_soundness.specs.Lists.{definition_of, BodyIsGood}
 use Rattle.mz_layout.specs.Heads.{body_bytes}
 use Rattle.mz_soundness.specs.FileRows.{taken_by, rows_taken, term_of_file, thm_of_file}
-use Rattle.mz_soundness.proofs.Offered.{right-words}
+use Rattle.mz_words.proofs.Offered.{right-words}
 use Rattle.mz_binary.specs.Checking.{checks_of, kind_checks}
 use Rattle.mz_binary.specs.Chains.{IsGoodStatement}
 use Rattle.mz_binary.specs.Laws.{HasRow}
 use Rattle.mz_binary.specs.Spelling.{IsKindOf, SpellsRow}
 use Rattle.mz_binary.specs.Standards.{strict_standard}
 use Rattle.mz_binary.proofs.Offered.{body_of, entry-good, good-rows}
-use Rattle.mz_phrasing.specs.Phrasable.{DepsAscend, HasForm}
+use Rattle.mz_phrasing.specs.Phrasable.{HasForm}
 use Rattle.mz_restating.specs.Laws.{AreBytes}
 use Rattle.mz_restating.proofs.Ascending.{params-ascend, result-ascends}
 use Rattle.mz_restating.proofs.FewBound.{words-bound, definition-few}

@@ -15,7 +15,8 @@ use Rattle.mz_spec.specs.State.{State, Entry, nothing, mark_at, env_of, with_tab
 use Rattle.mz_spec.specs.Declaring.{After}
 use Rattle.mz_spec.specs.Spec.{IsGood, Stand, SpecMakes}
 use Rattle.mz_spec.proofs.Offered.{IsOfKind, every-front, is_new-other, good-new, entries-decls, entries-marks, kept-nothing, lexes-kinds, stand-kept}
-use Rattle.mz_axioms.specs.Text.{bytes_between, name_at}
+use Rattle.mz_layout.specs.Heads.{body_bytes as bytes_between}
+use Rattle.mz_axioms.specs.Text.{name_at}
 use Rattle.mz_naming.specs.Names.{names_from, declared_names}
 use Rattle.mz_restating.proofs.Seen.{Seen, none_seen, seen_in, seen_with, IsOther, AreNew}
 

@@ -8,7 +8,7 @@ use Rattle.mz_forms.specs.Gaps.{SomeLeavesOnly}
 use Rattle.mz_forms.specs.Proof.{Proof}
 use Rattle.mz_type.specs.Meaning.{IsProvedAsStated}
 use Rattle.mz_type.specs.Weight.{params_of, dummy_count}
-use Rattle.mz_soundness.specs.Tables.{Declares}
+use Rattle.mz_soundness.specs.MachineState.{Declares}
 use Rattle.mz_soundness.specs.Premises.{bound_count}
 use Rattle.mz_layout.specs.Heads.{body_bytes}
 use Rattle.mz_soundness.specs.FileRows.{taken_by, rows_taken}

@@ -14,7 +14,7 @@ use Rattle.mz_forms.specs.Proof.{Proof}
 use Rattle.mz_tracing.specs.Traces.{under_lets, Made}
 use Rattle.mz_unification.specs.Profile.{strict}
 use Rattle.mz_unification.specs.Spells.{SpellsThm}
-use Rattle.mz_soundness.specs.Tables.{Heading, Declares}
+use Rattle.mz_soundness.specs.MachineState.{Heading, Declares}
 use Rattle.mz_soundness.specs.Bodies.{Runs}
 use Rattle.mz_soundness.specs.Sound.{AreRowParams, thm_row}
 use Rattle.mz_layout.specs.Heads.{body_bytes}

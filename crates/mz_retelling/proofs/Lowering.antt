@@ -3,7 +3,7 @@ use Rattle.std.proofs.Common.{◌≡◌, ℕ, suc, ◌<◌, All, List, [], ◌�
 use Rattle.std.proofs.lemmas.List.{length-append}
 use Rattle.std.proofs.lemmas.List.Elements.{All-append}
 use Rattle.std.proofs.lemmas.Option.{slice_get_within}
-use Rattle.mz_soundness.specs.Tables.{Tables}
+use Rattle.mz_soundness.specs.MachineState.{RowsBefore}
 use Rattle.mz_trace.specs.Nodes.{Value, an_expression, a_conversion, a_proof, value_of, IsExpression, IsConversion, IsProof, AreExpressions, AreConversions, AreProofs, HasParts, HavePartsAfter}
 use Rattle.mz_trace.specs.declared.node.RunNode.{RunNode}
 use Rattle.mz_trace.specs.declared.node.RunNode.TheVariants as node
@@ -31,7 +31,7 @@ pub proofs-low : (vs : List Value) (ns : List ℕ) → AreProofs vs ns → All (
 proofs-low vs [] h = no-numbers (length vs)
 proofs-low vs (n ∷ ns) h = all-of (length vs) n ns (proof-low vs n h.0) (proofs-low vs ns h.1)
 
-node-low : (tables : Tables) (vs : List Value) (n : RunNode) → HasParts tables vs n → IsLower (length vs) n
+node-low : (tables : RowsBefore) (vs : List Value) (n : RunNode) → HasParts tables vs n → IsLower (length vs) n
 node-low tables vs (node.Var x) h = no-numbers (length vs)
 node-low tables vs (node.App t es) h = expressions-low vs es.items h.0
 node-low tables vs (node.Hyp i) h = no-numbers (length vs)
@@ -48,7 +48,7 @@ node-low tables vs (node.Cong t cs) h = conversions-low vs cs.items h
 node-low tables vs (node.Unfold t e es ys c) h =
     all-of (length vs) e (c ∷ es.items) (expression-low vs e h.0) (all-of (length vs) c es.items (conversion-low vs c h.2) (expressions-low vs es.items h.1))
 
-pub nodes-low : (tables : Tables) (vs : List Value) (ns : List RunNode) → HavePartsAfter tables vs ns → AreLowerAfter (length vs) ns
+pub nodes-low : (tables : RowsBefore) (vs : List Value) (ns : List RunNode) → HavePartsAfter tables vs ns → AreLowerAfter (length vs) ns
 nodes-low tables vs [] h = tt
 nodes-low tables vs (n ∷ ns) h =
     let one : length (vs ++ value_of vs n ∷ []) ≡ suc (length vs) = omega (arith, length-append vs (value_of vs n ∷ [])) in

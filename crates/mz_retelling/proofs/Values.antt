@@ -7,7 +7,7 @@ use Rattle.mz_logic.specs.Tree.{Trees, app, none, more, size, trees_size}
 use Rattle.mz_logic.specs.Declaration.{Declaration}
 use Rattle.mz_type.specs.Weight.{conv_weight, convs_weight, proof_weight, proofs_weight}
 use Rattle.mz_unification.specs.Spells.{trees_of}
-use Rattle.mz_soundness.specs.Tables.{Tables}
+use Rattle.mz_soundness.specs.MachineState.{RowsBefore}
 use Rattle.mz_phrasing.specs.Phrases.{Phrase, Phrases, a_word, a_list, no_phrases, one_more}
 use Rattle.mz_phrasing.specs.Phrasing.{Vocabulary, list_of, expression, expressions, conversion, conversions, proof, proofs, variable_names}
 use Rattle.mz_stating.specs.ByNumber.{phrase_at, phrases_at}
@@ -70,7 +70,7 @@ applied-is : (v : Vocabulary) (t : ℕ) (es : Trees) → applied (v.term t) (exp
 applied-is v t none = refl
 applied-is v t (more e es) = refl
 
-pub node-phrase : (v : Vocabulary) (k : ℕ) (tables : Tables) (vs : List Value) (n : RunNode) → HasParts tables vs n
+pub node-phrase : (v : Vocabulary) (k : ℕ) (tables : RowsBefore) (vs : List Value) (n : RunNode) → HasParts tables vs n
     → told v (value_phrases v k vs) n ≡ phrase_in v k (value_of vs n)
 node-phrase v k tables vs (node.Var x) h = refl
 node-phrase v k tables vs (node.App t es) h =
@@ -100,7 +100,7 @@ node-phrase v k tables vs (node.Unfold t e es ys c) h =
     ap (λ x. as_list x (phrase_at qs c)) (expression-phrases v k vs es.items h.1)
     ∙ ap (as_list (expressions v (trees_of (expressions_at vs es.items)))) (conversion-phrase v k vs c h.2)
 
-pub nodes-phrases : (v : Vocabulary) (k : ℕ) (tables : Tables) (vs : List Value) (ns : List RunNode) → HavePartsAfter tables vs ns
+pub nodes-phrases : (v : Vocabulary) (k : ℕ) (tables : RowsBefore) (vs : List Value) (ns : List RunNode) → HavePartsAfter tables vs ns
     → told_after v (value_phrases v k vs) ns ≡ value_phrases v k (values_after vs ns)
 nodes-phrases v k tables vs [] h = refl
 nodes-phrases v k tables vs (n ∷ ns) h =
@@ -152,7 +152,7 @@ proof-weights env vs (n ∷ ns) h =
     let all = proof-weights env vs ns h.1 in
     omega (arith, one, all)
 
-pub node-weight : (env : List Declaration) (tables : Tables) (vs : List Value) (n : RunNode) → HasParts tables vs n → HasClaim env vs n
+pub node-weight : (env : List Declaration) (tables : RowsBefore) (vs : List Value) (n : RunNode) → HasParts tables vs n → HasClaim env vs n
     → weighed (value_weights env vs) n ≡ weight_in env (value_of vs n)
 node-weight env tables vs (node.Var x) h claim = refl
 node-weight env tables vs (node.App t es) h claim = let all = expression-weights env vs es.items h.0 in omega (arith, all)
@@ -177,7 +177,7 @@ node-weight env tables vs (node.Unfold t e es ys c) h claim =
     let part = conversion-weight env vs c h.2 in
     omega (arith, one, all, part)
 
-pub nodes-weights : (env : List Declaration) (tables : Tables) (vs : List Value) (ns : List RunNode) → HavePartsAfter tables vs ns → HasClaimsAfter env vs ns
+pub nodes-weights : (env : List Declaration) (tables : RowsBefore) (vs : List Value) (ns : List RunNode) → HavePartsAfter tables vs ns → HasClaimsAfter env vs ns
     → weighed_after (value_weights env vs) ns ≡ value_weights env (values_after vs ns)
 nodes-weights env tables vs [] h claims = refl
 nodes-weights env tables vs (n ∷ ns) h claims =

@@ -3,7 +3,7 @@ use Rattle.std.specs.Prelude.{ℕ, ◌≡◌, ◌<◌, List, length}
 use Rattle.mz_logic.specs.Declaration.{Declaration}
 use Rattle.mz_forms.specs.Proof.{Proof}
 use Rattle.mz_type.specs.Weight.{proof_weight}
-use Rattle.mz_soundness.specs.Tables.{Tables}
+use Rattle.mz_soundness.specs.MachineState.{RowsBefore}
 use Rattle.mz_tracing.specs.Traces.{under_lets}
 use Rattle.mz_phrasing.specs.Phrases.{Phrase}
 use Rattle.mz_phrasing.specs.Phrasing.{Vocabulary, proof}
@@ -16,7 +16,7 @@ use Rattle.mz_trace.specs.declared.run.Run.{Run}
 
 -- all that it names is there
 abbrev pub IsWhole : Run → Type 0
-IsWhole r = (tables : Tables) × HaveParts tables r.nodes.items × AreProofs (values_in r) r.lets.items × IsProof (values_in r) r.root
+IsWhole r = (tables : RowsBefore) × HaveParts tables r.nodes.items × AreProofs (values_in r) r.lets.items × IsProof (values_in r) r.root
 
 -- the proof that is left, behind those with names
 abbrev pub proof_in : Run → Proof

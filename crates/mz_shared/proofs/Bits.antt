@@ -9,7 +9,8 @@ use Rattle.std.proofs.lemmas.Nat.Bits.{bit_at-suc, bit_at_lowest, bit_at_or, bit
 use Rattle.std.proofs.lemmas.List.{length-append, take_more, drop_more, take-append-drop}
 use Rattle.std.proofs.lemmas.Option.{get_or_from_slice_get, slice_get_read, slice_get_within}
 use Rattle.mz_logic.specs.Words.{BitsRight, BitsRightAfter, binders_of}
-use Rattle.mz_logic.specs.WordsWritten.{is_among, bits_of, bound_from, word_of, words_from, words_of, CanBeWords}
+use Rattle.mz_logic.specs.Variables.{is_member}
+use Rattle.mz_logic.specs.WordsWritten.{bits_of, bound_from, word_of, words_from, words_of, CanBeWords}
 use Rattle.mz_logic.specs.declared.binder.SortMods.{SortMods}
 use Rattle.mz_logic.specs.declared.binder.Binder.{Binder}
 use Rattle.mz_logic.specs.declared.word.Word.{Word}
@@ -24,25 +25,25 @@ unit b = if b then 1 else 0
 
 abbrev bit_in : List ℕ → List ℕ → ℕ → ℕ
 bit_in [] deps k = 0
-bit_in (p ∷ ps) deps zero = unit (is_among p deps)
+bit_in (p ∷ ps) deps zero = unit (is_member p deps)
 bit_in (p ∷ ps) deps (suc k) = bit_in ps deps k
 
 bit_is : (ps deps : List ℕ) (k : ℕ) → bit_at (bits_of ps deps) k ≡ bit_in ps deps k
 bit_is [] deps k = bit_at-zero k
-bit_is (p ∷ ps) deps zero = bit_at_lowest (unit (is_among p deps) + 2 * bits_of ps deps) ∙ low (is_among p deps)
+bit_is (p ∷ ps) deps zero = bit_at_lowest (unit (is_member p deps) + 2 * bits_of ps deps) ∙ low (is_member p deps)
   where
     low : (b : Bool) → (unit b + 2 * bits_of ps deps) % 2 ≡ unit b
     low true = omega arith
     low false = omega arith
-bit_is (p ∷ ps) deps (suc k) = bit_at-suc (unit (is_among p deps) + 2 * bits_of ps deps) k ∙ ap (λ (n : ℕ). bit_at n k) (high (is_among p deps)) ∙ bit_is ps deps k
+bit_is (p ∷ ps) deps (suc k) = bit_at-suc (unit (is_member p deps) + 2 * bits_of ps deps) k ∙ ap (λ (n : ℕ). bit_at n k) (high (is_member p deps)) ∙ bit_is ps deps k
   where
     high : (b : Bool) → (unit b + 2 * bits_of ps deps) / 2 ≡ bits_of ps deps
     high true = omega arith
     high false = omega arith
 
-among_push : (p : ℕ) (ds : List ℕ) (d : ℕ) → is_among p (ds ++ d ∷ []) ≡ (is_among p ds || is_among p (d ∷ []))
+among_push : (p : ℕ) (ds : List ℕ) (d : ℕ) → is_member p (ds ++ d ∷ []) ≡ (is_member p ds || is_member p (d ∷ []))
 among_push p [] d = refl
-among_push p (e ∷ ds) d = ap (λ (b : Bool). eqb p e || b) (among_push p ds d) ∙ assoc (eqb p e) (is_among p ds) (is_among p (d ∷ []))
+among_push p (e ∷ ds) d = ap (λ (b : Bool). eqb p e || b) (among_push p ds d) ∙ assoc (eqb p e) (is_member p ds) (is_member p (d ∷ []))
   where
     assoc : (a b c : Bool) → (a || (b || c)) ≡ ((a || b) || c)
     assoc true b c = refl
@@ -50,7 +51,7 @@ among_push p (e ∷ ds) d = ap (λ (b : Bool). eqb p e || b) (among_push p ds d)
 
 bit_push : (ps ds : List ℕ) (d k : ℕ) → bit_in ps (ds ++ d ∷ []) k ≡ max (bit_in ps ds k) (bit_in ps (d ∷ []) k)
 bit_push [] ds d k = refl
-bit_push (p ∷ ps) ds d zero = ap unit (among_push p ds d) ∙ either (is_among p ds) (is_among p (d ∷ []))
+bit_push (p ∷ ps) ds d zero = ap unit (among_push p ds d) ∙ either (is_member p ds) (is_member p (d ∷ []))
   where
     either : (a b : Bool) → unit (a || b) ≡ max (unit a) (unit b)
     either true true = refl

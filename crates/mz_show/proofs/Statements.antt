@@ -1,7 +1,7 @@
 -- A place of the list has one statement, of which all that is asked is decided.
-use Rattle.std.proofs.Common.{◌≡◌, ◌⊎◌, ◌∙◌, ℕ, Bool, true, false, List, length, take, Option, Some, None, Result, Ok, Err, refl, sym, ap, subst, arith, inl, inr}
-use Rattle.mz_checks.specs.Checks.{Checks, nothing, ask, retold, AllHold, FailsFirst, AreDecided}
-use Rattle.mz_checks.proofs.Offered.{all_hold-both, all_hold-excludes, all_hold-first, all_hold-or_fails, fails-before, fails_first-unique, are_decided-both}
+use Rattle.std.proofs.Common.{◌≡◌, ◌⊎◌, ◌∙◌, ℕ, Bool, true, false, List, length, take, Option, Some, None, Result, Ok, Err, refl, sym, subst, arith, inl, inr}
+use Rattle.mz_checks.specs.Checks.{nothing, AllHold, FailsFirst, AreDecided}
+use Rattle.mz_checks.proofs.Offered.{all_hold-both, all_hold-excludes, all_hold-first, all_hold-or_fails, fails-before, fails_first-unique, are_decided-both, retold-decided, retold-held, retold-holds}
 use Rattle.mz_cmd.specs.declared.code.StatementCode.{StatementCode}
 use Rattle.mz_cmd.specs.declared.code.StatementCode.TheVariants as codes_of
 use Rattle.mz_cmd.specs.declared.rule.Refusal.{Refusal}
@@ -19,25 +19,6 @@ use Rattle.mz_show.specs.Streams.{Run, IsLongest}
 use Rattle.mz_show.specs.Statements.{Statement, Stands, unify_at, has_streams, place_checks, part_checks, statement_checks, refusal_at}
 use Rattle.mz_show.specs.Listing.{EndsAt, StopsAt}
 use Rattle.mz_show.proofs.Commands.{longest-unique, longest-some, end_stands-decided, leads_to-decided}
-
--- ---- checks told otherwise
-
-pub retold-holds : {Q R : Type 0} (f : Q → R) (cs : Checks Q) → AllHold cs → AllHold (retold f cs)
-retold-holds f nothing all = tt
-retold-holds f (ask q P cs) all = (all.0, retold-holds f cs all.1)
-
-pub retold-held : {Q R : Type 0} (f : Q → R) (cs : Checks Q) → AllHold (retold f cs) → AllHold cs
-retold-held f nothing all = tt
-retold-held f (ask q P cs) all = (all.0, retold-held f cs all.1)
-
-pub retold-fails : {Q R : Type 0} (f : Q → R) (cs : Checks Q) (q : Q) → FailsFirst cs q → FailsFirst (retold f cs) (f q)
-retold-fails f nothing q fails = absurd fails
-retold-fails f (ask p P cs) q (inl (out, same)) = inl (out, ap f same)
-retold-fails f (ask p P cs) q (inr (holds, rest)) = inr (holds, retold-fails f cs q rest)
-
-retold-decided : {Q R : Type 0} (f : Q → R) (cs : Checks Q) → AreDecided cs → AreDecided (retold f cs)
-retold-decided f nothing d = tt
-retold-decided f (ask q P cs) d = (d.0, λ p. retold-decided f cs (d.1 p))
 
 -- ---- one statement
 

@@ -18,7 +18,7 @@ use Rattle.mz_unification.specs.Profile.{plain, strict, Item, expr, proof}
 use Rattle.mz_unification.specs.Sorted.{Sorted, AllSorted, ItemsSorted}
 use Rattle.mz_unification.specs.UnifyMachine.{UnifyMode, at_end, Matching, UnifyState, unify}
 use Rattle.mz_unification.proofs.Offered.{from_bind, from_need, rule_of-ok, taken-is, listed-trees_of, assertion-spelled, Below, EachBelow, text-met}
-use Rattle.mz_soundness.specs.Tables.{Tables, signatures_in, State, Kind, is_axiom, is_theorem, Heading, Declares}
+use Rattle.mz_soundness.specs.MachineState.{RowsBefore, signatures_in, State, Kind, is_axiom, is_theorem, Heading, Declares}
 use Rattle.mz_soundness.specs.ProofMachine.{last_item, ending, own_variables, own_stream, as_proofs, has_provable_sort, matched_by, ends_with, proof_end}
 use Rattle.mz_soundness.specs.Bodies.{body_run}
 use Rattle.mz_soundness.specs.Facts.{Derivable, StackHolds, AreProvableClaims, Fact}
@@ -35,7 +35,7 @@ own-are i [] = refl
 own-are i (p ∷ ps) = ap (λ (z : List Tree). var i ∷ z) (own-are (suc i) ps)
 
 -- the item that is left, and what the row's stream ran on
-pub end-ran : {G : Type 0} (tables : Tables) (h : Heading) (last : State Tree) → proof_end strict tables h last ≡ Ok last
+pub end-ran : {G : Type 0} (tables : RowsBefore) (h : Heading) (last : State Tree) → proof_end strict tables h last ≡ Ok last
     → ((e : Tree) (m : Matching Tree) (u : UnifyState Tree) → last_item h.kind last.stack ≡ Ok e → ending strict tables h last h.kind e ≡ Ok m → unify strict (signatures_in tables) last.ctx m ≡ Ok u → G) → G
 unfolding proof_end ends_with
 end-ran tables h last done go =
@@ -45,7 +45,7 @@ end-ran tables h last done go =
     go e m u e-is e3 (rule_of-ok _ u unified)
 
 -- what runs as a row's own stream, over the environment's signatures and the parameters as variables
-pub own-run : (tables : Tables) (env : List Declaration) → Declares tables env → (h : Heading) (ctx : List Binder) (mode : UnifyMode) (e : Tree) (items : List (Item Tree)) (m : Matching Tree) (u : UnifyState Tree)
+pub own-run : (tables : RowsBefore) (env : List Declaration) → Declares tables env → (h : Heading) (ctx : List Binder) (mode : UnifyMode) (e : Tree) (items : List (Item Tree)) (m : Matching Tree) (u : UnifyState Tree)
     → own_stream strict h mode e items ≡ m → unify strict (signatures_in tables) ctx m ≡ Ok u
     → unify strict (signatures env) ctx (record { mode = mode; stream = h.stream; operands = variables_from 0 h.params; target = e; items = items }) ≡ Ok u
 own-run tables env declares h ctx mode e items m u is ran =
@@ -89,7 +89,7 @@ abbrev pub made : Heading → Bool → State Tree → Tree → Assertion
 made h without_proof last e = record { is_axiom = without_proof; params = h.params; hyps = trees_of last.hyps; conclusion = e }
 
 -- the row spells it, and it is legal where the conclusion has a provable sort
-pub made-legal : (tables : Tables) (env : List Declaration) (declares : Declares tables env) (h : Heading) (without_proof : Bool) (P : Uses) (last : State Tree) (e : Tree) (m : Matching Tree) (u : UnifyState Tree)
+pub made-legal : (tables : RowsBefore) (env : List Declaration) (declares : Declares tables env) (h : Heading) (without_proof : Bool) (P : Uses) (last : State Tree) (e : Tree) (m : Matching Tree) (u : UnifyState Tree)
     → AreRowParams (sorts env) h.params → Fact P env h.params last.ctx last → HasProvable env last.ctx e
     → own_stream strict h at_end e (as_proofs last.hyps) ≡ m → unify strict (signatures_in tables) last.ctx m ≡ Ok u
     → SpellsThm (signatures env) (thm_row h) (made h without_proof last e) × IsLegalDecl env (assertion_decl (made h without_proof last e))
@@ -116,7 +116,7 @@ last-expr : (sigs : List Signature) (ctx : List Binder) (xs : List (Item Tree)) 
 last-expr sigs ctx (expr x ∷ []) e is (s, _) = subst (Sorted sigs ctx) (taken-is x e is) s
 last-expr sigs ctx _ e is h = absurd cc
 
-pub theorem-legal : (gaps : Bool) (tables : Tables) (env : List Declaration) → IsLegalEnv env → Declares tables env → (h : Heading) (at : ℕ) (bytes : List ℕ) (last : State Tree)
+pub theorem-legal : (gaps : Bool) (tables : RowsBefore) (env : List Declaration) → IsLegalEnv env → Declares tables env → (h : Heading) (at : ℕ) (bytes : List ℕ) (last : State Tree)
     → h.kind ≡ is_theorem → AreRowParams (sorts env) h.params → body_run (plain gaps) tables h at bytes ≡ Ok last
     → (a : Assertion) × (a.is_axiom ≡ false) × SpellsThm (signatures env) (thm_row h) a × IsLegalDecl env (assertion_decl a) × IsProvedBy (cites_as gaps bytes) env a
 theorem-legal gaps tables env legal declares h at bytes last kind right run-is =
@@ -129,7 +129,7 @@ theorem-legal gaps tables env legal declares h at bytes last kind right run-is =
     let (spells, is-legal) = made-legal tables env declares h false (used_by gaps env bytes) last e m u right fact claim-is m-is ran in
     (made h false last e, refl, spells, is-legal, (dummies, are, (d, cites, subst (λ (c : List Binder). Derives env c (trees_of last.hyps) d e) ctx-is derives)))
 
-pub axiom-legal : (gaps : Bool) (tables : Tables) (env : List Declaration) → Declares tables env → (h : Heading) (at : ℕ) (bytes : List ℕ) (last : State Tree)
+pub axiom-legal : (gaps : Bool) (tables : RowsBefore) (env : List Declaration) → Declares tables env → (h : Heading) (at : ℕ) (bytes : List ℕ) (last : State Tree)
     → h.kind ≡ is_axiom → AreRowParams (sorts env) h.params → body_run (plain gaps) tables h at bytes ≡ Ok last
     → (a : Assertion) × (a.is_axiom ≡ true) × SpellsThm (signatures env) (thm_row h) a × IsLegalDecl env (assertion_decl a)
 axiom-legal gaps tables env declares h at bytes last kind right run-is =

@@ -10,10 +10,10 @@ use Rattle.mz_cmd.specs.declared.code.ProofCode.TheVariants as code
 use Rattle.mz_cmd.specs.Reading.{first_command}
 use Rattle.mz_unification.specs.Steps.{◌>>=◌, ◌>>◌, need, Turn, over, goes_on}
 use Rattle.mz_unification.specs.Profile.{Profile, Item}
-use Rattle.mz_unification.specs.Spells.{TermRow}
+use Rattle.mz_unification.specs.Spells.{SpelledTerm}
 use Rattle.mz_unification.specs.UnifyMachine.{in_citation, at_end, in_definition, Matching, is_empty, at_start}
 use Rattle.mz_unification.proofs.Offered.{command-long, follow-same, goes_to-le, if_read-le, goes_to-same, if_read-same, drop-less, from_bind, from_then, from_want, taken-is, steps-bounded}
-use Rattle.mz_soundness.specs.Tables.{Tables, signatures_in, State, Kind, is_axiom, is_theorem, is_definition, Heading}
+use Rattle.mz_soundness.specs.MachineState.{RowsBefore, signatures_in, State, Kind, is_axiom, is_theorem, is_definition, Heading}
 use Rattle.mz_soundness.specs.Bodies.{BodyCommand, ends, proves, fst_of, body_command, body_turn_by, body_turn, body_from, match_steps, row_steps, command_steps, body_steps_from}
 use Rattle.mz_soundness.specs.ProofMachine.{proof_row, proof_end, citation, unfolding_of, stream_of, last_item, ending, own_stream, as_proofs, has_provable_sort, ends_with}
 use Rattle.mz_soundness.specs.Premises.{pop_expr, pop_operands, pop_sides, operands_fit, are_apart}
@@ -21,7 +21,7 @@ use Rattle.mz_soundness.specs.FreeVars.{free_within}
 use Rattle.mz_logic.specs.Legality.{sort_of}
 use Rattle.mz_soundness.specs.Laws.{StreamsWithin}
 
-module _ (P : Profile) (tables : Tables) (h : Heading) where
+module _ (P : Profile) (tables : RowsBefore) (h : Heading) where
   abbrev turned : Turn (State P.T) → Result (Turn (State P.T)) K
   turned x = Ok x
 
@@ -80,7 +80,7 @@ module _ (P : Profile) (tables : Tables) (h : Heading) where
       let is : row.stream ≡ m.stream = ap (λ (z : Matching P.T). z.stream) (taken-is (record { mode = in_citation; stream = row.stream; operands = es.0; target = x.0; items = es.1 }) m e6) in
       subst (λ (z : List ℕ). length z ≤ n) is (within.of_thms t row row-at)
 
-  stream-row : (o : Option TermRow) (stream : List ℕ) → stream_of o ≡ Some stream → (row : TermRow) × (o ≡ Some row) × (row.stream ≡ Some stream)
+  stream-row : (o : Option SpelledTerm) (stream : List ℕ) → stream_of o ≡ Some stream → (row : SpelledTerm) × (o ≡ Some row) × (row.stream ≡ Some stream)
   stream-row None stream e = absurd cc
   stream-row (Some row) stream e = (row, refl, e)
 

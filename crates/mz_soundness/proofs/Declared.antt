@@ -3,8 +3,8 @@ use Rattle.std.proofs.Common.{◌≡◌, ℕ, zero, suc, List, [], ◌∷◌, ma
 use Rattle.std.specs.Prelude.{slice_get}
 use Rattle.mz_logic.specs.Signature.{Signature}
 use Rattle.mz_logic.specs.Declaration.{Term, Declaration, sort_decl, term_decl, assertion_decl, terms, signatures}
-use Rattle.mz_unification.specs.Spells.{TermRow, SpellsTerm}
-use Rattle.mz_soundness.specs.Tables.{Tables, signatures_in, Pairwise, Declares}
+use Rattle.mz_unification.specs.Spells.{SpelledTerm, SpellsTerm}
+use Rattle.mz_soundness.specs.MachineState.{RowsBefore, signatures_in, Pairwise, Declares}
 
 pub pair-at : {A B : Type 0} (R : A → B → Type 0) (xs : List A) (ys : List B) → Pairwise R xs ys → (i : ℕ) (x : A) → slice_get xs i ≡ Some x → (y : B) × (slice_get ys i ≡ Some y) × R x y
 pair-at R [] ys h i x at = absurd cc
@@ -24,7 +24,7 @@ signatures-of (sort_decl m ∷ env) = signatures-of env
 signatures-of (term_decl d ∷ env) = ap (λ (z : List Signature). d.signature ∷ z) (signatures-of env)
 signatures-of (assertion_decl a ∷ env) = signatures-of env
 
-rows-signatures : (sigs : List Signature) (rows : List TermRow) (ds : List Term) → Pairwise (SpellsTerm sigs) rows ds → map (λ r. r.signature) rows ≡ map (λ d. d.signature) ds
+rows-signatures : (sigs : List Signature) (rows : List SpelledTerm) (ds : List Term) → Pairwise (SpellsTerm sigs) rows ds → map (λ r. r.signature) rows ≡ map (λ d. d.signature) ds
 rows-signatures sigs [] [] h = refl
 rows-signatures sigs [] (d ∷ ds) h = absurd h
 rows-signatures sigs (r ∷ rows) [] h = absurd h
@@ -32,14 +32,14 @@ rows-signatures sigs (r ∷ rows) (d ∷ ds) ((is, _), h) =
     ap (λ (z : Signature). z ∷ map (λ r. r.signature) rows) is ∙ ap (λ (z : List Signature). d.signature ∷ z) (rows-signatures sigs rows ds h)
 
 -- the signatures are the environment's
-pub signatures-are : (tables : Tables) (env : List Declaration) → Declares tables env → signatures_in tables ≡ signatures env
+pub signatures-are : (tables : RowsBefore) (env : List Declaration) → Declares tables env → signatures_in tables ≡ signatures env
 signatures-are tables env declares = rows-signatures (signatures env) tables.terms (terms env) declares.terms_are ∙ sym (signatures-of env)
 
-get-signature : (rows : List TermRow) (t : ℕ) (row : TermRow) → slice_get rows t ≡ Some row → slice_get (map (λ r. r.signature) rows) t ≡ Some row.signature
+get-signature : (rows : List SpelledTerm) (t : ℕ) (row : SpelledTerm) → slice_get rows t ≡ Some row → slice_get (map (λ r. r.signature) rows) t ≡ Some row.signature
 get-signature [] t row at = absurd cc
-get-signature (r ∷ rows) zero row at = let is : r ≡ row = cc in ap (λ (z : TermRow). Some z.signature) is
+get-signature (r ∷ rows) zero row at = let is : r ≡ row = cc in ap (λ (z : SpelledTerm). Some z.signature) is
 get-signature (r ∷ rows) (suc t) row at = get-signature rows t row at
 
-pub signature-at : (tables : Tables) (env : List Declaration) → Declares tables env → (t : ℕ) (row : TermRow) → slice_get tables.terms t ≡ Some row → slice_get (signatures env) t ≡ Some row.signature
+pub signature-at : (tables : RowsBefore) (env : List Declaration) → Declares tables env → (t : ℕ) (row : SpelledTerm) → slice_get tables.terms t ≡ Some row → slice_get (signatures env) t ≡ Some row.signature
 signature-at tables env declares t row at =
     subst (λ (z : List Signature). slice_get z t ≡ Some row.signature) (signatures-are tables env declares) (get-signature tables.terms t row at)

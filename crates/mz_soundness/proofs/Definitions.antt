@@ -23,7 +23,7 @@ use Rattle.mz_unification.specs.Profile.{plain, strict, Item, expr}
 use Rattle.mz_unification.specs.Sorted.{Sorted, ItemsSorted}
 use Rattle.mz_unification.specs.UnifyMachine.{in_definition, UnifyState, unify}
 use Rattle.mz_unification.proofs.Offered.{from_need, some_is, taken-is, operand-trees_of, followed-by-variables, fresh-at, distinct, in-some, get-mapped, FreshList, unfolding-is, place_from, renamed, definition-spelled, Below, text-met}
-use Rattle.mz_soundness.specs.Tables.{Tables, signatures_in, State, Kind, is_definition, Heading, Declares}
+use Rattle.mz_soundness.specs.MachineState.{RowsBefore, signatures_in, State, Kind, is_definition, Heading, Declares}
 use Rattle.mz_soundness.specs.FreeVars.{free_within}
 use Rattle.mz_soundness.specs.ProofMachine.{last_item, ending, own_stream}
 use Rattle.mz_soundness.specs.Bodies.{body_run}
@@ -236,7 +236,7 @@ built-legal env h mds e u (sorts-there, right) (result-sort, result-deps) are e-
     all_from_each (λ b. IsDummy b × MayBeDummySort (sorts env) b.sort) ds (dummies-right sigs (sorts env) h.params mds right ys ds fresh plain-ds are) in
     (d, (refl, text), (terms_are_sorted env d).1 (sorts-there, right, dummies-legal, result-sort, result-deps, ((p-sort, free), tt)))
 
-pub definition-legal : (gaps : Bool) (tables : Tables) (env : List Declaration) → Declares tables env → (h : Heading) (at : ℕ) (bytes : List ℕ) (last : State Tree)
+pub definition-legal : (gaps : Bool) (tables : RowsBefore) (env : List Declaration) → Declares tables env → (h : Heading) (at : ℕ) (bytes : List ℕ) (last : State Tree)
     → h.kind ≡ is_definition → AreRowParams (sorts env) h.params → IsRowResult (sorts env) h.params h.result → body_run (plain gaps) tables h at bytes ≡ Ok last
     → (d : Term) × SpellsTerm (signatures env) (term_row h) d × IsLegalDecl env (term_decl d)
 definition-legal gaps tables env declares h at bytes last kind right result run-is =

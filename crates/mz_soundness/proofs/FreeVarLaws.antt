@@ -4,9 +4,9 @@ use Rattle.std.specs.Prelude.{slice_get, Contains, ◌||◌, ◌&&◌, not}
 use Rattle.std.proofs.lemmas.Bool.{eqb-true}
 use Rattle.mz_logic.specs.Tree.{Tree, Trees, var, app, none, more, operand}
 use Rattle.mz_logic.specs.Signature.{Signature}
-use Rattle.mz_logic.specs.Variables.{InFV, InSomeFV, IsBoundAt, IsOperandAt}
+use Rattle.mz_logic.specs.Variables.{InFV, InSomeFV, IsBoundAt, IsOperandAt, is_member}
 use Rattle.mz_logic.specs.declared.binder.Binder.{Binder}
-use Rattle.mz_unification.specs.Tests.{is_member, is_bound_at}
+use Rattle.mz_unification.specs.Tests.{is_bound_at}
 use Rattle.mz_unification.proofs.Offered.{both-true, or-cases, or-left, or-right, not-true, not-both, member-contains, in-v-true, v-in}
 use Rattle.mz_soundness.specs.FreeVars.{is_var, named_at, in_result, params_of, in_fv, in_some_fv, free_within}
 

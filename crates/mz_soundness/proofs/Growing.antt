@@ -3,9 +3,9 @@ use Rattle.std.proofs.Common.{◌≡◌, List, [], ◌∷◌, ◌++◌, refl, sy
 use Rattle.mz_logic.specs.Declaration.{Term, Assertion, Declaration, sort_decl, term_decl, assertion_decl, sorts, terms, signatures, assertions}
 use Rattle.mz_logic.specs.declared.binder.SortMods.{SortMods}
 use Rattle.mz_logic.proofs.Offered.{Extends, env_extends_append, sorts-append, terms-append, assertions-append}
-use Rattle.mz_unification.specs.Spells.{TermRow, ThmRow, SpellsTerm, SpellsThm}
+use Rattle.mz_unification.specs.Spells.{SpelledTerm, SpelledThm, SpellsTerm, SpellsThm}
 use Rattle.mz_unification.proofs.Offered.{assertion-longer, term-longer}
-use Rattle.mz_soundness.specs.Tables.{Tables, Pairwise, Declares}
+use Rattle.mz_soundness.specs.MachineState.{RowsBefore, Pairwise, Declares}
 use Rattle.mz_soundness.specs.Laws.{with_sort, with_term, with_thm}
 
 pairs-kept : {A B : Type 0} (R S : A → B → Type 0) → ((x : A) (y : B) → R x y → S x y) → (xs : List A) (ys : List B) → Pairwise R xs ys → Pairwise S xs ys
@@ -20,7 +20,7 @@ pairs-push R [] (b ∷ ys) x y h r = absurd h
 pairs-push R (a ∷ xs) [] x y h r = absurd h
 pairs-push R (a ∷ xs) (b ∷ ys) x y (s, h) r = (s, pairs-push R xs ys x y h r)
 
-module _ (tables : Tables) (env : List Declaration) (declares : Declares tables env) where
+module _ (tables : RowsBefore) (env : List Declaration) (declares : Declares tables env) where
   -- over a longer environment the rows spell what they did
   longer : (d : Declaration) → Extends (signatures env) (signatures (env ++ d ∷ []))
   longer d = (env_extends_append env (d ∷ [])).signatures_too
@@ -31,10 +31,10 @@ module _ (tables : Tables) (env : List Declaration) (declares : Declares tables 
   thms-kept : (d : Declaration) → Pairwise (SpellsThm (signatures (env ++ d ∷ []))) tables.thms (assertions env)
   thms-kept d = pairs-kept (SpellsThm (signatures env)) (SpellsThm (signatures (env ++ d ∷ []))) (λ row a s. assertion-longer (signatures env) (signatures (env ++ d ∷ [])) (longer d) row a s) tables.thms (assertions env) declares.thms_are
 
-  abbrev Terms : Declaration → List TermRow → List Term → Type 0
+  abbrev Terms : Declaration → List SpelledTerm → List Term → Type 0
   Terms d = Pairwise (SpellsTerm (signatures (env ++ d ∷ [])))
 
-  abbrev Thms : Declaration → List ThmRow → List Assertion → Type 0
+  abbrev Thms : Declaration → List SpelledThm → List Assertion → Type 0
   Thms d = Pairwise (SpellsThm (signatures (env ++ d ∷ [])))
 
   none-more : {A : Type 0} (xs : List A) → xs ++ [] ≡ xs
@@ -48,7 +48,7 @@ module _ (tables : Tables) (env : List Declaration) (declares : Declares tables 
     thms_are = subst (Thms (sort_decl m) tables.thms) (sym (assertions-append env (sort_decl m ∷ []) ∙ none-more (assertions env))) (thms-kept (sort_decl m));
   }
 
-  pub term-grows : (row : TermRow) (d : Term) → SpellsTerm (signatures env) row d → Declares (with_term tables row) (env ++ term_decl d ∷ [])
+  pub term-grows : (row : SpelledTerm) (d : Term) → SpellsTerm (signatures env) row d → Declares (with_term tables row) (env ++ term_decl d ∷ [])
   term-grows row d spells = record {
     sorts_are = declares.sorts_are ∙ sym (sorts-append env (term_decl d ∷ []) ∙ none-more (sorts env));
     terms_are = subst (Terms (term_decl d) (tables.terms ++ row ∷ [])) (sym (terms-append env (term_decl d ∷ [])))
@@ -56,7 +56,7 @@ module _ (tables : Tables) (env : List Declaration) (declares : Declares tables 
     thms_are = subst (Thms (term_decl d) tables.thms) (sym (assertions-append env (term_decl d ∷ []) ∙ none-more (assertions env))) (thms-kept (term_decl d));
   }
 
-  pub thm-grows : (row : ThmRow) (a : Assertion) → SpellsThm (signatures env) row a → Declares (with_thm tables row) (env ++ assertion_decl a ∷ [])
+  pub thm-grows : (row : SpelledThm) (a : Assertion) → SpellsThm (signatures env) row a → Declares (with_thm tables row) (env ++ assertion_decl a ∷ [])
   thm-grows row a spells = record {
     sorts_are = declares.sorts_are ∙ sym (sorts-append env (assertion_decl a ∷ []) ∙ none-more (sorts env));
     terms_are = subst (Terms (assertion_decl a) tables.terms) (sym (terms-append env (assertion_decl a ∷ []) ∙ none-more (terms env))) (terms-kept (assertion_decl a));

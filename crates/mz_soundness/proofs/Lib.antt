@@ -13,10 +13,6 @@ pub mod Definitions
 pub mod Growing
 pub mod Lists
 pub mod ListSteps
-pub mod FirstSorts
-pub mod ParamWords
-pub mod RightWords
 pub mod Ungapped
 pub mod StrictRuns
-pub mod WordsPass
 pub mod Offered

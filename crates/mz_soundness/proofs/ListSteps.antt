@@ -3,8 +3,8 @@ use Rattle.std.proofs.Common.{◌≡◌, ℕ, zero, suc, ◌+◌, ◌*◌, ◌�
 use Rattle.std.specs.Prelude.{slice_get}
 use Rattle.mz_logic.proofs.Offered.{split_at}
 use Rattle.mz_unification.specs.Profile.{plain}
-use Rattle.mz_unification.specs.Spells.{TermRow, ThmRow}
-use Rattle.mz_soundness.specs.Tables.{Tables, Heading}
+use Rattle.mz_unification.specs.Spells.{SpelledTerm, SpelledThm}
+use Rattle.mz_soundness.specs.MachineState.{RowsBefore, Heading}
 use Rattle.mz_soundness.specs.Bodies.{body_start, body_steps}
 use Rattle.mz_soundness.specs.Laws.{no_tables}
 use Rattle.mz_soundness.specs.Lists.{Body, Entry, a_sort, a_term, an_assertion, with_entry, definition_of, assertion_of, term_steps, entry_steps, steps_of, body_length, bodies_length, StreamWithin, AllStreamsWithin}
@@ -33,40 +33,40 @@ plus-one m = omega arith
 -- ---- streams
 
 -- the streams of all rows lie within n bytes
-abbrev TablesWithin : ℕ → Tables → Type 0
-TablesWithin n tables = ((t : ℕ) (row : TermRow) (stream : List ℕ) → slice_get tables.terms t ≡ Some row → row.stream ≡ Some stream → length stream ≤ n)
-    × ((t : ℕ) (row : ThmRow) → slice_get tables.thms t ≡ Some row → length row.stream ≤ n)
+abbrev TablesWithin : ℕ → RowsBefore → Type 0
+TablesWithin n tables = ((t : ℕ) (row : SpelledTerm) (stream : List ℕ) → slice_get tables.terms t ≡ Some row → row.stream ≡ Some stream → length stream ≤ n)
+    × ((t : ℕ) (row : SpelledThm) → slice_get tables.thms t ≡ Some row → length row.stream ≤ n)
 
 last-is : {A : Type 0} (x y : A) (j : ℕ) → slice_get (x ∷ []) j ≡ Some y → x ≡ y
 last-is x y zero at = cc
 last-is x y (suc j) at = absurd cc
 
-grown : (n : ℕ) (tables : Tables) (e : Entry) → TablesWithin n tables → StreamWithin n e → TablesWithin n (with_entry tables e)
+grown : (n : ℕ) (tables : RowsBefore) (e : Entry) → TablesWithin n tables → StreamWithin n e → TablesWithin n (with_entry tables e)
 grown n tables (a_sort m) h w = h
 grown n tables (a_term is_local row body) (h, k) w = ((λ t r stream at is. go t r stream is (split_at tables.terms (row ∷ []) t r at)), k)
   where
-    go : (t : ℕ) (r : TermRow) (stream : List ℕ) → r.stream ≡ Some stream → (slice_get tables.terms t ≡ Some r) ⊎ ((j : ℕ) × (t ≡ length tables.terms + j) × (slice_get (row ∷ []) j ≡ Some r)) → length stream ≤ n
+    go : (t : ℕ) (r : SpelledTerm) (stream : List ℕ) → r.stream ≡ Some stream → (slice_get tables.terms t ≡ Some r) ⊎ ((j : ℕ) × (t ≡ length tables.terms + j) × (slice_get (row ∷ []) j ≡ Some r)) → length stream ≤ n
     go t r stream is (inl before) = h t r stream before is
-    go t r stream is (inr (j, _, at)) = w stream (ap (λ (z : TermRow). z.stream) (last-is row r j at) ∙ is)
+    go t r stream is (inr (j, _, at)) = w stream (ap (λ (z : SpelledTerm). z.stream) (last-is row r j at) ∙ is)
 grown n tables (an_assertion is_local without_proof row body) (h, k) w = (h, λ t r at. go t r (split_at tables.thms (row ∷ []) t r at))
   where
-    go : (t : ℕ) (r : ThmRow) → (slice_get tables.thms t ≡ Some r) ⊎ ((j : ℕ) × (t ≡ length tables.thms + j) × (slice_get (row ∷ []) j ≡ Some r)) → length r.stream ≤ n
+    go : (t : ℕ) (r : SpelledThm) → (slice_get tables.thms t ≡ Some r) ⊎ ((j : ℕ) × (t ≡ length tables.thms + j) × (slice_get (row ∷ []) j ≡ Some r)) → length r.stream ≤ n
     go t r (inl before) = k t r before
-    go t r (inr (j, _, at)) = subst (λ (z : ThmRow). length z.stream ≤ n) (last-is row r j at) w
+    go t r (inr (j, _, at)) = subst (λ (z : SpelledThm). length z.stream ≤ n) (last-is row r j at) w
 
-body-le : (gaps : Bool) (n : ℕ) (tables : Tables) (h : Heading) (body : Body) → TablesWithin n tables → length h.stream ≤ n → body_steps (plain gaps) tables h body.at body.bytes ≤ length body.bytes * (n + 1)
+body-le : (gaps : Bool) (n : ℕ) (tables : RowsBefore) (h : Heading) (body : Body) → TablesWithin n tables → length h.stream ≤ n → body_steps (plain gaps) tables h body.at body.bytes ≤ length body.bytes * (n + 1)
 body-le gaps n tables h body (a, b) own = steps-le (plain gaps) tables h n (record { own = own; of_terms = a; of_thms = b }) (length body.bytes) (length body.bytes) body.at body.bytes (body_start (plain gaps) h) (omega arith)
 
-term-le : (gaps : Bool) (n : ℕ) (tables : Tables) (row : TermRow) (body : Body) → TablesWithin n tables → (o : Option (List ℕ)) → row.stream ≡ o → ((stream : List ℕ) → row.stream ≡ Some stream → length stream ≤ n) → term_steps gaps tables row body o ≤ length body.bytes * (n + 1)
+term-le : (gaps : Bool) (n : ℕ) (tables : RowsBefore) (row : SpelledTerm) (body : Body) → TablesWithin n tables → (o : Option (List ℕ)) → row.stream ≡ o → ((stream : List ℕ) → row.stream ≡ Some stream → length stream ≤ n) → term_steps gaps tables row body o ≤ length body.bytes * (n + 1)
 term-le gaps n tables row body h None is w = omega arith
 term-le gaps n tables row body h (Some stream) is w = body-le gaps n tables (definition_of row stream) body h (w stream is)
 
-entry-le : (gaps : Bool) (n : ℕ) (tables : Tables) (e : Entry) → TablesWithin n tables → StreamWithin n e → entry_steps gaps tables e ≤ body_length e * (n + 1)
+entry-le : (gaps : Bool) (n : ℕ) (tables : RowsBefore) (e : Entry) → TablesWithin n tables → StreamWithin n e → entry_steps gaps tables e ≤ body_length e * (n + 1)
 entry-le gaps n tables (a_sort m) h w = omega arith
 entry-le gaps n tables (a_term is_local row body) h w = term-le gaps n tables row body h row.stream refl w
 entry-le gaps n tables (an_assertion is_local without_proof row body) h w = body-le gaps n tables (assertion_of without_proof row) body h w
 
-all-le : (gaps : Bool) (n : ℕ) (tables : Tables) (es : List Entry) → TablesWithin n tables → AllStreamsWithin n es → steps_of gaps tables es ≤ bodies_length es * (n + 1)
+all-le : (gaps : Bool) (n : ℕ) (tables : RowsBefore) (es : List Entry) → TablesWithin n tables → AllStreamsWithin n es → steps_of gaps tables es ≤ bodies_length es * (n + 1)
 all-le gaps n tables [] h w = omega arith
 all-le gaps n tables (e ∷ es) h (w, ws) = sum-le (entry_steps gaps tables e) (steps_of gaps (with_entry tables e) es) (body_length e) (bodies_length es) n
     (entry-le gaps n tables e h w) (all-le gaps n (with_entry tables e) es (grown n tables e h w) ws)

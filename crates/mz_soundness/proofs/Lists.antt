@@ -9,9 +9,9 @@ use Rattle.mz_logic.specs.LegalLists.{Statement, IsProvedBy, IsLegalStatement, L
 use Rattle.mz_logic.specs.declared.binder.Binder.{Binder}
 use Rattle.mz_logic.specs.declared.binder.SortMods.{SortMods}
 use Rattle.mz_logic.proofs.Offered.{cites_more, legal_push, terms_are_sorted}
-use Rattle.mz_unification.specs.Spells.{TermRow, ThmRow, SpellsForm, SpellsTerm}
+use Rattle.mz_unification.specs.Spells.{SpelledTerm, SpelledThm, SpellsForm, SpellsTerm}
 use Rattle.mz_unification.proofs.Offered.{one-assertion, one-term}
-use Rattle.mz_soundness.specs.Tables.{Tables, Declares}
+use Rattle.mz_soundness.specs.MachineState.{RowsBefore, Declares}
 use Rattle.mz_soundness.specs.Laws.{no_tables}
 use Rattle.mz_soundness.specs.Sound.{AreRowParams, IsRowResult, used_by, cites_as}
 use Rattle.mz_soundness.specs.Lists.{Body, Entry, a_sort, a_term, an_assertion, with_entry, definition_of, assertion_of, BodyIsGood, IsGoodEntry, AreGood, SpellsEntry, SpellEntries, ProvedByBody, ProvedByBodies}
@@ -20,7 +20,7 @@ use Rattle.mz_soundness.proofs.Definitions.{definition-legal}
 use Rattle.mz_soundness.proofs.Growing.{sort-grows, term-grows, thm-grows}
 
 -- what a good entry makes of the environment
-abbrev pub Follows : Bool → Tables → List Declaration → Entry → Type 0
+abbrev pub Follows : Bool → RowsBefore → List Declaration → Entry → Type 0
 Follows gaps tables env e = (s : Statement) × SpellsEntry (signatures env) e s × IsLegalStatement (allowed_with gaps) env s × ProvedByBody gaps env e s.decl × Declares (with_entry tables e) (env ++ s.decl ∷ [])
 
 -- what the body uses is allowed: without gaps there is none
@@ -34,7 +34,7 @@ no-body b e = cc
 
 -- ---- terms
 
-plain-follows : (gaps : Bool) (tables : Tables) (env : List Declaration) → Declares tables env → (is_local : Bool) (row : TermRow) (body : Body)
+plain-follows : (gaps : Bool) (tables : RowsBefore) (env : List Declaration) → Declares tables env → (is_local : Bool) (row : SpelledTerm) (body : Body)
     → AreRowParams (sorts env) row.signature.params → IsRowResult (sorts env) row.signature.params row.signature.result → row.stream ≡ None → is_local ≡ false → Follows gaps tables env (a_term is_local row body)
 plain-follows gaps tables env declares is_local row body (there, params) (result, deps) stream public =
     let d : Term = record { signature = row.signature; form = plain_form } in
@@ -47,7 +47,7 @@ defined-is sigs params stream plain_form h = absurd h
 defined-is sigs params stream abstract_form h = absurd h
 defined-is sigs params stream (defined ds b) h = no-body b
 
-definition-follows : (gaps : Bool) (tables : Tables) (env : List Declaration) → Declares tables env → (is_local : Bool) (row : TermRow) (body : Body) (stream : List ℕ)
+definition-follows : (gaps : Bool) (tables : RowsBefore) (env : List Declaration) → Declares tables env → (is_local : Bool) (row : SpelledTerm) (body : Body) (stream : List ℕ)
     → AreRowParams (sorts env) row.signature.params → IsRowResult (sorts env) row.signature.params row.signature.result → row.stream ≡ Some stream → BodyIsGood gaps tables is_local row body (Some stream) → Follows gaps tables env (a_term is_local row body)
 definition-follows gaps tables env declares is_local row body stream params result stream-is (last, run) =
     let (d, (sig-is, form-spells), legal) = definition-legal gaps tables env declares (definition_of row stream) body.at body.bytes last refl params result run in
@@ -56,7 +56,7 @@ definition-follows gaps tables env declares is_local row body stream params resu
 
 -- ---- assertions
 
-assertion-follows : (gaps : Bool) (tables : Tables) (env : List Declaration) → IsLegalEnv env → Declares tables env → (is_local without_proof : Bool) (row : ThmRow) (body : Body)
+assertion-follows : (gaps : Bool) (tables : RowsBefore) (env : List Declaration) → IsLegalEnv env → Declares tables env → (is_local without_proof : Bool) (row : SpelledThm) (body : Body)
     → IsGoodEntry gaps tables (an_assertion is_local without_proof row body) → AreRowParams (sorts env) row.params → Follows gaps tables env (an_assertion is_local without_proof row body)
 assertion-follows gaps tables env legal-env declares is_local true row body (mark, _, (last, run)) params =
     let (a, is, spells, legal) = axiom-legal gaps tables env declares (assertion_of true row) body.at body.bytes last refl params run in (
@@ -77,12 +77,12 @@ assertion-follows gaps tables env legal-env declares is_local false row body (ma
 
 -- ---- every entry
 
-term-follows : (gaps : Bool) (tables : Tables) (env : List Declaration) → Declares tables env → (is_local : Bool) (row : TermRow) (body : Body)
+term-follows : (gaps : Bool) (tables : RowsBefore) (env : List Declaration) → Declares tables env → (is_local : Bool) (row : SpelledTerm) (body : Body)
     → AreRowParams (sorts env) row.signature.params → IsRowResult (sorts env) row.signature.params row.signature.result → (o : Option (List ℕ)) → row.stream ≡ o → BodyIsGood gaps tables is_local row body o → Follows gaps tables env (a_term is_local row body)
 term-follows gaps tables env declares is_local row body params result None is good = plain-follows gaps tables env declares is_local row body params result is good
 term-follows gaps tables env declares is_local row body params result (Some stream) is good = definition-follows gaps tables env declares is_local row body stream params result is good
 
-pub follows : (gaps : Bool) (tables : Tables) (env : List Declaration) → IsLegalEnv env → Declares tables env → (e : Entry) → IsGoodEntry gaps tables e → Follows gaps tables env e
+pub follows : (gaps : Bool) (tables : RowsBefore) (env : List Declaration) → IsLegalEnv env → Declares tables env → (e : Entry) → IsGoodEntry gaps tables e → Follows gaps tables env e
 follows gaps tables env legal-env declares (a_sort m) good = (record { is_local = false; decl = sort_decl m }, (refl, refl), (legal-sort, (λ is. absurd (true≢false (sym is))), tt), tt, sort-grows tables env declares m)
   where
     legal-sort : IsLegalDecl env (sort_decl m)
@@ -93,7 +93,7 @@ follows gaps tables env legal-env declares (a_term is_local row body) (params, r
 follows gaps tables env legal-env declares (an_assertion is_local without_proof row body) good =
     assertion-follows gaps tables env legal-env declares is_local without_proof row body good (subst (λ (ss : List SortMods). AreRowParams ss row.params) declares.sorts_are good.1)
 
-all-follow : (gaps : Bool) (tables : Tables) (env : List Declaration) → IsLegalEnv env → Declares tables env → (es : List Entry) → AreGood gaps tables es
+all-follow : (gaps : Bool) (tables : RowsBefore) (env : List Declaration) → IsLegalEnv env → Declares tables env → (es : List Entry) → AreGood gaps tables es
     → (ss : List Statement) × SpellEntries env es ss × LegalAfter (allowed_with gaps) env ss × ProvedByBodies gaps env es ss
 all-follow gaps tables env legal-env declares [] good = ([], tt, tt, tt)
 all-follow gaps tables env legal-env declares (e ∷ es) (good, rest) =

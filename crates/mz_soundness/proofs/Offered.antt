@@ -2,16 +2,12 @@
 pub use Rattle.mz_soundness.proofs.Assertions.{end-ran, made, own-are, own-run}
 pub use Rattle.mz_soundness.proofs.BodyRuns.{bound-never-ends, count-is-whole, steps-le}
 pub use Rattle.mz_soundness.proofs.Declared.{pair-at, pairs-long, signature-at, signatures-are}
-pub use Rattle.mz_soundness.proofs.FirstSorts.{length-first_sorts, slice_get-first_sorts, slice_get-further}
 pub use Rattle.mz_soundness.proofs.FreeVarLaws.{free-within, in-fv-true}
 pub use Rattle.mz_soundness.proofs.Lists.{follows}
 pub use Rattle.mz_soundness.proofs.Operands.{apart-from-test, fits-from, or-not}
 pub use Rattle.mz_soundness.proofs.Outcomes.{bodies-checked, one-outcome}
-pub use Rattle.mz_soundness.proofs.ParamWords.{bound-from, none-bound-more, one-bound-more, param-fails, param-passes, regular-from, regular-to}
 pub use Rattle.mz_soundness.proofs.PlainRows.{citation-plain, end-plain, ends-plain, own-plain, row-plain, unfolding-plain}
-pub use Rattle.mz_soundness.proofs.RightWords.{right-words}
 pub use Rattle.mz_soundness.proofs.RowsKeep.{keeps}
 pub use Rattle.mz_soundness.proofs.Stacks.{expr-top, operands-top, sides-top}
 pub use Rattle.mz_soundness.proofs.StrictRuns.{command-plain}
 pub use Rattle.mz_soundness.proofs.WholeBody.{body-fact, start-fact}
-pub use Rattle.mz_soundness.proofs.WordsPass.{bound-words, param-at}

@@ -8,7 +8,7 @@ use Rattle.mz_logic.specs.Tree.{Tree, var, operand}
 use Rattle.mz_logic.specs.Signature.{Signature}
 use Rattle.mz_logic.specs.Modifiers.{MayBeClaimSort, MayBeDummySort}
 use Rattle.mz_logic.specs.Sorts.{HasSort, Fits}
-use Rattle.mz_logic.specs.Variables.{Apart}
+use Rattle.mz_logic.specs.Variables.{Apart, is_member}
 use Rattle.mz_logic.specs.Legality.{sort_of}
 use Rattle.mz_logic.specs.declared.binder.Binder.{Binder}
 use Rattle.mz_logic.specs.declared.binder.SortMods.{SortMods}
@@ -16,7 +16,7 @@ use Rattle.mz_logic.proofs.Offered.{sort_is}
 use Rattle.mz_unification.specs.Steps.{◌>>◌, need}
 use Rattle.mz_unification.specs.Spells.{trees_of}
 use Rattle.mz_unification.specs.Sorted.{AllSorted}
-use Rattle.mz_unification.specs.Tests.{has_bit, is_member, is_bound_var, in_v, var_within}
+use Rattle.mz_unification.specs.Tests.{has_bit, is_bound_var, in_v, var_within}
 use Rattle.mz_unification.proofs.Offered.{from_then, from_need, need_ok, both-true, member-contains, bit-set, bit-not-set, bound-is, v-in, not-true}
 use Rattle.mz_soundness.specs.Premises.{may_be_dummy_sort, is_provable_sort, operands_fit, apart_from, apart_at, are_apart}
 

@@ -4,7 +4,7 @@ use Rattle.std.specs.Prelude.{◌↔◌}
 use Rattle.mz_checks.specs.Checks.{AllHold, FailsFirst, AreDecided}
 use Rattle.mz_cmd.specs.declared.rule.K.{K}
 use Rattle.mz_unification.specs.Profile.{Profile}
-use Rattle.mz_soundness.specs.Tables.{Tables, Heading}
+use Rattle.mz_soundness.specs.MachineState.{RowsBefore, Heading}
 use Rattle.mz_soundness.specs.Bodies.{body_run, Runs, Stops, checks_of}
 use Rattle.mz_soundness.specs.Laws.{OneOutcome, BodiesAreChecked}
 
@@ -12,18 +12,18 @@ outcome_of : {S : Type 0} (r : Result S (ℕ × K)) → ((st : S) × (r ≡ Ok s
 outcome_of (Ok st) = inl (st, refl)
 outcome_of (Err f) = inr (f.0, f.1, refl)
 
-runs-or-stops : (P : Profile) (tables : Tables) (h : Heading) (at : ℕ) (bytes : List ℕ)
+runs-or-stops : (P : Profile) (tables : RowsBefore) (h : Heading) (at : ℕ) (bytes : List ℕ)
     → Runs P tables h at bytes ⊎ ((place : ℕ) × (rule : K) × Stops P tables h at bytes place rule)
 runs-or-stops P tables h at bytes = outcome_of (body_run P tables h at bytes)
 
-not-both : (P : Profile) (tables : Tables) (h : Heading) (at : ℕ) (bytes : List ℕ) (place : ℕ) (rule : K)
+not-both : (P : Profile) (tables : RowsBefore) (h : Heading) (at : ℕ) (bytes : List ℕ) (place : ℕ) (rule : K)
     → Runs P tables h at bytes → Stops P tables h at bytes place rule → ⊥
 not-both P tables h at bytes place rule (st, runs) stops = cc
 
 one_fault : {S : Type 0} (r : Result S (ℕ × K)) (f g : ℕ × K) → r ≡ Err f → r ≡ Err g → f ≡ g
 one_fault r f g p q = cc
 
-stops-once : (P : Profile) (tables : Tables) (h : Heading) (at : ℕ) (bytes : List ℕ) (place place' : ℕ) (rule rule' : K)
+stops-once : (P : Profile) (tables : RowsBefore) (h : Heading) (at : ℕ) (bytes : List ℕ) (place place' : ℕ) (rule rule' : K)
     → Stops P tables h at bytes place rule → Stops P tables h at bytes place' rule' → (place ≡ place') × (rule ≡ rule')
 stops-once P tables h at bytes place place' rule rule' p q =
     let same = one_fault (body_run P tables h at bytes) (place, rule) (place', rule') p q in

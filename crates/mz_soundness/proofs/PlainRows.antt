@@ -12,7 +12,7 @@ use Rattle.mz_unification.specs.Steps.{◌>>=◌, ◌>>◌, need, want, rule_of}
 use Rattle.mz_unification.specs.Profile.{plain, strict, Item, expr, proof, obligation, conversion}
 use Rattle.mz_unification.specs.UnifyMachine.{UnifyMode, Matching, UnifyState}
 use Rattle.mz_unification.proofs.Offered.{bind-same, bind-first, unify-plain}
-use Rattle.mz_soundness.specs.Tables.{Tables, signatures_in, State, Kind, is_axiom, is_theorem, is_definition, Heading}
+use Rattle.mz_soundness.specs.MachineState.{RowsBefore, signatures_in, State, Kind, is_axiom, is_theorem, is_definition, Heading}
 use Rattle.mz_soundness.specs.FreeVars.{free_within}
 use Rattle.mz_soundness.specs.Premises.{pop_expr, pop_sides, is_conversion}
 use Rattle.mz_soundness.specs.ProofMachine.{built, citation, matched_by, cited, referred, unfolding_of, has_provable_sort, proof_row, last_item, own_variables, own_stream, ending, ends_with, proof_end}
@@ -34,7 +34,7 @@ pub own-plain : (gaps : Bool) (i : ℕ) (bs : List Binder) → own_variables (pl
 own-plain gaps i [] = refl
 own-plain gaps i (b ∷ bs) = ap (λ (z : List Tree). var i ∷ z) (own-plain gaps (suc i) bs)
 
-module _ (gaps : Bool) (tables : Tables) where
+module _ (gaps : Bool) (tables : RowsBefore) where
   pub matched-plain : (ctx : List Binder) (m : Matching Tree) → matched_by (plain gaps) tables ctx m ≡ matched_by strict tables ctx m
   matched-plain ctx m = ap (λ z. rule_of z) (unify-plain gaps (signatures_in tables) ctx m)
 

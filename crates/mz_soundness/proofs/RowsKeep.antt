@@ -19,13 +19,13 @@ use Rattle.mz_logic.specs.LegalLists.{AreDummies}
 use Rattle.mz_logic.specs.declared.binder.Binder.{Binder}
 use Rattle.mz_logic.proofs.Offered.{extends_itself, sort_extends, fits_extends, apart_extends, fresh_extends, split_at, sort_is}
 use Rattle.mz_unification.specs.Streams.{of_definition}
-use Rattle.mz_unification.specs.Spells.{trees_of, dummy_of, Text, TermRow, SpellsForm, SpellsTerm, SpellsThm}
+use Rattle.mz_unification.specs.Spells.{trees_of, dummy_of, Text, SpelledTerm, SpellsForm, SpellsTerm, SpellsThm}
 use Rattle.mz_unification.specs.Profile.{plain, strict, tree_parts, Item, expr, proof, obligation, conversion}
 use Rattle.mz_unification.specs.Sorted.{Sorted, ItemSorted, ItemsSorted}
 use Rattle.mz_unification.specs.Tests.{same_tree}
 use Rattle.mz_unification.specs.UnifyMachine.{in_citation, in_definition, Matching, UnifyState, unify}
 use Rattle.mz_unification.proofs.Offered.{from_bind, from_then, from_need, from_want, rule_of-ok, some_is, taken, taken-is, both-true, same_tree-true, parts-are, operands-sorted, citation-is, unfolding-is}
-use Rattle.mz_soundness.specs.Tables.{Tables, signatures_in, State, Declares}
+use Rattle.mz_soundness.specs.MachineState.{RowsBefore, signatures_in, State, Declares}
 use Rattle.mz_soundness.specs.Premises.{pop, pop_expr, pop_proof, pop_obligation, pop_conversion, pop_operands, pop_sides, is_conversion, is_obligation, may_be_dummy_sort, is_provable_sort, bound_count, operands_fit, are_apart}
 use Rattle.mz_soundness.specs.ProofMachine.{built, citation, matched_by, cited, referred, sides, same_term, stream_of, unfolding_of, gapped, has_provable_sort, proof_row}
 use Rattle.mz_soundness.specs.Facts.{Derivable, Convertible, Holds, StackHolds, IsFront, AreProvableClaims, Fact, Keeps}
@@ -73,7 +73,7 @@ same-sides l r es e =
     let r-is : r ≡ app a.0 (trees_of b.1) = parts-are r b b-is ∙ ap (λ (t : ℕ). app t (trees_of b.1)) (sym same) in
     subst (λ (z : List Tree × List Tree). (t : ℕ) × (l ≡ app t (trees_of z.0)) × (r ≡ app t (trees_of z.1))) es-are (a.0, l-is, r-is)
 
-stream-row : (o : Option TermRow) (stream : List ℕ) → stream_of o ≡ Some stream → (row : TermRow) × (o ≡ Some row) × (row.stream ≡ Some stream)
+stream-row : (o : Option SpelledTerm) (stream : List ℕ) → stream_of o ≡ Some stream → (row : SpelledTerm) × (o ≡ Some row) × (row.stream ≡ Some stream)
 stream-row None stream e = absurd cc
 stream-row (Some row) stream e = (row, refl, e)
 
@@ -89,7 +89,7 @@ definition-of sigs params (Some other) stream (defined dummies body) is s =
     let same : other ≡ stream = cc in
     (dummies, body, refl, subst (λ (z : List ℕ). Text of_definition sigs params z none body dummies) same s)
 
-module _ (P : Uses) (tables : Tables) (env : List Declaration) (declares : Declares tables env) (params full : List Binder) where
+module _ (P : Uses) (tables : RowsBefore) (env : List Declaration) (declares : Declares tables env) (params full : List Binder) where
   abbrev Sigs : List Signature
   Sigs = signatures env
 

@@ -13,7 +13,7 @@ use Rattle.mz_unification.specs.Steps.{◌>>=◌, ◌>>◌, need, at_place, Turn
 use Rattle.mz_unification.specs.Profile.{plain, strict, expr}
 use Rattle.mz_unification.specs.UnifyMachine.{is_empty}
 use Rattle.mz_unification.proofs.Offered.{from_bind, place-ok}
-use Rattle.mz_soundness.specs.Tables.{Tables, State, Kind, is_axiom, is_theorem, is_definition, Heading}
+use Rattle.mz_soundness.specs.MachineState.{RowsBefore, State, Kind, is_axiom, is_theorem, is_definition, Heading}
 use Rattle.mz_soundness.specs.ProofMachine.{proof_row, proof_end, own_variables}
 use Rattle.mz_soundness.specs.Bodies.{BodyCommand, ends, proves, stands_in, if_allowed, body_command, body_turn, body_turn_by, body_from, body_run, body_start}
 use Rattle.mz_soundness.specs.Laws.{StrictRunsWithGaps}
@@ -66,7 +66,7 @@ allowed-plain gaps kind value (Some c) = ap (λ (b : Bool). cond b (Some (proves
 pub command-plain : (gaps : Bool) (kind : Kind) (byte value : ℕ) → body_command (plain gaps) kind byte value ≡ body_command strict kind byte value
 command-plain gaps kind byte value = ap (λ (o : Option BodyCommand). cond (eqb byte 0x00) (Some ends) o) (allowed-plain gaps kind value (proof_code byte))
 
-module _ (gaps : Bool) (tables : Tables) (h : Heading) where
+module _ (gaps : Bool) (tables : RowsBefore) (h : Heading) where
   no-sorry : (at n : ℕ) (st s : State Tree) → proof_row strict tables at code.Sorry n st ≡ Ok s → ⊥
   unfolding proof_row
   no-sorry at n st s e = cc

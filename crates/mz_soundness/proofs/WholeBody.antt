@@ -17,7 +17,7 @@ use Rattle.mz_unification.specs.Profile.{plain, strict, expr}
 use Rattle.mz_unification.specs.Sorted.{ItemsSorted}
 use Rattle.mz_unification.specs.UnifyMachine.{is_empty}
 use Rattle.mz_unification.proofs.Offered.{from_bind, from_need, place-ok, taken, taken-is}
-use Rattle.mz_soundness.specs.Tables.{Tables, State, Heading, Declares}
+use Rattle.mz_soundness.specs.MachineState.{RowsBefore, State, Heading, Declares}
 use Rattle.mz_soundness.specs.ProofMachine.{proof_row, proof_end, ends_with, matched_by, own_variables}
 use Rattle.mz_soundness.specs.Bodies.{BodyCommand, ends, proves, stands_in, if_allowed, body_command, body_turn, body_turn_by, body_from, body_run, body_start}
 use Rattle.mz_soundness.specs.Facts.{HeapHolds, Fact, Keeps}
@@ -54,7 +54,7 @@ from_follow (Err f) rest y e ended went = absurd cc
 from_follow (Ok (over s)) rest y e ended went = ended s refl cc
 from_follow (Ok (goes_on len s)) rest y e ended went = went len s refl e
 
-module _ (gaps : Bool) (tables : Tables) (h : Heading) where
+module _ (gaps : Bool) (tables : RowsBefore) (h : Heading) where
   proof_end-is : (st s : State Tree) → proof_end (plain gaps) tables h st ≡ Ok s → st ≡ s
   unfolding proof_end
   proof_end-is st s done =
@@ -148,7 +148,7 @@ module _ (gaps : Bool) (tables : Tables) (h : Heading) where
     }
 
 -- A body that runs to its END leaves a last state of which the fact holds, in its own last context.
-pub body-fact : (gaps : Bool) (tables : Tables) (env : List Declaration) (declares : Declares tables env) (h : Heading) (at : ℕ) (bytes : List ℕ) (last : State Tree)
+pub body-fact : (gaps : Bool) (tables : RowsBefore) (env : List Declaration) (declares : Declares tables env) (h : Heading) (at : ℕ) (bytes : List ℕ) (last : State Tree)
     → body_run (plain gaps) tables h at bytes ≡ Ok last → Fact (used_by gaps env bytes) env h.params last.ctx last × (proof_end strict tables h last ≡ Ok last)
 body-fact gaps tables env declares h at bytes last e =
     let (step, done) = body-keeps gaps tables h (used_by gaps env bytes) env declares last.ctx (length bytes) at bytes (body_start (plain gaps) h) last (λ T cites there. (cites, there)) (λ within on. (on, within)) e in

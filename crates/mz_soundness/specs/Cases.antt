@@ -5,13 +5,13 @@ use Rattle.mz_cmd.specs.declared.rule.K.{K}
 use Rattle.mz_cmd.specs.declared.rule.K.TheVariants as k
 use Rattle.mz_logic.specs.declared.binder.Binder.{Binder}
 use Rattle.mz_unification.specs.Profile.{strict}
-use Rattle.mz_soundness.specs.Tables.{Tables, Heading}
+use Rattle.mz_soundness.specs.MachineState.{RowsBefore, Heading}
 use Rattle.mz_soundness.specs.Bodies.{body_steps}
 use Rattle.mz_soundness.specs.Examples.{verdict, regular, bound, of_sort, assertion, definition, axiom_body, theorem_body, definition_body, ax_1_stream, ax_mp_stream, a1i_stream, before_ax_1, before_ax_mp, before_a1i, ax_v_stream, gen_stream, before_gen, negation, nn_stream, fold_stream, before_nn, before_fold, two_bound, one_dummy_stream, before_dummy, dummy_body}
 
 -- a body, whose bytes begin at a place, with its heading and the rows before it
 pub record Case : Type 0 where
-  pub tables : Tables
+  pub tables : RowsBefore
   pub heading : Heading
   pub at : ℕ
   pub bytes : List ℕ

@@ -5,8 +5,8 @@ use Rattle.mz_cmd.specs.declared.rule.K.TheVariants as k
 use Rattle.mz_logic.specs.declared.binder.Binder.{Binder}
 use Rattle.mz_logic.specs.declared.binder.ResultType.{ResultType}
 use Rattle.mz_unification.specs.Profile.{strict, draft}
-use Rattle.mz_unification.specs.Spells.{TermRow, ThmRow}
-use Rattle.mz_soundness.specs.Tables.{Tables, is_axiom, is_theorem, is_definition, Heading}
+use Rattle.mz_unification.specs.Spells.{SpelledTerm, SpelledThm}
+use Rattle.mz_soundness.specs.MachineState.{RowsBefore, is_axiom, is_theorem, is_definition, Heading}
 use Rattle.mz_soundness.specs.Bodies.{body_run}
 
 -- nothing where the body runs, else where it stops and by which rule
@@ -14,11 +14,11 @@ abbrev pub outcome : {A : Type 0} → Result A (ℕ × K) → Option (ℕ × K)
 outcome (Ok x) = None
 outcome (Err f) = Some f
 
-abbrev pub verdict : Tables → Heading → ℕ → List ℕ → Option (ℕ × K)
+abbrev pub verdict : RowsBefore → Heading → ℕ → List ℕ → Option (ℕ × K)
 verdict tables h at bytes = outcome (body_run strict tables h at bytes)
 
 -- the same in a draft
-abbrev pub draft_verdict : Tables → Heading → ℕ → List ℕ → Option (ℕ × K)
+abbrev pub draft_verdict : RowsBefore → Heading → ℕ → List ℕ → Option (ℕ × K)
 draft_verdict tables h at bytes = outcome (body_run draft tables h at bytes)
 
 abbrev pub regular : ℕ → List ℕ → Binder
@@ -30,13 +30,13 @@ bound = λ s. record { sort = s; bound = true; deps = [] }
 abbrev pub of_sort : ℕ → List ℕ → ResultType
 of_sort = λ s deps. record { sort = s; deps = deps }
 
-abbrev pub plain_term : List Binder → ResultType → TermRow
+abbrev pub plain_term : List Binder → ResultType → SpelledTerm
 plain_term = λ params result. record { signature = record { params = params; result = result }; stream = None }
 
-abbrev pub definition : List Binder → ResultType → List ℕ → TermRow
+abbrev pub definition : List Binder → ResultType → List ℕ → SpelledTerm
 definition = λ params result stream. record { signature = record { params = params; result = result }; stream = Some stream }
 
-abbrev pub assertion : List Binder → List ℕ → ThmRow
+abbrev pub assertion : List Binder → List ℕ → SpelledThm
 assertion = λ params stream. record { params = params; stream = stream }
 
 abbrev pub axiom_body : List Binder → List ℕ → Heading
@@ -48,7 +48,7 @@ theorem_body = λ params stream. record { kind = is_theorem; params = params; re
 abbrev pub definition_body : List Binder → ResultType → List ℕ → Heading
 definition_body = λ params result stream. record { kind = is_definition; params = params; result = result; stream = stream }
 
-abbrev pub implication : TermRow
+abbrev pub implication : SpelledTerm
 implication = plain_term (regular 0 [] ∷ regular 0 [] ∷ []) (of_sort 0 [])
 
 abbrev pub ax_1_stream : List ℕ
@@ -60,13 +60,13 @@ ax_mp_stream = 0x72 ∷ 0x01 ∷ 0x36 ∷ 0x32 ∷ 0x36 ∷ 0x30 ∷ 0x32 ∷ 0x
 abbrev pub a1i_stream : List ℕ
 a1i_stream = 0x30 ∷ 0x72 ∷ 0x01 ∷ 0x32 ∷ 0x36 ∷ 0x32 ∷ 0x00 ∷ []
 
-abbrev pub before_ax_1 : Tables
+abbrev pub before_ax_1 : RowsBefore
 before_ax_1 = record { sorts = record { 0 = 4 } ∷ []; terms = implication ∷ []; thms = [] }
 
-abbrev pub before_ax_mp : Tables
+abbrev pub before_ax_mp : RowsBefore
 before_ax_mp = record before_ax_1 { thms = assertion (regular 0 [] ∷ regular 0 [] ∷ []) ax_1_stream ∷ [] }
 
-abbrev pub before_a1i : Tables
+abbrev pub before_a1i : RowsBefore
 before_a1i = record before_ax_1 { thms = assertion (regular 0 [] ∷ regular 0 [] ∷ []) ax_1_stream ∷ assertion (regular 0 [] ∷ regular 0 [] ∷ []) ax_mp_stream ∷ [] }
 
 -- two axioms of implication, and a theorem by them
@@ -86,7 +86,7 @@ abbrev pub CitesItself : Type 0
 CitesItself =
     (verdict (before_a1i) (theorem_body (regular 0 [] ∷ regular 0 [] ∷ []) a1i_stream) 211 (0x12 ∷ 0x16 ∷ 0x12 ∷ 0x52 ∷ 0x01 ∷ 0x12 ∷ 0x52 ∷ 0x01 ∷ 0x12 ∷ 0x10 ∷ 0x10 ∷ 0x14 ∷ 0x52 ∷ 0x02 ∷ 0x12 ∷ 0x52 ∷ 0x01 ∷ 0x12 ∷ 0x10 ∷ 0x52 ∷ 0x01 ∷ 0x12 ∷ 0x10 ∷ 0x54 ∷ 0x02 ∷ 0x00 ∷ []) ≡ Some (234, k.TheoremIndex))
 
-abbrev pub for_all : TermRow
+abbrev pub for_all : SpelledTerm
 for_all = plain_term (bound 1 ∷ regular 0 (0 ∷ []) ∷ []) (of_sort 0 [])
 
 abbrev pub ax_v_stream : List ℕ
@@ -95,7 +95,7 @@ ax_v_stream = 0x30 ∷ 0x32 ∷ 0x72 ∷ 0x01 ∷ 0x36 ∷ 0x72 ∷ 0x01 ∷ 0x0
 abbrev pub gen_stream : List ℕ
 gen_stream = 0x30 ∷ 0x32 ∷ 0x72 ∷ 0x01 ∷ 0x36 ∷ 0x72 ∷ 0x01 ∷ 0x00 ∷ []
 
-abbrev pub before_gen : List ℕ → Tables
+abbrev pub before_gen : List ℕ → RowsBefore
 before_gen = λ deps. record { sorts = record { 0 = 4 } ∷ record { 0 = 0 } ∷ []; terms = for_all ∷ []; thms = assertion (bound 1 ∷ regular 0 deps ∷ []) ax_v_stream ∷ [] }
 
 -- an operand holds the variable of a bound parameter on which its own does not depend; and where it does
@@ -112,7 +112,7 @@ abbrev pub AllVariables : Type 0
 AllVariables =
     (verdict (before_gen []) (theorem_body (bound 1 ∷ regular 0 (0 ∷ []) ∷ []) all_all_stream) 170 (0x12 ∷ 0x52 ∷ 0x01 ∷ 0x10 ∷ 0x16 ∷ 0x52 ∷ 0x02 ∷ 0x12 ∷ 0x12 ∷ 0x52 ∷ 0x01 ∷ 0x10 ∷ 0x12 ∷ 0x12 ∷ 0x52 ∷ 0x01 ∷ 0x10 ∷ 0x10 ∷ 0x14 ∷ 0x00 ∷ []) ≡ Some (188, k.Disjoint))
 
-abbrev pub negation : TermRow
+abbrev pub negation : SpelledTerm
 negation = plain_term (regular 0 [] ∷ []) (of_sort 0 [])
 
 abbrev pub nn_stream : List ℕ
@@ -121,10 +121,10 @@ nn_stream = 0x30 ∷ 0x30 ∷ 0x32 ∷ 0x00 ∷ []
 abbrev pub fold_stream : List ℕ
 fold_stream = 0x70 ∷ 0x01 ∷ 0x32 ∷ 0x36 ∷ 0x30 ∷ 0x30 ∷ 0x32 ∷ 0x00 ∷ []
 
-abbrev pub before_nn : Tables
+abbrev pub before_nn : RowsBefore
 before_nn = record { sorts = record { 0 = 4 } ∷ []; terms = negation ∷ []; thms = [] }
 
-abbrev pub before_fold : Tables
+abbrev pub before_fold : RowsBefore
 before_fold = record before_nn { terms = negation ∷ definition (regular 0 [] ∷ []) (of_sort 0 []) nn_stream ∷ [] }
 
 -- a definition, and a theorem that folds it, with the left side before Unfold and without it
@@ -145,10 +145,10 @@ ConversionSaved =
     (verdict (before_fold) (theorem_body (regular 0 [] ∷ []) fold_stream) 140 (0x12 ∷ 0x10 ∷ 0x10 ∷ 0x16 ∷ 0x12 ∷ 0x50 ∷ 0x01 ∷ 0x12 ∷ 0x10 ∷ 0x10 ∷ 0x12 ∷ 0x50 ∷ 0x01 ∷ 0x52 ∷ 0x01 ∷ 0x17 ∷ 0x1C ∷ 0x12 ∷ 0x50 ∷ 0x01 ∷ 0x12 ∷ 0x10 ∷ 0x10 ∷ 0x1B ∷ 0x18 ∷ 0x1E ∷ 0x17 ∷ 0x19 ∷ 0x52 ∷ 0x02 ∷ 0x17 ∷ 0x5D ∷ 0x02 ∷ 0x00 ∷ []) ≡ None)
     × (verdict (before_fold) (theorem_body (regular 0 [] ∷ []) fold_stream) 140 (0x12 ∷ 0x10 ∷ 0x10 ∷ 0x16 ∷ 0x12 ∷ 0x50 ∷ 0x01 ∷ 0x12 ∷ 0x10 ∷ 0x10 ∷ 0x12 ∷ 0x50 ∷ 0x01 ∷ 0x52 ∷ 0x01 ∷ 0x17 ∷ 0x1C ∷ 0x12 ∷ 0x50 ∷ 0x01 ∷ 0x12 ∷ 0x10 ∷ 0x10 ∷ 0x1B ∷ 0x18 ∷ 0x1E ∷ 0x17 ∷ 0x52 ∷ 0x02 ∷ 0x17 ∷ 0x5D ∷ 0x02 ∷ 0x00 ∷ []) ≡ Some (167, k.ConversionReference))
 
-abbrev pub equality : TermRow
+abbrev pub equality : SpelledTerm
 equality = plain_term (regular 1 [] ∷ regular 1 [] ∷ []) (of_sort 0 [])
 
-abbrev pub two_bound : TermRow
+abbrev pub two_bound : SpelledTerm
 two_bound = plain_term (bound 1 ∷ bound 1 ∷ []) (of_sort 0 [])
 
 abbrev pub one_dummy_stream : List ℕ
@@ -157,7 +157,7 @@ one_dummy_stream = 0x30 ∷ 0x73 ∷ 0x01 ∷ 0x32 ∷ 0x00 ∷ []
 abbrev pub two_dummies_stream : List ℕ
 two_dummies_stream = 0x30 ∷ 0x73 ∷ 0x01 ∷ 0x73 ∷ 0x01 ∷ 0x00 ∷ []
 
-abbrev pub before_dummy : TermRow → Tables
+abbrev pub before_dummy : SpelledTerm → RowsBefore
 before_dummy = λ row. record { sorts = record { 0 = 4 } ∷ record { 0 = 0 } ∷ []; terms = row ∷ []; thms = [] }
 
 abbrev pub dummy_body : List ℕ → Heading

@@ -10,7 +10,7 @@ use Rattle.mz_logic.specs.declared.binder.Binder.{Binder}
 use Rattle.mz_unification.specs.Spells.{trees_of}
 use Rattle.mz_unification.specs.Sorted.{ItemsSorted}
 use Rattle.mz_unification.specs.Profile.{Item, expr, proof, obligation, conversion}
-use Rattle.mz_soundness.specs.Tables.{State}
+use Rattle.mz_soundness.specs.MachineState.{State}
 
 -- each has a provable sort
 abbrev pub AreProvableClaims : List Declaration → List Binder → List Tree → Type 0

@@ -5,19 +5,19 @@ use Rattle.std.specs.List.{range_with_len}
 use Rattle.mz_logic.specs.Declaration.{Declaration, sorts, terms, assertions}
 use Rattle.mz_logic.specs.Words.{binders_of, signature_of}
 use Rattle.mz_logic.specs.declared.binder.SortMods.{SortMods}
-use Rattle.mz_layout.specs.Tables.{TermRow as TermRecord, term_row, thm_row}
-use Rattle.mz_unification.specs.Spells.{TermRow, ThmRow}
-use Rattle.mz_soundness.specs.Tables.{Tables}
+use Rattle.mz_layout.specs.Tables.{TermRow, term_row, thm_row}
+use Rattle.mz_unification.specs.Spells.{SpelledTerm, SpelledThm}
+use Rattle.mz_soundness.specs.MachineState.{RowsBefore}
 
 -- a definition's stream follows its words; a plain term has none
-abbrev pub stream_of : List ℕ → TermRecord → Option (List ℕ)
+abbrev pub stream_of : List ℕ → TermRow → Option (List ℕ)
 stream_of file row = if row.words.has_body then Some (drop row.stream_at file) else None
 
 -- the t-th term's row, and the i-th assertion's
-abbrev pub term_of_file : List ℕ → ℕ → TermRow
+abbrev pub term_of_file : List ℕ → ℕ → SpelledTerm
 term_of_file file t = record { signature = signature_of (term_row file t).words; stream = stream_of file (term_row file t) }
 
-abbrev pub thm_of_file : List ℕ → ℕ → ThmRow
+abbrev pub thm_of_file : List ℕ → ℕ → SpelledThm
 thm_of_file file i = record { params = binders_of (thm_row file i).params; stream = drop (thm_row file i).stream_at file }
 
 -- what statements have taken of the tables: these sorts, and so many rows of terms and of assertions
@@ -34,7 +34,7 @@ abbrev pub taken_by : List Declaration → Taken
 taken_by env = record { sorts = sorts env; terms = length (terms env); thms = length (assertions env) }
 
 -- the rows that are taken, as the machine reads them
-abbrev pub rows_taken : List ℕ → Taken → Tables
+abbrev pub rows_taken : List ℕ → Taken → RowsBefore
 rows_taken file taken = record {
   sorts = taken.sorts;
   terms = map (term_of_file file) (range_with_len 0 taken.terms);

@@ -3,7 +3,8 @@ use Rattle.std.specs.Prelude.{ℕ, zero, suc, Bool, true, false, not, ◌==◌, 
 use Rattle.mz_logic.specs.Tree.{Tree, Trees, var, app, none, more, operand}
 use Rattle.mz_logic.specs.Signature.{Signature}
 use Rattle.mz_logic.specs.declared.binder.Binder.{Binder}
-use Rattle.mz_unification.specs.Tests.{is_member, is_bound_at, in_var}
+use Rattle.mz_logic.specs.Variables.{is_member}
+use Rattle.mz_unification.specs.Tests.{is_bound_at, in_var}
 
 -- the expression is the variable x
 abbrev pub is_var : ℕ → Tree → Bool

@@ -1,4 +1,4 @@
-pub mod Tables
+pub mod MachineState
 pub mod FreeVars
 pub mod Premises
 pub mod ProofMachine
@@ -10,6 +10,4 @@ pub mod Lists
 pub mod Gapped
 pub mod Examples
 pub mod Cases
-pub mod RowWords
 pub mod FileRows
-pub mod WordsPass

@@ -6,8 +6,8 @@ use Rattle.mz_logic.specs.Declaration.{Term, Assertion, Declaration, sort_decl, 
 use Rattle.mz_logic.specs.LegalLists.{Statement, IsProvedBy, LegalBy, allowed_with}
 use Rattle.mz_logic.specs.declared.binder.SortMods.{SortMods}
 use Rattle.mz_unification.specs.Profile.{plain}
-use Rattle.mz_unification.specs.Spells.{TermRow, ThmRow, SpellsTerm, SpellsThm}
-use Rattle.mz_soundness.specs.Tables.{Tables, Kind, is_axiom, is_theorem, is_definition, Heading}
+use Rattle.mz_unification.specs.Spells.{SpelledTerm, SpelledThm, SpellsTerm, SpellsThm}
+use Rattle.mz_soundness.specs.MachineState.{RowsBefore, Kind, is_axiom, is_theorem, is_definition, Heading}
 use Rattle.mz_soundness.specs.Bodies.{Runs, body_steps}
 use Rattle.mz_soundness.specs.Laws.{no_tables, with_sort, with_term, with_thm}
 use Rattle.mz_soundness.specs.Sound.{AreRowParams, IsRowResult, cites_as}
@@ -20,32 +20,32 @@ pub record Body : Type 0 where
 -- a sort; a term's row, whose body runs if it is a definition; the row of an axiom or theorem, and its body
 pub data Entry : Type 0 where
   a_sort : SortMods → Entry
-  a_term : (is_local : Bool) → TermRow → Body → Entry
-  an_assertion : (is_local : Bool) → (is_axiom : Bool) → ThmRow → Body → Entry
+  a_term : (is_local : Bool) → SpelledTerm → Body → Entry
+  an_assertion : (is_local : Bool) → (is_axiom : Bool) → SpelledThm → Body → Entry
 
-abbrev pub with_entry : Tables → Entry → Tables
+abbrev pub with_entry : RowsBefore → Entry → RowsBefore
 with_entry tables (a_sort m) = with_sort tables m
 with_entry tables (a_term is_local row body) = with_term tables row
 with_entry tables (an_assertion is_local without_proof row body) = with_thm tables row
 
 -- ---- what is asked of an entry after the rows before it
 
-abbrev pub definition_of : TermRow → List ℕ → Heading
+abbrev pub definition_of : SpelledTerm → List ℕ → Heading
 definition_of row stream = record { kind = is_definition; params = row.signature.params; result = row.signature.result; stream = stream }
 
 abbrev pub kind_of : Bool → Kind
 kind_of true = is_axiom
 kind_of false = is_theorem
 
-abbrev pub assertion_of : Bool → ThmRow → Heading
+abbrev pub assertion_of : Bool → SpelledThm → Heading
 assertion_of without_proof row = record { kind = kind_of without_proof; params = row.params; result = record { sort = 0; deps = [] }; stream = row.stream }
 
 -- only definitions may be local, and their bodies run
-abbrev pub BodyIsGood : Bool → Tables → Bool → TermRow → Body → Option (List ℕ) → Type 0
+abbrev pub BodyIsGood : Bool → RowsBefore → Bool → SpelledTerm → Body → Option (List ℕ) → Type 0
 BodyIsGood gaps tables is_local row body None = is_local ≡ false
 BodyIsGood gaps tables is_local row body (Some stream) = Runs (plain gaps) tables (definition_of row stream) body.at body.bytes
 
-abbrev pub IsGoodEntry : Bool → Tables → Entry → Type 0
+abbrev pub IsGoodEntry : Bool → RowsBefore → Entry → Type 0
 IsGoodEntry gaps tables (a_sort m) = ⊤
 IsGoodEntry gaps tables (a_term is_local row body) =
     AreRowParams tables.sorts row.signature.params × IsRowResult tables.sorts row.signature.params row.signature.result
@@ -54,7 +54,7 @@ IsGoodEntry gaps tables (an_assertion is_local without_proof row body) =
     (is_local ≡ true → without_proof ≡ false) × AreRowParams tables.sorts row.params
     × Runs (plain gaps) tables (assertion_of without_proof row) body.at body.bytes
 
-abbrev pub AreGood : Bool → Tables → List Entry → Type 0
+abbrev pub AreGood : Bool → RowsBefore → List Entry → Type 0
 AreGood gaps tables [] = ⊤
 AreGood gaps tables (e ∷ es) = IsGoodEntry gaps tables e × AreGood gaps (with_entry tables e) es
 
@@ -99,17 +99,17 @@ OneListOfStatements = (es : List Entry) (ss ts : List Statement) → SpellEntrie
 
 -- ---- steps
 
-abbrev pub term_steps : Bool → Tables → TermRow → Body → Option (List ℕ) → ℕ
+abbrev pub term_steps : Bool → RowsBefore → SpelledTerm → Body → Option (List ℕ) → ℕ
 term_steps gaps tables row body None = 0
 term_steps gaps tables row body (Some stream) = body_steps (plain gaps) tables (definition_of row stream) body.at body.bytes
 
 -- the commands executed for an entry after the rows before it; a sort or a plain term has none
-abbrev pub entry_steps : Bool → Tables → Entry → ℕ
+abbrev pub entry_steps : Bool → RowsBefore → Entry → ℕ
 entry_steps gaps tables (a_sort m) = 0
 entry_steps gaps tables (a_term is_local row body) = term_steps gaps tables row body row.stream
 entry_steps gaps tables (an_assertion is_local without_proof row body) = body_steps (plain gaps) tables (assertion_of without_proof row) body.at body.bytes
 
-abbrev pub steps_of : Bool → Tables → List Entry → ℕ
+abbrev pub steps_of : Bool → RowsBefore → List Entry → ℕ
 steps_of gaps tables [] = 0
 steps_of gaps tables (e ∷ es) = entry_steps gaps tables e + steps_of gaps (with_entry tables e) es
 

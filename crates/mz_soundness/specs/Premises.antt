@@ -8,9 +8,10 @@ use Rattle.mz_logic.specs.Signature.{Signature}
 use Rattle.mz_logic.specs.Legality.{sort_of}
 use Rattle.mz_logic.specs.declared.binder.Binder.{Binder}
 use Rattle.mz_logic.specs.declared.binder.SortMods.{SortMods}
+use Rattle.mz_logic.specs.Variables.{is_member}
 use Rattle.mz_unification.specs.Steps.{◌>>=◌, ◌>>◌, need}
 use Rattle.mz_unification.specs.Profile.{Profile, Item, expr, proof, obligation, conversion}
-use Rattle.mz_unification.specs.Tests.{has_bit, is_member, is_bound_var, var_within}
+use Rattle.mz_unification.specs.Tests.{has_bit, is_bound_var, var_within}
 
 -- ---- the stack
 

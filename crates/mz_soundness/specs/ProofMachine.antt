@@ -8,9 +8,9 @@ use Rattle.mz_logic.specs.Legality.{sort_of}
 use Rattle.mz_logic.specs.declared.binder.Binder.{Binder}
 use Rattle.mz_unification.specs.Steps.{◌>>=◌, ◌>>◌, need, want, rule_of}
 use Rattle.mz_unification.specs.Profile.{Profile, Item, expr, proof, obligation, conversion}
-use Rattle.mz_unification.specs.Spells.{TermRow, dummy_of}
+use Rattle.mz_unification.specs.Spells.{SpelledTerm, dummy_of}
 use Rattle.mz_unification.specs.UnifyMachine.{UnifyMode, in_citation, at_end, in_definition, Matching, UnifyState, unify}
-use Rattle.mz_soundness.specs.Tables.{Tables, signatures_in, State, Kind, is_axiom, is_theorem, is_definition, Heading}
+use Rattle.mz_soundness.specs.MachineState.{RowsBefore, signatures_in, State, Kind, is_axiom, is_theorem, is_definition, Heading}
 use Rattle.mz_soundness.specs.FreeVars.{free_within}
 use Rattle.mz_soundness.specs.Premises.{pop, pop_expr, pop_proof, pop_obligation, pop_conversion, pop_operands, pop_sides, is_conversion, is_obligation, may_be_dummy_sort, is_provable_sort, bound_count, operands_fit, are_apart}
 
@@ -24,7 +24,7 @@ abbrev pub saved : {T : Type 0} → Item T → State T → State T
 saved x st = record st { heap = st.heap ++ x ∷ [] }
 
 -- the application that Term makes, and the items below its operands
-unfoldable pub built : (P : Profile) → Tables → ℕ → ℕ → State P.T → Result (P.T × List (Item P.T)) K
+unfoldable pub built : (P : Profile) → RowsBefore → ℕ → ℕ → State P.T → Result (P.T × List (Item P.T)) K
 built P tables at t st = do
   row ← want (slice_get tables.terms t) k.TermIndex
   es ← pop_operands (length row.signature.params) st.stack
@@ -32,7 +32,7 @@ built P tables at t st = do
   Ok (P.make at t es.0, es.1)
 
 -- what a citation of assertion t matches: the row's stream on the expression on top
-unfoldable pub citation : (P : Profile) → Tables → ℕ → State P.T → Result (Matching P.T) K
+unfoldable pub citation : (P : Profile) → RowsBefore → ℕ → State P.T → Result (Matching P.T) K
 citation P tables t st = do
   row ← want (slice_get tables.thms t) k.TheoremIndex
   need (nat_le (suc (length row.params)) (length st.stack)) k.Underflow
@@ -43,11 +43,11 @@ citation P tables t st = do
   Ok (record { mode = in_citation; stream = row.stream; operands = es.0; target = e.0; items = es.1 })
 
 -- the stream runs; a rule that fails in it is the command's
-abbrev pub matched_by : (P : Profile) → Tables → List Binder → Matching P.T → Result (UnifyState P.T) K
+abbrev pub matched_by : (P : Profile) → RowsBefore → List Binder → Matching P.T → Result (UnifyState P.T) K
 matched_by P tables ctx m = rule_of (unify P (signatures_in tables) ctx m)
 
 -- the expression that is cited, and the items that are left
-unfoldable pub cited : (P : Profile) → Tables → ℕ → State P.T → Result (P.T × List (Item P.T)) K
+unfoldable pub cited : (P : Profile) → RowsBefore → ℕ → State P.T → Result (P.T × List (Item P.T)) K
 cited P tables t st = do
   m ← citation P tables t st
   u ← matched_by P tables st.ctx m
@@ -75,13 +75,13 @@ same_term None q = None
 same_term (Some p) None = None
 same_term (Some p) (Some q) = if p.0 == q.0 then Some (p.1, q.1) else None
 
-abbrev pub stream_of : Option TermRow → Option (List ℕ)
+abbrev pub stream_of : Option SpelledTerm → Option (List ℕ)
 stream_of None = None
 stream_of (Some row) = row.stream
 
 -- what an unfolding matches: the definition's stream on the expression on top; with the right side of
 -- the obligation and the items below
-unfoldable pub unfolding_of : (P : Profile) → Tables → State P.T → Result (Matching P.T × P.T × List (Item P.T)) K
+unfoldable pub unfolding_of : (P : Profile) → RowsBefore → State P.T → Result (Matching P.T × P.T × List (Item P.T)) K
 unfolding_of P tables st = do
   e ← pop_expr st.stack
   o ← pop_sides P e.1
@@ -90,7 +90,7 @@ unfolding_of P tables st = do
   Ok (record { mode = in_definition; stream = stream; operands = p.1; target = e.0; items = [] }, o.1, o.2)
 
 -- a gap: an expression becomes a proof, an obligation goes
-abbrev pub gapped : (P : Profile) → Tables → State P.T → Item P.T → List (Item P.T) → Result (State P.T) K
+abbrev pub gapped : (P : Profile) → RowsBefore → State P.T → Item P.T → List (Item P.T) → Result (State P.T) K
 gapped P tables st (expr e) xs =
     need (is_provable_sort (slice_get tables.sorts (sort_of (signatures_in tables) st.ctx (P.tree e)))) k.NotProvable >> Ok (push (proof e) xs st)
 gapped P tables st (obligation l r) xs =
@@ -100,12 +100,12 @@ gapped P tables st (conversion l r) xs = Err k.Kind
 
 -- ---- the rows
 
-abbrev pub has_provable_sort : (P : Profile) → Tables → List Binder → P.T → Bool
+abbrev pub has_provable_sort : (P : Profile) → RowsBefore → List Binder → P.T → Bool
 has_provable_sort P tables ctx e = is_provable_sort (slice_get tables.sorts (sort_of (signatures_in tables) ctx (P.tree e)))
 
 -- One clause a command, with its operand: its premises in order, and the next state. The number before the
 -- command is its place.
-unfoldable pub proof_row : (P : Profile) → Tables → ℕ → ProofCode → ℕ → State P.T → Result (State P.T) K
+unfoldable pub proof_row : (P : Profile) → RowsBefore → ℕ → ProofCode → ℕ → State P.T → Result (State P.T) K
 proof_row P tables at code.Term t st = do
   e ← built P tables at t st
   Ok (push (expr e.0) e.1 st)
@@ -194,7 +194,7 @@ abbrev pub own_stream : (P : Profile) → Heading → UnifyMode → P.T → List
 own_stream P h mode e items = record { mode = mode; stream = h.stream; operands = own_variables P 0 h.params; target = e; items = items }
 
 -- what the END of a body matches
-abbrev pub ending : (P : Profile) → Tables → Heading → State P.T → Kind → P.T → Result (Matching P.T) K
+abbrev pub ending : (P : Profile) → RowsBefore → Heading → State P.T → Kind → P.T → Result (Matching P.T) K
 ending P tables h st is_axiom e = do
   need (has_provable_sort P tables st.ctx e) k.NotProvable
   Ok (own_stream P h at_end e (as_proofs st.hyps))
@@ -204,12 +204,12 @@ ending P tables h st is_definition e = do
   need (free_within (signatures_in tables) st.ctx h.result.deps (P.tree e) (length st.ctx)) k.DefinitionDependencies
   Ok (own_stream P h in_definition e [])
 
-unfoldable pub ends_with : (P : Profile) → Tables → Heading → State P.T → Result (Matching P.T) K
+unfoldable pub ends_with : (P : Profile) → RowsBefore → Heading → State P.T → Result (Matching P.T) K
 ends_with P tables h st = do
   e ← last_item h.kind st.stack
   ending P tables h st h.kind e
 
-unfoldable pub proof_end : (P : Profile) → Tables → Heading → State P.T → Result (State P.T) K
+unfoldable pub proof_end : (P : Profile) → RowsBefore → Heading → State P.T → Result (State P.T) K
 proof_end P tables h st = do
   m ← ends_with P tables h st
   u ← matched_by P tables st.ctx m

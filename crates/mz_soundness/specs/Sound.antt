@@ -18,8 +18,8 @@ use Rattle.mz_logic.specs.declared.binder.Binder.{Binder}
 use Rattle.mz_logic.specs.declared.binder.ResultType.{ResultType}
 use Rattle.mz_logic.specs.declared.binder.SortMods.{SortMods}
 use Rattle.mz_unification.specs.Profile.{plain}
-use Rattle.mz_unification.specs.Spells.{TermRow, ThmRow, SpellsTerm, SpellsThm}
-use Rattle.mz_soundness.specs.Tables.{Tables, State, is_axiom, is_theorem, is_definition, Heading, Declares}
+use Rattle.mz_unification.specs.Spells.{SpelledTerm, SpelledThm, SpellsTerm, SpellsThm}
+use Rattle.mz_soundness.specs.MachineState.{RowsBefore, State, is_axiom, is_theorem, is_definition, Heading, Declares}
 use Rattle.mz_soundness.specs.ProofMachine.{proof_row}
 use Rattle.mz_soundness.specs.Facts.{Keeps}
 use Rattle.mz_soundness.specs.Bodies.{Runs}
@@ -57,7 +57,7 @@ cites_as gaps bytes env d = CitesOnly (used_by gaps env bytes) d
 -- each row of the machine keeps the fact, in each full context that begins with the next state's, where
 -- what it cites is cited in the body, and a gap is one of the body's
 abbrev pub RowsKeepTheFact : Type 0
-RowsKeepTheFact = (gaps : Bool) (tables : Tables) (env : List Declaration) → Declares tables env → (bytes : List ℕ) (params full : List Binder)
+RowsKeepTheFact = (gaps : Bool) (tables : RowsBefore) (env : List Declaration) → Declares tables env → (bytes : List ℕ) (params full : List Binder)
     → (at : ℕ) (c : ProofCode) (n : ℕ) (st st' : State Tree) → (((c ≡ Thm) ⊎ (c ≡ ThmSave)) → CitesWithin (length bytes) bytes n) → (c ≡ Sorry → GapsWithin (length bytes) bytes)
     → proof_row (plain gaps) tables at c n st ≡ Ok st' → Keeps (used_by gaps env bytes) env params full st st'
 
@@ -69,27 +69,27 @@ AreRowParams ss params = SortsThere ss params × AreParams ss params
 abbrev pub IsRowResult : List SortMods → List Binder → ResultType → Type 0
 IsRowResult ss params r = MayBeResultSort ss r.sort × All (IsBoundAt params) r.deps
 
-abbrev pub thm_row : Heading → ThmRow
+abbrev pub thm_row : Heading → SpelledThm
 thm_row h = record { params = h.params; stream = h.stream }
 
-abbrev pub term_row : Heading → TermRow
+abbrev pub term_row : Heading → SpelledTerm
 term_row h = record { signature = record { params = h.params; result = h.result }; stream = Some h.stream }
 
 -- where the body of an axiom runs, its row spells a legal axiom
 abbrev pub AxiomsAreLegal : Type 0
-AxiomsAreLegal = (gaps : Bool) (tables : Tables) (env : List Declaration) → Declares tables env → (h : Heading) (at : ℕ) (bytes : List ℕ)
+AxiomsAreLegal = (gaps : Bool) (tables : RowsBefore) (env : List Declaration) → Declares tables env → (h : Heading) (at : ℕ) (bytes : List ℕ)
     → h.kind ≡ is_axiom → AreRowParams (sorts env) h.params → Runs (plain gaps) tables h at bytes
     → (a : Assertion) × (a.is_axiom ≡ true) × SpellsThm (signatures env) (thm_row h) a × IsLegalDecl env (assertion_decl a)
 
 -- where the body of a theorem runs, its row spells a legal theorem, which has a derivation that cites
 -- only what the body cites, and has a gap only where the body leaves one
 abbrev pub TheoremsAreProved : Type 0
-TheoremsAreProved = (gaps : Bool) (tables : Tables) (env : List Declaration) → IsLegalEnv env → Declares tables env → (h : Heading) (at : ℕ) (bytes : List ℕ)
+TheoremsAreProved = (gaps : Bool) (tables : RowsBefore) (env : List Declaration) → IsLegalEnv env → Declares tables env → (h : Heading) (at : ℕ) (bytes : List ℕ)
     → h.kind ≡ is_theorem → AreRowParams (sorts env) h.params → Runs (plain gaps) tables h at bytes
     → (a : Assertion) × (a.is_axiom ≡ false) × SpellsThm (signatures env) (thm_row h) a × IsLegalDecl env (assertion_decl a) × IsProvedBy (cites_as gaps bytes) env a
 
 -- where the body of a definition runs, its row spells a legal definition
 abbrev pub DefinitionsAreLegal : Type 0
-DefinitionsAreLegal = (gaps : Bool) (tables : Tables) (env : List Declaration) → Declares tables env → (h : Heading) (at : ℕ) (bytes : List ℕ)
+DefinitionsAreLegal = (gaps : Bool) (tables : RowsBefore) (env : List Declaration) → Declares tables env → (h : Heading) (at : ℕ) (bytes : List ℕ)
     → h.kind ≡ is_definition → AreRowParams (sorts env) h.params → IsRowResult (sorts env) h.params h.result → Runs (plain gaps) tables h at bytes
     → (d : Term) × SpellsTerm (signatures env) (term_row h) d × IsLegalDecl env (term_decl d)

@@ -1,7 +1,6 @@
 // Laws on the definitions: the contract of each function is one, and its body is empty.
 ghost use Rattle.mz_soundness.specs.Lists.{StepsOfLists};
 ghost use Rattle.mz_soundness.specs.Laws.{BodiesAreChecked, BoundNeverEnds, CountsAreWhole, NothingAtFirst, OneOutcome, SortsGrow, StepsBounded, StrictRunsWithGaps, TermsGrow, ThmsGrow};
-ghost use Rattle.mz_soundness.specs.WordsPass.{WrittenParamsPass, WrittenRowsPass};
 ghost use Rattle.mz_unification.specs.Profile.{plain};
 ghost use Rattle.std.specs.Prelude.{Bool};
 
@@ -41,10 +40,4 @@ pub fn tables_grow()
 /// A body that runs by the published table runs where gaps are let through.
 pub fn strict_runs_with_gaps()
     ensures { StrictRunsWithGaps }
-{}
-
-/// The words that are written for right parameters, and for a term's row, pass what is asked of them.
-pub fn written_words_pass()
-    ensures params { WrittenParamsPass }
-    ensures rows { WrittenRowsPass }
 {}

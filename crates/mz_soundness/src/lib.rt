@@ -13,7 +13,7 @@ mod soundness;
 pub use examples::{changed_bodies, counted_steps, worked_bodies};
 pub use laws::{
     bodies_are_checked, bound_never_ends, one_outcome, steps_bounded, strict_runs_with_gaps,
-    tables_grow, written_words_pass,
+    tables_grow,
 };
 pub use soundness::{
     axioms_are_legal, definitions_are_legal, good_entries_are_legal, rows_keep_the_fact,

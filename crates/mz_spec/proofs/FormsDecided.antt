@@ -3,6 +3,7 @@ use Rattle.std.proofs.Common.{◌≡◌, ◌⊎◌, ◌∙◌, ◌++◌, ◌+◌
 use Rattle.std.specs.Prelude.{slice_range, option_map}
 use Rattle.mz_lex.specs.Lexemes.{Lexeme}
 use Rattle.mz_checks.specs.Checks.{Checks, retold, AllHold, FailsFirst}
+use Rattle.mz_checks.proofs.Offered.{retold-fails, retold-holds}
 use Rattle.mz_logic.specs.Declaration.{signatures}
 use Rattle.mz_notation.specs.declared.form.Literal.{Literal}
 use Rattle.mz_notation.specs.declared.form.Literal.TheVariants.{Constant as constant, Name as name}
@@ -18,7 +19,6 @@ use Rattle.mz_spec.specs.State.{State, term_number, scope_of, signature_of}
 use Rattle.mz_spec.specs.Formulas.{inner}
 use Rattle.mz_spec.specs.Forms.{IsLiteral, AreLiterals, ArePartsOf, MakesNotation, coercion_of, level_of, tail_of, at_statement, form_checks}
 use Rattle.mz_spec.specs.Kept.{IsKept}
-use Rattle.mz_spec.proofs.Told.{retold-fails, retold-holds}
 use Rattle.mz_spec.proofs.Keeping.{general-other}
 
 -- all hold, or one fails first

@@ -2,7 +2,7 @@
 use Rattle.std.proofs.Common.{◌≡◌, ◌∙◌, ◌++◌, ℕ, List, [], ◌∷◌, map, OnOk, Bool, Option, Result, Ok, Err, ap, sym, refl, subst, inl, inr}
 use Rattle.mz_lex.specs.Lexemes.{Lexeme}
 use Rattle.mz_checks.specs.Checks.{Checks, nothing, each_in_order, ◌>>◌, retold, AllHold, FailsFirst}
-use Rattle.mz_checks.proofs.Offered.{fails-before, fails-after, all_hold-both}
+use Rattle.mz_checks.proofs.Offered.{fails-before, fails-after, all_hold-both, retold-fails, retold-holds}
 use Rattle.mz_logic.specs.Declaration.{signatures}
 use Rattle.mz_logic.specs.Signature.{Signature}
 use Rattle.mz_tokens.specs.declared.pieces.Delimiters.{Delimiters}
@@ -34,7 +34,6 @@ use Rattle.mz_spec.proofs.Loops.{assoc, fails-front, judges-behind, mem-before, 
 use Rattle.mz_spec.proofs.Naming.{IsNamed}
 use Rattle.mz_spec.proofs.Places.{split-variables}
 use Rattle.mz_spec.proofs.Keeping.{general-other}
-use Rattle.mz_spec.proofs.Told.{retold-fails, retold-holds}
 
 -- ---- statements without formulas
 

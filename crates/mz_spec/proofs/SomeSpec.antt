@@ -7,7 +7,7 @@ use Rattle.mz_logic.specs.Tree.{Tree, Trees, none, followed_by}
 use Rattle.mz_logic.specs.Declaration.{sort_decl, term_decl, assertion_decl, plain_form, abstract_form, defined, signatures}
 use Rattle.mz_logic.specs.Variables.{InFV}
 use Rattle.mz_checks.specs.Checks.{Checks, each_in_order, ◌>>◌, AllHold, FailsFirst, AreDecided}
-use Rattle.mz_checks.proofs.Offered.{all_hold-or_fails, all_hold-excludes, all_hold-both, all_hold-first, all_hold-rest, fails-before, fails-after, are_decided-rows}
+use Rattle.mz_checks.proofs.Offered.{all_hold-or_fails, all_hold-excludes, all_hold-both, all_hold-first, all_hold-rest, fails-before, fails-after, are_decided-rows, retold-fails}
 use Rattle.mz_tokens.specs.declared.pieces.Piece.{Piece}
 use Rattle.mz_tokens.specs.Pieces.{Pieces}
 use Rattle.mz_notation.specs.Notation.{with_notation, with_coercion, with_delimiters}
@@ -37,7 +37,6 @@ use Rattle.mz_spec.proofs.Places.{split-variables}
 use Rattle.mz_spec.proofs.Good.{good-others, good-strings, good-form}
 use Rattle.mz_spec.proofs.Tokens.{formulas-tokens}
 use Rattle.mz_spec.proofs.Keeping.{kept-written, kept-nothing}
-use Rattle.mz_spec.proofs.Told.{retold-fails}
 use Rattle.mz_spec.proofs.FreeDecided.{free-decided}
 use Rattle.mz_spec.proofs.RulesDecided.{levels-decided, names-decided, uses-decided, parts-decided}
 use Rattle.mz_spec.proofs.FormsDecided.{Judged, retold-judged, form-judged}

@@ -2,7 +2,8 @@
 use Rattle.std.proofs.Common.{◌≡◌, ◌<◌, ◌≤◌, ◌+◌, ◌-◌, ◌^◌, ℕ, zero, suc, List, [], ◌∷◌, length, take, drop, ap, subst, inl, inr, arith}
 use Rattle.mz_lex.specs.Lexemes.{Lexeme}
 use Rattle.mz_lex.specs.declared.rule.S.{S}
-use Rattle.mz_checks.specs.Checks.{Checks, nothing, ask, ◌>>◌, retold, AllHold, FailsFirst}
+use Rattle.mz_checks.specs.Checks.{Checks, ◌>>◌, retold, AllHold, FailsFirst}
+use Rattle.mz_checks.proofs.Offered.{retold-fails, retold-holds}
 use Rattle.mz_logic.specs.Tree.{Tree}
 use Rattle.mz_tokens.specs.declared.pieces.Piece.{Piece}
 use Rattle.mz_math.specs.declared.formula.Wanted.{Wanted}
@@ -12,17 +13,6 @@ use Rattle.mz_math.specs.Formula.{Reader, Misreading, words, known_checks, token
 use Rattle.mz_tokens.proofs.Offered.{pieces-one}
 use Rattle.mz_spec.specs.Code.{EndsSmall}
 use Rattle.mz_spec.specs.Formulas.{inner, place_of, told}
-
--- ---- checks told otherwise
-
-pub retold-fails : {Q R : Type 0} (f : Q → R) (cs : Checks Q) (q : Q) → FailsFirst cs q → FailsFirst (retold f cs) (f q)
-retold-fails f nothing q fails = absurd fails
-retold-fails f (ask p P cs) q (inl (out, same)) = inl (out, ap f same)
-retold-fails f (ask p P cs) q (inr (holds, rest)) = inr (holds, retold-fails f cs q rest)
-
-pub retold-holds : {Q R : Type 0} (f : Q → R) (cs : Checks Q) → AllHold cs → AllHold (retold f cs)
-retold-holds f nothing all = tt
-retold-holds f (ask p P cs) (holds, rest) = (holds, retold-holds f cs rest)
 
 -- ---- strings
 

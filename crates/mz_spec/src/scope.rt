@@ -89,11 +89,11 @@ impl<'a> State<'a> {
         requires small { length params.now < 2 ^ 32 }
         ensures { IfOk result (λ binders. binders ≡ map (binder_of_lem (state self.now) (map variable_lem params.now)) (map variable_lem variables.now)) }
     {
-        let mut binders = Binders::new(alloc);
+        let mut binders = Vec::with_capacity(alloc, variables.len())?;
         for variable in variables {
             binders.push(self.binder_of(alloc, index, params, variable)?)?;
         }
-        Ok(binders)
+        Ok(Binders::from_vec(binders))
     }
 
     /// The result of this type, over the statement's parameters.

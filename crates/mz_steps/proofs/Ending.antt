@@ -18,7 +18,7 @@ use Rattle.mz_unification.specs.Profile.{plain, strict, Item}
 use Rattle.mz_unification.specs.UnifyMachine.{at_end, in_definition, UnifyMode, Matching, UnifyState, unify}
 use Rattle.mz_unification.specs.Laws.{instances_of}
 use Rattle.mz_unification.proofs.Offered.{fits-length, listed-trees_of, EachBelow, text-met, below-occurs, map-reverse, assertions-spelled, unfoldings-exact, unify-plain}
-use Rattle.mz_soundness.specs.Tables.{Tables, signatures_in, State, Kind, is_axiom, is_theorem, is_definition, Heading, Declares}
+use Rattle.mz_soundness.specs.MachineState.{RowsBefore, signatures_in, State, Kind, is_axiom, is_theorem, is_definition, Heading, Declares}
 use Rattle.mz_soundness.specs.Premises.{is_provable_sort}
 use Rattle.mz_soundness.specs.FreeVars.{free_within}
 use Rattle.mz_soundness.specs.ProofMachine.{last_item, own_stream, as_proofs, ending, ends_with, proof_end, has_provable_sort}
@@ -69,19 +69,19 @@ own-fits sigs ctx j (p ∷ ps) at =
 
 -- ---- the END of the machine
 
-end-row : (gaps : Bool) (tables : Tables) (h : Heading) (st : State Tree) (kind : Kind) (e : Tree) (m : Matching Tree) (u : UnifyState Tree) → h.kind ≡ kind → last_item kind st.stack ≡ Ok e → ending (plain gaps) tables h st kind e ≡ Ok m
+end-row : (gaps : Bool) (tables : RowsBefore) (h : Heading) (st : State Tree) (kind : Kind) (e : Tree) (m : Matching Tree) (u : UnifyState Tree) → h.kind ≡ kind → last_item kind st.stack ≡ Ok e → ending (plain gaps) tables h st kind e ≡ Ok m
     → unify (plain gaps) (signatures_in tables) st.ctx m ≡ Ok u → proof_end (plain gaps) tables h st ≡ Ok st
 unfolding proof_end ends_with
 end-row gaps tables h st kind e m u kind-is last ends ran = rw (kind-is, last, ends, ran) refl
 
-axiom-ending : (gaps : Bool) (tables : Tables) (h : Heading) (st : State Tree) (e : Tree) → has_provable_sort (plain gaps) tables st.ctx e ≡ true → ending (plain gaps) tables h st is_axiom e ≡ Ok (own_stream (plain gaps) h at_end e (as_proofs st.hyps))
+axiom-ending : (gaps : Bool) (tables : RowsBefore) (h : Heading) (st : State Tree) (e : Tree) → has_provable_sort (plain gaps) tables st.ctx e ≡ true → ending (plain gaps) tables h st is_axiom e ≡ Ok (own_stream (plain gaps) h at_end e (as_proofs st.hyps))
 axiom-ending gaps tables h st e provable = rw provable refl
 
-definition-ending : (gaps : Bool) (tables : Tables) (h : Heading) (st : State Tree) (e : Tree) → sort_of (signatures_in tables) st.ctx e ≡ h.result.sort → free_within (signatures_in tables) st.ctx h.result.deps e (length st.ctx) ≡ true
+definition-ending : (gaps : Bool) (tables : RowsBefore) (h : Heading) (st : State Tree) (e : Tree) → sort_of (signatures_in tables) st.ctx e ≡ h.result.sort → free_within (signatures_in tables) st.ctx h.result.deps e (length st.ctx) ≡ true
     → ending (plain gaps) tables h st is_definition e ≡ Ok (own_stream (plain gaps) h in_definition e [])
 definition-ending gaps tables h st e sort free = rw (eq-eqb (sort_of (signatures_in tables) st.ctx e) h.result.sort sort, free) refl
 
-module _ (gaps : Bool) (tables : Tables) (env env' : List Declaration) (declares : Declares tables env') (same : IsSameEnv env env') (h : Heading) (dummies : List Binder)
+module _ (gaps : Bool) (tables : RowsBefore) (env env' : List Declaration) (declares : Declares tables env') (same : IsSameEnv env env') (h : Heading) (dummies : List Binder)
     (first : DependOnFirst (length h.params) (h.params ++ dummies)) (w : Work) (right : IsRight (signatures env) (length h.params) (h.params ++ dummies) w) where
   abbrev Sigs : List Signature
   Sigs = signatures env

@@ -11,7 +11,7 @@ use Rattle.mz_logic.specs.declared.binder.SortMods.{SortMods}
 use Rattle.mz_logic.proofs.Offered.{Extends, extends_append, extends_itself, sorts-append, terms-append, assertions-append, split_at}
 use Rattle.mz_unification.specs.Spells.{trees_of}
 use Rattle.mz_unification.specs.Profile.{Item, expr, proof, obligation, conversion}
-use Rattle.mz_soundness.specs.Tables.{Pairwise}
+use Rattle.mz_soundness.specs.MachineState.{Pairwise}
 use Rattle.mz_soundness.specs.ProofMachine.{sides}
 use Rattle.mz_steps.specs.Works.{Work}
 use Rattle.mz_steps.specs.Steps.{stacked, kept, IsReferred, Step, Steps}

@@ -11,7 +11,7 @@ use Rattle.mz_logic.specs.Tree.{Tree, Trees, var, app, none, more, listed, insta
 use Rattle.mz_logic.specs.Declaration.{Form, Declaration, dummies_of, body_of, sorts, signatures}
 use Rattle.mz_logic.specs.Modifiers.{MayBeDummySort}
 use Rattle.mz_logic.specs.Sorts.{HasSort, Fits, IsSorted, HasProvable, AreProvable}
-use Rattle.mz_logic.specs.Variables.{InFV, Apart}
+use Rattle.mz_logic.specs.Variables.{InFV, Apart, is_member}
 use Rattle.mz_logic.specs.Legality.{EachTree, IsDummy, IsLegalEnv}
 use Rattle.mz_logic.specs.Conversions.{Conversion, Conversions, refl_conv, sym_conv, cong_conv, unfold_conv, gap_conv, no_convs, more_convs, AreFresh, Between, AllBetween, GapsOnly, AllGapsOnly}
 use Rattle.mz_logic.specs.Derivations.{Derivation, Derivations, hypothesis, cite, convert, gap, no_derivs, more_derivs, Derives, AllDerive, CitesOnly, AllCiteOnly, Uses}
@@ -22,7 +22,6 @@ use Rattle.mz_logic.proofs.Offered.{Extends, extends_append, extends_itself, sor
 use Rattle.mz_unification.specs.Spells.{trees_of, variables_from, dummy_of}
 use Rattle.mz_unification.specs.Sorted.{Sorted}
 use Rattle.mz_unification.specs.Profile.{Item, expr, proof, obligation}
-use Rattle.mz_unification.specs.Tests.{is_member}
 use Rattle.mz_unification.proofs.Offered.{member-contains, contains-member, not-both, trees_of-listed}
 use Rattle.mz_soundness.specs.ProofMachine.{sides}
 use Rattle.mz_steps.specs.Works.{Work, work_start}

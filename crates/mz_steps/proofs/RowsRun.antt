@@ -6,12 +6,12 @@ use Rattle.std.proofs.lemmas.Bool.{le-leb, lt-ltb}
 use Rattle.mz_cmd.specs.declared.code.ProofCode.TheVariants as code
 use Rattle.mz_logic.specs.Tree.{Tree, Trees, var, app, listed}
 use Rattle.mz_logic.specs.Legality.{sort_of}
-use Rattle.mz_unification.specs.Spells.{TermRow, ThmRow, trees_of, dummy_of}
+use Rattle.mz_unification.specs.Spells.{SpelledTerm, SpelledThm, trees_of, dummy_of}
 use Rattle.mz_unification.specs.Profile.{plain, Item, expr, proof, obligation, conversion}
 use Rattle.mz_unification.specs.UnifyMachine.{UnifyState, unify}
 use Rattle.mz_unification.specs.Laws.{citing, unfolding_by}
 use Rattle.mz_unification.proofs.Offered.{same_tree-refl, listed-trees_of}
-use Rattle.mz_soundness.specs.Tables.{Tables, signatures_in, State}
+use Rattle.mz_soundness.specs.MachineState.{RowsBefore, signatures_in, State}
 use Rattle.mz_soundness.specs.Premises.{pop_exprs, pop_operands, is_obligation, may_be_dummy_sort, is_provable_sort, bound_count, operands_fit, are_apart}
 use Rattle.mz_soundness.specs.ProofMachine.{built, citation, cited, sides, unfolding_of, proof_row}
 use Rattle.mz_steps.specs.Steps.{above}
@@ -36,10 +36,10 @@ same-trees : (es : List Tree) → map (λ e. e) es ≡ es
 same-trees [] = refl
 same-trees (e ∷ es) = ap (λ (fs : List Tree). e ∷ fs) (same-trees es)
 
-module _ (gaps : Bool) (tables : Tables) (at : ℕ) (st : State Tree) where
+module _ (gaps : Bool) (tables : RowsBefore) (at : ℕ) (st : State Tree) where
   -- ---- expressions
 
-  pub built-row : (t : ℕ) (es : List Tree) (rest : List (Item Tree)) (row : TermRow) → slice_get tables.terms t ≡ Some row → length es ≡ length row.signature.params → st.stack ≡ above es rest
+  pub built-row : (t : ℕ) (es : List Tree) (rest : List (Item Tree)) (row : SpelledTerm) → slice_get tables.terms t ≡ Some row → length es ≡ length row.signature.params → st.stack ≡ above es rest
       → operands_fit (signatures_in tables) st.ctx es row.signature.params ≡ Ok tt → built (plain gaps) tables at t st ≡ Ok (app t (trees_of es), rest)
   unfolding built
   built-row t es rest row row-at len is fit = rw (row-at, is, pops es rest (length row.signature.params) len, same-trees es, fit) refl
@@ -88,7 +88,7 @@ module _ (gaps : Bool) (tables : Tables) (at : ℕ) (st : State Tree) where
 
   -- ---- citations
 
-  pub cited-row : (t : ℕ) (e : Tree) (es : List Tree) (items rest : List (Item Tree)) (row : ThmRow) (u : UnifyState Tree) → slice_get tables.thms t ≡ Some row → length es ≡ length row.params
+  pub cited-row : (t : ℕ) (e : Tree) (es : List Tree) (items rest : List (Item Tree)) (row : SpelledThm) (u : UnifyState Tree) → slice_get tables.thms t ≡ Some row → length es ≡ length row.params
       → st.stack ≡ expr e ∷ above es items → operands_fit (signatures_in tables) st.ctx es row.params ≡ Ok tt → are_apart st.ctx es row.params ≡ true
       → unify (plain gaps) (signatures_in tables) st.ctx (citing row.stream es e items) ≡ Ok u → u.items ≡ rest → cited (plain gaps) tables t st ≡ Ok (e, rest)
   unfolding cited citation
@@ -124,7 +124,7 @@ module _ (gaps : Bool) (tables : Tables) (at : ℕ) (st : State Tree) where
   unfolding proof_row
   cong-row n t ls rs rest is = rw (is, eq-eqb t t refl) refl
 
-  pub unfold-row : (n t : ℕ) (es : List Tree) (e r : Tree) (rest : List (Item Tree)) (row : TermRow) (stream : List ℕ) (u : UnifyState Tree) → slice_get tables.terms t ≡ Some row → row.stream ≡ Some stream
+  pub unfold-row : (n t : ℕ) (es : List Tree) (e r : Tree) (rest : List (Item Tree)) (row : SpelledTerm) (stream : List ℕ) (u : UnifyState Tree) → slice_get tables.terms t ≡ Some row → row.stream ≡ Some stream
       → st.stack ≡ expr e ∷ expr (app t (trees_of es)) ∷ obligation (app t (trees_of es)) r ∷ rest → unify (plain gaps) (signatures_in tables) st.ctx (unfolding_by stream es e) ≡ Ok u
       → proof_row (plain gaps) tables at code.Unfold n st ≡ Ok (record st { stack = obligation e r ∷ rest })
   unfolding proof_row unfolding_of

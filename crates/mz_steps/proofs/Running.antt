@@ -24,7 +24,7 @@ use Rattle.mz_unification.specs.Profile.{plain, strict, Item, expr, proof, oblig
 use Rattle.mz_unification.specs.UnifyMachine.{unify}
 use Rattle.mz_unification.specs.Laws.{citing, unfolding_by, instances_of}
 use Rattle.mz_unification.proofs.Offered.{taken, fits-length, citations-exact, unfoldings-exact, unify-plain}
-use Rattle.mz_soundness.specs.Tables.{Tables, signatures_in, State, Declares}
+use Rattle.mz_soundness.specs.MachineState.{RowsBefore, signatures_in, State, Declares}
 use Rattle.mz_soundness.specs.Premises.{is_obligation, may_be_dummy_sort, is_provable_sort, bound_count, operands_fit, are_apart}
 use Rattle.mz_soundness.specs.ProofMachine.{built, cited, sides, proof_row}
 use Rattle.mz_steps.specs.Works.{renamed, all_renamed, item_renamed, name_in, Work, met_binders, machine}
@@ -48,7 +48,7 @@ state-is c c' h h' s s' y y' ec eh es ey =
     ap (λ (z : List Binder). taken (state z h s y)) ec ∙ ap (λ (z : List (Item Tree)). taken (state c' z s y)) eh
     ∙ ap (λ (z : List (Item Tree)). taken (state c' h' z y)) es ∙ ap (λ (z : List Tree). taken (state c' h' s' z)) ey
 
-module _ (gaps : Bool) (tables : Tables) (env env' : List Declaration) (declares : Declares tables env') (same : IsSameEnv env env') (n : ℕ) (ctx : List Binder) (first : DependOnFirst n ctx) (at-most : bound_count ctx ≤ 55) where
+module _ (gaps : Bool) (tables : RowsBefore) (env env' : List Declaration) (declares : Declares tables env') (same : IsSameEnv env env') (n : ℕ) (ctx : List Binder) (first : DependOnFirst n ctx) (at-most : bound_count ctx ≤ 55) where
   abbrev Sigs : List Signature
   Sigs = signatures env
 

@@ -8,7 +8,7 @@ use Rattle.mz_logic.proofs.Offered.{assertions_are_sorted}
 use Rattle.mz_unification.specs.Streams.{of_assertion}
 use Rattle.mz_unification.specs.Spells.{trees_of, Text}
 use Rattle.mz_unification.proofs.Offered.{trees_of-listed}
-use Rattle.mz_soundness.specs.Tables.{State, Kind}
+use Rattle.mz_soundness.specs.MachineState.{State, Kind}
 use Rattle.mz_soundness.specs.Premises.{bound_count}
 use Rattle.mz_steps.specs.Works.{work_start, machine}
 use Rattle.mz_steps.specs.Steps.{Steps, run_commands}

@@ -3,7 +3,7 @@ use Rattle.std.proofs.Common.{◌≡◌, Bool, List, ◌++◌, length, Ok, subst
 use Rattle.mz_logic.specs.Tree.{Tree}
 use Rattle.mz_logic.specs.Declaration.{signatures}
 use Rattle.mz_logic.specs.declared.binder.Binder.{Binder}
-use Rattle.mz_soundness.specs.Tables.{State}
+use Rattle.mz_soundness.specs.MachineState.{State}
 use Rattle.mz_steps.specs.Works.{work_start, machine}
 use Rattle.mz_steps.specs.Steps.{run_commands}
 use Rattle.mz_unification.specs.Profile.{plain}

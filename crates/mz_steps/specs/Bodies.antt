@@ -6,7 +6,7 @@ use Rattle.mz_logic.specs.Declaration.{Declaration}
 use Rattle.mz_logic.specs.declared.binder.Binder.{Binder}
 use Rattle.mz_unification.specs.Profile.{plain, Item, expr, proof}
 use Rattle.mz_soundness.specs.Premises.{bound_count}
-use Rattle.mz_soundness.specs.Tables.{Kind, is_axiom, is_theorem, is_definition}
+use Rattle.mz_soundness.specs.MachineState.{Kind, is_axiom, is_theorem, is_definition}
 use Rattle.mz_steps.specs.Endings.{spelled_body, MayStand}
 use Rattle.mz_steps.specs.Steps.{Steps}
 use Rattle.mz_steps.specs.Works.{Work, work_start}

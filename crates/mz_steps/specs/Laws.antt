@@ -8,7 +8,7 @@ use Rattle.mz_logic.specs.Variables.{Occurs}
 use Rattle.mz_logic.specs.declared.binder.Binder.{Binder}
 use Rattle.mz_unification.specs.Sorted.{Sorted}
 use Rattle.mz_unification.specs.Profile.{plain, Profile, Item, expr, proof, obligation, conversion}
-use Rattle.mz_soundness.specs.Tables.{Tables, State, Heading, Declares}
+use Rattle.mz_soundness.specs.MachineState.{RowsBefore, State, Heading, Declares}
 use Rattle.mz_soundness.specs.Premises.{bound_count}
 use Rattle.mz_soundness.specs.ProofMachine.{proof_end}
 use Rattle.mz_soundness.specs.Bodies.{body_start, body_run, Runs}
@@ -59,26 +59,26 @@ pub record IsRight (sigs : List Signature) (n : ℕ) (ctx : List Binder) (w : Wo
 
 -- right steps run, and what they make is right
 abbrev pub RightStepsRun : Bool → Type 0
-RightStepsRun gaps = (tables : Tables) (env env' : List Declaration) → Declares tables env' → IsSameEnv env env'
+RightStepsRun gaps = (tables : RowsBefore) (env env' : List Declaration) → Declares tables env' → IsSameEnv env env'
     → (n : ℕ) (ctx : List Binder) → DependOnFirst n ctx → bound_count ctx ≤ 55
     → (at : ℕ) (cs : List (ProofCode × ℕ)) (w w' : Work) → IsRight (signatures env) n ctx w → Steps gaps env ctx w cs w'
     → (run_commands (plain gaps) tables at cs (machine ctx w) ≡ Ok (machine ctx w')) × IsRight (signatures env) n ctx w'
 
 -- where the steps have made what the row spells, the END is good
 abbrev pub RightEndsEnd : Bool → Type 0
-RightEndsEnd gaps = (tables : Tables) (env env' : List Declaration) → Declares tables env' → IsSameEnv env env'
+RightEndsEnd gaps = (tables : RowsBefore) (env env' : List Declaration) → Declares tables env' → IsSameEnv env env'
     → (h : Heading) (dummies : List Binder) → DependOnFirst (length h.params) (h.params ++ dummies)
     → (w : Work) → IsRight (signatures env) (length h.params) (h.params ++ dummies) w → Ends env (h.params ++ dummies) h w
     → proof_end (plain gaps) tables h (machine (h.params ++ dummies) w) ≡ Ok (machine (h.params ++ dummies) w)
 
 -- the bytes of commands run as the commands do
 abbrev pub BodiesRunAsCommands : Profile → Type 0
-BodiesRunAsCommands P = (tables : Tables) (h : Heading) (at : ℕ) (cs : List (ProofCode × ℕ)) (last : State P.T) → MayStand P h.kind cs
+BodiesRunAsCommands P = (tables : RowsBefore) (h : Heading) (at : ℕ) (cs : List (ProofCode × ℕ)) (last : State P.T) → MayStand P h.kind cs
     → run_commands P tables at cs (body_start P h) ≡ Ok last → proof_end P tables h last ≡ Ok last → body_run P tables h at (spelled_body cs) ≡ Ok last
 
 -- a body whose steps, from the parameters on, make what its row spells runs
 abbrev pub RightBodiesRun : Bool → Type 0
-RightBodiesRun gaps = (tables : Tables) (env env' : List Declaration) → Declares tables env' → IsSameEnv env env'
+RightBodiesRun gaps = (tables : RowsBefore) (env env' : List Declaration) → Declares tables env' → IsSameEnv env env'
     → (h : Heading) (dummies : List Binder) → DependOnFirst (length h.params) (h.params ++ dummies) → bound_count (h.params ++ dummies) ≤ 55
     → (at : ℕ) (cs : List (ProofCode × ℕ)) (w : Work) → MayStand (plain gaps) h.kind cs
     → Steps gaps env (h.params ++ dummies) (work_start h.params) cs w → Ends env (h.params ++ dummies) h w → Runs (plain gaps) tables h at (spelled_body cs)

@@ -10,7 +10,7 @@ use Rattle.mz_logic.specs.declared.binder.Binder.{Binder}
 use Rattle.mz_unification.specs.Streams.{of_assertion}
 use Rattle.mz_unification.specs.Spells.{Text}
 use Rattle.mz_unification.specs.Profile.{plain, Item, expr, proof}
-use Rattle.mz_soundness.specs.Tables.{Tables, State, is_theorem, Heading, Declares}
+use Rattle.mz_soundness.specs.MachineState.{RowsBefore, State, is_theorem, Heading, Declares}
 use Rattle.mz_soundness.specs.Premises.{bound_count}
 use Rattle.mz_soundness.specs.ProofMachine.{proof_end}
 use Rattle.mz_soundness.specs.Bodies.{body_start}
@@ -37,7 +37,7 @@ LegalTheoremsHaveSteps = (gaps : Bool) (env : List Declaration) → IsLegalEnv e
 
 -- so over rows that declare the environment, a row that spells a legal theorem has commands that run and end well
 abbrev pub LegalTheoremsRun : Type 0
-LegalTheoremsRun = (gaps : Bool) (tables : Tables) (env env' : List Declaration) → Declares tables env' → IsSameEnv env env' → IsLegalEnv env
+LegalTheoremsRun = (gaps : Bool) (tables : RowsBefore) (env env' : List Declaration) → Declares tables env' → IsSameEnv env env' → IsLegalEnv env
     → (a : Assertion) → IsLegalDecl env (assertion_decl a) → (dummies : List Binder) → AreDummies (sorts env) dummies → bound_count (a.params ++ dummies) ≤ 55
     → (d : Derivation) → allowed_with gaps env d → Derives env (a.params ++ dummies) a.hyps d a.conclusion
     → (h : Heading) → h.kind ≡ is_theorem → h.params ≡ a.params → Text of_assertion (signatures env) a.params h.stream a.hyps a.conclusion []

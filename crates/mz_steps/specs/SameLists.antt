@@ -3,7 +3,7 @@
 use Rattle.std.specs.Prelude.{◌≡◌, List}
 use Rattle.mz_logic.specs.Declaration.{Declaration, sort_decl, term_decl, assertion_decl}
 use Rattle.mz_logic.specs.LegalLists.{Statement, declarations}
-use Rattle.mz_soundness.specs.Tables.{Pairwise}
+use Rattle.mz_soundness.specs.MachineState.{Pairwise}
 use Rattle.mz_steps.specs.Sameness.{IsSameTerm, IsSameEnv}
 
 abbrev pub IsSameDeclaration : Declaration → Declaration → Type 0

@@ -7,7 +7,7 @@ use Rattle.mz_logic.specs.Tree.{Tree}
 use Rattle.mz_logic.specs.Declaration.{Declaration}
 use Rattle.mz_logic.specs.declared.binder.Binder.{Binder}
 use Rattle.mz_unification.specs.Profile.{Item, expr, proof, obligation, conversion}
-use Rattle.mz_soundness.specs.Tables.{Kind}
+use Rattle.mz_soundness.specs.MachineState.{Kind}
 use Rattle.mz_steps.specs.Bodies.{IsBody}
 use Rattle.mz_steps.specs.Steps.{Step}
 use Rattle.mz_steps.specs.Works.{Work, work_start}

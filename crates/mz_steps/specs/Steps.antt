@@ -18,7 +18,7 @@ use Rattle.mz_unification.specs.Spells.{trees_of, dummy_of}
 use Rattle.mz_unification.specs.Sorted.{Sorted}
 use Rattle.mz_unification.specs.Profile.{Profile, Item, expr, proof, obligation, conversion}
 use Rattle.mz_unification.specs.Laws.{IsCitedAs}
-use Rattle.mz_soundness.specs.Tables.{Tables, State}
+use Rattle.mz_soundness.specs.MachineState.{RowsBefore, State}
 use Rattle.mz_soundness.specs.Premises.{is_obligation}
 use Rattle.mz_soundness.specs.ProofMachine.{sides, proof_row}
 use Rattle.mz_steps.specs.Works.{Work}
@@ -110,6 +110,6 @@ abbrev pub command_bytes : ProofCode × ℕ → List ℕ
 command_bytes c = shortest (proof_byte c.0) c.1
 
 -- commands in their shortest spellings, the first of which stands at a place
-abbrev pub run_commands : (P : Profile) → Tables → ℕ → List (ProofCode × ℕ) → State P.T → Result (State P.T) K
+abbrev pub run_commands : (P : Profile) → RowsBefore → ℕ → List (ProofCode × ℕ) → State P.T → Result (State P.T) K
 run_commands P tables at [] st = Ok st
 run_commands P tables at (c ∷ cs) st = proof_row P tables at c.0 c.1 st >>= run_commands P tables (at + length (command_bytes c)) cs

@@ -1,52 +1,38 @@
 -- A store that has one more variable, or one more term over operands.
-use Rattle.std.proofs.Common.{ℕ, zero, suc, ◌≡◌, ◌<◌, ◌≤◌, ◌+◌, ◌⊎◌, ◌↔◌, Bool, true, false, List, [], ◌∷◌, ◌++◌, length, take, slice_get, Option, Some, None, IfSome, IfNone, refl, ap, sym, ◌∙◌, subst, inl, inr, arith, if◌then◌else◌}
-use Rattle.std.proofs.Math.Seq.{take-append_seam}
+use Rattle.std.proofs.Common.{ℕ, zero, suc, ◌≡◌, ◌<◌, ◌≤◌, ◌+◌, ◌↔◌, Bool, true, false, IsTrue, List, [], ◌∷◌, ◌++◌, length, get_or, slice_get, Option, Some, None, IfSome, IfNone, refl, ap, sym, ◌∙◌, subst, arith, append-nil, if◌then◌else◌}
 use Rattle.std.proofs.lemmas.List.{length-append}
-use Rattle.std.proofs.lemmas.Option.{slice_get_within}
+use Rattle.std.proofs.lemmas.Option.{slice_get_within, slice_get-get_or}
 use mir.Val.{bool_byte}
 use Rattle.mz_logic.specs.Signature.{Signature}
+use Rattle.mz_logic.specs.Sorts.{IsBoundVar}
+use Rattle.mz_logic.specs.declared.binder.Binder.{Binder}
 use Rattle.mz_logic.specs.Tree.{Tree, Trees, var, app, none, more}
-use Rattle.mz_logic.proofs.Offered.{one_at, none_some, extends_append, split_at, DepsInside}
+use Rattle.mz_logic.proofs.Offered.{one_at, none_some, DepsInside}
 use Rattle.mz_store.specs.Bits.{bound_vars}
 use Rattle.mz_store.specs.Sharing.{Shared, Sharing, tree_of, trees_of, IsIn, AreIn, Holds, IsOver}
-use Rattle.mz_store.specs.Nodes.{entered, context_with, tree_with, binder_after, sharing_of, no_expressions, IsVariableWord}
-use Rattle.mz_store.specs.Keys.{Has, IsOf, IsNode}
-use Rattle.mz_store.specs.Kept.{Forms, Shows, IsKept}
+use Rattle.mz_store.specs.Nodes.{Made, MadeOf, variable, application, form_of, made_of, all_made, entered, binder_after, sharing_of, no_expressions, IsVariableWord}
+use Rattle.mz_store.specs.Prints.{print_of}
+use Rattle.mz_store.specs.Chains.{IsOf, IsNode}
+use Rattle.mz_store.specs.Kept.{Forms, Shows, IsKept, IsChained}
 use Rattle.mz_store.specs.declared.item.DepsMode.{DepsMode}
 use Rattle.mz_store.specs.declared.item.Id.{Id}
 use Rattle.mz_store.specs.declared.node.Node.{Node}
+use Rattle.mz_store.specs.declared.node.Application.{Application as Term}
 use Rattle.mz_store.specs.declared.node.Form.{Form}
 use Rattle.mz_store.specs.declared.node.Form.TheVariants.{Variable, Application}
-use Rattle.mz_store.specs.declared.table.Table.{Table}
 use Rattle.mz_store.proofs.Places.{bound-push}
+use Rattle.mz_store.proofs.Made.{AllLie, made-kept, all-kept, all-pushed, made-at, node-of}
+use Rattle.mz_store.proofs.Chained.{last-at, all-lie, chained-variable, chained-term, chained-more, chained-by, Puts, term-says}
 use Rattle.mz_store.proofs.Growing.{entered-all-push, entered-begins, entry-new, kept-grown, are-in-kept, trees-kept}
 use Rattle.mz_store.proofs.Entering.{inside-grown, over-entered}
 
--- ---- what a pushed node makes
-
-pub pushed-view : (mode : DepsMode) (nodes nodes' : List Node) (n : Node) → nodes' ≡ nodes ++ n ∷ [] → sharing_of mode nodes' ≡ entered (sharing_of mode nodes) n
-pushed-view mode nodes nodes' n is = ap (sharing_of mode) is ∙ entered-all-push (no_expressions mode) nodes n
-
-pub pushed-kept : (mode : DepsMode) (nodes nodes' : List Node) (n : Node) (count : ℕ) (table : Table) → nodes' ≡ nodes ++ n ∷ []
-    → IsKept (entered (sharing_of mode nodes) n) count (nodes ++ n ∷ []) table → IsKept (sharing_of mode nodes') count nodes' table
-pushed-kept mode nodes nodes' n count table is kept =
-    subst (λ s. IsKept s count nodes' table) (sym (pushed-view mode nodes nodes' n is)) (subst (λ ns. IsKept (entered (sharing_of mode nodes) n) count ns table) (sym is) kept)
-
-last-at : {A : Type 0} (xs : List A) (x : A) → slice_get (xs ++ x ∷ []) (length xs) ≡ Some x
-last-at [] x = refl
-last-at (y ∷ xs) x = last-at xs x
-
-only-last : {A : Type 0} (x y : A) (j : ℕ) → slice_get (x ∷ []) j ≡ Some y → (j ≡ 0) × (x ≡ y)
-only-last x y zero at = (refl, one_at refl at)
-only-last x y (suc j) at = absurd (none_some at)
-
 -- ---- the node of an expression
 
-pub node-at : (s : Sharing) (count : ℕ) (nodes : List Node) (table : Table) → IsKept s count nodes table → (i : ℕ) → IsIn s i
-    → (n : Node) × (slice_get nodes i ≡ Some n) × Shows s i n
-node-at s count nodes table kept i inside = go (slice_get nodes i) refl
+node-at : (s : Sharing) (count : ℕ) (os : List Id) (nodes : List Node) → IsKept s count os nodes → (i : ℕ) → IsIn s i
+    → (n : Node) × (slice_get nodes i ≡ Some n) × Shows s i (made_of os n)
+node-at s count os nodes kept i inside = go (slice_get nodes i) refl
   where
-    go : (o : Option Node) → slice_get nodes i ≡ o → (n : Node) × (slice_get nodes i ≡ Some n) × Shows s i n
+    go : (o : Option Node) → slice_get nodes i ≡ o → (n : Node) × (slice_get nodes i ≡ Some n) × Shows s i (made_of os n)
     go (Some n) at = (n, at, kept.shown i n at)
     go None at = absurd (none_past nodes i (omega (arith, kept.many)) at)
       where
@@ -84,46 +70,48 @@ ids-same s once (i ∷ is) (j ∷ js) (p, ps) (q, qs) same =
     ∙ ap (λ (ks : List Id). j ∷ ks) (ids-same s once is js ps qs (later-trees (tree_of s i.0) (tree_of s j.0) (trees_of s is) (trees_of s js) same))
 
 -- a term over operands has the tree that it says
-pub node-holds : (s : Sharing) (count : ℕ) (nodes : List Node) (table : Table) → IsKept s count nodes table → (h : ℕ) (is : List Id) (i : ℕ)
-    → IsNode nodes h is i → Holds s i (app h (trees_of s is))
-node-holds s count nodes table kept h is i (n, at, of) = (omega (arith, kept.many, slice_get_within nodes i n at), go n.form of (kept.shown i n at).form)
+node-holds : (s : Sharing) (count : ℕ) (os : List Id) (nodes : List Node) → IsKept s count os nodes → (h : ℕ) (is : List Id) (i : ℕ)
+    → IsNode (all_made os nodes) h is i → Holds s i (app h (trees_of s is))
+node-holds s count os nodes kept h is i (m, at, of) = (let (n, here, says) = node-of os nodes i m at in
+    (omega (arith, kept.many, slice_get_within nodes i n here), go m.form of (subst (Shows s i) says (kept.shown i n here)).form))
   where
-    go : (f : Form) → IsOf f h is → Forms s i f → tree_of s i ≡ app h (trees_of s is)
-    go (Variable bound) nope form = absurd nope
-    go (Application head operands) (head-is, operands-are) (there, tree-is) = tree-is ∙ ap (λ t. app t (trees_of s operands.items)) head-is ∙ ap (λ ks. app h (trees_of s ks)) operands-are
+    go : (f : MadeOf) → IsOf f h is → Forms s i f → tree_of s i ≡ app h (trees_of s is)
+    go (variable bound) nope form = absurd nope
+    go (application head operands) (head-is, operands-are) (there, tree-is) = tree-is ∙ ap (λ t. app t (trees_of s operands)) head-is ∙ ap (λ ks. app h (trees_of s ks)) operands-are
 
 -- and a tree over expressions of the store is such a term
-pub holds-node : (s : Sharing) (count : ℕ) (nodes : List Node) (table : Table) → IsKept s count nodes table → (h : ℕ) (is : List Id) → AreIn s is → (i : ℕ)
-    → Holds s i (app h (trees_of s is)) → IsNode nodes h is i
-holds-node s count nodes table kept h is there i (inside, tree-is) = go (node-at s count nodes table kept i inside)
+holds-node : (s : Sharing) (count : ℕ) (os : List Id) (nodes : List Node) → IsKept s count os nodes → (h : ℕ) (is : List Id) → AreIn s is → (i : ℕ)
+    → Holds s i (app h (trees_of s is)) → IsNode (all_made os nodes) h is i
+holds-node s count os nodes kept h is there i (inside, tree-is) = go (node-at s count os nodes kept i inside)
   where
-    go : (n : Node) × (slice_get nodes i ≡ Some n) × Shows s i n → IsNode nodes h is i
-    go (n, at, shows) = (n, at, of n.form shows.form)
+    go : (n : Node) × (slice_get nodes i ≡ Some n) × Shows s i (made_of os n) → IsNode (all_made os nodes) h is i
+    go (n, at, shows) = (made_of os n, made-at os nodes i n at, of (made_of os n).form shows.form)
       where
-        of : (f : Form) → Forms s i f → IsOf f h is
-        of (Variable bound) (x, b, var-is, _, _) = absurd (var-app x h (trees_of s is) (sym var-is ∙ tree-is))
-        of (Application head operands) (in-too, app-is) = (
-          app-head head h (trees_of s operands.items) (trees_of s is) (sym app-is ∙ tree-is),
-          ids-same s kept.once operands.items is in-too there (app-operands head h (trees_of s operands.items) (trees_of s is) (sym app-is ∙ tree-is)),
+        of : (f : MadeOf) → Forms s i f → IsOf f h is
+        of (variable bound) (x, b, var-is, _, _) = absurd (var-app x h (trees_of s is) (sym var-is ∙ tree-is))
+        of (application head operands) (in-too, app-is) = (
+          app-head head h (trees_of s operands) (trees_of s is) (sym app-is ∙ tree-is),
+          ids-same s kept.once operands is in-too there (app-operands head h (trees_of s operands) (trees_of s is) (sym app-is ∙ tree-is)),
         )
 
 -- ---- one more variable
 
-pub variable-kept : (s : Sharing) (count : ℕ) (nodes : List Node) (table : Table) (sort deps : ℕ) (bound : Bool) → IsKept s count nodes table
+variable-kept : (s : Sharing) (count : ℕ) (os : List Id) (nodes : List Node) (sort deps : ℕ) (bound : Bool) → IsKept s count os nodes
     → IsVariableWord (length (bound_vars s.context)) deps bound → (count' : ℕ) → count' ≡ count + (if bound then 1 else 0)
-    → IsKept (entered s (record { sort = sort; deps = deps; form = Variable bound })) count' (nodes ++ record { sort = sort; deps = deps; form = Variable bound } ∷ []) table
-variable-kept s count nodes table sort deps bound kept word count' count-is =
-    kept-grown s count count' nodes table table n kept counted (small bound word count-is) form fresh listed (inside-grown s.context sort deps bound kept.inside)
+    → IsKept (entered s (record { sort = sort; deps = deps; form = variable bound })) count' os (nodes ++ record { sort = sort; deps = deps; form = Variable bound } ∷ [])
+variable-kept s count os nodes sort deps bound kept word count' count-is =
+    kept-grown s count count' os os nodes (record { sort = sort; deps = deps; form = Variable bound }) m kept (λ i k at. refl) refl counted (small bound word count-is) form fresh
+    (inside-grown s.context sort deps bound kept.inside)
   where
-    n : Node
-    n = record { sort = sort; deps = deps; form = Variable bound }
+    m : Made
+    m = record { sort = sort; deps = deps; form = variable bound }
 
     one : (v : Bool) → length (if v then length s.context ∷ [] else []) ≡ (if v then 1 else 0)
     one true = refl
     one false = refl
 
     counted : count' ≡ length (bound_vars (s.context ++ binder_after s.context sort deps bound ∷ []))
-    counted = count-is ∙ ap (λ m. m + (if bound then 1 else 0)) kept.count ∙ ap (λ m. length (bound_vars s.context) + m) (sym (one bound))
+    counted = count-is ∙ ap (λ k. k + (if bound then 1 else 0)) kept.count ∙ ap (λ k. length (bound_vars s.context) + k) (sym (one bound))
         ∙ sym (length-append (bound_vars s.context) (if bound then length s.context ∷ [] else []))
         ∙ ap length (sym (bound-push s.context (binder_after s.context sort deps bound)))
 
@@ -131,172 +119,177 @@ variable-kept s count nodes table sort deps bound kept word count' count-is =
     small true (less, _) is = omega (arith, kept.count)
     small false _ is = omega (arith, kept.small)
 
-    form : Forms (entered s n) (length s.entries) (Variable bound)
-    form = (length s.context, binder_after s.context sort deps bound, ap (λ (e : Shared). e.tree) (entry-new s n), last-at s.context (binder_after s.context sort deps bound), refl)
+    form : Forms (entered s m) (length s.entries) (variable bound)
+    form = (length s.context, binder_after s.context sort deps bound, ap (λ (e : Shared). e.tree) (entry-new s m), last-at s.context (binder_after s.context sort deps bound), refl)
 
     fresh : (i : ℕ) → IsIn s i → tree_of s i ≡ var (length s.context) → ⊥
-    fresh i in_i same = go (node-at s count nodes table kept i in_i)
+    fresh i in_i same = go (node-at s count os nodes kept i in_i)
       where
-        other : (f : Form) → Forms s i f → ⊥
-        other (Variable v) (x, b, is, at, _) = (let e : x ≡ length s.context = var-place x (length s.context) (sym is ∙ same) in let less : x < length s.context = slice_get_within s.context x b at in omega arith)
+        other : (f : MadeOf) → Forms s i f → ⊥
+        other (variable v) (x, b, is, at, _) = (let e : x ≡ length s.context = var-place x (length s.context) (sym is ∙ same) in let less : x < length s.context = slice_get_within s.context x b at in omega arith)
           where
             var-place : (y z : ℕ) → var y ≡ var z → y ≡ z
             var-place y z e = cc
-        other (Application head operands) (_, is) = var-app (length s.context) head (trees_of s operands.items) (sym same ∙ is)
+        other (application head operands) (_, is) = var-app (length s.context) head (trees_of s operands) (sym same ∙ is)
 
-        go : (m : Node) × (slice_get nodes i ≡ Some m) × Shows s i m → ⊥
-        go (m, at, shows) = other m.form shows.form
-
-    listed : (h : ℕ) (is : List Id) (i : ℕ) → Has table h is i ↔ IsNode (nodes ++ n ∷ []) h is i
-    listed h is i = (to, from)
-      where
-        to : Has table h is i → IsNode (nodes ++ n ∷ []) h is i
-        to has = (let (m, at, of) = (kept.listed h is i).0 has in (m, extends_append nodes (n ∷ []) i m at, of))
-
-        from : IsNode (nodes ++ n ∷ []) h is i → Has table h is i
-        from (m, at, of) = elim (split_at nodes (n ∷ []) i m at) [
-          | inl here ↦ (kept.listed h is i).1 (m, here, of)
-          | inr later ↦ absurd (subst (λ (k : Node). IsOf k.form h is) (sym (only-last n m later.0 later.2).1) of)
-        ]
+        go : (k : Node) × (slice_get nodes i ≡ Some k) × Shows s i (made_of os k) → ⊥
+        go (k, at, shows) = other (made_of os k).form shows.form
 
 -- ---- one more term over operands
 
-of-one : (f : Form) (h k : ℕ) (is js : List Id) → IsOf f h is → IsOf f k js → (h ≡ k) × (is ≡ js)
-of-one (Variable bound) h k is js p q = absurd p
-of-one (Application head operands) h k is js p q = (sym p.0 ∙ q.0, sym p.1 ∙ q.1)
-
-pub application-kept : (s : Sharing) (count : ℕ) (nodes : List Node) (table table' : Table) (n : Node) (key-head : ℕ) (key-operands : List Id) → IsKept s count nodes table
-    → AreIn s key-operands → IsOf n.form key-head key-operands
-    → ((i : ℕ) → Holds s i (app key-head (trees_of s key-operands)) → ⊥)
-    → ((h : ℕ) (is : List Id) (i : ℕ) → Has table h is i → Has table' h is i)
-    → Has table' key-head key-operands (length nodes)
-    → ((h : ℕ) (is : List Id) (i : ℕ) → Has table' h is i → Has table h is i ⊎ ((key-head ≡ h) × (key-operands ≡ is) × (length nodes ≡ i)))
-    → IsKept (entered s n) count (nodes ++ n ∷ []) table'
-application-kept s count nodes table table' n key-head key-operands kept there of fresh still added alone =
-    kept-grown s count count nodes table table' n kept (counted n.form of) kept.small (form n.form of (ap (λ (e : Shared). e.tree) (entry-new s n))) (other n.form of) listed (inside n.form of)
+term-kept : (s : Sharing) (count : ℕ) (os news : List Id) (nodes : List Node) (n : Node) (sort deps t : ℕ) → IsKept s count os nodes → AllLie os nodes
+    → made_of (os ++ news) n ≡ record { sort = sort; deps = deps; form = application t news }
+    → AreIn s news → ((i : ℕ) → Holds s i (app t (trees_of s news)) → ⊥)
+    → IsKept (entered s (record { sort = sort; deps = deps; form = application t news })) count (os ++ news) (nodes ++ n ∷ [])
+term-kept s count os news nodes n sort deps t kept lie says there fresh =
+    kept-grown s count count os (os ++ news) nodes n m kept (λ i k at. made-kept os news k (lie i k at)) says kept.count kept.small form (λ i in_i same. fresh i (in_i, same)) kept.inside
   where
-    counted : (f : Form) → IsOf f key-head key-operands → count ≡ length (bound_vars (context_with s n f))
-    counted (Variable bound) nope = absurd nope
-    counted (Application head operands) _ = kept.count
+    m : Made
+    m = record { sort = sort; deps = deps; form = application t news }
 
-    inside : (f : Form) → IsOf f key-head key-operands → DepsInside (context_with s n f)
-    inside (Variable bound) nope = absurd nope
-    inside (Application head operands) _ = kept.inside
-
-    form : (f : Form) → IsOf f key-head key-operands → tree_of (entered s n) (length s.entries) ≡ tree_with s f → Forms (entered s n) (length s.entries) f
-    form (Variable bound) nope is = absurd nope
-    form (Application head operands) (_, operands-are) is = (
-      are-in-kept s (entered s n) (entered-begins s n) operands.items in-too,
-      is ∙ ap (app head) (sym (trees-kept s (entered s n) (entered-begins s n) operands.items in-too)),
+    form : Forms (entered s m) (length s.entries) (application t news)
+    form = (
+      are-in-kept s (entered s m) (entered-begins s m) news there,
+      ap (λ (e : Shared). e.tree) (entry-new s m) ∙ ap (app t) (sym (trees-kept s (entered s m) (entered-begins s m) news there)),
     )
-      where
-        in-too : AreIn s operands.items
-        in-too = subst (AreIn s) (sym operands-are) there
 
-    other : (f : Form) → IsOf f key-head key-operands → (i : ℕ) → IsIn s i → tree_of s i ≡ tree_with s f → ⊥
-    other (Variable bound) nope i in_i same = absurd nope
-    other (Application head operands) (head-is, operands-are) i in_i same =
-        fresh i (in_i, same ∙ ap (λ t. app t (trees_of s operands.items)) head-is ∙ ap (λ ks. app key-head (trees_of s ks)) operands-are)
+-- ---- what a look-up says
 
-    listed : (h : ℕ) (is : List Id) (i : ℕ) → Has table' h is i ↔ IsNode (nodes ++ n ∷ []) h is i
-    listed h is i = (to, from)
-      where
-        to : Has table' h is i → IsNode (nodes ++ n ∷ []) h is i
-        to has = elim (alone h is i has) [
-          | inl before ↦ (let (m, at, of-m) = (kept.listed h is i).0 before in (m, extends_append nodes (n ∷ []) i m at, of-m))
-          | inr new ↦ (n, subst (λ j. slice_get (nodes ++ n ∷ []) j ≡ Some n) new.2 (last-at nodes n), subst (λ t. IsOf n.form t is) new.0 (subst (IsOf n.form key-head) new.1 of))
-        ]
+pub found-holds : (s v : Sharing) (count : ℕ) (os : List Id) (nodes : List Node) → IsKept s count os nodes → s ≡ v → (h : ℕ) (is : List Id) (r : Option Id)
+    → IfSome r (λ id. IsNode (all_made os nodes) h is id.0) → IfSome r (λ id. Holds v id.0 (app h (trees_of v is)))
+found-holds s v count os nodes kept view h is None has = tt
+found-holds s v count os nodes kept view h is (Some id) has = subst (λ w. Holds w id.0 (app h (trees_of w is))) view (node-holds s count os nodes kept h is id.0 has)
 
-        from : IsNode (nodes ++ n ∷ []) h is i → Has table' h is i
-        from (m, at, of-m) = elim (split_at nodes (n ∷ []) i m at) [
-          | inl here ↦ still h is i ((kept.listed h is i).1 (m, here, of-m))
-          | inr later ↦ last later.0 later.1 (only-last n m later.0 later.2)
-        ]
-          where
-            last : (j : ℕ) → i ≡ length nodes + j → (j ≡ 0) × (n ≡ m) → Has table' h is i
-            last j place (zero-is, same) = (
-                let at-end : length nodes ≡ i = omega arith in
-                let one = of-one n.form key-head h key-operands is of (subst (λ (k : Node). IsOf k.form h is) (sym same) of-m) in
-                subst (Has table' h is) at-end (subst (λ t. Has table' t is (length nodes)) one.0 (subst (λ ks. Has table' key-head ks (length nodes)) one.1 added))
-                )
-
--- a table that has the same serves as well
-pub kept-table : (s : Sharing) (count : ℕ) (nodes : List Node) (table table' : Table) → IsKept s count nodes table
-    → ((h : ℕ) (is : List Id) (i : ℕ) → Has table' h is i ↔ Has table h is i) → IsKept s count nodes table'
-kept-table s count nodes table table' kept same = record {
-  many = kept.many;
-  count = kept.count;
-  small = kept.small;
-  inside = kept.inside;
-  shown = kept.shown;
-  listed = λ h is i. (λ has. (kept.listed h is i).0 ((same h is i).0 has), λ node. (same h is i).1 ((kept.listed h is i).1 node));
-  once = kept.once;
-}
-
--- ---- what the table's answer says
-
-pub found-holds : (s v : Sharing) (count : ℕ) (nodes : List Node) (table : Table) → IsKept s count nodes table → s ≡ v → (h : ℕ) (is : List Id) (r : Option Id)
-    → IfSome r (λ id. Has table h is id.0) → IfSome r (λ id. Holds v id.0 (app h (trees_of v is)))
-found-holds s v count nodes table kept view h is None has = tt
-found-holds s v count nodes table kept view h is (Some id) has =
-    subst (λ w. Holds w id.0 (app h (trees_of w is))) view (node-holds s count nodes table kept h is id.0 ((kept.listed h is id.0).0 has))
-
-pub missing-holds : (s v : Sharing) (count : ℕ) (nodes : List Node) (table : Table) → IsKept s count nodes table → s ≡ v → (h : ℕ) (is : List Id) → AreIn v is → (r : Option Id)
-    → IfNone r ((i : ℕ) → Has table h is i → ⊥) → IfNone r ((i : ℕ) → Holds v i (app h (trees_of v is)) → ⊥)
-missing-holds s v count nodes table kept view h is there (Some id) lacks = tt
-missing-holds s v count nodes table kept view h is there None lacks =
-    λ i holds. lacks i ((kept.listed h is i).1 (holds-node s count nodes table kept h is (subst (λ w. AreIn w is) (sym view) there) i
-    (subst (λ w. Holds w i (app h (trees_of w is))) (sym view) holds)))
+pub missing-holds : (s v : Sharing) (count : ℕ) (os : List Id) (nodes : List Node) → IsKept s count os nodes → s ≡ v → (h : ℕ) (is : List Id) → AreIn v is → (r : Option Id)
+    → IfNone r ((i : ℕ) → IsNode (all_made os nodes) h is i → ⊥) → IfNone r ((i : ℕ) → Holds v i (app h (trees_of v is)) → ⊥)
+missing-holds s v count os nodes kept view h is there (Some id) lacks = tt
+missing-holds s v count os nodes kept view h is there None lacks =
+    λ i holds. lacks i (holds-node s count os nodes kept h is (subst (λ w. AreIn w is) (sym view) there) i
+    (subst (λ w. Holds w i (app h (trees_of w is))) (sym view) holds))
 
 -- ---- the calls that add
+
+-- what the store keeps
+abbrev pub Keeps : DepsMode → ℕ → List Id → List Node → (ℕ → Option Id) → Type 0
+Keeps mode count os nodes newest = IsKept (sharing_of mode (all_made os nodes)) count os nodes × IsChained os nodes newest
+
+view-pushed : (mode : DepsMode) (os os' : List Id) (nodes nodes' : List Node) (m : Made) (v : Sharing) → sharing_of mode (all_made os nodes) ≡ v
+    → all_made os' nodes' ≡ all_made os nodes ++ m ∷ [] → sharing_of mode (all_made os' nodes') ≡ entered v m
+view-pushed mode os os' nodes nodes' m v view pushed =
+    ap (sharing_of mode) pushed ∙ entered-all-push (no_expressions mode) (all_made os nodes) m ∙ ap (λ s. entered s m) view
 
 byte-is : (v : Bool) → bool_byte v ≡ (if v then 1 else 0)
 byte-is true = refl
 byte-is false = refl
 
-pub enter-kept : (mode : DepsMode) (nodes nodes' : List Node) (count : ℕ) (table : Table) (sort deps : ℕ) (bound : Bool) (v : Sharing) (m : ℕ)
-    → IsKept (sharing_of mode nodes) count nodes table → sharing_of mode nodes ≡ v → IsVariableWord (length (bound_vars v.context)) deps bound → m ≡ bool_byte bound
-    → nodes' ≡ nodes ++ record { sort = sort; deps = deps; form = Variable bound } ∷ [] → IsKept (sharing_of mode nodes') (count + m) nodes' table
-enter-kept mode nodes nodes' count table sort deps bound v m kept view word m-is is =
-    pushed-kept mode nodes nodes' (record { sort = sort; deps = deps; form = Variable bound }) (count + m) table is
-    (variable-kept (sharing_of mode nodes) count nodes table sort deps bound kept
-    (subst (λ (s : Sharing). IsVariableWord (length (bound_vars s.context)) deps bound) (sym view) word) (count + m) (ap (λ k. count + k) (m-is ∙ byte-is bound)))
+-- a variable: no operands are added
+variable-pushed : (os : List Id) (nodes : List Node) (newest : ℕ → Option Id) (sort deps : ℕ) (bound : Bool) → IsChained os nodes newest
+    → all_made os (nodes ++ record { sort = sort; deps = deps; form = Variable bound } ∷ []) ≡ all_made os nodes ++ record { sort = sort; deps = deps; form = variable bound } ∷ []
+variable-pushed os nodes newest sort deps bound chained =
+    sym (ap (λ (is : List Id). all_made is (nodes ++ record { sort = sort; deps = deps; form = Variable bound } ∷ [])) (append-nil os))
+    ∙ all-pushed os [] nodes (record { sort = sort; deps = deps; form = Variable bound }) (record { sort = sort; deps = deps; form = variable bound }) (all-lie os nodes newest chained) refl
 
-pub enter-view : (mode : DepsMode) (nodes nodes' : List Node) (n : Node) (v : Sharing) → sharing_of mode nodes ≡ v → nodes' ≡ nodes ++ n ∷ [] → sharing_of mode nodes' ≡ entered v n
-enter-view mode nodes nodes' n v view is = pushed-view mode nodes nodes' n is ∙ ap (λ s. entered s n) view
+pub enter-view : (mode : DepsMode) (count : ℕ) (os : List Id) (nodes nodes' : List Node) (newest : ℕ → Option Id) (sort deps : ℕ) (bound : Bool) (v : Sharing) → Keeps mode count os nodes newest
+    → sharing_of mode (all_made os nodes) ≡ v → nodes' ≡ nodes ++ record { sort = sort; deps = deps; form = Variable bound } ∷ []
+    → sharing_of mode (all_made os nodes') ≡ entered v (record { sort = sort; deps = deps; form = variable bound })
+enter-view mode count os nodes nodes' newest sort deps bound v (_, chained) view is =
+    view-pushed mode os os nodes nodes' (record { sort = sort; deps = deps; form = variable bound }) v view
+    (ap (all_made os) is ∙ variable-pushed os nodes newest sort deps bound chained)
 
-pub enter-over : (mode : DepsMode) (nodes nodes' : List Node) (count : ℕ) (table : Table) (sort deps : ℕ) (bound : Bool) (v : Sharing)
-    → IsKept (sharing_of mode nodes) count nodes table → sharing_of mode nodes ≡ v → IsVariableWord (length (bound_vars v.context)) deps bound
+pub enter-kept : (mode : DepsMode) (count : ℕ) (os : List Id) (nodes nodes' : List Node) (newest : ℕ → Option Id) (sort deps : ℕ) (bound : Bool) (v : Sharing) (k : ℕ) → Keeps mode count os nodes newest
+    → sharing_of mode (all_made os nodes) ≡ v → IsVariableWord (length (bound_vars v.context)) deps bound → k ≡ bool_byte bound
+    → nodes' ≡ nodes ++ record { sort = sort; deps = deps; form = Variable bound } ∷ [] → Keeps mode (count + k) os nodes' newest
+enter-kept mode count os nodes nodes' newest sort deps bound v k (kept, chained) view word k-is is =
+    subst (λ (ns : List Node). Keeps mode (count + k) os ns newest) (sym is) (
+      subst (λ (s : Sharing). IsKept s (count + k) os (nodes ++ record { sort = sort; deps = deps; form = Variable bound } ∷ []))
+          (sym (enter-view mode count os nodes (nodes ++ record { sort = sort; deps = deps; form = Variable bound } ∷ []) newest sort deps bound (sharing_of mode (all_made os nodes)) (kept, chained) refl refl))
+          (variable-kept (sharing_of mode (all_made os nodes)) count os nodes sort deps bound kept
+          (subst (λ (s : Sharing). IsVariableWord (length (bound_vars s.context)) deps bound) (sym view) word) (count + k) (ap (λ j. count + j) (k-is ∙ byte-is bound))),
+      chained-variable os nodes newest sort deps bound chained,
+    )
+
+pub enter-over : (mode : DepsMode) (count : ℕ) (os : List Id) (nodes nodes' : List Node) (newest : ℕ → Option Id) (sort deps : ℕ) (bound : Bool) (v : Sharing) → Keeps mode count os nodes newest
+    → sharing_of mode (all_made os nodes) ≡ v → IsVariableWord (length (bound_vars v.context)) deps bound
     → nodes' ≡ nodes ++ record { sort = sort; deps = deps; form = Variable bound } ∷ []
-    → (sigs : List Signature) → IsOver sigs v → IsOver sigs (sharing_of mode nodes')
-enter-over mode nodes nodes' count table sort deps bound v kept view word is sigs over =
-    subst (IsOver sigs) (sym (enter-view mode nodes nodes' (record { sort = sort; deps = deps; form = Variable bound }) v view is))
-    (over-entered v sort deps bound (subst (λ (s : Sharing). DepsInside s.context) view kept.inside) word sigs over)
+    → (sigs : List Signature) → IsOver sigs v → IsOver sigs (sharing_of mode (all_made os nodes'))
+enter-over mode count os nodes nodes' newest sort deps bound v keeps view word is sigs over =
+    subst (IsOver sigs) (sym (enter-view mode count os nodes nodes' newest sort deps bound v keeps view is))
+    (over-entered v sort deps bound (subst (λ (s : Sharing). DepsInside s.context) view keeps.0.inside) word sigs over)
 
-pub not-listed : (s v : Sharing) (count : ℕ) (nodes : List Node) (table : Table) → IsKept s count nodes table → s ≡ v → (h : ℕ) (is : List Id)
-    → ((i : ℕ) → Holds v i (app h (trees_of v is)) → ⊥) → (i : ℕ) → Has table h is i → ⊥
-not-listed s v count nodes table kept view h is fresh i has =
-    fresh i (subst (λ w. Holds w i (app h (trees_of w is))) view (node-holds s count nodes table kept h is i ((kept.listed h is i).0 has)))
+-- a term: its operands are added
+pub term-view : (mode : DepsMode) (count : ℕ) (os os' news : List Id) (nodes nodes' : List Node) (newest : ℕ → Option Id) (sort deps : ℕ) (a : Term) (v : Sharing) → Keeps mode count os nodes newest
+    → sharing_of mode (all_made os nodes) ≡ v → os' ≡ os ++ news → a.from ≡ length os → a.to ≡ length os + length news
+    → nodes' ≡ nodes ++ record { sort = sort; deps = deps; form = Application a } ∷ []
+    → sharing_of mode (all_made os' nodes') ≡ entered v (record { sort = sort; deps = deps; form = application a.head news })
+term-view mode count os os' news nodes nodes' newest sort deps a v (_, chained) view os-is from-is to-is is =
+    view-pushed mode os os' nodes nodes' (record { sort = sort; deps = deps; form = application a.head news }) v view
+    (ap (λ (is : List Id). all_made is nodes') os-is ∙ ap (all_made (os ++ news)) is
+    ∙ all-pushed os news nodes (record { sort = sort; deps = deps; form = Application a }) (record { sort = sort; deps = deps; form = application a.head news })
+    (all-lie os nodes newest chained) (term-says os news sort deps a from-is to-is))
 
-pub add-kept : (mode : DepsMode) (nodes nodes' : List Node) (count : ℕ) (table table' : Table) (n : Node) (v : Sharing) (h : ℕ) (is : List Id) (id : ℕ)
-    → IsKept (sharing_of mode nodes) count nodes table → sharing_of mode nodes ≡ v → AreIn v is → IsOf n.form h is → ((i : ℕ) → Holds v i (app h (trees_of v is)) → ⊥)
-    → nodes' ≡ nodes ++ n ∷ [] → id ≡ length nodes
-    → ((k : ℕ) (js : List Id) (i : ℕ) → Has table k js i → Has table' k js i)
-    → Has table' h is id
-    → ((k : ℕ) (js : List Id) (i : ℕ) → Has table' k js i → Has table k js i ⊎ ((h ≡ k) × (is ≡ js) × (id ≡ i)))
-    → IsKept (sharing_of mode nodes') count nodes' table'
-add-kept mode nodes nodes' count table table' n v h is id kept view there of fresh pushed place still added alone =
-    pushed-kept mode nodes nodes' n count table' pushed (application-kept (sharing_of mode nodes) count nodes table table' n h is kept
-    (subst (λ w. AreIn w is) (sym view) there) of
-    (λ i holds. fresh i (subst (λ w. Holds w i (app h (trees_of w is))) view holds))
-    still (subst (Has table' h is) place added)
-    (subst (λ m. (k : ℕ) (js : List Id) (i : ℕ) → Has table' k js i → Has table k js i ⊎ ((h ≡ k) × (is ≡ js) × (m ≡ i))) place alone))
+pub add-kept : (mode : DepsMode) (count : ℕ) (os os' news : List Id) (nodes nodes' : List Node) (newest newest' : ℕ → Option Id) (sort deps : ℕ) (a : Term) (v : Sharing) (print : ℕ) (id : Id)
+    → Keeps mode count os nodes newest → sharing_of mode (all_made os nodes) ≡ v → os' ≡ os ++ news → a.from ≡ length os → a.to ≡ length os + length news
+    → nodes' ≡ nodes ++ record { sort = sort; deps = deps; form = Application a } ∷ []
+    → AreIn v news → ((i : ℕ) → Holds v i (app a.head (trees_of v news)) → ⊥)
+    → print ≡ print_of a.head news → a.earlier ≡ newest print → id.0 ≡ length nodes → Puts newest newest' print id
+    → Keeps mode count os' nodes' newest'
+add-kept mode count os os' news nodes nodes' newest newest' sort deps a v print id (kept, chained) view os-is from-is to-is is there fresh print-is earlier-is place puts =
+    subst (λ (ns : List Node). Keeps mode count os' ns newest') (sym is) (subst (λ (is : List Id). Keeps mode count is (nodes ++ n ∷ []) newest') (sym os-is) (
+      subst (λ (s : Sharing). IsKept s count (os ++ news) (nodes ++ n ∷ []))
+          (sym (term-view mode count os (os ++ news) news nodes (nodes ++ n ∷ []) newest sort deps a (sharing_of mode (all_made os nodes)) (kept, chained) refl refl from-is to-is refl))
+          (term-kept (sharing_of mode (all_made os nodes)) count os news nodes n sort deps a.head kept (all-lie os nodes newest chained) (term-says os news sort deps a from-is to-is)
+          (subst (λ w. AreIn w news) (sym view) there) (λ i holds. fresh i (subst (λ w. Holds w i (app a.head (trees_of w news))) view holds))),
+      chained-term os news nodes newest newest' sort deps a print id chained from-is to-is print-is earlier-is place puts,
+    ))
+  where
+    n : Node
+    n = record { sort = sort; deps = deps; form = Application a }
 
-pub undone-kept : (mode : DepsMode) (nodes nodes' : List Node) (count : ℕ) (table table' : Table)
-    → IsKept (sharing_of mode nodes) count nodes table → nodes' ≡ nodes
-    → ((h : ℕ) (is : List Id) (i : ℕ) → Has table' h is i ↔ Has table h is i) → IsKept (sharing_of mode nodes') count nodes' table'
-undone-kept mode nodes nodes' count table table' kept same has =
-    subst (λ ns. IsKept (sharing_of mode ns) count ns table') (sym same) (kept-table (sharing_of mode nodes) count nodes table table' kept has)
+-- operands are added, and no node
+pub more-view : (mode : DepsMode) (count : ℕ) (os os' news : List Id) (nodes nodes' : List Node) (newest : ℕ → Option Id) (v : Sharing) → Keeps mode count os nodes newest
+    → sharing_of mode (all_made os nodes) ≡ v → os' ≡ os ++ news → nodes' ≡ nodes → sharing_of mode (all_made os' nodes') ≡ v
+more-view mode count os os' news nodes nodes' newest v (_, chained) view is same =
+    ap (λ (ns : List Node). sharing_of mode (all_made os' ns)) same ∙ ap (λ (js : List Id). sharing_of mode (all_made js nodes)) is ∙ ap (sharing_of mode) (all-kept os news nodes (all-lie os nodes newest chained)) ∙ view
 
-pub undone : (nodes pushed popped : List Node) (n : Node) (m : ℕ) → pushed ≡ nodes ++ n ∷ [] → popped ≡ take m pushed → m ≡ length nodes → popped ≡ nodes
-undone nodes pushed popped n m is rest place = rest ∙ ap (λ k. take k pushed) place ∙ ap (take (length nodes)) is ∙ take-append_seam nodes (n ∷ [])
+pub more-kept : (mode : DepsMode) (count : ℕ) (os os' news : List Id) (nodes nodes' : List Node) (newest newest' : ℕ → Option Id) → Keeps mode count os nodes newest
+    → os' ≡ os ++ news → nodes' ≡ nodes → ((q : ℕ) → newest' q ≡ newest q) → Keeps mode count os' nodes' newest'
+more-kept mode count os os' news nodes nodes' newest newest' (kept, chained) is alike same =
+    subst (λ (ns : List Node). Keeps mode count os' ns newest') (sym alike) (subst (λ (js : List Id). Keeps mode count js nodes newest') (sym is) (
+      subst (λ (s : Sharing). IsKept s count (os ++ news) nodes) (sym (more-view mode count os (os ++ news) news nodes nodes newest (sharing_of mode (all_made os nodes)) (kept, chained) refl refl refl))
+          (record {
+            many = kept.many;
+            count = kept.count;
+            small = kept.small;
+            inside = kept.inside;
+            shown = λ i n at. subst (Shows (sharing_of mode (all_made os nodes)) i) (sym (made-kept os news n (all-lie os nodes newest chained i n at))) (kept.shown i n at);
+            once = kept.once;
+          }),
+      chained-by (os ++ news) nodes newest newest' (chained-more os news nodes newest chained) same,
+    ))
+
+-- ---- what a node shows
+
+pub shows-at : (mode : DepsMode) (count : ℕ) (os : List Id) (nodes : List Node) (newest : ℕ → Option Id) (v : Sharing) → Keeps mode count os nodes newest
+    → sharing_of mode (all_made os nodes) ≡ v → (i : ℕ) (n : Node) → IsIn v i → n ≡ get_or nodes i n → Shows v i (made_of os n)
+shows-at mode count os nodes newest v (kept, _) view i n inside is =
+    subst (λ w. Shows w i (made_of os n)) view (kept.shown i n (slice_get-get_or nodes i n within ∙ ap Some (sym is)))
+  where
+    within : i < length nodes
+    within = (let here : IsIn (sharing_of mode (all_made os nodes)) i = subst (λ w. IsIn w i) (sym view) inside in omega (arith, kept.many))
+
+pub form-at : (mode : DepsMode) (count : ℕ) (os : List Id) (nodes : List Node) (newest : ℕ → Option Id) (v : Sharing) → Keeps mode count os nodes newest
+    → sharing_of mode (all_made os nodes) ≡ v → (i : ℕ) (n : Node) → IsIn v i → n ≡ get_or nodes i n → (f : Form) → n.form ≡ f → Forms v i (form_of os f)
+form-at mode count os nodes newest v keeps view i n inside is f form-is =
+    subst (λ (g : Form). Forms v i (form_of os g)) form-is (shows-at mode count os nodes newest v keeps view i n inside is).form
+
+pub bound-variable : (v : Sharing) (i : ℕ) (bound : Bool) → Forms v i (variable bound) → IsTrue bound ↔ IsBoundVar v.context (tree_of v i)
+bound-variable v i bound (x, b, is, at, bound-is) = (λ t. (x, b, is, at, bound-is ∙ t), back)
+  where
+    place : (y z : ℕ) → var y ≡ var z → y ≡ z
+    place y z e = cc
+
+    back : IsBoundVar v.context (tree_of v i) → IsTrue bound
+    back (y, c, is', at', bd) = sym bound-is ∙ ap (λ (d : Binder). d.bound) (one_at at (subst (λ z. slice_get v.context z ≡ Some c) (place y x (sym is' ∙ is)) at')) ∙ bd
+
+pub bound-term : (v : Sharing) (i h : ℕ) (is : List Id) → Forms v i (application h is) → IsTrue false ↔ IsBoundVar v.context (tree_of v i)
+bound-term v i h is (_, tree-is) = (λ nope. absurd cc, λ it. absurd (var-app it.0 h (trees_of v is) (sym it.2 ∙ tree-is)))

@@ -7,17 +7,15 @@ use Rattle.mz_logic.specs.declared.word.Word.{Word}
 use Rattle.mz_logic.specs.declared.binder.Binder.{Binder}
 use Rattle.mz_store.specs.Bits.{bound_vars}
 use Rattle.mz_store.specs.Sharing.{Shared, Sharing, tree_of}
-use Rattle.mz_store.specs.Nodes.{entered, entered_all, variable_node, binder_after, tree_with, IsVariableWord}
-use Rattle.mz_store.specs.declared.node.Node.{Node}
-use Rattle.mz_store.specs.declared.node.Form.TheVariants.{Variable}
+use Rattle.mz_store.specs.Nodes.{Made, variable, entered, entered_all, variable_node, binder_after, tree_with, IsVariableWord}
 use Rattle.mz_store.proofs.Places.{bound-push}
 use Rattle.mz_store.proofs.Growing.{Begins, entry-new, entry-kept, last-in}
 
 pub node-is : (w : Word) (sort deps : ℕ) (bound : Bool) → sort ≡ word_sort w → deps ≡ word_deps w → bound ≡ word_bound w
-    → record { sort = sort; deps = deps; form = Variable bound } ≡ variable_node w
+    → record { sort = sort; deps = deps; form = variable bound } ≡ variable_node w
 node-is w sort deps bound s d b =
-    ap (λ x. record { sort = x; deps = deps; form = Variable bound }) s ∙ ap (λ x. record { sort = word_sort w; deps = x; form = Variable bound }) d
-    ∙ ap (λ x. record { sort = word_sort w; deps = word_deps w; form = Variable x }) b
+    ap (λ x. record { sort = x; deps = deps; form = variable bound }) s ∙ ap (λ x. record { sort = word_sort w; deps = x; form = variable bound }) d
+    ∙ ap (λ x. record { sort = word_sort w; deps = word_deps w; form = variable x }) b
 
 next-word : (ws : List Word) (i : ℕ) → i < length ws → drop i ws ≡ get_or ws i (record { 0 = 0 }) ∷ drop (i + 1) ws
 next-word ws i less = rw (add-one, drop-cons ws i (record { 0 = 0 }) less)
@@ -99,7 +97,7 @@ pub begun-many : (s : Sharing) (ws : List Word) → length (entered_all s (map v
 begun-many s [] = omega arith
 begun-many s (w ∷ ws) = begun-many (entered s (variable_node w)) ws ∙ ap (λ m. m + length ws) (one-longer s.entries _) ∙ (let e : suc (length s.entries) + length ws ≡ length s.entries + suc (length ws) = omega arith in e)
 
-all-begins : (s : Sharing) (ns : List Node) → Begins s (entered_all s ns)
+all-begins : (s : Sharing) (ns : List Made) → Begins s (entered_all s ns)
 all-begins s [] = ([], sym (append-nil s.entries))
 all-begins s (n ∷ ns) = (let (last, is) = all-begins (entered s n) ns in
     (record { tree = tree_with s n.form; sort = n.sort; deps = n.deps } ∷ last, is ∙ append_assoc s.entries (record { tree = tree_with s n.form; sort = n.sort; deps = n.deps } ∷ []) last))

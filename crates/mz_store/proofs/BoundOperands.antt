@@ -23,21 +23,21 @@ use Rattle.mz_store.proofs.Places.{none-in}
 abbrev pub At : Sharing → List Id → List Binder → ℕ → List ℕ → ℕ → Type 0
 At s is params bits places x = IsOperandAt params (trees_of s is) (places_set bits places) x
 
-set-split : (params : List Binder) (es : Trees) (i : ℕ) (rs : List ℕ) (x : ℕ) (v : Bool) → IsOperandAt params es (if v then i ∷ rs else rs) x
+pub set-split : (params : List Binder) (es : Trees) (i : ℕ) (rs : List ℕ) (x : ℕ) (v : Bool) → IsOperandAt params es (if v then i ∷ rs else rs) x
     → ((v ≡ true) × (IsBoundAt params i × (operand es i ≡ var x))) ⊎ IsOperandAt params es rs x
 set-split params es i rs x true h = elim (operand-split params es i rs x h) [ inl here ↦ inl (refl, here) | inr later ↦ inr later ]
 set-split params es i rs x false h = inr h
 
-set-here : (params : List Binder) (es : Trees) (i : ℕ) (rs : List ℕ) (x : ℕ) (v : Bool) → (v ≡ true) × (IsBoundAt params i × (operand es i ≡ var x))
+pub set-here : (params : List Binder) (es : Trees) (i : ℕ) (rs : List ℕ) (x : ℕ) (v : Bool) → (v ≡ true) × (IsBoundAt params i × (operand es i ≡ var x))
     → IsOperandAt params es (if v then i ∷ rs else rs) x
 set-here params es i rs x true (_, h) = operand-here params es i rs x h
 set-here params es i rs x false (off, h) = absurd cc
 
-set-later : (params : List Binder) (es : Trees) (i : ℕ) (rs : List ℕ) (x : ℕ) (v : Bool) → IsOperandAt params es rs x → IsOperandAt params es (if v then i ∷ rs else rs) x
+pub set-later : (params : List Binder) (es : Trees) (i : ℕ) (rs : List ℕ) (x : ℕ) (v : Bool) → IsOperandAt params es rs x → IsOperandAt params es (if v then i ∷ rs else rs) x
 set-later params es i rs x true h = operand-later params es i rs x h
 set-later params es i rs x false h = h
 
-tells-chosen : (places : List ℕ) (word part : ℕ) (v : Bool) (S : ℕ → Type 0) → part ≡ (if v then word else 0) → Tells places word S → Tells places part (λ x. (v ≡ true) × S x)
+pub tells-chosen : (places : List ℕ) (word part : ℕ) (v : Bool) (S : ℕ → Type 0) → part ≡ (if v then word else 0) → Tells places word S → Tells places part (λ x. (v ≡ true) × S x)
 tells-chosen places word part true S is tells k =
     subst (λ n. Tells places n (λ x. (true ≡ true) × S x)) (sym is) (tells-same places word S (λ x. (true ≡ true) × S x) (λ x h. (refl, h)) (λ x h. h.1) tells) k
 tells-chosen places word part false S is tells k = (

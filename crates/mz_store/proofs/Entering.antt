@@ -11,12 +11,11 @@ use Rattle.mz_logic.specs.declared.binder.Binder.{Binder}
 use Rattle.mz_logic.proofs.Offered.{one_at, none_some, Extends, extends_append, extends_itself, sort_extends, split_at, slice_get-append_add, DepsInside}
 use Rattle.mz_store.specs.Bits.{Tells, HasAt, bound_vars}
 use Rattle.mz_store.specs.Sharing.{Shared, Sharing, entry_of, IsOver, IsRight, IsTold}
-use Rattle.mz_store.specs.Nodes.{entered, binder_after, IsVariableWord}
+use Rattle.mz_store.specs.Nodes.{Made, variable, entered, binder_after, IsVariableWord}
 use Rattle.mz_store.specs.declared.item.DepsMode.{DepsMode}
 use Rattle.mz_store.specs.declared.item.DepsMode.TheVariants as of
-use Rattle.mz_store.specs.declared.node.Node.{Node}
-use Rattle.mz_store.specs.declared.node.Form.TheVariants.{Variable}
 use Rattle.mz_store.proofs.Places.{none-in, bound-push, bound-within, bound-once, set-to, set-from}
+use Rattle.mz_store.proofs.Chained.{last-at}
 use Rattle.mz_store.proofs.Longer.{told-extends, told-back, told-below}
 use Rattle.mz_store.proofs.Growing.{entered-begins, entry-kept, entry-new, in-cases}
 
@@ -28,10 +27,10 @@ less-or (suc k) (suc n) = elim (less-or k n) [ inl less ↦ inl (omega arith) | 
 -- ---- an expression of before
 
 -- the variables that the longer context adds lie past the shorter one
-abbrev AddsPast : List Binder → List Binder → Type 0
+abbrev pub AddsPast : List Binder → List Binder → Type 0
 AddsPast ctx ctx' = (new : List ℕ) × (bound_vars ctx' ≡ bound_vars ctx ++ new) × ((j x : ℕ) → slice_get new j ≡ Some x → length ctx ≤ x)
 
-tells-longer : (mode : DepsMode) (sigs : List Signature) (ctx ctx' : List Binder) → Extends ctx ctx' → AddsPast ctx ctx' → DepsInside ctx
+pub tells-longer : (mode : DepsMode) (sigs : List Signature) (ctx ctx' : List Binder) → Extends ctx ctx' → AddsPast ctx ctx' → DepsInside ctx
     → (e : Shared) → IsRight mode sigs ctx e → IsRight mode sigs ctx' e
 tells-longer mode sigs ctx ctx' l (new, is, past) inside e (sorted, tells) =
     (sort_extends sigs sigs ctx ctx' (extends_itself sigs) l e.tree e.sort sorted, λ k. (to k, from k))
@@ -56,11 +55,7 @@ tells-longer mode sigs ctx ctx' l (new, is, past) inside e (sorted, tells) =
 
 -- ---- the variable itself
 
-last-at : (ctx : List Binder) (b : Binder) → slice_get (ctx ++ b ∷ []) (length ctx) ≡ Some b
-last-at [] b = refl
-last-at (c ∷ ctx) b = last-at ctx b
-
-told-of-var : (mode : DepsMode) (sigs : List Signature) (ctx : List Binder) (places : List ℕ) (word y : ℕ)
+pub told-of-var : (mode : DepsMode) (sigs : List Signature) (ctx : List Binder) (places : List ℕ) (word y : ℕ)
     → Tells places word (λ x. InV ctx x (var y)) → Tells places word (IsTold mode sigs ctx (var y))
 told-of-var of.All sigs ctx places word y tells = tells
 told-of-var of.Free sigs ctx places word y tells = tells
@@ -69,7 +64,7 @@ only-one : (n : ℕ) (j x : ℕ) → slice_get (n ∷ []) j ≡ Some x → (j �
 only-one n zero x at = (refl, one_at refl at)
 only-one n (suc j) x at = absurd (none_some at)
 
-tells-variable : (ctx : List Binder) (sort deps : ℕ) (bound : Bool) → IsVariableWord (length (bound_vars ctx)) deps bound
+pub tells-variable : (ctx : List Binder) (sort deps : ℕ) (bound : Bool) → IsVariableWord (length (bound_vars ctx)) deps bound
     → Tells (bound_vars (ctx ++ binder_after ctx sort deps bound ∷ [])) deps (λ x. InV (ctx ++ binder_after ctx sort deps bound ∷ []) x (var (length ctx)))
 tells-variable ctx sort deps true (small, is) k = (to, from)
   where
@@ -146,7 +141,7 @@ inside-grown ctx sort deps bound inside i b at x has = elim (split_at ctx (binde
     new false zero is = (let (k, here, _) = set-from deps (bound_vars ctx) x (subst (λ (d : Binder). Contains d.deps x) (sym (one_at refl is)) has) in
         let below : x < 0 + length ctx = (bound-within 0 ctx k x here).1 in omega arith)
 
-adds-past : (ctx : List Binder) (b : Binder) → AddsPast ctx (ctx ++ b ∷ [])
+pub adds-past : (ctx : List Binder) (b : Binder) → AddsPast ctx (ctx ++ b ∷ [])
 adds-past ctx b = ((if b.bound then length ctx ∷ [] else []), bound-push ctx b, past b.bound)
   where
     past : (v : Bool) (j x : ℕ) → slice_get (if v then length ctx ∷ [] else []) j ≡ Some x → length ctx ≤ x
@@ -154,7 +149,7 @@ adds-past ctx b = ((if b.bound then length ctx ∷ [] else []), bound-push ctx b
     past false j x at = absurd (none_some at)
 
 pub over-entered : (s : Sharing) (sort deps : ℕ) (bound : Bool) → DepsInside s.context → IsVariableWord (length (bound_vars s.context)) deps bound
-    → (sigs : List Signature) → IsOver sigs s → IsOver sigs (entered s (record { sort = sort; deps = deps; form = Variable bound }))
+    → (sigs : List Signature) → IsOver sigs s → IsOver sigs (entered s (record { sort = sort; deps = deps; form = variable bound }))
 over-entered s sort deps bound inside word sigs over i in_i = elim (in-cases s n i in_i) [
   | inl before ↦ subst (IsRight s.mode sigs ctx') (sym (entry-kept s (entered s n) (entered-begins s n) i before))
       (tells-longer s.mode sigs s.context ctx' (extends_append s.context (b ∷ [])) (adds-past s.context b) inside (entry_of s i) (over i before))
@@ -164,8 +159,8 @@ over-entered s sort deps bound inside word sigs over i in_i = elim (in-cases s n
   ))
 ]
   where
-    n : Node
-    n = record { sort = sort; deps = deps; form = Variable bound }
+    n : Made
+    n = record { sort = sort; deps = deps; form = variable bound }
 
     b : Binder
     b = binder_after s.context sort deps bound

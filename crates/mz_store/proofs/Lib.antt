@@ -1,5 +1,8 @@
-mod KeyLaws
 pub mod Places
+mod Made
+mod Chained
+mod Finding
+mod SameIds
 mod Longer
 mod Growing
 mod Entering

@@ -1,13 +1,9 @@
 -- Words of variables: bit k stands for the k-th bound variable of a context (the .mmb format, on the
 -- bits of dependencies).
-use Rattle.std.specs.Prelude.{ℕ, suc, ◌≡◌, ◌↔◌, List, [], ◌∷◌, if◌then◌else◌, slice_get, Some}
+use Rattle.std.specs.Prelude.{ℕ, ◌≡◌, ◌↔◌, List, slice_get, Some}
 use Rattle.std.specs.Int.{bit_at}
 use Rattle.mz_logic.specs.declared.binder.Binder.{Binder}
-
--- the places of the bound variables, the first variable's place being i
-abbrev pub bound_from : ℕ → List Binder → List ℕ
-bound_from i [] = []
-bound_from i (b ∷ bs) = if b.bound then i ∷ bound_from (suc i) bs else bound_from (suc i) bs
+pub use Rattle.mz_logic.specs.WordsWritten.{bound_from}
 
 -- the places of the bound variables of a context, in order
 abbrev pub bound_vars : List Binder → List ℕ

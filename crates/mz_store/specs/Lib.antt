@@ -1,7 +1,8 @@
 pub mod Bits
 pub mod Sharing
 pub mod Nodes
-pub mod Keys
+pub mod Prints
+pub mod Chains
 pub mod Codes
 pub mod Kept
 pub mod Laws

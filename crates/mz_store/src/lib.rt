@@ -2,12 +2,12 @@
 //! comparing two numbers.
 #![tactic(auto)]
 
+mod chain;
 mod deps;
 mod item;
 mod laws;
 mod node;
 mod store;
-mod table;
 
 pub use item::{DepsMode, Id, Item};
 pub use laws::{old_ids_keep_their_trees, words_meet};

@@ -6,16 +6,16 @@ ghost use Rattle.mz_logic.specs.Tree.{var, app};
 ghost use Rattle.mz_logic.specs.Words.{BitsRight, BitsRightAfter, binders_of, signatures_of};
 ghost use Rattle.mz_store.specs.Bits.{Tells, bound_vars};
 ghost use Rattle.mz_store.specs.Sharing.{IsIn, AreIn, Holds, tree_of, trees_of, sort_of, deps_of, head_of, operands_of, IsOver, IsTold, CanTake, KeepsIds, IsEmpty, dummy_binder};
-ghost use Rattle.mz_store.specs.Nodes.{IsVariableWord, variable_node, entered, entered_all};
-ghost use Rattle.mz_store.specs.Keys.{IsOf};
-ghost use Rattle.mz_store.specs.declared.node.Form.TheVariants.{Variable};
+ghost use Rattle.mz_store.specs.Nodes.{IsVariableWord, variable, application, variable_node, entered, entered_all};
+ghost use Rattle.mz_store.specs.Prints.{print_of};
 
+use crate::chain::{find, print_of};
 use crate::deps::deps_of_term;
 use crate::item::{DepsMode, Id};
-use crate::node::{Form, Node};
-use crate::table::{Key, Table};
+use crate::node::{Application, Form, Node};
 use mz_logic::{Terms, Word};
 use std::alloc::{AllocError, Global};
+use std::collections::HashMap;
 use std::marker::Model;
 
 /// Expressions over the variables of one context, each kept once: two ids are equal exactly where
@@ -29,7 +29,10 @@ pub struct Store {
     mode: DepsMode,
     bound_count: u32,
     nodes: Vec<Node>,
-    table: Table,
+    // of all terms, one after another
+    operands: Vec<Id>,
+    // from a print to the last term that has it
+    newest: HashMap<u64, Id>,
 }
 
 impl Model for Store {
@@ -40,12 +43,14 @@ impl Model for Store {
 
     ghost coded = { sharing_code };
 
-    ghost use Rattle.mz_store.specs.Nodes.{sharing_of};
-    ghost use Rattle.mz_store.specs.Kept.{IsKept};
+    ghost use Rattle.std.specs.Prelude.{nat_eq};
+    ghost use Rattle.std.specs.HashMap.{get};
+    ghost use Rattle.mz_store.specs.Nodes.{all_made, sharing_of};
+    ghost use Rattle.mz_store.specs.Kept.{IsKept, IsChained};
 
-    ghost view = { λ s. sharing_of s.mode s.nodes.items };
+    ghost view = { λ s. sharing_of s.mode (all_made s.operands.items s.nodes.items) };
 
-    ghost invariant = { λ s. IsKept (sharing_of s.mode s.nodes.items) s.bound_count s.nodes.items s.table };
+    ghost invariant = { λ s. IsKept (sharing_of s.mode (all_made s.operands.items s.nodes.items)) s.bound_count s.operands.items s.nodes.items × IsChained s.operands.items s.nodes.items (get nat_eq s.newest) };
 }
 
 impl Store {
@@ -58,7 +63,8 @@ impl Store {
             mode: DepsMode::All,
             bound_count: 0,
             nodes: Vec::new(alloc),
-            table: Table::new(alloc),
+            operands: Vec::new(alloc),
+            newest: HashMap::new(alloc),
         }
     }
 
@@ -94,7 +100,8 @@ impl Store {
         self.mode = mode;
         self.bound_count = 0;
         self.nodes.clear();
-        self.table.clear();
+        self.operands.clear();
+        self.newest.clear();
     }
 
     /// Enters the variables that the words say.
@@ -112,7 +119,7 @@ impl Store {
     /// Adds a variable, whose word must say exactly what a variable after the present ones is.
     fn enter(&mut self, sort: u32, deps: u64, bound: bool) -> Result<(), AllocError>
         requires { IsVariableWord (length (bound_vars self.old.context)) deps bound }
-        ensures ok { OnOk result (self.new ≡ entered self.old (record { sort = sort; deps = deps; form = Variable bound })) }
+        ensures ok { OnOk result (self.new ≡ entered self.old (record { sort = sort; deps = deps; form = variable bound })) }
         ensures over { OnOk result ((sigs : List Signature) → IsOver sigs self.old → IsOver sigs self.new) }
         ensures err { OnErr result (self.new ≡ self.old) }
     {
@@ -165,47 +172,62 @@ impl Store {
         ensures over { OnOk result (IsOver (signatures_of (T.all_terms terms.now)) self.new) }
         ensures err { OnErr result (self.new ≡ self.old) }
     {
-        let key = Key::new(self.alloc, t, args)?;
-        if let Some(id) = self.find(&key) {
+        let print = print_of(t, args);
+        if let Some(id) = self.look_up(print, t, args) {
             return Ok(id);
         }
         let deps = deps_of_term(self.alloc, self, terms, t, args)?;
-        let operands = Vec::from_slice(self.alloc, args)?;
-        let node = Node {
-            sort: terms.result(t).sort(),
-            deps,
-            form: Form::Application(t, operands),
-        };
-        self.add(key, node)
+        self.add(print, terms.result(t).sort(), deps, t, args)
     }
 
-    /// The id of the term over operands that has this key, if there is one.
-    fn find(&self, key: &Key) -> Option<Id>
-        requires { AreIn self.now key.now.operands.items }
-        ensures some { IfSome result (λ id. Holds self.now id.0 (app key.now.head (trees_of self.now key.now.operands.items))) }
-        ensures none { IfNone result ((i : ℕ) → Holds self.now i (app key.now.head (trees_of self.now key.now.operands.items)) → ⊥) }
+    /// The id of the term `t` over these expressions, which have this print, if it has one.
+    fn look_up(&self, print: u64, t: u32, args: &[Id]) -> Option<Id>
+        requires ids { AreIn self.now args.now }
+        requires print { print ≡ print_of t args.now }
+        ensures some { IfSome result (λ id. Holds self.now id.0 (app t (trees_of self.now args.now))) }
+        ensures none { IfNone result ((i : ℕ) → Holds self.now i (app t (trees_of self.now args.now)) → ⊥) }
     {
-        self.table.find(key)
+        let newest = self.newest.get(&print).copied();
+        find(&self.nodes, &self.operands, newest, t, args)
     }
 
-    /// Adds the term over operands that has this key, which isn't there.
-    fn add(&mut self, key: Key, node: Node) -> Result<Id, AllocError>
-        requires ids { AreIn self.old key.operands.items }
-        requires form { IsOf node.form key.head key.operands.items }
-        requires fresh { (i : ℕ) → Holds self.old i (app key.head (trees_of self.old key.operands.items)) → ⊥ }
+    /// Adds the term `t` over these expressions, which have this print and aren't there.
+    fn add(
+        &mut self,
+        print: u64,
+        sort: u32,
+        deps: u64,
+        t: u32,
+        args: &[Id],
+    ) -> Result<Id, AllocError>
+        requires ids { AreIn self.old args.now }
+        requires print { print ≡ print_of t args.now }
+        requires fresh { (i : ℕ) → Holds self.old i (app t (trees_of self.old args.now)) → ⊥ }
         ensures id { IfOk result (λ id. id.0 ≡ length self.old.entries) }
-        ensures ok { OnOk result (self.new ≡ entered self.old node) }
+        ensures ok { OnOk result (self.new ≡ entered self.old (record { sort = sort; deps = deps; form = application t args.now })) }
         ensures err { OnErr result (self.new ≡ self.old) }
     {
+        let from = self.operands.len();
+        self.operands.extend_from_slice(args)?;
+        let to = self.operands.len();
+        self.nodes.reserve(1)?;
         let id = Id(self.nodes.len() as u64);
-        self.nodes.push(node)?;
-        match self.table.insert(key, id) {
-            Ok(()) => Ok(id),
-            Err(failed) => {
-                self.nodes.pop();
-                Err(failed)
-            }
-        }
+        let earlier = self.newest.insert(print, id)?;
+        let made = Application {
+            head: t,
+            from,
+            to,
+            earlier,
+        };
+        let Ok(()) = self.nodes.push(Node {
+            sort,
+            deps,
+            form: Form::Application(made),
+        })
+        else {
+            unreachable!();
+        };
+        Ok(id)
     }
 
     /// How many expressions there are: their ids are the numbers below.
@@ -226,7 +248,7 @@ impl Store {
     pub fn once(&self)
         ensures { (i j : ℕ) → IsIn self.now i → IsIn self.now j → tree_of self.now i ≡ tree_of self.now j → i ≡ j }
     {
-        let _ = &self.table;
+        let _ = &self.newest;
     }
 
     /// Whether two expressions are the same.
@@ -237,7 +259,7 @@ impl Store {
         ensures ids { IsTrue result ↔ (a ≡ b) }
     {
         // Different ids have different trees: the store's invariant.
-        let _ = &self.table;
+        let _ = &self.newest;
         a == b
     }
 
@@ -265,7 +287,10 @@ impl Store {
         requires { IsIn self.now id.0 }
         ensures { IsTrue result ↔ IsBoundVar self.now.context (tree_of self.now id.0) }
     {
-        matches!(self.nodes[id.0 as usize].form, Form::Variable(true))
+        match self.nodes[id.0 as usize].form {
+            Form::Variable(bound) => bound,
+            Form::Application(_) => false,
+        }
     }
 
     /// The number of the term that the expression is an application of, and `None` for a variable.
@@ -275,7 +300,7 @@ impl Store {
     {
         match &self.nodes[id.0 as usize].form {
             Form::Variable(_) => None,
-            Form::Application(head, _) => Some(*head),
+            Form::Application(made) => Some(made.head),
         }
     }
 
@@ -287,7 +312,7 @@ impl Store {
     {
         match &self.nodes[id.0 as usize].form {
             Form::Variable(_) => &[],
-            Form::Application(_, operands) => operands,
+            Form::Application(made) => &self.operands[made.from..made.to],
         }
     }
 

@@ -8,7 +8,7 @@ use Rattle.mz_unification.specs.Spells.{SpellsTerm, SpellsThm, dummy_of}
 use Rattle.mz_soundness.specs.Bodies.{Runs}
 use Rattle.mz_layout.specs.Heads.{body_bytes}
 use Rattle.mz_soundness.specs.FileRows.{term_of_file, thm_of_file}
-use Rattle.mz_soundness.specs.Tables.{Declares}
+use Rattle.mz_soundness.specs.MachineState.{Declares}
 use Rattle.mz_earlier.specs.OwnRow.{MayRun, heading_of}
 use Rattle.mz_earlier.specs.Before.{tables_before}
 use Rattle.mz_layout.specs.declared.taken.Rows.{Rows}

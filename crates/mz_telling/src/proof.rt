@@ -8,7 +8,7 @@ ghost use Rattle.mz_unspell.specs.Rows.{Grows};
 ghost use Rattle.mz_telling.specs.Telling.{IsProved, MakesProof, MakesSome};
 ghost use Rattle.mz_trace.specs.Runs.{ClaimsIn, IsTraced};
 ghost use Rattle.mz_layout.specs.Heads.{body_bytes};
-ghost use Rattle.mz_soundness.specs.Tables.{Declares};
+ghost use Rattle.mz_soundness.specs.MachineState.{Declares};
 ghost use Rattle.mz_earlier.specs.OwnRow.{heading_of};
 ghost use Rattle.mz_earlier.specs.Before.{tables_before};
 

@@ -4,7 +4,7 @@ use Rattle.std.specs.Prelude.{slice_get}
 use Rattle.std.proofs.lemmas.List.{append-nil, append_assoc}
 use Rattle.mz_logic.specs.Tree.{Trees, var, app}
 use Rattle.mz_unification.specs.Spells.{trees_of}
-use Rattle.mz_soundness.specs.Tables.{Tables}
+use Rattle.mz_soundness.specs.MachineState.{RowsBefore}
 use Rattle.mz_trace.specs.Nodes.{Value, an_expression, expressions_at, value_of, values_after, values, AreExpressions, HasArity, HasParts, HavePartsAfter, HaveParts, IsApplication, Applies}
 use Rattle.mz_trace.specs.declared.node.RunNode.{RunNode}
 use Rattle.mz_trace.specs.declared.node.RunNode.TheVariants as node
@@ -16,7 +16,7 @@ pub after-push : (vs : List Value) (ns : List RunNode) (n : RunNode) → values_
 after-push vs [] n = refl
 after-push vs (m ∷ ns) n = after-push (vs ++ value_of vs m ∷ []) ns n
 
-pub parts-push : (tables : Tables) (vs : List Value) (ns : List RunNode) (n : RunNode) → HavePartsAfter tables vs ns → HasParts tables (values_after vs ns) n → HavePartsAfter tables vs (ns ++ n ∷ [])
+pub parts-push : (tables : RowsBefore) (vs : List Value) (ns : List RunNode) (n : RunNode) → HavePartsAfter tables vs ns → HasParts tables (values_after vs ns) n → HavePartsAfter tables vs (ns ++ n ∷ [])
 parts-push tables vs [] n h hn = (hn, tt)
 parts-push tables vs (m ∷ ns) n h hn = (h.0, parts-push tables (vs ++ value_of vs m ∷ []) ns n h.1 hn)
 
@@ -41,10 +41,10 @@ begins : (vs : List Value) (ns : List RunNode) → (more : List Value) × (value
 begins vs [] = ([], sym (append-nil vs))
 begins vs (n ∷ ns) = let (more, is) = begins (vs ++ value_of vs n ∷ []) ns in (value_of vs n ∷ more, is ∙ append_assoc vs (value_of vs n ∷ []) more)
 
-abbrev Shows : Tables → List Value → ℕ → RunNode → Type 0
+abbrev Shows : RowsBefore → List Value → ℕ → RunNode → Type 0
 Shows tables vs i n = (slice_get vs i ≡ Some (value_of vs n)) × HasParts tables vs n
 
-here : (tables : Tables) (vs : List Value) (ns : List RunNode) (n : RunNode) → HasParts tables vs n → Shows tables (values_after vs (n ∷ ns)) (length vs) n
+here : (tables : RowsBefore) (vs : List Value) (ns : List RunNode) (n : RunNode) → HasParts tables vs n → Shows tables (values_after vs (n ∷ ns)) (length vs) n
 here tables vs ns n h =
     let (more, is) = begins (vs ++ value_of vs n ∷ []) ns in
     let one : HasParts tables (vs ++ value_of vs n ∷ []) n = grown-parts vs (value_of vs n ∷ []) tables n h in
@@ -54,7 +54,7 @@ here tables vs ns n h =
       grown-parts (vs ++ value_of vs n ∷ []) more tables n one,
     )
 
-shown-after : (tables : Tables) (vs : List Value) (ns : List RunNode) (i : ℕ) (n : RunNode) → HavePartsAfter tables vs ns → slice_get ns i ≡ Some n
+shown-after : (tables : RowsBefore) (vs : List Value) (ns : List RunNode) (i : ℕ) (n : RunNode) → HavePartsAfter tables vs ns → slice_get ns i ≡ Some n
     → Shows tables (values_after vs ns) (length vs + i) n
 shown-after tables vs [] i n h at = absurd cc
 shown-after tables vs (m ∷ ns) zero n h at =
@@ -66,7 +66,7 @@ shown-after tables vs (m ∷ ns) (suc i) n h at =
     let place : length (vs ++ value_of vs m ∷ []) + i ≡ length vs + suc i = omega (arith, one) in
     subst (λ k. Shows tables (values_after vs (m ∷ ns)) k n) place (shown-after tables (vs ++ value_of vs m ∷ []) ns i n h.1 at)
 
-pub shown : (tables : Tables) (ns : List RunNode) (i : ℕ) (n : RunNode) → HaveParts tables ns → slice_get ns i ≡ Some n → Shows tables (values ns) i n
+pub shown : (tables : RowsBefore) (ns : List RunNode) (i : ℕ) (n : RunNode) → HaveParts tables ns → slice_get ns i ≡ Some n → Shows tables (values ns) i n
 shown tables ns i n h at = subst (λ k. Shows tables (values ns) k n) (zero-plus i) (shown-after tables [] ns i n h at)
 
 -- there are as many nodes as values
@@ -78,11 +78,11 @@ node-at (z ∷ xs) (y ∷ ys) (suc i) x many at = node-at xs ys i x (omega (arit
 
 -- ---- applications
 
-abbrev pub IsApplicationOf : Tables → List Value → ℕ → Trees → Option RunNode → Type 0
+abbrev pub IsApplicationOf : RowsBefore → List Value → ℕ → Trees → Option RunNode → Type 0
 IsApplicationOf tables vs t es o = IsApplication o
     × ((u : ℕ) (os : List ℕ) → Applies o u os → (u ≡ t) × (es ≡ trees_of (expressions_at vs os)) × AreExpressions vs os × HasArity tables t (length os))
 
-of-node : (tables : Tables) (vs : List Value) (i t : ℕ) (es : Trees) (n : RunNode) → Shows tables vs i n → slice_get vs i ≡ Some (an_expression (app t es)) → IsApplicationOf tables vs t es (Some n)
+of-node : (tables : RowsBefore) (vs : List Value) (i t : ℕ) (es : Trees) (n : RunNode) → Shows tables vs i n → slice_get vs i ≡ Some (an_expression (app t es)) → IsApplicationOf tables vs t es (Some n)
 of-node tables vs i t es (node.Var x) h at = absurd (let no : Some (an_expression (var x)) ≡ Some (an_expression (app t es)) = sym h.0 ∙ at in cc)
 of-node tables vs i t es (node.App s ops) h at =
     let is : Some (an_expression (app s (trees_of (expressions_at vs ops.items)))) ≡ Some (an_expression (app t es)) = sym h.0 ∙ at in
@@ -98,7 +98,7 @@ of-node tables vs i t es (node.Sym c) h at = absurd (let no = sym h.0 ∙ at in 
 of-node tables vs i t es (node.Cong s cs) h at = absurd (let no = sym h.0 ∙ at in cc)
 of-node tables vs i t es (node.Unfold s e os ys c) h at = absurd (let no = sym h.0 ∙ at in cc)
 
-pub application-at : (tables : Tables) (ns : List RunNode) (i t : ℕ) (es : Trees) → HaveParts tables ns → slice_get (values ns) i ≡ Some (an_expression (app t es))
+pub application-at : (tables : RowsBefore) (ns : List RunNode) (i t : ℕ) (es : Trees) → HaveParts tables ns → slice_get (values ns) i ≡ Some (an_expression (app t es))
     → IsApplicationOf tables (values ns) t es (slice_get ns i)
 application-at tables ns i t es h at =
     let (n, is) = node-at (values ns) ns i (an_expression (app t es)) (all-values ns) at in

@@ -7,7 +7,7 @@ use Rattle.mz_unification.specs.Profile.{strict, expr, proof, obligation, conver
 use Rattle.mz_unification.specs.Profile.{Item as MachineItem}
 use Rattle.mz_unification.specs.Spells.{dummy_of}
 use Rattle.mz_unification.proofs.Offered.{from_bind}
-use Rattle.mz_soundness.specs.Tables.{Tables, State, is_theorem, Heading}
+use Rattle.mz_soundness.specs.MachineState.{RowsBefore, State, is_theorem, Heading}
 use Rattle.mz_soundness.specs.ProofMachine.{own_variables, last_item, ends_with, proof_end}
 use Rattle.mz_soundness.specs.Bodies.{body_start, body_from, Runs}
 use Rattle.mz_layout.specs.Tables.{thm_row}
@@ -47,7 +47,7 @@ bare-begun (suc n) =
     let before = bare-begun n in
     record { stack = before.stack; hyps = before.hyps; lets = before.lets; dummies = before.dummies; variables = omega (arith, before.variables) }
 
-held-begun : (tables : Tables) (n : ℕ) (ps : List Binder) → length ps ≡ n → IsHeld tables ps (begun n)
+held-begun : (tables : RowsBefore) (n : ℕ) (ps : List Binder) → length ps ≡ n → IsHeld tables ps (begun n)
 held-begun tables zero [] is = record { nodes = tt; heap = tt; hyps = tt; lets = tt; variables = refl }
 held-begun tables zero (p ∷ ps) is = absurd (omega (arith, is))
 held-begun tables (suc n) [] is = absurd (omega (arith, is))
@@ -71,7 +71,7 @@ own-last : (i : ℕ) (p : Binder) (ps : List Binder) → own_variables strict i 
 own-last i p [] = ap (λ (k : ℕ). var k ∷ []) (omega arith)
 own-last i p (q ∷ qs) = ap (λ (ts : List Tree). var i ∷ ts) (own-last (suc i) q qs ∙ ap (λ (k : ℕ). own_variables strict (suc i) qs ++ var k ∷ []) (next-to i (length qs)))
 
-heap-begun : (tables : Tables) (n : ℕ) (ps : List Binder) → length ps ≡ n → map (item_at (values_in (begun n))) (begun n).heap ≡ map expr (own_variables strict 0 ps)
+heap-begun : (tables : RowsBefore) (n : ℕ) (ps : List Binder) → length ps ≡ n → map (item_at (values_in (begun n))) (begun n).heap ≡ map expr (own_variables strict 0 ps)
 heap-begun tables zero [] is = refl
 heap-begun tables zero (p ∷ ps) is = absurd (omega (arith, is))
 heap-begun tables (suc n) [] is = absurd (omega (arith, is))
@@ -90,7 +90,7 @@ last-expression : (ps : List Binder) → map (λ (b : Binder). expression) ps ++
 last-expression [] = refl
 last-expression (p ∷ ps) = ap (λ (xs : List Part). expression ∷ xs) (last-expression ps)
 
-parts-begun : (tables : Tables) (n : ℕ) (ps : List Binder) → length ps ≡ n → map (part_at (values_in (begun n))) (begun n).heap ≡ map (λ (b : Binder). expression) ps
+parts-begun : (tables : RowsBefore) (n : ℕ) (ps : List Binder) → length ps ≡ n → map (part_at (values_in (begun n))) (begun n).heap ≡ map (λ (b : Binder). expression) ps
 parts-begun tables zero [] is = refl
 parts-begun tables zero (p ∷ ps) is = absurd (omega (arith, is))
 parts-begun tables (suc n) [] is = absurd (omega (arith, is))
@@ -101,7 +101,7 @@ parts-begun tables (suc n) (p ∷ ps) is =
     heap_parts-more tables ps s (node.Var s.variables) held tt (Expr (length s.nodes)) expression refl
     ∙ ap (λ (xs : List Part). xs ++ expression ∷ []) (parts-begun tables n ps few) ∙ last-expression ps
 
-module _ (tables : Tables) (h : Heading) (n : ℕ) (many : length h.params ≡ n) where
+module _ (tables : RowsBefore) (h : Heading) (n : ℕ) (many : length h.params ≡ n) where
   bare : IsBare (begun n) n
   bare = bare-begun n
 
@@ -129,13 +129,13 @@ last-is (conversion l r ∷ xs) e is = absurd cc
 last-is (proof x ∷ []) e is = let same : x ≡ e = cc in ap one-proof same
 last-is (proof x ∷ y ∷ xs) e is = absurd cc
 
-proof-left : (tables : Tables) (h : Heading) (st end : State Tree) → h.kind ≡ is_theorem → proof_end strict tables h st ≡ Ok end → (e : Tree) × (st.stack ≡ one-proof e)
+proof-left : (tables : RowsBefore) (h : Heading) (st end : State Tree) → h.kind ≡ is_theorem → proof_end strict tables h st ≡ Ok end → (e : Tree) × (st.stack ≡ one-proof e)
 unfolding proof_end ends_with
 proof-left tables h st end kind done =
     from_bind (ends_with strict tables h st) _ end done λ m m-is e1.
     from_bind (last_item h.kind st.stack) _ m m-is λ e e-is e2. (e, last-is st.stack e (subst (λ k. last_item k st.stack ≡ Ok e) kind e-is))
 
-none-left : (tables : Tables) (vs : List Value) (xs : List Entry) → IsStack tables vs xs → items_at vs xs ≡ [] → xs ≡ []
+none-left : (tables : RowsBefore) (vs : List Value) (xs : List Entry) → IsStack tables vs xs → items_at vs xs ≡ [] → xs ≡ []
 none-left tables vs [] h is = refl
 none-left tables vs (Held (Expr e) ∷ xs) h is = absurd cc
 none-left tables vs (Held (ProofItem e p) ∷ xs) h is = absurd cc
@@ -147,7 +147,7 @@ none-left tables vs (ForOperand t done left ∷ xs) h is = absurd h
 none-left tables vs (ForUnfolded t e es ys ∷ xs) h is = absurd h
 none-left tables vs (ForCut l r ∷ xs) h is = absurd h
 
-one-left : (tables : Tables) (vs : List Value) (xs : List Entry) (d : Tree) → IsStack tables vs xs → items_at vs xs ≡ one-proof d → (e p : ℕ) × (xs ≡ Held (ProofItem e p) ∷ [])
+one-left : (tables : RowsBefore) (vs : List Value) (xs : List Entry) (d : Tree) → IsStack tables vs xs → items_at vs xs ≡ one-proof d → (e p : ℕ) × (xs ≡ Held (ProofItem e p) ∷ [])
 one-left tables vs [] d h is = absurd cc
 one-left tables vs (Held (Expr e) ∷ xs) d h is = absurd cc
 one-left tables vs (Held (ProofItem e p) ∷ xs) d h is =
@@ -160,13 +160,13 @@ one-left tables vs (ForOperand t done left ∷ xs) d h is = absurd h
 one-left tables vs (ForUnfolded t e es ys ∷ xs) d h is = absurd h
 one-left tables vs (ForCut l r ∷ xs) d h is = absurd h
 
-pub has-root : (tables : Tables) (h : Heading) (s : Stage) (end : State Tree) → h.kind ≡ is_theorem → IsMade tables h.params s → proof_end strict tables h (state_of h.params s) ≡ Ok end → HasRoot s
+pub has-root : (tables : RowsBefore) (h : Heading) (s : Stage) (end : State Tree) → h.kind ≡ is_theorem → IsMade tables h.params s → proof_end strict tables h (state_of h.params s) ≡ Ok end → HasRoot s
 has-root tables h s end kind made done =
     let (e, is) = proof-left tables h (state_of h.params s) end kind done in one-left tables (values_in s) s.stack e made.1 is
 
 -- ---- the run
 
-module _ (tables : Tables) (h : Heading) (bytes : List ℕ) (s : Stage) (r : Run) (made : IsMade tables h.params s) (fin : IsFinished s r) where
+module _ (tables : RowsBefore) (h : Heading) (bytes : List ℕ) (s : Stage) (r : Run) (made : IsMade tables h.params s) (fin : IsFinished s r) where
   abbrev vs : List Value
   vs = values_in s
 
@@ -191,7 +191,7 @@ module _ (tables : Tables) (h : Heading) (bytes : List ℕ) (s : Stage) (r : Run
 
 module _ (file bytes : List ℕ) (row : ℕ) (before : Rows) (may : MayRun file 0x06 row before) (runs : (at : ℕ) × Runs strict (tables_before file before) (heading_of file 0x06 row) at bytes)
     (start : Stage) (arity : ℕ) (arity-is : arity ≡ length (thm_row file row).params) (is : start ≡ begun arity) where
-  abbrev rows : Tables
+  abbrev rows : RowsBefore
   rows = tables_before file before
 
   abbrev own : Heading

@@ -5,16 +5,15 @@ use Rattle.std.proofs.lemmas.List.{drop_at}
 use Rattle.std.proofs.lemmas.Option.{get_or_from_slice_get}
 use Rattle.mz_logic.specs.Tree.{Tree, var, app, none, instance, followed_by, variables}
 use Rattle.mz_logic.specs.Signature.{Signature}
-use Rattle.mz_logic.specs.Declaration.{Form, plain_form, abstract_form, defined, Term, Declaration, terms, signatures}
+use Rattle.mz_logic.specs.Declaration.{Form, plain_form, abstract_form, defined, Term, Declaration, terms, signatures, body_tree}
 use Rattle.mz_logic.specs.declared.binder.Binder.{Binder}
-use Rattle.mz_typing.specs.Sides.{body_tree}
 use Rattle.mz_unification.specs.Streams.{of_definition}
-use Rattle.mz_unification.specs.Spells.{trees_of, Text, TermRow, SpellsForm, SpellsTerm}
+use Rattle.mz_unification.specs.Spells.{trees_of, Text, SpelledTerm, SpellsForm, SpellsTerm}
 use Rattle.mz_unification.specs.Profile.{strict}
 use Rattle.mz_unification.specs.Sorted.{Sorted}
 use Rattle.mz_unification.specs.UnifyMachine.{UnifyState, unify}
 use Rattle.mz_unification.proofs.Offered.{some_is, operands-sorted, unfolding-is}
-use Rattle.mz_soundness.specs.Tables.{Tables, Declares, signatures_in}
+use Rattle.mz_soundness.specs.MachineState.{RowsBefore, Declares, signatures_in}
 use Rattle.mz_soundness.proofs.Offered.{pair-at, signatures-are, signature-at}
 use Rattle.mz_tracing.specs.Traces.{variables_in}
 use Rattle.mz_trace.specs.Nodes.{body_under}
@@ -34,9 +33,9 @@ text-of sigs params (Some other) stream (defined dummies body) is s =
     let same : other ≡ stream = cc in
     (dummies, subst (λ (z : List ℕ). Text of_definition sigs params z none body dummies) same s)
 
-module _ (tables : Tables) (env : List Declaration) (declares : Declares tables env) (ctx : List Binder) where
+module _ (tables : RowsBefore) (env : List Declaration) (declares : Declares tables env) (ctx : List Binder) where
   -- the left side is this term over the operands, and the target has a sort
-  pub bodied : (t : ℕ) (row : TermRow) (stream : List ℕ) (es : List Tree) (e : Tree) (u : UnifyState Tree) (met : List ℕ)
+  pub bodied : (t : ℕ) (row : SpelledTerm) (stream : List ℕ) (es : List Tree) (e : Tree) (u : UnifyState Tree) (met : List ℕ)
       → slice_get tables.terms t ≡ Some row → row.stream ≡ Some stream → Sorted (signatures env) ctx (app t (trees_of es)) → Sorted (signatures env) ctx e
       → unify strict (signatures_in tables) ctx (in_body stream es e) ≡ Ok u → variables_in (drop (length es) u.apart) ≡ met → e ≡ body_under env t es met
   bodied t row stream es e u met row-at row-stream left-sorted e-sorted ran met-is =

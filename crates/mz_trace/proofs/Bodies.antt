@@ -15,7 +15,7 @@ use Rattle.mz_logic.specs.Tree.{Tree}
 use Rattle.mz_unification.specs.Steps.{◌>>=◌, ◌>>◌, need, at_place, over, goes_on, follow}
 use Rattle.mz_unification.specs.Profile.{strict}
 use Rattle.mz_unification.specs.UnifyMachine.{is_empty}
-use Rattle.mz_soundness.specs.Tables.{Tables, State, is_theorem, Heading}
+use Rattle.mz_soundness.specs.MachineState.{RowsBefore, State, is_theorem, Heading}
 use Rattle.mz_soundness.specs.ProofMachine.{proof_row, built, proof_end}
 use Rattle.mz_soundness.specs.Bodies.{BodyCommand, ends, proves, if_allowed, body_command, body_turn_by, body_turn, body_from}
 use Rattle.mz_trace.specs.Commands.{Stage, IsRead, IsMade, state_of, trace_of, Goes, Leads}
@@ -32,7 +32,7 @@ finished s = Ok s
 abbrev pub traces : State Tree → Trace → Result (State Tree × Trace) K
 traces st tr = Ok (st, tr)
 
-module _ (tables : Tables) (h : Heading) (at : ℕ) (st end : State Tree) where
+module _ (tables : RowsBefore) (h : Heading) (at : ℕ) (st end : State Tree) where
   -- the END stands here
   abbrev pub EndsHere : Cmd → ℕ → List ℕ → Type 0
   EndsHere c n bytes = (body_command strict h.kind c.code c.value ≡ Some ends) × (proof_end strict tables h st ≡ Ok end) × ((tr : Trace) → trace_from tables h n bytes (st, tr) ≡ traces st tr)
@@ -76,7 +76,7 @@ module _ (tables : Tables) (h : Heading) (at : ℕ) (st end : State Tree) where
       go (Ok c) read run = (c, read, by-command c n bytes (body_command strict h.kind c.code c.value) read refl run)
 
 -- the place of a command is of no account
-pub any-place : (tables : Tables) (at : ℕ) (c : ProofCode) (n : ℕ) (st : State Tree) → proof_row strict tables at c n st ≡ proof_row strict tables 0 c n st
+pub any-place : (tables : RowsBefore) (at : ℕ) (c : ProofCode) (n : ℕ) (st : State Tree) → proof_row strict tables at c n st ≡ proof_row strict tables 0 c n st
 unfolding proof_row built
 any-place tables at code.Term n st = refl
 any-place tables at code.TermSave n st = refl
@@ -146,7 +146,7 @@ read-same : (x y : Cmd) → read-is x ≡ read-is y → x ≡ y
 read-same x y e = cc
 
 -- the row of this command, and what is left behind it
-abbrev pub GoesOnBy : Tables → Heading → ℕ → State Tree → State Tree → Cmd → ℕ → List ℕ → ProofCode → Type 0
+abbrev pub GoesOnBy : RowsBefore → Heading → ℕ → State Tree → State Tree → Cmd → ℕ → List ℕ → ProofCode → Type 0
 GoesOnBy tables h at st end c n bytes pc = (m : ℕ) × (st' : State Tree) × (proof_row strict tables 0 pc c.value st ≡ Ok st')
     × (body_from strict tables h m (at + c.len) (drop c.len bytes) st' ≡ Ok end)
     × ((tr tr' : Trace) → proof_row strict tables 0 pc c.value st ≡ Ok st' → traced tables pc c.value st tr ≡ Ok tr' → trace_from tables h n bytes (st, tr) ≡ trace_from tables h m (drop c.len bytes) (st', tr'))
@@ -155,7 +155,7 @@ GoesOnBy tables h at st end c n bytes pc = (m : ℕ) × (st' : State Tree) × (p
 
 module _ (file bytes : List ℕ) (s0 : Stage) where
   abbrev pub IsUnderway : ℕ → Stage → Type 0
-  IsUnderway at s = (tables : Tables) (h : Heading) (n p : ℕ) (end : State Tree)
+  IsUnderway at s = (tables : RowsBefore) (h : Heading) (n p : ℕ) (end : State Tree)
       → IsRead file tables h.params s0 → h.kind ≡ is_theorem → IsMade tables h.params s0 → body_from strict tables h n p bytes (state_of h.params s0) ≡ Ok end
       → IsRead file tables h.params s × IsMade tables h.params s × ((m q : ℕ) × (body_from strict tables h m q (drop at bytes) (state_of h.params s) ≡ Ok end)
       × (trace_from tables h n bytes (state_of h.params s0, trace_of s0) ≡ trace_from tables h m (drop at bytes) (state_of h.params s, trace_of s)))
@@ -169,7 +169,7 @@ module _ (file bytes : List ℕ) (s0 : Stage) where
 
   module _ (at : ℕ) (s : Stage) (on : IsUnderway at s) (c : Cmd) (read : first_command (drop at bytes) ≡ Ok c) where
     -- what the next command is
-    module _ (tables : Tables) (h : Heading) (kind : h.kind ≡ is_theorem) (p : ℕ) (end : State Tree) (m : ℕ) where
+    module _ (tables : RowsBefore) (h : Heading) (kind : h.kind ≡ is_theorem) (p : ℕ) (end : State Tree) (m : ℕ) where
       abbrev here : State Tree
       here = state_of h.params s
 

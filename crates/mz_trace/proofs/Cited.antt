@@ -9,18 +9,18 @@ use Rattle.mz_logic.specs.declared.binder.Binder.{Binder}
 use Rattle.mz_typing.specs.Sides.{assertion_at}
 use Rattle.mz_unification.specs.Laws.{citing}
 use Rattle.mz_unification.specs.Profile.{strict, Item}
-use Rattle.mz_unification.specs.Spells.{ThmRow, SpellsThm, trees_of}
+use Rattle.mz_unification.specs.Spells.{SpelledThm, SpellsThm, trees_of}
 use Rattle.mz_unification.specs.UnifyMachine.{UnifyState, unify}
 use Rattle.mz_unification.proofs.Offered.{citation-is}
-use Rattle.mz_soundness.specs.Tables.{Tables, State, Declares, signatures_in}
+use Rattle.mz_soundness.specs.MachineState.{RowsBefore, State, Declares, signatures_in}
 use Rattle.mz_soundness.specs.Premises.{pop_expr, pop_operands}
 use Rattle.mz_soundness.specs.Facts.{Fact}
 use Rattle.mz_soundness.proofs.Offered.{pair-at, signatures-are, expr-top, operands-top}
 use Rattle.mz_trace.specs.Nodes.{conclusion_under}
 use Rattle.mz_trace.specs.Commands.{anything}
 
-pub cited-claim : (tables : Tables) (env : List Declaration) → Declares tables env → (params full : List Binder) (st : State Tree) → Fact anything env params full st
-    → (t : ℕ) (row : ThmRow) (x : Tree × List (Item Tree)) (es : List Tree × List (Item Tree)) (u : UnifyState Tree)
+pub cited-claim : (tables : RowsBefore) (env : List Declaration) → Declares tables env → (params full : List Binder) (st : State Tree) → Fact anything env params full st
+    → (t : ℕ) (row : SpelledThm) (x : Tree × List (Item Tree)) (es : List Tree × List (Item Tree)) (u : UnifyState Tree)
     → slice_get tables.thms t ≡ Some row → pop_expr st.stack ≡ Ok x → pop_operands (length row.params) x.1 ≡ Ok es
     → unify strict (signatures_in tables) st.ctx (citing row.stream es.0 x.0 es.1) ≡ Ok u → x.0 ≡ conclusion_under env t es.0
 cited-claim tables env declares params full st fact t row x es u row-at popping popping-es ran =

@@ -15,10 +15,10 @@ use Rattle.mz_layout.specs.Tables.{thm_row, thm_count}
 use Rattle.mz_unification.specs.Profile.{strict, proof}
 use Rattle.mz_unification.specs.Profile.{Item as MachineItem}
 use Rattle.mz_unification.specs.Laws.{citing}
-use Rattle.mz_unification.specs.Spells.{ThmRow, trees_of}
+use Rattle.mz_unification.specs.Spells.{SpelledThm, trees_of}
 use Rattle.mz_unification.specs.UnifyMachine.{Matching, UnifyState, unify}
 use Rattle.mz_unification.proofs.Offered.{from_bind, from_then, from_need, from_want, rule_of-ok, taken, taken-is, some_is}
-use Rattle.mz_soundness.specs.Tables.{Tables, State, signatures_in}
+use Rattle.mz_soundness.specs.MachineState.{RowsBefore, State, signatures_in}
 use Rattle.mz_soundness.specs.Premises.{pop_expr, pop_operands, pop_exprs, operands_fit, are_apart}
 use Rattle.mz_soundness.specs.ProofMachine.{proof_row, citation, matched_by, cited}
 use Rattle.mz_soundness.specs.FileRows.{thm_of_file}
@@ -45,12 +45,12 @@ use Rattle.mz_trace.proofs.Cited.{cited-claim}
 
 -- ---- rows of the file
 
-module _ (file : List ℕ) (tables : Tables) (is : IsOfFile file tables) (t : ℕ) (row : ThmRow) (at : slice_get tables.thms t ≡ Some row) where
+module _ (file : List ℕ) (tables : RowsBefore) (is : IsOfFile file tables) (t : ℕ) (row : SpelledThm) (at : slice_get tables.thms t ≡ Some row) where
   abbrev before-row : Before
   before-row = record { file = file; rows = is.0 }
 
   there : slice_get (map (thm_of_file file) (range_with_len 0 is.0.thms)) t ≡ Some row
-  there = subst (λ (ts : Tables). slice_get ts.thms t ≡ Some row) is.2 at
+  there = subst (λ (ts : RowsBefore). slice_get ts.thms t ≡ Some row) is.2 at
 
   below : t < is.0.thms
   below = omega (arith, slice_get_within (map (thm_of_file file) (range_with_len 0 is.0.thms)) t row there, length-map-range_with_len (thm_of_file file) 0 is.0.thms)
@@ -62,17 +62,17 @@ module _ (file : List ℕ) (tables : Tables) (is : IsOfFile file tables) (t : �
   of-file = some_is there (thm-before before-row t below)
 
   pub thm-arity : length row.params ≡ length (thm_row file t).params
-  thm-arity = ap (λ (r : ThmRow). length r.params) of-file ∙ binders_many (thm_row file t).params
+  thm-arity = ap (λ (r : SpelledThm). length r.params) of-file ∙ binders_many (thm_row file t).params
 
   pub thm-stream : row.stream ≡ drop (thm_row file t).stream_at file
-  thm-stream = ap (λ (r : ThmRow). r.stream) of-file
+  thm-stream = ap (λ (r : SpelledThm). r.stream) of-file
 
 -- ---- what stands on the stack
 
 more : (n p count : ℕ) (xs : List Entry) → HasProofs count xs → HasProofs (suc count) (Held (ProofItem n p) ∷ xs)
 more n p count xs (ps, ys, is, many) = ((n, p) ∷ ps, ys, ap (λ zs. Held (ProofItem n p) ∷ zs) is, ap suc many)
 
-module _ (tables : Tables) (vs : List Value) where
+module _ (tables : RowsBefore) (vs : List Value) where
   -- proofs
   proofs-top : (xs : List Entry) (es : List Tree) (rest : List (MachineItem Tree)) → IsStack tables vs xs → items_at vs xs ≡ map proof es ++ rest → HasProofs (length es) xs
   proofs-top xs [] rest h e = ([], xs, refl, refl)
@@ -113,9 +113,9 @@ module _ (vs : List Value) where
 
 -- ---- a citation of the machine
 
-module _ (t : ℕ) (s : Stage) (tables : Tables) (params : List Binder) where
+module _ (t : ℕ) (s : Stage) (tables : RowsBefore) (params : List Binder) where
   -- the row, the expression on top, the operands below it, and the last state of the stream
-  abbrev Matched : ThmRow → Tree × List (MachineItem Tree) → List Tree × List (MachineItem Tree) → UnifyState Tree → Type 0
+  abbrev Matched : SpelledThm → Tree × List (MachineItem Tree) → List Tree × List (MachineItem Tree) → UnifyState Tree → Type 0
   Matched row x es u = (slice_get tables.thms t ≡ Some row)
       × (pop_expr (items_at (values_in s) s.stack) ≡ Ok x)
       × (pop_operands (length row.params) x.1 ≡ Ok es)
@@ -124,7 +124,7 @@ module _ (t : ℕ) (s : Stage) (tables : Tables) (params : List Binder) where
       × (citation strict tables t (state_of params s) ≡ Ok (citing row.stream es.0 x.0 es.1))
 
   from-cited : {G : Type 0} (r : Tree × List (MachineItem Tree)) → cited strict tables t (state_of params s) ≡ Ok r
-      → ((row : ThmRow) (x : Tree × List (MachineItem Tree)) (es : List Tree × List (MachineItem Tree)) (u : UnifyState Tree) → Matched row x es u → (x.0, u.items) ≡ r → G) → G
+      → ((row : SpelledThm) (x : Tree × List (MachineItem Tree)) (es : List Tree × List (MachineItem Tree)) (u : UnifyState Tree) → Matched row x es u → (x.0, u.items) ≡ r → G) → G
   unfolding cited citation
   from-cited r e go =
       let st = state_of params s in
@@ -147,7 +147,7 @@ module _ (t : ℕ) (s : Stage) (tables : Tables) (params : List Binder) where
 -- ---- before it
 
 module _ (file : List ℕ) (t : ℕ) (s : Stage) where
-  may-cite : (tables : Tables) (params : List Binder) → IsOfFile file tables → IsMade tables params s → (r : Tree × List (MachineItem Tree))
+  may-cite : (tables : RowsBefore) (params : List Binder) → IsOfFile file tables → IsMade tables params s → (r : Tree × List (MachineItem Tree))
       → cited strict tables t (state_of params s) ≡ Ok r → MayCite file t s
   may-cite tables params q made r e =
       from-cited t s tables params r e λ row x es u (at, popping, _, popping-all, ran, _) _.
@@ -204,14 +204,14 @@ proofs-there file t s claim os ys zs stream n (row-there, (e, ns, xs, is, many, 
 
 -- ---- behind it
 
-same-claims : (tables : Tables) (vs : List Value) (t v e d : ℕ) (os ops : List ℕ) → t ≡ v → e ≡ d → os ≡ ops
+same-claims : (tables : RowsBefore) (vs : List Value) (t v e d : ℕ) (os ops : List ℕ) → t ≡ v → e ≡ d → os ≡ ops
     → IsClaim tables t (expressions_at vs os) (expression_at vs e) → IsClaim tables v (expressions_at vs ops) (expression_at vs d)
 same-claims tables vs t v e d os ops t-is e-is os-are h =
     let by-term : IsClaim tables v (expressions_at vs os) (expression_at vs e) = subst (λ i. IsClaim tables i (expressions_at vs os) (expression_at vs e)) t-is h in
     let by-claim : IsClaim tables v (expressions_at vs os) (expression_at vs d) = subst (λ i. IsClaim tables v (expressions_at vs os) (expression_at vs i)) e-is by-term in
     subst (λ (ns : List ℕ). IsClaim tables v (expressions_at vs ns) (expression_at vs d)) os-are by-claim
 
-use-node : (tables : Tables) (vs : List Value) (t e : ℕ) (os ps : List ℕ) (n : RunNode) → Uses (Some n) t e os ps → IsExpression vs e → AreExpressions vs os → AreProofs vs ps
+use-node : (tables : RowsBefore) (vs : List Value) (t e : ℕ) (os ps : List ℕ) (n : RunNode) → Uses (Some n) t e os ps → IsExpression vs e → AreExpressions vs os → AreProofs vs ps
     → IsClaim tables t (expressions_at vs os) (expression_at vs e)
     → HasParts tables vs n × (value_of vs n ≡ a_proof (by_citation t (trees_of (expressions_at vs os)) (proofs_at vs ps)))
 use-node tables vs t e os ps (node.Var x) u he hos hps hc = absurd u
@@ -257,7 +257,7 @@ module _ (file : List ℕ) (t : ℕ) (s s' : Stage) (claim made-at : ℕ) (c : I
   abbrev lower : List Entry
   lower = proofs_onto c.proofs s'.stack
 
-  module _ (tables : Tables) (params : List Binder) (q : IsRead file tables params s) (made : IsMade tables params s) where
+  module _ (tables : RowsBefore) (params : List Binder) (q : IsRead file tables params s) (made : IsMade tables params s) where
     abbrev Split : Type 0
     Split = IsExpression vs claim × AreExpressions vs c.operands × AreProofs vs c.parts × IsStack tables vs s'.stack
 
@@ -287,7 +287,7 @@ module _ (file : List ℕ) (t : ℕ) (s s' : Stage) (claim made-at : ℕ) (c : I
         ap (λ n. drop (suc n) (parts_at vs s.stack)) (length-map c.operands (expression_at vs) ∙ sym (length-reverse c.operands))
         ∙ ap (λ xs. drop (suc (length (reverse c.operands))) (parts_at vs xs)) c.taken ∙ drop-exprs vs (reverse c.operands) lower
 
-    matched-both : (row : ThmRow) (es : List Tree) (e : Tree) (items : List (MachineItem Tree)) (u : UnifyState Tree) → slice_get tables.thms t ≡ Some row
+    matched-both : (row : SpelledThm) (es : List Tree) (e : Tree) (items : List (MachineItem Tree)) (u : UnifyState Tree) → slice_get tables.thms t ≡ Some row
         → es ≡ expressions_at vs c.operands → items ≡ items_at vs lower
         → unify strict (signatures_in tables) (context_of params s) (citing row.stream es e items) ≡ Ok u
         → citation strict tables t (state_of params s) ≡ Ok (citing row.stream es e items)

@@ -1,13 +1,13 @@
 -- Where the nodes have their parts, citations and unfoldings have their claims.
 use Rattle.std.proofs.Common.{List, [], ◌∷◌, ◌++◌}
 use Rattle.mz_logic.specs.Declaration.{Declaration}
-use Rattle.mz_soundness.specs.Tables.{Tables, Declares}
+use Rattle.mz_soundness.specs.MachineState.{RowsBefore, Declares}
 use Rattle.mz_trace.specs.Nodes.{Value, value_of, HasParts, HavePartsAfter}
 use Rattle.mz_trace.specs.Claims.{HasClaim, HasClaimsAfter}
 use Rattle.mz_trace.specs.declared.node.RunNode.{RunNode}
 use Rattle.mz_trace.specs.declared.node.RunNode.TheVariants as node
 
-module _ (tables : Tables) (env : List Declaration) (declares : Declares tables env) where
+module _ (tables : RowsBefore) (env : List Declaration) (declares : Declares tables env) where
   has-claim : (vs : List Value) (n : RunNode) → HasParts tables vs n → HasClaim env vs n
   has-claim vs (node.Var x) h = tt
   has-claim vs (node.App t es) h = tt

@@ -9,7 +9,7 @@ use Rattle.mz_logic.specs.Tree.{Tree}
 use Rattle.mz_logic.specs.declared.binder.Binder.{Binder}
 use Rattle.mz_unification.specs.Profile.{strict, Item}
 use Rattle.mz_unification.specs.Steps.{◌>>=◌, ◌>>◌, need, want}
-use Rattle.mz_soundness.specs.Tables.{Tables, State}
+use Rattle.mz_soundness.specs.MachineState.{RowsBefore, State}
 use Rattle.mz_soundness.specs.Premises.{is_conversion}
 use Rattle.mz_soundness.specs.ProofMachine.{proof_row, referred}
 use Rattle.mz_tracing.specs.Traces.{Trace, traced}
@@ -17,12 +17,12 @@ use Rattle.mz_trace.specs.Commands.{Stage, Known, IsRead, state_of, trace_of, Go
 
 -- c over n does what d over m does, wherever c goes through
 abbrev pub DoesAs : (c : ProofCode) (n : ℕ) (d : ProofCode) (m : ℕ) → Type 0
-DoesAs c n d m = ((tables : Tables) (st st' : State Tree) → proof_row strict tables 0 c n st ≡ Ok st' → proof_row strict tables 0 d m st ≡ Ok st')
-    × ((tables : Tables) (st : State Tree) (tr : Trace) → traced tables d m st tr ≡ traced tables c n st tr)
+DoesAs c n d m = ((tables : RowsBefore) (st st' : State Tree) → proof_row strict tables 0 c n st ≡ Ok st' → proof_row strict tables 0 d m st ≡ Ok st')
+    × ((tables : RowsBefore) (st : State Tree) (tr : Trace) → traced tables d m st tr ≡ traced tables c n st tr)
 
 -- what is known carries over to Q
 abbrev pub Lifts : List ℕ → Known → Type 0
-Lifts file Q = (tables : Tables) (params : List Binder) (s : Stage) → IsRead file tables params s → Q tables params s
+Lifts file Q = (tables : RowsBefore) (params : List Binder) (s : Stage) → IsRead file tables params s → Q tables params s
 
 module _ (file : List ℕ) (Q : Known) (lift : Lifts file Q) (b c d : ProofCode) (n m : ℕ) (is : b ≡ c) (as_d : DoesAs c n d m) (s : Stage) where
   pub goes-as : Goes (IsRead file) b n s → Goes Q d m s
@@ -46,7 +46,7 @@ if-conversion : (b : Bool) (r : Result (State Tree) K) (st' : State Tree) → (n
 if-conversion true r st' e = e
 if-conversion false r st' e = absurd cc
 
-conv-ref : (tables : Tables) (st st' : State Tree) (n : ℕ) (o : Option (Item Tree)) → slice_get st.heap n ≡ o → proof_row strict tables 0 code.ConvRef n st ≡ Ok st' → proof_row strict tables 0 code.Ref n st ≡ Ok st'
+conv-ref : (tables : RowsBefore) (st st' : State Tree) (n : ℕ) (o : Option (Item Tree)) → slice_get st.heap n ≡ o → proof_row strict tables 0 code.ConvRef n st ≡ Ok st' → proof_row strict tables 0 code.Ref n st ≡ Ok st'
 unfolding proof_row
 conv-ref tables st st' n None at row = absurd (let no : (want None k.HeapIndex >>= λ x. need (is_conversion x) k.Kind >> referred strict x st) ≡ Ok st' = subst (λ o. (want o k.HeapIndex >>= λ x. need (is_conversion x) k.Kind >> referred strict x st) ≡ Ok st') at row in cc)
 conv-ref tables st st' n (Some x) at row =
@@ -57,7 +57,7 @@ pub conv-ref-as : (n : ℕ) → DoesAs code.ConvRef n code.Ref n
 unfolding traced
 conv-ref-as n = (λ tables st st' row. conv-ref tables st st' n (slice_get st.heap n) refl row, λ tables st tr. refl)
 
-no-sorry : (tables : Tables) (st st' : State Tree) (n : ℕ) → proof_row strict tables 0 code.Sorry n st ≡ Ok st' → ⊥
+no-sorry : (tables : RowsBefore) (st st' : State Tree) (n : ℕ) → proof_row strict tables 0 code.Sorry n st ≡ Ok st' → ⊥
 unfolding proof_row
 no-sorry tables st st' n row = absurd cc
 

@@ -5,7 +5,7 @@ use Rattle.std.proofs.lemmas.List.{reverse-append}
 use Rattle.mz_logic.specs.Tree.{app}
 use Rattle.mz_unification.specs.Profile.{expr, proof}
 use Rattle.mz_unification.specs.Spells.{trees_of}
-use Rattle.mz_soundness.specs.Tables.{Tables}
+use Rattle.mz_soundness.specs.MachineState.{RowsBefore}
 use Rattle.mz_tracing.specs.Parts.{proved, converted}
 use Rattle.mz_trace.specs.Nodes.{Value, an_expression, a_conversion, a_proof, expression_of, conversion_of, proof_of, expression_at, conversion_at, proof_at, expressions_at, conversions_at, proofs_at, value_of, IsExpression, IsConversion, IsProof, AreExpressions, AreConversions, AreProofs, conclusion_under, body_under, IsClaim, IsBody, HasParts}
 use Rattle.mz_trace.specs.Entries.{item_at, part_at, IsItem, AreItems, owed_at, items_at, parts_at, ArePairs, IsStack, IsWaiting}
@@ -78,17 +78,17 @@ module _ (vs ws : List Value) where
 
   -- ---- what was matched
 
-  pub grown-claim : (tables : Tables) (t : ℕ) (es : List ℕ) (e : ℕ) → AreExpressions vs es → IsExpression vs e
+  pub grown-claim : (tables : RowsBefore) (t : ℕ) (es : List ℕ) (e : ℕ) → AreExpressions vs es → IsExpression vs e
       → IsClaim tables t (expressions_at vs es) (expression_at vs e) → IsClaim tables t (expressions_at (vs ++ ws) es) (expression_at (vs ++ ws) e)
   grown-claim tables t es e are is h env declares = same-expression e is ∙ h env declares ∙ ap (conclusion_under env t) (sym (same-expressions es are))
 
-  pub grown-body : (tables : Tables) (t : ℕ) (es ys : List ℕ) (e : ℕ) → AreExpressions vs es → IsExpression vs e
+  pub grown-body : (tables : RowsBefore) (t : ℕ) (es ys : List ℕ) (e : ℕ) → AreExpressions vs es → IsExpression vs e
       → IsBody tables t (expressions_at vs es) ys (expression_at vs e) → IsBody tables t (expressions_at (vs ++ ws) es) ys (expression_at (vs ++ ws) e)
   grown-body tables t es ys e are is h env declares = same-expression e is ∙ h env declares ∙ ap (λ ts. body_under env t ts ys) (sym (same-expressions es are))
 
   -- ---- nodes
 
-  pub grown-parts : (tables : Tables) (n : RunNode) → HasParts tables vs n → HasParts tables (vs ++ ws) n
+  pub grown-parts : (tables : RowsBefore) (n : RunNode) → HasParts tables vs n → HasParts tables (vs ++ ws) n
   grown-parts tables (node.Var x) h = tt
   grown-parts tables (node.App t es) h = (grown-expressions es.items h.0, h.1)
   grown-parts tables (node.Hyp i) h = tt
@@ -100,7 +100,7 @@ module _ (vs ws : List Value) where
   grown-parts tables (node.Cong t cs) h = grown-conversions cs.items h
   grown-parts tables (node.Unfold t e es ys c) h = (grown-expression e h.0, grown-expressions es.items h.1, grown-conversion c h.2, grown-body tables t es.items ys.items e h.1 h.0 h.3)
 
-  pub same-value : (tables : Tables) (n : RunNode) → HasParts tables vs n → value_of (vs ++ ws) n ≡ value_of vs n
+  pub same-value : (tables : RowsBefore) (n : RunNode) → HasParts tables vs n → value_of (vs ++ ws) n ≡ value_of vs n
   same-value tables (node.Var x) h = refl
   same-value tables (node.App t es) h = ap (λ ts. an_expression (app t (trees_of ts))) (same-expressions es.items h.0)
   same-value tables (node.Hyp i) h = refl
@@ -160,7 +160,7 @@ pub pairs-turned : (vs : List Value) (ps : List (ℕ × ℕ)) → ArePairs vs ps
 pairs-turned vs [] h = tt
 pairs-turned vs (p ∷ ps) h = rw (reverse-append (p ∷ []) ps) (pairs-both vs (reverse ps) (p ∷ []) (pairs-turned vs ps h.2) (h.0, h.1, tt))
 
-module _ (tables : Tables) (vs ws : List Value) where
+module _ (tables : RowsBefore) (vs ws : List Value) where
   mutual
     pub grown-stack : (xs : List Entry) → IsStack tables vs xs → IsStack tables (vs ++ ws) xs
     grown-stack [] h = tt

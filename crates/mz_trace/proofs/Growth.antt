@@ -13,10 +13,10 @@ use Rattle.mz_logic.specs.declared.binder.Binder.{Binder}
 use Rattle.mz_layout.specs.Tables.{term_row, term_count}
 use Rattle.mz_unification.specs.Profile.{strict, expr}
 use Rattle.mz_unification.specs.Profile.{Item as MachineItem}
-use Rattle.mz_unification.specs.Spells.{TermRow, trees_of}
+use Rattle.mz_unification.specs.Spells.{SpelledTerm, trees_of}
 use Rattle.mz_unification.specs.Steps.{◌>>=◌, want}
 use Rattle.mz_unification.proofs.Offered.{from_bind, from_then, from_need, from_want, taken-is, some_is}
-use Rattle.mz_soundness.specs.Tables.{Tables, State, signatures_in}
+use Rattle.mz_soundness.specs.MachineState.{RowsBefore, State, signatures_in}
 use Rattle.mz_soundness.specs.Premises.{pop_operands, pop_exprs, operands_fit}
 use Rattle.mz_soundness.specs.ProofMachine.{proof_row, built}
 use Rattle.mz_soundness.specs.FileRows.{term_of_file}
@@ -38,12 +38,12 @@ use Rattle.mz_trace.proofs.Moves.{items-both}
 
 -- ---- rows of the file
 
-module _ (file : List ℕ) (tables : Tables) (is : IsOfFile file tables) (t : ℕ) (row : TermRow) (at : slice_get tables.terms t ≡ Some row) where
+module _ (file : List ℕ) (tables : RowsBefore) (is : IsOfFile file tables) (t : ℕ) (row : SpelledTerm) (at : slice_get tables.terms t ≡ Some row) where
   abbrev before-row : Before
   before-row = record { file = file; rows = is.0 }
 
   there : slice_get (map (term_of_file file) (range_with_len 0 is.0.terms)) t ≡ Some row
-  there = subst (λ (ts : Tables). slice_get ts.terms t ≡ Some row) is.2 at
+  there = subst (λ (ts : RowsBefore). slice_get ts.terms t ≡ Some row) is.2 at
 
   below : t < is.0.terms
   below = omega (arith, slice_get_within (map (term_of_file file) (range_with_len 0 is.0.terms)) t row there, length-map-range_with_len (term_of_file file) 0 is.0.terms)
@@ -52,14 +52,14 @@ module _ (file : List ℕ) (tables : Tables) (is : IsOfFile file tables) (t : �
   term-there = let most = is.1.terms_within in omega (arith, below, most)
 
   pub term-arity : length row.signature.params ≡ length (term_row file t).words.params
-  term-arity = ap (λ (r : TermRow). length r.signature.params) (some_is there (term-before before-row t below)) ∙ binders_many (term_row file t).words.params
+  term-arity = ap (λ (r : SpelledTerm). length r.signature.params) (some_is there (term-before before-row t below)) ∙ binders_many (term_row file t).words.params
 
   pub term-stream : row ≡ term_of_file file t
   term-stream = some_is there (term-before before-row t below)
 
 -- ---- a node more, and an item that is kept
 
-module _ (tables : Tables) (params : List Binder) (s : Stage) (n : RunNode) (held : IsHeld tables params s) (parts : HasParts tables (values_in s) n) where
+module _ (tables : RowsBefore) (params : List Binder) (s : Stage) (n : RunNode) (held : IsHeld tables params s) (parts : HasParts tables (values_in s) n) where
   abbrev later : List Value
   later = values_in (with_node s n)
 
@@ -74,7 +74,7 @@ module _ (tables : Tables) (params : List Binder) (s : Stage) (n : RunNode) (hel
 
 -- ---- applications
 
-app-node : (tables : Tables) (vs : List Value) (t : ℕ) (os : List ℕ) (n : RunNode) → Applies (Some n) t os → AreExpressions vs os → HasArity tables t (length os)
+app-node : (tables : RowsBefore) (vs : List Value) (t : ℕ) (os : List ℕ) (n : RunNode) → Applies (Some n) t os → AreExpressions vs os → HasArity tables t (length os)
     → HasParts tables vs n × (value_of vs n ≡ an_expression (app t (trees_of (expressions_at vs os))))
 app-node tables vs t os (node.Var x) a es arity = absurd a
 app-node tables vs t os (node.App u ops) a es arity = (
@@ -97,7 +97,7 @@ abbrev operands-ok : List Tree → List (MachineItem Tree) → Result (List Tree
 operands-ok es xs = Ok (es, xs)
 
 module _ (file : List ℕ) (t : ℕ) (s : Stage) where
-  pub may-build : ((tables : Tables) × (params : List Binder) × IsOfFile file tables × IsMade tables params s
+  pub may-build : ((tables : RowsBefore) × (params : List Binder) × IsOfFile file tables × IsMade tables params s
       × ((r : Tree × List (MachineItem Tree)) × (built strict tables 0 t (state_of params s) ≡ Ok r))) → MayBuild file t s
   unfolding built
   may-build (tables, params, q, made, (r, making)) =
@@ -113,7 +113,7 @@ module _ (file : List ℕ) (t : ℕ) (s s' : Stage) (made-at : ℕ) (b : IsBuilt
   abbrev pub bare : Stage
   bare = with_stack s s'.stack
 
-  module _ (tables : Tables) (params : List Binder) (q : IsOfFile file tables) (made : IsMade tables params s) where
+  module _ (tables : RowsBefore) (params : List Binder) (q : IsOfFile file tables) (made : IsMade tables params s) where
     split : AreExpressions (values_in s) (reverse b.operands) × IsStack tables (values_in s) s'.stack
     split = exprs-below tables (values_in s) (reverse b.operands) s'.stack (subst (IsStack tables (values_in s)) b.taken made.1)
 
@@ -121,7 +121,7 @@ module _ (file : List ℕ) (t : ℕ) (s s' : Stage) (made-at : ℕ) (b : IsBuilt
     bare-made = (held-of tables params s s.stack s'.stack made.0, split.1)
 
     -- the row has as many parameters as there are operands
-    module _ (row : TermRow) (at : slice_get tables.terms t ≡ Some row) where
+    module _ (row : SpelledTerm) (at : slice_get tables.terms t ≡ Some row) where
       many : length row.signature.params ≡ length b.operands
       many = term-arity file tables q t row at ∙ sym b.many
 
@@ -141,7 +141,7 @@ module _ (file : List ℕ) (t : ℕ) (s s' : Stage) (made-at : ℕ) (b : IsBuilt
 
     -- the row is there, and what is built is the node's expression
     pub built-row : {G : Type 0} (r : Tree × List (MachineItem Tree)) → built strict tables 0 t (state_of params s) ≡ Ok r
-        → ((row : TermRow) (at : slice_get tables.terms t ≡ Some row) → r ≡ (app t (trees_of (expressions_at (values_in s) b.operands)), items_at (values_in s) s'.stack) → G) → G
+        → ((row : SpelledTerm) (at : slice_get tables.terms t ≡ Some row) → r ≡ (app t (trees_of (expressions_at (values_in s) b.operands)), items_at (values_in s) s'.stack) → G) → G
     unfolding built
     built-row r making go =
         from_want (slice_get tables.terms t) k.TermIndex _ r making λ row at e1.
@@ -160,12 +160,12 @@ module _ (file : List ℕ) (t : ℕ) (s s' : Stage) (made-at : ℕ) (b : IsBuilt
   abbrev tree : Tree
   tree = app t (trees_of (expressions_at (values_in s) b.operands))
 
-  abbrev pub term-made : Tables → List Binder → Type 0
+  abbrev pub term-made : RowsBefore → List Binder → Type 0
   term-made tables params = IsHeld tables params (with_node bare b.node) × IsExpression (values_in whole) new × (expression_at (values_in whole) new ≡ tree) × IsStack tables (values_in whole) s'.stack
       × HasParts tables (values_in s) b.node
 
-  module _ (tables : Tables) (params : List Binder) (q : IsOfFile file tables) (made : IsMade tables params s) where
-    term-facts : (row : TermRow) → slice_get tables.terms t ≡ Some row → term-made tables params
+  module _ (tables : RowsBefore) (params : List Binder) (q : IsOfFile file tables) (made : IsMade tables params s) where
+    term-facts : (row : SpelledTerm) → slice_get tables.terms t ≡ Some row → term-made tables params
     term-facts row at =
         let (parts, value) = node-there tables params q made row at in
         let below = bare-made tables params q made in

@@ -4,7 +4,7 @@ use Rattle.mz_cmd.specs.declared.code.ProofCode.TheVariants as code
 use Rattle.mz_logic.specs.Tree.{Tree}
 use Rattle.mz_unification.specs.Profile.{Item as MachineItem}
 use Rattle.mz_unification.proofs.Offered.{from_bind}
-use Rattle.mz_soundness.specs.Tables.{Tables}
+use Rattle.mz_soundness.specs.MachineState.{RowsBefore}
 use Rattle.mz_soundness.specs.Premises.{pop_expr, pop_proof, pop_obligation, pop_conversion}
 use Rattle.mz_soundness.specs.ProofMachine.{proof_row}
 use Rattle.mz_trace.specs.Entries.{items_at, IsStack, HasConversion, HasExpr, HasOwed}
@@ -31,7 +31,7 @@ module _ (Q : Known) (n : ℕ) (s : Stage) where
       from_bind (pop_expr (items_at (values_in s) s.stack)) _ st row λ a popping e1.
       let (e, ys, is, a-is) = expr-top tables (values_in s) s.stack a made.1 popping in (e, ys, is)
 
-  owed-has : (tables : Tables) (r : Tree × Tree × List (MachineItem Tree)) → IsStack tables (values_in s) s.stack → pop_obligation (items_at (values_in s) s.stack) ≡ Ok r → HasOwed s.stack
+  owed-has : (tables : RowsBefore) (r : Tree × Tree × List (MachineItem Tree)) → IsStack tables (values_in s) s.stack → pop_obligation (items_at (values_in s) s.stack) ≡ Ok r → HasOwed s.stack
   owed-has tables r made popping = let (a, b, ys, is, r-is) = owed-top tables (values_in s) s.stack r made popping in (a, b, ys, is)
 
   pub refl-has : Goes Q code.Refl n s → HasOwed s.stack

@@ -15,7 +15,7 @@ use Rattle.mz_unification.specs.Spells.{dummy_of}
 use Rattle.mz_unification.specs.Steps.{◌>>=◌, want}
 use Rattle.mz_unification.specs.Tests.{same_tree}
 use Rattle.mz_unification.proofs.Offered.{from_bind, from_need, from_want, taken-is}
-use Rattle.mz_soundness.specs.Tables.{Tables}
+use Rattle.mz_soundness.specs.MachineState.{RowsBefore}
 use Rattle.mz_soundness.specs.Premises.{pop, pop_obligation, may_be_dummy_sort, bound_count, is_obligation}
 use Rattle.mz_soundness.specs.ProofMachine.{proof_row, has_provable_sort, referred}
 use Rattle.mz_tracing.specs.Parts.{expression, proved, paid}
@@ -130,7 +130,7 @@ module _ (n : ℕ) (s : Stage) (xs : List Entry) (e : ℕ) where
 
 -- ---- proofs with names
 
-module _ (tables : Tables) (params : List Binder) (s : Stage) (e p : ℕ) (made : IsMade tables params s) (claim : IsExpression (values_in s) e) (proved-by : IsProof (values_in s) p) where
+module _ (tables : RowsBefore) (params : List Binder) (s : Stage) (e p : ℕ) (made : IsMade tables params s) (claim : IsExpression (values_in s) e) (proved-by : IsProof (values_in s) p) where
   abbrev v : RunNode
   v = node.Let (length s.lets)
 
@@ -188,7 +188,7 @@ module _ (n : ℕ) (s : Stage) (xs : List Entry) where
   abbrev pub saved_item : Item → Stage
   saved_item x = on_stack (with_kept (with_stack s xs) x) (Held x)
 
-  saved-held : (tables : Tables) (params : List Binder) (x : Item) → IsHeld tables params (with_stack s (Held x ∷ xs)) → IsItem (values_in s) x → IsHeld tables params (saved_item x)
+  saved-held : (tables : RowsBefore) (params : List Binder) (x : Item) → IsHeld tables params (with_stack s (Held x ∷ xs)) → IsItem (values_in s) x → IsHeld tables params (saved_item x)
   saved-held tables params x held h = record { nodes = held.nodes; heap = items-both (values_in s) s.heap (x ∷ []) held.heap (h, tt); hyps = held.hyps; lets = held.lets; variables = held.variables }
 
   saved-state : (params : List Binder) (x : Item)
@@ -216,7 +216,7 @@ module _ (n : ℕ) (s : Stage) (xs : List Entry) where
   )
 
 -- an item stands on top
-module _ (tables : Tables) (vs : List Value) where
+module _ (tables : RowsBefore) (vs : List Value) where
   held-top : (xs : List Entry) (r : MachineItem Tree × List (MachineItem Tree)) → IsStack tables vs xs → pop (items_at vs xs) ≡ Ok r → is_obligation r.0 ≡ false → HasHeld xs
   held-top [] r h e other = absurd cc
   held-top (Held x ∷ xs) r h e other = (x, xs, refl)
@@ -266,11 +266,11 @@ module _ (n : ℕ) (s : Stage) where
       let (x, is, of) = at-map (item_at (values_in s)) s.heap n y at in (x, is)
 
   module _ (x : Item) (at : slice_get s.heap n ≡ Some x) where
-    item-row : (tables : Tables) (params : List Binder) → proof_row strict tables 0 code.Ref n (state_of params s) ≡ referred strict (item_at (values_in s) x) (state_of params s)
+    item-row : (tables : RowsBefore) (params : List Binder) → proof_row strict tables 0 code.Ref n (state_of params s) ≡ referred strict (item_at (values_in s) x) (state_of params s)
     unfolding proof_row
     item-row tables params = want-is (slice_get (map (item_at (values_in s)) s.heap) n) k.HeapIndex _ (item_at (values_in s) x) (map-at (item_at (values_in s)) s.heap n x at)
 
-    part-row : (tables : Tables) (params : List Binder) → traced tables code.Ref n (state_of params s) (trace_of s) ≡ taken-trace (referred-part (part_at (values_in s) x) (trace_of s))
+    part-row : (tables : RowsBefore) (params : List Binder) → traced tables code.Ref n (state_of params s) (trace_of s) ≡ taken-trace (referred-part (part_at (values_in s) x) (trace_of s))
     unfolding traced
     part-row tables params = want-is (slice_get (map (part_at (values_in s)) s.heap) n) k.HeapIndex _ (part_at (values_in s) x) (map-at (part_at (values_in s)) s.heap n x at)
 
@@ -295,7 +295,7 @@ module _ (n : ℕ) (s : Stage) where
         let (l, r, ys, is, of) = owed-top tables (values_in s) s.stack o made.1 popping in (l, r, ys, is)
 
     module _ (l r : ℕ) (xs : List Entry) (top : s.stack ≡ Owed l r ∷ xs) where
-      below-made : (tables : Tables) (params : List Binder) → IsMade tables params s → IsMadeBelow tables params (with_stack s xs) × IsConversion (values_in s) c
+      below-made : (tables : RowsBefore) (params : List Binder) → IsMade tables params s → IsMadeBelow tables params (with_stack s xs) × IsConversion (values_in s) c
       below-made tables params made =
           let h = subst (IsStack tables (values_in s)) top made.1 in
           ((held-of tables params s s.stack xs made.0, h.2), (item-in (values_in s) s.heap n (ConversionItem a b c) made.0.heap at).2)

@@ -4,19 +4,19 @@ use Rattle.mz_cmd.specs.declared.code.ProofCode.{ProofCode}
 use Rattle.mz_logic.specs.Tree.{Tree}
 use Rattle.mz_logic.specs.declared.binder.Binder.{Binder}
 use Rattle.mz_unification.specs.Profile.{strict}
-use Rattle.mz_soundness.specs.Tables.{Tables, State, Heading}
+use Rattle.mz_soundness.specs.MachineState.{RowsBefore, State, Heading}
 use Rattle.mz_soundness.specs.Bodies.{body_start}
 use Rattle.mz_soundness.specs.ProofMachine.{proof_row}
 use Rattle.mz_soundness.specs.Facts.{Fact}
 use Rattle.mz_soundness.proofs.Offered.{keeps, start-fact}
 use Rattle.mz_trace.specs.Commands.{Stage, state_of, anything, IsKnown}
 
-pub known-kept : (tables : Tables) (params : List Binder) (c : ProofCode) (n : ℕ) (s s' : Stage) → IsKnown tables params s
+pub known-kept : (tables : RowsBefore) (params : List Binder) (c : ProofCode) (n : ℕ) (s s' : Stage) → IsKnown tables params s
     → proof_row strict tables 0 c n (state_of params s) ≡ Ok (state_of params s') → IsKnown tables params s'
 known-kept tables params c n s s' known row env declares full front' =
     let (front, keep) = keeps anything tables env declares params full false 0 c n (state_of params s) (state_of params s') ((λ is there. tt), λ is on. tt) row front' in
     keep (known env declares full front)
 
-pub known-start : (tables : Tables) (h : Heading) (s : Stage) → state_of h.params s ≡ body_start strict h → IsKnown tables h.params s
+pub known-start : (tables : RowsBefore) (h : Heading) (s : Stage) → state_of h.params s ≡ body_start strict h → IsKnown tables h.params s
 known-start tables h s is env declares full front =
     subst (λ (st : State Tree). Fact anything env h.params full st) (sym is) (start-fact false tables h anything env declares full)

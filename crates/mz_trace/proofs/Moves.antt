@@ -11,7 +11,7 @@ use Rattle.mz_logic.specs.declared.binder.Binder.{Binder}
 use Rattle.mz_unification.specs.Profile.{strict}
 use Rattle.mz_unification.specs.Tests.{same_tree}
 use Rattle.mz_unification.proofs.Offered.{from_need, taken-is}
-use Rattle.mz_soundness.specs.Tables.{Tables, State}
+use Rattle.mz_soundness.specs.MachineState.{RowsBefore, State}
 use Rattle.mz_soundness.specs.ProofMachine.{proof_row}
 use Rattle.mz_tracing.specs.Parts.{paid}
 use Rattle.mz_tracing.specs.Traces.{Trace, stacked, traced}
@@ -69,7 +69,7 @@ items-both vs (x ∷ xs) ys h h' = (h.0, items-both vs xs ys h.1 h')
 
 -- the command takes what is owed, and leaves a conversion that pays
 pub paying : (c : ProofCode) (n : ℕ) (s t : Stage) (k : ℕ) (s' : Stage) → Pays t k s'
-    → ((tables : Tables) (params : List Binder) (st : State Tree) → IsMade tables params s → proof_row strict tables 0 c n (state_of params s) ≡ Ok st
+    → ((tables : RowsBefore) (params : List Binder) (st : State Tree) → IsMade tables params s → proof_row strict tables 0 c n (state_of params s) ≡ Ok st
     → IsMadeBelow tables params t × IsConversion (values_in t) k × (st ≡ state_of params t)
     × (traced tables c n (state_of params s) (trace_of s) ≡ taken-trace (stacked (trace_of t) (paid (conversion_at (values_in t) k) (trace_of t).stack))))
     → Leads IsAny c n s s'
@@ -79,7 +79,7 @@ paying c n s t k s' pays first tables params st q made row =
     (done.made, state ∙ sym done.state, trace ∙ ap taken-trace (sym done.trace))
 
 -- a node for the conversion
-module _ (tables : Tables) (params : List Binder) (s : Stage) (n : RunNode) (d : Conversion) where
+module _ (tables : RowsBefore) (params : List Binder) (s : Stage) (n : RunNode) (d : Conversion) where
   with-conversion : IsHeld tables params s → HasParts tables (values_in s) n → IsWaiting tables (values_in s) s.stack → value_of (values_in s) n ≡ a_conversion d
       → IsMadeBelow tables params (with_node s n) × IsConversion (values_in (with_node s n)) (length s.nodes) × (state_of params (with_node s n) ≡ state_of params s)
       × (stacked (trace_of (with_node s n)) (paid (conversion_at (values_in (with_node s n)) (length s.nodes)) (trace_of (with_node s n)).stack) ≡ stacked (trace_of s) (paid d (trace_of s).stack))
@@ -112,7 +112,7 @@ module _ (n : ℕ) (s : Stage) (xs : List Entry) (l r c : ℕ) where
   abbrev pub saving : Stage
   saving = with_kept (with_stack s xs) (ConversionItem l r c)
 
-  saving-below : (tables : Tables) (params : List Binder) → IsMade tables params (with_stack s (Held (ConversionItem l r c) ∷ xs)) → IsMadeBelow tables params saving
+  saving-below : (tables : RowsBefore) (params : List Binder) → IsMade tables params (with_stack s (Held (ConversionItem l r c) ∷ xs)) → IsMadeBelow tables params saving
   saving-below tables params made = (
     record {
       nodes = made.0.nodes;

@@ -6,7 +6,7 @@ use Rattle.mz_logic.specs.Conversions.{Conversion, sym_conv, cong_conv, unfold_c
 use Rattle.mz_logic.specs.declared.binder.Binder.{Binder}
 use Rattle.mz_forms.specs.Proof.{by_conv}
 use Rattle.mz_unification.specs.Spells.{trees_of}
-use Rattle.mz_soundness.specs.Tables.{Tables}
+use Rattle.mz_soundness.specs.MachineState.{RowsBefore}
 use Rattle.mz_tracing.specs.Parts.{Part, then_conv, paid, for_operand, owed}
 use Rattle.mz_tracing.specs.Traces.{Trace, stacked}
 use Rattle.mz_trace.specs.Nodes.{Value, a_conversion, expression_at, expressions_at, conversion_at, conversions_at, proof_at, value_of, HasParts, IsConversion, AreConversions}
@@ -24,7 +24,7 @@ atop tr x xs = stacked tr (x ∷ xs)
 
 -- ---- where it makes a conversion that pays in its turn
 
-module _ (tables : Tables) (params : List Binder) (s : Stage) (xs : List Entry) (x : Entry) (c : ℕ) (n : RunNode) where
+module _ (tables : RowsBefore) (params : List Binder) (s : Stage) (xs : List Entry) (x : Entry) (c : ℕ) (n : RunNode) where
   -- the entry stands for no items, and the node's conversion is what is paid below it
   pub passed : IsHeld tables params (with_stack s xs) → HasParts tables (values_in s) n → IsWaiting tables (values_in s) xs
       → items_at (values_in s) (x ∷ xs) ≡ items_at (values_in s) xs
@@ -69,7 +69,7 @@ pairs-left vs (p ∷ ps) qs h = let (rest, more) = pairs-left vs ps qs h.2 in ((
 
 -- ---- where it is in its place
 
-module _ (tables : Tables) (params : List Binder) (s : Stage) (xs : List Entry) where
+module _ (tables : RowsBefore) (params : List Binder) (s : Stage) (xs : List Entry) where
   -- a proof of the expression, by the conversion from what the other proof proves
   pub into-proof : (e p c : ℕ) → IsMadeBelow tables params (with_stack s (ForProof e p ∷ xs)) → IsConversion (values_in s) c
       → IsPaid tables params (with_stack s (ForProof e p ∷ xs)) c (with_stack (with_node s (node.Conv e c p)) (Held (Proof e (length s.nodes)) ∷ xs))

@@ -6,7 +6,7 @@ use Rattle.mz_logic.specs.Conversions.{Conversion}
 use Rattle.mz_logic.specs.declared.binder.Binder.{Binder}
 use Rattle.mz_forms.specs.Proof.{Proof}
 use Rattle.mz_unification.specs.Profile.{Item as MachineItem}
-use Rattle.mz_soundness.specs.Tables.{Tables, State}
+use Rattle.mz_soundness.specs.MachineState.{RowsBefore, State}
 use Rattle.mz_tracing.specs.Parts.{Part}
 use Rattle.mz_tracing.specs.Traces.{Trace}
 use Rattle.mz_trace.specs.Nodes.{Value, an_expression, a_conversion, a_proof, expression_of, conversion_of, proof_of, expression_at, conversion_at, proof_at, expressions_at, value_of, HasParts, IsExpression, IsConversion, IsProof, AreExpressions, AreProofs}
@@ -33,7 +33,7 @@ alike-trace hs xs ls = rw (hs, xs, ls) refl
 
 -- ---- one node more
 
-module _ (tables : Tables) (params : List Binder) (s : Stage) (n : RunNode) (held : IsHeld tables params s) (parts : HasParts tables (values_in s) n) where
+module _ (tables : RowsBefore) (params : List Binder) (s : Stage) (n : RunNode) (held : IsHeld tables params s) (parts : HasParts tables (values_in s) n) where
   abbrev before : List Value
   before = values_in s
 
@@ -113,10 +113,10 @@ module _ (tables : Tables) (params : List Binder) (s : Stage) (n : RunNode) (hel
 
 -- ---- the whole of a stage with one node more
 
-abbrev pub held-of : (tables : Tables) (params : List Binder) (s : Stage) (xs ys : List Entry) → IsHeld tables params (with_stack s xs) → IsHeld tables params (with_stack s ys)
+abbrev pub held-of : (tables : RowsBefore) (params : List Binder) (s : Stage) (xs ys : List Entry) → IsHeld tables params (with_stack s xs) → IsHeld tables params (with_stack s ys)
 held-of tables params s xs ys h = record { nodes = h.nodes; heap = h.heap; hyps = h.hyps; lets = h.lets; variables = h.variables }
 
-module _ (tables : Tables) (params : List Binder) (s : Stage) (n : RunNode) (held : IsHeld tables params s) (parts : HasParts tables (values_in s) n) where
+module _ (tables : RowsBefore) (params : List Binder) (s : Stage) (n : RunNode) (held : IsHeld tables params s) (parts : HasParts tables (values_in s) n) where
   pub state-below : IsWaiting tables (values_in s) s.stack → state_of params (with_node s n) ≡ state_of params s
   state-below w = alike (context_of params s) (heap-still tables params s n held parts) (items_below-still tables params s n held parts s.stack w) (hyps-still tables params s n held parts)
 

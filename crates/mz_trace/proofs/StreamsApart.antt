@@ -15,7 +15,7 @@ use Rattle.mz_unification.specs.Streams.{u_term, u_term_save, u_ref, u_dummy}
 use Rattle.mz_unification.specs.Tests.{same_tree, is_bound_var}
 use Rattle.mz_unification.specs.UnifyMachine.{in_definition, UnifyState, top_target, operands_of, within_any, is_fresh, unify_row}
 use Rattle.mz_unification.proofs.Offered.{from_bind, from_need, from_want, some_is, taken-is, both-true, top-is, apart-is, listed-trees_of}
-use Rattle.mz_soundness.specs.Tables.{Tables}
+use Rattle.mz_soundness.specs.MachineState.{RowsBefore}
 use Rattle.mz_tracing.specs.Traces.{variable_in, variables_in}
 use Rattle.mz_trace.specs.Nodes.{Value, an_expression, expression_of, expression_at, expressions_at, value_of, values, IsExpression, AreExpressions, HaveParts, IsApplication, Applies, IsVariable, IsVariableAt}
 use Rattle.mz_trace.specs.Streams.{IsReached, Executes, MayTakeApart, TakesApart}
@@ -101,7 +101,7 @@ of-variable vs x (node.Sym c) is = absurd cc
 of-variable vs x (node.Cong t cs) is = absurd cc
 of-variable vs x (node.Unfold t e os ys c) is = absurd cc
 
-variable-at : (tables : Tables) (nodes : List RunNode) (i x : ℕ) → HaveParts tables nodes → slice_get (values nodes) i ≡ Some (an_expression (var x)) → IsVariableOf x (slice_get nodes i)
+variable-at : (tables : RowsBefore) (nodes : List RunNode) (i x : ℕ) → HaveParts tables nodes → slice_get (values nodes) i ≡ Some (an_expression (var x)) → IsVariableOf x (slice_get nodes i)
 variable-at tables nodes i x h at =
     let (n, is) = node-at (values nodes) nodes i (an_expression (var x)) (all-values nodes) at in
     rw is (of-variable (values nodes) x n (some_is (shown tables nodes i n h is).0 at))

@@ -12,7 +12,7 @@ use Rattle.mz_logic.specs.Signature.{Signature}
 use Rattle.mz_logic.specs.declared.binder.Binder.{Binder}
 use Rattle.mz_unification.specs.Profile.{strict}
 use Rattle.mz_unification.specs.UnifyMachine.{in_definition, UnifyState, at_start, unify}
-use Rattle.mz_soundness.specs.Tables.{Tables}
+use Rattle.mz_soundness.specs.MachineState.{RowsBefore}
 use Rattle.mz_tracing.specs.Traces.{variables_in}
 use Rattle.mz_trace.specs.Nodes.{values, expression_at, IsExpression, HaveParts}
 use Rattle.mz_trace.specs.Commands.{in_body, MayMeet, Meets}
@@ -23,7 +23,7 @@ use Rattle.mz_trace.proofs.StreamsLeft.{Left, is-read, ends, goes-on-at}
 module _ (nodes : List RunNode) (stream : List ℕ) (target : ℕ) where
   -- wherever it runs, it reaches these targets and variables, and the rest runs from there
   abbrev pub MetSoFar : ℕ → List ℕ → List ℕ → Type 0
-  MetSoFar at targets met = (tables : Tables) (sigs : List Signature) (ctx : List Binder) (es : List Tree) (u : UnifyState Tree)
+  MetSoFar at targets met = (tables : RowsBefore) (sigs : List Signature) (ctx : List Binder) (es : List Tree) (u : UnifyState Tree)
       → HaveParts tables nodes → IsExpression (values nodes) target → unify strict sigs ctx (in_body stream es (expression_at (values nodes) target)) ≡ Ok u
       → (st : UnifyState Tree) × Left sigs ctx in_definition at (drop at stream) st u × IsReached nodes es targets met st
 

@@ -10,7 +10,7 @@ use Rattle.mz_unification.specs.Profile.{strict}
 use Rattle.mz_unification.specs.Profile.{Item as MachineItem}
 use Rattle.mz_unification.specs.Tests.{same_tree}
 use Rattle.mz_unification.proofs.Offered.{from_bind, from_need, taken-is}
-use Rattle.mz_soundness.specs.Tables.{Tables}
+use Rattle.mz_soundness.specs.MachineState.{RowsBefore}
 use Rattle.mz_soundness.specs.Premises.{pop_expr, pop_proof, pop_obligation, pop_conversion, pop_sides, pop_exprs}
 use Rattle.mz_tracing.specs.Parts.{proofs_above}
 use Rattle.mz_trace.specs.Nodes.{Value, expression_at, expressions_at, proof_at, proofs_at, AreExpressions, AreProofs}
@@ -22,7 +22,7 @@ use Rattle.mz_trace.specs.declared.entry.Entry.TheVariants.{Held, Owed, ForProof
 abbrev pub second : ℕ × ℕ → ℕ
 second p = p.1
 
-module _ (tables : Tables) (vs : List Value) where
+module _ (tables : RowsBefore) (vs : List Value) where
   pub expr-top : (xs : List Entry) (r : Tree × List (MachineItem Tree)) → IsStack tables vs xs → pop_expr (items_at vs xs) ≡ Ok r
       → (n : ℕ) × (ys : List Entry) × (xs ≡ Held (Expr n) ∷ ys) × (r ≡ (expression_at vs n, items_at vs ys))
   expr-top [] r h e = absurd cc

@@ -7,18 +7,18 @@ use Rattle.mz_cmd.specs.declared.code.ProofCode.TheVariants as code
 use Rattle.mz_layout.specs.Tables.{term_row, term_count}
 use Rattle.mz_logic.specs.Tree.{Tree, Trees, var, app, listed, instance, followed_by, variables}
 use Rattle.mz_logic.specs.Signature.{Signature}
-use Rattle.mz_logic.specs.Declaration.{signatures}
+use Rattle.mz_logic.specs.Declaration.{signatures, body_tree}
 use Rattle.mz_logic.specs.declared.binder.Binder.{Binder}
-use Rattle.mz_typing.specs.Sides.{term_at, body_tree}
+use Rattle.mz_typing.specs.Sides.{term_at}
 use Rattle.mz_unification.specs.Profile.{strict, tree_parts, obligation}
 use Rattle.mz_unification.specs.Profile.{Item as MachineItem}
-use Rattle.mz_unification.specs.Spells.{TermRow, trees_of}
+use Rattle.mz_unification.specs.Spells.{SpelledTerm, trees_of}
 use Rattle.mz_unification.specs.Steps.{◌>>=◌, want}
 use Rattle.mz_unification.specs.Sorted.{Sorted, ItemsSorted}
 use Rattle.mz_unification.specs.Tests.{same_tree}
 use Rattle.mz_unification.specs.UnifyMachine.{Matching, UnifyState, unify}
 use Rattle.mz_unification.proofs.Offered.{from_bind, from_need, from_want, taken-is, rule_of-ok, trees_of-listed}
-use Rattle.mz_soundness.specs.Tables.{Tables, State, signatures_in}
+use Rattle.mz_soundness.specs.MachineState.{RowsBefore, State, signatures_in}
 use Rattle.mz_soundness.specs.Premises.{pop_expr, pop_sides}
 use Rattle.mz_soundness.specs.ProofMachine.{proof_row, unfolding_of, matched_by, stream_of}
 use Rattle.mz_tracing.specs.Parts.{owed, for_unfolded}
@@ -61,20 +61,20 @@ abbrev Unfolding : Type 0
 Unfolding = Matching Tree × Tree × List (MachineItem Tree)
 
 -- a term's stream
-stream-in : (o : Option TermRow) (stream : List ℕ) → stream_of o ≡ Some stream → (row : TermRow) × (o ≡ Some row) × (row.stream ≡ Some stream)
+stream-in : (o : Option SpelledTerm) (stream : List ℕ) → stream_of o ≡ Some stream → (row : SpelledTerm) × (o ≡ Some row) × (row.stream ≡ Some stream)
 stream-in None stream h = absurd cc
 stream-in (Some row) stream h = (row, refl, h)
 
 -- the left side is an application, of a term with this stream
-abbrev IsDefined : Tables → List Value → ℕ → ℕ → Trees → List ℕ → Type 0
-IsDefined tables vs l t es stream = (row : TermRow) × (slice_get tables.terms t ≡ Some row) × (row.stream ≡ Some stream) × (slice_get vs l ≡ Some (an_expression (app t es)))
+abbrev IsDefined : RowsBefore → List Value → ℕ → ℕ → Trees → List ℕ → Type 0
+IsDefined tables vs l t es stream = (row : SpelledTerm) × (slice_get tables.terms t ≡ Some row) × (row.stream ≡ Some stream) × (slice_get vs l ≡ Some (an_expression (app t es)))
 
 -- what is matched
-abbrev Unfolds : Tables → List Value → (e l r : ℕ) → List Entry → Unfolding → Type 0
+abbrev Unfolds : RowsBefore → List Value → (e l r : ℕ) → List Entry → Unfolding → Type 0
 Unfolds tables vs e l r xs m = (t : ℕ) × (es : Trees) × (stream : List ℕ) × IsDefined tables vs l t es stream
     × (m ≡ (in_body stream (listed es) (expression_at vs e), expression_at vs r, items_at vs xs))
 
-module _ (tables : Tables) (vs : List Value) (e l r : ℕ) (xs : List Entry) where
+module _ (tables : RowsBefore) (vs : List Value) (e l r : ℕ) (xs : List Entry) where
   abbrev steps-on : Tree × Tree × List (MachineItem Tree) → Result Unfolding K
   steps-on o = do
     p ← want (tree_parts o.0) k.Unfold
@@ -113,7 +113,7 @@ module _ (vs : List Value) (ys : List Entry) (l r : ℕ) (zs : List Entry) where
   parts-below (inl is) = rw is refl
   parts-below (inr (n, is)) = rw is refl
 
-  took-stack : (tables : Tables) → TookSides ys l r zs → IsStack tables vs ys → IsExpression vs l × IsExpression vs r × IsWaiting tables vs zs
+  took-stack : (tables : RowsBefore) → TookSides ys l r zs → IsStack tables vs ys → IsExpression vs l × IsExpression vs r × IsWaiting tables vs zs
   took-stack tables (inl is) h = subst (IsStack tables vs) is h
   took-stack tables (inr (n, is)) h = (subst (IsStack tables vs) is h).1
 
@@ -137,7 +137,7 @@ module _ (n : ℕ) (s : Stage) (ys zs : List Entry) (e l r : ℕ) (took : TookSi
   abbrev state-with : List Binder → List (MachineItem Tree) → State Tree
   state-with params xs = record (state_of params s) { stack = xs }
 
-  record Row (tables : Tables) (params : List Binder) (st : State Tree) : Type 0 where
+  record Row (tables : RowsBefore) (params : List Binder) (st : State Tree) : Type 0 where
     pub m : Unfolding
     pub u : UnifyState Tree
     pub making : unfolding_of strict tables (state_of params before) ≡ Ok m
@@ -146,7 +146,7 @@ module _ (n : ℕ) (s : Stage) (ys zs : List Entry) (e l r : ℕ) (took : TookSi
     pub state : st ≡ state-with params (obligation m.0.target m.1 ∷ m.2)
     pub unfolds : Unfolds tables (values_in s) e l r zs m
 
-  unfold-row : (tables : Tables) (params : List Binder) (st : State Tree) → IsMade tables params before
+  unfold-row : (tables : RowsBefore) (params : List Binder) (st : State Tree) → IsMade tables params before
       → proof_row strict tables 0 code.Unfold n (state_of params before) ≡ Ok st → Row tables params st
   unfolding proof_row unfolding_of
   unfold-row tables params st made row =
@@ -166,7 +166,7 @@ module _ (n : ℕ) (s : Stage) (ys zs : List Entry) (e l r : ℕ) (took : TookSi
       }
 
   -- what it makes beside
-  unfold-trace : (tables : Tables) (params : List Binder) (st : State Tree) (x : Row tables params st)
+  unfold-trace : (tables : RowsBefore) (params : List Binder) (st : State Tree) (x : Row tables params st)
       → traced tables code.Unfold n (state_of params before) (trace_of before)
       ≡ taken-trace (stacked (trace_of s) (owed ∷ for_unfolded x.unfolds.0 (trees_of (listed x.unfolds.1)) (variables_in (drop (length (listed x.unfolds.1)) x.u.apart)) ∷ parts_at (values_in s) zs))
   unfolding traced
@@ -180,7 +180,7 @@ module _ (n : ℕ) (s : Stage) (ys zs : List Entry) (e l r : ℕ) (took : TookSi
       ∙ ap (λ ps. taken-trace (stacked (trace_of s) (owed ∷ for_unfolded x.unfolds.0 (trees_of (listed x.unfolds.1)) (variables_in (drop (length (listed x.unfolds.1)) x.u.apart)) ∷ ps)))
       (parts-below vs ys l r zs took)
 
-  module _ (file : List ℕ) (tables : Tables) (params : List Binder) (st : State Tree) (q : IsRead file tables params before) (made : IsMade tables params before) (x : Row tables params st) where
+  module _ (file : List ℕ) (tables : RowsBefore) (params : List Binder) (st : State Tree) (q : IsRead file tables params before) (made : IsMade tables params before) (x : Row tables params st) where
     abbrev t' : ℕ
     t' = x.unfolds.0
 
@@ -203,7 +203,7 @@ module _ (n : ℕ) (s : Stage) (ys zs : List Entry) (e l r : ℕ) (took : TookSi
       stream-is : x.unfolds.2 ≡ body
       stream-is =
           of-file (term_row file t').words.has_body (drop (term_row file t').stream_at file) x.unfolds.2
-          (sym (ap (λ (row : TermRow). row.stream) (term-stream file tables q.0 t' x.unfolds.3.0 x.unfolds.3.1)) ∙ x.unfolds.3.2)
+          (sym (ap (λ (row : SpelledTerm). row.stream) (term-stream file tables q.0 t' x.unfolds.3.0 x.unfolds.3.1)) ∙ x.unfolds.3.2)
           ∙ ap (λ v. drop (term_row file v).stream_at file) (sym same-term)
 
       runs : unify strict (signatures_in tables) (context_of params s) (in_body body (listed es') (expression_at (values_in s) e)) ≡ Ok x.u

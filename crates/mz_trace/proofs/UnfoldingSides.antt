@@ -11,11 +11,11 @@ use Rattle.mz_logic.specs.Conversions.{refl_conv}
 use Rattle.mz_logic.specs.declared.binder.Binder.{Binder}
 use Rattle.mz_unification.specs.Profile.{strict, tree_parts}
 use Rattle.mz_unification.specs.Profile.{Item as MachineItem}
-use Rattle.mz_unification.specs.Spells.{TermRow, trees_of}
+use Rattle.mz_unification.specs.Spells.{SpelledTerm, trees_of}
 use Rattle.mz_unification.specs.Steps.{◌>>=◌, ◌>>◌, need, want}
 use Rattle.mz_unification.specs.Tests.{same_tree}
 use Rattle.mz_unification.proofs.Offered.{from_want, taken-is, some_is, listed-trees_of, same_tree-refl}
-use Rattle.mz_soundness.specs.Tables.{Tables, State}
+use Rattle.mz_soundness.specs.MachineState.{RowsBefore, State}
 use Rattle.mz_soundness.specs.ProofMachine.{proof_row, same_term, sides}
 use Rattle.mz_tracing.specs.Parts.{owed, for_operand, paid, by_operands}
 use Rattle.mz_tracing.specs.Traces.{stacked, traced}
@@ -70,10 +70,10 @@ two-terms (app t es) (app u fs) p h =
     let (same, is) = chosen (eqb t u) (listed es, listed fs) p h in
     (t, es, fs, refl, ap (λ v. app v fs) (sym (eqb-true t u same)), sym is)
 
-same-arity : (tables : Tables) (t n m : ℕ) → HasArity tables t n → HasArity tables t m → n ≡ m
-same-arity tables t n m (row, at, is) (row', at', is') = sym is ∙ ap (λ (r : TermRow). length r.signature.params) (some_is at at') ∙ is'
+same-arity : (tables : RowsBefore) (t n m : ℕ) → HasArity tables t n → HasArity tables t m → n ≡ m
+same-arity tables t n m (row, at, is) (row', at', is') = sym is ∙ ap (λ (r : SpelledTerm). length r.signature.params) (some_is at at') ∙ is'
 
-module _ (tables : Tables) (ns : List RunNode) (h : HaveParts tables ns) (l r : ℕ) (left : IsExpression (values ns) l) (right : IsExpression (values ns) r) where
+module _ (tables : RowsBefore) (ns : List RunNode) (h : HaveParts tables ns) (l r : ℕ) (left : IsExpression (values ns) l) (right : IsExpression (values ns) r) where
   abbrev OfOneTerm : List Tree × List Tree → Type 0
   OfOneTerm p = (t : ℕ) × (es fs : Trees) × IsApplicationOf tables (values ns) t es (slice_get ns l) × IsApplicationOf tables (values ns) t fs (slice_get ns r)
       × (expression_at (values ns) l ≡ app t es) × (p ≡ (listed es, listed fs)) × (expression_at (values ns) r ≡ app t fs)
@@ -131,7 +131,7 @@ module _ (n : ℕ) (s : Stage) (xs : List Entry) (l r t : ℕ) (ps : List (ℕ �
   state-with params zs = record (state_of params s) { stack = zs }
 
   -- what the row reads
-  cong-row : (tables : Tables) (params : List Binder) (st : State Tree) → IsMade tables params owing → proof_row strict tables 0 code.Cong n (state_of params owing) ≡ Ok st
+  cong-row : (tables : RowsBefore) (params : List Binder) (st : State Tree) → IsMade tables params owing → proof_row strict tables 0 code.Cong n (state_of params owing) ≡ Ok st
       → (p : List Tree × List Tree) × (state-with params (sides p.0 p.1 (items_at (values_in s) xs)) ≡ st) × (same_term (tree_parts el) (tree_parts er) ≡ Some p)
   unfolding proof_row
   cong-row tables params st made row =
@@ -139,13 +139,13 @@ module _ (n : ℕ) (s : Stage) (xs : List Entry) (l r t : ℕ) (ps : List (ℕ �
       (p, taken-is (state-with params (sides p.0 p.1 (items_at (values_in s) xs))) st e1, both)
 
   -- what it makes beside
-  cong-trace : (tables : Tables) (params : List Binder) (es : List Tree) → el ≡ app t (trees_of es)
+  cong-trace : (tables : RowsBefore) (params : List Binder) (es : List Tree) → el ≡ app t (trees_of es)
       → traced tables code.Cong n (state_of params owing) (trace_of owing) ≡ taken-trace (stacked (trace_of s) (by_operands t (length es) (parts_at (values_in s) xs)))
   unfolding traced
   cong-trace tables params es is =
       want-is (tree_parts el) k.Cong _ (t, es) (ap tree_parts is ∙ ap (λ z. Some (t, z)) (listed-trees_of es))
 
-  module _ (tables : Tables) (params : List Binder) (made : IsMade tables params owing) where
+  module _ (tables : RowsBefore) (params : List Binder) (made : IsMade tables params owing) where
     abbrev Reads : List Tree × List Tree → Type 0
     Reads p = Read tables s.nodes made.0.nodes l r made.1.0 made.1.1 t have.1 have.2 p
 
@@ -183,7 +183,7 @@ module _ (n : ℕ) (s : Stage) (xs : List Entry) (l r t : ℕ) (ps : List (ℕ �
     no-operands (o ∷ os) [] many is = absurd (omega (arith, many))
     no-operands (o ∷ os) (q ∷ qs) many is = absurd cc
 
-    module _ (tables : Tables) (params : List Binder) (made : IsMade tables params owing) (p : List Tree × List Tree) (both : same_term (tree_parts el) (tree_parts er) ≡ Some p) where
+    module _ (tables : RowsBefore) (params : List Binder) (made : IsMade tables params owing) (p : List Tree × List Tree) (both : same_term (tree_parts el) (tree_parts er) ≡ Some p) where
       bare : (p ≡ ([], [])) × (el ≡ app t none) × (er ≡ app t none)
       bare =
           let vs = values_in s in
@@ -200,7 +200,7 @@ module _ (n : ℕ) (s : Stage) (xs : List Entry) (l r t : ℕ) (ps : List (ℕ �
           need-is (same_tree el er) k.Refl _ (rw (bare.1, bare.2) (same_tree-refl (app t none)))
           ∙ ap (λ (z : List Tree × List Tree). taken-state (state-with params (sides z.0 z.1 (items_at (values_in s) xs)))) (sym bare.0)
 
-    as-refl : (tables : Tables) (params : List Binder) (st : State Tree) → IsMade tables params owing → proof_row strict tables 0 code.Cong n (state_of params owing) ≡ Ok st
+    as-refl : (tables : RowsBefore) (params : List Binder) (st : State Tree) → IsMade tables params owing → proof_row strict tables 0 code.Cong n (state_of params owing) ≡ Ok st
         → proof_row strict tables 0 code.Refl n (state_of params owing) ≡ Ok st
     as-refl tables params st made row =
         let (p, st-is, both) = cong-row tables params st made row in
@@ -209,7 +209,7 @@ module _ (n : ℕ) (s : Stage) (xs : List Entry) (l r t : ℕ) (ps : List (ℕ �
     pub cong-goes : Goes IsAny code.Cong n owing → Goes IsAny code.Refl n owing
     cong-goes (tables, params, st, q, made, row) = (tables, params, st, q, made, as-refl tables params st made row)
 
-    traced-same : (tables : Tables) (params : List Binder) → el ≡ app t none
+    traced-same : (tables : RowsBefore) (params : List Binder) → el ≡ app t none
         → traced tables code.Cong n (state_of params owing) (trace_of owing) ≡ traced tables code.Refl n (state_of params owing) (trace_of owing)
     unfolding traced
     traced-same tables params is =

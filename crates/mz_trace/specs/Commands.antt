@@ -7,7 +7,7 @@ use Rattle.mz_logic.specs.Derivations.{Uses as MayUse}
 use Rattle.mz_logic.specs.declared.binder.Binder.{Binder}
 use Rattle.mz_unification.specs.Profile.{strict}
 use Rattle.mz_unification.specs.Spells.{dummy_of}
-use Rattle.mz_soundness.specs.Tables.{Tables, State, Declares}
+use Rattle.mz_soundness.specs.MachineState.{RowsBefore, State, Declares}
 use Rattle.mz_soundness.specs.Facts.{IsFront, Fact}
 use Rattle.mz_soundness.specs.ProofMachine.{proof_row}
 use Rattle.mz_earlier.specs.Before.{AreWithin, tables_before}
@@ -86,7 +86,7 @@ abbrev pub trace_of : Stage → Trace
 trace_of s = trace_by (values_in s) s
 
 -- what is named is there, but on the stack
-pub record IsHeld (tables : Tables) (params : List Binder) (s : Stage) : Type 0 where
+pub record IsHeld (tables : RowsBefore) (params : List Binder) (s : Stage) : Type 0 where
   pub nodes : HaveParts tables s.nodes
   pub heap : AreItems (values_in s) s.heap
   pub hyps : AreExpressions (values_in s) s.hyps
@@ -94,11 +94,11 @@ pub record IsHeld (tables : Tables) (params : List Binder) (s : Stage) : Type 0 
   pub variables : s.variables ≡ length (context_of params s)
 
 -- what is named is there
-abbrev pub IsMade : Tables → List Binder → Stage → Type 0
+abbrev pub IsMade : RowsBefore → List Binder → Stage → Type 0
 IsMade tables params s = IsHeld tables params s × IsStack tables (values_in s) s.stack
 
 -- the same where what is owed was taken from the stack
-abbrev pub IsMadeBelow : Tables → List Binder → Stage → Type 0
+abbrev pub IsMadeBelow : RowsBefore → List Binder → Stage → Type 0
 IsMadeBelow tables params s = IsHeld tables params s × IsWaiting tables (values_in s) s.stack
 
 -- ---- one command
@@ -108,17 +108,17 @@ abbrev pub anything : MayUse
 anything = record { cites = λ T. ⊤; gaps = ⊤ }
 
 -- these are rows of the file
-abbrev pub IsOfFile : List ℕ → Tables → Type 0
+abbrev pub IsOfFile : List ℕ → RowsBefore → Type 0
 IsOfFile file tables = (rows : Rows) × AreWithin file rows × (tables ≡ tables_before file rows)
 
 -- the state has its fact, whatever the rows declare and however the context goes on
-abbrev pub IsKnown : Tables → List Binder → Stage → Type 0
+abbrev pub IsKnown : RowsBefore → List Binder → Stage → Type 0
 IsKnown tables params s = (env : List Declaration) → Declares tables env → (full : List Binder)
     → IsFront (context_of params s) full → Fact anything env params full (state_of params s)
 
 -- what is known of a stage before a command: nothing, or this
 abbrev pub Known : Type 1
-Known = Tables → List Binder → Stage → Type 0
+Known = RowsBefore → List Binder → Stage → Type 0
 
 abbrev pub IsRead : List ℕ → Known
 IsRead file tables params s = IsOfFile file tables × IsKnown tables params s
@@ -128,12 +128,12 @@ IsAny tables params s = ⊤
 
 -- the command goes through, over such rows
 abbrev pub Goes : Known → ProofCode → ℕ → Stage → Type 0
-Goes Q c n s = (tables : Tables) × (params : List Binder) × (st : State Tree)
+Goes Q c n s = (tables : RowsBefore) × (params : List Binder) × (st : State Tree)
     × Q tables params s × IsMade tables params s × (proof_row strict tables 0 c n (state_of params s) ≡ Ok st)
 
 -- it leads from s to s'
 abbrev pub Leads : Known → ProofCode → ℕ → Stage → Stage → Type 0
-Leads Q c n s s' = (tables : Tables) (params : List Binder) (st : State Tree)
+Leads Q c n s s' = (tables : RowsBefore) (params : List Binder) (st : State Tree)
     → Q tables params s → IsMade tables params s → proof_row strict tables 0 c n (state_of params s) ≡ Ok st
     → IsMade tables params s' × (st ≡ state_of params s') × (traced tables c n (state_of params s) (trace_of s) ≡ Ok (trace_of s'))
 
@@ -197,26 +197,26 @@ pub record IsCited (file : List ℕ) (t : ℕ) (s s' : Stage) (claim made : ℕ)
 
 -- what was owed above the stack can be paid by the conversion
 abbrev pub MayPay : Stage → ℕ → Type 0
-MayPay s c = (tables : Tables) × (params : List Binder) × IsMadeBelow tables params s × IsConversion (values_in s) c
+MayPay s c = (tables : RowsBefore) × (params : List Binder) × IsMadeBelow tables params s × IsConversion (values_in s) c
 
 -- it is paid: the machine's state is the same, and the tree is where it belongs
-pub record IsPaid (tables : Tables) (params : List Binder) (s : Stage) (c : ℕ) (s' : Stage) : Type 0 where
+pub record IsPaid (tables : RowsBefore) (params : List Binder) (s : Stage) (c : ℕ) (s' : Stage) : Type 0 where
   pub made : IsMade tables params s'
   pub state : state_of params s' ≡ state_of params s
   pub trace : trace_of s' ≡ stacked (trace_of s) (paid (conversion_at (values_in s) c) (trace_of s).stack)
 
 abbrev pub Pays : Stage → ℕ → Stage → Type 0
-Pays s c s' = (tables : Tables) (params : List Binder) → IsMadeBelow tables params s → IsConversion (values_in s) c → IsPaid tables params s c s'
+Pays s c s' = (tables : RowsBefore) (params : List Binder) → IsMadeBelow tables params s → IsConversion (values_in s) c → IsPaid tables params s c s'
 
 -- it goes into the next place, and makes a conversion that pays in its turn
-pub record IsPassedOn (tables : Tables) (params : List Binder) (s : Stage) (c : ℕ) (s' : Stage) (c' : ℕ) : Type 0 where
+pub record IsPassedOn (tables : RowsBefore) (params : List Binder) (s : Stage) (c : ℕ) (s' : Stage) (c' : ℕ) : Type 0 where
   pub made : IsMadeBelow tables params s'
   pub conversion : IsConversion (values_in s') c'
   pub state : state_of params s' ≡ state_of params s
   pub trace : stacked (trace_of s') (paid (conversion_at (values_in s') c') (trace_of s').stack) ≡ stacked (trace_of s) (paid (conversion_at (values_in s) c) (trace_of s).stack)
 
 abbrev pub PassesOn : Stage → ℕ → Stage → ℕ → Type 0
-PassesOn s c s' c' = (tables : Tables) (params : List Binder) → IsMadeBelow tables params s → IsConversion (values_in s) c → IsPassedOn tables params s c s' c'
+PassesOn s c s' c' = (tables : RowsBefore) (params : List Binder) → IsMadeBelow tables params s → IsConversion (values_in s) c → IsPassedOn tables params s c s' c'
 
 -- one step of it
 abbrev pub PaysOne : Stage → ℕ → Stage → Option ℕ → Type 0
@@ -247,11 +247,11 @@ abbrev pub in_body : List ℕ → List Tree → Tree → Matching Tree
 in_body stream es e = record { mode = in_definition; stream = stream; operands = es; target = e; items = [] }
 
 abbrev pub MayMeet : List RunNode → List ℕ → ℕ → Type 0
-MayMeet nodes stream target = (tables : Tables) × (sigs : List Signature) × (ctx : List Binder) × (es : List Tree) × (u : UnifyState Tree)
+MayMeet nodes stream target = (tables : RowsBefore) × (sigs : List Signature) × (ctx : List Binder) × (es : List Tree) × (u : UnifyState Tree)
     × HaveParts tables nodes × IsExpression (values nodes) target × (unify strict sigs ctx (in_body stream es (expression_at (values nodes) target)) ≡ Ok u)
 
 abbrev pub Meets : List RunNode → List ℕ → ℕ → List ℕ → Type 0
-Meets nodes stream target met = (tables : Tables) (sigs : List Signature) (ctx : List Binder) (es : List Tree) (u : UnifyState Tree)
+Meets nodes stream target met = (tables : RowsBefore) (sigs : List Signature) (ctx : List Binder) (es : List Tree) (u : UnifyState Tree)
     → HaveParts tables nodes → IsExpression (values nodes) target → unify strict sigs ctx (in_body stream es (expression_at (values nodes) target)) ≡ Ok u
     → variables_in (drop (length es) u.apart) ≡ met
 

@@ -4,7 +4,7 @@ use Rattle.mz_unification.specs.Profile.{expr, proof, obligation, conversion}
 use Rattle.mz_unification.specs.Profile.{Item as MachineItem}
 use Rattle.mz_logic.specs.Tree.{Tree}
 use Rattle.mz_unification.specs.Spells.{trees_of}
-use Rattle.mz_soundness.specs.Tables.{Tables}
+use Rattle.mz_soundness.specs.MachineState.{RowsBefore}
 use Rattle.mz_tracing.specs.Parts.{Part, expression, proved, owed, converted, for_proof, for_turned, for_operand, for_unfolded, for_cut}
 use Rattle.mz_trace.specs.Nodes.{Value, expression_at, expressions_at, conversion_at, conversions_at, proof_at, IsExpression, AreExpressions, IsConversion, AreConversions, IsProof, IsBody}
 use Rattle.mz_trace.specs.declared.entry.Item.{Item}
@@ -73,7 +73,7 @@ ArePairs vs (p ∷ ps) = IsExpression vs p.0 × IsExpression vs p.1 × ArePairs 
 -- Expressions and proofs stand free. Below what is owed stands what waits for it, down to a proof; there may be cuts between,
 -- and a conversion that was cut stands above what waits for it.
 abbrev mutual
-  pub IsStack : Tables → List Value → List Entry → Type 0
+  pub IsStack : RowsBefore → List Value → List Entry → Type 0
   IsStack tables vs [] = ⊤
   IsStack tables vs (Held (Expr e) ∷ xs) = IsExpression vs e × IsStack tables vs xs
   IsStack tables vs (Held (Proof e p) ∷ xs) = (IsExpression vs e × IsProof vs p) × IsStack tables vs xs
@@ -85,7 +85,7 @@ abbrev mutual
   IsStack tables vs (ForUnfolded t e es ys ∷ xs) = ⊥
   IsStack tables vs (ForCut l r ∷ xs) = ⊥
 
-  pub IsWaiting : Tables → List Value → List Entry → Type 0
+  pub IsWaiting : RowsBefore → List Value → List Entry → Type 0
   IsWaiting tables vs [] = ⊥
   IsWaiting tables vs (Held x ∷ xs) = ⊥
   IsWaiting tables vs (Owed l r ∷ xs) = ⊥

@@ -2,12 +2,12 @@
 -- their parts).
 use Rattle.std.specs.Prelude.{ℕ, ◌≡◌, ⊤, List, [], ◌∷◌, ◌++◌, length, map, Option, Some, None, slice_get}
 use Rattle.mz_logic.specs.Tree.{Tree, var, app, none, instance, followed_by, variables}
-use Rattle.mz_logic.specs.Declaration.{Declaration}
+use Rattle.mz_logic.specs.Declaration.{Declaration, body_tree}
 use Rattle.mz_logic.specs.Conversions.{Conversion, Conversions, refl_conv, sym_conv, cong_conv, unfold_conv, no_convs, more_convs}
 use Rattle.mz_forms.specs.Proof.{Proof, Proofs, by_hyp, by_name, by_citation, by_conv, no_proofs, more_proofs}
-use Rattle.mz_typing.specs.Sides.{assertion_at, term_at, body_tree}
-use Rattle.mz_unification.specs.Spells.{TermRow, trees_of}
-use Rattle.mz_soundness.specs.Tables.{Tables, Declares}
+use Rattle.mz_typing.specs.Sides.{assertion_at, term_at}
+use Rattle.mz_unification.specs.Spells.{SpelledTerm, trees_of}
+use Rattle.mz_soundness.specs.MachineState.{RowsBefore, Declares}
 use Rattle.mz_trace.specs.declared.node.RunNode.{RunNode}
 use Rattle.mz_trace.specs.declared.node.RunNode.TheVariants as node
 
@@ -102,8 +102,8 @@ AreProofs vs [] = ⊤
 AreProofs vs (n ∷ ns) = IsProof vs n × AreProofs vs ns
 
 -- the term is there, and has so many parameters
-abbrev pub HasArity : Tables → ℕ → ℕ → Type 0
-HasArity tables t n = (row : TermRow) × (slice_get tables.terms t ≡ Some row) × (length row.signature.params ≡ n)
+abbrev pub HasArity : RowsBefore → ℕ → ℕ → Type 0
+HasArity tables t n = (row : SpelledTerm) × (slice_get tables.terms t ≡ Some row) × (length row.signature.params ≡ n)
 
 -- ---- what was matched
 
@@ -115,14 +115,14 @@ abbrev pub body_under : List Declaration → ℕ → List Tree → List ℕ → 
 body_under env t es ys = instance (followed_by (trees_of es) (variables ys)) (body_tree (term_at env t).form)
 
 -- this expression, whatever the rows declare
-abbrev pub IsClaim : Tables → ℕ → List Tree → Tree → Type 0
+abbrev pub IsClaim : RowsBefore → ℕ → List Tree → Tree → Type 0
 IsClaim tables t es e = (env : List Declaration) → Declares tables env → e ≡ conclusion_under env t es
 
-abbrev pub IsBody : Tables → ℕ → List Tree → List ℕ → Tree → Type 0
+abbrev pub IsBody : RowsBefore → ℕ → List Tree → List ℕ → Tree → Type 0
 IsBody tables t es ys e = (env : List Declaration) → Declares tables env → e ≡ body_under env t es ys
 
 -- the parts of the node are among these values, each of its kind, and what was matched is what it stands for
-abbrev pub HasParts : Tables → List Value → RunNode → Type 0
+abbrev pub HasParts : RowsBefore → List Value → RunNode → Type 0
 HasParts tables vs (node.Var x) = ⊤
 HasParts tables vs (node.App t es) = AreExpressions vs es.items × HasArity tables t (length es.items)
 HasParts tables vs (node.Hyp i) = ⊤
@@ -136,12 +136,12 @@ HasParts tables vs (node.Cong t cs) = AreConversions vs cs.items
 HasParts tables vs (node.Unfold t e es ys c) =
     IsExpression vs e × AreExpressions vs es.items × IsConversion vs c × IsBody tables t (expressions_at vs es.items) ys.items (expression_at vs e)
 
-abbrev pub HavePartsAfter : Tables → List Value → List RunNode → Type 0
+abbrev pub HavePartsAfter : RowsBefore → List Value → List RunNode → Type 0
 HavePartsAfter tables vs [] = ⊤
 HavePartsAfter tables vs (n ∷ ns) = HasParts tables vs n × HavePartsAfter tables (vs ++ value_of vs n ∷ []) ns
 
 -- each has its parts before it
-abbrev pub HaveParts : Tables → List RunNode → Type 0
+abbrev pub HaveParts : RowsBefore → List RunNode → Type 0
 HaveParts tables ns = HavePartsAfter tables [] ns
 
 -- ---- what a number names

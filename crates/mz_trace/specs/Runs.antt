@@ -4,7 +4,7 @@ use Rattle.mz_logic.specs.Declaration.{Declaration}
 use Rattle.mz_logic.specs.declared.binder.Binder.{Binder}
 use Rattle.mz_forms.specs.Proof.{Proof}
 use Rattle.mz_unification.specs.Spells.{dummy_of}
-use Rattle.mz_soundness.specs.Tables.{Tables, State, is_theorem, Heading}
+use Rattle.mz_soundness.specs.MachineState.{RowsBefore, State, is_theorem, Heading}
 use Rattle.mz_logic.specs.Tree.{Tree}
 use Rattle.mz_unification.specs.Profile.{strict}
 use Rattle.mz_soundness.specs.ProofMachine.{proof_end}
@@ -38,14 +38,14 @@ abbrev pub root_in : Run → Proof
 root_in r = proof_at (values_in r) r.root
 
 -- the body makes what the nodes stand for, and each part of a node is an earlier one of its kind
-pub record IsRunOf (tables : Tables) (h : Heading) (bytes : List ℕ) (r : Run) : Type 0 where
+pub record IsRunOf (tables : RowsBefore) (h : Heading) (bytes : List ℕ) (r : Run) : Type 0 where
   pub nodes : HaveParts tables r.nodes.items
   pub lets : AreProofs (values_in r) r.lets.items
   pub root : IsProof (values_in r) r.root
   pub made : Made tables h bytes (dummies_in r) (lets_in r) (root_in r)
 
 -- want of memory says nothing
-abbrev pub IsTraced : Tables → Heading → List ℕ → Traced → Type 0
+abbrev pub IsTraced : RowsBefore → Heading → List ℕ → Traced → Type 0
 IsTraced tables h bytes (traced.Run r) = IsRunOf tables h bytes r
 IsTraced tables h bytes traced.Mem = ⊤
 
@@ -72,12 +72,12 @@ pub record IsTheoremAt (file : List ℕ) (at row : ℕ) (before : Rows) : Type 0
 
 -- it runs to its END from here
 abbrev pub RunsFrom : List ℕ → List ℕ → Stage → Type 0
-RunsFrom file bytes s = (tables : Tables) × (h : Heading) × (n at : ℕ) × (end : State Tree)
+RunsFrom file bytes s = (tables : RowsBefore) × (h : Heading) × (n at : ℕ) × (end : State Tree)
     × IsRead file tables h.params s × (h.kind ≡ is_theorem) × IsMade tables h.params s × (body_from strict tables h n at bytes (state_of h.params s) ≡ Ok end)
 
 -- and what it makes leads there
 abbrev pub LeadsToEnd : List ℕ → List ℕ → Stage → Stage → Type 0
-LeadsToEnd file bytes s s' = (tables : Tables) (h : Heading) (n at : ℕ) (end : State Tree)
+LeadsToEnd file bytes s s' = (tables : RowsBefore) (h : Heading) (n at : ℕ) (end : State Tree)
     → IsRead file tables h.params s → h.kind ≡ is_theorem → IsMade tables h.params s → body_from strict tables h n at bytes (state_of h.params s) ≡ Ok end
     → IsMade tables h.params s' × (proof_end strict tables h (state_of h.params s') ≡ Ok end)
     × (trace_from tables h n bytes (state_of h.params s, trace_of s) ≡ Ok (state_of h.params s', trace_of s'))

@@ -8,7 +8,7 @@ use Rattle.mz_logic.specs.declared.binder.Binder.{Binder}
 use Rattle.mz_unification.specs.Profile.{strict}
 use Rattle.mz_unification.specs.Streams.{of_definition, UnifyCommand, command_in}
 use Rattle.mz_unification.specs.UnifyMachine.{in_definition, UnifyState, unify_row}
-use Rattle.mz_soundness.specs.Tables.{Tables}
+use Rattle.mz_soundness.specs.MachineState.{RowsBefore}
 use Rattle.mz_tracing.specs.Traces.{variables_in}
 use Rattle.mz_trace.specs.Nodes.{values, expressions_at, HaveParts, AreExpressions}
 use Rattle.mz_trace.specs.declared.node.RunNode.{RunNode}
@@ -37,10 +37,10 @@ Executes sigs ctx code st s = (value : ℕ) × (u : UnifyCommand) × (command_in
 
 -- it goes through on such a state
 abbrev pub MayTakeApart : List RunNode → UnifyCode → List ℕ → List ℕ → Type 0
-MayTakeApart nodes code targets met = (tables : Tables) × (sigs : List Signature) × (ctx : List Binder) × (es : List Tree) × (st s : UnifyState Tree)
+MayTakeApart nodes code targets met = (tables : RowsBefore) × (sigs : List Signature) × (ctx : List Binder) × (es : List Tree) × (st s : UnifyState Tree)
     × HaveParts tables nodes × IsReached nodes es targets met st × Executes sigs ctx code st s
 
 -- from each such state it leads to one with these targets and variables
 abbrev pub TakesApart : List RunNode → UnifyCode → (targets met targets' met' : List ℕ) → Type 0
-TakesApart nodes code targets met targets' met' = (tables : Tables) (sigs : List Signature) (ctx : List Binder) (es : List Tree) (st s : UnifyState Tree)
+TakesApart nodes code targets met targets' met' = (tables : RowsBefore) (sigs : List Signature) (ctx : List Binder) (es : List Tree) (st s : UnifyState Tree)
     → HaveParts tables nodes → IsReached nodes es targets met st → Executes sigs ctx code st s → IsReached nodes es targets' met' s

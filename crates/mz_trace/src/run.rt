@@ -2,7 +2,7 @@
 ghost use Rattle.std.specs.Prelude.{ℕ, Some, slice_get, ◌≡◌, ◌≤◌, ◌<◌, ◌+◌, ◌-◌, ◌*◌, ◌^◌, IfOk, List, length};
 ghost use Rattle.mz_layout.specs.Tables.{thm_count, thm_row};
 ghost use Rattle.mz_logic.specs.Declaration.{Declaration};
-ghost use Rattle.mz_soundness.specs.Tables.{Declares};
+ghost use Rattle.mz_soundness.specs.MachineState.{Declares};
 ghost use Rattle.mz_layout.specs.Heads.{body_bytes};
 ghost use Rattle.mz_earlier.specs.OwnRow.{heading_of};
 ghost use Rattle.mz_earlier.specs.Before.{tables_before};

@@ -7,7 +7,7 @@ use Rattle.mz_logic.specs.declared.binder.Binder.{Binder}
 use Rattle.mz_forms.specs.Proof.{Proof}
 use Rattle.mz_unification.specs.Profile.{strict, Item, proof}
 use Rattle.mz_unification.proofs.Offered.{from_bind, taken-is}
-use Rattle.mz_soundness.specs.Tables.{Tables, State, Kind, is_theorem, Heading}
+use Rattle.mz_soundness.specs.MachineState.{RowsBefore, State, Kind, is_theorem, Heading}
 use Rattle.mz_soundness.specs.ProofMachine.{last_item, own_variables, ends_with, proof_end}
 use Rattle.mz_soundness.specs.Bodies.{body_start}
 use Rattle.mz_tracing.specs.Parts.{Part, proved}
@@ -22,7 +22,7 @@ last-proof (proof x ∷ []) e is = ap (λ (z : Tree). proof z ∷ []) (taken-is 
 last-proof xs e is = absurd cc
 
 -- a proof alone is left
-pub one-left : (tables : Tables) (h : Heading) (last : State Tree) → h.kind ≡ is_theorem → proof_end strict tables h last ≡ Ok last → (e : Tree) × (last.stack ≡ proof e ∷ [])
+pub one-left : (tables : RowsBefore) (h : Heading) (last : State Tree) → h.kind ≡ is_theorem → proof_end strict tables h last ≡ Ok last → (e : Tree) × (last.stack ≡ proof e ∷ [])
 unfolding proof_end ends_with
 one-left tables h last kind done =
     from_bind (ends_with strict tables h last) _ last done λ m m-is e1.
@@ -40,11 +40,11 @@ one-stands A hyps lets e xs ts is h =
     let (p, us, ts-is, _, proves, below) = proof-is A hyps lets e [] ts (subst (λ (z : List (Item Tree)). Stands A hyps lets z ts) is h) in
     (p, ts-is ∙ ap (λ (z : List Part). proved p ∷ z) (nothing-left A hyps lets us below), proves)
 
-variables-made : (tables : Tables) (i : ℕ) (ps : List Binder) → EachIs (shape tables) (own_variables strict i ps)
+variables-made : (tables : RowsBefore) (i : ℕ) (ps : List Binder) → EachIs (shape tables) (own_variables strict i ps)
 variables-made tables i [] = tt
 variables-made tables i (p ∷ ps) = (tt, variables-made tables (suc i) ps)
 
-pub start-shaped : (tables : Tables) (h : Heading) → Shaped tables h.params (body_start strict h) (trace_start h).1
+pub start-shaped : (tables : RowsBefore) (h : Heading) → Shaped tables h.params (body_start strict h) (trace_start h).1
 start-shaped tables h = record {
   context = ([], sym (append-nil h.params));
   lets = tt;

@@ -15,13 +15,13 @@ use Rattle.mz_logic.proofs.Offered.{extends_itself, sort_extends, fits_extends, 
 use Rattle.mz_forms.specs.Proof.{Proof, Proofs, no_proofs, more_proofs}
 use Rattle.mz_type.specs.Meaning.{derivations}
 use Rattle.mz_unification.specs.Streams.{of_definition}
-use Rattle.mz_unification.specs.Spells.{trees_of, Text, TermRow, SpellsForm, SpellsTerm, SpellsThm}
+use Rattle.mz_unification.specs.Spells.{trees_of, Text, SpelledTerm, SpellsForm, SpellsTerm, SpellsThm}
 use Rattle.mz_unification.specs.Profile.{strict, Item, expr}
 use Rattle.mz_unification.specs.Sorted.{Sorted, AllSorted, ItemsSorted}
 use Rattle.mz_unification.specs.Laws.{citing, unfolding_by}
 use Rattle.mz_unification.specs.UnifyMachine.{unify}
 use Rattle.mz_unification.proofs.Offered.{some_is, parts-are, operands-sorted, citation-is, unfolding-is}
-use Rattle.mz_soundness.specs.Tables.{Tables, State, Declares}
+use Rattle.mz_soundness.specs.MachineState.{RowsBefore, State, Declares}
 use Rattle.mz_soundness.specs.Premises.{operands_fit}
 use Rattle.mz_soundness.specs.ProofMachine.{stream_of, proof_row}
 use Rattle.mz_soundness.specs.Facts.{IsFront, Fact}
@@ -40,7 +40,7 @@ variables-are [] = refl
 variables-are (y ∷ ys) = ap (λ (z : List ℕ). y ∷ z) (variables-are ys)
 
 -- the row of a definition spells its body
-stream-row : (o : Option TermRow) (stream : List ℕ) → stream_of o ≡ Some stream → (row : TermRow) × (o ≡ Some row) × (row.stream ≡ Some stream)
+stream-row : (o : Option SpelledTerm) (stream : List ℕ) → stream_of o ≡ Some stream → (row : SpelledTerm) × (o ≡ Some row) × (row.stream ≡ Some stream)
 stream-row None stream e = absurd cc
 stream-row (Some row) stream e = (row, refl, e)
 
@@ -64,7 +64,7 @@ deriving_from N env full = record {
   of_lets = λ hyps lets. LetsProve N env full hyps lets;
 }
 
-module _ (N : Type 0) (tables : Tables) (env : List Declaration) (declares : Declares tables env) (params full : List Binder) where
+module _ (N : Type 0) (tables : RowsBefore) (env : List Declaration) (declares : Declares tables env) (params full : List Binder) where
   abbrev Sigs : List Signature
   Sigs = signatures env
 

@@ -16,7 +16,7 @@ use Rattle.mz_unification.specs.Profile.{strict, proof}
 use Rattle.mz_unification.specs.Sorted.{Sorted, AllSorted, ItemsSorted}
 use Rattle.mz_unification.specs.UnifyMachine.{at_end}
 use Rattle.mz_unification.proofs.Offered.{taken-is, one-assertion, assertion-spelled}
-use Rattle.mz_soundness.specs.Tables.{Tables, State, Kind, is_theorem, Heading, Declares}
+use Rattle.mz_soundness.specs.MachineState.{RowsBefore, State, Kind, is_theorem, Heading, Declares}
 use Rattle.mz_soundness.specs.ProofMachine.{last_item, ending, own_variables, own_stream, as_proofs, proof_row, proof_end}
 use Rattle.mz_soundness.specs.Bodies.{body_start}
 use Rattle.mz_soundness.specs.Facts.{AreProvableClaims, Fact}
@@ -36,7 +36,7 @@ claims-sorted : (env : List Declaration) (ctx : List Binder) (es : List Tree) �
 claims-sorted env ctx [] h = tt
 claims-sorted env ctx (e ∷ es) ((s, has, _), hs) = ((s, has), claims-sorted env ctx es hs)
 
-module _ (N : Type 0) (tables : Tables) (env : List Declaration) (declares : Declares tables env) (h : Heading) (full : List Binder) where
+module _ (N : Type 0) (tables : RowsBefore) (env : List Declaration) (declares : Declares tables env) (h : Heading) (full : List Binder) where
   -- it has its shape, and derives what it should
   abbrev pub Kept : State Tree → Trace → Type 0
   Kept st tr = Shaped tables h.params st tr × Derived N tables env declares h.params full st tr
@@ -83,7 +83,7 @@ module _ (N : Type 0) (tables : Tables) (env : List Declaration) (declares : Dec
 -- ---- what the row spells
 
 -- what a theorem's body leaves is the conclusion of what its row spells, and its hypotheses are those of it
-spelled : (tables : Tables) (env : List Declaration) (declares : Declares tables env) (h : Heading) (last : State Tree) → h.kind ≡ is_theorem
+spelled : (tables : RowsBefore) (env : List Declaration) (declares : Declares tables env) (h : Heading) (last : State Tree) → h.kind ≡ is_theorem
     → Fact anything env h.params last.ctx last → proof_end strict tables h last ≡ Ok last
     → (a : Assertion) → a.is_axiom ≡ false → SpellsThm (signatures env) (thm_row h) a → (e : Tree) × (last.stack ≡ proof e ∷ []) × (a ≡ made h false last e)
 spelled tables env declares h last kind fact done a theorem spells =

@@ -10,13 +10,13 @@ use Rattle.mz_logic.specs.Tree.{Tree, var, app, none, listed}
 use Rattle.mz_logic.specs.Conversions.{Conversion, Conversions, refl_conv, sym_conv, cong_conv, unfold_conv}
 use Rattle.mz_logic.specs.declared.binder.Binder.{Binder}
 use Rattle.mz_forms.specs.Proof.{Proof, Proofs, by_hyp, by_name, by_citation, by_conv, no_proofs}
-use Rattle.mz_unification.specs.Spells.{trees_of, dummy_of, TermRow, ThmRow}
+use Rattle.mz_unification.specs.Spells.{trees_of, dummy_of, SpelledTerm, SpelledThm}
 use Rattle.mz_unification.specs.Profile.{strict, tree_parts, Item, expr, proof, obligation, conversion}
 use Rattle.mz_unification.specs.Tests.{same_tree}
 use Rattle.mz_unification.specs.Laws.{citing, unfolding_by}
 use Rattle.mz_unification.specs.UnifyMachine.{Matching, UnifyState, unify}
 use Rattle.mz_unification.proofs.Offered.{from_bind, from_then, from_need, from_want, rule_of-ok, taken, taken-is, both-true, same_tree-true, trees_of-listed, listed-trees_of}
-use Rattle.mz_soundness.specs.Tables.{Tables, signatures_in, State, Pairwise}
+use Rattle.mz_soundness.specs.MachineState.{RowsBefore, signatures_in, State, Pairwise}
 use Rattle.mz_soundness.specs.Premises.{pop, pop_expr, pop_proof, pop_obligation, pop_conversion, pop_operands, pop_sides}
 use Rattle.mz_soundness.specs.Premises.{is_conversion, is_obligation, may_be_dummy_sort, bound_count, operands_fit, are_apart}
 use Rattle.mz_soundness.specs.ProofMachine.{built, citation, matched_by, cited, referred, sides, same_term, stream_of, unfolding_of, has_provable_sort, proof_row}
@@ -83,7 +83,7 @@ one-term (app t ls) (app u rs) es e = go (eqb t u) refl e
 one-term (var x) r es e = absurd cc
 one-term (app t ls) (var y) es e = absurd cc
 
-module _ (tables : Tables) (A : Asked) (closed : Closed A) (params : List Binder) where
+module _ (tables : RowsBefore) (A : Asked) (closed : Closed A) (params : List Binder) where
   abbrev Right : State Tree → Trace → Type 0
   Right st tr = Standing A params st tr
 
@@ -98,7 +98,7 @@ module _ (tables : Tables) (A : Asked) (closed : Closed A) (params : List Binder
   -- a variable, or an application of a term that is there to as many operands as it has parameters
   abbrev pub IsNew : Tree → Type 0
   IsNew (var x) = ⊤
-  IsNew (app t es) = (row : TermRow) × (slice_get tables.terms t ≡ Some row) × (length (listed es) ≡ length row.signature.params) × EachIs A (listed es)
+  IsNew (app t es) = (row : SpelledTerm) × (slice_get tables.terms t ≡ Some row) × (length (listed es) ≡ length row.signature.params) × EachIs A (listed es)
 
   -- an expression that was made is right
   abbrev pub NewIsRight : State Tree → Type 0
@@ -129,7 +129,7 @@ module _ (tables : Tables) (A : Asked) (closed : Closed A) (params : List Binder
   -- ---- expressions
 
   built-stands : (at t : ℕ) (st : State Tree) (tr : Trace) (r : Tree × List (Item Tree)) → built strict tables at t st ≡ Ok r → Right st tr
-      → (row : TermRow) × (slice_get tables.terms t ≡ Some row) × IsNew r.0 × Beside st tr r.1 (drop (length row.signature.params) tr.stack)
+      → (row : SpelledTerm) × (slice_get tables.terms t ≡ Some row) × IsNew r.0 × Beside st tr r.1 (drop (length row.signature.params) tr.stack)
   unfolding built
   built-stands at t st tr r making s =
       from_want (slice_get tables.terms t) k.TermIndex _ r making λ row row-at e2.
@@ -138,7 +138,7 @@ module _ (tables : Tables) (A : Asked) (closed : Closed A) (params : List Binder
       let (each, below, len) = operands-top A st.hyps tr.lets (length row.signature.params) st.stack tr.stack es popping s.stack in
       let listed-is = listed-trees_of es.0 in
       let new : IsNew (app t (trees_of es.0)) = (row, row-at, ap length listed-is ∙ len, subst (EachIs A) (sym listed-is) each) in
-      subst (λ (z : Tree × List (Item Tree)). (row : TermRow) × (slice_get tables.terms t ≡ Some row) × IsNew z.0 × Beside st tr z.1 (drop (length row.signature.params) tr.stack))
+      subst (λ (z : Tree × List (Item Tree)). (row : SpelledTerm) × (slice_get tables.terms t ≡ Some row) × IsNew z.0 × Beside st tr z.1 (drop (length row.signature.params) tr.stack))
       (taken-is (app t (trees_of es.0), es.1) r e4) (row, row-at, new, below)
 
   goes-term : (at t : ℕ) (st : State Tree) (tr : Trace) (st' : State Tree) → proof_row strict tables at code.Term t st ≡ Ok st' → Right st tr → NewIsRight st' → Goes code.Term t st tr st'
@@ -405,7 +405,7 @@ module _ (tables : Tables) (A : Asked) (closed : Closed A) (params : List Binder
 
   -- what a citation matched as proofs are of hypotheses from whose proofs it makes one of the target
   abbrev pub Cites : ℕ → State Tree → Trace → Type 0
-  Cites t st tr = (row : ThmRow) (x : Tree × List (Item Tree)) (es : List Tree × List (Item Tree)) (fit : Unit {0}) (u : UnifyState Tree)
+  Cites t st tr = (row : SpelledThm) (x : Tree × List (Item Tree)) (es : List Tree × List (Item Tree)) (fit : Unit {0}) (u : UnifyState Tree)
       → slice_get tables.thms t ≡ Some row → pop_expr st.stack ≡ Ok x → pop_operands (length row.params) x.1 ≡ Ok es
       → operands_fit (signatures_in tables) st.ctx es.0 row.params ≡ Ok fit → are_apart st.ctx es.0 row.params ≡ true
       → unify strict (signatures_in tables) st.ctx (citing row.stream es.0 x.0 es.1) ≡ Ok u

@@ -6,21 +6,21 @@ use Rattle.std.proofs.lemmas.List.{reverse-reverse}
 use Rattle.mz_cmd.specs.declared.code.ProofCode.{ProofCode}
 use Rattle.mz_logic.specs.Tree.{Tree, Trees, var, app, none, more, listed}
 use Rattle.mz_logic.specs.declared.binder.Binder.{Binder}
-use Rattle.mz_unification.specs.Spells.{trees_of, TermRow}
+use Rattle.mz_unification.specs.Spells.{trees_of, SpelledTerm}
 use Rattle.mz_unification.specs.Profile.{strict, Item, proof}
 use Rattle.mz_unification.proofs.Offered.{some_is, listed-trees_of}
-use Rattle.mz_soundness.specs.Tables.{Tables, signatures_in, State}
+use Rattle.mz_soundness.specs.MachineState.{RowsBefore, signatures_in, State}
 use Rattle.mz_soundness.specs.ProofMachine.{proof_row}
 use Rattle.mz_tracing.specs.Traces.{Trace, traced}
 use Rattle.mz_tracing.proofs.Taken.{Takes, unify-takes}
 use Rattle.mz_tracing.proofs.Standing.{Asked, EachIs}
 use Rattle.mz_tracing.proofs.RowsStand.{Closed, Standing, IsNew, goes}
 
-module _ (tables : Tables) where
+module _ (tables : RowsBefore) where
   abbrev mutual
     pub IsMade : Tree → Type 0
     IsMade (var x) = ⊤
-    IsMade (app t es) = (row : TermRow) × (slice_get tables.terms t ≡ Some row) × (length (listed es) ≡ length row.signature.params) × AreMade es
+    IsMade (app t es) = (row : SpelledTerm) × (slice_get tables.terms t ≡ Some row) × (length (listed es) ≡ length row.signature.params) × AreMade es
 
     pub AreMade : Trees → Type 0
     AreMade none = ⊤
@@ -51,7 +51,7 @@ module _ (tables : Tables) where
     lets_grow = λ hyps lets p e all h. tt;
     operands = λ t es h. each-made es h.3;
     as_many = λ t ls rs hl hr.
-        sym (ap length (listed-trees_of ls)) ∙ hl.2 ∙ ap (λ (row : TermRow). length row.signature.params) (some_is hl.1 hr.1) ∙ sym hr.2 ∙ ap length (listed-trees_of rs);
+        sym (ap length (listed-trees_of ls)) ∙ hl.2 ∙ ap (λ (row : SpelledTerm). length row.signature.params) (some_is hl.1 hr.1) ∙ sym hr.2 ∙ ap length (listed-trees_of rs);
   }
 
   module _ (params : List Binder) where

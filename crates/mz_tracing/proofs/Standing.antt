@@ -10,7 +10,7 @@ use Rattle.mz_forms.specs.Proof.{Proof, Proofs, no_proofs, more_proofs}
 use Rattle.mz_unification.specs.Profile.{strict, Item, expr, proof, obligation, conversion}
 use Rattle.mz_unification.specs.Tests.{same_tree}
 use Rattle.mz_unification.proofs.Offered.{from_bind, from_need, taken-is}
-use Rattle.mz_soundness.specs.Tables.{Pairwise}
+use Rattle.mz_soundness.specs.MachineState.{Pairwise}
 use Rattle.mz_soundness.specs.Premises.{pop_expr, pop_obligation, pop_exprs, pop_operands, pop_sides}
 use Rattle.mz_soundness.specs.ProofMachine.{sides}
 use Rattle.mz_tracing.specs.Parts.{Part, expression, proved, owed, converted, for_operand, then_conv, paid, by_operands, proofs_above}

@@ -14,7 +14,7 @@ use Rattle.mz_unification.specs.Steps.{◌>>◌, need, at_place, Turn, over, goe
 use Rattle.mz_unification.specs.Profile.{strict, expr}
 use Rattle.mz_unification.specs.UnifyMachine.{is_empty}
 use Rattle.mz_unification.proofs.Offered.{from_bind, from_need, place-ok, taken, taken-is}
-use Rattle.mz_soundness.specs.Tables.{Tables, State, Heading, Pairwise}
+use Rattle.mz_soundness.specs.MachineState.{RowsBefore, State, Heading, Pairwise}
 use Rattle.mz_soundness.specs.ProofMachine.{built, proof_row, own_variables, ends_with, matched_by, proof_end}
 use Rattle.mz_soundness.specs.Bodies.{BodyCommand, ends, proves, body_command, body_turn_by, body_turn, body_from}
 use Rattle.mz_tracing.specs.Parts.{expression}
@@ -23,20 +23,20 @@ use Rattle.mz_tracing.proofs.Following.{to_bind, from_follow}
 use Rattle.mz_tracing.proofs.Standing.{Asked, EachIs, Is}
 
 -- over trees a row is the same at each place
-row-anywhere : (tables : Tables) (at : ℕ) (c : ProofCode) (n : ℕ) (st : State Tree) → proof_row strict tables 0 c n st ≡ proof_row strict tables at c n st
+row-anywhere : (tables : RowsBefore) (at : ℕ) (c : ProofCode) (n : ℕ) (st : State Tree) → proof_row strict tables 0 c n st ≡ proof_row strict tables at c n st
 unfolding proof_row built
 row-anywhere tables at code.Term n st = refl
 row-anywhere tables at code.TermSave n st = refl
 row-anywhere tables at c n st = refl
 
-end-is : (tables : Tables) (h : Heading) (st s : State Tree) → proof_end strict tables h st ≡ Ok s → st ≡ s
+end-is : (tables : RowsBefore) (h : Heading) (st s : State Tree) → proof_end strict tables h st ≡ Ok s → st ≡ s
 unfolding proof_end
 end-is tables h st s done =
     from_bind (ends_with strict tables h st) _ s done λ m _ e1.
     from_bind (matched_by strict tables st.ctx m) _ s e1 λ u _ e2. taken-is st s e2
 
 -- what each command keeps
-module _ (tables : Tables) (h : Heading) (Kept : State Tree → Trace → Type 0)
+module _ (tables : RowsBefore) (h : Heading) (Kept : State Tree → Trace → Type 0)
     (step : (at : ℕ) (c : ProofCode) (n : ℕ) (st : State Tree) (tr : Trace) (st' : State Tree)
     → proof_row strict tables at c n st ≡ Ok st' → Kept st tr → (tr' : Trace) × (traced tables c n st tr ≡ Ok tr') × Kept st' tr') where
   -- the same turn is taken beside

@@ -8,24 +8,24 @@ use Rattle.mz_forms.specs.Proof.{Proof}
 use Rattle.mz_type.specs.Meaning.{IsProofOf}
 use Rattle.mz_unification.specs.Profile.{strict}
 use Rattle.mz_unification.specs.Spells.{SpellsThm}
-use Rattle.mz_soundness.specs.Tables.{Tables, Heading, is_theorem, Declares}
+use Rattle.mz_soundness.specs.MachineState.{RowsBefore, Heading, is_theorem, Declares}
 use Rattle.mz_soundness.specs.Bodies.{Runs}
 use Rattle.mz_soundness.specs.Sound.{AreRowParams, thm_row}
 use Rattle.mz_tracing.specs.Traces.{Made, under_lets}
 
 -- a theorem's body that runs makes a proof
 abbrev pub BodiesMakeProofs : Type 0
-BodiesMakeProofs = (tables : Tables) (h : Heading) (at : ℕ) (bytes : List ℕ) → h.kind ≡ is_theorem → Runs strict tables h at bytes
+BodiesMakeProofs = (tables : RowsBefore) (h : Heading) (at : ℕ) (bytes : List ℕ) → h.kind ≡ is_theorem → Runs strict tables h at bytes
     → (dummies : List Binder) × (lets : List Proof) × (root : Proof) × Made tables h bytes dummies lets root
 
 -- and no two
 abbrev pub BodiesMakeOne : Type 0
-BodiesMakeOne = (tables : Tables) (h : Heading) (bytes : List ℕ) (ds es : List Binder) (ps qs : List Proof) (p q : Proof)
+BodiesMakeOne = (tables : RowsBefore) (h : Heading) (bytes : List ℕ) (ds es : List Binder) (ps qs : List Proof) (p q : Proof)
     → Made tables h bytes ds ps p → Made tables h bytes es qs q → (ds ≡ es) × (ps ≡ qs) × (p ≡ q)
 
 -- it proves what the row spells, without gaps, as a text states it
 abbrev pub MadeProofsProve : Type 0
-MadeProofsProve = (tables : Tables) (env : List Declaration) → IsLegalEnv env → Declares tables env → (h : Heading) (at : ℕ) (bytes : List ℕ)
+MadeProofsProve = (tables : RowsBefore) (env : List Declaration) → IsLegalEnv env → Declares tables env → (h : Heading) (at : ℕ) (bytes : List ℕ)
     → h.kind ≡ is_theorem → AreRowParams (sorts env) h.params → Runs strict tables h at bytes
     → (a : Assertion) → a.is_axiom ≡ false → SpellsThm (signatures env) (thm_row h) a
     → (dummies : List Binder) (lets : List Proof) (root : Proof) → Made tables h bytes dummies lets root

@@ -15,7 +15,7 @@ use Rattle.mz_forms.specs.Proof.{Proof, by_hyp, by_name, by_citation, by_let, no
 use Rattle.mz_unification.specs.Steps.{◌>>=◌, want, Turn, over, goes_on, follow}
 use Rattle.mz_unification.specs.Spells.{trees_of}
 use Rattle.mz_unification.specs.Profile.{strict, tree_parts}
-use Rattle.mz_soundness.specs.Tables.{Tables, State, Heading}
+use Rattle.mz_soundness.specs.MachineState.{RowsBefore, State, Heading}
 use Rattle.mz_soundness.specs.Premises.{pop_expr, pop_proof, pop_obligation, pop_sides}
 use Rattle.mz_soundness.specs.ProofMachine.{citation, matched_by, unfolding_of, proof_row}
 use Rattle.mz_soundness.specs.Bodies.{BodyCommand, ends, proves, body_command, body_start}
@@ -85,7 +85,7 @@ variables_in (e ∷ es) = variable_in e ++ variables_in es
 -- ---- citations
 
 -- the proof by citing assertion t, and what stands below the proofs of its hypotheses
-abbrev pub cited : Tables → ℕ → State Tree → Trace → Result (Proof × List Part) K
+abbrev pub cited : RowsBefore → ℕ → State Tree → Trace → Result (Proof × List Part) K
 cited tables t st tr = do
   m ← citation strict tables t st
   u ← matched_by strict tables st.ctx m
@@ -95,7 +95,7 @@ cited tables t st tr = do
 
 -- ---- one clause a command, beside the machine's state before it
 
-unfoldable pub traced : Tables → ProofCode → ℕ → State Tree → Trace → Result Trace K
+unfoldable pub traced : RowsBefore → ProofCode → ℕ → State Tree → Trace → Result Trace K
 traced tables code.Term t st tr = do
   row ← want (slice_get tables.terms t) k.TermIndex
   Ok (stacked tr (expression ∷ drop (length row.signature.params) tr.stack))
@@ -143,7 +143,7 @@ traced tables code.Sorry n st tr = Err k.Sorry
 -- ---- a whole body
 
 -- the command of this length: the machine's row and what is made beside it, or the END
-abbrev pub trace_turn : Tables → Heading → ℕ → State Tree × Trace → Option BodyCommand → Result (Turn (State Tree × Trace)) K
+abbrev pub trace_turn : RowsBefore → Heading → ℕ → State Tree × Trace → Option BodyCommand → Result (Turn (State Tree × Trace)) K
 trace_turn tables h len s None = Err k.Command
 trace_turn tables h len s (Some ends) = Ok (over s)
 trace_turn tables h len s (Some (proves c value)) = do
@@ -151,12 +151,12 @@ trace_turn tables h len s (Some (proves c value)) = do
   tr ← traced tables c value s.0 s.1
   Ok (goes_on len (st, tr))
 
-abbrev pub trace_command : Tables → Heading → State Tree × Trace → Result Cmd CmdFault → Result (Turn (State Tree × Trace)) K
+abbrev pub trace_command : RowsBefore → Heading → State Tree × Trace → Result Cmd CmdFault → Result (Turn (State Tree × Trace)) K
 trace_command tables h s (Err _) = Err k.Command
 trace_command tables h s (Ok c) = trace_turn tables h c.len s (body_command strict h.kind c.code c.value)
 
 -- what is left of a body, up to its END: n bounds its commands, of which each takes a byte
-unfoldable pub trace_from : Tables → Heading → ℕ → List ℕ → State Tree × Trace → Result (State Tree × Trace) K
+unfoldable pub trace_from : RowsBefore → Heading → ℕ → List ℕ → State Tree × Trace → Result (State Tree × Trace) K
 trace_from tables h zero bytes s = Err k.Command
 trace_from tables h (suc n) bytes s = follow (trace_command tables h s (first_command bytes)) (λ len next. trace_from tables h n (drop len bytes) next)
 
@@ -164,7 +164,7 @@ trace_from tables h (suc n) bytes s = follow (trace_command tables h s (first_co
 abbrev pub trace_start : Heading → State Tree × Trace
 trace_start h = (body_start strict h, record { heap = map (λ b. expression) h.params; stack = []; lets = [] })
 
-abbrev pub trace_body : Tables → Heading → List ℕ → Result (State Tree × Trace) K
+abbrev pub trace_body : RowsBefore → Heading → List ℕ → Result (State Tree × Trace) K
 trace_body tables h bytes = trace_from tables h (length bytes) bytes (trace_start h)
 
 -- ---- the proof
@@ -176,7 +176,7 @@ under_lets (q ∷ qs) p = by_let q (under_lets qs p)
 
 -- The proof that a theorem's body makes: the one that is left, behind those that got a name; and its dummies in the order
 -- in which they were made, behind the parameters.
-pub record Made (tables : Tables) (h : Heading) (bytes : List ℕ) (dummies : List Binder) (lets : List Proof) (root : Proof) : Type 0 where
+pub record Made (tables : RowsBefore) (h : Heading) (bytes : List ℕ) (dummies : List Binder) (lets : List Proof) (root : Proof) : Type 0 where
   pub last : State Tree × Trace
   pub runs : trace_body tables h bytes ≡ Ok last
   pub left : last.1.stack ≡ proved root ∷ []

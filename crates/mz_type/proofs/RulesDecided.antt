@@ -4,13 +4,13 @@ use Rattle.std.proofs.Common.{ℕ, suc, ◌≡◌, ◌<◌, inl, inr, Bool, true
 use Rattle.std.proofs.lemmas.Bool.{cases_eq}
 use Rattle.std.proofs.lemmas.Option.{slice_get_within}
 use Rattle.std.proofs.lemmas.List.Elements.{All-contains}
-use Rattle.mz_checks.specs.Checks.{Checks, nothing, ask, retold, AreDecided}
-use Rattle.mz_checks.proofs.Offered.{are_decided-both, implied-decided, both-decided}
+use Rattle.mz_checks.specs.Checks.{retold, AreDecided}
+use Rattle.mz_checks.proofs.Offered.{are_decided-both, implied-decided, both-decided, retold-decided}
 use Rattle.mz_sexpr.specs.Node.{Node, Nodes, parts}
 use Rattle.mz_sexpr.specs.Number.{first, rest}
 use Rattle.mz_logic.specs.Tree.{Tree, Trees, var, app, none, more, listed, instance, instances, followed_by, variables}
 use Rattle.mz_logic.specs.Signature.{Signature}
-use Rattle.mz_logic.specs.Declaration.{Form, plain_form, abstract_form, defined, Term, Assertion, Declaration, sort_decl, term_decl, assertion_decl, dummies_of, body_of, sorts, signatures}
+use Rattle.mz_logic.specs.Declaration.{Form, plain_form, abstract_form, defined, Term, Assertion, Declaration, sort_decl, term_decl, assertion_decl, dummies_of, body_of, sorts, signatures, is_defined, body_tree}
 use Rattle.mz_logic.specs.Variables.{IsBoundAt}
 use Rattle.mz_logic.specs.Legality.{signature_at, sort_of, AreParams, IsDummy}
 use Rattle.mz_logic.specs.Conversions.{Conversion, Conversions, refl_conv, sym_conv, cong_conv, unfold_conv, gap_conv, no_convs, more_convs}
@@ -19,7 +19,7 @@ use Rattle.mz_logic.proofs.Offered.{split_at, each_from_all, range_of_sort, Deps
 use Rattle.mz_forms.specs.Order.{in_statement}
 use Rattle.mz_forms.specs.Proof.{Proof, Proofs, by_hyp, by_name, by_citation, by_conv, by_let, by_gap, no_proofs, more_proofs, Statement}
 use Rattle.mz_typing.specs.Parts.{is_list, after, part, declared_parts}
-use Rattle.mz_typing.specs.Sides.{left, right, assertion_at, term_at, is_defined, body_tree, with_fact, proved, all_proved}
+use Rattle.mz_typing.specs.Sides.{left, right, assertion_at, term_at, with_fact, proved, all_proved}
 use Rattle.mz_typing.specs.Rules.{operand_rules, expr_rules, exprs_rules, conv_count, side_rules, variable_rules, refl_node, unfold_rules, conv_rules, convs_rules, subproof_rules, citation_rules, proof_rules, proofs_rules, param_rules, dummy_rules, claim_rules, hyp_node, claims_rules, body_rules, assertion_rules, theorem_rules, decl_rules, statement_rules}
 use Rattle.mz_typing.specs.Names.{ExprsThere, DeclThere, StatementsThere}
 use Rattle.mz_typing.proofs.Offered.{are_params, sort_by_checks}
@@ -206,10 +206,6 @@ module _ (env : List Declaration) where
       (λ _. theorem a ds p ps)
 
 -- ---- all statements
-
-pub retold-decided : {Q R : Type 0} (f : Q → R) (cs : Checks Q) → AreDecided cs → AreDecided (retold f cs)
-retold-decided f nothing d = tt
-retold-decided f (ask q P cs) (d, later) = (d, λ p. retold-decided f cs (later p))
 
 pub statements-decided : (k : ℕ) (env : List Declaration) (ss : List Statement) (ns : Nodes) → StatementsThere env ss → AreDecided (rules_from k env ss ns)
 statements-decided k env [] ns there = tt

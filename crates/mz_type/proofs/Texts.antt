@@ -1,8 +1,8 @@
 -- All type rules of a text hold exactly where its statements are legal by the stated proofs.
 use Rattle.std.proofs.Common.{ℕ, suc, ◌≡◌, inl, inr, Bool, true, List, [], ◌∷◌, ◌++◌, All, Option}
 use Rattle.std.proofs.lemmas.List.Elements.{All-head, All-tail}
-use Rattle.mz_checks.specs.Checks.{Checks, nothing, ask, retold, AllHold}
-use Rattle.mz_checks.proofs.Offered.{fails_first-unique, all_hold-excludes, all_hold-or_fails, all_hold-first, all_hold-rest, all_hold-both}
+use Rattle.mz_checks.specs.Checks.{retold, AllHold}
+use Rattle.mz_checks.proofs.Offered.{fails_first-unique, all_hold-excludes, all_hold-or_fails, all_hold-first, all_hold-rest, all_hold-both, retold-held, retold-holds}
 use Rattle.mz_sexpr.specs.Node.{Nodes}
 use Rattle.mz_sexpr.specs.Number.{first, rest}
 use Rattle.mz_logic.specs.Declaration.{Declaration, sort_decl, term_decl, assertion_decl}
@@ -23,20 +23,12 @@ use Rattle.mz_type.proofs.StatementRules.{legal_statement, rules_of_legal}
 use Rattle.mz_type.proofs.StatementsRead.{statements_there}
 use Rattle.mz_type.proofs.RulesDecided.{statements-decided}
 
-pub all_hold-retold : {Q R : Type 0} (f : Q → R) (cs : Checks Q) → AllHold cs → AllHold (retold f cs)
-all_hold-retold f nothing all = tt
-all_hold-retold f (ask q P cs) (p, all) = (p, all_hold-retold f cs all)
-
-pub retold-all_hold : {Q R : Type 0} (f : Q → R) (cs : Checks Q) → AllHold (retold f cs) → AllHold cs
-retold-all_hold f nothing all = tt
-retold-all_hold f (ask q P cs) (p, all) = (p, retold-all_hold f cs all)
-
 pub legal_after : (gaps : Bool) (k : ℕ) (env : List Declaration) (ss : List Statement) (ns : Nodes) → StatementsThere env ss → All (HasGapsOnly (gaps ≡ true)) ss → AllHold (rules_from k env ss ns)
     → LegalAsStatedAfter gaps env ss
 legal_after gaps k env [] ns there leaves all = tt
 legal_after gaps k env (s ∷ ss) ns (here, there) leaves all =
     let A = retold (in_statement k) (statement_rules env s (first ns)) in (
-      legal_statement gaps env s (first ns) here (All-head (HasGapsOnly (gaps ≡ true)) s ss leaves) (retold-all_hold (in_statement k) (statement_rules env s (first ns)) (all_hold-first A _ all)),
+      legal_statement gaps env s (first ns) here (All-head (HasGapsOnly (gaps ≡ true)) s ss leaves) (retold-held (in_statement k) (statement_rules env s (first ns)) (all_hold-first A _ all)),
       legal_after gaps (suc k) (env ++ s.decl ∷ []) ss (rest ns) there (All-tail (HasGapsOnly (gaps ≡ true)) s ss leaves) (all_hold-rest A _ all),
     )
 
@@ -44,7 +36,7 @@ pub rules_after : (gaps : Bool) (k : ℕ) (env : List Declaration) (ss : List St
 rules_after gaps k env [] ns there h = tt
 rules_after gaps k env (s ∷ ss) ns (here, there) (legal, h) =
     all_hold-both (retold (in_statement k) (statement_rules env s (first ns))) _
-    (all_hold-retold (in_statement k) (statement_rules env s (first ns)) (rules_of_legal gaps env s (first ns) here legal))
+    (retold-holds (in_statement k) (statement_rules env s (first ns)) (rules_of_legal gaps env s (first ns) here legal))
     (rules_after gaps (suc k) (env ++ s.decl ∷ []) ss (rest ns) there h)
 
 pub rules_are_the_meaning : RulesAreTheMeaning

@@ -2,7 +2,7 @@
 use Rattle.std.proofs.Common.{ℕ, suc, ◌≡◌, ◌+◌, Bool, true, false, List, [], ◌∷◌, ◌++◌, sym, ap, ◌∙◌, subst}
 use Rattle.std.specs.Prelude.{⊤}
 use Rattle.mz_checks.specs.Checks.{Checks, ◌>>◌, retold, AllHold}
-use Rattle.mz_checks.proofs.Offered.{Decides}
+use Rattle.mz_checks.proofs.Offered.{Decides, retold-fails, retold-holds}
 use Rattle.mz_sexpr.specs.Node.{Node, Nodes, atom, list, no_nodes, node, parts}
 use Rattle.mz_sexpr.specs.Number.{first, rest}
 use Rattle.mz_sexpr.specs.declared.rule.TextRefusal.{TextRefusal}
@@ -14,16 +14,14 @@ use Rattle.mz_forms.specs.Statements.{is_local_word, names_with, IsMarked, IsSta
 use Rattle.mz_forms.specs.Stops.{Stops}
 use Rattle.mz_forms.specs.declared.fault.Stop.{Stop}
 use Rattle.mz_forms.specs.declared.fault.Stop.TheVariants as stop
-use Rattle.mz_mmu.proofs.Offered.{retold_fails}
 use Rattle.mz_typing.specs.Names.{StatementThere, StatementsThere}
 use Rattle.mz_typing.specs.Rules.{statement_rules}
 use Rattle.mz_typing.proofs.Offered.{left_fails, left_step}
 use Rattle.mz_type.specs.TextRules.{rules_from}
-use Rattle.mz_type.specs.Typing.{TextStops, IsStopped}
+use Rattle.mz_mmu.specs.TextStops.{TextStops, IsStopped}
 use Rattle.mz_type.specs.Weight.{statement_weight, weight_after}
-use Rattle.mz_type.specs.declared.typed.TextStop.{TextStop}
-use Rattle.mz_type.specs.declared.typed.TextStop.TheVariants as text_stop
-use Rattle.mz_type.proofs.Texts.{all_hold-retold}
+use Rattle.mz_mmu.specs.declared.text.TextStop.{TextStop}
+use Rattle.mz_mmu.specs.declared.text.TextStop.TheVariants as text_stop
 
 -- ---- marks
 
@@ -70,7 +68,7 @@ module _ (left after : List Statement) (s : Statement) (cut : left ≡ s ∷ aft
       (subst (λ m. Decides (rules_from (suc k) (env ++ s.decl ∷ []) after m) whole) (sym moved)
       (left_step (rules_from k env left ns) (retold (in_statement k) (statement_rules env s (first ns)))
       (rules_from (suc k) (env ++ s.decl ∷ []) after (rest ns)) whole (rules_cut k env ns) d
-      (all_hold-retold (in_statement k) (statement_rules env s (first ns)) all)))
+      (retold-holds (in_statement k) (statement_rules env s (first ns)) all)))
 
   pub rules_stop : (k number : ℕ) (env : List Declaration) (ns : Nodes) (whole : Checks TextRefusal) (stopped : Stop) (r : TextStop) → number ≡ k → IsStopped number stopped r
       → Stops stopped (statement_rules env s (first ns)) → Decides (rules_from k env left ns) whole → TextStops r whole
@@ -78,7 +76,7 @@ module _ (left after : List Statement) (s : Statement) (cut : left ≡ s ∷ aft
       subst (λ t. TextStops t whole) (sym (is ∙ ap (λ j. text_stop.Refused (in_statement j f)) e))
       (left_fails (rules_from k env left ns) (retold (in_statement k) (statement_rules env s (first ns)))
       (rules_from (suc k) (env ++ s.decl ∷ []) after (rest ns)) whole (in_statement k f) (rules_cut k env ns) d
-      (retold_fails (in_statement k) (statement_rules env s (first ns)) f h))
+      (retold-fails (in_statement k) (statement_rules env s (first ns)) f h))
   rules_stop k number env ns whole stop.Mem r e is h d = subst (λ t. TextStops t whole) (sym is) tt
 
 -- ---- the end

@@ -1,7 +1,7 @@
 -- One part more of what is weighed.
 use Rattle.std.proofs.Common.{ℕ, zero, suc, ◌≡◌, ◌<◌, ◌≤◌, ◌+◌, List, [], ◌∷◌, length, get_or, drop, refl, sym, ap, ◌∙◌, arith}
 use Rattle.std.proofs.lemmas.List.{drop_more}
-use Rattle.mz_logic.specs.Declaration.{Form, plain_form, abstract_form, defined, Declaration, body_of}
+use Rattle.mz_logic.specs.Declaration.{Form, plain_form, abstract_form, defined, Declaration, body_of, body_tree}
 use Rattle.mz_logic.specs.Tree.{Tree, Trees, var, app, none, more, operand, followed_by, variables, size, trees_size, instance, instances}
 use Rattle.mz_logic.specs.View.{tree, trees}
 use Rattle.mz_logic.specs.declared.expr.Expr.{Expr}
@@ -11,7 +11,6 @@ use Rattle.mz_forms.specs.ProofCode.{proof_steps, proofs_steps}
 use Rattle.mz_forms.specs.ProofView.{proof_view, proofs_view}
 use Rattle.mz_forms.specs.declared.conv.Conv.{Conv}
 use Rattle.mz_forms.specs.declared.proof.Proof.{Proof}
-use Rattle.mz_typing.specs.Sides.{body_tree}
 use Rattle.mz_typing.proofs.Offered.{convs_cut, trees_cut}
 use Rattle.mz_type.specs.Weight.{conv_weight, convs_weight, proof_weight, proofs_weight}
 

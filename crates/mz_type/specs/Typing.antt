@@ -1,16 +1,12 @@
 -- What checking the type rules of a text answers.
 use Rattle.std.specs.Prelude.{ℕ, ◌≡◌, ⊤, List}
-use Rattle.mz_checks.specs.Checks.{Checks, FailsFirst}
-use Rattle.mz_sexpr.specs.declared.rule.TextRefusal.{TextRefusal}
-use Rattle.mz_forms.specs.Order.{in_statement}
-use Rattle.mz_forms.specs.declared.fault.Stop.{Stop}
-use Rattle.mz_forms.specs.declared.fault.Stop.TheVariants as stop
+use Rattle.mz_checks.specs.Checks.{FailsFirst}
 use Rattle.mz_mmu.specs.TextView.{Forms}
+use Rattle.mz_mmu.specs.declared.text.TextStop.{TextStop}
+use Rattle.mz_mmu.specs.declared.text.TextStop.TheVariants as text_stop
 use Rattle.mz_type.specs.Meaning.{LegalAsStated}
 use Rattle.mz_type.specs.TextRules.{text_rules}
 use Rattle.mz_type.specs.TextOf.{TextOf, TextFault}
-use Rattle.mz_type.specs.declared.typed.TextStop.{TextStop}
-use Rattle.mz_type.specs.declared.typed.TextStop.TheVariants as text_stop
 use Rattle.mz_type.specs.declared.typed.TypedRead.{TypedRead}
 use Rattle.mz_type.specs.declared.typed.TypedRead.TheVariants as read
 
@@ -26,16 +22,6 @@ abbrev pub IsTypingOf : List ℕ → Forms → TypedRead → Type 0
 IsTypingOf bytes text (read.Typed t) = TextOf text.gaps bytes text.statements
 IsTypingOf bytes text (read.Refused r) = TextFault text.gaps bytes r
 IsTypingOf bytes text read.Mem = ⊤
-
--- why a text isn't typed: the first of these that doesn't hold, or want of memory
-abbrev pub TextStops : TextStop → Checks TextRefusal → Type 0
-TextStops (text_stop.Refused r) cs = FailsFirst cs r
-TextStops text_stop.Mem cs = ⊤
-
--- a statement's stop, as the text's
-abbrev pub IsStopped : ℕ → Stop → TextStop → Type 0
-IsStopped k (stop.Refused f) r = r ≡ text_stop.Refused (in_statement k f)
-IsStopped k stop.Mem r = r ≡ text_stop.Mem
 
 -- the text's stop, as its answer
 abbrev pub IsRefusal : TextStop → TypedRead → Type 0

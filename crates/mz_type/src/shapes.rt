@@ -1,13 +1,13 @@
 //! Environments in which it is told at once how large a body or a conclusion becomes where operands
 //! are put in.
 ghost use Rattle.std.specs.Prelude.{◌≡◌, ◌<◌, ◌^◌, ◌+◌, ◌∷◌, [], ◌++◌, IfOk, OnOk, List, sum_by, get_or, drop, length};
-ghost use Rattle.mz_logic.specs.Declaration.{body_of, context_of, term_decl, sort_decl};
+ghost use Rattle.mz_logic.specs.Declaration.{body_of, context_of, term_decl, sort_decl, body_tree};
 ghost use Rattle.mz_logic.specs.DeclView.{declaration, form, term_view, term_of, assertion_of};
 ghost use Rattle.mz_logic.specs.Legality.{IsLegalDecl, InRange, AllInRange};
 ghost use Rattle.mz_logic.specs.Signature.{Signature};
 ghost use Rattle.mz_logic.specs.Tree.{var, size, trees_size, instance};
 ghost use Rattle.mz_logic.specs.View.{tree};
-ghost use Rattle.mz_typing.specs.Sides.{assertion_at, term_at, body_tree};
+ghost use Rattle.mz_typing.specs.Sides.{assertion_at, term_at};
 ghost use Rattle.mz_type.specs.Shapes.{one_more, counted, all_counted, put_on, IsShapeOf};
 ghost use Rattle.mz_type.specs.Weight.{declaration_weight};
 

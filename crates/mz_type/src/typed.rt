@@ -1,3 +1,4 @@
+//! Checking the type rules of a whole text, over what stands before each statement.
 ghost use Rattle.std.specs.Prelude.{◌≡◌, ◌<◌, ◌^◌, ◌∷◌, [], ◌++◌, IfOk, IfErr, OnOk, ℕ, List, length, map};
 ghost use Rattle.mz_sexpr.specs.Node.{parts};
 ghost use Rattle.mz_sexpr.specs.Number.{first};
@@ -11,15 +12,16 @@ ghost use Rattle.mz_typing.specs.Rules.{statement_rules};
 ghost use Rattle.mz_type.specs.Meaning.{LegalAsStated};
 ghost use Rattle.mz_type.specs.TextRules.{text_rules};
 ghost use Rattle.mz_type.specs.StatedView.{statements_of};
-ghost use Rattle.mz_type.specs.Typing.{IsTyping, IsTypingOf, TextStops, IsStopped, IsRefusal};
+ghost use Rattle.mz_mmu.specs.TextStops.{TextStops};
+ghost use Rattle.mz_type.specs.Typing.{IsTyping, IsTypingOf, IsRefusal};
 ghost use Rattle.mz_type.specs.Weight.{declaration_weight};
 
 use crate::shapes::Shaped;
 use crate::taking::take_last;
 use crate::weigh::statement_weight;
-use mz_forms::{Fault, Proof, ProofBox, Stop};
+use mz_forms::{Proof, ProofBox, Stop};
 use mz_logic::{Binders, Decl, Env};
-use mz_mmu::{Entry, Text};
+use mz_mmu::{Entry, Text, TextStop, in_statement};
 use mz_mode::Mode;
 use mz_sexpr::{Sexprs, TextRefusal};
 use mz_typing::{Cursor, check_statement, proof_in};
@@ -29,9 +31,13 @@ use std::marker::Model;
 /// What a statement says beside its declaration.
 #[derive(Drop)]
 pub struct Beside<'a> {
+    /// Whether it's marked as local.
     pub is_local: bool,
+    /// The name, as it stands in the text.
     pub name: &'a [u8],
+    /// A theorem's dummies; a definition's stand in its declaration.
     pub dummies: Binders,
+    /// A theorem's proof; nothing else has one.
     pub proof: Option<ProofBox>,
 }
 
@@ -80,27 +86,6 @@ pub enum TypedRead<'a> {
     Refused(TextRefusal),
     /// No memory was left.
     Mem,
-}
-
-/// Why a text isn't typed.
-#[derive(Clone, Copy)]
-enum TextStop {
-    Refused(TextRefusal),
-    Mem,
-}
-
-/// What the stop of the statement of this number is to the text.
-fn in_statement(statement: u32, stop: Stop) -> TextStop
-    ensures { IsStopped statement stop result }
-{
-    match stop {
-        Stop::Refused(Fault { at, rule }) => TextStop::Refused(TextRefusal {
-            statement,
-            at,
-            rule,
-        }),
-        Stop::Mem => TextStop::Mem,
-    }
 }
 
 /// The rules of a statement, whose node is the first, over those before it; what it declares is added

@@ -7,7 +7,7 @@ use Rattle.mz_sexpr.specs.Node.{Node, Nodes, place, parts}
 use Rattle.mz_sexpr.specs.Number.{first, rest}
 use Rattle.mz_logic.specs.Tree.{Tree, Trees, none, more, listed, instance, followed_by, variables}
 use Rattle.mz_logic.specs.Signature.{Signature}
-use Rattle.mz_logic.specs.Declaration.{Form, plain_form, abstract_form, defined, Term, Declaration, dummies_of, body_of, terms, signatures}
+use Rattle.mz_logic.specs.Declaration.{Form, plain_form, abstract_form, defined, Term, Declaration, dummies_of, body_of, terms, signatures, is_defined, body_tree}
 use Rattle.mz_logic.specs.Legality.{signature_at, AllInRange}
 use Rattle.mz_logic.specs.Conversions.{Conversion, Conversions, unfold_conv}
 use Rattle.mz_logic.specs.declared.binder.Binder.{Binder}
@@ -22,7 +22,7 @@ use Rattle.mz_typing.specs.Answers.{Judged}
 use Rattle.mz_typing.specs.Names.{ConvsThere, ExprsThere}
 use Rattle.mz_typing.specs.Parts.{part}
 use Rattle.mz_typing.specs.Rules.{operand_rules, exprs_rules, variable_rules, unfold_rules, conv_rules, convs_rules, side_rules, conv_count, AreNew}
-use Rattle.mz_typing.specs.Sides.{left, is_defined, body_tree, term_at}
+use Rattle.mz_typing.specs.Sides.{left, term_at}
 use Rattle.mz_typing.proofs.ExprRules.{fits_by_checks}
 use Rattle.mz_typing.proofs.Judging.{stopped_before, stopped_after, stopped_asked, judged_after}
 use Rattle.mz_typing.proofs.Steps.{none_read, convs_cut}

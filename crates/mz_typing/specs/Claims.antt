@@ -1,11 +1,15 @@
--- What the code's claims stand for: an expression with operands put in is not written out.
-use Rattle.std.specs.Prelude.{List, [], ◌∷◌}
+-- What the code's claims stand for, and its sides of conversions: what they are is not written out.
+use Rattle.std.specs.Prelude.{ℕ, zero, suc, List, [], ◌∷◌}
 use Rattle.mz_logic.specs.Tree.{Tree, Trees, var, app, none, more, instance, instances, followed_by, variables}
-use Rattle.mz_logic.specs.View.{trees}
+use Rattle.mz_logic.specs.View.{tree, trees}
+use Rattle.mz_forms.specs.ConvCode.{convs_steps}
+use Rattle.mz_typing.specs.Sides.{sides}
 use Rattle.mz_typing.specs.declared.claim.Put.{Put}
 use Rattle.mz_typing.specs.declared.claim.Put.TheVariants.{Nothing, Operands}
 use Rattle.mz_typing.specs.declared.claim.Claim.{Claim}
 use Rattle.mz_typing.specs.declared.claim.Claim.TheVariants.{Var, App}
+use Rattle.mz_typing.specs.declared.claim.Side.{Side}
+use Rattle.mz_typing.specs.declared.claim.Side.TheVariants.{Own, Term, Under}
 
 -- the expression with this put in
 abbrev pub put_in : Put → Tree → Tree
@@ -23,3 +27,14 @@ claim_tree (App t es put) = app t (all_put_in put (trees es.now))
 abbrev pub claim_trees : List Claim → Trees
 claim_trees [] = none
 claim_trees (c ∷ cs) = more (claim_tree c) (claim_trees cs)
+
+abbrev pub side_tree : Side → Tree
+side_tree (Own e) = tree e.now
+side_tree (Term t es) = app t es.now
+side_tree (Under t cs right) = app t (sides right cs.now)
+
+-- how many steps the conversions in it have, and one
+abbrev pub side_steps : Side → ℕ
+side_steps (Own e) = zero
+side_steps (Term t es) = zero
+side_steps (Under t cs right) = suc (convs_steps cs.now)

@@ -8,7 +8,7 @@ use Rattle.mz_sexpr.specs.Node.{Node, Nodes, place, parts}
 use Rattle.mz_sexpr.specs.Number.{first, rest}
 use Rattle.mz_logic.specs.Tree.{Tree, Trees, var, app, none, more, listed, instance, instances, followed_by, variables}
 use Rattle.mz_logic.specs.Signature.{Signature}
-use Rattle.mz_logic.specs.Declaration.{Form, plain_form, abstract_form, defined, Term, Assertion, Declaration, sort_decl, term_decl, assertion_decl, dummies_of, sorts, signatures}
+use Rattle.mz_logic.specs.Declaration.{Form, plain_form, abstract_form, defined, Term, Assertion, Declaration, sort_decl, term_decl, assertion_decl, dummies_of, sorts, signatures, is_defined, body_tree}
 use Rattle.mz_logic.specs.Modifiers.{MayBeResultSort, MayBeDummySort}
 use Rattle.mz_logic.specs.Sorts.{IsBoundVar}
 use Rattle.mz_logic.specs.Variables.{InSomeV, InFV, IsBoundAt, Apart}
@@ -19,7 +19,7 @@ use Rattle.mz_forms.specs.declared.fault.Fault.{Fault}
 use Rattle.mz_forms.specs.Order.{fault}
 use Rattle.mz_forms.specs.Proof.{Proof, Proofs, by_hyp, by_name, by_citation, by_conv, by_let, by_gap, no_proofs, more_proofs, Statement}
 use Rattle.mz_typing.specs.Parts.{is_list, after, part, declared_parts}
-use Rattle.mz_typing.specs.Sides.{left, right, assertion_at, term_at, is_defined, body_tree, with_fact, proved, all_proved}
+use Rattle.mz_typing.specs.Sides.{left, right, assertion_at, term_at, with_fact, proved, all_proved}
 
 -- ---- expressions
 

@@ -2,7 +2,7 @@
 -- functions, which are the logic's relations where the type rules hold.
 use Rattle.std.specs.Prelude.{ℕ, Bool, true, false, List, [], get_or}
 use Rattle.mz_logic.specs.Tree.{Tree, Trees, app, none, more, operand, instance, followed_by}
-use Rattle.mz_logic.specs.Declaration.{Form, plain_form, abstract_form, defined, Term, Assertion, Declaration, terms, assertions}
+use Rattle.mz_logic.specs.Declaration.{plain_form, Term, Assertion, Declaration, terms, assertions}
 use Rattle.mz_logic.specs.Conversions.{Conversion, Conversions, refl_conv, sym_conv, cong_conv, unfold_conv, gap_conv, no_convs, more_convs}
 use Rattle.mz_forms.specs.Proof.{Proof, Proofs, by_hyp, by_name, by_citation, by_conv, by_let, by_gap, no_proofs, more_proofs}
 
@@ -35,16 +35,6 @@ assertion_at env T = get_or (assertions env) T (record { is_axiom = true; params
 
 abbrev pub term_at : List Declaration → ℕ → Term
 term_at env t = get_or (terms env) t (record { signature = record { params = []; result = record { sort = 0; deps = [] } }; form = plain_form })
-
-abbrev pub is_defined : Form → Bool
-is_defined plain_form = false
-is_defined abstract_form = false
-is_defined (defined _ _) = true
-
-abbrev pub body_tree : Form → Tree
-body_tree plain_form = app 0 none
-body_tree abstract_form = app 0 none
-body_tree (defined _ e) = e
 
 abbrev pub with_fact : Trees → Tree → Trees
 with_fact lets e = followed_by lets (more e none)

@@ -1,3 +1,4 @@
+//! What is asked of parameters, dummies and results.
 ghost use Rattle.std.specs.Prelude.{◌≡◌, ◌↔◌, ◌<◌, IsTrue, All, drop, length};
 ghost use Rattle.mz_checks.specs.Checks.{Judges};
 ghost use Rattle.mz_logic.specs.Declaration.{sorts};
@@ -8,7 +9,7 @@ ghost use Rattle.mz_typing.specs.Rules.{param_rules, dummy_rules};
 
 use crate::cursor::Cursor;
 use mz_forms::Fault;
-use mz_logic::{Binder, Deps, Env, is_bound_at};
+use mz_logic::{Binder, Deps, Env, are_bound_before};
 use mz_sexpr::U;
 
 /// May a bound variable have this sort?
@@ -46,25 +47,6 @@ pub(crate) fn are_bound(params: &[Binder], places: &Deps) -> bool
     ensures { IsTrue result ↔ All (IsBoundAt params.now) places.now }
 {
     are_bound_before(params, params.len(), places)
-}
-
-/// Whether a bound parameter stands at the place, before `end`.
-fn is_bound_before(params: &[Binder], end: usize, place: u32) -> bool
-    ensures { IsTrue result ↔ ((place < end) × IsBoundAt params.now place) }
-{
-    (place as usize) < end && is_bound_at(params, place)
-}
-
-/// Whether all places are those of bound parameters before `end`.
-fn are_bound_before(params: &[Binder], end: usize, places: &Deps) -> bool
-    ensures { IsTrue result ↔ All (λ j. (j < end) × IsBoundAt params.now j) places.now }
-{
-    for j in places.as_slice() {
-        if !is_bound_before(params, end, *j) {
-            return false;
-        }
-    }
-    true
 }
 
 /// Whether a parameter is right: a bound one has no dependencies and no strict sort, and a regular

@@ -1,8 +1,9 @@
+//! What is asked of conversions.
 ghost use Rattle.std.specs.Prelude.{◌≡◌, ◌↔◌, ⊤, Bool, true, false, IsTrue, ◌+◌, ◌<◌, drop, get_or, length, ℕ, Contains};
 ghost use Rattle.mz_checks.specs.Checks.{Judges, AllHold};
-ghost use Rattle.mz_sexpr.specs.Number.{first};
+ghost use Rattle.mz_sexpr.specs.Number.{first, rest};
 ghost use Rattle.mz_sexpr.specs.Node.{parts};
-ghost use Rattle.mz_logic.specs.Conversions.{cong_conv, unfold_conv, gap_conv, IsBoundOf};
+ghost use Rattle.mz_logic.specs.Conversions.{refl_conv, cong_conv, unfold_conv, gap_conv, IsBoundOf};
 ghost use Rattle.mz_logic.specs.Declaration.{signatures};
 ghost use Rattle.mz_logic.specs.DeclView.{term_view};
 ghost use Rattle.mz_logic.specs.Legality;
@@ -257,7 +258,51 @@ pub(crate) struct Checker<'t, 'c> {
     pub(crate) ctx: &'t Context<'c>,
 }
 
+// Conversions and proofs stand deep in one another, and what calls itself through them takes stack
+// once a level. So what they ask beside their parts stands in functions that aren't inlined there.
 impl<'t, 'c> Checker<'t, 'c> {
+    /// The rules of the expressions that are the parts of the first node's part at the place.
+    #[inline(never)]
+    pub(crate) fn check_part_exprs(
+        &self,
+        es: &Exprs,
+        place: usize,
+        nodes: &Cursor,
+    ) -> Result<(), Stop>
+        ensures { Judged result (exprs_rules (signatures self.now.env.now) self.now.ctx.now es.now (parts (part (parts (first nodes.now)) place))) }
+    {
+        refuse(check_exprs(self.env, self.ctx, es, &nodes.parts_of(place)))
+    }
+
+    /// The rules of a reflexivity, at the first node.
+    #[inline(never)]
+    fn check_refl(&self, e: &Expr, nodes: &Cursor) -> Result<(), Stop>
+        ensures { Judged result (conv_rules self.now.env.now self.now.ctx.now (refl_conv (tree e.now)) (first nodes.now)) }
+    {
+        refuse(check_expr(self.env, self.ctx, e, &refl_node(nodes)))
+    }
+
+    /// The rules of a gap between two expressions, at the first node.
+    #[inline(never)]
+    fn check_gap_conv(&self, left: &Expr, right: &Expr, nodes: &Cursor) -> Result<(), Stop>
+        ensures { Judged result (conv_rules self.now.env.now self.now.ctx.now (gap_conv (tree left.now) (tree right.now)) (first nodes.now)) }
+    {
+        refuse(check_gap_sides(self.env, self.ctx, left, right, nodes))
+    }
+
+    /// The own rules of a conversion under a term, after those of its parts.
+    #[inline(never)]
+    fn check_cong_sides(&self, term: u32, convs: &Convs, nodes: &Cursor) -> Result<(), Stop>
+        requires { AllHold (convs_rules self.now.env.now self.now.ctx.now convs.now (rest (parts (first nodes.now)))) }
+        ensures { Judged result (conv_rules self.now.env.now self.now.ctx.now (cong_conv term convs.now) (first nodes.now)) }
+    {
+        let params = params_of(self.env, term);
+        if convs.as_slice().len() != params.len() {
+            return Err(Stop::Refused(nodes.fault(U::Arity)));
+        }
+        refuse(check_sides(self.env, self.ctx, convs, &nodes.parts_after(1), params))
+    }
+
     /// The rules of a conversion, at the first node.
     #[cycle(check_conv)]
     pub(crate) fn check_conv(&self, conv: &Conv, nodes: &Cursor) -> Result<(), Stop>
@@ -265,11 +310,11 @@ impl<'t, 'c> Checker<'t, 'c> {
         ensures { Judged result (conv_rules self.now.env.now self.now.ctx.now (conversion conv.now) (first nodes.now)) }
     {
         match conv {
-            Conv::Refl(e) => refuse(check_expr(self.env, self.ctx, e, &refl_node(nodes))),
+            Conv::Refl(e) => self.check_refl(e, nodes),
             Conv::Sym(conv) => self.check_conv(conv.get(), &nodes.part(1)),
             Conv::Cong(t, convs) => self.check_cong(*t, convs, nodes),
             Conv::Unfold(t, es, vars, conv) => self.check_unfold(*t, es, vars, conv.get(), nodes),
-            Conv::Gap(l, r) => refuse(check_gap_sides(self.env, self.ctx, l, r, nodes)),
+            Conv::Gap(l, r) => self.check_gap_conv(l, r, nodes),
         }
     }
 
@@ -293,13 +338,8 @@ impl<'t, 'c> Checker<'t, 'c> {
         requires { ConvsThere (length (signatures self.now.env.now)) (length self.now.ctx.now) convs.now }
         ensures { Judged result (conv_rules self.now.env.now self.now.ctx.now (cong_conv term convs.now) (first nodes.now)) }
     {
-        let sides = nodes.parts_after(1);
-        self.check_convs(convs, &sides)?;
-        let params = params_of(self.env, term);
-        if convs.as_slice().len() != params.len() {
-            return Err(Stop::Refused(nodes.fault(U::Arity)));
-        }
-        refuse(check_sides(self.env, self.ctx, convs, &sides, params))
+        self.check_convs(convs, &nodes.parts_after(1))?;
+        self.check_cong_sides(term, convs, nodes)
     }
 
     /// The rules of an unfolding, at the first node.
@@ -316,8 +356,26 @@ impl<'t, 'c> Checker<'t, 'c> {
         requires part { ConvThere (length (signatures self.now.env.now)) (length self.now.ctx.now) (conversion conv.now) }
         ensures { Judged result (conv_rules self.now.env.now self.now.ctx.now (unfold_conv term es.now vars.now (conversion conv.now)) (first nodes.now)) }
     {
-        refuse(check_exprs(self.env, self.ctx, es, &nodes.parts_of(2)))?;
+        self.check_part_exprs(es, 2, nodes)?;
         self.check_conv(conv, &nodes.part(4))?;
+        self.check_unfolded(term, es, vars, conv, nodes)
+    }
+
+    /// The own rules of an unfolding, after those of its parts.
+    #[inline(never)]
+    fn check_unfolded(
+        &self,
+        term: u32,
+        es: &Exprs,
+        vars: &Vars,
+        conv: &Conv,
+        nodes: &Cursor,
+    ) -> Result<(), Stop>
+        requires there { ExprsThere (length (signatures self.now.env.now)) (length self.now.ctx.now) es.now }
+        requires sorted { AllHold (exprs_rules (signatures self.now.env.now) self.now.ctx.now es.now (parts (part (parts (first nodes.now)) 2))) }
+        requires held { AllHold (conv_rules self.now.env.now self.now.ctx.now (conversion conv.now) (part (parts (first nodes.now)) 4)) }
+        ensures { Judged result (conv_rules self.now.env.now self.now.ctx.now (unfold_conv term es.now vars.now (conversion conv.now)) (first nodes.now)) }
+    {
         match self.env.term(term) {
             None => Err(Stop::Refused(nodes.fault(U::Conversion))),
             Some(term) => self.check_definition(term, es, vars, conv, nodes),

@@ -1,3 +1,4 @@
+//! What is asked of expressions.
 ghost use Rattle.std.specs.Prelude.{◌≡◌, ◌↔◌, IsTrue, drop};
 ghost use Rattle.mz_checks.specs.Checks.{Judges};
 ghost use Rattle.mz_sexpr.specs.Number.{first};

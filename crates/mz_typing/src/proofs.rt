@@ -1,3 +1,4 @@
+//! What is asked of proofs.
 ghost use Rattle.std.specs.Prelude.{◌≡◌, ◌↔◌, ◌<◌, ◌+◌, IsTrue, OnOk, drop, length};
 ghost use Rattle.mz_checks.specs.Checks.{AllHold};
 ghost use Rattle.mz_sexpr.specs.Node.{parts};

@@ -1,3 +1,4 @@
+//! What is asked of statements.
 ghost use Rattle.std.specs.Prelude.{◌≡◌, ◌↔◌, ◌++◌, ◌<◌, [], IsTrue, All, drop, length, Some, None};
 ghost use Rattle.mz_checks.specs.Checks.{Judges};
 ghost use Rattle.mz_sexpr.specs.Node.{parts};
@@ -216,6 +217,11 @@ fn declared_parts<'n, 'a>(nodes: &Cursor<'n, 'a>, is_local: bool) -> Cursor<'n, 
 }
 
 /// The rules of a statement with this mark, whose node is the first, over those before it.
+///
+/// # Errors
+///
+/// The first type rule that the statement breaks, at the node that breaks it; or where there is no
+/// memory.
 pub fn check_statement(
     alloc: Global,
     env: &Env,

@@ -9,7 +9,7 @@ use Rattle.mz_logic.specs.Declaration.{Assertion}
 use Rattle.mz_logic.specs.declared.binder.Binder.{Binder}
 use Rattle.mz_unification.specs.Steps.{◌>>=◌}
 use Rattle.mz_unification.specs.Streams.{UnifyCommand, u_hyp, u_end}
-use Rattle.mz_unification.specs.Spells.{trees_of, Marks, SpellsHyps, variables_from, at_first, ThmRow, SpellsThm}
+use Rattle.mz_unification.specs.Spells.{trees_of, Marks, SpellsHyps, variables_from, at_first, SpelledThm, SpellsThm}
 use Rattle.mz_unification.specs.Profile.{strict, Item, expr, proof, obligation, conversion}
 use Rattle.mz_unification.specs.Sorted.{Sorted, ItemsSorted}
 use Rattle.mz_unification.specs.UnifyMachine.{in_citation, UnifyState, is_empty, next_hypothesis, unify_row, unify}
@@ -90,7 +90,7 @@ nothing-met sigs ctx from to after none-is met = go met.ys met.binders met.apart
     go (y ∷ ys) (s ∷ ss) is d f = let bad : s ∷ ss ≡ [] = sym d ∙ none-is in absurd cc
 
 -- where the stream of an assertion runs in a citation, target and hypotheses are instances
-pub citation-is : (sigs : List Signature) (ctx : List Binder) (row : ThmRow) (a : Assertion) → SpellsThm sigs row a → (es : List Tree) (e : Tree) (items : List (Item Tree)) (u : UnifyState Tree)
+pub citation-is : (sigs : List Signature) (ctx : List Binder) (row : SpelledThm) (a : Assertion) → SpellsThm sigs row a → (es : List Tree) (e : Tree) (items : List (Item Tree)) (u : UnifyState Tree)
     → length es ≡ length row.params → Sorted sigs ctx e → ItemsSorted sigs ctx items
     → unify strict sigs ctx (record { mode = in_citation; stream = row.stream; operands = es; target = e; items = items }) ≡ Ok u
     → (hs : List Tree) × (trees_of hs ≡ instances (trees_of es) a.hyps) × (e ≡ instance (trees_of es) a.conclusion) × (items ≡ map proof (reverse hs) ++ u.items)

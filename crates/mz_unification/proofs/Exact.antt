@@ -8,7 +8,7 @@ use Rattle.mz_logic.specs.Signature.{Signature}
 use Rattle.mz_logic.specs.Declaration.{Assertion}
 use Rattle.mz_logic.specs.declared.binder.Binder.{Binder}
 use Rattle.mz_unification.specs.Streams.{of_assertion}
-use Rattle.mz_unification.specs.Spells.{trees_of, variables_from, Marks, SpellsText, ThmRow, SpellsThm}
+use Rattle.mz_unification.specs.Spells.{trees_of, variables_from, Marks, SpellsText, SpelledThm, SpellsThm}
 use Rattle.mz_unification.specs.Profile.{strict, Item, proof}
 use Rattle.mz_unification.specs.UnifyMachine.{UnifyState, Matching, in_citation, at_end, unify}
 use Rattle.mz_unification.specs.Laws.{RunsLeaving, instances_of, citing, unfolding_by, own_assertion, CitationsAreExact, UnfoldingsAreExact, AssertionsAreSpelled, DefinitionsAreSpelled}
@@ -31,7 +31,7 @@ heap-is-one sigs ctx m u heap rest items done is (v, ran, heap-is, left) = let s
 pub citations-exact : CitationsAreExact
 citations-exact sigs ctx params stream hyps conclusion marks text es e items rest heap len sorted items-sorted = (
   (λ (u, done, heap-is, left).
-      let row : ThmRow = record { params = params; stream = stream } in
+      let row : SpelledThm = record { params = params; stream = stream } in
       let a : Assertion = record { is_axiom = true; params = params; hyps = hyps; conclusion = conclusion } in
       let spells : SpellsThm sigs row a = (refl, (marks, text, no-dummies sigs params stream hyps conclusion marks text)) in
       let (hs, hs-are, e-is, items-are) = citation-is sigs ctx row a spells es e items u len sorted items-sorted done in

@@ -10,7 +10,7 @@ use Rattle.mz_logic.specs.Declaration.{Form, plain_form, abstract_form, defined,
 use Rattle.mz_logic.specs.declared.binder.Binder.{Binder}
 use Rattle.mz_logic.proofs.Offered.{Extends}
 use Rattle.mz_unification.specs.Streams.{StreamKind, of_assertion, of_definition, UnifyCommand, u_term, u_term_save, u_ref, u_dummy, u_hyp, u_end, unify_command, IsEnd, StreamIs}
-use Rattle.mz_unification.specs.Spells.{trees_of, dummy_of, Marks, marked, Spells, SpellsAll, SpellsHyps, at_first, Text, TermRow, ThmRow, SpellsThm, SpellsForm, SpellsTerm}
+use Rattle.mz_unification.specs.Spells.{trees_of, dummy_of, Marks, marked, Spells, SpellsAll, SpellsHyps, at_first, Text, SpelledTerm, SpelledThm, SpellsThm, SpellsForm, SpellsTerm}
 use Rattle.mz_unification.proofs.Inverting.{some_is}
 use Rattle.mz_unification.proofs.Trees.{trees_of-listed}
 
@@ -213,7 +213,7 @@ one-text kind sigs params stream hyps hyps' e e' ds ds' (last, (us, is, mid, res
     (sym (trees_of-listed hyps) ∙ ap trees_of lists ∙ trees_of-listed hyps', e-is, sym d ∙ ap (λ (z : Marks). z.dummies) lasts ∙ d')
 
 -- a row spells one assertion, but for whether it is an axiom
-pub one-assertion : (sigs : List Signature) (row : ThmRow) (a b : Assertion) → a.is_axiom ≡ b.is_axiom → SpellsThm sigs row a → SpellsThm sigs row b → a ≡ b
+pub one-assertion : (sigs : List Signature) (row : SpelledThm) (a b : Assertion) → a.is_axiom ≡ b.is_axiom → SpellsThm sigs row a → SpellsThm sigs row b → a ≡ b
 one-assertion sigs row a b axioms (ps, s) (qs, t) =
     let (hyps, conclusion, _) = one-text of_assertion sigs row.params row.stream a.hyps b.hyps a.conclusion b.conclusion [] [] s t in
     let params : a.params ≡ b.params = sym ps ∙ qs in
@@ -237,7 +237,7 @@ one-form sigs params (Some stream) (defined ds p) (defined es q) h k =
     ap (λ (z : List Binder). defined z p) dums ∙ ap (defined es) body
 
 -- a row spells one term
-pub one-term : (sigs : List Signature) (row : TermRow) (c d : Term) → SpellsTerm sigs row c → SpellsTerm sigs row d → c ≡ d
+pub one-term : (sigs : List Signature) (row : SpelledTerm) (c d : Term) → SpellsTerm sigs row c → SpellsTerm sigs row d → c ≡ d
 one-term sigs row c d (ps, s) (qs, t) =
     ap (λ (z : Signature). record { signature = z; form = c.form }) (sym ps ∙ qs)
     ∙ ap (λ (z : Form). record { signature = d.signature; form = z }) (one-form sigs row.signature.params row.stream c.form d.form s t)
@@ -264,7 +264,7 @@ text-longer : (kind : StreamKind) (sigs sigs' : List Signature) → Extends sigs
 text-longer kind sigs sigs' longer params stream hyps e ds (last, (us, is, mid, rest, a, alls), d) =
     (last, (us, is, mid, rest, spells-longer (length params) sigs sigs' longer e (at_first params) mid us rest a, hyps-longer (length params) sigs sigs' longer (reverse (listed hyps)) mid last rest alls), d)
 
-pub assertion-longer : (sigs sigs' : List Signature) → Extends sigs sigs' → (row : ThmRow) (a : Assertion) → SpellsThm sigs row a → SpellsThm sigs' row a
+pub assertion-longer : (sigs sigs' : List Signature) → Extends sigs sigs' → (row : SpelledThm) (a : Assertion) → SpellsThm sigs row a → SpellsThm sigs' row a
 assertion-longer sigs sigs' longer row a (ps, s) = (ps, text-longer of_assertion sigs sigs' longer row.params row.stream a.hyps a.conclusion [] s)
 
 form-longer : (sigs sigs' : List Signature) → Extends sigs sigs' → (params : List Binder) (o : Option (List ℕ)) (f : Form) → SpellsForm sigs params o f → SpellsForm sigs' params o f
@@ -275,5 +275,5 @@ form-longer sigs sigs' longer params (Some stream) plain_form h = h
 form-longer sigs sigs' longer params (Some stream) abstract_form h = h
 form-longer sigs sigs' longer params (Some stream) (defined ds p) h = text-longer of_definition sigs sigs' longer params stream none p ds h
 
-pub term-longer : (sigs sigs' : List Signature) → Extends sigs sigs' → (row : TermRow) (d : Term) → SpellsTerm sigs row d → SpellsTerm sigs' row d
+pub term-longer : (sigs sigs' : List Signature) → Extends sigs sigs' → (row : SpelledTerm) (d : Term) → SpellsTerm sigs row d → SpellsTerm sigs' row d
 term-longer sigs sigs' longer row d (is, s) = (is, form-longer sigs sigs' longer row.signature.params row.stream d.form s)

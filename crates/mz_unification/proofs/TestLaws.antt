@@ -4,9 +4,9 @@ use Rattle.std.specs.Prelude.{slice_get, Contains, ◌||◌, ◌==◌, IsBitSet,
 use Rattle.std.proofs.lemmas.Bool.{eqb-true}
 use Rattle.mz_logic.specs.Tree.{Tree, Trees, var, app, none, more}
 use Rattle.mz_logic.specs.Sorts.{IsBoundVar}
-use Rattle.mz_logic.specs.Variables.{InV, InSomeV}
+use Rattle.mz_logic.specs.Variables.{InV, InSomeV, is_member}
 use Rattle.mz_logic.specs.declared.binder.Binder.{Binder}
-use Rattle.mz_unification.specs.Tests.{has_bit, is_member, is_bound_at, is_bound_var, in_var, in_v, in_some_v}
+use Rattle.mz_unification.specs.Tests.{has_bit, is_bound_at, is_bound_var, in_var, in_v, in_some_v}
 
 pub or-cases : (a b : Bool) → (a || b) ≡ true → (a ≡ true) ⊎ (b ≡ true)
 or-cases true b h = inl refl

@@ -9,7 +9,7 @@ use Rattle.mz_logic.specs.Variables.{Occurs}
 use Rattle.mz_logic.specs.Conversions.{AreFresh}
 use Rattle.mz_logic.specs.declared.binder.Binder.{Binder}
 use Rattle.mz_unification.specs.Streams.{StreamKind, of_assertion, of_definition}
-use Rattle.mz_unification.specs.Spells.{trees_of, variables_from, Marks, SpellsText, Text, TermRow, ThmRow, SpellsThm, SpellsTerm}
+use Rattle.mz_unification.specs.Spells.{trees_of, variables_from, Marks, SpellsText, Text, SpelledTerm, SpelledThm, SpellsThm, SpellsTerm}
 use Rattle.mz_unification.specs.Profile.{Profile, plain, strict, Item, proof}
 use Rattle.mz_unification.specs.Sorted.{Sorted, AllSorted, ItemsSorted}
 use Rattle.mz_unification.specs.UnifyMachine.{UnifyMode, in_citation, at_end, in_definition, Matching, UnifyState, unify_from, unify, unify_steps_from, unify_steps}
@@ -18,17 +18,17 @@ use Rattle.mz_unification.specs.UnifyMachine.{UnifyMode, in_citation, at_end, in
 
 -- a row spells at most one assertion, but for whether it is an axiom, and at most one term
 abbrev pub OneAssertion : Type 0
-OneAssertion = (sigs : List Signature) (row : ThmRow) (a b : Assertion) → a.is_axiom ≡ b.is_axiom → SpellsThm sigs row a → SpellsThm sigs row b → a ≡ b
+OneAssertion = (sigs : List Signature) (row : SpelledThm) (a b : Assertion) → a.is_axiom ≡ b.is_axiom → SpellsThm sigs row a → SpellsThm sigs row b → a ≡ b
 
 abbrev pub OneTerm : Type 0
-OneTerm = (sigs : List Signature) (row : TermRow) (c d : Term) → SpellsTerm sigs row c → SpellsTerm sigs row d → c ≡ d
+OneTerm = (sigs : List Signature) (row : SpelledTerm) (c d : Term) → SpellsTerm sigs row c → SpellsTerm sigs row d → c ≡ d
 
 -- over more terms a row spells the same
 abbrev pub LongerSpellThms : Type 0
-LongerSpellThms = (sigs further : List Signature) (row : ThmRow) (a : Assertion) → SpellsThm sigs row a → SpellsThm (sigs ++ further) row a
+LongerSpellThms = (sigs further : List Signature) (row : SpelledThm) (a : Assertion) → SpellsThm sigs row a → SpellsThm (sigs ++ further) row a
 
 abbrev pub LongerSpellTerms : Type 0
-LongerSpellTerms = (sigs further : List Signature) (row : TermRow) (d : Term) → SpellsTerm sigs row d → SpellsTerm (sigs ++ further) row d
+LongerSpellTerms = (sigs further : List Signature) (row : SpelledTerm) (d : Term) → SpellsTerm sigs row d → SpellsTerm (sigs ++ further) row d
 
 -- what is spelled has only the parameters and the dummies that were met
 abbrev pub OnlyWhatWasMet : Type 0

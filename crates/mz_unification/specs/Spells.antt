@@ -81,17 +81,17 @@ Text kind sigs params stream hyps conclusion dummies =
 -- ---- rows of the tables
 
 -- a term's signature, and for a definition the bytes from its stream on
-pub record TermRow : Type 0 where
+pub record SpelledTerm : Type 0 where
   pub signature : Signature
   pub stream : Option (List ℕ)
 
 -- an assertion's parameters, and the bytes from its stream on
-pub record ThmRow : Type 0 where
+pub record SpelledThm : Type 0 where
   pub params : List Binder
   pub stream : List ℕ
 
 -- the row spells the assertion: over the parameters alone, without dummies
-abbrev pub SpellsThm : List Signature → ThmRow → Assertion → Type 0
+abbrev pub SpellsThm : List Signature → SpelledThm → Assertion → Type 0
 SpellsThm sigs row a = (row.params ≡ a.params) × Text of_assertion sigs row.params row.stream a.hyps a.conclusion []
 
 -- a row without a stream is a plain term's; a definition's stream spells its body, and its dummies in order
@@ -103,5 +103,5 @@ SpellsForm sigs params (Some stream) plain_form = ⊥
 SpellsForm sigs params (Some stream) abstract_form = ⊥
 SpellsForm sigs params (Some stream) (defined dummies body) = Text of_definition sigs params stream none body dummies
 
-abbrev pub SpellsTerm : List Signature → TermRow → Term → Type 0
+abbrev pub SpellsTerm : List Signature → SpelledTerm → Term → Type 0
 SpellsTerm sigs row d = (row.signature ≡ d.signature) × SpellsForm sigs row.signature.params row.stream d.form

@@ -1,8 +1,9 @@
 -- Tests that the machines compute, each of a notion of the logic (Carneiro, the section on variables and dependencies;
 -- mm0.md, section on sorts).
-use Rattle.std.specs.Prelude.{ℕ, ◌^◌, Bool, true, false, not, ◌==◌, ◌||◌, ◌&&◌, if◌then◌else◌, List, [], ◌∷◌, Option, Some, None, slice_get, bit_and}
+use Rattle.std.specs.Prelude.{ℕ, ◌^◌, Bool, true, false, not, ◌==◌, ◌||◌, ◌&&◌, if◌then◌else◌, List, Option, Some, None, slice_get, bit_and}
 use Rattle.mz_logic.specs.Tree.{Tree, Trees, var, app, none, more}
 use Rattle.mz_logic.specs.declared.binder.Binder.{Binder}
+use Rattle.mz_logic.specs.Variables.{is_member}
 
 -- two expressions are one tree
 abbrev mutual
@@ -21,10 +22,6 @@ abbrev mutual
 -- bit k of n is set
 abbrev pub has_bit : ℕ → ℕ → Bool
 has_bit n k = not (bit_and n (2 ^ k) == 0)
-
-abbrev pub is_member : ℕ → List ℕ → Bool
-is_member x [] = false
-is_member x (y ∷ ys) = x == y || is_member x ys
 
 -- there is a bound variable
 abbrev pub is_bound_at : Option Binder → Bool

@@ -20,8 +20,8 @@ use Rattle.mz_unify.specs.declared.unified.Unified.{Unified}
 use Rattle.mz_unify.specs.declared.unified.UnifyMode.{UnifyMode}
 use Rattle.mz_unify.specs.declared.command.Command.{Command}
 use Rattle.mz_unify.specs.declared.command.Command.TheVariants.{Term, TermSave, Ref, Dummy, Hyp, End}
-use Rattle.mz_unify.specs.declared.command.Stop.{Stop}
-use Rattle.mz_unify.specs.declared.command.Stop.TheVariants.{Rule, Mem}
+use Rattle.mz_unify.specs.declared.stop.Stop.{Stop}
+use Rattle.mz_unify.specs.declared.stop.Stop.TheVariants.{Rule, Mem}
 use Rattle.mz_unification.proofs.Offered.{command-long}
 use Rattle.mz_unify.proofs.UnifyTurns.{run_left, count_left, cut-run, cut-count, other-run, other-count, stopped-run, stopped-count, ended-run, ended-count, went-run, went-count}
 

@@ -16,8 +16,8 @@ use Rattle.mz_unify.specs.declared.unified.Unified.TheVariants as said
 use Rattle.mz_unify.specs.declared.unified.Unified.TheVariants.{Refused}
 use Rattle.mz_unify.specs.declared.command.Command.{Command}
 use Rattle.mz_unify.specs.declared.command.Command.TheVariants.{Term, TermSave, Ref, Dummy, Hyp, End}
-use Rattle.mz_unify.specs.declared.command.Stop.{Stop}
-use Rattle.mz_unify.specs.declared.command.Stop.TheVariants.{Rule, Mem}
+use Rattle.mz_unify.specs.declared.stop.Stop.{Stop}
+use Rattle.mz_unify.specs.declared.stop.Stop.TheVariants.{Rule, Mem}
 
 abbrev pub command_of : Command → UnifyCommand
 command_of (Term t) = u_term t
@@ -46,11 +46,11 @@ abbrev pub state_at : Sharing → List Id → List Tree → List Id → List Kep
 state_at s heap apart targets hyps = record { heap = trees_at s heap; apart = apart; targets = stack_at s targets; items = items_at s hyps }
 
 -- the state with other targets
-abbrev pub with_targets : UnifyState Tree → List Tree → UnifyState Tree
+abbrev pub with_targets : {T : Type 0} → UnifyState T → List T → UnifyState T
 with_targets st es = record st { targets = es }
 
 -- a row that goes through leads to the state, and one that a rule stops is refused by it
-abbrev pub IsRow : {A : Type 0} → Result (UnifyState Tree) K → Result A Stop → (A → UnifyState Tree) → Type 0
+abbrev pub IsRow : {T A : Type 0} → Result (UnifyState T) K → Result A Stop → (A → UnifyState T) → Type 0
 IsRow row result after = MatchResult result (λ x. row ≡ Ok (after x)) (λ stop. StopsBy stop (λ k. row ≡ Err k))
 
 -- what is said where a command at this place is stopped

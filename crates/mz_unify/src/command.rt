@@ -6,31 +6,28 @@ ghost use Rattle.mz_unify.specs.Stored.{mode_of};
 ghost use Rattle.mz_unify.specs.Rows.{command_of};
 
 use crate::unified::UnifyMode;
-use mz_cmd::{Cmd, END, K, UnifyCode};
+use mz_cmd::{Cmd, END, UnifyCode};
 
 /// A command of a stream, with its operand.
 #[derive(Clone, Copy, Debug, PartialEq, Eq)]
-pub(crate) enum Command {
+pub enum Command {
+    /// The target is an application of this term.
     Term(u32),
+    /// The same, and it is kept in the heap.
     TermSave(u32),
+    /// The target is what stands at this place of the heap.
     Ref(u32),
+    /// The target is a fresh bound variable of this sort.
     Dummy(u32),
+    /// A hypothesis is the next target.
     Hyp,
+    /// Nothing is left.
     End,
-}
-
-/// Why a command doesn't go through.
-#[derive(Clone, Copy, Debug, PartialEq, Eq)]
-pub(crate) enum Stop {
-    /// A premise fails.
-    Rule(K),
-    /// Want of memory.
-    Mem,
 }
 
 /// The command, if it is one of such a stream: dummies are met only in definitions, hypotheses only in
 /// assertions.
-pub(crate) fn decoded(mode: UnifyMode, cmd: Cmd) -> Option<Command>
+pub fn decoded(mode: UnifyMode, cmd: Cmd) -> Option<Command>
     ensures some { IfSome result (λ c. unify_command (kind_of (mode_of mode)) cmd.code cmd.value ≡ Some (command_of c)) }
     ensures none { IfNone result (unify_command (kind_of (mode_of mode)) cmd.code cmd.value ≡ None) }
 {

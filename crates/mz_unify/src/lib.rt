@@ -7,7 +7,10 @@
 mod command;
 mod rows;
 mod running;
+mod stop;
 mod unified;
 
+pub use command::{Command, decoded};
 pub use running::unify;
+pub use stop::{Stop, push, push_operands};
 pub use unified::{Unified, UnifyMode};

@@ -1,5 +1,5 @@
 //! What each command does: its premises in order, and what it leaves.
-ghost use Rattle.std.specs.Prelude.{ℕ, ◌≡◌, ◌≤◌, ⊤, ◌+◌, ◌++◌, ◌∷◌, ◌⊎◌, [], List, Ok, Err, OnOk, IfOk, IfSome, IfNone, MatchResult, reverse, length};
+ghost use Rattle.std.specs.Prelude.{ℕ, ◌≡◌, ◌≤◌, ◌+◌, ◌++◌, ◌∷◌, ◌⊎◌, [], List, Ok, Err, OnOk, IfOk, IfSome, IfNone, MatchResult, length};
 ghost use Rattle.mz_cmd.specs.declared.rule.K.{K};
 ghost use Rattle.mz_logic.specs.Tree.{Tree};
 ghost use Rattle.mz_logic.specs.Signature.{Signature};
@@ -10,7 +10,8 @@ ghost use Rattle.mz_unification.specs.UnifyMachine.{UnifyMode as Mode, UnifyStat
 ghost use Rattle.mz_unify.specs.Stored.{mode_of, trees_at, stack_at, items_at, AreItemsIn, AreLeft, TellsAllOf};
 ghost use Rattle.mz_unify.specs.Rows.{command_of, StopsBy, TellsAny, state_at, with_targets, IsRow};
 
-use crate::command::{Command, Stop};
+use crate::command::Command;
+use crate::stop::{Stop, push, push_operands};
 use crate::unified::UnifyMode;
 use mz_cmd::K;
 use mz_store::{Id, Item, Store};
@@ -26,19 +27,6 @@ pub(crate) fn variables(store: &Store, ids: &[Id]) -> u64
         word |= store.deps(*id);
     }
     word
-}
-
-/// Puts the operands on the targets, the first one on top.
-fn push_operands(targets: &mut Vec<Id>, operands: &[Id]) -> Result<(), Stop>
-    ensures ok { OnOk result (targets.new.items ≡ targets.old.items ++ reverse operands.now) }
-    ensures err { MatchResult result (λ _. ⊤) (λ stop. StopsBy stop (λ _. ⊥)) }
-{
-    let from = targets.len();
-    let Ok(()) = targets.extend_from_slice(operands) else {
-        return Err(Stop::Mem);
-    };
-    targets[from..].reverse();
-    Ok(())
 }
 
 /// Takes the top target.
@@ -185,17 +173,6 @@ fn end(store: &Store, mode: UnifyMode, targets: &[Id], hyps: &[Item]) -> Result<
         return Err(Stop::Rule(K::UnifyRest));
     }
     Ok(())
-}
-
-/// Puts an expression at the end.
-fn push(ids: &mut Vec<Id>, id: Id) -> Result<(), Stop>
-    ensures ok { OnOk result (ids.new.items ≡ ids.old.items ++ id ∷ []) }
-    ensures err { MatchResult result (λ _. ⊤) (λ stop. StopsBy stop (λ _. ⊥)) }
-{
-    match ids.push(id) {
-        Ok(()) => Ok(()),
-        Err(_) => Err(Stop::Mem),
-    }
 }
 
 /// Executes a command.

@@ -8,10 +8,11 @@ ghost use Rattle.mz_unification.specs.Profile.{strict};
 ghost use Rattle.mz_unification.specs.UnifyMachine.{unify, unify_from, unify_steps, unify_steps_from};
 ghost use Rattle.mz_unify.specs.Stored.{mode_of, trees_at, items_at, AreItemsIn, TellsAllOf, matching_at, OnDone, UnlessMem, IsRun, AreLeft};
 ghost use Rattle.mz_unify.specs.Patterns.{AreOperandsFor, IsExact};
-ghost use Rattle.mz_unify.specs.Rows.{state_at, stopped_at};
+ghost use Rattle.mz_unify.specs.Rows.{state_at};
 
-use crate::command::{Command, Stop, decoded};
+use crate::command::{Command, decoded};
 use crate::rows::{step, variables};
+use crate::stop::Stop;
 use crate::unified::{Unified, UnifyMode};
 use mz_cmd::{K, Steps, cmd_at};
 use mz_logic::Terms;
@@ -86,29 +87,19 @@ fn run<L: Ledger>(
     let mut at = 0;
     'commands: loop {
         let Ok(cmd) = cmd_at(stream, at) else {
-            return stopped(at, Stop::Rule(K::Command));
+            return Unified::stopped(at, Stop::Rule(K::Command));
         };
         steps.tick();
         let Some(next) = decoded(mode, cmd) else {
-            return stopped(at, Stop::Rule(K::Command));
+            return Unified::stopped(at, Stop::Rule(K::Command));
         };
         if let Err(stop) = step(store, mode, next, heap, &mut apart, &mut targets, hyps) {
-            return stopped(at, stop);
+            return Unified::stopped(at, stop);
         }
         if let Command::End = next {
             let taken = (held - hyps.len()) as u32;
             return Unified::Done { taken };
         }
         at += u32::from(cmd.len);
-    }
-}
-
-/// What is said where a command is stopped.
-fn stopped(at: u32, stop: Stop) -> Unified
-    ensures { result ≡ stopped_at at stop }
-{
-    match stop {
-        Stop::Rule(rule) => Unified::Refused { at, rule },
-        Stop::Mem => Unified::Mem,
     }
 }

@@ -1,3 +1,8 @@
+//! Where a stream runs, and what became of it.
+ghost use Rattle.std.specs.Prelude.{◌≡◌};
+ghost use Rattle.mz_unify.specs.Rows.{stopped_at};
+
+use crate::stop::Stop;
 use mz_cmd::K;
 
 /// Where a stream runs.
@@ -20,4 +25,16 @@ pub enum Unified {
     Refused { at: u32, rule: K },
     /// Want of memory.
     Mem,
+}
+
+impl Unified {
+    /// What is said where the command at a place of the stream is stopped.
+    pub fn stopped(at: u32, stop: Stop) -> Unified
+        ensures { result ≡ stopped_at at stop }
+    {
+        match stop {
+            Stop::Rule(rule) => Unified::Refused { at, rule },
+            Stop::Mem => Unified::Mem,
+        }
+    }
 }

@@ -1,5 +1,5 @@
 -- The numbers of names in a set that keeps their order.
-use Rattle.std.proofs.Common.{◌≡◌, ◌∙◌, ◌+◌, ℕ, suc, List, [], ◌∷◌, map, Bool, true, false, Option, Some, None, ap, sym, refl, arith}
+use Rattle.std.proofs.Common.{◌≡◌, ◌∙◌, ◌+◌, ◌++◌, ℕ, suc, List, [], ◌∷◌, length, map, Bool, true, false, Option, Some, None, ap, sym, refl, arith}
 use Rattle.std.specs.Prelude.{option_map, if◌then◌else◌, bytes_eq, ◌||◌}
 use Rattle.std.specs.List.{list_any, position, position_from}
 use Rattle.std.proofs.lemmas.Iterator.Adapters.{position_from-zero}
@@ -61,3 +61,52 @@ module _ {K : Type 0} (f : K → List ℕ) (w : List ℕ) (p : K → Bool) (test
       go false true e o is more = absurd cc
       go false false e None is more = more refl
       go false false e (Some n) is more = absurd cc
+
+-- ---- names in two lists
+
+some-none : {A : Type 0} {x : A} → Some x ≡ None → ⊥
+some-none e = cc
+
+-- the number among the first ones, or else the one counted behind them
+abbrev pub or_later : Option ℕ → ℕ → Option ℕ → Option ℕ
+or_later (Some n) many later = Some n
+or_later None many None = None
+or_later None many (Some k) = Some (many + k)
+
+later-zero : (o : Option ℕ) → o ≡ or_later None 0 o
+later-zero None = refl
+later-zero (Some k) = let e : k ≡ 0 + k = omega arith in ap Some e
+
+later-suc : (n : ℕ) (o : Option ℕ) → option_map suc (or_later None n o) ≡ or_later None (suc n) o
+later-suc n None = refl
+later-suc n (Some k) = let e : suc (n + k) ≡ suc n + k = omega arith in ap Some e
+
+pub number-both : (xs ys : List (List ℕ)) (w : List ℕ) → number_of (xs ++ ys) w ≡ or_later (number_of xs w) (length xs) (number_of ys w)
+number-both [] ys w = later-zero (number_of ys w)
+number-both (x ∷ xs) ys w = go (bytes_eq x w) (number_of xs w) (number_of (xs ++ ys) w) (number-both xs ys w)
+  where
+    go : (b : Bool) (o p : Option ℕ) → p ≡ or_later o (length xs) (number_of ys w)
+        → (if b then Some 0 else option_map suc p) ≡ or_later (if b then Some 0 else option_map suc o) (suc (length xs)) (number_of ys w)
+    go true o p e = refl
+    go false (Some n) p e = ap (option_map suc) e
+    go false None p e = ap (option_map suc) e ∙ later-suc (length xs) (number_of ys w)
+
+-- a name that is in neither
+pub new-later : (xs ys : List (List ℕ)) (w : List ℕ) → IsNew (xs ++ ys) w → IsNew ys w
+new-later xs ys w new = go (number_of xs w) (number_of ys w) (sym (number-both xs ys w) ∙ new)
+  where
+    go : (o p : Option ℕ) → or_later o (length xs) p ≡ None → p ≡ None
+    go (Some n) p e = absurd (some-none e)
+    go None None e = refl
+    go None (Some k) e = absurd (some-none e)
+
+-- the first of the names that are left, counted from the place where they begin
+pub number-here : (x w : List ℕ) (xs : List (List ℕ)) → bytes_eq x w ≡ true → number_of (x ∷ xs) w ≡ Some 0
+number-here x w xs same = ap (λ b. if b then Some 0 else option_map suc (number_of xs w)) same
+
+pub number-behind : (i : ℕ) (x w : List ℕ) (xs : List (List ℕ)) → bytes_eq x w ≡ false → or_later None i (number_of (x ∷ xs) w) ≡ or_later None (i + 1) (number_of xs w)
+number-behind i x w xs other = ap (λ b. or_later None i (if b then Some 0 else option_map suc (number_of xs w))) other ∙ go (number_of xs w)
+  where
+    go : (o : Option ℕ) → or_later None i (option_map suc o) ≡ or_later None (i + 1) o
+    go None = refl
+    go (Some k) = let e : i + suc k ≡ i + 1 + k = omega arith in ap Some e

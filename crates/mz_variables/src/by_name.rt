@@ -18,6 +18,10 @@ const FEW: usize = 16;
 
 /// The places of variables by their names. There is none where none is asked for, the variables are few,
 /// or two share a name: then they are gone through.
+///
+/// # Errors
+///
+/// Where there is no memory.
 pub fn places_of(
     alloc: Global,
     variables: &[Variable<'_, '_>],
@@ -137,6 +141,10 @@ fn is_bound_within(variables: &[Variable<'_, '_>], end: usize, place: usize) -> 
 }
 
 /// The places of the variables that are among the dependencies.
+///
+/// # Errors
+///
+/// Where there is no memory.
 pub fn places_among(
     alloc: Global,
     index: &Option<Places<u32>>,

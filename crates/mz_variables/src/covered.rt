@@ -30,6 +30,10 @@ impl Covered {
     }
 
     /// The variables at these places.
+    ///
+    /// # Errors
+    ///
+    /// Where there is no memory.
     pub fn of(alloc: Global, deps: &Deps) -> Result<Covered, AllocError>
         ensures { IfOk result (λ covered. (x : ℕ) → Contains covered x ↔ Contains deps.now x) }
     {
@@ -55,6 +59,10 @@ impl Covered {
     }
 
     /// Adds a variable, if it isn't one of them.
+    ///
+    /// # Errors
+    ///
+    /// Where there is no memory.
     pub fn add(&mut self, x: u32) -> Result<(), AllocError>
         ensures grows { OnOk result ((more : List ℕ) × (self.new ≡ self.old ++ more)) }
         ensures has { OnOk result ((y : ℕ) → Contains self.new y ↔ (Contains self.old y ⊎ (y ≡ x))) }

@@ -12,6 +12,10 @@ use std::alloc::AllocError;
 
 /// Whether all free variables of the expression are covered. Where they are, the same ones are covered
 /// afterwards.
+///
+/// # Errors
+///
+/// Where there is no memory.
 #[cycle(covers)]
 pub fn covers(
     env: &Env,

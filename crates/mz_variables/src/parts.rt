@@ -11,17 +11,22 @@ use std::alloc::{AllocError, Global};
 /// A type where it stands in the statement.
 #[derive(Clone, Copy)]
 pub struct TypeAt<'t, 'a> {
+    /// The type.
     pub ty: &'t TypeText<'a>,
 }
 
-/// The variables in order, and the parameters and dummies among them; the types in order; and the type
-/// of the result, where there is one.
+/// What the rules see of a statement, in the order in which it's written.
 #[derive(Drop)]
 pub struct Parts<'t, 'a> {
+    /// All variables.
     pub variables: Vec<Variable<'t, 'a>>,
+    /// The parameters among them.
     pub params: Vec<Variable<'t, 'a>>,
+    /// The dummies among them.
     pub dummies: Vec<Variable<'t, 'a>>,
+    /// All types.
     pub types: Vec<TypeAt<'t, 'a>>,
+    /// The type of the result, where there is one.
     pub result: Option<&'t TypeText<'a>>,
 }
 
@@ -47,6 +52,10 @@ impl<'t, 'a> Parts<'t, 'a> {
     }
 
     /// Those of a term.
+    ///
+    /// # Errors
+    ///
+    /// Where there is no memory.
     pub fn of_term(alloc: Global, term: &'t TermText<'a>) -> Result<Parts<'t, 'a>, AllocError>
         ensures { IfOk result (λ parts. AreParts parts (view (term_lem term.now)).variables (view (term_lem term.now)).types (view (term_lem term.now)).result) }
     {
@@ -61,6 +70,10 @@ impl<'t, 'a> Parts<'t, 'a> {
     }
 
     /// Those of an axiom or a theorem.
+    ///
+    /// # Errors
+    ///
+    /// Where there is no memory.
     pub fn of_assertion(
         alloc: Global,
         assertion: &'t AssertText<'a>,
@@ -77,6 +90,10 @@ impl<'t, 'a> Parts<'t, 'a> {
     }
 
     /// Those of a definition.
+    ///
+    /// # Errors
+    ///
+    /// Where there is no memory.
     pub fn of_definition(
         alloc: Global,
         definition: &'t DefinitionText<'a>,
@@ -94,6 +111,10 @@ impl<'t, 'a> Parts<'t, 'a> {
     }
 
     /// Those of a general notation.
+    ///
+    /// # Errors
+    ///
+    /// Where there is no memory.
     pub fn of_notation(
         alloc: Global,
         notation: &'t NotationText<'a>,

@@ -10,12 +10,16 @@ use mz_grammar::{Group, Lexeme, NameText, Source, TypeText};
 use mz_logic::Deps;
 use std::alloc::{AllocError, Global};
 
-/// A variable; one that is written `_`, or not at all, has no name.
+/// A variable of a statement.
 #[derive(Clone, Copy)]
 pub struct Variable<'t, 'a> {
+    /// Its name; none where it's written `_`, or not at all.
     pub name: Option<Lexeme<'a>>,
+    /// Whether it's a dummy, and no parameter.
     pub is_dummy: bool,
+    /// Whether it's bound, as each dummy is.
     pub is_bound: bool,
+    /// The type of its group, or of its argument.
     pub ty: &'t TypeText<'a>,
 }
 

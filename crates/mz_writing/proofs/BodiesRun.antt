@@ -16,7 +16,7 @@ use Rattle.mz_unification.specs.Streams.{of_assertion, of_definition}
 use Rattle.mz_unification.proofs.Offered.{trees_of-listed}
 use Rattle.mz_soundness.specs.Bodies.{Runs}
 use Rattle.mz_soundness.specs.Lists.{kind_of, assertion_of, definition_of}
-use Rattle.mz_soundness.specs.Tables.{Tables, Heading, is_definition, Declares}
+use Rattle.mz_soundness.specs.MachineState.{RowsBefore, Heading, is_definition, Declares}
 use Rattle.mz_steps.specs.Endings.{IsAsserted, IsEnding}
 use Rattle.mz_steps.specs.Laws.{DependOnFirst}
 use Rattle.mz_steps.specs.Sameness.{IsSameEnv, IsSameForm}
@@ -33,7 +33,7 @@ bound-below : (params : List Binder) (deps : List ℕ) → All (IsBoundAt params
 bound-below params deps all x (k, below, is) =
     let (b, here, _) = subst (IsBoundAt params) is (all k x below) in slice_get_within params x b here
 
-module _ (gaps : Bool) (tables : Tables) (env env' : List Declaration) (declares : Declares tables env') (same : IsSameEnv env env') (at : ℕ) (bytes : List ℕ) where
+module _ (gaps : Bool) (tables : RowsBefore) (env env' : List Declaration) (declares : Declares tables env') (same : IsSameEnv env env') (at : ℕ) (bytes : List ℕ) where
   runs-by : (h : Heading) (dummies : List Binder) (e : Tree) (hyps : List Tree) → DependOnFirst (length h.params) (h.params ++ dummies) → (b : IsBody gaps env h.kind h.params dummies e hyps bytes) → IsEnding env (h.params ++ dummies) h b.work h.kind e
       → Runs (plain gaps) tables h at bytes
   runs-by h dummies e hyps first b ends =

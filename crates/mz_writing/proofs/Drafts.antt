@@ -12,7 +12,7 @@ use Rattle.mz_layout.specs.Normal.{Written, Parts}
 use Rattle.mz_unification.specs.Profile.{plain}
 use Rattle.mz_soundness.specs.Bodies.{stands_in}
 use Rattle.mz_soundness.specs.Lists.{kind_of}
-use Rattle.mz_soundness.specs.Tables.{Kind, is_axiom, is_theorem, is_definition}
+use Rattle.mz_soundness.specs.MachineState.{Kind, is_axiom, is_theorem, is_definition}
 use Rattle.mz_steps.specs.Endings.{MayStand}
 use Rattle.mz_steps.specs.SharedBodies.{Builds, IsSharedBody}
 use Rattle.mz_steps.specs.Steps.{Step, Steps}

@@ -22,13 +22,13 @@ use Rattle.mz_layout.specs.Standing.{Fit, HasRoom}
 use Rattle.mz_unification.specs.Streams.{StreamKind, of_assertion, of_definition, UnifyCommand, u_term, u_dummy, StreamIs}
 use Rattle.mz_unification.specs.Spells.{Marks, with_dummy, at_first, dummy_of}
 use Rattle.mz_unification.specs.Profile.{expr, proof}
-use Rattle.mz_soundness.specs.Tables.{is_axiom, is_theorem, is_definition}
+use Rattle.mz_soundness.specs.MachineState.{is_axiom, is_theorem, is_definition}
 use Rattle.mz_machine.specs.BodyAnswers.{HasGap}
 use Rattle.mz_binary.specs.Gapped.{leaves_gap}
 use Rattle.mz_steps.specs.Steps.{Step}
 use Rattle.mz_steps.specs.Works.{Work, work_start}
 use Rattle.mz_logic.specs.Sorts.{HasSort}
-use Rattle.mz_soundness.specs.RowWords.{AreParamWords}
+use Rattle.mz_words.specs.RowWords.{AreParamWords}
 use Rattle.mz_steps.specs.Sameness.{IsInside, IsSameForm}
 use Rattle.mz_writing.specs.Example.{constant, two_bound, constructor, truth, pair, a_term, holds, text, made, result_word, bound_words, parts_by, ExampleIsWritten, DraftIsWritten}
 use Rattle.mz_steps.specs.SharedBodies.{AreDistinct, IsSharedBody}

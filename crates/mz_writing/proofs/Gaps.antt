@@ -12,7 +12,7 @@ use Rattle.mz_logic.specs.declared.binder.Binder.{Binder}
 use Rattle.mz_unification.specs.Profile.{plain}
 use Rattle.mz_soundness.specs.Bodies.{in_theorems, stands_in}
 use Rattle.mz_soundness.specs.Sound.{IsCitation, CitesWithin, GapsWithin}
-use Rattle.mz_soundness.specs.Tables.{Kind, is_axiom, is_theorem, is_definition}
+use Rattle.mz_soundness.specs.MachineState.{Kind, is_axiom, is_theorem, is_definition}
 use Rattle.mz_steps.specs.Endings.{spelled_body, MayStand}
 use Rattle.mz_steps.specs.Steps.{Step, Steps, command_bytes}
 use Rattle.mz_steps.specs.Works.{Work, work_start}

@@ -1,4 +1,3 @@
-pub mod WordsHold
 pub mod BodiesRun
 pub mod RowsHold
 pub mod ListsHold

@@ -19,7 +19,7 @@ use Rattle.mz_layout.specs.Standing.{Fit, Stands, AreListed, body_place, next_pl
 use Rattle.mz_layout.proofs.Offered.{counts-said, stands-bytes}
 use Rattle.mz_layout.specs.Heads.{AllTaken, body_bytes}
 use Rattle.mz_soundness.specs.FileRows.{taken_by, rows_taken}
-use Rattle.mz_soundness.specs.Tables.{Declares}
+use Rattle.mz_soundness.specs.MachineState.{Declares}
 use Rattle.mz_soundness.proofs.Offered.{pairs-long}
 use Rattle.mz_binary.specs.Chains.{IsGoodStatement, GoodTo, EndsAt}
 use Rattle.mz_binary.specs.Checking.{counts, kind_checks, checks_of}

@@ -18,18 +18,19 @@ use Rattle.mz_logic.specs.declared.word.Word.{Word}
 use Rattle.mz_layout.specs.Normal.{Parts, row_of_term, row_of_thm, file_of}
 use Rattle.mz_layout.specs.NormalLaws.{written_term, written_thm, term_place, thm_place}
 use Rattle.mz_layout.specs.Standing.{Fit, Stands}
-use Rattle.mz_layout.specs.Tables.{TermRow as TermRecord, ThmRow as ThmRecord, sort_count, term_count, thm_count, term_row, thm_row}
+use Rattle.mz_layout.specs.Tables.{TermRow, ThmRow, sort_count, term_count, thm_count, term_row, thm_row}
 use Rattle.mz_layout.proofs.Offered.{SaysCounts, counts-said, slice_get-sorts, mods-read, term-read, thm-read, term-stream, thm-stream}
 use Rattle.mz_unification.specs.Profile.{plain}
-use Rattle.mz_unification.specs.Spells.{Text, TermRow, ThmRow, SpellsTerm, SpellsThm}
+use Rattle.mz_unification.specs.Spells.{Text, SpelledTerm, SpelledThm, SpellsTerm, SpellsThm}
 use Rattle.mz_unification.specs.Streams.{of_assertion, of_definition}
 use Rattle.mz_soundness.specs.Bodies.{Runs, body_checks}
 use Rattle.mz_soundness.specs.FileRows.{taken_by, stream_of, term_of_file, thm_of_file, rows_taken, Taken}
 use Rattle.mz_layout.specs.Heads.{body_bytes}
 use Rattle.mz_soundness.specs.Lists.{assertion_of, definition_of}
-use Rattle.mz_soundness.specs.RowWords.{IsResultWord, param_checks, word_checks}
-use Rattle.mz_soundness.specs.Tables.{Tables, Heading, is_definition, Declares}
+use Rattle.mz_words.specs.RowWords.{IsResultWord, param_checks, word_checks}
+use Rattle.mz_soundness.specs.MachineState.{RowsBefore, Heading, is_definition, Declares}
 use Rattle.mz_soundness.proofs.Offered.{pairs-long, bodies-checked}
+use Rattle.mz_words.proofs.Offered.{params-hold, words-hold}
 use Rattle.mz_binary.specs.Checking.{term_body_checks, term_checks, thm_checks, kind_checks}
 use Rattle.mz_binary.specs.Spelling.{SpellsRow}
 use Rattle.mz_steps.specs.Sameness.{IsSameTerm, IsSameForm, IsSameEnv}
@@ -38,7 +39,6 @@ use Rattle.mz_steps.specs.Bodies.{IsBody}
 use Rattle.mz_streams.specs.SpellsBefore.{SpellsBefore}
 use Rattle.mz_writing.specs.Writing.{SayParams, SaySignature, IsWrittenAssertion}
 use Rattle.mz_writing.proofs.BodiesRun.{assertion-runs, definition-runs}
-use Rattle.mz_writing.proofs.WordsHold.{params-hold, words-hold}
 use Rattle.mz_binary.proofs.Offered.{runs-with}
 use Rattle.mz_binary.specs.Standards.{profile_of, by_table}
 
@@ -62,14 +62,14 @@ module _ (gaps : Bool) (file : List ℕ) (taken : Taken) (at body next : ℕ) wh
   assertion-holds true below all = (below, all)
   assertion-holds false below all = (below, all)
 
-holds-of : (gaps : Bool) (tables : Tables) (h : Heading) (at : ℕ) (bytes : List ℕ) → Runs (plain gaps) tables h at bytes → AllHold (body_checks (profile_of (by_table gaps)) tables h at bytes)
+holds-of : (gaps : Bool) (tables : RowsBefore) (h : Heading) (at : ℕ) (bytes : List ℕ) → Runs (plain gaps) tables h at bytes → AllHold (body_checks (profile_of (by_table gaps)) tables h at bytes)
 holds-of gaps tables h at bytes runs = (bodies-checked (profile_of (by_table gaps)) tables h at bytes).0.1 (runs-with gaps tables h at bytes runs)
 
 -- a term's row as it is read of its record, and an assertion's
-abbrev term_by : List ℕ → TermRecord → TermRow
+abbrev term_by : List ℕ → TermRow → SpelledTerm
 term_by file row = record { signature = signature_of row.words; stream = stream_of file row }
 
-abbrev thm_by : List ℕ → ThmRecord → ThmRow
+abbrev thm_by : List ℕ → ThmRow → SpelledThm
 thm_by file row = record { params = binders_of row.params; stream = drop row.stream_at file }
 
 -- a definition's row as it is read: its stream goes on to the end of the file
@@ -93,7 +93,7 @@ module _ (gaps : Bool) (p : Parts) (fit : Fit p) (env env' : List Declaration) (
   abbrev file : List ℕ
   file = file_of p
 
-  abbrev tables : Tables
+  abbrev tables : RowsBefore
   tables = rows_taken file (taken_by env')
 
   counts : SaysCounts (file_of p) p
@@ -121,8 +121,8 @@ module _ (gaps : Bool) (p : Parts) (fit : Fit p) (env env' : List Declaration) (
     result-word : (unify : Option (List ℕ)) (place : ℕ) → IsResultWord (sorts env') (written_term ws result unify place)
     result-word unify place = record { is_regular = say'.is_regular; named = refl; may_be = say'.may_be; bits = say'.bits }
 
-    words : (row : TermRecord) (unify : Option (List ℕ)) (place : ℕ) → row ≡ written_term ws result unify place → AllHold (word_checks (sorts env') row)
-    words row unify place is = subst (λ (r : TermRecord). AllHold (word_checks (sorts env') r)) (sym is) (words-hold (sorts env') (written_term ws result unify place) say'.right (result-word unify place))
+    words : (row : TermRow) (unify : Option (List ℕ)) (place : ℕ) → row ≡ written_term ws result unify place → AllHold (word_checks (sorts env') row)
+    words row unify place is = subst (λ (r : TermRow). AllHold (word_checks (sorts env') r)) (sym is) (words-hold (sorts env') (written_term ws result unify place) say'.right (result-word unify place))
 
     get-row : (unify : Option (List ℕ)) → slice_get p.terms (length (terms env)) ≡ Some (row_of_term ws result unify) → slice_get p.terms (length (terms env')) ≡ Some (row_of_term ws result unify)
     get-row unify e = subst (λ (n : ℕ). slice_get p.terms n ≡ Some (row_of_term ws result unify)) (pairs-long IsSameTerm (terms env) (terms env') same.terms_are) e
@@ -139,9 +139,9 @@ module _ (gaps : Bool) (p : Parts) (fit : Fit p) (env env' : List Declaration) (
         let row-is : term_row file n ≡ written_term ws result None (term_place p n) = term-read p fit n ws result None here in
         let row : term_of_file file n ≡ record { signature = signature; stream = None } = ap (term_by file) row-is ∙ ap (λ (z : Signature). record { signature = z; stream = None }) say.said in
         let ends : AllHold (term_body_checks (by_table gaps) file (taken_by env') at body next (term_of_file file n).stream) =
-        subst (λ (r : TermRow). AllHold (term_body_checks (by_table gaps) file (taken_by env') at body next r.stream)) (sym row) (inl (bytes-are ∙ empty), tt) in
+        subst (λ (r : SpelledTerm). AllHold (term_body_checks (by_table gaps) file (taken_by env') at body next r.stream)) (sym row) (inl (bytes-are ∙ empty), tt) in
         record {
-          row = (below, subst (λ (r : TermRow). SpellsTerm (signatures env') r (record { signature = signature; form = plain_form })) (sym row) (refl, tt));
+          row = (below, subst (λ (r : SpelledTerm). SpellsTerm (signatures env') r (record { signature = signature; form = plain_form })) (sym row) (refl, tt));
           holds = subst (λ (l : Bool). AllHold (kind_checks (by_table gaps) file (taken_by env') at body next (Some (term_code l)))) (sym mark)
               (below, (tt, all_hold-both (word_checks (sorts env') (term_row file n)) (term_body_checks (by_table gaps) file (taken_by env') at body next (term_of_file file n).stream) (words (term_row file n) None (term_place p n) row-is) ends));
         }
@@ -161,13 +161,13 @@ module _ (gaps : Bool) (p : Parts) (fit : Fit p) (env env' : List Declaration) (
         subst (Runs (plain gaps) tables (definition_of (record { signature = signature; stream = Some bytes' }) bytes') body) (sym bytes-are)
         (definition-runs gaps tables env env' declares same body bytes signature bytes' dummies dummies' e e' legal same-form (spells further) b) in
         let ends : AllHold (term_body_checks (by_table gaps) file (taken_by env') at body next (term_of_file file n).stream) =
-        subst (λ (o : Option (List ℕ)). AllHold (term_body_checks (by_table gaps) file (taken_by env') at body next o)) (sym (ap (λ (r : TermRow). r.stream) row))
-        (subst (λ (r : TermRow). AllHold (body_checks (profile_of (by_table gaps)) tables (definition_of r bytes') body (body_bytes file body next))) (sym row)
+        subst (λ (o : Option (List ℕ)). AllHold (term_body_checks (by_table gaps) file (taken_by env') at body next o)) (sym (ap (λ (r : SpelledTerm). r.stream) row))
+        (subst (λ (r : SpelledTerm). AllHold (body_checks (profile_of (by_table gaps)) tables (definition_of r bytes') body (body_bytes file body next))) (sym row)
         (holds-of gaps tables (definition_of (record { signature = signature; stream = Some bytes' }) bytes') body (body_bytes file body next) runs)) in
         let text : Text of_definition (signatures env') signature.params bytes' none e' dummies' = subst (λ (z : List Signature). Text of_definition z signature.params bytes' none e' dummies') sigs (spells further) in
         record {
-          row = (below, subst (λ (r : TermRow). SpellsTerm (signatures env') r (record { signature = signature; form = defined dummies' e' })) (sym row) (refl, text));
-          holds = definition-holds gaps file (taken_by env') at body next is_local below (ap (λ (r : TermRecord). r.words.has_body) row-is)
+          row = (below, subst (λ (r : SpelledTerm). SpellsTerm (signatures env') r (record { signature = signature; form = defined dummies' e' })) (sym row) (refl, text));
+          holds = definition-holds gaps file (taken_by env') at body next is_local below (ap (λ (r : TermRow). r.words.has_body) row-is)
               (all_hold-both (word_checks (sorts env') (term_row file n)) (term_body_checks (by_table gaps) file (taken_by env') at body next (term_of_file file n).stream) (words (term_row file n) (Some stream) (term_place p n) row-is) ends);
         }
 
@@ -187,13 +187,13 @@ module _ (gaps : Bool) (p : Parts) (fit : Fit p) (env env' : List Declaration) (
       let runs : Runs (plain gaps) tables h body (body_bytes file body next) =
       subst (Runs (plain gaps) tables h body) (sym bytes-are) (assertion-runs gaps tables env env' declares same body bytes a bytes' w.dummies legal w.are_dummies (w.text.spells stands.rest) w.body.body) in
       let words : AllHold (param_checks (sorts env') (thm_row file n).words_at (thm_row file n).params) =
-      subst (λ (r : ThmRecord). AllHold (param_checks (sorts env') r.words_at r.params)) (sym row-is)
+      subst (λ (r : ThmRow). AllHold (param_checks (sorts env') r.words_at r.params)) (sym row-is)
       (params-hold (sorts env') (thm_place p n) w.words (subst (λ (ss : List SortMods). SayParams ss w.words a.params) same.sorts_are w.say).right) in
       let ends : AllHold (body_checks (profile_of (by_table gaps)) tables (assertion_of a.is_axiom (thm_of_file file n)) body (body_bytes file body next)) =
-      subst (λ (r : ThmRow). AllHold (body_checks (profile_of (by_table gaps)) tables (assertion_of a.is_axiom r) body (body_bytes file body next))) (sym row) (holds-of gaps tables h body (body_bytes file body next) runs) in
+      subst (λ (r : SpelledThm). AllHold (body_checks (profile_of (by_table gaps)) tables (assertion_of a.is_axiom r) body (body_bytes file body next))) (sym row) (holds-of gaps tables h body (body_bytes file body next) runs) in
       let text : Text of_assertion (signatures env') a.params bytes' a.hyps a.conclusion [] = subst (λ (z : List Signature). Text of_assertion z a.params bytes' a.hyps a.conclusion []) sigs (w.text.spells stands.rest) in
       record {
-        row = (below, subst (λ (r : ThmRow). SpellsThm (signatures env') r a) (sym row) (refl, text));
+        row = (below, subst (λ (r : SpelledThm). SpellsThm (signatures env') r a) (sym row) (refl, text));
         holds = assertion-holds gaps file (taken_by env') at body next a.is_axiom below
             (all_hold-both (param_checks (sorts env') (thm_row file n).words_at (thm_row file n).params) (body_checks (profile_of (by_table gaps)) tables (assertion_of a.is_axiom (thm_of_file file n)) body (body_bytes file body next)) words ends);
       }

@@ -8,8 +8,8 @@ use Rattle.mz_logic.specs.WordsWritten.{words_of, result_word, bound_from}
 use Rattle.mz_logic.specs.declared.binder.Binder.{Binder}
 use Rattle.mz_logic.specs.declared.binder.ResultType.{ResultType}
 use Rattle.mz_logic.proofs.Offered.{at-first, bits-few, result-says, places-same, params-back, results-back}
-use Rattle.mz_soundness.specs.RowWords.{bound_count}
-use Rattle.mz_soundness.proofs.Offered.{param-at, bound-words}
+use Rattle.mz_words.specs.RowWords.{bound_count}
+use Rattle.mz_words.proofs.Offered.{bound-many, param-at}
 use Rattle.mz_writing.specs.WordsSay.{WordsSayParams, WordsSaySignatures}
 
 pub words-say-params : WordsSayParams
@@ -22,7 +22,7 @@ words-say-signatures ss signature can may bound increasing =
     let below : r.sort < length ss = slice_get_within ss r.sort may.0 may.1 in
     let (bound-is, sort-is, deps-are, _) = result-says ss params can r below in
     let bits : word_deps (result_word params r) < 2 ^ length (bound_from 0 params) = subst (λ (d : ℕ). d < 2 ^ length (bound_from 0 params)) (sym deps-are) (bits-few (bound_from 0 params) r.deps) in
-    let count : bound_count (words_of params) ≡ length (bound_from 0 params) = bound-words 0 (words_of params) ∙ ap (λ (z : List ℕ). length z) (places-same ss params can 0 [] params (at-first ss params can)) in
+    let count : bound_count (words_of params) ≡ length (bound_from 0 params) = sym (bound-many 0 (words_of params)) ∙ ap (λ (z : List ℕ). length z) (places-same ss params can 0 [] params (at-first ss params can)) in
     record {
       right = λ i within. param-at ss params can i within;
       is_regular = bound-is;

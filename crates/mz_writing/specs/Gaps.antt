@@ -9,7 +9,7 @@ use Rattle.mz_logic.specs.LegalLists.{Statement}
 use Rattle.mz_logic.specs.declared.binder.Binder.{Binder}
 use Rattle.mz_layout.specs.Normal.{Written, Parts, file_of}
 use Rattle.mz_layout.specs.Standing.{Fit}
-use Rattle.mz_soundness.specs.Tables.{Kind, is_theorem}
+use Rattle.mz_soundness.specs.MachineState.{Kind, is_theorem}
 use Rattle.mz_soundness.specs.Sound.{CitesWithin}
 use Rattle.mz_machine.specs.BodyAnswers.{HasGap}
 use Rattle.mz_binary.specs.Gapped.{AssertionBody, bodies_of, IsGapped, GappedIn}

@@ -14,8 +14,8 @@ use Rattle.mz_logic.specs.declared.word.Word.{Word}
 use Rattle.mz_layout.specs.Normal.{Written, Parts, row_of_term, row_of_thm}
 use Rattle.mz_unification.specs.Streams.{of_assertion, of_definition}
 use Rattle.mz_soundness.specs.Lists.{kind_of}
-use Rattle.mz_soundness.specs.RowWords.{bound_count, AreParamWords}
-use Rattle.mz_soundness.specs.Tables.{is_definition}
+use Rattle.mz_words.specs.RowWords.{bound_count, AreParamWords}
+use Rattle.mz_soundness.specs.MachineState.{is_definition}
 use Rattle.mz_steps.specs.Sameness.{IsSameTerm}
 use Rattle.mz_steps.specs.SharedBodies.{IsSharedBody}
 use Rattle.mz_streams.specs.SharedTexts.{IsSharedText}

@@ -33,7 +33,7 @@ impl Kind {
 }
 
 impl OpenGroup {
-    /// The lexeme is its closing bracket.
+    /// Whether the lexeme is its closing bracket.
     fn is_closed_by(self, found: Lexeme<'_>) -> bool
         ensures { result ≡ fits (the_symbol (closing_of self.is_bound)) found.entry.kind found.entry.bytes.now }
     {

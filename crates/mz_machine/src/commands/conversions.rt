@@ -7,19 +7,19 @@ ghost use Rattle.mz_store.specs.declared.item.DepsMode.TheVariants.{All};
 ghost use Rattle.mz_unification.specs.Profile.{strict};
 ghost use Rattle.mz_unify.specs.Stored.{items_at, item_at, trees_at, AreItemsIn, IsItemIn};
 ghost use Rattle.mz_soundness.specs.Premises.{pop_sides};
-ghost use Rattle.mz_soundness.specs.Tables.{Tables, State};
+ghost use Rattle.mz_soundness.specs.MachineState.{RowsBefore, State};
 ghost use Rattle.mz_soundness.specs.ProofMachine.{proof_row, sides};
 ghost use Rattle.mz_soundness.specs.Bodies.{row_steps};
 ghost use Rattle.mz_earlier.specs.Before.{tables_of, signatures_of};
-ghost use Rattle.mz_machine.specs.OverStore.{with_stack, pop_unfolding, Gives, GivesRule, StopsBy, UnlessMem};
+ghost use Rattle.mz_machine.specs.OverStore.{with_stack, pop_unfolding, Gives, GivesRule, UnlessMem};
+ghost use Rattle.mz_unify.specs.Rows.{StopsBy};
 
-use crate::command::Stop;
-use crate::stack::{pop, pop_conversion, pop_expr, pop_obligation, pop_proof, push, put_back};
+use crate::stack::{pop, pop_conversion, pop_expr, pop_obligation, pop_proof};
 use mz_cmd::{K, Steps};
-use mz_earlier::Earlier;
+use mz_earlier::{Earlier, put_back};
 use mz_logic::Terms;
 use mz_store::{Id, Item, Store};
-use mz_unify::{Unified, UnifyMode, unify};
+use mz_unify::{Stop, Unified, UnifyMode, push, unify};
 use std::sync::ledger::Ledger;
 
 /// From an expression and a proof below to a proof of the expression, which the obligation above is
@@ -28,7 +28,7 @@ use std::sync::ledger::Ledger;
 pub(crate) fn conv(store: &Store, stack: &mut Vec<Item>) -> Result<(), K>
     requires { AreItemsIn store.now stack.old.items }
     ensures ids { OnOk result (AreItemsIn store.now stack.new.items) }
-    ensures row { (tables : Tables) (at n : ℕ) (st : State Tree) → st.stack ≡ items_at store.now stack.old.items → GivesRule (proof_row strict tables at code.Conv n st) result (λ _. with_stack st (items_at store.now stack.new.items)) }
+    ensures row { (tables : RowsBefore) (at n : ℕ) (st : State Tree) → st.stack ≡ items_at store.now stack.old.items → GivesRule (proof_row strict tables at code.Conv n st) result (λ _. with_stack st (items_at store.now stack.new.items)) }
 {
     let proved = pop_proof(store, stack)?;
     let claimed = pop_expr(store, stack)?;
@@ -42,7 +42,7 @@ pub(crate) fn conv(store: &Store, stack: &mut Vec<Item>) -> Result<(), K>
 pub(crate) fn refl(store: &Store, stack: &mut Vec<Item>) -> Result<(), K>
     requires { AreItemsIn store.now stack.old.items }
     ensures ids { OnOk result (AreItemsIn store.now stack.new.items) }
-    ensures row { (tables : Tables) (at n : ℕ) (st : State Tree) → st.stack ≡ items_at store.now stack.old.items → GivesRule (proof_row strict tables at code.Refl n st) result (λ _. with_stack st (items_at store.now stack.new.items)) }
+    ensures row { (tables : RowsBefore) (at n : ℕ) (st : State Tree) → st.stack ≡ items_at store.now stack.old.items → GivesRule (proof_row strict tables at code.Refl n st) result (λ _. with_stack st (items_at store.now stack.new.items)) }
 {
     let (left, right) = pop_obligation(store, stack)?;
     if store.same(left, right) {
@@ -57,7 +57,7 @@ pub(crate) fn refl(store: &Store, stack: &mut Vec<Item>) -> Result<(), K>
 pub(crate) fn symm(store: &Store, stack: &mut Vec<Item>) -> Result<(), K>
     requires { AreItemsIn store.now stack.old.items }
     ensures ids { OnOk result (AreItemsIn store.now stack.new.items) }
-    ensures row { (tables : Tables) (at n : ℕ) (st : State Tree) → st.stack ≡ items_at store.now stack.old.items → GivesRule (proof_row strict tables at code.Symm n st) result (λ _. with_stack st (items_at store.now stack.new.items)) }
+    ensures row { (tables : RowsBefore) (at n : ℕ) (st : State Tree) → st.stack ≡ items_at store.now stack.old.items → GivesRule (proof_row strict tables at code.Symm n st) result (λ _. with_stack st (items_at store.now stack.new.items)) }
 {
     let (left, right) = pop_obligation(store, stack)?;
     put_back(stack, Item::Obligation(right, left));
@@ -70,7 +70,7 @@ pub(crate) fn symm(store: &Store, stack: &mut Vec<Item>) -> Result<(), K>
 pub(crate) fn cong(store: &Store, stack: &mut Vec<Item>) -> Result<(), Stop>
     requires { AreItemsIn store.now stack.old.items }
     ensures ids { OnOk result (AreItemsIn store.now stack.new.items) }
-    ensures row { (tables : Tables) (at n : ℕ) (st : State Tree) → st.stack ≡ items_at store.now stack.old.items → Gives (proof_row strict tables at code.Cong n st) result (λ _. with_stack st (items_at store.now stack.new.items)) }
+    ensures row { (tables : RowsBefore) (at n : ℕ) (st : State Tree) → st.stack ≡ items_at store.now stack.old.items → Gives (proof_row strict tables at code.Cong n st) result (λ _. with_stack st (items_at store.now stack.new.items)) }
 {
     let (left, right) = match pop_obligation(store, stack) {
         Ok(sides) => sides,
@@ -189,7 +189,7 @@ fn pop_sides(store: &Store, stack: &mut Vec<Item>) -> Result<(Id, Id), K>
 pub(crate) fn conv_cut(store: &Store, stack: &mut Vec<Item>) -> Result<(), Stop>
     requires { AreItemsIn store.now stack.old.items }
     ensures ids { OnOk result (AreItemsIn store.now stack.new.items) }
-    ensures row { (tables : Tables) (at n : ℕ) (st : State Tree) → st.stack ≡ items_at store.now stack.old.items → Gives (proof_row strict tables at code.ConvCut n st) result (λ _. with_stack st (items_at store.now stack.new.items)) }
+    ensures row { (tables : RowsBefore) (at n : ℕ) (st : State Tree) → st.stack ≡ items_at store.now stack.old.items → Gives (proof_row strict tables at code.ConvCut n st) result (λ _. with_stack st (items_at store.now stack.new.items)) }
 {
     let (left, right) = match pop_obligation(store, stack) {
         Ok(sides) => sides,
@@ -204,7 +204,7 @@ pub(crate) fn conv_cut(store: &Store, stack: &mut Vec<Item>) -> Result<(), Stop>
 pub(crate) fn conv_save(store: &Store, stack: &mut Vec<Item>) -> Result<Item, K>
     requires { AreItemsIn store.now stack.old.items }
     ensures ids { IfOk result (λ item. IsItemIn store.now item × AreItemsIn store.now stack.new.items) }
-    ensures row { (tables : Tables) (at n : ℕ) (st : State Tree) → st.stack ≡ items_at store.now stack.old.items → GivesRule (proof_row strict tables at code.ConvSave n st) result (λ item. record (with_stack st (items_at store.now stack.new.items)) { heap = st.heap ++ item_at store.now item ∷ [] }) }
+    ensures row { (tables : RowsBefore) (at n : ℕ) (st : State Tree) → st.stack ≡ items_at store.now stack.old.items → GivesRule (proof_row strict tables at code.ConvSave n st) result (λ item. record (with_stack st (items_at store.now stack.new.items)) { heap = st.heap ++ item_at store.now item ∷ [] }) }
 {
     let (left, right) = pop_conversion(store, stack)?;
     Ok(Item::Conversion(left, right))

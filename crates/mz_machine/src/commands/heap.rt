@@ -7,18 +7,18 @@ ghost use Rattle.mz_store.specs.declared.item.Item.TheVariants.{Conversion};
 ghost use Rattle.mz_store.specs.declared.item.Id.{Id};
 ghost use Rattle.mz_unification.specs.Profile.{strict, expr, proof, conversion};
 ghost use Rattle.mz_unify.specs.Stored.{items_at, item_at, AreItemsIn, IsItemIn};
-ghost use Rattle.mz_soundness.specs.Tables.{Tables, State};
+ghost use Rattle.mz_soundness.specs.MachineState.{RowsBefore, State};
 ghost use Rattle.mz_soundness.specs.Premises.{is_provable_sort, may_be_dummy_sort};
 ghost use Rattle.mz_soundness.specs.ProofMachine.{proof_row, referred};
 ghost use Rattle.mz_earlier.specs.Before.{tables_of, signatures_of};
 ghost use Rattle.mz_machine.specs.OverStore.{heap_at, with_stack, Gives, GivesRule, NeverWants, Grows};
 
-use crate::command::Stop;
-use crate::stack::{conversion_of, is_obligation, kept_at, pop_expr, pop_obligation, push, top};
+use crate::stack::{conversion_of, pop_expr, pop_obligation};
 use mz_cmd::K;
-use mz_earlier::Earlier;
+use mz_earlier::{Earlier, is_obligation, kept_at, top};
 use mz_logic::Terms;
 use mz_store::{Id, Item, Store};
+use mz_unify::{Stop, push};
 
 /// Pays the obligation on top by a conversion between the same sides. It takes no memory.
 fn pay(store: &Store, left: Id, right: Id, stack: &mut Vec<Item>) -> Result<(), K>
@@ -65,7 +65,7 @@ pub(crate) fn refer(
     requires heap { AreItemsIn store.now heap.now }
     requires stack { AreItemsIn store.now stack.old.items }
     ensures ids { OnOk result (AreItemsIn store.now stack.new.items) }
-    ensures row { (tables : Tables) (at : ℕ) (st : State Tree) → st.heap ≡ heap_at store.now heap.now → st.stack ≡ items_at store.now stack.old.items → Gives (proof_row strict tables at code.Ref place st) result (λ _. with_stack st (items_at store.now stack.new.items)) }
+    ensures row { (tables : RowsBefore) (at : ℕ) (st : State Tree) → st.heap ≡ heap_at store.now heap.now → st.stack ≡ items_at store.now stack.old.items → Gives (proof_row strict tables at code.Ref place st) result (λ _. with_stack st (items_at store.now stack.new.items)) }
     ensures never { (l r : Id) → slice_get heap.now place ≡ Some (Conversion l r) → NeverWants result }
 {
     let Some(item) = kept_at(heap, place) else {
@@ -85,7 +85,7 @@ pub(crate) fn conv_refer(
     requires heap { AreItemsIn store.now heap.now }
     requires stack { AreItemsIn store.now stack.old.items }
     ensures ids { OnOk result (AreItemsIn store.now stack.new.items) }
-    ensures row { (tables : Tables) (at : ℕ) (st : State Tree) → st.heap ≡ heap_at store.now heap.now → st.stack ≡ items_at store.now stack.old.items → GivesRule (proof_row strict tables at code.ConvRef place st) result (λ _. with_stack st (items_at store.now stack.new.items)) }
+    ensures row { (tables : RowsBefore) (at : ℕ) (st : State Tree) → st.heap ≡ heap_at store.now heap.now → st.stack ≡ items_at store.now stack.old.items → GivesRule (proof_row strict tables at code.ConvRef place st) result (λ _. with_stack st (items_at store.now stack.new.items)) }
 {
     let Some(item) = kept_at(heap, place) else {
         return Err(K::HeapIndex);
@@ -101,7 +101,7 @@ pub(crate) fn conv_refer(
 pub(crate) fn save(store: &Store, stack: &[Item]) -> Result<Item, K>
     requires { AreItemsIn store.now stack.now }
     ensures ids { IfOk result (λ item. IsItemIn store.now item) }
-    ensures row { (tables : Tables) (at n : ℕ) (st : State Tree) → st.stack ≡ items_at store.now stack.now → GivesRule (proof_row strict tables at code.Save n st) result (λ item. record st { heap = st.heap ++ item_at store.now item ∷ [] }) }
+    ensures row { (tables : RowsBefore) (at n : ℕ) (st : State Tree) → st.stack ≡ items_at store.now stack.now → GivesRule (proof_row strict tables at code.Save n st) result (λ item. record st { heap = st.heap ++ item_at store.now item ∷ [] }) }
 {
     let Some(item) = top(stack) else {
         return Err(K::Underflow);

@@ -8,22 +8,21 @@ ghost use Rattle.mz_store.specs.declared.item.DepsMode.TheVariants.{All};
 ghost use Rattle.mz_unification.specs.Profile.{strict, expr, proof};
 ghost use Rattle.mz_unify.specs.Stored.{items_at, matching_at, AreItemsIn};
 ghost use Rattle.mz_unify.specs.declared.unified.UnifyMode.TheVariants.{Use};
-ghost use Rattle.mz_soundness.specs.Tables.{State};
+ghost use Rattle.mz_soundness.specs.MachineState.{State};
 ghost use Rattle.mz_soundness.specs.ProofMachine.{proof_row, built, citation};
 ghost use Rattle.mz_soundness.specs.Bodies.{row_steps};
 ghost use Rattle.mz_earlier.specs.Before.{tables_of, signatures_of};
 ghost use Rattle.mz_machine.specs.OverStore.{with_stack, Gives, UnlessMem, Grows};
 
 use crate::apart::are_apart;
-use crate::command::Stop;
 use crate::fitting::{check_operands, pop_operands};
-use crate::stack::{pop_expr, push};
+use crate::stack::pop_expr;
 use mz_cmd::{K, Steps};
 use mz_earlier::Earlier;
 use mz_layout::Row;
 use mz_logic::Terms;
 use mz_store::{Id, Item, Store};
-use mz_unify::{Unified, UnifyMode, unify};
+use mz_unify::{Stop, Unified, UnifyMode, push, unify};
 use std::alloc::Global;
 use std::sync::ledger::Ledger;
 

@@ -4,23 +4,23 @@ ghost use Rattle.mz_cmd.specs.declared.code.ProofCode.TheVariants as code;
 ghost use Rattle.mz_nodes.specs.Numbering.{AreIn, IsIn, IsOver, expr_of};
 ghost use Rattle.mz_punify.specs.Stored.{items_at, item_at, exprs_at, AreItemsIn, IsItemIn};
 ghost use Rattle.mz_soundness.specs.Premises.{pop_sides};
-ghost use Rattle.mz_soundness.specs.Tables.{Tables, State};
+ghost use Rattle.mz_soundness.specs.MachineState.{RowsBefore, State};
 ghost use Rattle.mz_soundness.specs.ProofMachine.{proof_row, sides};
 ghost use Rattle.mz_soundness.specs.Bodies.{row_steps};
 ghost use Rattle.mz_earlier.specs.Before.{tables_of, signatures_of};
-ghost use Rattle.mz_machine.specs.OverStore.{GivesRule};
-ghost use Rattle.mz_pmachine.specs.OverNodes.{with_stack, pop_unfolding, Gives, UnlessMem};
-ghost use Rattle.mz_punify.specs.Rows.{StopsBy};
+ghost use Rattle.mz_machine.specs.OverStore.{GivesRule, Gives, UnlessMem};
+ghost use Rattle.mz_pmachine.specs.OverNodes.{with_stack, pop_unfolding};
+ghost use Rattle.mz_unify.specs.Rows.{StopsBy};
 ghost use Rattle.mz_numbered.specs.Numbered.{Numbered, portable};
 
-use crate::stack::{pop_conversion, pop_expr, pop_obligation, pop_proof, push, put_back};
+use crate::stack::{pop_conversion, pop_expr, pop_obligation, pop_proof};
 use mz_cmd::{K, Steps};
-use mz_earlier::Earlier;
+use mz_earlier::{Earlier, put_back};
 use mz_logic::Terms;
 use mz_nodes::Nodes;
-use mz_punify::{Stop, unify};
+use mz_punify::unify;
 use mz_store::{Id, Item};
-use mz_unify::{Unified, UnifyMode};
+use mz_unify::{Stop, Unified, UnifyMode, push};
 use std::sync::ledger::Ledger;
 
 /// From an expression and a proof below to a proof of the expression, which the obligation above is
@@ -29,7 +29,7 @@ use std::sync::ledger::Ledger;
 pub(crate) fn conv(nodes: &Nodes, stack: &mut Vec<Item>) -> Result<(), K>
     requires { AreItemsIn nodes.now stack.old.items }
     ensures ids { OnOk result (AreItemsIn nodes.now stack.new.items) }
-    ensures row { (tables : Tables) (at n : ℕ) (st : State Numbered) → st.stack ≡ items_at nodes.now stack.old.items → GivesRule (proof_row portable tables at code.Conv n st) result (λ _. with_stack st (items_at nodes.now stack.new.items)) }
+    ensures row { (tables : RowsBefore) (at n : ℕ) (st : State Numbered) → st.stack ≡ items_at nodes.now stack.old.items → GivesRule (proof_row portable tables at code.Conv n st) result (λ _. with_stack st (items_at nodes.now stack.new.items)) }
 {
     let proved = pop_proof(nodes, stack)?;
     let claimed = pop_expr(nodes, stack)?;
@@ -43,7 +43,7 @@ pub(crate) fn conv(nodes: &Nodes, stack: &mut Vec<Item>) -> Result<(), K>
 pub(crate) fn refl(nodes: &Nodes, stack: &mut Vec<Item>) -> Result<(), K>
     requires { AreItemsIn nodes.now stack.old.items }
     ensures ids { OnOk result (AreItemsIn nodes.now stack.new.items) }
-    ensures row { (tables : Tables) (at n : ℕ) (st : State Numbered) → st.stack ≡ items_at nodes.now stack.old.items → GivesRule (proof_row portable tables at code.Refl n st) result (λ _. with_stack st (items_at nodes.now stack.new.items)) }
+    ensures row { (tables : RowsBefore) (at n : ℕ) (st : State Numbered) → st.stack ≡ items_at nodes.now stack.old.items → GivesRule (proof_row portable tables at code.Refl n st) result (λ _. with_stack st (items_at nodes.now stack.new.items)) }
 {
     let (left, right) = pop_obligation(nodes, stack)?;
     if nodes.same(left, right) {
@@ -58,7 +58,7 @@ pub(crate) fn refl(nodes: &Nodes, stack: &mut Vec<Item>) -> Result<(), K>
 pub(crate) fn symm(nodes: &Nodes, stack: &mut Vec<Item>) -> Result<(), K>
     requires { AreItemsIn nodes.now stack.old.items }
     ensures ids { OnOk result (AreItemsIn nodes.now stack.new.items) }
-    ensures row { (tables : Tables) (at n : ℕ) (st : State Numbered) → st.stack ≡ items_at nodes.now stack.old.items → GivesRule (proof_row portable tables at code.Symm n st) result (λ _. with_stack st (items_at nodes.now stack.new.items)) }
+    ensures row { (tables : RowsBefore) (at n : ℕ) (st : State Numbered) → st.stack ≡ items_at nodes.now stack.old.items → GivesRule (proof_row portable tables at code.Symm n st) result (λ _. with_stack st (items_at nodes.now stack.new.items)) }
 {
     let (left, right) = pop_obligation(nodes, stack)?;
     put_back(stack, Item::Obligation(right, left));
@@ -71,7 +71,7 @@ pub(crate) fn symm(nodes: &Nodes, stack: &mut Vec<Item>) -> Result<(), K>
 pub(crate) fn cong(nodes: &Nodes, stack: &mut Vec<Item>) -> Result<(), Stop>
     requires { AreItemsIn nodes.now stack.old.items }
     ensures ids { OnOk result (AreItemsIn nodes.now stack.new.items) }
-    ensures row { (tables : Tables) (at n : ℕ) (st : State Numbered) → st.stack ≡ items_at nodes.now stack.old.items → Gives (proof_row portable tables at code.Cong n st) result (λ _. with_stack st (items_at nodes.now stack.new.items)) }
+    ensures row { (tables : RowsBefore) (at n : ℕ) (st : State Numbered) → st.stack ≡ items_at nodes.now stack.old.items → Gives (proof_row portable tables at code.Cong n st) result (λ _. with_stack st (items_at nodes.now stack.new.items)) }
 {
     let (left, right) = match pop_obligation(nodes, stack) {
         Ok(sides) => sides,
@@ -184,7 +184,7 @@ fn pop_sides(nodes: &Nodes, stack: &mut Vec<Item>) -> Result<(Id, Id), K>
 pub(crate) fn conv_cut(nodes: &Nodes, stack: &mut Vec<Item>) -> Result<(), Stop>
     requires { AreItemsIn nodes.now stack.old.items }
     ensures ids { OnOk result (AreItemsIn nodes.now stack.new.items) }
-    ensures row { (tables : Tables) (at n : ℕ) (st : State Numbered) → st.stack ≡ items_at nodes.now stack.old.items → Gives (proof_row portable tables at code.ConvCut n st) result (λ _. with_stack st (items_at nodes.now stack.new.items)) }
+    ensures row { (tables : RowsBefore) (at n : ℕ) (st : State Numbered) → st.stack ≡ items_at nodes.now stack.old.items → Gives (proof_row portable tables at code.ConvCut n st) result (λ _. with_stack st (items_at nodes.now stack.new.items)) }
 {
     let (left, right) = match pop_obligation(nodes, stack) {
         Ok(sides) => sides,
@@ -199,7 +199,7 @@ pub(crate) fn conv_cut(nodes: &Nodes, stack: &mut Vec<Item>) -> Result<(), Stop>
 pub(crate) fn conv_save(nodes: &Nodes, stack: &mut Vec<Item>) -> Result<Item, K>
     requires { AreItemsIn nodes.now stack.old.items }
     ensures ids { IfOk result (λ item. IsItemIn nodes.now item × AreItemsIn nodes.now stack.new.items) }
-    ensures row { (tables : Tables) (at n : ℕ) (st : State Numbered) → st.stack ≡ items_at nodes.now stack.old.items → GivesRule (proof_row portable tables at code.ConvSave n st) result (λ item. record (with_stack st (items_at nodes.now stack.new.items)) { heap = st.heap ++ item_at nodes.now item ∷ [] }) }
+    ensures row { (tables : RowsBefore) (at n : ℕ) (st : State Numbered) → st.stack ≡ items_at nodes.now stack.old.items → GivesRule (proof_row portable tables at code.ConvSave n st) result (λ item. record (with_stack st (items_at nodes.now stack.new.items)) { heap = st.heap ++ item_at nodes.now item ∷ [] }) }
 {
     let (left, right) = pop_conversion(nodes, stack)?;
     Ok(Item::Conversion(left, right))

@@ -6,21 +6,21 @@ ghost use Rattle.mz_store.specs.declared.item.Item.TheVariants.{Conversion};
 ghost use Rattle.mz_store.specs.declared.item.Id.{Id};
 ghost use Rattle.mz_unification.specs.Profile.{expr, proof, conversion};
 ghost use Rattle.mz_punify.specs.Stored.{items_at, item_at, AreItemsIn, IsItemIn};
-ghost use Rattle.mz_soundness.specs.Tables.{Tables, State};
+ghost use Rattle.mz_soundness.specs.MachineState.{RowsBefore, State};
 ghost use Rattle.mz_soundness.specs.Premises.{is_provable_sort, may_be_dummy_sort};
 ghost use Rattle.mz_soundness.specs.ProofMachine.{proof_row, referred};
 ghost use Rattle.mz_earlier.specs.Before.{tables_of, signatures_of};
-ghost use Rattle.mz_machine.specs.OverStore.{GivesRule};
-ghost use Rattle.mz_pmachine.specs.OverNodes.{heap_at, with_stack, Gives, Grows};
+ghost use Rattle.mz_machine.specs.OverStore.{GivesRule, Gives};
+ghost use Rattle.mz_pmachine.specs.OverNodes.{heap_at, with_stack, Grows};
 ghost use Rattle.mz_numbered.specs.Numbered.{Numbered, portable};
 
-use crate::stack::{conversion_of, is_obligation, kept_at, pop_expr, pop_obligation, push, top};
+use crate::stack::{conversion_of, pop_expr, pop_obligation};
 use mz_cmd::K;
-use mz_earlier::Earlier;
+use mz_earlier::{Earlier, is_obligation, kept_at, top};
 use mz_logic::Terms;
 use mz_nodes::Nodes;
-use mz_punify::Stop;
 use mz_store::{Id, Item};
+use mz_unify::{Stop, push};
 
 /// Pays the obligation on top by a conversion between the same sides.
 fn pay(nodes: &Nodes, left: Id, right: Id, stack: &mut Vec<Item>) -> Result<(), K>
@@ -65,7 +65,7 @@ pub(crate) fn refer(
     requires heap { AreItemsIn nodes.now heap.now }
     requires stack { AreItemsIn nodes.now stack.old.items }
     ensures ids { OnOk result (AreItemsIn nodes.now stack.new.items) }
-    ensures row { (tables : Tables) (at : ℕ) (st : State Numbered) → st.heap ≡ heap_at nodes.now heap.now → st.stack ≡ items_at nodes.now stack.old.items → Gives (proof_row portable tables at code.Ref place st) result (λ _. with_stack st (items_at nodes.now stack.new.items)) }
+    ensures row { (tables : RowsBefore) (at : ℕ) (st : State Numbered) → st.heap ≡ heap_at nodes.now heap.now → st.stack ≡ items_at nodes.now stack.old.items → Gives (proof_row portable tables at code.Ref place st) result (λ _. with_stack st (items_at nodes.now stack.new.items)) }
 {
     let Some(item) = kept_at(heap, place) else {
         return Err(Stop::Rule(K::HeapIndex));
@@ -78,7 +78,7 @@ pub(crate) fn refer(
 pub(crate) fn save(nodes: &Nodes, stack: &[Item]) -> Result<Item, K>
     requires { AreItemsIn nodes.now stack.now }
     ensures ids { IfOk result (λ item. IsItemIn nodes.now item) }
-    ensures row { (tables : Tables) (at n : ℕ) (st : State Numbered) → st.stack ≡ items_at nodes.now stack.now → GivesRule (proof_row portable tables at code.Save n st) result (λ item. record st { heap = st.heap ++ item_at nodes.now item ∷ [] }) }
+    ensures row { (tables : RowsBefore) (at n : ℕ) (st : State Numbered) → st.stack ≡ items_at nodes.now stack.now → GivesRule (proof_row portable tables at code.Save n st) result (λ item. record st { heap = st.heap ++ item_at nodes.now item ∷ [] }) }
 {
     let Some(item) = top(stack) else {
         return Err(K::Underflow);

@@ -1,7 +1,7 @@
 use Rattle.std.proofs.Common.{false, ◌*◌, arith, ap, length, take, refl, sym, ◌∙◌, subst}
 use Rattle.mz_logic.specs.Tree.{listed, size, trees_size}
 use Rattle.mz_unification.specs.Profile.{expr}
-use Rattle.mz_soundness.specs.Tables.{is_axiom}
+use Rattle.mz_soundness.specs.MachineState.{is_axiom}
 use Rattle.mz_store.specs.Sharing.{tree_of, trees_of}
 use Rattle.mz_bodies.specs.Going.{IsAfter}
 use Rattle.mz_bodies.specs.Owes.{to_do}

@@ -1,6 +1,6 @@
 use Rattle.std.proofs.Common.{false, ◌*◌, arith, ap, take, refl, sym, ◌∙◌, subst, []}
 use Rattle.mz_logic.specs.Tree.{size}
-use Rattle.mz_soundness.specs.Tables.{is_definition}
+use Rattle.mz_soundness.specs.MachineState.{is_definition}
 use Rattle.mz_unification.specs.Profile.{expr}
 use Rattle.mz_store.specs.Sharing.{tree_of}
 use Rattle.mz_bodies.specs.Going.{IsAfter}

@@ -1,7 +1,7 @@
 use Rattle.std.proofs.Common.{false, ◌||◌, ◌*◌, arith, ap, length, take, refl, sym, ◌∙◌, subst, []}
 use Rattle.mz_logic.specs.Tree.{listed, trees_size}
 use Rattle.mz_unification.specs.Profile.{proof}
-use Rattle.mz_soundness.specs.Tables.{is_theorem}
+use Rattle.mz_soundness.specs.MachineState.{is_theorem}
 use Rattle.mz_forms.specs.ProofView.{proof_view}
 use Rattle.mz_store.specs.Sharing.{trees_of}
 use Rattle.mz_bodies.specs.Claims.{proved}

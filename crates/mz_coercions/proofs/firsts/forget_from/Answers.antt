@@ -1,7 +1,7 @@
 use Rattle.std.proofs.Common.{◌≡◌, ℕ, None, get_or}
 use Rattle.mz_tokens.proofs.Offered.{all_so_far_more}
 use Rattle.mz_coercions.specs.Firsts.{first_of}
-use Rattle.mz_coercions.proofs.Leading.{gone-changed, gone-kept, item-in, put-here}
+use Rattle.mz_coercions.proofs.Leading.{gone-changed, gone-kept, item-in}
 use Rattle.mz_coercions.proofs.firsts.forget_from.Goals as goal
 
 pub loop-end-preserved : goal.loop-end-preserved
@@ -11,10 +11,10 @@ loop-end-preserved c =
     let ends = c.args.ends.now in
     let end : ℕ = get_or c.args.ends.now c.loop-end.end-index 0 in
     let has = item-in c.args.ends.now c.loop-end.end-index 0 c.loop-end-test.true in
-    let put = c.remove.ensures.updates in
+    let put = c.remove.ensures in
     record {
       others = gone-changed m n c.args.from ends end has put c.args.firsts.now c.loop-end.invariant.others;
       so_far = all_so_far_more (λ t. first_of c.remove.new.self c.args.from t ≡ None) ends c.loop-end.end-index 0
           (λ k d below. gone-kept m n c.args.from ends end has put (get_or c.args.ends.now k d) (c.loop-end.invariant.so_far k d below)) c.loop-end-test.true
-          (put-here m n c.args.from end None put);
+          put.0;
     }

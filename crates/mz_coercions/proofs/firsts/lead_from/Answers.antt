@@ -1,12 +1,12 @@
 use Rattle.std.proofs.Common.{◌≡◌, ℕ, Some, get_or, refl, arith}
 use Rattle.mz_tokens.proofs.Offered.{all_so_far_more, all-members}
 use Rattle.mz_coercions.specs.Firsts.{IsOfStart, first_of}
-use Rattle.mz_coercions.proofs.Leading.{end-changed, end-kept, item-in, put-here, then-changed, un-changed}
+use Rattle.mz_coercions.proofs.Leading.{end-changed, end-kept, item-in, then-changed, un-changed}
 use Rattle.mz_coercions.proofs.firsts.lead_from.Goals as goal
 
 pub loop-end-init : goal.loop-end-init
 loop-end-init c = record {
-  others = un-changed c.args.firsts.now c.args.firsts.now (IsOfStart c.args.start c.args.ends.now) refl;
+  others = un-changed c.args.firsts.now c.args.firsts.now (IsOfStart c.args.start c.args.ends.now) (λ s t. refl);
   so_far = λ k d below. absurd (omega (arith, below));
 }
 
@@ -18,12 +18,12 @@ loop-end-preserved c =
     let ends = c.args.ends.now in
     let end : ℕ = get_or c.args.ends.now c.loop-end.end-index 0 in
     let has = item-in c.args.ends.now c.loop-end.end-index 0 c.loop-end-test.true in
-    let put = c.in_ok-insert.ensures.updates in
+    let put = c.in_ok-insert.ensures.ok in
     record {
       others = end-changed m n f ends end has put c.args.firsts.now c.loop-end.invariant.others;
       so_far = all_so_far_more (λ t. first_of c.insert.new.self c.args.start.sort t ≡ Some c.args.start.place) ends c.loop-end.end-index 0
           (λ k d below. end-kept m n f ends end has put (get_or c.args.ends.now k d) (c.loop-end.invariant.so_far k d below)) c.loop-end-test.true
-          (put-here m n f.sort end (Some f.place) put);
+          put.0;
     }
 
 pub returns-in_err-insert-clause-others : goal.returns-in_err-insert-clause-others

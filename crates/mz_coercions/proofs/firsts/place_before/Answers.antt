@@ -5,4 +5,4 @@ pub returns-then-from-coercion : goal.returns-then-from-coercion
 returns-then-from-coercion c = before-here c.args.items.now c.args.coercion c.args.from c.if-from-coercion.true
 
 pub returns : goal.returns
-returns c = before-first c.args.items.now c.args.coercion c.args.firsts.now c.args.from c.first_of.result c.requires c.first_of.ensures c.if-from-coercion.false
+returns c = before-first c.args.items.now c.args.coercion c.args.firsts.now c.args.from c.get.result c.requires c.get.ensures c.if-from-coercion.false

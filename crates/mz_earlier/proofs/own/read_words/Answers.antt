@@ -4,9 +4,12 @@ use Rattle.mz_earlier.specs.OwnRow.{kind_of, own_words}
 use Rattle.mz_earlier.proofs.OwnWords.{take-next, take-all}
 use Rattle.mz_earlier.proofs.own.read_words.Goals as goal
 
+pub params-init : goal.params-init
+params-init c = c.reserve.ensures.items ∙ c.clear.ensures.items
+
 pub params-preserved : goal.params-preserved
 params-preserved c =
-    c.in-Ok.ensures.items ∙ ap (λ (ws : List Word). ws ++ c.own_word.result ∷ []) c.params.invariant
+    c.in_ok-push.ensures.items ∙ ap (λ (ws : List Word). ws ++ c.own_word.result ∷ []) c.params.invariant
     ∙ take-next (own_words c.args.earlier.now.file c.args.row (kind_of c.args.kind)) c.params.j c.own_word.result c.own_word.ensures
 
 pub returns : goal.returns

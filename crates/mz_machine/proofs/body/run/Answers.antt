@@ -1,29 +1,28 @@
-use Rattle.std.proofs.Common.{◌≡◌, ◌+◌, ◌∙◌, false, length, sym, ap, subst, arith}
+use Rattle.std.proofs.Common.{◌+◌, ◌∙◌, length, sym, ap, arith}
 use Rattle.mz_machine.specs.Running.{machine_of}
-use Rattle.mz_machine.specs.Steps.{Underway, tables_for, heading_for}
-use Rattle.mz_machine.proofs.BodyUnderway.{IsUnderway, at-first, cut-whole, long-whole, end-whole, end-refused, end-many, refused-whole, refused-many, goes-on, further, ends-there, goes-further}
-use Rattle.mz_machine.proofs.BodyRunning.{IsSameBody, itself, goes, row-over, steps-over, most-over, end-answer, end-counts, stop-answer, stop-counts, more-steps, within-steps}
+use Rattle.mz_machine.specs.Steps.{tables_for, heading_for}
+use Rattle.mz_machine.proofs.BodyUnderway.{at-first, cut-whole, long-whole, end-whole, end-refused, end-many, refused-whole, refused-many, goes-on, further, ends-there, goes-further}
+use Rattle.mz_machine.proofs.BodyRunning.{itself, goes, row-over, steps-over, most-over, end-answer, end-counts, stop-answer, stop-counts, more-steps, within-steps}
 use Rattle.mz_machine.proofs.GapWalk.{gap-at-first, gap-ends, gap-goes-on}
 use Rattle.mz_machine.proofs.body.run.Goals as goal
 
 pub commands-init : goal.commands-init
 commands-init g c =
-    let v = machine_of c.start.inside.setting c.start.inside.parts in
+    let v = machine_of c.args.setting.now c.args.parts.now in
     let bytes = c.args.bytes.now in
     record {
       in_range = omega arith;
-      running = c.start.invariant;
-      same = subst (λ (u : Underway). IsSameBody u v) c.start.view_is (itself v);
-      underway = subst (λ (u : Underway). IsUnderway u.gaps (tables_for u) (heading_for u) c.args.from bytes u.state c.args.steps.now 0 v.state c.args.steps.now) c.start.view_is
-          (at-first v.gaps (tables_for v) (heading_for v) c.args.from bytes v.state c.args.steps.now);
-      gap = gap-at-first bytes v.sorry (subst (λ (u : Underway). u.sorry ≡ false) (sym c.start.view_is) c.requires.fresh);
+      running = c.requires.running;
+      same = itself v;
+      underway = at-first v.gaps (tables_for v) (heading_for v) c.args.from bytes v.state c.args.steps.now;
+      gap = gap-at-first bytes v.sorry c.requires.fresh;
       most = omega arith;
     }
 
 pub returns-in_default-clause-run : goal.returns-in_default-clause-run
 returns-in_default-clause-run g c =
-    let u = c.args.start in
-    let v = machine_of c.start.inside.setting c.commands.parts in
+    let u = machine_of c.args.setting.now c.args.parts.now in
+    let v = machine_of c.args.setting.now c.commands.parts in
     let same = c.commands.invariant.same in
     let on = c.commands.invariant.underway in
     let place = c.args.from + c.commands.at in
@@ -31,8 +30,8 @@ returns-in_default-clause-run g c =
 
 pub returns-in_default-clause-steps : goal.returns-in_default-clause-steps
 returns-in_default-clause-steps g c =
-    let u = c.args.start in
-    let v = machine_of c.start.inside.setting c.commands.parts in
+    let u = machine_of c.args.setting.now c.args.parts.now in
+    let v = machine_of c.args.setting.now c.commands.parts in
     let same = c.commands.invariant.same in
     let on = c.commands.invariant.underway in
     let place = c.args.from + c.commands.at in
@@ -40,8 +39,8 @@ returns-in_default-clause-steps g c =
 
 pub returns-then-next-bytes-clause-run : goal.returns-then-next-bytes-clause-run
 returns-then-next-bytes-clause-run g c =
-    let u = c.args.start in
-    let v = machine_of c.start.inside.setting c.commands.parts in
+    let u = machine_of c.args.setting.now c.args.parts.now in
+    let v = machine_of c.args.setting.now c.commands.parts in
     let same = c.commands.invariant.same in
     let on = c.commands.invariant.underway in
     let place = c.args.from + c.commands.at in
@@ -53,8 +52,8 @@ returns-then-next-bytes-clause-run g c =
 
 pub returns-then-next-bytes-clause-steps : goal.returns-then-next-bytes-clause-steps
 returns-then-next-bytes-clause-steps g c =
-    let u = c.args.start in
-    let v = machine_of c.start.inside.setting c.commands.parts in
+    let u = machine_of c.args.setting.now c.args.parts.now in
+    let v = machine_of c.args.setting.now c.commands.parts in
     let same = c.commands.invariant.same in
     let on = c.commands.invariant.underway in
     let place = c.args.from + c.commands.at in
@@ -66,8 +65,8 @@ returns-then-next-bytes-clause-steps g c =
 
 pub returns-then-cmd-eq-END-clause-run : goal.returns-then-cmd-eq-END-clause-run
 returns-then-cmd-eq-END-clause-run g c =
-    let u = c.args.start in
-    let v = machine_of c.start.inside.setting c.commands.parts in
+    let u = machine_of c.args.setting.now c.args.parts.now in
+    let v = machine_of c.args.setting.now c.commands.parts in
     let same = c.commands.invariant.same in
     let on = c.commands.invariant.underway in
     let place = c.args.from + c.commands.at in
@@ -83,8 +82,8 @@ returns-then-cmd-eq-END-clause-run g c =
 
 pub returns-then-cmd-eq-END-clause-steps : goal.returns-then-cmd-eq-END-clause-steps
 returns-then-cmd-eq-END-clause-steps g c =
-    let u = c.args.start in
-    let v = machine_of c.start.inside.setting c.commands.parts in
+    let u = machine_of c.args.setting.now c.args.parts.now in
+    let v = machine_of c.args.setting.now c.commands.parts in
     let same = c.commands.invariant.same in
     let on = c.commands.invariant.underway in
     let place = c.args.from + c.commands.at in
@@ -98,8 +97,8 @@ returns-then-cmd-eq-END-clause-steps g c =
 
 pub returns-then-cmd-eq-END-clause-most : goal.returns-then-cmd-eq-END-clause-most
 returns-then-cmd-eq-END-clause-most g c =
-    let u = c.args.start in
-    let v = machine_of c.start.inside.setting c.commands.parts in
+    let u = machine_of c.args.setting.now c.args.parts.now in
+    let v = machine_of c.args.setting.now c.commands.parts in
     let same = c.commands.invariant.same in
     let on = c.commands.invariant.underway in
     let place = c.args.from + c.commands.at in
@@ -111,34 +110,34 @@ returns-then-cmd-eq-END-clause-most g c =
 
 pub returns-in-Err-clause-run : goal.returns-in-Err-clause-run
 returns-in-Err-clause-run g c =
-    let u = c.args.start in
-    let v = machine_of c.start.inside.setting c.commands.parts in
+    let u = machine_of c.args.setting.now c.args.parts.now in
+    let v = machine_of c.args.setting.now c.commands.parts in
     let same = c.commands.invariant.same in
     let on = c.commands.invariant.underway in
     let place = c.args.from + c.commands.at in
     let cmd = c.in-Ok.cmd in
     let read = sym c.in-Ok.ensures.computed in
     rw c.stopped.ensures
-    (stop-answer u v c.args.bytes.now _ place cmd (machine_of c.start.inside.setting c.advance.new.parts) c.in-Err.stop same
+    (stop-answer u v c.args.bytes.now _ place cmd (machine_of c.args.setting.now c.advance.new.parts) c.in-Err.stop same
     (λ d row. refused-whole u.gaps (tables_for u) (heading_for u) c.args.from c.args.bytes.now u.state c.args.steps.now c.commands.at v.state c.commands.steps on cmd read c.if-cmd-eq-END.false d row) (c.in-Err.ensures.row place))
 
 pub returns-in-Err-clause-steps : goal.returns-in-Err-clause-steps
 returns-in-Err-clause-steps g c =
-    let u = c.args.start in
-    let v = machine_of c.start.inside.setting c.commands.parts in
+    let u = machine_of c.args.setting.now c.args.parts.now in
+    let v = machine_of c.args.setting.now c.commands.parts in
     let same = c.commands.invariant.same in
     let on = c.commands.invariant.underway in
     let place = c.args.from + c.commands.at in
     let cmd = c.in-Ok.cmd in
     let read = sym c.in-Ok.ensures.computed in
     rw c.stopped.ensures
-    (stop-counts u v place c.advance.new.steps c.commands.steps _ cmd (machine_of c.start.inside.setting c.advance.new.parts) c.in-Err.stop same (c.in-Err.ensures.row place) c.in-Err.ensures.steps
+    (stop-counts u v place c.advance.new.steps c.commands.steps _ cmd (machine_of c.args.setting.now c.advance.new.parts) c.in-Err.stop same (c.in-Err.ensures.row place) c.in-Err.ensures.steps
     (λ d row many. refused-many u.gaps (tables_for u) (heading_for u) c.args.from c.args.bytes.now u.state c.args.steps.now c.commands.at v.state c.commands.steps on cmd read c.if-cmd-eq-END.false d c.advance.new.steps row many))
 
 pub returns-in-Err-clause-most : goal.returns-in-Err-clause-most
 returns-in-Err-clause-most g c =
-    let u = c.args.start in
-    let v = machine_of c.start.inside.setting c.commands.parts in
+    let u = machine_of c.args.setting.now c.args.parts.now in
+    let v = machine_of c.args.setting.now c.commands.parts in
     let same = c.commands.invariant.same in
     let on = c.commands.invariant.underway in
     let place = c.args.from + c.commands.at in
@@ -157,15 +156,15 @@ commands-smaller g c =
 
 pub commands-preserved : goal.commands-preserved
 commands-preserved g c =
-    let u = c.args.start in
-    let v = machine_of c.start.inside.setting c.commands.parts in
+    let u = machine_of c.args.setting.now c.args.parts.now in
+    let v = machine_of c.args.setting.now c.commands.parts in
     let same = c.commands.invariant.same in
     let on = c.commands.invariant.underway in
     let place = c.args.from + c.commands.at in
     let cmd = c.in-Ok.cmd in
     let read = sym c.in-Ok.ensures.computed in
     let ahead = further c.args.bytes.now c.commands.at cmd read c.commands.invariant.in_range in
-    let after = machine_of c.start.inside.setting c.advance.new.parts in
+    let after = machine_of c.args.setting.now c.advance.new.parts in
     record {
       in_range = rw c.from.ensures ahead.1;
       running = c.in-Ok-advance.ensures.running;

@@ -1,5 +1,6 @@
 use Rattle.std.specs.Prelude.{◌↔◌}
 use Rattle.std.proofs.Common.{◌≡◌, ◌≤◌, ◌⊎◌, ◌+◌, ◌*◌, ◌-◌, true, length, drop}
+use Rattle.mz_mode.specs.Gaps.{gaps_of}
 use Rattle.mz_machine.specs.BodyAnswers.{HasGap}
 use Rattle.mz_machine.specs.Steps.{tables_for, heading_for}
 use Rattle.mz_machine.specs.Running.{IsRunning, machine_of}
@@ -11,10 +12,10 @@ abbrev pub invariant-commands : goal.invariant-commands
 invariant-commands g l = record {
   in_range : l.at ≤ length l.bytes;
   running : IsRunning l.setting l.parts;
-  same : IsSameBody l.fn.start (machine_of l.setting l.parts);
-  underway : IsUnderway l.fn.start.gaps (tables_for l.fn.start) (heading_for l.fn.start) l.from l.bytes l.fn.start.state l.fn.steps l.at (machine_of l.setting l.parts).state l.steps;
+  same : IsSameBody (machine_of l.setting l.fn.parts) (machine_of l.setting l.parts);
+  underway : IsUnderway (gaps_of l.setting.mode) (tables_for (machine_of l.setting l.fn.parts)) (heading_for (machine_of l.setting l.fn.parts)) l.from l.bytes (machine_of l.setting l.fn.parts).state l.fn.steps l.at (machine_of l.setting l.parts).state l.steps;
   gap : HasGap l.bytes ↔ ((l.parts.sorry ≡ true) ⊎ HasGap (drop l.at l.bytes));
-  most : l.steps ≤ l.fn.steps + l.at * (length l.fn.start.file + 1);
+  most : l.steps ≤ l.fn.steps + l.at * (length l.setting.earlier.file + 1);
 }
 
 abbrev pub decreases-commands : goal.decreases-commands

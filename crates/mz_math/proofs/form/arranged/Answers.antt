@@ -1,8 +1,5 @@
-use Rattle.std.proofs.Common.{◌-◌, ◌∙◌, ap, arith}
-use Rattle.mz_logic.specs.Tree.{followed_by}
 use Rattle.mz_logic.specs.View.{tree, trees}
 use Rattle.mz_notation.specs.Notation.{places}
-use Rattle.mz_math.specs.Grammar.{arranged as in_order}
 use Rattle.mz_math.proofs.Arranging.{none-arranged, one-arranged, all-arranged}
 use Rattle.mz_math.proofs.form.arranged.Goals as goal
 

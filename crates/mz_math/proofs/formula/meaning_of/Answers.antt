@@ -12,7 +12,7 @@ returns-in_default c =
     let r : Reader = record { env = c.args.env.now; table = c.args.notations.now; scope = c.args.scope.now } in
     let cs_is = c.coercions-coercions.ensures.coercions in
     let ctx_is = c.requires.ctx in
-    judged-no-sort r c.args.wanted c.coercions-coercions.ensures.table c.requires.names (tree c.args.syntax.now) c.coercions-coercions.result.now c.args.ctx.now cs_is ctx_is c.refused.result c.refused.ensures c.in_default.ensures
+    judged-no-sort r c.args.wanted c.coercions-coercions.ensures.table c.requires.names (tree c.args.syntax) c.coercions-coercions.result.now c.args.ctx.now cs_is ctx_is c.refused.result c.refused.ensures c.in_default.ensures
 
 pub returns-in_default-distance : goal.returns-in_default-distance
 returns-in_default-distance c =
@@ -21,7 +21,7 @@ returns-in_default-distance c =
     let ctx_is = c.requires.ctx in
     let goal_is = c.settled_sort-goal.ensures in
     let found = c.in-Some.ensures in
-    judged-no-path r c.args.wanted c.coercions-coercions.ensures.table c.requires.names (tree c.args.syntax.now) c.coercions-coercions.result.now c.args.ctx.now cs_is ctx_is c.refused-in_default-distance.result c.refused-in_default-distance.ensures found.0 c.in-Some.sort found.1
+    judged-no-path r c.args.wanted c.coercions-coercions.ensures.table c.requires.names (tree c.args.syntax) c.coercions-coercions.result.now c.args.ctx.now cs_is ctx_is c.refused-in_default-distance.result c.refused-in_default-distance.ensures found.0 c.in-Some.sort found.1
     (λ reach. c.in_default-distance.ensures (subst (λ i. Reaches c.coercions-coercions.result.now (length c.coercions-coercions.result.now) c.in-Some.sort i) (sym goal_is) reach))
 
 pub returns-then-many-gt-MOST : goal.returns-then-many-gt-MOST
@@ -31,7 +31,7 @@ returns-then-many-gt-MOST c =
     let ctx_is = c.requires.ctx in
     let goal_is = c.settled_sort-goal.ensures in
     let found = c.in-Some.ensures in
-    judged-high r c.args.wanted c.coercions-coercions.ensures.table c.requires.names (tree c.args.syntax.now) c.coercions-coercions.result.now c.args.ctx.now cs_is ctx_is c.refused-then-many-gt-MOST.result c.refused-then-many-gt-MOST.ensures found.0 c.in-Some.sort c.in-Some-distance.many found.1 (subst (λ i. HasLength c.coercions-coercions.result.now (length c.coercions-coercions.result.now) c.in-Some.sort i c.in-Some-distance.many) goal_is c.in-Some-distance.ensures)
+    judged-high r c.args.wanted c.coercions-coercions.ensures.table c.requires.names (tree c.args.syntax) c.coercions-coercions.result.now c.args.ctx.now cs_is ctx_is c.refused-then-many-gt-MOST.result c.refused-then-many-gt-MOST.ensures found.0 c.in-Some.sort c.in-Some-distance.many found.1 (subst (λ i. HasLength c.coercions-coercions.result.now (length c.coercions-coercions.result.now) c.in-Some.sort i c.in-Some-distance.many) goal_is c.in-Some-distance.ensures)
     (λ g q has. omega (arith, c.if-many-gt-MOST.true))
 
 pub returns-in-High : goal.returns-in-High
@@ -41,7 +41,7 @@ returns-in-High c =
     let ctx_is = c.requires.ctx in
     let goal_is = c.settled_sort-goal.ensures in
     let found = c.in-Some.ensures in
-    judged-high r c.args.wanted c.coercions-coercions.ensures.table c.requires.names (tree c.args.syntax.now) c.coercions-coercions.result.now c.args.ctx.now cs_is ctx_is c.refused-in-High.result c.refused-in-High.ensures found.0 c.in-Some.sort c.in-Some-distance.many found.1 (subst (λ i. HasLength c.coercions-coercions.result.now (length c.coercions-coercions.result.now) c.in-Some.sort i c.in-Some-distance.many) goal_is c.in-Some-distance.ensures)
+    judged-high r c.args.wanted c.coercions-coercions.ensures.table c.requires.names (tree c.args.syntax) c.coercions-coercions.result.now c.args.ctx.now cs_is ctx_is c.refused-in-High.result c.refused-in-High.ensures found.0 c.in-Some.sort c.in-Some-distance.many found.1 (subst (λ i. HasLength c.coercions-coercions.result.now (length c.coercions-coercions.result.now) c.in-Some.sort i c.in-Some-distance.many) goal_is c.in-Some-distance.ensures)
     (λ g q has. let high = c.in-High.ensures g q has in omega (arith, high, c.if-many-gt-MOST.false))
 
 pub returns-in-Ok : goal.returns-in-Ok
@@ -53,7 +53,7 @@ returns-in-Ok c =
     let found = c.in-Some.ensures in
     let built = c.in-Tree.ensures in
     let path = c.in-Ok.ensures in
-    let has = same-sort r c.args.wanted c.coercions-coercions.ensures.table c.requires.names (tree c.args.syntax.now) c.coercions-coercions.result.now c.args.ctx.now cs_is ctx_is (tree c.in-Tree.expr) found.0 c.in-Some.sort built.0 built.1 found.1 in
+    let has = same-sort r c.args.wanted c.coercions-coercions.ensures.table c.requires.names (tree c.args.syntax) c.coercions-coercions.result.now c.args.ctx.now cs_is ctx_is (tree c.in-Tree.expr) found.0 c.in-Some.sort built.0 built.1 found.1 in
     let low = built.2 in
-    judged-claim r c.args.wanted c.coercions-coercions.ensures.table c.requires.names (tree c.args.syntax.now) c.coercions-coercions.result.now c.args.ctx.now cs_is ctx_is c.claimed.result (tree c.in-Tree.expr) c.in-Some.sort c.in-Some-distance.many path.0 (tree c.in-Ok.expr) has (subst (λ i. HasLength c.coercions-coercions.result.now (length c.coercions-coercions.result.now) c.in-Some.sort i c.in-Some-distance.many) goal_is c.in-Some-distance.ensures)
+    judged-claim r c.args.wanted c.coercions-coercions.ensures.table c.requires.names (tree c.args.syntax) c.coercions-coercions.result.now c.args.ctx.now cs_is ctx_is c.claimed.result (tree c.in-Tree.expr) c.in-Some.sort c.in-Some-distance.many path.0 (tree c.in-Ok.expr) has (subst (λ i. HasLength c.coercions-coercions.result.now (length c.coercions-coercions.result.now) c.in-Some.sort i c.in-Some-distance.many) goal_is c.in-Some-distance.ensures)
     (subst (λ i. IsPath c.coercions-coercions.result.now c.in-Some.sort path.0 i) goal_is path.1) path.2 (omega (arith, low, c.if-many-gt-MOST.false)) c.claimed.ensures

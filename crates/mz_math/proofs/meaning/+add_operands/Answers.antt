@@ -75,7 +75,7 @@ pub add_operand-returns-in-Var : goal.add_operand-returns-in-Var
 add_operand-returns-in-Var t c =
     let there = c.requires.there in
     add-variable (signatures c.args.env.now) c.args.coercions.now c.args.ctx.now c.requires.one (tree c.args.operand.now) c.args.param.now c.head_sort-sort.result c.head_sort-sort.ensures
-    c.in-Var.x c.add_wrapped.result c.args.all.now c.add_wrapped.new.all c.in-Some.many c.args.most there.0 c.in-Some.ensures c.if-many-most.false (ap tree c.in-Var.is) there.1 c.add_wrapped.ensures
+    c.in-Var.x c.add_variable.result c.args.all.now c.add_variable.new.all c.in-Some.many c.args.most there.0 c.in-Some.ensures c.if-many-most.false (ap tree c.in-Var.is) there.1 c.add_variable.ensures
 
 pub add_operand-add_operands-requires : goal.add_operand-add_operands-requires
 add_operand-add_operands-requires t c =
@@ -87,7 +87,7 @@ add_operand-add_operands-requires t c =
     let smaller = ap size e_is in
     let own = operands-there sigs cs ctx c.requires.one (tree c.args.operand.now) c.args.param.now c.head_sort-sort.result c.head_sort-sort.ensures
     c.in-App.t c.in-App.operands (signature c.in-Some-term.term.now) e_is (sym c.in-Some-term.ensures.signature) there.0 there.1 in
-    (omega (arith, smaller, c.decreases), (c.requires.one, ((own.0, subst (λ ps. CoercedAll sigs cs ctx c.in-App.operands ps own.0) (sym c.as_slice.ensures) own.1), c.new-own.ensures)))
+    (omega (arith, smaller, c.decreases), (c.requires.one, ((own.0, subst (λ ps. CoercedAll sigs cs ctx c.in-App.operands ps own.0) (sym c.as_slice.ensures) own.1), c.in-Ok.ensures)))
 
 pub add_operand-returns-in-High : goal.add_operand-returns-in-High
 add_operand-returns-in-High t c =
@@ -108,5 +108,5 @@ add_operand-returns-in-Done t c =
     let own = c.add_operands.new.all in
     add-application sigs cs ctx c.requires.one (tree c.args.operand.now) c.args.param.now c.head_sort-sort.result c.head_sort-sort.ensures
     c.in-App.t c.in-App.operands (signature c.in-Some-term.term.now) (ap tree c.in-App.is) (sym c.in-Some-term.ensures.signature) own
-    c.add_wrapped-in-Done.result c.args.all.now c.add_wrapped-in-Done.new.all c.in-Some.many c.args.most there.0 c.in-Some.ensures c.if-many-most.false there.1
-    (subst (λ ps. CoercedAll sigs cs ctx c.in-App.operands ps own) c.as_slice.ensures done.0) done.1 c.add_wrapped-in-Done.ensures
+    c.add_wrapped.result c.args.all.now c.add_wrapped.new.all c.in-Some.many c.args.most there.0 c.in-Some.ensures c.if-many-most.false there.1
+    (subst (λ ps. CoercedAll sigs cs ctx c.in-App.operands ps own) c.as_slice.ensures done.0) done.1 c.add_wrapped.ensures

@@ -3,7 +3,7 @@ use Rattle.mz_logic.specs.Signature.{Signature}
 use Rattle.mz_logic.specs.Variables.{InSomeV}
 use Rattle.mz_store.specs.Bits.{bound_vars}
 use Rattle.mz_nodes.specs.Numbering.{IsOver, trees_of}
-use Rattle.mz_nodes.proofs.Gathering.{Gathers}
+use Rattle.mz_store.proofs.Offered.{Gathers}
 use Rattle.mz_nodes.proofs.variables.all_vars.Given as goal
 
 abbrev pub invariant-loop-arg : goal.invariant-loop-arg

@@ -1,7 +1,8 @@
 use Rattle.std.proofs.Common.{◌≡◌, ◌<◌, ◌≤◌, ◌+◌, ◌++◌, ◌∷◌, [], true, false, take, Contains, arith, refl, sym, ◌∙◌, ap, subst, length, add-one}
 use Rattle.mz_logic.specs.Words.{signatures_of, term_at, word_deps, bound_places, binders_of}
 use Rattle.mz_nodes.proofs.Params.{in-at, args-many}
-use Rattle.mz_nodes.proofs.BoundOperands.{names-told, places-next, places-are-bound, places-within}
+use Rattle.mz_store.proofs.Offered.{places-next, places-are-bound}
+use Rattle.mz_nodes.proofs.BoundOperands.{names-told, places-within}
 use Rattle.mz_nodes.proofs.FreeVariables.{free-skip, free-take, free-end}
 use Rattle.mz_nodes.proofs.variables.free_deps.Goals as goal
 use Rattle.mz_nodes.proofs.variables.free_deps.Goals.{then-bound+in_ok-push, else-bound}

@@ -1,7 +1,7 @@
 use Rattle.std.proofs.Common.{◌≡◌, take}
 use Rattle.mz_logic.specs.Words.{term_at, signatures_of, bound_places}
 use Rattle.mz_store.specs.Bits.{bound_vars}
-use Rattle.mz_nodes.proofs.Gathering.{Gathers}
+use Rattle.mz_store.proofs.Offered.{Gathers}
 use Rattle.mz_nodes.proofs.FreeVariables.{FreeFrom}
 use Rattle.mz_nodes.proofs.variables.free_deps.Given as goal
 

@@ -6,7 +6,7 @@ use Rattle.mz_logic.specs.declared.binder.Binder.{Binder}
 use Rattle.mz_store.specs.Bits.{bound_vars}
 use Rattle.mz_nodes.specs.Numbering.{IsOver, trees_of}
 use Rattle.mz_nodes.proofs.BoundOperands.{At}
-use Rattle.mz_nodes.proofs.Gathering.{Gathers}
+use Rattle.mz_store.proofs.Offered.{Gathers}
 use Rattle.mz_nodes.proofs.variables.named.Given as goal
 
 abbrev pub invariant-loop-place : goal.invariant-loop-place

@@ -1,18 +1,19 @@
 use Rattle.std.proofs.Common.{◌+◌, ◌∙◌, length, sym, ap, arith}
 use Rattle.mz_pmachine.specs.Running.{machine_of}
 use Rattle.mz_pmachine.specs.Steps.{tables_for, heading_for}
-use Rattle.mz_pmachine.proofs.BodyUnderway.{at-first, cut-whole, long-whole, end-whole, end-refused, end-many, refused-whole, refused-many, goes-on, further, ends-there, goes-further}
-use Rattle.mz_pmachine.proofs.BodyRunning.{itself, goes, row-over, steps-over, most-over, end-answer, end-counts, stop-answer, stop-counts, more-steps, within-steps}
+use Rattle.mz_pmachine.proofs.BodyUnderway.{at-first, cut-whole, long-whole, end-whole, end-refused, end-many, refused-whole, refused-many, goes-on}
+use Rattle.mz_pmachine.proofs.BodyRunning.{itself, goes, row-over, steps-over, most-over, end-answer, end-counts, stop-answer, stop-counts}
+use Rattle.mz_machine.proofs.Offered.{ends-there, further, goes-further, more-steps, within-steps}
 use Rattle.mz_pmachine.proofs.body.run.Goals as goal
 
 pub commands-init : goal.commands-init
 commands-init g c =
-    record { in_range = omega arith; running = c.requires.running; same = itself (machine_of c.args.start.setting c.args.start.parts); underway = at-first (tables_for (machine_of c.args.start.setting c.args.start.parts)) (heading_for (machine_of c.args.start.setting c.args.start.parts)) c.args.from c.args.bytes.now (machine_of c.args.start.setting c.args.start.parts).state c.args.steps.now; first = omega (arith, c.requires.first); most = omega arith }
+    record { in_range = omega arith; running = c.requires.running; same = itself (machine_of c.args.setting.now c.args.parts.now); underway = at-first (tables_for (machine_of c.args.setting.now c.args.parts.now)) (heading_for (machine_of c.args.setting.now c.args.parts.now)) c.args.from c.args.bytes.now (machine_of c.args.setting.now c.args.parts.now).state c.args.steps.now; first = omega (arith, c.requires.first); most = omega arith }
 
 pub returns-in_default-clause-run : goal.returns-in_default-clause-run
 returns-in_default-clause-run g c =
-    let u = machine_of c.args.start.setting c.args.start.parts in
-    let v = machine_of c.args.start.setting c.commands.parts in
+    let u = machine_of c.args.setting.now c.args.parts.now in
+    let v = machine_of c.args.setting.now c.commands.parts in
     let same = c.commands.invariant.same in
     let on = c.commands.invariant.underway in
     let place = c.args.from + c.commands.at in
@@ -20,8 +21,8 @@ returns-in_default-clause-run g c =
 
 pub returns-in_default-clause-steps : goal.returns-in_default-clause-steps
 returns-in_default-clause-steps g c =
-    let u = machine_of c.args.start.setting c.args.start.parts in
-    let v = machine_of c.args.start.setting c.commands.parts in
+    let u = machine_of c.args.setting.now c.args.parts.now in
+    let v = machine_of c.args.setting.now c.commands.parts in
     let same = c.commands.invariant.same in
     let on = c.commands.invariant.underway in
     let place = c.args.from + c.commands.at in
@@ -29,8 +30,8 @@ returns-in_default-clause-steps g c =
 
 pub returns-then-next-bytes-clause-run : goal.returns-then-next-bytes-clause-run
 returns-then-next-bytes-clause-run g c =
-    let u = machine_of c.args.start.setting c.args.start.parts in
-    let v = machine_of c.args.start.setting c.commands.parts in
+    let u = machine_of c.args.setting.now c.args.parts.now in
+    let v = machine_of c.args.setting.now c.commands.parts in
     let same = c.commands.invariant.same in
     let on = c.commands.invariant.underway in
     let place = c.args.from + c.commands.at in
@@ -42,8 +43,8 @@ returns-then-next-bytes-clause-run g c =
 
 pub returns-then-next-bytes-clause-steps : goal.returns-then-next-bytes-clause-steps
 returns-then-next-bytes-clause-steps g c =
-    let u = machine_of c.args.start.setting c.args.start.parts in
-    let v = machine_of c.args.start.setting c.commands.parts in
+    let u = machine_of c.args.setting.now c.args.parts.now in
+    let v = machine_of c.args.setting.now c.commands.parts in
     let same = c.commands.invariant.same in
     let on = c.commands.invariant.underway in
     let place = c.args.from + c.commands.at in
@@ -55,8 +56,8 @@ returns-then-next-bytes-clause-steps g c =
 
 pub returns-then-cmd-eq-END-clause-run : goal.returns-then-cmd-eq-END-clause-run
 returns-then-cmd-eq-END-clause-run g c =
-    let u = machine_of c.args.start.setting c.args.start.parts in
-    let v = machine_of c.args.start.setting c.commands.parts in
+    let u = machine_of c.args.setting.now c.args.parts.now in
+    let v = machine_of c.args.setting.now c.commands.parts in
     let same = c.commands.invariant.same in
     let on = c.commands.invariant.underway in
     let place = c.args.from + c.commands.at in
@@ -71,8 +72,8 @@ returns-then-cmd-eq-END-clause-run g c =
 
 pub returns-then-cmd-eq-END-clause-steps : goal.returns-then-cmd-eq-END-clause-steps
 returns-then-cmd-eq-END-clause-steps g c =
-    let u = machine_of c.args.start.setting c.args.start.parts in
-    let v = machine_of c.args.start.setting c.commands.parts in
+    let u = machine_of c.args.setting.now c.args.parts.now in
+    let v = machine_of c.args.setting.now c.commands.parts in
     let same = c.commands.invariant.same in
     let on = c.commands.invariant.underway in
     let place = c.args.from + c.commands.at in
@@ -86,8 +87,8 @@ returns-then-cmd-eq-END-clause-steps g c =
 
 pub returns-then-cmd-eq-END-clause-most : goal.returns-then-cmd-eq-END-clause-most
 returns-then-cmd-eq-END-clause-most g c =
-    let u = machine_of c.args.start.setting c.args.start.parts in
-    let v = machine_of c.args.start.setting c.commands.parts in
+    let u = machine_of c.args.setting.now c.args.parts.now in
+    let v = machine_of c.args.setting.now c.commands.parts in
     let same = c.commands.invariant.same in
     let on = c.commands.invariant.underway in
     let place = c.args.from + c.commands.at in
@@ -99,34 +100,34 @@ returns-then-cmd-eq-END-clause-most g c =
 
 pub returns-in-Err-clause-run : goal.returns-in-Err-clause-run
 returns-in-Err-clause-run g c =
-    let u = machine_of c.args.start.setting c.args.start.parts in
-    let v = machine_of c.args.start.setting c.commands.parts in
+    let u = machine_of c.args.setting.now c.args.parts.now in
+    let v = machine_of c.args.setting.now c.commands.parts in
     let same = c.commands.invariant.same in
     let on = c.commands.invariant.underway in
     let place = c.args.from + c.commands.at in
     let cmd = c.in-Ok.cmd in
     let read = sym c.in-Ok.ensures.computed in
     rw c.stopped.ensures
-    (stop-answer u v _ place cmd (machine_of c.args.start.setting c.advance.new.parts) c.in-Err.stop same
+    (stop-answer u v _ place cmd (machine_of c.args.setting.now c.advance.new.parts) c.in-Err.stop same
     (λ d row. refused-whole (tables_for u) (heading_for u) c.args.from c.args.bytes.now u.state c.args.steps.now c.commands.at v.state c.commands.steps on cmd read c.if-cmd-eq-END.false d row) c.in-Err.ensures.row)
 
 pub returns-in-Err-clause-steps : goal.returns-in-Err-clause-steps
 returns-in-Err-clause-steps g c =
-    let u = machine_of c.args.start.setting c.args.start.parts in
-    let v = machine_of c.args.start.setting c.commands.parts in
+    let u = machine_of c.args.setting.now c.args.parts.now in
+    let v = machine_of c.args.setting.now c.commands.parts in
     let same = c.commands.invariant.same in
     let on = c.commands.invariant.underway in
     let place = c.args.from + c.commands.at in
     let cmd = c.in-Ok.cmd in
     let read = sym c.in-Ok.ensures.computed in
     rw c.stopped.ensures
-    (stop-counts u v place c.advance.new.steps c.commands.steps _ cmd (machine_of c.args.start.setting c.advance.new.parts) c.in-Err.stop same c.in-Err.ensures.row c.in-Err.ensures.steps
+    (stop-counts u v place c.advance.new.steps c.commands.steps _ cmd (machine_of c.args.setting.now c.advance.new.parts) c.in-Err.stop same c.in-Err.ensures.row c.in-Err.ensures.steps
     (λ d row many. refused-many (tables_for u) (heading_for u) c.args.from c.args.bytes.now u.state c.args.steps.now c.commands.at v.state c.commands.steps on cmd read c.if-cmd-eq-END.false d c.advance.new.steps row many))
 
 pub returns-in-Err-clause-most : goal.returns-in-Err-clause-most
 returns-in-Err-clause-most g c =
-    let u = machine_of c.args.start.setting c.args.start.parts in
-    let v = machine_of c.args.start.setting c.commands.parts in
+    let u = machine_of c.args.setting.now c.args.parts.now in
+    let v = machine_of c.args.setting.now c.commands.parts in
     let same = c.commands.invariant.same in
     let on = c.commands.invariant.underway in
     let place = c.args.from + c.commands.at in
@@ -145,15 +146,15 @@ commands-smaller g c =
 
 pub commands-preserved : goal.commands-preserved
 commands-preserved g c =
-    let u = machine_of c.args.start.setting c.args.start.parts in
-    let v = machine_of c.args.start.setting c.commands.parts in
+    let u = machine_of c.args.setting.now c.args.parts.now in
+    let v = machine_of c.args.setting.now c.commands.parts in
     let same = c.commands.invariant.same in
     let on = c.commands.invariant.underway in
     let place = c.args.from + c.commands.at in
     let cmd = c.in-Ok.cmd in
     let read = sym c.in-Ok.ensures.computed in
     let ahead = further c.args.bytes.now c.commands.at cmd read c.commands.invariant.in_range in
-    let after = machine_of c.args.start.setting c.advance.new.parts in
+    let after = machine_of c.args.setting.now c.advance.new.parts in
     record {
       in_range = rw c.from.ensures ahead.1;
       running = c.in-Ok-advance.ensures.running;

@@ -9,10 +9,10 @@ abbrev pub invariant-commands : goal.invariant-commands
 invariant-commands g l = record {
   in_range : l.at ≤ length l.bytes;
   running : IsRunning l.setting l.parts;
-  same : IsSameBody (machine_of l.fn.start.setting l.fn.start.parts) (machine_of l.setting l.parts);
-  underway : IsUnderway (tables_for (machine_of l.fn.start.setting l.fn.start.parts)) (heading_for (machine_of l.fn.start.setting l.fn.start.parts)) l.from l.bytes (machine_of l.fn.start.setting l.fn.start.parts).state l.fn.steps l.at (machine_of l.setting l.parts).state l.steps;
+  same : IsSameBody (machine_of l.setting l.fn.parts) (machine_of l.setting l.parts);
+  underway : IsUnderway (tables_for (machine_of l.setting l.fn.parts)) (heading_for (machine_of l.setting l.fn.parts)) l.from l.bytes (machine_of l.setting l.fn.parts).state l.fn.steps l.at (machine_of l.setting l.parts).state l.steps;
   first : (machine_of l.setting l.parts).next ≤ l.from + l.at;
-  most : l.steps ≤ l.fn.steps + l.at * (length l.fn.start.setting.earlier.file + 1);
+  most : l.steps ≤ l.fn.steps + l.at * (length l.setting.earlier.file + 1);
 }
 
 abbrev pub decreases-commands : goal.decreases-commands

@@ -1,18 +1,28 @@
-use Rattle.std.proofs.Common.{◌∙◌, map, ap, sym, subst, refl}
-use Rattle.std.specs.List.{range_with_len}
-use Rattle.mz_nodes.specs.Numbering.{expr_of}
+use Rattle.std.proofs.Common.{◌∙◌, ap, sym, subst, refl}
+use Rattle.mz_nodes.specs.Numbering.{expr_of, AreIn}
+use Rattle.mz_punify.specs.Stored.{items_at, exprs_at, AreItemsIn}
 use Rattle.mz_unification.specs.UnifyMachine.{unify, unify_steps}
-use Rattle.mz_earlier.specs.OwnRow.{heading_by, kind_of}
+use Rattle.mz_earlier.specs.OwnRow.{first_ids, heading_by, kind_of}
 use Rattle.mz_earlier.specs.Before.{tables_of, signatures_of}
 use Rattle.mz_soundness.specs.ProofMachine.{last_item, ending}
-use Rattle.mz_soundness.specs.Tables.{Kind}
+use Rattle.mz_soundness.specs.MachineState.{Kind}
 use Rattle.mz_pmachine.specs.OverNodes.{state_at}
-use Rattle.mz_pmachine.specs.Endings.{IsOwnRun}
-use Rattle.mz_numbered.specs.Numbered.{a_variable, portable}
+use Rattle.mz_machine.specs.Endings.{IsOwnRun}
+use Rattle.mz_numbered.specs.Numbered.{portable}
 use Rattle.mz_earlier.proofs.Offered.{kind-is}
-use Rattle.mz_pmachine.proofs.Ending.{no-last-item, not-ending, is-ending, stopped-end, no-end-steps, end-steps, own-end, own-matching}
-use Rattle.mz_pmachine.proofs.Unfoldings.{no-more, unless-more}
+use Rattle.mz_pmachine.proofs.Ending.{no-last-item, not-ending, is-ending, stopped-end, no-end-steps, end-steps, own-end, own-matching, first-exprs, first-in, own-items, own-items-in}
+use Rattle.mz_machine.proofs.Offered.{no-more, unless-more}
 use Rattle.mz_pmachine.proofs.end.end.Goals as goal
+
+pub run_own-requires-clause-operands : goal.run_own-requires-clause-operands
+run_own-requires-clause-operands g c =
+    let s = c.args.nodes.now in
+    subst (AreIn s) (sym (c.in-Ok-first_ids.ensures ∙ ap first_ids c.own_arity.ensures.params)) (first-in s _ c.requires.params)
+
+pub run_own-requires-clause-proofs : goal.run_own-requires-clause-proofs
+run_own-requires-clause-proofs g c =
+    let s = c.args.nodes.now in
+    subst (AreItemsIn s) (sym c.in-Ok-own_proofs.ensures) (own-items-in s (kind_of c.args.kind) c.args.hyps.now c.requires.hyps)
 
 pub returns-in-Err-clause-row : goal.returns-in-Err-clause-row
 returns-in-Err-clause-row g c heap =
@@ -71,7 +81,7 @@ returns-clause-row g c heap =
     let last = ap (λ (k : Kind). last_item k st.stack) is ∙ c.in-Ok.ensures.last in
     let ends = ap (λ (k : Kind). ending portable (tables_of E) h st k (expr_of s c.in-Ok.target.0)) is ∙ c.in_default.ensures st refl in
     let m = is-ending (tables_of E) h st _ _ last ends in
-    let own = own-matching h st kind s c.own_stream-stream.result.now c.in-Some.operands.items c.in-Ok.target c.in-Some-own_proofs.proofs.items c.own_stream-stream.ensures.stream (c.in-Some.ensures.exprs ∙ ap (λ n. map a_variable (range_with_len 0 n)) c.own_arity.ensures.params) c.in-Some-own_proofs.ensures.items in
+    let own = own-matching h st kind s c.own_stream-stream.result.now c.in-Ok-first_ids.operands.items c.in-Ok.target c.in-Ok-own_proofs.proofs.items c.own_stream-stream.ensures.stream (ap (exprs_at s) (c.in-Ok-first_ids.ensures ∙ ap first_ids c.own_arity.ensures.params) ∙ first-exprs s _ c.requires.params) (ap (items_at s) c.in-Ok-own_proofs.ensures ∙ own-items s kind c.args.hyps.now) in
     own-end (tables_of E) h st _ c.run_own.result m (subst (λ n. IsOwnRun (unify portable (signatures_of E) s.context n) c.run_own.result) own c.run_own.ensures.run)
 
 pub returns-clause-steps : goal.returns-clause-steps
@@ -85,5 +95,5 @@ returns-clause-steps g c heap =
     let last = ap (λ (k : Kind). last_item k st.stack) is ∙ c.in-Ok.ensures.last in
     let ends = ap (λ (k : Kind). ending portable (tables_of E) h st k (expr_of s c.in-Ok.target.0)) is ∙ c.in_default.ensures st refl in
     let m = is-ending (tables_of E) h st _ _ last ends in
-    let own = own-matching h st kind s c.own_stream-stream.result.now c.in-Some.operands.items c.in-Ok.target c.in-Some-own_proofs.proofs.items c.own_stream-stream.ensures.stream (c.in-Some.ensures.exprs ∙ ap (λ n. map a_variable (range_with_len 0 n)) c.own_arity.ensures.params) c.in-Some-own_proofs.ensures.items in
+    let own = own-matching h st kind s c.own_stream-stream.result.now c.in-Ok-first_ids.operands.items c.in-Ok.target c.in-Ok-own_proofs.proofs.items c.own_stream-stream.ensures.stream (ap (exprs_at s) (c.in-Ok-first_ids.ensures ∙ ap first_ids c.own_arity.ensures.params) ∙ first-exprs s _ c.requires.params) (ap (items_at s) c.in-Ok-own_proofs.ensures ∙ own-items s kind c.args.hyps.now) in
     unless-more c.run_own.result _ _ _ _ c.run_own.ensures.steps (end-steps (tables_of E) h st _ m ∙ sym (ap (λ n. unify_steps portable (signatures_of E) s.context n) own))

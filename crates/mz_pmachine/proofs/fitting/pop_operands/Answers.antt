@@ -25,10 +25,10 @@ returns-in-Err-clause-taken c =
 
 pub operands-preserved : goal.operands-preserved
 operands-preserved c = (
-  (let more : length c.push_id.new.ids.items ≡ c.operands.i + 1 = omega (arith, ap length c.in_ok-push_id-in-Ok.ensures.ok, length-append c.operands.taken.items (c.in-Ok.id ∷ []), c.operands.invariant.0) in more),
-  rw c.in_ok-push_id-in-Ok.ensures.ok (are-in-both c.args.nodes.now _ _ c.operands.invariant.1 (c.in-Ok.ensures.ids.0, tt)),
+  (let more : length c.push.new.items.items ≡ c.operands.i + 1 = omega (arith, ap length c.in_ok-push-in-Ok.ensures.ok, length-append c.operands.taken.items (c.in-Ok.id ∷ []), c.operands.invariant.0) in more),
+  rw c.in_ok-push-in-Ok.ensures.ok (are-in-both c.args.nodes.now _ _ c.operands.invariant.1 (c.in-Ok.ensures.ids.0, tt)),
   c.in-Ok.ensures.ids.1,
-  λ m at. rw (c.in_ok-push_id-in-Ok.ensures.ok, stack-push c.args.nodes.now c.operands.taken.items c.in-Ok.id)
+  λ m at. rw (c.in_ok-push-in-Ok.ensures.ok, stack-push c.args.nodes.now c.operands.taken.items c.in-Ok.id)
       (sym (pop-next m _ (stack_at c.args.nodes.now c.operands.taken.items) _ _ c.in-Ok.ensures.taken) ∙ c.operands.invariant.3 (suc m) (omega arith)),
 )
 

@@ -1,7 +1,8 @@
 use Rattle.std.proofs.Common.{◌≡◌, Some, ◌∙◌, sym}
 use Rattle.mz_nodes.specs.Numbering.{expr_of, head_of}
 use Rattle.mz_punify.proofs.StoredIds.{are-in-both, are-in-reverse}
-use Rattle.mz_punify.proofs.RowValues.{term-none, save-none, term-other, save-other, term-row, save-row, heads-differ, heads-same}
+use Rattle.mz_punify.proofs.RowValues.{term-none, save-none, term-other, save-other, term-row, save-row}
+use Rattle.mz_unify.proofs.Offered.{heads-differ, heads-same}
 use Rattle.mz_punify.proofs.rows.open.Goals as goal
 
 pub returns-in_default-clause-plain : goal.returns-in_default-clause-plain

@@ -2,11 +2,12 @@ use Rattle.std.proofs.Common.{◌∙◌, ◌+◌, ◌≤◌, length, drop, map, 
 use Rattle.mz_unification.specs.Streams.{IsEnd}
 use Rattle.mz_unify.specs.Stored.{mode_of}
 use Rattle.mz_punify.specs.Stored.{exprs_at}
-use Rattle.mz_unify.specs.Rows.{TellsAny}
+use Rattle.mz_unify.specs.Rows.{TellsAny, command_of}
 use Rattle.mz_numbered.specs.Numbered.{tree_of}
-use Rattle.mz_punify.specs.Rows.{command_of, state_at}
-use Rattle.mz_punify.proofs.Underway.{further, not-end, left-none, left-both, cut-whole, cut-many, other-whole, other-many, stopped-whole, stopped-many, ended-whole, ended-many, goes-on}
+use Rattle.mz_punify.specs.Rows.{state_at}
+use Rattle.mz_punify.proofs.Underway.{cut-whole, cut-many, other-whole, other-many, stopped-whole, stopped-many, ended-whole, ended-many, goes-on}
 use Rattle.mz_unification.proofs.Offered.{command-long}
+use Rattle.mz_unify.proofs.Offered.{further, left-both, left-none, not-end}
 use Rattle.mz_punify.proofs.running.run.Goals as goal
 
 pub commands-init : goal.commands-init

@@ -5,5 +5,5 @@ use Rattle.mz_typing.proofs.claim.+is_side.Goals as goal
 pub are_sides-returns-then-convs-es : goal.are_sides-returns-then-convs-es
 are_sides-returns-then-convs-es t c = (
   λ h. absurd (true≢false (sym h)),
-  λ same. absurd (lengths_differ _ _ _ _ (sides_length c.args.right c.args.convs.now) (put_length c.args.put c.args.es.now) c.if-convs-es.true same),
+  λ same. absurd (lengths_differ _ _ _ _ (sides_length c.args.right c.args.convs.now) (put_length c.args.put.now c.args.es.now) c.if-convs-es.true same),
 )

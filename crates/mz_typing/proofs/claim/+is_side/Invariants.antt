@@ -7,10 +7,16 @@ use Rattle.mz_typing.specs.Sides.{sides}
 use Rattle.mz_typing.proofs.claim.+is_side.Given as goal
 
 abbrev pub decreases-are_sides : goal.decreases-are_sides
-decreases-are_sides l = 2 * convs_steps (conversions l.convs.now) + 1
+decreases-are_sides l = 4 * convs_steps (conversions l.convs.now) + 3
+
+abbrev pub decreases-is_side_with : goal.decreases-is_side_with
+decreases-is_side_with l = 4 * conv_steps (conversion l.conv.now) + 2
+
+abbrev pub decreases-is_side_read : goal.decreases-is_side_read
+decreases-is_side_read l = 4 * conv_steps (conversion l.conv.now) + 1
 
 abbrev pub decreases-is_side : goal.decreases-is_side
-decreases-is_side l = 2 * conv_steps (conversion l.conv.now)
+decreases-is_side l = 4 * conv_steps (conversion l.conv.now)
 
 abbrev pub invariant-are_sides-loop-i : goal.invariant-are_sides-loop-i
 invariant-are_sides-loop-i l = record {

@@ -1,8 +1,30 @@
-use Rattle.std.proofs.Common.{◌+◌, ◌∙◌, ℕ, length, sym, ap}
+use Rattle.std.proofs.Common.{◌+◌, ◌∙◌, Bool, ℕ, List, [], length, refl, sym, ap, subst, arith}
 use Rattle.mz_soundness.specs.FileRows.{nothing_taken}
 use Rattle.mz_binary.specs.FileRun.{list_steps}
+use Rattle.mz_binary.specs.Gapped.{AreMarks}
 use Rattle.mz_binary.proofs.Counting.{steps-of-list}
+use Rattle.mz_binary.proofs.GapMarks.{no-marks}
 use Rattle.mz_binary.proofs.checker.Checker.new.Goals as goal
+
+pub invariant_of-result : goal.invariant_of-result
+invariant_of-result c = record {
+  binary = c.proof_at-at.ensures.binary;
+  within = c.proof_at-at.ensures.within;
+  sorts_within = omega arith;
+  terms_within = omega arith;
+  thms_within = omega arith;
+  many = refl;
+  before = (
+    [],
+    [],
+    record {
+      statements = (refl, c.proof_at-at.ensures.place);
+      many = refl;
+      rows = record { sorts_are = refl; terms_are = refl; thms_are = refl };
+      marks = λ _. subst (λ (marks : List Bool). AreMarks c.args.mmb.now [] marks) (sym c.new.ensures.items) (no-marks c.args.mmb.now);
+    },
+  );
+}
 
 pub returns-clause-steps : goal.returns-clause-steps
 returns-clause-steps c =

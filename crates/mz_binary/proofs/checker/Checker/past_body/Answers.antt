@@ -1,15 +1,16 @@
-use Rattle.std.proofs.Common.{◌≡◌, ◌≤◌, ◌+◌, ◌-◌, ◌*◌, ◌∙◌, ℕ, length, Some, Ok, Err, sym, subst, arith}
+use Rattle.std.proofs.Common.{◌≡◌, ◌≤◌, ◌+◌, ◌-◌, ◌*◌, ◌∙◌, ℕ, length, Some, Ok, sym, subst, arith}
 use Rattle.mz_cmd.specs.declared.statement.StmtAt.TheVariants as there
 use Rattle.mz_cmd.specs.Codes.{statement_byte}
 use Rattle.mz_cmd.specs.StatementList.{statement_at}
-use Rattle.mz_layout.specs.Heads.{body_bytes, next_row}
+use Rattle.mz_layout.specs.Heads.{IsHead, body_bytes, next_row}
 use Rattle.mz_layout.specs.declared.head.Head.{Head}
 use Rattle.mz_soundness.specs.FileRows.{Taken}
 use Rattle.mz_earlier.specs.OwnRow.{MayRun, heading_of}
 use Rattle.mz_earlier.specs.Before.{taken_before}
 use Rattle.mz_binary.specs.declared.place.Found.TheVariants as seen
-use Rattle.mz_binary.specs.FileRun.{after_kind, find_at, onward, run_place}
-use Rattle.mz_binary.specs.Progress.{Progress, IsReached, found_of, kind_byte}
+use Rattle.mz_binary.specs.FileRun.{after_kind, find_at}
+use Rattle.mz_binary.specs.Judging.{IsLeft, IsMost, IsNext}
+use Rattle.mz_binary.specs.Progress.{HasPassed, Progress, IsReached, found_of, kind_byte, most_left}
 use Rattle.mz_binary.proofs.Heads.{code-of, head-at}
 use Rattle.mz_binary.proofs.Finding.{find-head}
 use Rattle.mz_binary.proofs.Passing.{body-here, body-runs, body-stops}
@@ -47,21 +48,37 @@ returns-clause-next g c = λ ss env before.
     body-here p ss env before (after_kind p.file (taken_before p.file p.rows) head.code) head.next (heading_of p.file (kind_byte head.code) (next_row p.rows head.code)) head.body (body_bytes p.file head.body head.next)
     c.requires.body
 
+-- the checker after the body ran is the one before it, but for its room
+
+pub returns-in-Good-clause-next : goal.returns-in-Good-clause-next
+returns-in-Good-clause-next g c = λ ss env before.
+    subst (λ (q : Progress). IsNext q ss env c.past.result) c.self.view_is (c.past.ensures.next ss env (subst (λ (q : Progress). HasPassed q ss env) (sym c.self.view_is) before))
+
+pub returns-in-Good-clause-left : goal.returns-in-Good-clause-left
+returns-in-Good-clause-left g c = subst (λ (q : Progress). IsLeft q c.past.result) c.self.view_is c.past.ensures.left
+
 -- of the body, over the checker's file
 pub returns-in-Good-clause-most : goal.returns-in-Good-clause-most
 returns-in-Good-clause-most g c =
-    let head = c.args.head in
-    c.past.ensures.most c.args.steps.now c.check_body_by.new.steps
-    (subst (λ (q : Progress). c.check_body_by.new.steps ≤ c.args.steps.now + (head.next - head.body) * (length q.file + 1)) c.self.view_is c.check_body_by.ensures.most)
+    subst (λ (q : Progress). IsMost q c.args.steps.now c.check_body_by.new.steps c.past.result) c.self.view_is
+    (c.past.ensures.most c.args.steps.now c.check_body_by.new.steps c.check_body_by.ensures.most)
+
+pub returns-in-Refused-clause-next : goal.returns-in-Refused-clause-next
+returns-in-Refused-clause-next g c = λ ss env before.
+    subst (λ (q : Progress). IsNext q ss env c.refused.result) c.self.view_is (c.refused.ensures.next ss env (subst (λ (q : Progress). HasPassed q ss env) (sym c.self.view_is) before))
+
+pub returns-in-Refused-clause-left : goal.returns-in-Refused-clause-left
+returns-in-Refused-clause-left g c = subst (λ (q : Progress). IsLeft q c.refused.result) c.self.view_is c.refused.ensures.left
 
 pub returns-in-Refused-clause-most : goal.returns-in-Refused-clause-most
 returns-in-Refused-clause-most g c =
     let p : Progress = c.args.self in
     let head = c.args.head in
     let at-head = head-at p.file head.at (statement_byte head.code) head.body head.next c.requires.head in
-    c.refused.ensures.most c.args.steps.now c.check_body_by.new.steps
-    (most-here (length p.file) p.at head.body head.next c.args.steps.now c.check_body_by.new.steps (omega (arith, at-head.before, c.requires.at)) at-head.order at-head.within
-    (subst (λ (q : Progress). c.check_body_by.new.steps ≤ c.args.steps.now + (head.next - head.body) * (length q.file + 1)) c.self.view_is c.check_body_by.ensures.most))
+    let few = most-here (length p.file) p.at head.body head.next c.args.steps.now c.check_body_by.new.steps (omega (arith, at-head.before, c.requires.at)) at-head.order at-head.within
+    (subst (λ (q : Progress). c.check_body_by.new.steps ≤ c.args.steps.now + (head.next - head.body) * (length q.file + 1)) c.self.view_is c.check_body_by.ensures.most) in
+    subst (λ (q : Progress). IsMost q c.args.steps.now c.check_body_by.new.steps c.refused.result) c.self.view_is
+    (c.refused.ensures.most c.args.steps.now c.check_body_by.new.steps (subst (λ (q : Progress). c.check_body_by.new.steps ≤ c.args.steps.now + most_left q) (sym c.self.view_is) few))
 
 pub returns-clause-most : goal.returns-clause-most
 returns-clause-most g c =
@@ -71,24 +88,31 @@ returns-clause-most g c =
     most-here (length p.file) p.at head.body head.next c.args.steps.now c.check_body_by.new.steps (omega (arith, at-head.before, c.requires.at)) at-head.order at-head.within
     (subst (λ (q : Progress). c.check_body_by.new.steps ≤ c.args.steps.now + (head.next - head.body) * (length q.file + 1)) c.self.view_is c.check_body_by.ensures.most)
 
-pub past-requires-clause-body : goal.past-requires-clause-body
-past-requires-clause-body g c _ = (_, _, _, _, _, c.requires.body)
-
 abbrev IsFound : Head → Progress → Type 0
 IsFound head q = find_at q.file (taken_before q.file q.rows) q.at ≡ Ok (found_of q.file q.rows (seen.WithBody head))
+
+pub rests_on_gap-gap-requires-clause-head : goal.rests_on_gap-gap-requires-clause-head
+rests_on_gap-gap-requires-clause-head g c = subst (λ (q : Progress). IsHead q.file c.args.head) (sym c.self.view_is) c.requires.head
+
+pub past-requires-clause-head : goal.past-requires-clause-head
+past-requires-clause-head g c = subst (λ (q : Progress). IsHead q.file c.args.head) (sym c.self.view_is) c.requires.head
+
+pub past-requires-clause-at : goal.past-requires-clause-at
+past-requires-clause-at g c = subst (λ (q : Progress). c.args.head.at ≡ q.at) (sym c.self.view_is) c.requires.at
+
+pub past-requires-clause-body : goal.past-requires-clause-body
+past-requires-clause-body g c _ = (_, _, _, _, _, subst (IsFound c.args.head) (sym c.self.view_is) c.requires.body)
 
 pub past-requires-clause-runs : goal.past-requires-clause-runs
 past-requires-clause-runs g c =
     let head = c.args.head in
     let s = c.self.inside in
     let (last, ran, _) = c.in-Good.ensures.run in
-    subst (λ (q : Progress). run_place q.standard q.file (taken_before q.file q.rows) q.at ≡ Ok (onward (after_kind q.file (taken_before q.file q.rows) head.code) head.next)) c.self.view_is
-    (body-runs s.standard s.mmb.now s.rows s.at head (subst (IsFound head) (sym c.self.view_is) c.requires.body) c.kind_of-kind.result c.next-row.result c.kind_of-kind.ensures c.next-row.ensures last ran)
+    body-runs s.standard s.mmb.now s.rows s.at head (subst (IsFound head) (sym c.self.view_is) c.requires.body) c.kind_of-kind.result c.next-row.result c.kind_of-kind.ensures c.next-row.ensures last ran
 
 pub refused-requires : goal.refused-requires
 refused-requires g c =
     let head = c.args.head in
     let s = c.self.inside in
-    subst (λ (q : Progress). run_place q.standard q.file (taken_before q.file q.rows) q.at ≡ Err (c.in-Refused.at, c.in-Refused.rule)) c.self.view_is
-    (body-stops s.standard s.mmb.now s.rows s.at head (subst (IsFound head) (sym c.self.view_is) c.requires.body) c.kind_of-kind.result c.next-row.result c.kind_of-kind.ensures c.next-row.ensures
-    (c.in-Refused.at, c.in-Refused.rule) c.in-Refused.ensures.run)
+    body-stops s.standard s.mmb.now s.rows s.at head (subst (IsFound head) (sym c.self.view_is) c.requires.body) c.kind_of-kind.result c.next-row.result c.kind_of-kind.ensures c.next-row.ensures
+    (c.in-Refused.at, c.in-Refused.rule) c.in-Refused.ensures.run

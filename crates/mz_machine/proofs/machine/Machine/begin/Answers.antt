@@ -1,51 +1,7 @@
-use Rattle.std.proofs.Common.{◌∙◌, refl, length, sym, ap, subst}
-use Rattle.mz_mode.specs.Gaps.{gaps_of}
-use Rattle.mz_logic.specs.Words.{binders_of, BitsRight}
-use Rattle.mz_store.specs.Bits.{bound_vars}
-use Rattle.mz_soundness.specs.Tables.{signatures_in}
-use Rattle.mz_earlier.specs.OwnRow.{kind_at, heading_of, mode_for, first_items}
-use Rattle.mz_earlier.specs.Before.{tables_before}
-use Rattle.mz_machine.proofs.GapRows.{start-plain}
-use Rattle.mz_earlier.proofs.Offered.{own-bits, words-are}
-use Rattle.mz_machine.proofs.Beginning.{params-are, params-many, is-begun, state-begun, AreVars}
 use Rattle.mz_machine.proofs.machine.Machine.begin.Goals as goal
 
-pub read_words-requires : goal.read_words-requires
-read_words-requires c = rw (c.new-earlier.ensures.file, c.new-earlier.ensures.rows, c.kind_by.ensures) c.requires.next
-
-pub begin-requires : goal.begin-requires
-begin-requires c =
-    let words = words-are _ c.new-earlier.result.file c.args.mmb.now c.args.row _ (kind_at c.args.kind) c.in_ok-words.ensures c.new-earlier.ensures.file c.kind_by.ensures in
-    subst BitsRight (sym (c.deref.ensures.value ∙ words)) (own-bits c.args.mmb.now c.args.before c.args.row (kind_at c.args.kind) c.requires.next)
-
 pub invariant_of-result : goal.invariant_of-result
-invariant_of-result c =
-    let s = c.begin.new.self in
-    let ws = c.in_ok-words.words.items in
-    let words = words-are _ c.new-earlier.result.file c.args.mmb.now c.args.row _ (kind_at c.args.kind) c.in_ok-words.ensures c.new-earlier.ensures.file c.kind_by.ensures in
-    let ctx = c.in_ok-begin.ensures.context ∙ ap binders_of c.deref.ensures.value in
-    let many = c.in_ok-begin.ensures.many ∙ ap length c.deref.ensures.value in
-    let trees = subst (AreVars s) c.deref.ensures.value c.in_ok-begin.ensures.trees in
-    let mode = c.in_ok-begin.ensures.mode ∙ c.deps_mode.ensures ∙ ap mode_for c.kind_by-2.ensures in
-    let begun = is-begun c.args.mmb.now c.args.kind c.args.row c.args.before s ws c.requires words ctx many trees (c.in_ok-begin.ensures.over (signatures_in (tables_before c.args.mmb.now c.args.before))) mode in
-    let bound = c.bound_count-bound_params.ensures.many ∙ ap (λ ps. length (bound_vars ps)) (ctx ∙ sym (params-are c.args.mmb.now c.args.kind c.args.row c.args.before s ws c.requires words ctx many trees)) in
-    rw (c.new-earlier.ensures.file, c.new-earlier.ensures.rows, c.in_ok-heap.ensures ∙ ap first_items (c.len.ensures ∙ c.in_ok-words.words.ok.0), c.new.ensures.items, c.new-2.ensures.items) (begun, bound)
+invariant_of-result c = c.in_ok-setting.ensures.running
 
 pub returns : goal.returns
-returns c =
-    let s = c.begin.new.self in
-    let ws = c.in_ok-words.words.items in
-    let words = words-are _ c.new-earlier.result.file c.args.mmb.now c.args.row _ (kind_at c.args.kind) c.in_ok-words.ensures c.new-earlier.ensures.file c.kind_by.ensures in
-    let ctx = c.in_ok-begin.ensures.context ∙ ap binders_of c.deref.ensures.value in
-    let many = c.in_ok-begin.ensures.many ∙ ap length c.deref.ensures.value in
-    let trees = subst (AreVars s) c.deref.ensures.value c.in_ok-begin.ensures.trees in
-    record {
-      gaps_are = refl;
-      file_is = c.new-earlier.ensures.file;
-      kind_is = refl;
-      row_is = refl;
-      before_is = c.new-earlier.ensures.rows;
-      state = rw (c.in_ok-heap.ensures ∙ ap first_items (c.len.ensures ∙ c.in_ok-words.words.ok.0), c.new.ensures.items, c.new-2.ensures.items) (state-begun c.args.mmb.now c.args.kind c.args.row c.args.before s ws c.requires words ctx many trees ∙ sym (start-plain (gaps_of c.args.mode) (heading_of c.args.mmb.now c.args.kind c.args.row)));
-      no_gap = refl;
-      nodes = many ∙ sym (params-many c.args.mmb.now c.args.kind c.args.row c.args.before s ws c.requires words ctx many trees);
-    }
+returns c = c.in_ok-setting.ensures.begun

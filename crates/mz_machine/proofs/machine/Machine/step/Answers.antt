@@ -2,7 +2,7 @@ use Rattle.std.proofs.Common.{Err, subst}
 use Rattle.mz_machine.specs.Running.{machine_of}
 use Rattle.mz_machine.specs.Steps.{Underway}
 use Rattle.mz_machine.specs.Stepping.{IsStepped, stepped_to}
-use Rattle.mz_machine.specs.declared.command.Stop.{Stop}
+use Rattle.mz_unify.specs.declared.stop.Stop.{Stop}
 use Rattle.mz_machine.specs.declared.machine.Stepped.TheVariants as stepped
 use Rattle.mz_machine.proofs.machine.Machine.step.Goals as goal
 

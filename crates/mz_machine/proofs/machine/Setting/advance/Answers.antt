@@ -1,6 +1,12 @@
+use Rattle.std.proofs.Common.{◌∙◌, ap}
+use Rattle.mz_earlier.specs.OwnRow.{mode_for}
+use Rattle.mz_earlier.proofs.Offered.{kind-byte}
 use Rattle.mz_machine.specs.declared.machine.Parts.{Parts}
 use Rattle.mz_machine.proofs.Advancing.{keeps, stepped, counted}
 use Rattle.mz_machine.proofs.machine.Setting.advance.Goals as goal
+
+pub obey-requires-clause-told : goal.obey-requires-clause-told
+obey-requires-clause-told g c = c.requires.running.0.mode ∙ ap mode_for (kind-byte c.args.self.now.kind)
 
 pub returns-clause-running : goal.returns-clause-running
 returns-clause-running g c =

@@ -1,4 +1,4 @@
-use Rattle.std.proofs.Common.{◌≡◌, ◌+◌, ◌∙◌, length, sym, ap, arith}
+use Rattle.std.proofs.Common.{◌≡◌, ◌+◌, ◌∙◌, length, sym, ap, subst, arith}
 use Rattle.std.proofs.Common.{Ok, Err, List}
 use Rattle.std.proofs.lemmas.List.{length-map}
 use Rattle.mz_cmd.specs.declared.rule.K.{K}
@@ -7,12 +7,13 @@ use Rattle.mz_store.specs.declared.item.Id.{Id}
 use Rattle.mz_store.specs.declared.item.Item.{Item as Kept}
 use Rattle.mz_mode.specs.Gaps.{gaps_of}
 use Rattle.mz_unification.specs.Profile.{strict}
-use Rattle.mz_soundness.specs.Tables.{Kind}
+use Rattle.mz_soundness.specs.MachineState.{Kind}
 use Rattle.mz_soundness.specs.ProofMachine.{proof_end, ends_with}
 use Rattle.mz_soundness.specs.Bodies.{match_steps}
 use Rattle.mz_earlier.specs.Before.{tables_before, tables_of}
-use Rattle.mz_earlier.specs.OwnRow.{kind_at, heading_by, heading_of, kind_of}
-use Rattle.mz_machine.specs.OverStore.{state_at}
+use Rattle.mz_earlier.specs.OwnRow.{byte_of, kind_at, heading_by, heading_of, kind_of, mode_for, IsNextRow}
+use Rattle.mz_earlier.proofs.Offered.{kind-byte}
+use Rattle.mz_machine.specs.OverStore.{state_at, AreFirst, IsContextOf}
 use Rattle.mz_machine.proofs.GapRows.{ends-steps}
 use Rattle.mz_soundness.proofs.Offered.{end-plain}
 use Rattle.mz_machine.proofs.Dummies.{bound-more, context-longer}
@@ -21,14 +22,26 @@ use Rattle.mz_machine.proofs.Stopping.{stopped}
 use Rattle.mz_machine.proofs.machine.Setting.finish.Goals as goal
 
 pub end-requires-clause-row : goal.end-requires-clause-row
-end-requires-clause-row g c = rw c.kind_by.ensures c.requires.0.may_run.next
+end-requires-clause-row g c =
+    let t = c.args.self.now in
+    subst (λ (k : Kind). IsNextRow t.earlier.file t.earlier.rows t.row k) (kind-byte t.kind) c.requires.0.may_run.next
+
+pub end-requires-clause-mode : goal.end-requires-clause-mode
+end-requires-clause-mode g c = c.requires.0.mode ∙ ap mode_for (kind-byte c.args.self.now.kind)
+
+pub end-requires-clause-context : goal.end-requires-clause-context
+end-requires-clause-context g c =
+    let t = c.args.self.now in
+    subst (λ (k : Kind). IsContextOf (heading_by t.earlier.file t.row k).params c.args.parts.now.store.context) (kind-byte t.kind) c.requires.0.context
 
 pub end-requires-clause-params : goal.end-requires-clause-params
-end-requires-clause-params g c = rw c.kind_by.ensures c.requires.0.params
+end-requires-clause-params g c =
+    let t = c.args.self.now in
+    subst (λ (k : Kind). AreFirst c.args.parts.now.store (length (heading_by t.earlier.file t.row k).params)) (kind-byte t.kind) c.requires.0.params
 
 pub counted-requires-clause-bound : goal.counted-requires-clause-bound
 counted-requires-clause-bound g c =
-    let ps = (heading_of c.args.self.now.earlier.file c.args.self.now.kind c.args.self.now.row).params in
+    let ps = (heading_of c.args.self.now.earlier.file (byte_of c.args.self.now.kind) c.args.self.now.row).params in
     omega (
       arith,
       c.requires.1,
@@ -40,11 +53,11 @@ pub returns-in-Ok-clause-run : goal.returns-in-Ok-clause-run
 returns-in-Ok-clause-run g c =
     let s = c.args.parts.now.store in
     let heap = c.args.parts.now.heap.items in
-    let h = heading_of c.args.self.now.earlier.file c.args.self.now.kind c.args.self.now.row in
+    let h = heading_of c.args.self.now.earlier.file (byte_of c.args.self.now.kind) c.args.self.now.row in
     let st = state_at s heap c.args.parts.now.stack.items c.args.parts.now.hyps.items in
     let ended = same-three (λ (k : Kind) (stack : List Kept) (hyps : List Id). proof_end strict (tables_of c.args.self.now.earlier) (heading_by c.args.self.now.earlier.file c.args.self.now.row k) (state_at s heap stack hyps))
-    (kind_of c.kind_by.result) (kind_at c.args.self.now.kind) c.deref.result.now c.args.parts.now.stack.items c.deref-2.result.now c.args.parts.now.hyps.items
-    c.kind_by.ensures c.deref.ensures.value c.deref-2.ensures.value in
+    (kind_of c.args.self.now.kind) (kind_at (byte_of c.args.self.now.kind)) c.deref.result.now c.args.parts.now.stack.items c.deref-2.result.now c.args.parts.now.hyps.items
+    (sym (kind-byte c.args.self.now.kind)) c.deref.ensures.value c.deref-2.ensures.value in
     let is = ap (λ (stack : List Kept). state_at s heap stack c.deref-2.result.now) c.deref.ensures.value ∙ ap (λ (hyps : List Id). state_at s heap c.args.parts.now.stack.items hyps) c.deref-2.ensures.value in
     let hyps : c.counted.result.hyps ≡ length c.args.parts.now.hyps.items = c.counted.ensures.hyps ∙ ap length c.deref-in-Ok.ensures.value in
     let dummies : c.counted.result.dummies + length h.params ≡ length s.context =
@@ -56,19 +69,19 @@ returns-in-Ok-clause-steps g c =
     let s = c.args.parts.now.store in
     let heap = c.args.parts.now.heap.items in
     let many = same-three (λ (k : Kind) (stack : List Kept) (hyps : List Id). match_steps strict (tables_of c.args.self.now.earlier) (state_at s heap stack hyps) (ends_with strict (tables_of c.args.self.now.earlier) (heading_by c.args.self.now.earlier.file c.args.self.now.row k) (state_at s heap stack hyps)))
-    (kind_of c.kind_by.result) (kind_at c.args.self.now.kind) c.deref.result.now c.args.parts.now.stack.items c.deref-2.result.now c.args.parts.now.hyps.items
-    c.kind_by.ensures c.deref.ensures.value c.deref-2.ensures.value in
-    (omega (arith, c.in-Ok.ensures.steps heap, c.tick.ensures, many, ends-steps (gaps_of c.args.self.now.mode) (tables_before c.args.self.now.earlier.file c.args.self.now.earlier.rows) (state_at s heap c.args.parts.now.stack.items c.args.parts.now.hyps.items) (heading_of c.args.self.now.earlier.file c.args.self.now.kind c.args.self.now.row)))
+    (kind_of c.args.self.now.kind) (kind_at (byte_of c.args.self.now.kind)) c.deref.result.now c.args.parts.now.stack.items c.deref-2.result.now c.args.parts.now.hyps.items
+    (sym (kind-byte c.args.self.now.kind)) c.deref.ensures.value c.deref-2.ensures.value in
+    (omega (arith, c.in-Ok.ensures.steps heap, c.tick.ensures, many, ends-steps (gaps_of c.args.self.now.mode) (tables_before c.args.self.now.earlier.file c.args.self.now.earlier.rows) (state_at s heap c.args.parts.now.stack.items c.args.parts.now.hyps.items) (heading_of c.args.self.now.earlier.file (byte_of c.args.self.now.kind) c.args.self.now.row)))
 
 pub returns-in-Err-Rule-clause-run : goal.returns-in-Err-Rule-clause-run
 returns-in-Err-Rule-clause-run g c =
     let s = c.args.parts.now.store in
     let heap = c.args.parts.now.heap.items in
     let ended = same-three (λ (k : Kind) (stack : List Kept) (hyps : List Id). proof_end strict (tables_of c.args.self.now.earlier) (heading_by c.args.self.now.earlier.file c.args.self.now.row k) (state_at s heap stack hyps))
-    (kind_of c.kind_by.result) (kind_at c.args.self.now.kind) c.deref.result.now c.args.parts.now.stack.items c.deref-2.result.now c.args.parts.now.hyps.items
-    c.kind_by.ensures c.deref.ensures.value c.deref-2.ensures.value in
-    (end-plain (gaps_of c.args.self.now.mode) (tables_before c.args.self.now.earlier.file c.args.self.now.earlier.rows) (heading_of c.args.self.now.earlier.file c.args.self.now.kind c.args.self.now.row) (state_at s heap c.args.parts.now.stack.items c.args.parts.now.hyps.items) ∙ sym ended ∙ stopped c.in-Err-Rule.field-0 c.in-Err-Rule.rule
-    (λ (k : K). proof_end strict (tables_of c.args.self.now.earlier) (heading_by c.args.self.now.earlier.file c.args.self.now.row (kind_of c.kind_by.result)) (state_at s heap c.deref.result.now c.deref-2.result.now) ≡ Err k)
+    (kind_of c.args.self.now.kind) (kind_at (byte_of c.args.self.now.kind)) c.deref.result.now c.args.parts.now.stack.items c.deref-2.result.now c.args.parts.now.hyps.items
+    (sym (kind-byte c.args.self.now.kind)) c.deref.ensures.value c.deref-2.ensures.value in
+    (end-plain (gaps_of c.args.self.now.mode) (tables_before c.args.self.now.earlier.file c.args.self.now.earlier.rows) (heading_of c.args.self.now.earlier.file (byte_of c.args.self.now.kind) c.args.self.now.row) (state_at s heap c.args.parts.now.stack.items c.args.parts.now.hyps.items) ∙ sym ended ∙ stopped c.in-Err-Rule.field-0 c.in-Err-Rule.rule
+    (λ (k : K). proof_end strict (tables_of c.args.self.now.earlier) (heading_by c.args.self.now.earlier.file c.args.self.now.row (kind_of c.args.self.now.kind)) (state_at s heap c.deref.result.now c.deref-2.result.now) ≡ Err k)
     c.in-Err-Rule.field-0-is (c.in-Err-Rule.ensures.row heap))
 
 pub returns-in-Err-Rule-clause-steps : goal.returns-in-Err-Rule-clause-steps
@@ -76,10 +89,10 @@ returns-in-Err-Rule-clause-steps g c =
     let s = c.args.parts.now.store in
     let heap = c.args.parts.now.heap.items in
     let many = same-three (λ (k : Kind) (stack : List Kept) (hyps : List Id). match_steps strict (tables_of c.args.self.now.earlier) (state_at s heap stack hyps) (ends_with strict (tables_of c.args.self.now.earlier) (heading_by c.args.self.now.earlier.file c.args.self.now.row k) (state_at s heap stack hyps)))
-    (kind_of c.kind_by.result) (kind_at c.args.self.now.kind) c.deref.result.now c.args.parts.now.stack.items c.deref-2.result.now c.args.parts.now.hyps.items
-    c.kind_by.ensures c.deref.ensures.value c.deref-2.ensures.value in
+    (kind_of c.args.self.now.kind) (kind_at (byte_of c.args.self.now.kind)) c.deref.result.now c.args.parts.now.stack.items c.deref-2.result.now c.args.parts.now.hyps.items
+    (sym (kind-byte c.args.self.now.kind)) c.deref.ensures.value c.deref-2.ensures.value in
     let so-many = stopped c.in-Err-Rule.field-0 c.in-Err-Rule.rule
     (λ (k : K). c.end.new.steps ≡ c.tick.new.self + match_steps strict (tables_of c.args.self.now.earlier) (state_at s heap c.deref.result.now c.deref-2.result.now)
-    (ends_with strict (tables_of c.args.self.now.earlier) (heading_by c.args.self.now.earlier.file c.args.self.now.row (kind_of c.kind_by.result)) (state_at s heap c.deref.result.now c.deref-2.result.now)))
+    (ends_with strict (tables_of c.args.self.now.earlier) (heading_by c.args.self.now.earlier.file c.args.self.now.row (kind_of c.args.self.now.kind)) (state_at s heap c.deref.result.now c.deref-2.result.now)))
     c.in-Err-Rule.field-0-is (c.in-Err-Rule.ensures.steps heap) in
-    (omega (arith, so-many, c.tick.ensures, many, ends-steps (gaps_of c.args.self.now.mode) (tables_before c.args.self.now.earlier.file c.args.self.now.earlier.rows) (state_at s heap c.args.parts.now.stack.items c.args.parts.now.hyps.items) (heading_of c.args.self.now.earlier.file c.args.self.now.kind c.args.self.now.row)))
+    (omega (arith, so-many, c.tick.ensures, many, ends-steps (gaps_of c.args.self.now.mode) (tables_before c.args.self.now.earlier.file c.args.self.now.earlier.rows) (state_at s heap c.args.parts.now.stack.items c.args.parts.now.hyps.items) (heading_of c.args.self.now.earlier.file (byte_of c.args.self.now.kind) c.args.self.now.row)))

@@ -1,7 +1,8 @@
 use Rattle.std.proofs.Common.{sym, ◌∙◌, subst, ap}
 use Rattle.mz_logic.specs.Words.{signatures_of, word_sort}
 use Rattle.mz_nodes.specs.Numbering.{IsOver}
-use Rattle.mz_nodes.proofs.OverTerms.{over-term, on-ok-from}
+use Rattle.mz_store.proofs.Offered.{on-ok-from}
+use Rattle.mz_nodes.proofs.OverTerms.{over-term}
 use Rattle.mz_nodes.proofs.nodes.Nodes.app.Goals as goal
 
 pub told_vars-requires-clause-vars : goal.told_vars-requires-clause-vars

@@ -1,6 +1,7 @@
 use Rattle.std.proofs.Common.{sym, refl}
 use Rattle.std.proofs.lemmas.Result.{err_from_is_err_and}
-use Rattle.mz_pmachine.proofs.Converting.{no-middle, sides-none, sides-same, sides-other, true-false}
+use Rattle.mz_pmachine.proofs.Converting.{no-middle, sides-none, sides-same, sides-other}
+use Rattle.mz_machine.proofs.Offered.{true-false}
 use Rattle.mz_pmachine.proofs.commands.conversions.pop_sides.Goals as goal
 
 pub returns-in_err-middle-clause-taken : goal.returns-in_err-middle-clause-taken

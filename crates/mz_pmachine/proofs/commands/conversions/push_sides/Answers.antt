@@ -5,7 +5,8 @@ use Rattle.mz_nodes.specs.Numbering.{expr_of}
 use Rattle.mz_store.specs.declared.item.Id.{Id}
 use Rattle.mz_unification.specs.Profile.{obligation}
 use Rattle.mz_punify.proofs.Offered.{items-push, is-in-at}
-use Rattle.mz_pmachine.proofs.Converting.{put_in, sides_from, no-sides, next-side, least, one-before}
+use Rattle.mz_pmachine.proofs.Converting.{put_in, sides_from, no-sides, next-side}
+use Rattle.mz_machine.proofs.Offered.{least, one-before}
 use Rattle.mz_pmachine.proofs.commands.conversions.push_sides.Goals as goal
 
 pub operands-init : goal.operands-init

@@ -1,6 +1,7 @@
 use Rattle.std.proofs.Common.{◌∙◌, ap, sym, refl}
 use Rattle.mz_soundness.specs.Premises.{pop_obligation}
-use Rattle.mz_pmachine.proofs.Converting.{refl-row, refl-other, true-false}
+use Rattle.mz_pmachine.proofs.Converting.{refl-row, refl-other}
+use Rattle.mz_machine.proofs.Offered.{true-false}
 use Rattle.mz_pmachine.proofs.commands.conversions.refl.Goals as goal
 
 pub returns-then-same-clause-row : goal.returns-then-same-clause-row

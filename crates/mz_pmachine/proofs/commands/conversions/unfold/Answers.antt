@@ -4,7 +4,8 @@ use Rattle.mz_punify.specs.Stored.{exprs_at}
 use Rattle.mz_pmachine.specs.OverNodes.{pop_unfolding}
 use Rattle.mz_earlier.proofs.Offered.{signatures-before}
 use Rattle.mz_pmachine.proofs.Converting.{not-taken, of-variable, not-defined, is-unfolding, unfold-stopped, stopped-steps, unfold-refused, unfold-row, unfold-steps, gives-stack, operand-exprs}
-use Rattle.mz_pmachine.proofs.Unfoldings.{term-there, row-there, stream-there, no-stream, same-run, same-count, no-more, so-many, ids-pushed, items-pushed, unless-mem}
+use Rattle.mz_pmachine.proofs.Unfoldings.{term-there, same-run, same-count, ids-pushed, items-pushed}
+use Rattle.mz_machine.proofs.Offered.{no-more, no-stream, row-there, so-many, stream-there, unless-mem}
 use Rattle.mz_pmachine.proofs.commands.conversions.unfold.Goals as goal
 
 pub returns-in-Err-clause-row : goal.returns-in-Err-clause-row

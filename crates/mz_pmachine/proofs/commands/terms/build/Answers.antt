@@ -12,10 +12,9 @@ use Rattle.mz_soundness.specs.ProofMachine.{built}
 use Rattle.mz_soundness.specs.Premises.{operands_fit}
 use Rattle.mz_earlier.specs.Before.{tables_of, signatures_of, words_before}
 use Rattle.mz_soundness.specs.FileRows.{term_of_file}
-use Rattle.mz_pmachine.proofs.Stopping.{stops-as}
 use Rattle.mz_pmachine.proofs.TermResults.{built-none, built-few, built-unfit, built-row, can-take, over-words, over-rows, items-kept, items-still, takes-its-own}
 use Rattle.mz_earlier.proofs.Offered.{term-before, no-term-before}
-use Rattle.mz_machine.proofs.Offered.{no-dummies}
+use Rattle.mz_machine.proofs.Offered.{no-dummies, stops-as}
 use Rattle.mz_pmachine.proofs.commands.terms.build.Goals as goal
 
 pub returns-then-t-terms-clause-built : goal.returns-then-t-terms-clause-built

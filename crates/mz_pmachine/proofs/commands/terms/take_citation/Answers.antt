@@ -8,8 +8,8 @@ use Rattle.mz_numbered.specs.Numbered.{portable}
 use Rattle.mz_soundness.specs.ProofMachine.{citation}
 use Rattle.mz_soundness.specs.Premises.{operands_fit, are_apart}
 use Rattle.mz_earlier.specs.Before.{tables_of, signatures_of}
-use Rattle.mz_pmachine.proofs.Stopping.{stops-as}
 use Rattle.mz_pmachine.proofs.Citing.{cites-none, cites-few, cites-other, cites-without, cites-unfit, cites-meeting, cites-so}
+use Rattle.mz_machine.proofs.Offered.{stops-as}
 use Rattle.mz_pmachine.proofs.commands.terms.take_citation.Goals as goal
 
 pub returns-then-t-thms-clause-taken : goal.returns-then-t-thms-clause-taken

@@ -6,8 +6,8 @@ use Rattle.mz_numbered.specs.Numbered.{portable}
 use Rattle.mz_punify.proofs.Offered.{items-push, items-in-both}
 use Rattle.mz_soundness.specs.ProofMachine.{proof_row}
 use Rattle.mz_earlier.specs.Before.{tables_of}
-use Rattle.mz_pmachine.proofs.Stopping.{stops-as}
 use Rattle.mz_pmachine.proofs.TermResults.{term-of, term-save-of}
+use Rattle.mz_machine.proofs.Offered.{stops-as}
 use Rattle.mz_pmachine.proofs.commands.terms.term.Goals as goal
 
 pub returns-in_err-made-clause-plain : goal.returns-in_err-made-clause-plain

@@ -11,9 +11,8 @@ use Rattle.mz_soundness.specs.Bodies.{row_steps}
 use Rattle.mz_earlier.specs.Before.{tables_of}
 use Rattle.mz_pmachine.specs.OverNodes.{with_stack}
 use Rattle.mz_earlier.proofs.Offered.{signatures-before}
-use Rattle.mz_pmachine.proofs.Stopping.{stops-as}
-use Rattle.mz_pmachine.proofs.Unfoldings.{no-more, so-many}
 use Rattle.mz_pmachine.proofs.Citing.{thm-stopped, thm-save-stopped, thm-stopped-steps, thm-refused, thm-save-refused, thm-row, thm-save-row, thm-steps, cited-run, cited-count}
+use Rattle.mz_machine.proofs.Offered.{no-more, so-many, stops-as}
 use Rattle.mz_pmachine.proofs.commands.terms.thm.Goals as goal
 
 pub returns-in_err-target-clause-plain : goal.returns-in_err-target-clause-plain

@@ -1,13 +1,18 @@
-use Rattle.std.proofs.Common.{◌∙◌, ◌++◌, ◌∷◌, [], map, ap, subst, sym, refl}
+use Rattle.std.proofs.Common.{◌∙◌, ◌++◌, ◌∷◌, [], map, ap, subst, sym, refl, append_assoc}
 use Rattle.std.specs.Prelude.{if◌then◌else◌}
 use Rattle.std.proofs.lemmas.List.{map-append}
 use Rattle.mz_variables.specs.Names.{IsNew}
-use Rattle.mz_variables.proofs.Numbers.{new-none}
+use Rattle.mz_variables.proofs.Numbers.{new-none, new-later}
 use Rattle.mz_variables.proofs.names.Names.push.Goals as goal
 
-pub returns : goal.returns
-returns c =
-    let keys = c.self.inside.items.keys in
-    let none = new-none (λ name. name.now) c.args.name.now _ (λ k. refl) keys (subst (λ names. IsNew names c.args.name.now) (sym c.self.view_is) c.requires) in
-    ap (map (λ name. name.now)) (c.in_ok-insert.ensures.keys ∙ ap (λ b. if b then keys else keys ++ c.args.name ∷ []) none)
-    ∙ map-append (λ name. name.now) keys (c.args.name ∷ []) ∙ ap (λ names. names ++ c.args.name.now ∷ []) c.self.view_is
+pub returns-in_ok-insert : goal.returns-in_ok-insert
+returns-in_ok-insert c =
+    let w = c.args.name.now in
+    let keys = c.self.inside.others.keys in
+    let first = map (λ name. name.now) c.self.inside.first.items in
+    let others = map (λ name. name.now) keys in
+    let new = new-later first others w (subst (λ names. IsNew names w) (sym c.self.view_is) c.requires) in
+    let none = new-none (λ name. name.now) w _ (λ k. refl) keys new in
+    ap (λ ks. first ++ map (λ name. name.now) ks) (c.in_ok-insert.ensures.keys ∙ ap (λ b. if b then keys else keys ++ c.args.name ∷ []) none)
+    ∙ ap (λ names. first ++ names) (map-append (λ name. name.now) keys (c.args.name ∷ []))
+    ∙ sym (append_assoc first others (w ∷ [])) ∙ ap (λ names. names ++ w ∷ []) c.self.view_is

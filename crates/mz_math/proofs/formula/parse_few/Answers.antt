@@ -1,0 +1,18 @@
+use Rattle.std.proofs.Common.{◌≤◌, ℕ, List, length, arith}
+use Rattle.mz_math.specs.Answers.{IfParsed, IfNotParsed, IsTreeOfFew}
+use Rattle.mz_math.specs.Formula.{most}
+use Rattle.mz_math.specs.Grammar.{Words}
+use Rattle.mz_math.specs.declared.parser.Syntax.{Syntax}
+use Rattle.mz_math.specs.declared.parser.Syntax.TheVariants as syntax
+use Rattle.mz_math.proofs.formula.parse_few.Goals as goal
+
+few-parsed : (ws : Words) (tokens : List (List ℕ)) (answer : Syntax) → length tokens ≤ most → IfParsed ws tokens answer → IfNotParsed ws tokens answer → IsTreeOfFew ws tokens answer
+few-parsed ws tokens (syntax.Tree e) few tree none = (few, tree)
+few-parsed ws tokens syntax.No few tree none = λ _. none
+few-parsed ws tokens syntax.Mem few tree none = tt
+
+pub returns-then-len-gt-MOST : goal.returns-then-len-gt-MOST
+returns-then-len-gt-MOST c = λ few. absurd (omega (arith, few, c.len.ensures, c.if-len-gt-MOST.true))
+
+pub returns : goal.returns
+returns c = few-parsed c.args.words.now c.args.tokens.now c.parse.result (omega (arith, c.len.ensures, c.if-len-gt-MOST.false)) c.parse.ensures.tree c.parse.ensures.no

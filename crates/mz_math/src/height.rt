@@ -1,0 +1,30 @@
+// How high an expression is.
+ghost use Rattle.std.specs.Prelude.{◌≤◌, ◌↔◌, IsTrue};
+ghost use Rattle.mz_logic.specs.View.{tree};
+ghost use Rattle.mz_math.specs.Meaning.{height, trees_height};
+
+use mz_logic::{Expr, Exprs};
+
+/// Whether the expression is at most so high.
+#[cycle(is_low)]
+pub fn is_low(expr: &Expr, most: usize) -> bool
+    ensures { IsTrue result ↔ (height (tree expr.now) ≤ most) }
+{
+    match expr {
+        Expr::Var(_) => most > 0,
+        Expr::App(_, es) => most > 0 && are_low(es, most - 1),
+    }
+}
+
+/// Whether each of the expressions is.
+#[cycle(is_low)]
+fn are_low(es: &Exprs, most: usize) -> bool
+    ensures { IsTrue result ↔ (trees_height es.now ≤ most) }
+{
+    for e in es.as_slice() {
+        if !is_low(e, most) {
+            return false;
+        }
+    }
+    true
+}

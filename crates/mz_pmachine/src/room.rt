@@ -1,0 +1,47 @@
+//! Room that one body leaves to the next.
+
+use crate::machine::Parts;
+use mz_logic::Word;
+use std::alloc::{AllocError, Global};
+
+/// What bodies have taken of memory, kept for the next one. It says nothing of them.
+#[derive(Drop)]
+pub struct PortableRoom {
+    desk: Option<Box<Desk>>,
+}
+
+/// The words of the row whose body runs, and what its commands change.
+#[derive(Drop)]
+pub(crate) struct Desk {
+    pub(crate) words: Vec<Word>,
+    pub(crate) parts: Parts,
+}
+
+impl PortableRoom {
+    /// No room yet.
+    pub fn new() -> PortableRoom {
+        PortableRoom { desk: None }
+    }
+
+    /// The desk of the last body, or a new one.
+    pub(crate) fn take(&mut self, alloc: Global) -> Result<Box<Desk>, AllocError> {
+        match self.desk.take() {
+            Some(desk) => Ok(desk),
+            None => Ok(Box::new(alloc, Desk::new(alloc))?),
+        }
+    }
+
+    /// Keeps a desk for the next body.
+    pub(crate) fn keep(&mut self, desk: Box<Desk>) {
+        self.desk = Some(desk);
+    }
+}
+
+impl Desk {
+    fn new(alloc: Global) -> Desk {
+        Desk {
+            words: Vec::new(alloc),
+            parts: Parts::new(alloc),
+        }
+    }
+}
