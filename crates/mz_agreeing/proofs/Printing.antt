@@ -12,15 +12,15 @@ use Rattle.mz_logic.specs.Legality.{InRange, AllInRange, NamesThere}
 use Rattle.mz_logic.specs.declared.binder.SortMods.{SortMods}
 use Rattle.mz_logic.specs.LegalLists.{Statement as Marked, LegalAfter, Legal, gap_free, MayBeLocal, declarations}
 use Rattle.mz_logic.proofs.Offered.{sorts-append}
-use Rattle.mz_forms.specs.Name.{Names, IsNew}
+use Rattle.mz_names.specs.Names.{IsNew}
+use Rattle.mz_names.proofs.Offered.{new-last, new-more, new-other}
+use Rattle.mz_forms.specs.Name.{Names}
 use Rattle.mz_forms.specs.Proof.{Statement}
 use Rattle.mz_forms.specs.Statements.{no_names, names_with}
 use Rattle.mz_mmu.specs.Laws.{IsWhole, Ascends}
 use Rattle.mz_type.specs.Meaning.{marked}
-use Rattle.mz_variables.specs.Names as spec
 use Rattle.mz_printing.specs.Prefix.{IsShort}
 use Rattle.mz_readback.specs.Declared.{Named, Vocabulary, formula_of, AreShort, HasNewName, HasShortBody, IsWithin, used_with, ArePrintable}
-use Rattle.mz_readback.proofs.Offered.{new-more}
 use Rattle.mz_publics.specs.PublicPart.{public_number, is_local_term, mark_of, marks_of, renamed, all_renamed, mentions_local, any_mentions_local, shown, public_decl, Hides, IsSayable}
 use Rattle.mz_publics.proofs.Offered.{AreBeside, signatures-append, same-signatures, same-sorts, none-beside, all-public, pick, decl-legal, IsAt, mark-at, at-next, at-known, public-next, local-next}
 use Rattle.mz_match.specs.Match.{term_rows}
@@ -28,7 +28,7 @@ use Rattle.mz_wording.specs.Wording.{sort_name, term_name, sort_names, term_name
 use Rattle.mz_agreeing.proofs.Naming.{other-name}
 use Rattle.mz_agreeing.proofs.Rows.{IsTracked, row-at}
 use Rattle.mz_agreeing.proofs.Spoken.{KeepsName, same-short}
-use Rattle.mz_agreeing.proofs.Titles.{IsTitled, AreTitled, is-name, new-other, new-behind}
+use Rattle.mz_agreeing.proofs.Titles.{IsTitled, AreTitled, is-name}
 
 -- ---- numbers of terms
 
@@ -66,17 +66,17 @@ terms-all names w (assertion_decl a) rest = refl
 -- ---- names of assertions
 
 abbrev HasNew : Names → List (List ℕ) → Type 0
-HasNew names used = (x : List ℕ) → IsNew names.assertions x → spec.IsNew used x
+HasNew names used = (x : List ℕ) → IsNew names.assertions x → IsNew used x
 
 new-public : (names : Names) (used : List (List ℕ)) (w : List ℕ) (hidden : Tree → Bool) (f : ℕ → ℕ) (d : Declaration) → HasNew names used → HasNew (names_with names w d) (used_with used w (public_decl hidden f d))
 new-public names used w hidden f (sort_decl m) has = has
 new-public names used w hidden f (term_decl d) has = has
-new-public names used w hidden f (assertion_decl a) has = λ x new. let parts = new-behind names.assertions w x new in new-more used w x (has x parts.0) parts.1
+new-public names used w hidden f (assertion_decl a) has = λ x new. let parts = new-last names.assertions w x new in new-more used w x (has x parts.0) parts.1
 
 new-local : (names : Names) (used : List (List ℕ)) (w : List ℕ) (d : Declaration) → HasNew names used → HasNew (names_with names w d) used
 new-local names used w (sort_decl m) has = has
 new-local names used w (term_decl d) has = has
-new-local names used w (assertion_decl a) has = λ x new. has x (new-behind names.assertions w x new).0
+new-local names used w (assertion_decl a) has = λ x new. has x (new-last names.assertions w x new).0
 
 -- ---- room
 

@@ -1,13 +1,13 @@
 -- The names of a text's statements: each is an identifier, and new in its space.
-use Rattle.std.proofs.Common.{◌≡◌, ◌≤◌, ◌<◌, ◌∙◌, ◌++◌, ℕ, zero, suc, List, [], ◌∷◌, length, Bool, true, false, Option, Some, None, get_or, ap₂, sym, refl, subst, inl, inr, arith}
-use Rattle.std.specs.Prelude.{⊤, bytes_eq, if◌then◌else◌, option_map, IsTrue, ◌==◌, ◌&&◌, ◌||◌}
+use Rattle.std.proofs.Common.{◌≡◌, ◌≤◌, ◌<◌, ℕ, List, [], ◌∷◌, Bool, true, false, sym, refl, subst, inl, inr, arith}
+use Rattle.std.specs.Prelude.{⊤, IsTrue, ◌==◌, ◌&&◌, ◌||◌}
 use Rattle.std.specs.List.{list_all}
-use Rattle.std.proofs.lemmas.Bool.{false≢true, and_parts, and_from, or_cases, or_left, or_right}
-use Rattle.std.proofs.lemmas.Slice.Eq.{bytes_eq-Decides}
+use Rattle.std.proofs.lemmas.Bool.{and_parts, and_from, or_cases, or_left, or_right}
 use Rattle.mz_lex.specs.Kinds as kinds
 use Rattle.mz_logic.specs.Declaration.{Declaration, sort_decl, term_decl, assertion_decl}
 use Rattle.mz_sexpr.specs.Node.{Node, Nodes, atom, list, no_nodes, node}
-use Rattle.mz_forms.specs.Name.{Names, is_name_start, is_name_byte, are_name_bytes, is_between, IsName, number_of, IsNew, IsNewName}
+use Rattle.mz_names.specs.Names.{IsNew}
+use Rattle.mz_forms.specs.Name.{Names, is_name_start, is_name_byte, are_name_bytes, is_between, IsName, IsNewName}
 use Rattle.mz_forms.specs.Proof.{Statement}
 use Rattle.mz_forms.specs.declared.keyword.Kind.{Kind}
 use Rattle.mz_forms.specs.declared.keyword.Kind.TheVariants.{Sort as sort_kind, Term as term_kind, Axiom as axiom_kind, Def as def_kind, Theorem as theorem_kind}
@@ -102,27 +102,3 @@ is-name (b ∷ bs) is =
     let whole = and_parts (is_name_start b && are_name_bytes bs) _ is in
     let front = and_parts (is_name_start b) (are_name_bytes bs) whole.0 in
     and_from _ _ (and_from _ _ (start-named b front.0) (bytes-named bs front.1)) whole.1
-
--- ---- new names
-
--- number_of, where the first name is this one or isn't
-abbrev At : Bool → Option ℕ → Option ℕ
-At b o = if b then Some 0 else option_map suc o
-
-not-first : (b : Bool) (o : Option ℕ) → At b o ≡ None → (b ≡ false) × (o ≡ None)
-not-first true o is = absurd cc
-not-first false None is = (refl, refl)
-not-first false (Some k) is = let some : Some (suc k) ≡ None = is in absurd cc
-
-pub new-other : (xs : List (List ℕ)) (w : List ℕ) → IsNew xs w → (i : ℕ) → i < length xs → get_or xs i [] ≡ w → ⊥
-new-other [] w new i less is = absurd (omega arith)
-new-other (x ∷ xs) w new zero less is = false≢true (sym (not-first (bytes_eq w x) (number_of xs w) new).0 ∙ (bytes_eq-Decides w x).1 (sym is))
-new-other (x ∷ xs) w new (suc i) less is = new-other xs w (not-first (bytes_eq w x) (number_of xs w) new).1 i (omega arith) is
-
--- new among more names, it is new among these and another than the last
-pub new-behind : (xs : List (List ℕ)) (x w : List ℕ) → IsNew (xs ++ x ∷ []) w → IsNew xs w × (x ≡ w → ⊥)
-new-behind [] x w new = (refl, λ is. false≢true (sym (not-first (bytes_eq w x) None new).0 ∙ (bytes_eq-Decides w x).1 (sym is)))
-new-behind (y ∷ ys) x w new =
-    let parts = not-first (bytes_eq w y) (number_of (ys ++ x ∷ []) w) new in
-    let rest = new-behind ys x w parts.1 in
-    (ap₂ At parts.0 rest.0, rest.1)

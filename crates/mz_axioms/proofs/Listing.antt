@@ -16,7 +16,8 @@ use Rattle.mz_axioms.specs.declared.rows.Place.{Place}
 use Rattle.mz_axioms.specs.declared.rows.Row.{Row}
 use Rattle.mz_binary.specs.Gapped.{AssertionBody, body_there, place_after, body_of, bodies_from, bodies_of}
 use Rattle.mz_axioms.specs.Supports.{IsKind, InSupport, within_support}
-use Rattle.mz_axioms.specs.Places.{StandsFor, theorems_of, place_there, past_public, places_from, is_listed}
+use Rattle.mz_axioms.specs.Places.{StandsFor, theorems_of, place_there, places_from, is_listed}
+use Rattle.mz_walk.specs.Walk.{past_public}
 use Rattle.mz_axioms.specs.Lists.{TheoremSupport, IsSupportOf, AreSupports}
 use Rattle.mz_axioms.specs.Rows.{Tells, TellsAll, number_at, number_in, support_of, supports_at, supports_of}
 use Rattle.mz_axioms.proofs.Increasing.{increasing-map, get-contained, contained-get, get-within}

@@ -2,7 +2,9 @@
 use Rattle.std.proofs.Common.{◌≡◌, ◌∙◌, ◌≤◌, ◌<◌, ◌+◌, ◌⊎◌, ℕ, zero, suc, Bool, true, false, List, [], ◌∷◌, ◌++◌, length, slice_get, Some, refl, sym, ap, subst, inl, inr, arith, append_assoc, append-nil}
 use Rattle.std.specs.Prelude.{if◌then◌else◌, MatchBool, not, ◌&&◌, flat_map, option_to_list}
 use Rattle.mz_checks.specs.Checks.{AllHold}
-use Rattle.mz_cmd.specs.Codes.{statement_code}
+use Rattle.mz_cmd.specs.declared.code.StatementCode.{StatementCode}
+use Rattle.mz_cmd.specs.declared.code.StatementCode.TheVariants as codes
+use Rattle.mz_cmd.specs.Codes.{statement_byte}
 use Rattle.mz_logic.specs.Declaration.{Declaration, sort_decl, term_decl, assertion_decl, Assertion, Form, plain_form, abstract_form, defined, assertions}
 use Rattle.mz_logic.specs.LegalLists.{Statement, declarations}
 use Rattle.mz_logic.proofs.Offered.{one_at, none_some}
@@ -10,8 +12,10 @@ use Rattle.mz_binary.specs.Spelling.{IsKindOf, is_local_code, HasKind}
 use Rattle.mz_match.specs.declared.kind.Kind.TheVariants as kinds
 use Rattle.mz_match.specs.Match.{Partner, partner_of, publics, publics_after, kind_of, kind_of_form, match_checks, Agrees}
 use Rattle.mz_match.proofs.Offered.{publics-append, publics-public}
+use Rattle.mz_walk.specs.Walk.{past_public}
+use Rattle.mz_walk.proofs.Offered.{one-code}
 use Rattle.mz_axioms.specs.declared.rows.Place.{Place}
-use Rattle.mz_axioms.specs.Places.{theorem_number, theorems_from, place_there, past_public, places_from, publics_past, place_by, is_listed}
+use Rattle.mz_axioms.specs.Places.{theorem_number, theorems_from, place_there, places_from, publics_past, place_by, is_listed}
 
 pub places-more : (k : ℕ) (ss : List Statement) (s : Statement) → places_from k (ss ++ s ∷ []) ≡ places_from k ss ++ place_there (publics_past k ss) s.is_local s.decl
 places-more k [] s = append-nil (place_there k s.is_local s.decl)
@@ -25,28 +29,30 @@ publics-more k (t ∷ ts) s = publics-more (past_public k t.is_local) ts s
 
 -- ---- by the code of a statement
 
-assertion-code : (k code : ℕ) (local b : Bool) → MatchBool b (code ≡ 0x02) ((code ≡ 0x06) ⊎ (code ≡ 0x0E)) → local ≡ is_local_code code
-    → option_to_list (place_by k (statement_code code)) ≡ record { number = k; is_axiom = b; is_local = local } ∷ []
-assertion-code k code local true is mark =
-    subst (λ (n : ℕ). option_to_list (place_by k (statement_code n)) ≡ record { number = k; is_axiom = true; is_local = is_local_code n } ∷ []) (sym is) refl
-    ∙ ap (λ (l : Bool). record { number = k; is_axiom = true; is_local = l } ∷ []) (sym mark)
-assertion-code k code local false is mark = elim is [ inl e ↦ by 0x06 refl e | inr e ↦ by 0x0E refl e ]
+by-assertion : (k : ℕ) (code : StatementCode) (local b : Bool) → MatchBool b (statement_byte code ≡ 0x02) ((statement_byte code ≡ 0x06) ⊎ (statement_byte code ≡ 0x0E))
+    → local ≡ is_local_code (statement_byte code) → option_to_list (place_by k code) ≡ record { number = k; is_axiom = b; is_local = local } ∷ []
+by-assertion k code local b is mark = go b is
   where
-    by : (n : ℕ) → option_to_list (place_by k (statement_code n)) ≡ record { number = k; is_axiom = false; is_local = is_local_code n } ∷ [] → code ≡ n
-        → option_to_list (place_by k (statement_code code)) ≡ record { number = k; is_axiom = false; is_local = local } ∷ []
-    by n at e =
-        subst (λ (m : ℕ). option_to_list (place_by k (statement_code m)) ≡ record { number = k; is_axiom = false; is_local = is_local_code m } ∷ []) (sym e) at
-        ∙ ap (λ (l : Bool). record { number = k; is_axiom = false; is_local = l } ∷ []) (sym mark)
+    one : (b : Bool) (j : StatementCode) → option_to_list (place_by k j) ≡ record { number = k; is_axiom = b; is_local = is_local_code (statement_byte j) } ∷ [] → code ≡ j
+        → option_to_list (place_by k code) ≡ record { number = k; is_axiom = b; is_local = local } ∷ []
+    one b j at e =
+        subst (λ (i : StatementCode). option_to_list (place_by k i) ≡ record { number = k; is_axiom = b; is_local = is_local_code (statement_byte i) } ∷ []) (sym e) at
+        ∙ ap (λ (l : Bool). record { number = k; is_axiom = b; is_local = l } ∷ []) (sym mark)
 
-by-decl : (k code : ℕ) (local : Bool) (d : Declaration) → IsKindOf code d → local ≡ is_local_code code → option_to_list (place_by k (statement_code code)) ≡ place_there k local d
-by-decl k code local (sort_decl _) is mark = subst (λ (n : ℕ). option_to_list (place_by k (statement_code n)) ≡ []) (sym is) refl
-by-decl k code local (term_decl _) is mark = elim is [
-  | inl e ↦ subst (λ (n : ℕ). option_to_list (place_by k (statement_code n)) ≡ []) (sym e) refl
-  | inr e ↦ subst (λ (n : ℕ). option_to_list (place_by k (statement_code n)) ≡ []) (sym e) refl
-]
-by-decl k code local (assertion_decl a) is mark = assertion-code k code local a.is_axiom is mark
+    go : (b : Bool) → MatchBool b (statement_byte code ≡ 0x02) ((statement_byte code ≡ 0x06) ⊎ (statement_byte code ≡ 0x0E))
+        → option_to_list (place_by k code) ≡ record { number = k; is_axiom = b; is_local = local } ∷ []
+    go true e = one true codes.Axiom refl (one-code code codes.Axiom e)
+    go false (inl e) = one false codes.Theorem refl (one-code code codes.Theorem e)
+    go false (inr e) = one false codes.LocalTheorem refl (one-code code codes.LocalTheorem e)
 
-pub by-code : (k code : ℕ) (s : Statement) → HasKind code s → option_to_list (place_by k (statement_code code)) ≡ place_there k s.is_local s.decl
+by-decl : (k : ℕ) (code : StatementCode) (local : Bool) (d : Declaration) → IsKindOf (statement_byte code) d → local ≡ is_local_code (statement_byte code)
+    → option_to_list (place_by k code) ≡ place_there k local d
+by-decl k code local (sort_decl _) is mark = ap (λ (i : StatementCode). option_to_list (place_by k i)) (one-code code codes.Sort is)
+by-decl k code local (term_decl _) (inl e) mark = ap (λ (i : StatementCode). option_to_list (place_by k i)) (one-code code codes.Term e)
+by-decl k code local (term_decl _) (inr e) mark = ap (λ (i : StatementCode). option_to_list (place_by k i)) (one-code code codes.LocalDefinition e)
+by-decl k code local (assertion_decl a) is mark = by-assertion k code local a.is_axiom is mark
+
+pub by-code : (k : ℕ) (code : StatementCode) (s : Statement) → HasKind (statement_byte code) s → option_to_list (place_by k code) ≡ place_there k s.is_local s.decl
 by-code k code s (is, mark) = by-decl k code s.is_local s.decl is mark
 
 -- ---- places by their numbers

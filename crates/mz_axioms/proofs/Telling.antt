@@ -4,24 +4,27 @@ use Rattle.std.specs.Prelude.{◌↔◌, Contains, MatchBool, IfOk, option_to_li
 use Rattle.std.specs.List.Sorted.{IsStrictlyIncreasing}
 use Rattle.std.proofs.lemmas.List.{length-map, map_push}
 use Rattle.std.proofs.lemmas.List.Elements.{Contains-push, Contains-push_cases}
-use Rattle.mz_cmd.specs.declared.statement.StmtAt.TheVariants.{End, Head}
-use Rattle.mz_cmd.specs.Codes.{statement_code}
+use Rattle.mz_checks.specs.Checks.{AllHold}
+use Rattle.mz_cmd.specs.Codes.{statement_byte}
 use Rattle.mz_cmd.specs.StatementList.{statement_at}
 use Rattle.mz_logic.specs.Declaration.{Declaration, sort_decl, term_decl, assertion_decl, assertions}
 use Rattle.mz_logic.specs.LegalLists.{Statement, declarations}
 use Rattle.mz_logic.proofs.Offered.{one_at, none_some, split_at}
 use Rattle.mz_layout.specs.Tables.{list_at}
-use Rattle.mz_layout.specs.Heads.{body_bytes}
+use Rattle.mz_layout.specs.Heads.{body_bytes, head_checks}
+use Rattle.mz_layout.specs.declared.head.Head.{Head}
 use Rattle.mz_binary.specs.Spelling.{is_local_code}
-use Rattle.mz_binary.specs.Chains.{IsGoodStatement, GoodTo}
+use Rattle.mz_binary.specs.Chains.{GoodTo, IsListEnd}
 use Rattle.mz_binary.specs.Good.{Good}
-use Rattle.mz_binary.proofs.Offered.{chain-more, head-at}
+use Rattle.mz_walk.specs.Walk.{GoesOn, nothing_passed, past_public}
+use Rattle.mz_walk.specs.declared.passed.Passed.{Passed}
+use Rattle.mz_walk.proofs.Offered.{HasGone, IsOnWay, head-here, way-asks, way-first, way-last, way-more}
 use Rattle.mz_axioms.specs.declared.rows.Place.{Place}
 use Rattle.mz_axioms.specs.declared.rows.Row.{Row}
 use Rattle.mz_axioms.specs.Commands.{IsCitedIn}
 use Rattle.mz_binary.specs.Gapped.{AssertionBody, body_there, place_after, body_of, bodies_from, bodies_of}
 use Rattle.mz_axioms.specs.Supports.{InSupport}
-use Rattle.mz_axioms.specs.Places.{place_there, past_public, places_from, publics_past, place_by}
+use Rattle.mz_axioms.specs.Places.{place_there, places_from, publics_past, place_by}
 use Rattle.mz_axioms.specs.Rows.{ComesTo, Tells, TellsAll, TellsFile, Gives, Reaches, IsNew, IsNoted, AreInOrder, AreWithin, AreFew}
 use Rattle.mz_axioms.proofs.Citing.{CitedBetween}
 use Rattle.mz_axioms.proofs.Increasing.{get-within, get-contained, increasing-few, get-there}
@@ -251,89 +254,78 @@ module _ (file : List ℕ) where
 
   -- ---- how far the list has been gone over
 
-  pub record Walked (at : ℕ) (rows : List Row) (publics : ℕ) : Type 0 where
+  pub record Walked (p : Passed) (rows : List Row) : Type 0 where
     pub whole : List Statement
-    pub good : Good strict_standard file whole
     pub before : List Statement
     pub after : List Statement
     pub env : List Declaration
-    pub all : whole ≡ before ++ after
-    pub gone : GoodTo strict_standard file [] (list_at file) before env at
-    pub left : GoodTo strict_standard file env at after good.env good.to
+    pub way : IsOnWay file p whole before after env
     pub tells : TellsAll file before rows
-    pub publics_are : publics ≡ publics_past 0 before
-    pub publics_low : publics ≤ at
-    pub rows_low : length rows ≤ at
+    pub publics_are : p.publics ≡ publics_past 0 before
+    pub rows_low : length rows ≤ p.at
 
-  pub walked-first : (ss : List Statement) → Good strict_standard file ss → Walked (list_at file) [] 0
+  pub walked-first : (ss : List Statement) → Good strict_standard file ss → Walked (nothing_passed file) []
   walked-first ss good = record {
     whole = ss;
-    good = good;
     before = [];
     after = ss;
     env = [];
-    all = refl;
-    gone = (refl, refl);
-    left = good.statements;
+    way = way-first file ss good;
     tells = record { places = refl; each = λ U row at. absurd (none_some at) };
     publics_are = refl;
-    publics_low = omega arith;
     rows_low = omega arith;
   }
 
-  past-most : (k : ℕ) (l : Bool) → past_public k l ≤ k + 1
-  past-most k true = omega arith
-  past-most k false = omega arith
+  pub walked-asks : (p : Passed) (rows : List Row) → Walked p rows → AllHold (head_checks file p.rows p.at)
+  walked-asks p rows w = way-asks file p w.whole w.before w.after w.env w.way
 
   noted-most : (o : Option Place) (bytes : List ℕ) (old new : List Row) → IsNoted o bytes old new → length new ≤ length old + 1
   noted-most None bytes old new is = (let e : length new ≡ length old = ap (λ (rs : List Row). length rs) is in omega (arith, e))
   noted-most (Some p) bytes old new (row, is, _) = (let e : length new ≡ length (old ++ row ∷ []) = ap (λ (rs : List Row). length rs) is in omega (arith, e, length-append old (row ∷ [])))
 
-  pub walked-more : (at code body next : ℕ) (old new : List Row) (publics : ℕ) → Walked at old publics → statement_at file at ≡ Ok (Head code body next)
-      → IsNoted (place_by publics (statement_code code)) (body_bytes file body next) old new → Walked next new (past_public publics (is_local_code code))
-  walked-more at code body next old new publics w stands noted = go w.after w.left w.all
+  pub walked-more : (p : Passed) (head : Head) (after : Passed) (old new : List Row) → Walked p old → GoesOn file p head after
+      → IsNoted (place_by p.publics head.code) (body_bytes file head.body head.next) old new → Walked after new
+  walked-more p head after old new w on noted = subst (λ (q : Passed). Walked q new) (sym on.passed) (record {
+    whole = w.whole;
+    before = w.before ++ s ∷ [];
+    after = gone.rest;
+    env = w.env ++ s.decl ∷ [];
+    way = gone.on;
+    tells = record {
+      places = told.0 ∙ sym (places-more 0 w.before s);
+      each = λ U row has. subst (λ (bs : List AssertionBody). Tells bs U row) (sym (bodies-more [] (list_at file) w.before w.env p.at s w.way.gone)) (told.1 U row has);
+    };
+    publics_are = ap (λ (n : ℕ). past_public n (is_local_code (statement_byte head.code))) w.publics_are ∙ ap (past_public (publics_past 0 w.before)) (sym gone.kind.1)
+        ∙ sym (publics-more 0 w.before s);
+    rows_low = (let a = noted-most (place_by p.publics head.code) (body_bytes file head.body head.next) old new noted in let b = w.rows_low in let c = on.further in
+        let d : after.at ≡ head.next = ap (λ (q : Passed). q.at) on.passed in omega (arith, a, b, c, d));
+  })
     where
-      go : (after : List Statement) → GoodTo strict_standard file w.env at after w.good.env w.good.to → w.whole ≡ w.before ++ after → Walked next new (past_public publics (is_local_code code))
-      go [] (_, end) all =
-          absurd (let e : Ok (Head code body next) ≡ Ok End = sym stands ∙ ap (statement_at file) (sym end) ∙ w.good.ends.ends in cc)
-      go (s ∷ ss) (next', good, rest) all =
-          let both : Ok (Head good.spelled.code good.spelled.body next') ≡ Ok (Head code body next) = sym good.spelled.stands ∙ stands in
-          let code-is : good.spelled.code ≡ code = cc in
-          let next-is : next' ≡ next = cc in
-          let place : option_to_list (place_by publics (statement_code code)) ≡ place_there (publics_past 0 w.before) s.is_local s.decl =
-          ap (λ (n : ℕ). option_to_list (place_by publics (statement_code n))) (sym code-is) ∙ by-code publics good.spelled.code s good.spelled.kind ∙ ap (λ (n : ℕ). place_there n s.is_local s.decl) w.publics_are in
-          let bytes : body_bytes file body next ≡ body_there file (statement_at file at) = sym (ap (body_there file) stands) in
-          let told = told-more w.before old new s.decl s.is_local at (place_by publics (statement_code code)) w.tells place
-          (subst (λ (bs : List ℕ). IsNoted (place_by publics (statement_code code)) bs old new) bytes noted) in
-          let local-is : s.is_local ≡ is_local_code code = good.spelled.kind.1 ∙ ap is_local_code code-is in
-          record {
-            whole = w.whole;
-            good = w.good;
-            before = w.before ++ s ∷ [];
-            after = ss;
-            env = w.env ++ s.decl ∷ [];
-            all = all ∙ sym (append_assoc w.before (s ∷ []) ss);
-            gone = subst (GoodTo strict_standard file [] (list_at file) (w.before ++ s ∷ []) (w.env ++ s.decl ∷ [])) next-is
-                (chain-more (IsGoodStatement strict_standard file) [] (list_at file) w.before w.env at s next' w.gone good);
-            left = subst (λ (n : ℕ). GoodTo strict_standard file (w.env ++ s.decl ∷ []) n ss w.good.env w.good.to) next-is rest;
-            tells = record {
-              places = told.0 ∙ sym (places-more 0 w.before s);
-              each = λ U row has. subst (λ (bs : List AssertionBody). Tells bs U row) (sym (bodies-more [] (list_at file) w.before w.env at s w.gone)) (told.1 U row has);
-            };
-            publics_are = ap (λ (n : ℕ). past_public n (is_local_code code)) w.publics_are ∙ ap (past_public (publics_past 0 w.before)) (sym local-is) ∙ sym (publics-more 0 w.before s);
-            publics_low = (let a = past-most publics (is_local_code code) in let b = w.publics_low in let c = (head-at file at code body next stands).further in omega (arith, a, b, c));
-            rows_low = (let a = noted-most (place_by publics (statement_code code)) (body_bytes file body next) old new noted in let b = w.rows_low in let c = (head-at file at code body next stands).further in omega (arith, a, b, c));
-          }
+      gone : HasGone file p w.whole w.before w.after w.env head
+      gone = way-more file p w.whole w.before w.after w.env head w.way on.next.head_is
 
-  pub walked-last : (at : ℕ) (rows : List Row) (publics : ℕ) → Walked at rows publics → ((code body next : ℕ) → statement_at file at ≡ Ok (Head code body next) → ⊥) → TellsFile file rows
-  walked-last at rows publics w no_head = go w.after w.left w.all
+      s : Statement
+      s = gone.statement
+
+      place : option_to_list (place_by p.publics head.code) ≡ place_there (publics_past 0 w.before) s.is_local s.decl
+      place = by-code p.publics head.code s gone.kind ∙ ap (λ (n : ℕ). place_there n s.is_local s.decl) w.publics_are
+
+      bytes : body_bytes file head.body head.next ≡ body_there file (statement_at file p.at)
+      bytes = sym (ap (body_there file) (head-here file p.at head on.next.head_is))
+
+      told : (map (λ (r : Row). r.place) new ≡ places_from 0 w.before ++ place_there (publics_past 0 w.before) s.is_local s.decl)
+          × ((U : ℕ) (row : Row) → slice_get new U ≡ Some row → Tells (bodies_of file w.before ++ body_of file p.at s.decl) U row)
+      told = told-more w.before old new s.decl s.is_local p.at (place_by p.publics head.code) w.tells place (subst (λ (bs : List ℕ). IsNoted (place_by p.publics head.code) bs old new) bytes noted)
+
+  pub walked-last : (p : Passed) (rows : List Row) → Walked p rows → IsListEnd file p.at → TellsFile file rows
+  walked-last p rows w end =
+      (w.whole, w.way.good, subst (λ (ss : List Statement). TellsAll file ss rows) (sym same) w.tells)
     where
-      go : (after : List Statement) → GoodTo strict_standard file w.env at after w.good.env w.good.to → w.whole ≡ w.before ++ after → TellsFile file rows
-      go [] left all = (w.whole, w.good, subst (λ (ss : List Statement). TellsAll file ss rows) (sym (all ∙ append-nil w.before)) w.tells)
-      go (s ∷ ss) (next, good, rest) all = absurd (no_head good.spelled.code good.spelled.body next good.spelled.stands)
+      same : w.whole ≡ w.before
+      same = w.way.all ∙ ap (λ (ss : List Statement). w.before ++ ss) (way-last file p w.whole w.before w.after w.env w.way end) ∙ append-nil w.before
 
-  pub walked-order : (at : ℕ) (rows : List Row) (publics : ℕ) → Walked at rows publics → AreInOrder rows
-  walked-order at rows publics w U row is = (w.tells.each U row is).in_order
+  pub walked-order : (p : Passed) (rows : List Row) → Walked p rows → AreInOrder rows
+  walked-order p rows w U row is = (w.tells.each U row is).in_order
 
   -- ---- what the rows of a whole file are
 

@@ -7,6 +7,7 @@ use Rattle.mz_cmd.specs.declared.code.StatementCode.TheVariants as codes
 use Rattle.mz_logic.specs.Declaration.{Declaration, sort_decl, term_decl, assertion_decl, Assertion, assertions}
 use Rattle.mz_logic.specs.LegalLists.{Statement, declarations}
 use Rattle.mz_match.specs.Match.{publics, partner_of, match_checks}
+use Rattle.mz_walk.specs.Walk.{past_public}
 use Rattle.mz_axioms.specs.declared.rows.Place.{Place}
 
 -- The T-th axiom or theorem of the statements stands for the k-th of the declarations: it is public, k public statements
@@ -42,10 +43,6 @@ theorems_of ds = theorems_from 0 ds
 
 -- ---- places
 
--- one more, if the statement is public
-abbrev pub past_public : ℕ → Bool → ℕ
-past_public k local = if local then k else k + 1
-
 -- of what a statement declares, where k public statements stand before it
 abbrev pub place_there : ℕ → Bool → Declaration → List Place
 place_there k local (sort_decl _) = []
@@ -62,10 +59,10 @@ publics_past k [] = k
 publics_past k (s ∷ ss) = publics_past (past_public k s.is_local) ss
 
 -- by the statement's code
-abbrev pub place_by : ℕ → Option StatementCode → Option Place
-place_by k (Some codes.Axiom) = Some (record { number = k; is_axiom = true; is_local = false })
-place_by k (Some codes.Theorem) = Some (record { number = k; is_axiom = false; is_local = false })
-place_by k (Some codes.LocalTheorem) = Some (record { number = k; is_axiom = false; is_local = true })
+abbrev pub place_by : ℕ → StatementCode → Option Place
+place_by k codes.Axiom = Some (record { number = k; is_axiom = true; is_local = false })
+place_by k codes.Theorem = Some (record { number = k; is_axiom = false; is_local = false })
+place_by k codes.LocalTheorem = Some (record { number = k; is_axiom = false; is_local = true })
 place_by k c = None
 
 -- a theorem that a specification may declare

@@ -11,6 +11,7 @@ use crate::walk::rows_of;
 use mz_cmd::Steps;
 use mz_layout::Mmb;
 use mz_match::{Verdict, verify_bytes};
+use mz_store::Seed;
 use std::alloc::{AllocError, Global};
 use std::sync::ledger::Ledger;
 
@@ -31,6 +32,7 @@ pub enum AxiomsRead {
 /// citations, and no command of them is executed then.
 pub fn axioms_of<L: Ledger>(
     alloc: Global,
+    seed: Seed,
     spec: &[u8],
     bin: &[u8],
     steps: &mut Steps<L>,
@@ -43,7 +45,7 @@ pub fn axioms_of<L: Ledger>(
     ensures steps { TicksAs bin.now steps.old steps.new result }
     ensures bound { steps.new ≤ steps.old + (length bin.now * length bin.now + length bin.now) }
 {
-    match verify_bytes(alloc, spec, bin, steps) {
+    match verify_bytes(alloc, seed, spec, bin, steps) {
         Verdict::Accepted(_) => match lists_in(alloc, bin) {
             Ok(lists) => AxiomsRead::Lists(lists),
             Err(_) => AxiomsRead::Mem,

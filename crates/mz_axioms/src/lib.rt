@@ -21,4 +21,5 @@ pub use axioms::{AxiomsRead, axioms_of};
 pub use citations::cited_at;
 pub use gaps::gaps_text;
 pub use lists::Lists;
+pub use names::{bytes_between, declared_by, declared_name};
 pub use text::axioms_text;

@@ -27,13 +27,23 @@ pub fn put_name(text: &mut Vec<u8>, spec: &[u8], declared: &Spec, number: u32) -
     requires { number < length declared.now }
     ensures { OnOk result (text.new.items ≡ text.old.items ++ name_at spec.now declared.now number) }
 {
-    let (from, to) = declared.name(number);
-    text.extend_from_slice(part(spec, from as usize, to as usize))?;
+    text.extend_from_slice(declared_name(spec, declared, number))?;
     Ok(())
 }
 
+/// The name of the k-th declaration; nothing past the last.
+pub fn declared_name<'a>(spec: &'a [u8], declared: &Spec, k: u32) -> &'a [u8]
+    ensures { result.now ≡ name_at spec.now declared.now k }
+{
+    if k >= declared.len() {
+        return &[];
+    }
+    let (from, to) = declared.name(k);
+    bytes_between(spec, from as usize, to as usize)
+}
+
 /// The bytes from a place up to another, as far as there are any.
-fn part(bytes: &[u8], from: usize, to: usize) -> &[u8]
+pub fn bytes_between(bytes: &[u8], from: usize, to: usize) -> &[u8]
     ensures { result.now ≡ bytes_between bytes.now from to }
 {
     let end = to.min(bytes.len());

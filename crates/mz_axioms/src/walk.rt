@@ -1,28 +1,17 @@
 // The axioms and theorems of a good binary, in order.
-ghost use Rattle.std.specs.Prelude.{◌≡◌, ◌⊎◌, ◌↔◌, ◌≤◌, ◌<◌, ◌∷◌, [], ◌^◌, ℕ, length, Contains, MatchBool, IfOk, IfSome, IfNone, OnOk, Ok};
+ghost use Rattle.std.specs.Prelude.{◌≡◌, ◌⊎◌, ◌↔◌, ◌≤◌, ◌<◌, ◌∷◌, [], ◌^◌, ℕ, length, Contains, MatchBool, IfOk, OnOk};
 ghost use Rattle.std.specs.List.Sorted.{IsStrictlyIncreasing};
-ghost use Rattle.mz_cmd.specs.declared.statement.StmtAt.TheVariants as stands;
-ghost use Rattle.mz_cmd.specs.Codes.{statement_code};
-ghost use Rattle.mz_cmd.specs.StatementList.{statement_at};
 ghost use Rattle.mz_layout.specs.Heads.{body_bytes};
 ghost use Rattle.mz_axioms.specs.Places.{place_by};
 ghost use Rattle.mz_axioms.specs.Rows.{AreInOrder, Gives, IsGood, IsNoted, Reaches, TellsFile};
 
 use crate::citations::citation_in;
-use crate::places::{place_of, publics_with};
+use crate::places::place_of;
 use crate::rows::{Place, Row};
 use crate::union::union;
-use mz_cmd::{StmtAt, stmt_at};
-use mz_layout::Mmb;
+use mz_layout::{Head, Mmb};
+use mz_walk::Passed;
 use std::alloc::{AllocError, Global};
-
-/// The command of a statement: its code, and the places of its body and of the next statement.
-#[derive(Clone, Copy)]
-pub struct Head {
-    pub code: u8,
-    pub body: u32,
-    pub next: u32,
-}
 
 /// The rows of a good binary. No body is run.
 pub fn rows_of(alloc: Global, mmb: &Mmb) -> Result<Vec<Row>, AllocError>
@@ -31,30 +20,12 @@ pub fn rows_of(alloc: Global, mmb: &Mmb) -> Result<Vec<Row>, AllocError>
     ensures few { IfOk result (λ rows. length rows.items < 2 ^ 32) }
 {
     let mut rows = Vec::new(alloc);
-    let mut at = mmb.proof_at();
-    let mut publics = 0;
-    'statements: while let Some(head) = head_at(mmb, at) {
-        note(alloc, mmb, head, publics, &mut rows)?;
-        publics = publics_with(head.code, publics);
-        at = head.next;
+    let mut passed = Passed::nothing(mmb);
+    'statements: while let Some((head, after)) = passed.next(mmb) {
+        note(alloc, mmb, head, passed.publics, &mut rows)?;
+        passed = after;
     }
     Ok(rows)
-}
-
-/// The statement that stands at a place of the list, if one does.
-fn head_at(mmb: &Mmb, at: u32) -> Option<Head>
-    ensures there { IfSome result (λ head. statement_at mmb.now at ≡ Ok (stands.Head head.code head.body head.next)) }
-    ensures none { IfNone result ((code body next : ℕ) → statement_at mmb.now at ≡ Ok (stands.Head code body next) → ⊥) }
-{
-    match stmt_at(mmb.file(), at) {
-        Ok(StmtAt::Head { kind, body, next }) => Some(Head {
-            code: kind,
-            body,
-            next,
-        }),
-        Ok(StmtAt::End) => None,
-        Err(_) => None,
-    }
 }
 
 /// Adds the row of the statement, if it is an axiom or a theorem.
@@ -69,7 +40,7 @@ fn note(
     requires within { head.next ≤ length mmb.now }
     requires few { length rows.old.items < 2 ^ 32 }
     requires ascend { AreInOrder rows.old.items }
-    ensures { OnOk result (IsNoted (place_by publics (statement_code head.code)) (body_bytes mmb.now head.body head.next) rows.old.items rows.new.items) }
+    ensures { OnOk result (IsNoted (place_by publics head.code) (body_bytes mmb.now head.body head.next) rows.old.items rows.new.items) }
 {
     let Some(place) = place_of(head.code, publics) else {
         return Ok(());

@@ -19,6 +19,7 @@ use crate::statement::{Rows, Statement};
 use mz_cmd::{Mem, Refusal, StatementCode, Steps};
 use mz_layout::{Fault, Head, Mmb};
 use mz_machine::BodyChecked;
+use mz_store::Seed;
 use std::alloc::Global;
 use std::marker::Model;
 use std::sync::ledger::Ledger;
@@ -62,8 +63,8 @@ pub enum Next<'a> {
 
 impl<'a> Checker<'a> {
     /// At the first statement. In a draft bodies may leave gaps, and the theorems that rest on one are
-    /// told apart.
-    pub fn new(alloc: Global, mmb: &'a Mmb<'a>, standard: Standard) -> Checker<'a>
+    /// told apart. The bodies' terms are numbered with the seed.
+    pub fn new(alloc: Global, seed: Seed, mmb: &'a Mmb<'a>, standard: Standard) -> Checker<'a>
         ensures file { result.file ≡ mmb.now }
         ensures standard { result.standard ≡ standard }
         ensures nothing { HasPassed result [] [] }
@@ -83,7 +84,7 @@ impl<'a> Checker<'a> {
             passed: 0,
             at,
             gapped: Vec::new(alloc),
-            rooms: Rooms::new(),
+            rooms: Rooms::new(seed),
         }
     }
 

@@ -2,6 +2,7 @@
 
 use mz_machine::Room;
 use mz_pmachine::PortableRoom;
+use mz_store::Seed;
 
 /// Room of either machine. A binary's bodies run on one of them, so the other one's takes nothing.
 #[derive(Drop)]
@@ -11,10 +12,10 @@ pub struct Rooms {
 }
 
 impl Rooms {
-    /// No room yet.
-    pub fn new() -> Rooms {
+    /// No room yet. The bodies' terms are numbered with the seed.
+    pub fn new(seed: Seed) -> Rooms {
         Rooms {
-            published: Room::new(),
+            published: Room::new(seed),
             portable: PortableRoom::new(),
         }
     }

@@ -10,6 +10,7 @@ use crate::standard::Standard;
 use crate::statement::Rows;
 use mz_cmd::{Refusal, Steps};
 use mz_layout::Mmb;
+use mz_store::Seed;
 use std::alloc::Global;
 use std::sync::ledger::Ledger;
 
@@ -28,6 +29,7 @@ pub enum Checked {
 /// theorems that rest on none are proved without.
 pub fn check_all<L: Ledger>(
     alloc: Global,
+    seed: Seed,
     file: &[u8],
     standard: Standard,
     steps: &mut Steps<L>,
@@ -38,7 +40,7 @@ pub fn check_all<L: Ledger>(
     ensures bound { steps.new ≤ steps.old + (length file.now * length file.now + length file.now) }
 {
     match Mmb::read(file) {
-        Ok(mmb) => check_list(Checker::new(alloc, &mmb, standard), steps),
+        Ok(mmb) => check_list(Checker::new(alloc, seed, &mmb, standard), steps),
         Err(refusal) => Checked::Refused(refusal),
     }
 }

@@ -44,7 +44,7 @@ module _ (spec bin : List ℕ) (naming : Naming) (is-naming : IsNamingOf spec bi
     standing : BodiesMakeOne → AreAll bin naming ts
     standing one =
         subst (λ (n : Naming). AreAll bin n ts) naming-is
-        (good-standing one bin prefix r.accepts.statements r.accepts.is_good.env r.accepts.is_good.to r.accepts.is_good.statements r.accepts.is_good.ends.ends
+        (good-standing one bin prefix r.accepts.statements r.accepts.is_good
         (statement_names (declared_names spec r.entries) prefix 0 1 r.accepts.statements) ts r.restated)
 
     as-stated : (d : Decompiled) → IsAnswer (vocabulary_by naming) ts d → IsDecompilation spec bin d

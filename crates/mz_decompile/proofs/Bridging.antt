@@ -5,11 +5,12 @@ use Rattle.std.specs.Prelude.{Result, MatchBool}
 use Rattle.std.proofs.lemmas.List.{append-nil, get_or_at}
 use Rattle.std.proofs.lemmas.Option.{slice_get_within}
 use Rattle.mz_checks.specs.Checks.{AllHold}
+use Rattle.mz_cmd.specs.declared.code.StatementCode.{StatementCode}
 use Rattle.mz_cmd.specs.declared.code.StatementCode.TheVariants as codes
 use Rattle.mz_cmd.specs.declared.statement.StmtAt.{StmtAt}
 use Rattle.mz_cmd.specs.declared.statement.StmtAt.TheVariants as stands
 use Rattle.mz_cmd.specs.declared.statement.StmtFault.{StmtFault}
-use Rattle.mz_cmd.specs.Codes.{statement_code}
+use Rattle.mz_cmd.specs.Codes.{statement_byte, statement_code}
 use Rattle.mz_cmd.specs.StatementList.{statement_at}
 use Rattle.mz_logic.specs.Signature.{Signature}
 use Rattle.mz_logic.specs.Declaration.{Term, Assertion, Declaration, sort_decl, term_decl, assertion_decl, sorts, terms, signatures, assertions}
@@ -21,7 +22,8 @@ use Rattle.mz_layout.specs.Tables.{list_at, term_count, thm_count, term_row, thm
 use Rattle.mz_layout.proofs.Offered.{slice_get-rows, length-sorts}
 use Rattle.mz_unification.specs.Profile.{strict}
 use Rattle.mz_soundness.specs.Bodies.{Runs}
-use Rattle.mz_layout.specs.Heads.{body_bytes}
+use Rattle.mz_layout.specs.Heads.{IsHeadAt, body_bytes, rows_after}
+use Rattle.mz_layout.specs.declared.head.Head.{Head}
 use Rattle.mz_soundness.specs.FileRows.{Taken, taken_by, rows_taken, term_of_file}
 use Rattle.mz_words.specs.RowWords.{first_sorts, param_checks}
 use Rattle.mz_soundness.specs.MachineState.{Declares}
@@ -29,11 +31,12 @@ use Rattle.mz_soundness.proofs.Offered.{signature-at}
 use Rattle.mz_earlier.specs.Before.{AreWithin, HasRightParams, taken_before}
 use Rattle.mz_earlier.specs.OwnRow.{MayRun, heading_of}
 use Rattle.mz_layout.specs.declared.taken.Rows.{Rows}
-use Rattle.mz_binary.specs.Chains.{IsGoodStatement, GoodTo, IsListEnd}
-use Rattle.mz_binary.specs.Checking.{checks_of, kind_checks}
+use Rattle.mz_binary.specs.Chains.{IsGoodStatement, GoodTo}
+use Rattle.mz_binary.specs.Checking.{checks_of, counts as taken-counts, kind_checks}
+use Rattle.mz_binary.specs.Good.{Good}
 use Rattle.mz_binary.specs.Spelling.{IsKindOf, SpellsRow, is_local_code}
 use Rattle.mz_binary.specs.Standards.{strict_standard}
-use Rattle.mz_binary.proofs.Offered.{chain-more, sorts-many, terms-many, assertions-many, were-right, entry-good, same-taken, head-at, well-chain, HasRightRow, right-row, HasSorts, chain-sorts}
+use Rattle.mz_binary.proofs.Offered.{sorts-many, terms-many, assertions-many, were-right, entry-good, same-taken, head-at, well-chain, HasRightRow, right-row, HasSorts, chain-sorts}
 use Rattle.mz_match.proofs.Offered.{length-binders}
 use Rattle.mz_forms.specs.Proof.{Proof, Statement}
 use Rattle.mz_wording.specs.Wording.{sort_name, term_name, sort_names, term_names}
@@ -45,8 +48,10 @@ use Rattle.mz_unspell.specs.Rows.{AreArities}
 use Rattle.mz_restating.specs.Restated.{IsProofMade, IsRestated, AreRestated}
 use Rattle.mz_telling.specs.Naming.{next_name}
 use Rattle.mz_telling.specs.Telling.{Counts, HasProof, MakesProof, Stands}
-use Rattle.mz_telling.specs.declared.head.Head.{Head}
-use Rattle.mz_decompile.specs.Standing.{AreStanding, counted, no_rows, AreAll}
+use Rattle.mz_walk.specs.Walk.{nothing_passed, passed_with}
+use Rattle.mz_walk.specs.declared.passed.Passed.{Passed}
+use Rattle.mz_walk.proofs.Offered.{IsOnWay, one-code, way-asks, way-end, way-first, way-on}
+use Rattle.mz_decompile.specs.Standing.{AreStanding, AreAll}
 
 -- ---- names by their places
 
@@ -126,6 +131,21 @@ arities file env declares few t d is =
     (omega (arith, there, few), sym (ap (λ (s : Signature). length s.params) same) ∙ length-binders 0 [] (term_row file t).words.params)
 
 -- ---- a statement at its place
+
+abbrev there-is : (code body next : ℕ) → Result StmtAt StmtFault
+there-is code body next = Ok (stands.Head code body next)
+
+-- the code of what is declared has a byte
+byte-known : (n : ℕ) (d : Declaration) → IsKindOf n d → (k : StatementCode) × (n ≡ statement_byte k)
+byte-known n (sort_decl m) is = (codes.Sort, is)
+byte-known n (term_decl d) (inl is) = (codes.Term, is)
+byte-known n (term_decl d) (inr is) = (codes.LocalDefinition, is)
+byte-known n (assertion_decl a) is = by a.is_axiom is
+  where
+    by : (b : Bool) → MatchBool b (n ≡ 0x02) ((n ≡ 0x06) ⊎ (n ≡ 0x0E)) → (k : StatementCode) × (n ≡ statement_byte k)
+    by true e = (codes.Axiom, e)
+    by false (inl e) = (codes.Theorem, e)
+    by false (inr e) = (codes.LocalTheorem, e)
 
 theorem-asked : (file : List ℕ) (env : List Declaration) (at code body next : ℕ) → (code ≡ 0x06) ⊎ (code ≡ 0x0E)
     → AllHold (kind_checks strict_standard file (taken_by env) at body next (statement_code code))
@@ -213,117 +233,105 @@ module _ (one : BodiesMakeOne) (file : List ℕ) (env : List Declaration) (at : 
       by true same made = made
       by false same (lets, root, is-proof, made) = makes a is same dummies p lets root is-proof made
 
-  abbrev head-of : (name : List ℕ) (t : Statement) → IsRestated file env at s next name t → Head
-  head-of name t r = record { code = r.code; body = r.body; next = next }
+  head-byte : (k : StatementCode) × (good.spelled.code ≡ statement_byte k)
+  head-byte = byte-known good.spelled.code s.decl good.spelled.kind.0
+
+  abbrev head-of : Head
+  head-of = record { code = head-byte.0; at = at; body = good.spelled.body; next = next }
+
+  head-stands : IsHeadAt file at head-of
+  head-stands = record { stands = subst (λ (n : ℕ). statement_at file at ≡ there-is n good.spelled.body next) head-byte.1 good.spelled.stands; at_is = refl }
 
   stands-here : (naming : Naming) (name : List ℕ) (t : Statement) (r : IsRestated file env at s next name t) → t.name ≡ next_name (vocabulary_by naming) env t.decl
-      → Stands file naming before env (head-of name t r) t
+      → Stands file naming before env head-of t
   stands-here naming name t r named-so =
       let both : Ok (stands.Head good.spelled.code good.spelled.body next) ≡ Ok (stands.Head r.code r.body next) = sym good.spelled.stands ∙ r.stands in
-      let code-is : good.spelled.code ≡ r.code = cc in
       let body-is : good.spelled.body ≡ r.body = cc in
       let made = subst (λ (b : ℕ). IsProofMade file env b next s.decl t.dummies t.proof) (sym body-is) r.proof in
       record {
-        kind = subst (λ (d : Declaration). IsKindOf r.code d) (sym r.declares) (subst (λ (c : ℕ). IsKindOf c s.decl) code-is good.spelled.kind.0);
-        mark = r.mark ∙ good.spelled.kind.1 ∙ ap is_local_code code-is;
+        kind = subst (λ (d : Declaration). IsKindOf (statement_byte head-byte.0) d) (sym r.declares) (subst (λ (c : ℕ). IsKindOf c s.decl) head-byte.1 good.spelled.kind.0);
+        mark = r.mark ∙ good.spelled.kind.1 ∙ ap is_local_code head-byte.1;
         counts = counts;
         named = named-so;
         row = subst (SpellsRow file env) (sym r.declares) good.spelled.row;
         arities = arities file env so-far.1 (let x = within.terms_within in let y = counts.terms_are in omega (arith, x, y));
-        proof = subst (λ (d : Declaration). HasProof file before env r.body next d t.dummies t.proof) (sym r.declares)
-            (subst (λ (b : ℕ). HasProof file before env b next s.decl t.dummies t.proof) body-is (has-proof t.dummies t.proof s.decl refl made));
+        proof = subst (λ (d : Declaration). HasProof file before env good.spelled.body next d t.dummies t.proof) (sym r.declares) (has-proof t.dummies t.proof s.decl refl made);
       }
 
 -- ---- one row more
 
-record Next (file : List ℕ) (env : List Declaration) (before : Rows) : Type 0 where
-  counts : Counts env before
-  within : AreWithin file before
+counted : (env : List Declaration) (rows : Rows) → rows ≡ taken-counts (taken_by env) → Counts env rows
+counted env rows is = record { sorts_are = ap (λ (r : Rows). r.sorts) is; terms_are = ap (λ (r : Rows). r.terms) is; thms_are = ap (λ (r : Rows). r.thms) is }
 
 module _ (file : List ℕ) (env : List Declaration) (before : Rows) (counts : Counts env before) (within : AreWithin file before) where
-  abbrev Goes : ℕ → Declaration → Type 0
-  Goes code d = Next file (env ++ d ∷ []) (counted before (statement_code code))
+  abbrev Within : StatementCode → Type 0
+  Within k = AreWithin file (rows_after before k)
 
-  sort-next : (m : SortMods) → SpellsRow file env (sort_decl m) → Next file (env ++ sort_decl m ∷ []) (record before { sorts = before.sorts + 1 })
-  sort-next m row =
-      let x = counts.sorts_are in let y = counts.terms_are in let z = counts.thms_are in
-      let there = slice_get_within (tables_of file).sorts (length (sorts env)) m row in
-      let all = length-sorts file in
-      let a = sorts-many env (sort_decl m ∷ []) in let b = terms-many env (sort_decl m ∷ []) in let c = assertions-many env (sort_decl m ∷ []) in
-      record {
-        counts = record { sorts_are = omega (arith, x, a); terms_are = omega (arith, y, b); thms_are = omega (arith, z, c) };
-        within = record { sorts_within = omega (arith, x, there, all); terms_within = within.terms_within; thms_within = within.thms_within };
-      }
+  sorts-within : (m : SortMods) → SpellsRow file env (sort_decl m) → Within codes.Sort
+  sorts-within m row =
+      let x = counts.sorts_are in let there = slice_get_within (tables_of file).sorts (length (sorts env)) m row in let all = length-sorts file in
+      record { sorts_within = omega (arith, x, there, all); terms_within = within.terms_within; thms_within = within.thms_within }
 
-  term-next : (d : Term) → SpellsRow file env (term_decl d) → Next file (env ++ term_decl d ∷ []) (record before { terms = before.terms + 1 })
-  term-next d row =
-      let x = counts.sorts_are in let y = counts.terms_are in let z = counts.thms_are in
-      let there = row.0 in
-      let a = sorts-many env (term_decl d ∷ []) in let b = terms-many env (term_decl d ∷ []) in let c = assertions-many env (term_decl d ∷ []) in
-      record {
-        counts = record { sorts_are = omega (arith, x, a); terms_are = omega (arith, y, b); thms_are = omega (arith, z, c) };
-        within = record { sorts_within = within.sorts_within; terms_within = omega (arith, y, there); thms_within = within.thms_within };
-      }
+  terms-within : (d : Term) → SpellsRow file env (term_decl d) → Within codes.Term
+  terms-within d row =
+      let x = counts.terms_are in let there = row.0 in
+      record { sorts_within = within.sorts_within; terms_within = omega (arith, x, there); thms_within = within.thms_within }
 
-  thm-next : (t : Assertion) → SpellsRow file env (assertion_decl t) → Next file (env ++ assertion_decl t ∷ []) (record before { thms = before.thms + 1 })
-  thm-next t row =
-      let x = counts.sorts_are in let y = counts.terms_are in let z = counts.thms_are in
-      let there = row.0 in
-      let a = sorts-many env (assertion_decl t ∷ []) in let b = terms-many env (assertion_decl t ∷ []) in let c = assertions-many env (assertion_decl t ∷ []) in
-      record {
-        counts = record { sorts_are = omega (arith, x, a); terms_are = omega (arith, y, b); thms_are = omega (arith, z, c) };
-        within = record { sorts_within = within.sorts_within; terms_within = within.terms_within; thms_within = omega (arith, z, there) };
-      }
+  thms-within : (a : Assertion) → SpellsRow file env (assertion_decl a) → Within codes.Axiom
+  thms-within a row =
+      let x = counts.thms_are in let there = row.0 in
+      record { sorts_within = within.sorts_within; terms_within = within.terms_within; thms_within = omega (arith, x, there) }
 
-  next-of : (code : ℕ) (d : Declaration) → IsKindOf code d → SpellsRow file env d → Goes code d
-  next-of code (sort_decl m) is row = subst (λ (c : ℕ). Goes c (sort_decl m)) (sym is) (sort-next m row)
-  next-of code (term_decl d) (inl is) row = subst (λ (c : ℕ). Goes c (term_decl d)) (sym is) (term-next d row)
-  next-of code (term_decl d) (inr is) row = subst (λ (c : ℕ). Goes c (term_decl d)) (sym is) (term-next d row)
-  next-of code (assertion_decl t) is row = by t.is_axiom is
+  within-more : (k : StatementCode) (d : Declaration) → IsKindOf (statement_byte k) d → SpellsRow file env d → Within k
+  within-more k (sort_decl m) is row = subst Within (sym (one-code k codes.Sort is)) (sorts-within m row)
+  within-more k (term_decl d) (inl is) row = subst Within (sym (one-code k codes.Term is)) (terms-within d row)
+  within-more k (term_decl d) (inr is) row = subst Within (sym (one-code k codes.LocalDefinition is)) (terms-within d row)
+  within-more k (assertion_decl a) is row = by a.is_axiom is
     where
-      by : (b : Bool) → MatchBool b (code ≡ 0x02) ((code ≡ 0x06) ⊎ (code ≡ 0x0E)) → Goes code (assertion_decl t)
-      by true is = subst (λ (c : ℕ). Goes c (assertion_decl t)) (sym is) (thm-next t row)
-      by false (inl is) = subst (λ (c : ℕ). Goes c (assertion_decl t)) (sym is) (thm-next t row)
-      by false (inr is) = subst (λ (c : ℕ). Goes c (assertion_decl t)) (sym is) (thm-next t row)
+      by : (b : Bool) → MatchBool b (statement_byte k ≡ 0x02) ((statement_byte k ≡ 0x06) ⊎ (statement_byte k ≡ 0x0E)) → Within k
+      by true e = subst Within (sym (one-code k codes.Axiom e)) (thms-within a row)
+      by false (inl e) = subst Within (sym (one-code k codes.Theorem e)) (thms-within a row)
+      by false (inr e) = subst Within (sym (one-code k codes.LocalTheorem e)) (thms-within a row)
 
 -- ---- the whole list
 
 module _ (one : BodiesMakeOne) (file : List ℕ) (prefix : List ℕ) where
-  all-standing : (done : List Marked) (env : List Declaration) (at : ℕ) → GoodTo strict_standard file [] (list_at file) done env at → (before : Rows) → Counts env before → AreWithin file before
-      → (told : List Statement) → ArePlaced told env → (ss : List Marked) (env' : List Declaration) (to : ℕ) → GoodTo strict_standard file env at ss env' to → IsListEnd file to
-      → (names : List (List ℕ)) (ts : List Statement) → AreRestated file env at ss names ts → AreStanding file (naming_of prefix (told ++ ts)) before env at ts
-  all-standing done env at chain before counts within told placed [] env' to (_, same) end [] [] are =
-      λ head is. (let e : Ok (stands.Head head.code head.body head.next) ≡ Ok stands.End = sym is ∙ ap (statement_at file) (sym same) ∙ end in cc)
-  all-standing done env at chain before counts within told placed [] env' to left end [] (t ∷ ts) are = absurd are
-  all-standing done env at chain before counts within told placed [] env' to left end (name ∷ names) ts are = absurd are
-  all-standing done env at chain before counts within told placed (s ∷ ss) env' to left end [] ts are = absurd are
-  all-standing done env at chain before counts within told placed (s ∷ ss) env' to left end (name ∷ names) [] are = absurd are
-  all-standing done env at chain before counts within told placed (s ∷ ss) env' to (next, good, left) end (name ∷ names) (t ∷ ts) (next', restated', rest') =
+  all-standing : (p : Passed) (whole done ss : List Marked) (env : List Declaration) → IsOnWay file p whole done ss env → AreWithin file p.rows
+      → (told : List Statement) → ArePlaced told env → (names : List (List ℕ)) (ts : List Statement) → AreRestated file env p.at ss names ts
+      → AreStanding file (naming_of prefix (told ++ ts)) p env ts
+  all-standing p whole done [] env way within told placed [] [] are = (way-asks file p whole done [] env way, way-end file p whole done env way)
+  all-standing p whole done [] env way within told placed [] (t ∷ ts) are = absurd are
+  all-standing p whole done [] env way within told placed (name ∷ names) ts are = absurd are
+  all-standing p whole done (s ∷ ss) env way within told placed [] ts are = absurd are
+  all-standing p whole done (s ∷ ss) env way within told placed (name ∷ names) [] are = absurd are
+  all-standing p whole done (s ∷ ss) env way within told placed (name ∷ names) (t ∷ ts) (next', restated', rest') =
+      let next = way.left.0 in
+      let good = way.left.1 in
       let both : Ok (stands.Head restated'.code restated'.body next') ≡ Ok (stands.Head good.spelled.code good.spelled.body next) = sym restated'.stands ∙ good.spelled.stands in
       let next-is : next' ≡ next = cc in
-      let restated = subst (λ (n : ℕ). IsRestated file env at s n name t) next-is restated' in
+      let restated = subst (λ (n : ℕ). IsRestated file env p.at s n name t) next-is restated' in
       let rest = subst (λ (n : ℕ). AreRestated file (env ++ s.decl ∷ []) n ss names ts) next-is rest' in
       let naming = naming_of prefix (told ++ t ∷ ts) in
-      let here = stands-here one file env at s next good done chain before counts within naming name t restated (named prefix told t ts env placed) in
-      let head = head-of one file env at s next good done chain before counts within name t restated in
-      let after = next-of file env before counts within head.code t.decl here.kind here.row in
-      let grown-chain = chain-more (IsGoodStatement strict_standard file) [] (list_at file) done env at s next chain good in
+      let counts = counted env p.rows way.rows_are in
+      let head = head-of one file env p.at s next good done way.gone p.rows counts within in
+      let there = head-stands one file env p.at s next good done way.gone p.rows counts within in
+      let here = stands-here one file env p.at s next good done way.gone p.rows counts within naming name t restated (named prefix told t ts env placed) in
       let decl-is = restated.declares in
+      let kind = subst (IsKindOf (statement_byte head.code)) decl-is here.kind in
       let more-placed = subst (λ (d : Declaration). ArePlaced (told ++ t ∷ []) (env ++ d ∷ [])) decl-is (placed-more told env t placed) in
-      let behind = all-standing (done ++ s ∷ []) (env ++ s.decl ∷ []) next grown-chain (counted before (statement_code head.code))
-      (subst (λ (d : Declaration). Counts (env ++ d ∷ []) (counted before (statement_code head.code))) decl-is after.counts) after.within
-      (told ++ t ∷ []) more-placed ss env' to left end names ts rest in (
+      let behind = all-standing (passed_with p head) whole (done ++ s ∷ []) ss (env ++ s.decl ∷ []) (way-on file p whole done s ss env head way there).1
+      (within-more file env p.rows counts within head.code s.decl kind good.spelled.row) (told ++ t ∷ []) more-placed names ts rest in (
         head,
-        restated.stands,
+        way-asks file p whole done (s ∷ ss) env way,
+        there,
         here,
-        subst (λ (d : Declaration). AreStanding file naming (counted before (statement_code head.code)) (env ++ d ∷ []) next ts) (sym decl-is)
-            (subst (λ (x : List Statement). AreStanding file (naming_of prefix x) (counted before (statement_code head.code)) (env ++ s.decl ∷ []) next ts) (append_assoc told (t ∷ []) ts) behind),
+        subst (λ (d : Declaration). AreStanding file naming (passed_with p head) (env ++ d ∷ []) ts) (sym decl-is)
+            (subst (λ (x : List Statement). AreStanding file (naming_of prefix x) (passed_with p head) (env ++ s.decl ∷ []) ts) (append_assoc told (t ∷ []) ts) behind),
       )
 
   -- all statements of a good binary
-  pub good-standing : (ss : List Marked) (env' : List Declaration) (to : ℕ) → GoodTo strict_standard file [] (list_at file) ss env' to → IsListEnd file to
-      → (names : List (List ℕ)) (ts : List Statement) → AreRestated file [] (list_at file) ss names ts → AreAll file (naming_of prefix ts) ts
-  good-standing ss env' to chain end names ts are =
-      all-standing [] [] (list_at file) (refl, refl) no_rows (record { sorts_are = refl; terms_are = refl; thms_are = refl })
-      (record { sorts_within = omega arith; terms_within = omega arith; thms_within = omega arith })
-      [] (record { sorts-are = refl; terms-are = refl; thms-are = refl }) ss env' to chain end names ts are
+  pub good-standing : (ss : List Marked) → Good strict_standard file ss → (names : List (List ℕ)) (ts : List Statement) → AreRestated file [] (list_at file) ss names ts
+      → AreAll file (naming_of prefix ts) ts
+  good-standing ss good names ts are =
+      all-standing (nothing_passed file) ss [] ss [] (way-first file ss good) (record { sorts_within = omega arith; terms_within = omega arith; thms_within = omega arith })
+      [] (record { sorts-are = refl; terms-are = refl; thms-are = refl }) names ts are

@@ -10,6 +10,7 @@ use mz_layout::Mmb;
 use mz_match::{Verdict, verify_bytes};
 use mz_naming::Names;
 use mz_restating::{accepted_are_restated, plain_texts_are_texts};
+use mz_store::Seed;
 use mz_tracing::bodies_make_proofs;
 use mz_type::typed_or_faulty;
 use std::alloc::Global;
@@ -37,6 +38,7 @@ pub enum Decompiled {
 /// The steps counted are those of the verification; that the bodies are read again, in both passes, isn't counted.
 pub fn decompile_bytes<L: Ledger>(
     alloc: Global,
+    seed: Seed,
     spec: &[u8],
     bin: &[u8],
     steps: &mut Steps<L>,
@@ -48,7 +50,7 @@ pub fn decompile_bytes<L: Ledger>(
     ensures steps { TicksAs bin.now steps.old steps.new result }
     ensures bound { steps.new ≤ steps.old + (length bin.now * length bin.now + length bin.now) }
 {
-    match verify_bytes(alloc, spec, bin, steps) {
+    match verify_bytes(alloc, seed, spec, bin, steps) {
         Verdict::Accepted(_) => match of_accepted(alloc, spec, bin) {
             Ok(answer) => answer,
             Err(_) => Decompiled::Mem,

@@ -9,7 +9,6 @@ mod laws;
 mod lines;
 mod measuring;
 mod told;
-mod walk;
 
 pub use decompiled::{Decompiled, decompile_bytes};
 pub use laws::decompilation_is_decided;

@@ -8,12 +8,12 @@ ghost use Rattle.mz_phrasing.specs.Phrasing.{statement as the_statement, text_of
 ghost use Rattle.mz_telling.specs.Telling.{SomeStands, Stands};
 ghost use Rattle.mz_decompile.specs.Standing.{AreAll, SomeAreAll};
 
-use crate::walk::{head_at, rows_with};
 use mz_cmd::Mem;
-use mz_layout::{Mmb, Rows};
+use mz_layout::{Head, Mmb, Rows};
 use mz_naming::Names;
 use mz_stating::Phrases;
-use mz_telling::{Head, statement};
+use mz_telling::statement;
+use mz_walk::Passed;
 use std::alloc::Global;
 
 /// The text of a binary's statements, a line each.
@@ -23,16 +23,10 @@ pub(crate) fn text(alloc: Global, mmb: &Mmb, names: &Names) -> Result<Vec<u8>, M
 {
     let mut phrases = Phrases::new(alloc);
     let mut out = Vec::new(alloc);
-    let mut at = mmb.proof_at();
-    let mut before = Rows {
-        sorts: 0,
-        terms: 0,
-        thms: 0,
-    };
-    'statements: while let Some(head) = head_at(mmb, at) {
-        put_line(alloc, mmb, names, head, before, &mut phrases, &mut out)?;
-        before = rows_with(head.code, before);
-        at = head.next;
+    let mut passed = Passed::nothing(mmb);
+    'statements: while let Some((head, after)) = passed.next(mmb) {
+        put_line(alloc, mmb, names, head, passed.rows, &mut phrases, &mut out)?;
+        passed = after;
     }
     Ok(out)
 }

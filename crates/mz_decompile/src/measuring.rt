@@ -8,12 +8,12 @@ ghost use Rattle.mz_telling.specs.Telling.{SomeStands, Stands};
 ghost use Rattle.mz_decompile.specs.Standing.{AreAll, SomeAreAll};
 ghost use Rattle.mz_decompile.specs.Passes.{IsLine, IsMeasured};
 
-use crate::walk::{head_at, rows_with};
 use mz_cmd::Mem;
-use mz_layout::{Mmb, Rows};
+use mz_layout::{Head, Mmb, Rows};
 use mz_naming::Names;
 use mz_stating::Phrases;
-use mz_telling::{Head, statement};
+use mz_telling::statement;
+use mz_walk::Passed;
 use std::alloc::Global;
 
 /// A length and a weight, or the largest number in place of one that is larger.
@@ -64,23 +64,15 @@ pub(crate) fn measure(alloc: Global, mmb: &Mmb, names: &Names) -> Result<Measure
     ensures { IfOk result (λ m. (ts : List Statement) → AreAll mmb.now names.now ts → IsMeasured (vocabulary_by names.now) ts m) }
 {
     let mut phrases = Phrases::new(alloc);
-    let mut at = mmb.proof_at();
-    let mut before = Rows {
-        sorts: 0,
-        terms: 0,
-        thms: 0,
-    };
-    let mut number = 0;
+    let mut passed = Passed::nothing(mmb);
     let mut so_far = Sizes::NONE;
-    'statements: while let Some(head) = head_at(mmb, at) {
-        number += 1;
-        let line = line_of(alloc, mmb, names, head, before, &mut phrases)?;
+    'statements: while let Some((head, after)) = passed.next(mmb) {
+        let line = line_of(alloc, mmb, names, head, passed.rows, &mut phrases)?;
         if line.deep {
-            return Ok(Measured::Deep(number));
+            return Ok(Measured::Deep(after.statements));
         }
         so_far = so_far.plus(line.sizes);
-        before = rows_with(head.code, before);
-        at = head.next;
+        passed = after;
     }
     Ok(Measured::Whole(so_far))
 }

@@ -1,12 +1,12 @@
 //! A statement's own row, which comes right after the rows before it, and the kind of its body.
-ghost use Rattle.std.specs.Prelude.{◌≡◌, ◌≤◌, ◌<◌, ◌^◌, IfOk, OnOk, length, map, slice_get, Some};
+ghost use Rattle.std.specs.Prelude.{◌≡◌, ◌≤◌, ◌<◌, ◌^◌, OnOk, length, map, slice_get, Some};
 ghost use Rattle.mz_store.specs.declared.item.Item.TheVariants.{Proof};
 ghost use Rattle.mz_earlier.specs.OwnRow.{IsNextRow, kind_at, kind_of, mode_for, heading_by, own_words, own_proofs, first_ids, first_items};
 
 use crate::earlier::Earlier;
 use mz_logic::Word;
 use mz_store::{DepsMode, Id, Item};
-use std::alloc::{AllocError, Global};
+use std::alloc::AllocError;
 
 /// The kind of a statement whose body runs.
 #[derive(Clone, Copy, Debug, PartialEq, Eq)]
@@ -105,44 +105,47 @@ pub fn first_items(items: &mut Vec<Item>, count: usize) -> Result<(), AllocError
     Ok(())
 }
 
-/// The first ids, which are those of the parameters.
+/// The first ids, which are those of the parameters, in the place of what the list had.
 ///
 /// # Errors
 ///
 /// Where there is no memory.
-pub fn first_ids(alloc: Global, count: u32) -> Result<Vec<Id>, AllocError>
-    ensures { IfOk result (λ ids. ids.items ≡ first_ids count) }
+pub fn first_ids(ids: &mut Vec<Id>, count: u32) -> Result<(), AllocError>
+    ensures { OnOk result (ids.new.items ≡ first_ids count) }
 {
-    let mut ids = Vec::new(alloc);
+    ids.clear();
     'params: for i in 0..count {
         ids.push(Id(u64::from(i)))?;
     }
-    Ok(ids)
+    Ok(())
 }
 
-/// Hypotheses as proofs, of which a definition has none.
+/// Hypotheses as proofs, of which a definition has none, in the place of what the list had.
 ///
 /// # Errors
 ///
 /// Where there is no memory.
-pub fn own_proofs(alloc: Global, kind: BodyKind, hyps: &[Id]) -> Result<Vec<Item>, AllocError>
-    ensures { IfOk result (λ items. items.items ≡ own_proofs (kind_of kind) hyps.now) }
+pub fn own_proofs(items: &mut Vec<Item>, kind: BodyKind, hyps: &[Id]) -> Result<(), AllocError>
+    ensures { OnOk result (items.new.items ≡ own_proofs (kind_of kind) hyps.now) }
 {
     match kind {
-        BodyKind::Definition => Ok(Vec::new(alloc)),
-        BodyKind::Axiom | BodyKind::Theorem => proofs_of(alloc, hyps),
+        BodyKind::Definition => {
+            items.clear();
+            Ok(())
+        }
+        BodyKind::Axiom | BodyKind::Theorem => proofs_of(items, hyps),
     }
 }
 
-/// Expressions as proofs.
-fn proofs_of(alloc: Global, hyps: &[Id]) -> Result<Vec<Item>, AllocError>
-    ensures { IfOk result (λ items. items.items ≡ map Proof hyps.now) }
+/// Expressions as proofs, in the place of what the list had.
+fn proofs_of(items: &mut Vec<Item>, hyps: &[Id]) -> Result<(), AllocError>
+    ensures { OnOk result (items.new.items ≡ map Proof hyps.now) }
 {
-    let mut items = Vec::new(alloc);
+    items.clear();
     'hyps: for hyp in hyps {
         items.push(Item::Proof(*hyp))?;
     }
-    Ok(items)
+    Ok(())
 }
 
 /// The unify stream of the next row of the kind, from its first byte to the file's end.

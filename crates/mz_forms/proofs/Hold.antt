@@ -1,6 +1,6 @@
 -- What is asked of a node holds where the node is an expression, a list of variables, a binder, a
 -- conversion, a proof.
-use Rattle.std.proofs.Common.{ℕ, suc, ◌≡◌, ◌≤◌, length, arith, ◌⊎◌, inl, inr, Bool, true, false, List, [], ◌∷◌, ◌++◌, Option, Some, None, refl, sym, ap, ◌∙◌, subst, append_assoc, append-nil}
+use Rattle.std.proofs.Common.{ℕ, ◌≡◌, ◌≤◌, length, arith, ◌⊎◌, inl, inr, List, [], ◌∷◌, ◌++◌, refl, sym, ap, ◌∙◌, subst, append_assoc, append-nil}
 use Rattle.mz_checks.specs.Checks.{Checks, ◌>>◌, AllHold}
 use Rattle.mz_checks.proofs.Offered.{all_hold-both}
 use Rattle.mz_sexpr.specs.Node.{Node, Nodes, atom, list, no_nodes, node, word, place, parts}
@@ -9,12 +9,13 @@ use Rattle.mz_logic.specs.Conversions.{Conversion, Conversions}
 use Rattle.mz_logic.specs.declared.binder.Binder.{Binder}
 use Rattle.mz_logic.specs.declared.binder.ResultType.{ResultType}
 use Rattle.mz_forms.specs.declared.fault.Fault.{Fault}
-use Rattle.std.specs.Prelude.{option_map, bytes_eq, if◌then◌else◌}
 use Rattle.mz_sexpr.specs.declared.rule.U.{U}
 use Rattle.mz_forms.specs.declared.fault.Stop.{Stop}
 use Rattle.mz_forms.specs.declared.fault.Stop.TheVariants.{Refused, Mem}
 use Rattle.mz_forms.specs.Stops.{Stops}
-use Rattle.mz_forms.specs.Name.{Names, Scope, hidden, number_of, IsName, IsNew, HasNumber, IsNewName, IsParamName}
+use Rattle.mz_names.specs.Names.{IsNew}
+use Rattle.mz_names.proofs.Offered.{new-both, new-parts}
+use Rattle.mz_forms.specs.Name.{Names, Scope, hidden, IsName, HasNumber, IsNewName, IsParamName}
 use Rattle.mz_forms.specs.Expressions.{IsExpr, AreExprs, IsExprList, AreVariables, IsVariableList, AreDeps, IsParam, IsDummy, AreBinders, AreParams, AreDummies, IsResult}
 use Rattle.mz_forms.specs.Proof.{Proof, Proofs}
 use Rattle.mz_forms.specs.Proofs.{Keyword, conv_word, let_word, refl_word, sym_word, unfold_word, sorry_word, no_word, conv_keyword, proof_keyword, IsConv, IsConvBy, AreConvs, IsProof, IsProofBy, AreProofs}
@@ -251,28 +252,8 @@ param_new names vars (list at (node y (node s (node ds (node _ _))))) x b h = ab
 
 -- ---- names in two lists
 
-option_none : (o : Option ℕ) → option_map suc o ≡ None → o ≡ None
-option_none None e = refl
-option_none (Some i) e = absurd (let f : Some (suc i) ≡ None = e in cc)
-
-pub new_both : (xs ys : List (List ℕ)) (w : List ℕ) → IsNew xs w → IsNew ys w → IsNew (xs ++ ys) w
-new_both [] ys w h k = k
-new_both (x ∷ xs) ys w h k = go (bytes_eq w x) (λ e. new_both xs ys w e k) h
-  where
-    go : (b : Bool) → (IsNew xs w → IsNew (xs ++ ys) w) → (if b then Some 0 else option_map suc (number_of xs w)) ≡ None → (if b then Some 0 else option_map suc (number_of (xs ++ ys) w)) ≡ None
-    go true r e = absurd (let f : Some 0 ≡ None = e in cc)
-    go false r e = ap (option_map suc) (r (option_none (number_of xs w) e))
-
-pub new_parts : (xs ys : List (List ℕ)) (w : List ℕ) → IsNew (xs ++ ys) w → IsNew xs w × IsNew ys w
-new_parts [] ys w h = (refl, h)
-new_parts (x ∷ xs) ys w h = go (bytes_eq w x) (new_parts xs ys w) h
-  where
-    go : (b : Bool) → (IsNew (xs ++ ys) w → IsNew xs w × IsNew ys w) → (if b then Some 0 else option_map suc (number_of (xs ++ ys) w)) ≡ None → ((if b then Some 0 else option_map suc (number_of xs w)) ≡ None) × IsNew ys w
-    go true f e = absurd (let g : Some 0 ≡ None = e in cc)
-    go false f e = let r = f (option_none (number_of (xs ++ ys) w) e) in (ap (option_map suc) r.0, r.1)
-
 pub new_name_both : (xs ys : List (List ℕ)) (n : Node) (w : List ℕ) → IsNewName xs n w → IsNew ys w → IsNewName (xs ++ ys) n w
-new_name_both xs ys (atom at v) w h k = (h.0, h.1, new_both xs ys v h.2 (subst (IsNew ys) h.0 k))
+new_name_both xs ys (atom at v) w h k = (h.0, h.1, new-both xs ys v h.2 (subst (IsNew ys) h.0 k))
 new_name_both xs ys (list at ns) w h k = absurd h
 
 pub new_name_word : (xs : List (List ℕ)) (n : Node) (w : List ℕ) → IsNewName xs n w → w ≡ word n
@@ -283,12 +264,12 @@ new_name_word xs (list at ns) w h = absurd h
 pub taken_left : (s : Stop) (xs ys : List (List ℕ)) (n : Node) → Stops s (new_asked xs n) → Stops s (new_asked (xs ++ ys) n)
 taken_left Mem xs ys n h = tt
 taken_left (Refused f) xs ys n (inl h) = inl h
-taken_left (Refused f) xs ys n (inr (h, inl k)) = inr (h, inl ((λ new. k.0 (new_parts xs ys (word n) new).0), k.1))
+taken_left (Refused f) xs ys n (inr (h, inl k)) = inr (h, inl ((λ new. k.0 (new-parts xs ys (word n) new).0), k.1))
 taken_left (Refused f) xs ys n (inr (h, inr k)) = absurd k.1
 
 pub taken_right : (s : Stop) (xs ys : List (List ℕ)) (n : Node) (w : List ℕ) → IsNewName xs n w → (IsNew ys w → ⊥) → s ≡ Refused (fault (place n) U.NameTwice) → Stops s (new_asked (xs ++ ys) n)
 taken_right s xs ys (atom at v) w h k is =
-    subst (λ t. Stops t (new_asked (xs ++ ys) (atom at v))) (sym is) (inr (h.1, inl ((λ new. k (subst (IsNew ys) (sym h.0) (new_parts xs ys v new).1)), refl)))
+    subst (λ t. Stops t (new_asked (xs ++ ys) (atom at v))) (sym is) (inr (h.1, inl ((λ new. k (subst (IsNew ys) (sym h.0) (new-parts xs ys v new).1)), refl)))
 taken_right s xs ys (list at ns) w h k is = absurd h
 
 -- ---- there are no more names than nodes

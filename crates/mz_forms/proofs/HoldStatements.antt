@@ -10,7 +10,8 @@ use Rattle.mz_forms.specs.declared.fault.Fault.{Fault}
 use Rattle.mz_forms.specs.declared.fault.Stop.{Stop}
 use Rattle.mz_forms.specs.declared.fault.Stop.TheVariants.{Refused}
 use Rattle.mz_forms.specs.Stops.{Stops}
-use Rattle.mz_forms.specs.Name.{Scope, IsName, IsNew}
+use Rattle.mz_names.specs.Names.{IsNew}
+use Rattle.mz_forms.specs.Name.{Scope, IsName}
 use Rattle.mz_forms.specs.Statements.{Modifiers, with_modifier, AreModifiers, IsHyp, AreHyps, AreNamedHyps}
 use Rattle.mz_forms.specs.Order.{fault, new_asked, expr_asked, first_word, names_of, binders_asked, modifiers_asked, hyp_asked, hyps_asked}
 use Rattle.mz_forms.proofs.Hold.{new_holds, new_name_is, expr_holds}

@@ -7,7 +7,9 @@ use Rattle.mz_sexpr.specs.Number.{node_at, node_count, nodes_after}
 use Rattle.mz_logic.specs.Tree.{Tree, Trees}
 use Rattle.mz_logic.specs.Conversions.{Conversion}
 use Rattle.mz_logic.specs.View.{tree}
-use Rattle.mz_forms.specs.Name.{Scope, HasNumber, IsNew, IsNewName}
+use Rattle.mz_names.specs.Names.{IsNew}
+use Rattle.mz_names.proofs.Offered.{new-parts}
+use Rattle.mz_forms.specs.Name.{Scope, HasNumber, IsNewName}
 use Rattle.mz_forms.specs.Cursor.{nodes_from, nodes_size, node_size, IsThere}
 use Rattle.mz_forms.specs.Expressions.{IsExpr, IsExprList}
 use Rattle.mz_forms.specs.Proof.{Proof, Proofs, by_citation, by_conv, by_let, no_proofs, more_proofs}
@@ -24,7 +26,7 @@ use Rattle.mz_forms.specs.declared.proofs.ProofOuter.TheVariants as outers
 use Rattle.mz_forms.specs.declared.proofs.ProofStep.{ProofStep}
 use Rattle.mz_forms.specs.declared.proofs.ProofStep.TheVariants as steps
 use Rattle.mz_forms.proofs.Cursors.{stepped, stands_there, node_size_positive}
-use Rattle.mz_forms.proofs.Hold.{known_holds, new_holds, new_name_is, new_name_word, new_parts, expr_holds, expr_list_holds, conv_holds, proof_holds}
+use Rattle.mz_forms.proofs.Hold.{known_holds, new_holds, new_name_is, new_name_word, expr_holds, expr_list_holds, conv_holds, proof_holds}
 use Rattle.mz_forms.proofs.ProofLists.{proofs_then_none, proofs_then_push}
 use Rattle.mz_forms.proofs.Dispatch.{if_ok, if_err, proof_by, proof_stops_by}
 use Rattle.mz_forms.proofs.Keys.{length-more}
@@ -135,7 +137,7 @@ module _ (sc : Scope) (hyps : List (List ℕ)) (all : Nodes) (lets : List (List 
         there = there;
         few = omega (arith, sizes, one, few);
         name = named.0;
-        new = (new_parts hyps lets w named.1).1;
+        new = (new-parts hyps lets w named.1).1;
         made = λ r r' y z. subst (λ l. IsProofBy sc hyps lets let_word h l (by_let r r')) (sym is) (w, r, r', name, y, z, refl);
         stops = λ stop y. subst (λ l. Stops stop (proof_asked_by sc hyps lets let_word at h l)) (sym is)
             (stops_after stop (new_asked (hyps ++ lets) x) (proof_asked sc hyps lets q >> proof_asked sc hyps (lets ++ word x ∷ []) p) (new_holds (hyps ++ lets) x w name)

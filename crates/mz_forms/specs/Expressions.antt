@@ -6,7 +6,8 @@ use Rattle.mz_sexpr.specs.Node.{Node, Nodes, atom, list, no_nodes, node}
 use Rattle.mz_logic.specs.Tree.{Tree, Trees, var, app, none, more}
 use Rattle.mz_logic.specs.declared.binder.Binder.{Binder}
 use Rattle.mz_logic.specs.declared.binder.ResultType.{ResultType}
-use Rattle.mz_forms.specs.Name.{Names, Scope, number_of, IsName, IsNew, HasNumber, IsNewName, IsParamName}
+use Rattle.mz_names.specs.Names.{number_of, IsNew}
+use Rattle.mz_forms.specs.Name.{Names, Scope, IsName, HasNumber, IsNewName, IsParamName}
 
 -- ---- expressions
 

@@ -1,5 +1,6 @@
--- Names (mm0.md, identifiers), and the numbers that they have.
-use Rattle.std.specs.Prelude.{ℕ, suc, Bool, true, false, ◌==◌, ◌||◌, ◌&&◌, nat_le, not, ◌≡◌, ◌⊎◌, IsTrue, if◌then◌else◌, List, [], ◌∷◌, Option, Some, None, option_map, bytes_eq, codes}
+-- Names (mm0.md, identifiers), and what each of them stands for.
+use Rattle.std.specs.Prelude.{ℕ, Bool, true, false, ◌==◌, ◌||◌, ◌&&◌, nat_le, not, ◌≡◌, ◌⊎◌, IsTrue, List, [], ◌∷◌, Some, bytes_eq, codes}
+use Rattle.mz_names.specs.Names.{number_of, IsNew}
 use Rattle.mz_sexpr.specs.Node.{Node, atom, list}
 
 -- ---- identifiers: letters, digits and `_`, no digit first, and not `_` alone
@@ -29,17 +30,6 @@ abbrev pub IsName : List ℕ → Type 0
 IsName w = IsTrue (is_identifier w)
 
 -- ---- numbers
-
--- the number of a name among names: the place of the first that is the same, if there is one
-abbrev pub number_of : List (List ℕ) → List ℕ → Option ℕ
-number_of [] w = None
-number_of (x ∷ xs) w = if bytes_eq w x then Some 0 else option_map suc (number_of xs w)
-
-abbrev pub IsNew : List (List ℕ) → List ℕ → Type 0
-IsNew xs w = number_of xs w ≡ None
-
-abbrev pub IsKnown : List (List ℕ) → List ℕ → Type 0
-IsKnown xs w = (i : ℕ) × (number_of xs w ≡ Some i)
 
 -- the atom is a name, which has this number
 abbrev pub HasNumber : List (List ℕ) → Node → ℕ → Type 0

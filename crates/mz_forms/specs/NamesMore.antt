@@ -1,7 +1,8 @@
 -- What is asked of a name before it is put to those before.
 use Rattle.std.specs.Prelude.{ℕ, ◌<◌, ◌+◌, Bool, true, false, List, [], ◌∷◌, ◌++◌, length}
 use Rattle.mz_logic.specs.Declaration.{Declaration, sort_decl, term_decl, assertion_decl}
-use Rattle.mz_forms.specs.Name.{Names, IsNew}
+use Rattle.mz_names.specs.Names.{IsNew}
+use Rattle.mz_forms.specs.Name.{Names}
 
 -- it is new among those of the declaration's kind
 abbrev pub IsUnused : Names → List ℕ → Declaration → Type 0

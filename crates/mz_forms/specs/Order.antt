@@ -8,7 +8,8 @@ use Rattle.mz_sexpr.specs.Node.{Node, Nodes, atom, list, no_nodes, node, place, 
 use Rattle.mz_sexpr.specs.Grammar.{Reads as Spells}
 use Rattle.mz_sexpr.specs.Order.{Refuses as IsMisspelled}
 use Rattle.mz_forms.specs.declared.fault.Fault.{Fault}
-use Rattle.mz_forms.specs.Name.{Names, Scope, hidden, IsName, IsNew, IsKnown}
+use Rattle.mz_names.specs.Names.{IsNew, IsKnown}
+use Rattle.mz_forms.specs.Name.{Names, Scope, hidden, IsName}
 use Rattle.mz_forms.specs.Proofs.{Keyword, conv_word, let_word, refl_word, sym_word, unfold_word, sorry_word, no_word, conv_keyword, proof_keyword}
 use Rattle.mz_forms.specs.Statements.{Kind, sort_kind, term_kind, axiom_kind, def_kind, theorem_kind, kind_of, is_local_word, Modifiers, no_modifiers, with_modifier, scope_of, no_names}
 

@@ -5,7 +5,8 @@ use Rattle.mz_sexpr.specs.Node.{Node, Nodes}
 use Rattle.mz_sexpr.specs.Number.{node_count, node_at, nodes_after, StandsFor}
 use Rattle.mz_logic.specs.Tree.{Trees}
 use Rattle.mz_logic.specs.View.{tree}
-use Rattle.mz_forms.specs.Name.{Scope, IsName, IsNew}
+use Rattle.mz_names.specs.Names.{IsNew}
+use Rattle.mz_forms.specs.Name.{Scope, IsName}
 use Rattle.mz_forms.specs.Cursor.{nodes_from, node_size, nodes_size, IsThere}
 use Rattle.mz_forms.specs.Proof.{Proof, Proofs, by_citation, by_conv, by_let, more_proofs}
 use Rattle.mz_forms.specs.Proofs.{Keyword, IsProof, IsProofBy, AreProofs}

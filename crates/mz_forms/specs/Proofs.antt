@@ -5,7 +5,8 @@ pub use Rattle.mz_forms.specs.declared.keyword.Keyword.TheVariants.{Conv as conv
 use Rattle.mz_sexpr.specs.Node.{Node, Nodes, atom, list, no_nodes, node, word}
 use Rattle.mz_logic.specs.Tree.{Tree, Trees}
 use Rattle.mz_logic.specs.Conversions.{Conversion, Conversions, refl_conv, sym_conv, cong_conv, unfold_conv, gap_conv, no_convs, more_convs}
-use Rattle.mz_forms.specs.Name.{Scope, number_of, IsName, IsNew, HasNumber, IsNewName}
+use Rattle.mz_names.specs.Names.{number_of, IsNew}
+use Rattle.mz_forms.specs.Name.{Scope, IsName, HasNumber, IsNewName}
 use Rattle.mz_forms.specs.Expressions.{IsExpr, IsExprList, IsVariableList}
 use Rattle.mz_forms.specs.Proof.{Proof, Proofs, by_hyp, by_name, by_citation, by_conv, by_let, by_gap, no_proofs, more_proofs}
 

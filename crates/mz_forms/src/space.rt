@@ -1,6 +1,7 @@
 //! The names of one space, by their numbers.
 ghost use Rattle.std.specs.Prelude.{◌≡◌, ◌++◌, ◌⊎◌, ◌∷◌, [], ◌<◌, ◌+◌, ◌^◌, ℕ, List, false, length, OnOk};
-ghost use Rattle.mz_forms.specs.Name.{is_identifier, hidden, number_of, IsName, IsNew};
+ghost use Rattle.mz_names.specs.Names.{number_of, IsNew};
+ghost use Rattle.mz_forms.specs.Name.{is_identifier, hidden, IsName};
 
 use crate::name::HIDDEN;
 use indexmap::IndexSet;

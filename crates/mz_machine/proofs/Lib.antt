@@ -6,6 +6,7 @@ pub mod Unfoldings
 mod Citing
 pub mod RowResults
 pub mod TakenOperands
+pub mod ReadExprs
 pub mod FittingOperands
 mod Apartness
 pub mod TermResults

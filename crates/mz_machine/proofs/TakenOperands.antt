@@ -1,5 +1,5 @@
--- Operands taken from the stack, one after another.
-use Rattle.std.proofs.Common.{◌≡◌, ◌<◌, ◌≤◌, ℕ, suc, Bool, true, false, List, [], ◌∷◌, length, Result, Ok, Err, refl, ap, ◌∙◌, arith, le-leb, leb-true}
+-- Whether the stack has enough operands.
+use Rattle.std.proofs.Common.{◌≡◌, ◌<◌, ◌≤◌, ℕ, Bool, true, false, List, [], length, Result, Err, refl, ◌∙◌, arith, le-leb, leb-true}
 use Rattle.std.specs.Prelude.{reverse, nat_le}
 use Rattle.std.proofs.lemmas.List.{length-map, length-reverse}
 use Rattle.mz_cmd.specs.declared.rule.K.{K}
@@ -7,26 +7,9 @@ use Rattle.mz_cmd.specs.declared.rule.K.TheVariants as k
 use Rattle.mz_logic.specs.Tree.{Tree}
 use Rattle.mz_store.specs.Sharing.{Sharing}
 use Rattle.mz_store.specs.declared.item.Item.{Item as Kept}
-use Rattle.mz_unification.specs.Profile.{Item, expr, proof, obligation, conversion}
+use Rattle.mz_unification.specs.Profile.{Item}
 use Rattle.mz_unify.specs.Stored.{item_at, items_at}
-use Rattle.mz_unification.proofs.Offered.{taken-is}
-use Rattle.mz_soundness.specs.Premises.{pop_expr, pop_exprs, pop_operands}
-
-pub pop-next : (m : ℕ) (xs : List (Item Tree)) (es : List Tree) (e : Tree) (rest : List (Item Tree)) → pop_expr xs ≡ Ok (e, rest) → pop_exprs (suc m) xs es ≡ pop_exprs m rest (e ∷ es)
-pop-next m [] es e rest h = absurd cc
-pop-next m (expr f ∷ xs) es e rest h =
-    let both : (f, xs) ≡ (e, rest) = taken-is (f, xs) (e, rest) h in
-    ap (λ (p : Tree × List (Item Tree)). pop_exprs m p.1 (p.0 ∷ es)) both
-pop-next m (proof f ∷ xs) es e rest h = absurd cc
-pop-next m (obligation l r ∷ xs) es e rest h = absurd cc
-pop-next m (conversion l r ∷ xs) es e rest h = absurd cc
-
-pub pop-stop : (m : ℕ) (xs : List (Item Tree)) (es : List Tree) (rule : K) → pop_expr xs ≡ Err rule → pop_exprs (suc m) xs es ≡ Err rule
-pop-stop m [] es rule h = let same : k.Underflow ≡ rule = cc in rw same refl
-pop-stop m (expr f ∷ xs) es rule h = absurd cc
-pop-stop m (proof f ∷ xs) es rule h = let same : k.Kind ≡ rule = cc in rw same refl
-pop-stop m (obligation l r ∷ xs) es rule h = let same : k.Kind ≡ rule = cc in rw same refl
-pop-stop m (conversion l r ∷ xs) es rule h = let same : k.Kind ≡ rule = cc in rw same refl
+use Rattle.mz_soundness.specs.Premises.{pop_exprs, pop_operands}
 
 pub too-few : (n m : ℕ) → m < n → nat_le n m ≡ false
 too-few n m few = go (nat_le n m) refl

@@ -1,6 +1,7 @@
 -- The proof machine over a store: expressions are ids, and a state is that of their trees.
-use Rattle.std.specs.Prelude.{◌≡◌, ℕ, ⊤, Bool, true, false, ◌<◌, ◌^◌, List, ◌++◌, length, map, All as Every, MatchResult, Result, Ok, Err}
+use Rattle.std.specs.Prelude.{◌≡◌, ℕ, ⊤, Bool, true, false, ◌<◌, ◌^◌, List, [], ◌∷◌, ◌++◌, length, map, All as Every, MatchResult, Result, Ok, Err}
 use Rattle.mz_cmd.specs.declared.rule.K.{K}
+use Rattle.mz_cmd.specs.declared.rule.K.TheVariants as k
 use Rattle.mz_logic.specs.Tree.{Tree, var}
 use Rattle.mz_logic.specs.Signature.{Signature}
 use Rattle.mz_logic.specs.Legality.{IsDummy}
@@ -8,6 +9,7 @@ use Rattle.mz_logic.specs.declared.binder.Binder.{Binder}
 use Rattle.mz_store.specs.Sharing.{Sharing, tree_of, IsIn, AreIn, IsOver, KeepsIds}
 use Rattle.mz_store.specs.declared.item.Id.{Id}
 use Rattle.mz_store.specs.declared.item.Item.{Item as Kept}
+use Rattle.mz_store.specs.declared.item.Item.TheVariants.{Expr}
 use Rattle.mz_unification.specs.Profile.{Item}
 use Rattle.mz_unify.specs.Stored.{trees_at, item_at, items_at, AreItemsIn}
 use Rattle.mz_soundness.specs.MachineState.{State}
@@ -48,6 +50,12 @@ with_stack st xs = record st { stack = xs }
 -- what an unfolding takes: what is unfolded to, the sides of the obligation, and the items below
 abbrev pub pop_unfolding : List (Item Tree) → Result (Tree × Tree × Tree × List (Item Tree)) K
 pop_unfolding xs = pop_expr xs >>= λ e. (pop_sides strict e.1 >>= λ o. Ok (e.0, o.0, o.1, o.2))
+
+-- what items are as expressions
+abbrev pub exprs_of : List Kept → Result (List Id) K
+exprs_of [] = Ok []
+exprs_of (Expr i ∷ xs) = exprs_of xs >>= λ is. Ok (i ∷ is)
+exprs_of (_ ∷ xs) = Err k.Kind
 
 -- ---- commands
 

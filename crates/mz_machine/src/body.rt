@@ -16,6 +16,7 @@ use crate::room::{Desk, Room};
 use mz_cmd::{END, K, Steps, cmd_at};
 use mz_layout::{Mmb, Rows};
 use mz_mode::Mode;
+use mz_store::Seed;
 use mz_unify::Stop;
 use std::alloc::Global;
 use std::sync::ledger::Ledger;
@@ -90,7 +91,7 @@ pub fn check_body<L: Ledger>(
     ensures most { steps.new ≤ steps.old + (body.1 - body.0) * (length mmb.now + 1) }
     ensures steps { UnlessMem result (steps.new ≡ steps.old + body_steps (plain (gaps_of mode)) (tables_before mmb.now before) (heading_of mmb.now kind row) body.0 (body_bytes mmb.now body.0 body.1)) }
 {
-    let mut room = Room::new();
+    let mut room = Room::new(Seed::FIXED);
     check_body_in(alloc, &mut room, mmb, mode, kind, row, before, body, steps)
 }
 
@@ -116,14 +117,13 @@ pub fn check_body_in<L: Ledger>(
     let Ok(mut desk) = room.take(alloc) else {
         return BodyChecked::Mem;
     };
-    let checked = check_on(alloc, &mut desk, mmb, mode, kind, row, before, body, steps);
+    let checked = check_on(&mut desk, mmb, mode, kind, row, before, body, steps);
     room.keep(desk);
     checked
 }
 
 /// Runs the body of a statement on a desk, whatever lies on it.
 fn check_on<L: Ledger>(
-    alloc: Global,
     desk: &mut Desk,
     mmb: &Mmb,
     mode: Mode,
@@ -141,7 +141,6 @@ fn check_on<L: Ledger>(
     ensures steps { UnlessMem result (steps.new ≡ steps.old + body_steps (plain (gaps_of mode)) (tables_before mmb.now before) (heading_of mmb.now kind row) body.0 (body_bytes mmb.now body.0 body.1)) }
 {
     let Ok(setting) = Setting::begin(
-        alloc,
         mmb,
         mode,
         kind,

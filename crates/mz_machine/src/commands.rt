@@ -20,6 +20,7 @@ ghost use Rattle.mz_machine.specs.OverStore.{state_at, code_of, code_of_keeping,
 ghost use Rattle.mz_unify.specs.Rows.{StopsBy};
 
 use crate::command::{Command, Keeping};
+use crate::spare::Spare;
 use conversions::{cong, conv, conv_cut, conv_save, refl, symm, unfold};
 pub(crate) use gaps::gap;
 use heap::{conv_refer, dummy, hyp, refer, save};
@@ -27,19 +28,18 @@ use mz_cmd::{K, Steps};
 use mz_earlier::{Converting, Earlier, Making};
 use mz_store::{Id, Item, Store};
 use mz_unify::{Stop, push};
-use std::alloc::Global;
 use std::sync::ledger::Ledger;
 use terms::{term, thm};
 
 /// Executes a command that makes an expression or a proof.
 fn make<L: Ledger>(
-    alloc: Global,
     earlier: &Earlier,
     command: Making,
     value: u32,
     store: &mut Store,
     heap: &mut Vec<Item>,
     stack: &mut Vec<Item>,
+    spare: &mut Spare,
     steps: &mut Steps<L>,
 ) -> Result<(), Stop>
     requires over { IsOver (signatures_of earlier.now) store.old }
@@ -54,20 +54,20 @@ fn make<L: Ledger>(
 {
     match command {
         Making::Term => {
-            term(alloc, earlier, value, store, stack)?;
+            term(earlier, value, store, stack, &mut spare.operands)?;
             Ok(())
         }
         Making::TermSave => {
-            let made = term(alloc, earlier, value, store, stack)?;
+            let made = term(earlier, value, store, stack, &mut spare.operands)?;
             push(heap, Item::Expr(made))?;
             Ok(())
         }
         Making::Thm => {
-            thm(alloc, earlier, value, store, stack, steps)?;
+            thm(earlier, value, store, stack, spare, steps)?;
             Ok(())
         }
         Making::ThmSave => {
-            let proved = thm(alloc, earlier, value, store, stack, steps)?;
+            let proved = thm(earlier, value, store, stack, spare, steps)?;
             push(heap, Item::Proof(proved))?;
             Ok(())
         }
@@ -149,12 +149,12 @@ pub fn assume(claim: Id, heap: &mut Vec<Item>, hyps: &mut Vec<Id>) -> Result<(),
 
 /// Executes a command on conversions. A gap is refused.
 fn convert<L: Ledger>(
-    alloc: Global,
     earlier: &Earlier,
     command: Converting,
     store: &Store,
     heap: &mut Vec<Item>,
     stack: &mut Vec<Item>,
+    spare: &mut Spare,
     steps: &mut Steps<L>,
 ) -> Result<(), Stop>
     requires over { IsOver (signatures_of earlier.now) store.now }
@@ -185,7 +185,7 @@ fn convert<L: Ledger>(
             Ok(())
         }
         Converting::Unfold => {
-            unfold(earlier, store, stack, steps)?;
+            unfold(earlier, store, stack, spare, steps)?;
             Ok(())
         }
         Converting::ConvCut => {
@@ -205,7 +205,6 @@ fn convert<L: Ledger>(
 
 /// Executes a command by the published table: a gap is refused.
 pub(crate) fn execute<L: Ledger>(
-    alloc: Global,
     earlier: &Earlier,
     command: Command,
     value: u32,
@@ -213,6 +212,7 @@ pub(crate) fn execute<L: Ledger>(
     heap: &mut Vec<Item>,
     stack: &mut Vec<Item>,
     hyps: &mut Vec<Id>,
+    spare: &mut Spare,
     steps: &mut Steps<L>,
 ) -> Result<(), Stop>
     requires over { IsOver (signatures_of earlier.now) store.old }
@@ -231,7 +231,7 @@ pub(crate) fn execute<L: Ledger>(
 {
     match command {
         Command::Makes(making) => {
-            make(alloc, earlier, making, value, store, heap, stack, steps)?;
+            make(earlier, making, value, store, heap, stack, spare, steps)?;
             Ok(())
         }
         Command::Keeps(keeping) => {
@@ -239,7 +239,7 @@ pub(crate) fn execute<L: Ledger>(
             Ok(())
         }
         Command::Converts(converting) => {
-            convert(alloc, earlier, converting, store, heap, stack, steps)?;
+            convert(earlier, converting, store, heap, stack, spare, steps)?;
             Ok(())
         }
     }

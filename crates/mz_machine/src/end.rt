@@ -18,24 +18,24 @@ ghost use Rattle.mz_machine.specs.OverStore.{state_at, AreFirst, IsContextOf, Gi
 ghost use Rattle.mz_machine.specs.Endings.{mode_at, ended, IsOwnRun};
 
 use crate::commands::heap::is_provable;
+use crate::spare::Spare;
 use mz_cmd::{K, Steps};
 use mz_earlier::{BodyKind, Earlier, first_ids, own_arity, own_proofs, own_stream};
 use mz_logic::Word;
 use mz_store::{Id, Item, Store};
-use mz_unify::{Stop, Unified, UnifyMode, unify};
-use std::alloc::Global;
+use mz_unify::{Stop, Unified, UnifyMode, unify_in};
 use std::sync::ledger::Ledger;
 
 /// Ends the body of the next row of its kind: the stack is one item, for a theorem a proof and else
 /// an expression, and what the row's own stream spells.
 pub(crate) fn end<L: Ledger>(
-    alloc: Global,
     earlier: &Earlier,
     kind: BodyKind,
     row: u32,
     store: &Store,
     stack: &[Item],
     hyps: &[Id],
+    spare: &mut Spare,
     steps: &mut Steps<L>,
 ) -> Result<(), Stop>
     requires row { IsNextRow earlier.now.file earlier.now.rows row (kind_of kind) }
@@ -56,49 +56,46 @@ pub(crate) fn end<L: Ledger>(
     if let Err(rule) = check_target(earlier, kind, row, store, target) {
         return Err(Stop::Rule(rule));
     }
-    let Ok(operands) = first_ids(alloc, own_arity(earlier, kind, row)) else {
+    let Ok(()) = first_ids(&mut spare.operands, own_arity(earlier, kind, row)) else {
         return Err(Stop::Mem);
     };
-    let Ok(proofs) = own_proofs(alloc, kind, hyps) else {
+    let Ok(()) = own_proofs(&mut spare.hyps, kind, hyps) else {
         return Err(Stop::Mem);
     };
     let stream = own_stream(earlier, kind, row);
-    run_own(
-        earlier, kind, stream, operands, target, proofs, store, steps,
-    )
+    run_own(earlier, kind, stream, target, store, spare, steps)
 }
 
-/// Runs the row's own stream: at an assertion's end its hypotheses are taken too.
+/// Runs the row's own stream on the operands and the hypotheses of these lists: at an assertion's end
+/// its hypotheses are taken too.
 fn run_own<L: Ledger>(
     earlier: &Earlier,
     kind: BodyKind,
     stream: &[u8],
-    operands: Vec<Id>,
     target: Id,
-    proofs: Vec<Item>,
     store: &Store,
+    spare: &mut Spare,
     steps: &mut Steps<L>,
 ) -> Result<(), Stop>
     requires stream { length stream.now < 2 ^ 32 }
     requires over { IsOver (signatures_of earlier.now) store.now }
-    requires operands { AreIn store.now operands.items }
-    requires variables { AreVariables store.now operands.items }
+    requires operands { AreIn store.now spare.old.operands.items }
+    requires variables { AreVariables store.now spare.old.operands.items }
     requires target { IsIn store.now target.0 }
-    requires proofs { AreItemsIn store.now proofs.items }
-    ensures run { IsOwnRun (unify strict (signatures_of earlier.now) store.now.context (matching_at store.now (mode_at (kind_of kind)) stream.now operands.items target proofs.items)) result }
-    ensures steps { UnlessMem result (steps.new ≡ steps.old + unify_steps strict (signatures_of earlier.now) store.now.context (matching_at store.now (mode_at (kind_of kind)) stream.now operands.items target proofs.items)) }
+    requires proofs { AreItemsIn store.now spare.old.hyps.items }
+    ensures run { IsOwnRun (unify strict (signatures_of earlier.now) store.now.context (matching_at store.now (mode_at (kind_of kind)) stream.now spare.old.operands.items target spare.old.hyps.items)) result }
+    ensures steps { UnlessMem result (steps.new ≡ steps.old + unify_steps strict (signatures_of earlier.now) store.now.context (matching_at store.now (mode_at (kind_of kind)) stream.now spare.old.operands.items target spare.old.hyps.items)) }
     ensures most { steps.new ≤ steps.old + length stream.now }
 {
-    let mut operands = operands;
-    let mut proofs = proofs;
     let mode = mode_of(kind);
-    match unify(
+    match unify_in(
         earlier,
         stream,
         mode,
-        &mut operands,
+        &mut spare.operands,
         target,
-        &mut proofs,
+        &mut spare.targets,
+        &mut spare.hyps,
         store,
         steps,
     ) {

@@ -1,8 +1,8 @@
 //! The operands of a row: taken from the stack, and compared with its parameters.
-ghost use Rattle.std.specs.Prelude.{ℕ, ◌≡◌, List, [], ◌∷◌, IfOk, length};
+ghost use Rattle.std.specs.Prelude.{ℕ, ◌≡◌, List, [], ◌∷◌, OnOk, length};
 ghost use Rattle.mz_logic.specs.Tree.{Tree};
 ghost use Rattle.mz_logic.specs.Signature.{Signature};
-ghost use Rattle.mz_logic.specs.Words.{binders_of, word_bound, word_sort};
+ghost use Rattle.mz_logic.specs.Words.{binders_of, bound_places, word_bound, word_sort};
 ghost use Rattle.mz_logic.specs.declared.binder.Binder.{Binder};
 ghost use Rattle.mz_layout.specs.Rows.{params_of};
 ghost use Rattle.mz_store.specs.Sharing.{IsIn, AreIn, IsOver, tree_of};
@@ -10,41 +10,48 @@ ghost use Rattle.mz_unify.specs.Stored.{items_at, trees_at, AreItemsIn};
 ghost use Rattle.mz_soundness.specs.Premises.{pop_operands, operands_fit};
 ghost use Rattle.mz_earlier.specs.Before.{signatures_of};
 ghost use Rattle.mz_earlier.specs.OperandRows.{IsBefore};
-ghost use Rattle.mz_machine.specs.OverStore.{Gives, GivesRule};
+ghost use Rattle.mz_machine.specs.OverStore.{exprs_of, Gives, GivesRule};
 
-use crate::stack::pop_expr;
 use mz_cmd::K;
 use mz_earlier::Earlier;
 use mz_layout::Row;
 use mz_logic::Word;
 use mz_store::{Id, Item, Store};
 use mz_unify::{Stop, push};
-use std::alloc::Global;
 
-/// Takes so many expressions from the stack, of which the last is on top.
+/// Takes so many expressions from the stack, of which the last is on top; the list becomes these.
 pub(crate) fn pop_operands(
-    alloc: Global,
     store: &Store,
     count: u32,
     stack: &mut Vec<Item>,
-) -> Result<Vec<Id>, Stop>
+    operands: &mut Vec<Id>,
+) -> Result<(), Stop>
     requires { AreItemsIn store.now stack.old.items }
-    ensures ids { IfOk result (λ es. AreIn store.now es.items × AreItemsIn store.now stack.new.items) }
-    ensures many { IfOk result (λ es. length es.items ≡ count) }
-    ensures taken { Gives (pop_operands count (items_at store.now stack.old.items)) result (λ es. (trees_at store.now es.items, items_at store.now stack.new.items)) }
+    ensures ids { OnOk result (AreIn store.now operands.new.items × AreItemsIn store.now stack.new.items) }
+    ensures many { OnOk result (length operands.new.items ≡ count) }
+    ensures taken { Gives (pop_operands count (items_at store.now stack.old.items)) result (λ _. (trees_at store.now operands.new.items, items_at store.now stack.new.items)) }
 {
     if stack.len() < count as usize {
         return Err(Stop::Rule(K::Underflow));
     }
-    let mut taken = Vec::new(alloc);
-    'operands: for i in 0..count {
-        match pop_expr(store, stack) {
-            Ok(id) => push(&mut taken, id)?,
-            Err(rule) => return Err(Stop::Rule(rule)),
-        }
+    let below = stack.len() - count as usize;
+    read_exprs(&stack[below..], operands)?;
+    stack.truncate(below);
+    Ok(())
+}
+
+/// Reads items as expressions, whose ids the list becomes.
+fn read_exprs(items: &[Item], ids: &mut Vec<Id>) -> Result<(), Stop>
+    ensures { Gives (exprs_of items.now) result (λ _. ids.new.items) }
+{
+    ids.clear();
+    'items: for item in items {
+        let Item::Expr(id) = *item else {
+            return Err(Stop::Rule(K::Kind));
+        };
+        push(ids, id)?;
     }
-    taken.reverse();
-    Ok(taken)
+    Ok(())
 }
 
 /// Whether an operand has its parameter's sort, and for a bound parameter is a bound variable.
@@ -76,6 +83,34 @@ pub(crate) fn check_operands(
 {
     'operands: for j in 0..earlier.arity_of(row) {
         check_operand(store, earlier.word_of(row, j), operands[j as usize])?;
+    }
+    Ok(())
+}
+
+/// Whether each operand fits its parameter; the list becomes the places of the bound parameters.
+pub(crate) fn check_cited(
+    earlier: &Earlier,
+    row: Row,
+    store: &Store,
+    operands: &[Id],
+    places: &mut Vec<u32>,
+) -> Result<(), Stop>
+    requires row { IsBefore earlier.now row }
+    requires over { IsOver (signatures_of earlier.now) store.now }
+    requires ids { AreIn store.now operands.now }
+    requires many { length operands.now ≡ length (params_of earlier.now.file row) }
+    ensures fit { Gives (operands_fit (signatures_of earlier.now) store.now.context (trees_at store.now operands.now) (binders_of (params_of earlier.now.file row))) result (λ _. tt) }
+    ensures places { OnOk result (places.new.items ≡ bound_places 0 (params_of earlier.now.file row)) }
+{
+    places.clear();
+    'operands: for j in 0..earlier.arity_of(row) {
+        let word = earlier.word_of(row, j);
+        if let Err(rule) = check_operand(store, word, operands[j as usize]) {
+            return Err(Stop::Rule(rule));
+        }
+        if word.bound() {
+            push(places, j)?;
+        }
     }
     Ok(())
 }

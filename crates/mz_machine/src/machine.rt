@@ -19,12 +19,13 @@ use crate::body::BodyEnd;
 use crate::command::{Command, decoded};
 use crate::commands::{execute, gap};
 use crate::end::end;
+use crate::spare::Spare;
 use mz_cmd::{Cmd, K, ProofCode, Steps};
 use mz_earlier::{BodyKind, Converting, Earlier, deps_mode, first_items, kind_by, read_words};
 use mz_layout::{Mmb, Rows};
 use mz_logic::Word;
 use mz_mode::Mode;
-use mz_store::{Id, Item, Store};
+use mz_store::{Id, Item, Seed, Store};
 use mz_unify::Stop;
 use std::alloc::{AllocError, Global};
 use std::marker::Model;
@@ -36,7 +37,6 @@ const MOST_KEPT: usize = 1_000;
 /// The statement whose body runs, and the rows before it.
 #[derive(Drop)]
 pub(crate) struct Setting<'a> {
-    alloc: Global,
     earlier: Earlier<'a>,
     mode: Mode,
     kind: BodyKind,
@@ -52,6 +52,7 @@ pub(crate) struct Parts {
     stack: Vec<Item>,
     hyps: Vec<Id>,
     sorry: bool,
+    spare: Spare,
 }
 
 /// A machine between two commands of a body. Its meaning is the state to which they have led, over
@@ -119,8 +120,8 @@ impl<'a> Machine<'a> {
         ensures { IfOk result (λ machine. IsBegun (gaps_of mode) mmb.now kind row before machine) }
     {
         let mut words = Vec::new(alloc);
-        let mut parts = Parts::new(alloc);
-        let setting = Setting::begin(alloc, mmb, mode, kind, row, before, &mut words, &mut parts)?;
+        let mut parts = Parts::new(alloc, Seed::FIXED);
+        let setting = Setting::begin(mmb, mode, kind, row, before, &mut words, &mut parts)?;
         Ok(Machine { setting, parts })
     }
 
@@ -148,19 +149,21 @@ impl<'a> Machine<'a> {
         ensures steps { UnlessEndMem result (steps.new ≡ steps.old + end_steps self.entry.gaps (tables_for self.entry) (heading_for self.entry) self.entry.state) }
         ensures most { steps.new ≤ steps.old + (1 + length self.entry.file) }
     {
-        self.setting.finish(&self.parts, steps)
+        let Machine { setting, mut parts } = self;
+        setting.finish(&mut parts, steps)
     }
 }
 
 impl Parts {
     /// Nothing, which takes no memory.
-    pub(crate) fn new(alloc: Global) -> Parts {
+    pub(crate) fn new(alloc: Global, seed: Seed) -> Parts {
         Parts {
-            store: Store::new(alloc),
+            store: Store::seeded(alloc, seed),
             heap: Vec::new(alloc),
             stack: Vec::new(alloc),
             hyps: Vec::new(alloc),
             sorry: false,
+            spare: Spare::new(alloc),
         }
     }
 
@@ -179,7 +182,6 @@ impl<'a> Setting<'a> {
     ///
     /// Where there is no memory.
     pub(crate) fn begin(
-        alloc: Global,
         mmb: &'a Mmb<'a>,
         mode: Mode,
         kind: u8,
@@ -202,7 +204,6 @@ impl<'a> Setting<'a> {
         parts.sorry = false;
         let bound_params = parts.store.bound_count();
         Ok(Setting {
-            alloc,
             earlier,
             mode,
             kind,
@@ -227,7 +228,6 @@ impl<'a> Setting<'a> {
     {
         parts.sorry = has_gap(parts.sorry, cmd.code);
         obey(
-            self.alloc,
             &self.earlier,
             self.mode,
             self.kind,
@@ -236,26 +236,27 @@ impl<'a> Setting<'a> {
             &mut parts.heap,
             &mut parts.stack,
             &mut parts.hyps,
+            &mut parts.spare,
             steps,
         )
     }
 
     /// Ends the body, and counts the steps of its END.
-    pub(crate) fn finish<L: Ledger>(&self, parts: &Parts, steps: &mut Steps<L>) -> Finished
-        requires { IsRunning self.now parts.now }
-        ensures run { IsFinished (machine_of self.now parts.now) result }
-        ensures steps { UnlessEndMem result (steps.new ≡ steps.old + end_steps (gaps_of self.now.mode) (tables_of self.now.earlier) (heading_for (machine_of self.now parts.now)) (machine_of self.now parts.now).state) }
+    pub(crate) fn finish<L: Ledger>(&self, parts: &mut Parts, steps: &mut Steps<L>) -> Finished
+        requires { IsRunning self.now parts.old }
+        ensures run { IsFinished (machine_of self.now parts.old) result }
+        ensures steps { UnlessEndMem result (steps.new ≡ steps.old + end_steps (gaps_of self.now.mode) (tables_of self.now.earlier) (heading_for (machine_of self.now parts.old)) (machine_of self.now parts.old).state) }
         ensures most { steps.new ≤ steps.old + (1 + length self.now.earlier.file) }
     {
         steps.tick();
         match end(
-            self.alloc,
             &self.earlier,
             self.kind,
             self.row,
             &parts.store,
             &parts.stack,
             &parts.hyps,
+            &mut parts.spare,
             steps,
         ) {
             Ok(()) => Finished::Body(counted(
@@ -273,7 +274,6 @@ impl<'a> Setting<'a> {
 /// Executes a command other than END, if it stands in bodies of the kind, and counts its steps. A
 /// draft's gap is let through.
 fn obey<L: Ledger>(
-    alloc: Global,
     earlier: &Earlier,
     mode: Mode,
     kind: BodyKind,
@@ -282,6 +282,7 @@ fn obey<L: Ledger>(
     heap: &mut Vec<Item>,
     stack: &mut Vec<Item>,
     hyps: &mut Vec<Id>,
+    spare: &mut Spare,
     steps: &mut Steps<L>,
 ) -> Result<(), Stop>
     requires code { cmd.code ≡ 0 → ⊥ }
@@ -308,7 +309,7 @@ fn obey<L: Ledger>(
         return Ok(());
     }
     execute(
-        alloc, earlier, command, cmd.value, store, heap, stack, hyps, steps,
+        earlier, command, cmd.value, store, heap, stack, hyps, spare, steps,
     )
 }
 

@@ -2,11 +2,13 @@
 
 use crate::machine::Parts;
 use mz_logic::Word;
+use mz_store::Seed;
 use std::alloc::{AllocError, Global};
 
 /// What bodies have taken of memory, kept for the next one. It says nothing of them.
 #[derive(Drop)]
 pub struct Room {
+    seed: Seed,
     desk: Option<Box<Desk>>,
 }
 
@@ -18,16 +20,16 @@ pub(crate) struct Desk {
 }
 
 impl Room {
-    /// No room yet.
-    pub fn new() -> Room {
-        Room { desk: None }
+    /// No room yet. The bodies' terms are numbered with the seed.
+    pub fn new(seed: Seed) -> Room {
+        Room { seed, desk: None }
     }
 
     /// The desk of the last body, or a new one.
     pub(crate) fn take(&mut self, alloc: Global) -> Result<Box<Desk>, AllocError> {
         match self.desk.take() {
             Some(desk) => Ok(desk),
-            None => Ok(Box::new(alloc, Desk::new(alloc))?),
+            None => Ok(Box::new(alloc, Desk::new(alloc, self.seed))?),
         }
     }
 
@@ -40,10 +42,10 @@ impl Room {
 }
 
 impl Desk {
-    fn new(alloc: Global) -> Desk {
+    fn new(alloc: Global, seed: Seed) -> Desk {
         Desk {
             words: Vec::new(alloc),
-            parts: Parts::new(alloc),
+            parts: Parts::new(alloc, seed),
         }
     }
 }

@@ -2,9 +2,10 @@
 #![tactic(auto)]
 
 use mz_io::{DiskFolder, StdSink};
-use mz_tool::{Status, run};
+use mz_tool::{Seed, Status, run};
 use std::alloc::Global;
 use std::process::ExitCode;
+use std::random::RandomSource;
 use std::rt::Env;
 use std::{env, io};
 
@@ -17,12 +18,21 @@ fn words_of(rt: &(impl Env + AllocGlobal)) -> io::Result<Vec<String>> {
     Ok(words)
 }
 
+/// A seed that the system draws by chance, and the one that is fixed where it draws none.
+fn seed_of(rt: &impl RandomSource) -> Seed {
+    let mut bytes = [0; 8];
+    match rt.fill_bytes(&mut bytes) {
+        Ok(()) => Seed(u64::from_le_bytes(bytes)),
+        Err(_) => Seed::FIXED,
+    }
+}
+
 fn main(rt: HostRuntime) -> ExitCode {
     let status = match words_of(&rt) {
         Ok(words) => {
             let mut folder = DiskFolder::new(&rt);
             let mut out = StdSink::new(io::writer(&rt));
-            run(rt.alloc(), &words, &mut folder, &mut out)
+            run(rt.alloc(), seed_of(&rt), &words, &mut folder, &mut out)
         }
         Err(error) if error.kind() == io::ErrorKind::OutOfMemory => Status::Memory,
         Err(_) => Status::Usage,

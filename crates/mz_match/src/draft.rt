@@ -13,6 +13,7 @@ use mz_binary::Standard;
 use mz_cmd::{Refusal, Steps};
 use mz_mode::Mode;
 use mz_spec::SpecRefusal;
+use mz_store::Seed;
 use std::alloc::Global;
 use std::marker::Model;
 use std::sync::ledger::Ledger;
@@ -63,7 +64,13 @@ pub enum Draft {
 
 /// Checks a binary whose proofs may have gaps against a specification, as `verify_bytes` does one
 /// without, and tells which of the specification's theorems rest on a gap.
-pub fn draft_bytes<L: Ledger>(alloc: Global, spec: &[u8], bin: &[u8], steps: &mut Steps<L>) -> Draft
+pub fn draft_bytes<L: Ledger>(
+    alloc: Global,
+    seed: Seed,
+    spec: &[u8],
+    bin: &[u8],
+    steps: &mut Steps<L>,
+) -> Draft
     requires spec { length spec.now < 2 ^ 32 }
     requires bin { length bin.now < 2 ^ 32 }
     ensures draft { IsDraft spec.now bin.now result }
@@ -73,10 +80,16 @@ pub fn draft_bytes<L: Ledger>(alloc: Global, spec: &[u8], bin: &[u8], steps: &mu
     ensures steps { TicksBy draft_standard bin.now steps.old steps.new (verdict_of result) }
     ensures bound { steps.new ≤ steps.old + (length bin.now * length bin.now + length bin.now) }
 {
-    judge_draft(alloc, spec, bin, steps)
+    judge_draft(alloc, seed, spec, bin, steps)
 }
 
-fn judge_draft<L: Ledger>(alloc: Global, spec: &[u8], bin: &[u8], steps: &mut Steps<L>) -> Draft
+fn judge_draft<L: Ledger>(
+    alloc: Global,
+    seed: Seed,
+    spec: &[u8],
+    bin: &[u8],
+    steps: &mut Steps<L>,
+) -> Draft
     requires spec { length spec.now < 2 ^ 32 }
     requires bin { length bin.now < 2 ^ 32 }
     ensures draft { IsDraft spec.now bin.now result }
@@ -86,6 +99,7 @@ fn judge_draft<L: Ledger>(alloc: Global, spec: &[u8], bin: &[u8], steps: &mut St
     let mut places = Vec::new(alloc);
     match judge(
         alloc,
+        seed,
         spec,
         bin,
         Standard::Published(Mode::Draft),

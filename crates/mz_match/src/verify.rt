@@ -12,6 +12,7 @@ use mz_cmd::{Mem, Steps};
 use mz_layout::Mmb;
 use mz_mode::Mode;
 use mz_spec::{Spec, SpecRead, read_spec};
+use mz_store::Seed;
 use std::alloc::Global;
 use std::sync::ledger::Ledger;
 
@@ -19,6 +20,7 @@ use std::sync::ledger::Ledger;
 /// comparing each public statement with its declaration as it comes.
 pub fn verify_bytes<L: Ledger>(
     alloc: Global,
+    seed: Seed,
     spec: &[u8],
     bin: &[u8],
     steps: &mut Steps<L>,
@@ -32,12 +34,20 @@ pub fn verify_bytes<L: Ledger>(
     ensures steps { Ticks bin.now steps.old steps.new result }
     ensures bound { steps.new ≤ steps.old + (length bin.now * length bin.now + length bin.now) }
 {
-    verify_by(alloc, spec, bin, Standard::Published(Mode::Strict), steps)
+    verify_by(
+        alloc,
+        seed,
+        spec,
+        bin,
+        Standard::Published(Mode::Strict),
+        steps,
+    )
 }
 
 /// Verifies as `verify_bytes` does, the binary's bodies held to a standard.
 pub fn verify_by<L: Ledger>(
     alloc: Global,
+    seed: Seed,
     spec: &[u8],
     bin: &[u8],
     standard: Standard,
@@ -52,12 +62,13 @@ pub fn verify_by<L: Ledger>(
     ensures bound { steps.new ≤ steps.old + (length bin.now * length bin.now + length bin.now) }
 {
     let mut places = Vec::new(alloc);
-    judge(alloc, spec, bin, standard, &mut places, steps)
+    judge(alloc, seed, spec, bin, standard, &mut places, steps)
 }
 
 /// What is said of the two, and in a draft the places of the declarations whose theorems rest on a gap.
 pub(crate) fn judge<L: Ledger>(
     alloc: Global,
+    seed: Seed,
     spec: &[u8],
     bin: &[u8],
     standard: Standard,
@@ -77,7 +88,7 @@ pub(crate) fn judge<L: Ledger>(
         SpecRead::Mem => return Verdict::Mem,
     };
     match Mmb::read(bin) {
-        Ok(mmb) => check_list(alloc, &declared, &mmb, standard, places, steps),
+        Ok(mmb) => check_list(alloc, seed, &declared, &mmb, standard, places, steps),
         Err(refusal) => Verdict::Binary(refusal),
     }
 }
@@ -85,6 +96,7 @@ pub(crate) fn judge<L: Ledger>(
 /// Checks the list of statements, and each public one beside its declaration.
 fn check_list<L: Ledger>(
     alloc: Global,
+    seed: Seed,
     spec: &Spec,
     mmb: &Mmb,
     standard: Standard,
@@ -98,7 +110,7 @@ fn check_list<L: Ledger>(
     ensures steps { TicksBy standard mmb.now steps.old steps.new result }
     ensures bound { steps.new ≤ steps.old + (length mmb.now * length mmb.now + length mmb.now) }
 {
-    let mut checker = Checker::new(alloc, mmb, standard);
+    let mut checker = Checker::new(alloc, seed, mmb, standard);
     let mut matching = Matching::new(alloc);
     'statements: loop {
         match checker.check_next(steps) {

@@ -5,7 +5,8 @@ use Rattle.mz_checks.specs.Checks.{Checks, ◌>>◌, retold, AreDecided}
 use Rattle.mz_checks.proofs.Offered.{are_decided-both, bytes-decided, retold-decided}
 use Rattle.mz_sexpr.specs.Node.{Node, Nodes, atom, list, no_nodes, node, word, parts}
 use Rattle.mz_forms.specs.declared.fault.Fault.{Fault}
-use Rattle.mz_forms.specs.Name.{Names, Scope, hidden, number_of, is_identifier}
+use Rattle.mz_names.specs.Names.{number_of}
+use Rattle.mz_forms.specs.Name.{Names, Scope, hidden, is_identifier}
 use Rattle.mz_forms.specs.declared.keyword.Keyword.{Keyword}
 use Rattle.mz_forms.specs.declared.keyword.Keyword.TheVariants.{Conv as conv_word, Let as let_word, Refl as refl_word, Sym as sym_word, Unfold as unfold_word, Sorry as sorry_word, Other as no_word}
 use Rattle.mz_forms.specs.Proofs.{conv_keyword, proof_keyword}

@@ -4,7 +4,8 @@ use Rattle.mz_checks.specs.Checks.{◌>>◌, AllHold}
 use Rattle.mz_checks.proofs.Offered.{all_hold-both}
 use Rattle.mz_sexpr.specs.Node.{Node, Nodes, atom, list, no_nodes, node, parts}
 use Rattle.mz_logic.specs.declared.binder.Binder.{Binder}
-use Rattle.mz_forms.specs.Name.{Names, IsName, IsNew}
+use Rattle.mz_names.specs.Names.{IsNew}
+use Rattle.mz_forms.specs.Name.{Names, IsName}
 use Rattle.mz_forms.specs.NamesMore.{IsUnused}
 use Rattle.mz_forms.specs.Expressions.{AreParams}
 use Rattle.mz_forms.specs.Proof.{Statement}

@@ -9,7 +9,8 @@ use Rattle.mz_logic.specs.Conversions.{Conversion, Conversions, refl_conv, sym_c
 use Rattle.mz_logic.specs.declared.binder.Binder.{Binder}
 use Rattle.mz_logic.specs.declared.binder.ResultType.{ResultType}
 use Rattle.mz_forms.specs.declared.fault.Fault.{Fault}
-use Rattle.mz_forms.specs.Name.{Names, Scope, hidden, number_of, IsName, IsNew, IsKnown, HasNumber, IsNewName, IsParamName}
+use Rattle.mz_names.specs.Names.{number_of, IsNew, IsKnown}
+use Rattle.mz_forms.specs.Name.{Names, Scope, hidden, IsName, HasNumber, IsNewName, IsParamName}
 use Rattle.mz_forms.specs.Expressions.{IsVariable, IsConstant, IsExpr, AreExprs, IsExprList, AreVariables, IsVariableList, AreDeps, IsParam, IsDummy, AreBinders, AreParams, AreDummies, IsResult}
 use Rattle.mz_forms.specs.Proof.{Proof, Proofs, by_hyp, by_name, by_citation, by_conv, by_let, by_gap, no_proofs, more_proofs}
 use Rattle.mz_forms.specs.declared.keyword.Keyword.{Keyword}

@@ -1,6 +1,6 @@
 -- Statements, one after another.
-use Rattle.std.proofs.Common.{ℕ, suc, ◌≡◌, ◌≤◌, ◌<◌, ◌+◌, ◌-◌, ◌∙◌, Bool, true, false, List, [], ◌∷◌, ◌++◌, length, Option, Some, None, sym, ap, refl, subst, arith, append_assoc, append-nil}
-use Rattle.std.specs.Prelude.{option_map, bytes_eq, if◌then◌else◌}
+use Rattle.std.proofs.Common.{ℕ, suc, ◌≡◌, ◌≤◌, ◌<◌, ◌+◌, ◌-◌, ◌∙◌, Bool, true, false, List, [], ◌∷◌, ◌++◌, length, Some, None, sym, ap, refl, subst, arith, append_assoc, append-nil}
+use Rattle.std.specs.Prelude.{bytes_eq, if◌then◌else◌}
 use Rattle.mz_checks.specs.Checks.{Checks, retold, FailsFirst}
 use Rattle.mz_checks.proofs.Offered.{Decides, decides-after, fails-before, retold-fails, retold-holds}
 use Rattle.mz_sexpr.specs.Node.{Node, Nodes, no_nodes, node}
@@ -20,7 +20,9 @@ use Rattle.mz_forms.specs.declared.fault.Stop.{Stop}
 use Rattle.mz_forms.specs.declared.fault.Stop.TheVariants as stop
 use Rattle.mz_mmu.specs.declared.text.TextStop.{TextStop}
 use Rattle.mz_forms.specs.declared.fault.Fault.{Fault}
-use Rattle.mz_forms.specs.Name.{Names, number_of, IsName, IsNew}
+use Rattle.mz_names.specs.Names.{IsNew}
+use Rattle.mz_names.proofs.Offered.{new-both, new-parts}
+use Rattle.mz_forms.specs.Name.{Names, IsName}
 use Rattle.mz_forms.specs.NamesMore.{AreFew}
 use Rattle.mz_mmu.specs.EntryView.{AreNumbers}
 use Rattle.mz_forms.specs.Proof.{Statement}
@@ -67,48 +69,21 @@ few_with names w (assertion_decl a) n few = let k = length-more names.assertions
 pub few_more : (names later : Names) (w : List ℕ) (d : Declaration) (n m : ℕ) → later ≡ names_with names w d → m ≡ suc n → AreFew names n → AreFew later m
 few_more names later w d n m after one few = subst (λ k. AreFew later k) (sym one) (subst (λ x. AreFew x (suc n)) (sym after) (few_with names w d n few))
 
-new_in_more : (xs : List (List ℕ)) (x w : List ℕ) → IsNew (xs ++ x ∷ []) w → IsNew xs w × (bytes_eq w x ≡ false)
-new_in_more [] x w h = (refl, go (bytes_eq w x) h)
-  where
-    go : (b : Bool) → (if b then Some 0 else option_map suc None) ≡ None → b ≡ false
-    go true e = absurd (let f : Some 0 ≡ None = e in cc)
-    go false e = refl
-new_in_more (y ∷ xs) x w h = go (bytes_eq w y) (new_in_more xs x w) h
-  where
-    none : (o : Option ℕ) → option_map suc o ≡ None → o ≡ None
-    none None e = refl
-    none (Some i) e = absurd (let f : Some (suc i) ≡ None = e in cc)
-
-    go : (b : Bool) → (IsNew (xs ++ x ∷ []) w → IsNew xs w × (bytes_eq w x ≡ false)) → (if b then Some 0 else option_map suc (number_of (xs ++ x ∷ []) w)) ≡ None
-        → ((if b then Some 0 else option_map suc (number_of xs w)) ≡ None) × (bytes_eq w x ≡ false)
-    go true f e = absurd (let g : Some 0 ≡ None = e in cc)
-    go false f e = let r = f (none (number_of (xs ++ x ∷ []) w) e) in (ap (option_map suc) r.0, r.1)
-
-new_more : (xs : List (List ℕ)) (x w : List ℕ) → IsNew xs w → bytes_eq w x ≡ false → IsNew (xs ++ x ∷ []) w
-new_more [] x w h e = ap (λ b. if b then Some 0 else None) e
-new_more (y ∷ xs) x w h e = go (bytes_eq w y) (λ k. new_more xs x w k e) h
-  where
-    none : (o : Option ℕ) → option_map suc o ≡ None → o ≡ None
-    none None e = refl
-    none (Some i) e = absurd (let f : Some (suc i) ≡ None = e in cc)
-
-    go : (b : Bool) → (IsNew xs w → IsNew (xs ++ x ∷ []) w) → (if b then Some 0 else option_map suc (number_of xs w)) ≡ None → (if b then Some 0 else option_map suc (number_of (xs ++ x ∷ []) w)) ≡ None
-    go true f e = absurd (let g : Some 0 ≡ None = e in cc)
-    go false f e = ap (option_map suc) (f (none (number_of xs w) e))
-
 name_not_empty : (w : List ℕ) → IsName w → bytes_eq w [] ≡ false
 name_not_empty [] h = absurd (let f : false ≡ true = h in cc)
 name_not_empty (b ∷ w) h = refl
 
-constant_differs : (params : List Binder) (x w : List ℕ) → IsName w → bytes_eq w x ≡ false → bytes_eq w (constant_name params x) ≡ false
-constant_differs [] x w h e = e
-constant_differs (p ∷ ps) x w h e = name_not_empty w h
+-- a name that is another than a term's is another than that of a constant
+constant_differs : (params : List Binder) (x w : List ℕ) → IsName w → IsNew (x ∷ []) w → IsNew (constant_name params x ∷ []) w
+constant_differs [] x w h new = new
+constant_differs (p ∷ ps) x w h new = ap (λ b. if b then Some 0 else None) (name_not_empty w h)
 
 agrees_with : (names : Names) (x : List ℕ) (d : Declaration) → Agrees names → Agrees (names_with names x d)
 agrees_with names x (sort_decl m) g = g
 agrees_with names x (assertion_decl a) g = g
 agrees_with names x (term_decl t) g = λ w h new.
-    let k = new_in_more names.terms x w new in new_more names.constants (constant_name t.signature.params x) w (g w h k.0) (constant_differs t.signature.params x w h k.1)
+    let k = new-parts names.terms (x ∷ []) w new in
+    new-both names.constants (constant_name t.signature.params x ∷ []) w (g w h k.0) (constant_differs t.signature.params x w h k.1)
 
 pub agrees_more : (names later : Names) (x : List ℕ) (d : Declaration) → later ≡ names_with names x d → Agrees names → Agrees later
 agrees_more names later x d after g = subst Agrees (sym after) (agrees_with names x d g)

@@ -1,21 +1,25 @@
 -- Names are gathered as the list of statements goes on.
-use Rattle.std.proofs.Common.{◌≡◌, ◌∙◌, ◌≤◌, ◌+◌, ◌⊎◌, ℕ, suc, Bool, true, false, List, [], ◌∷◌, ◌++◌, get_or, Ok, refl, sym, ap, subst, inl, inr, arith, append_assoc, append-nil}
+use Rattle.std.proofs.Common.{◌≡◌, ◌∙◌, ◌+◌, ◌⊎◌, ℕ, suc, Bool, true, false, List, [], ◌∷◌, ◌++◌, get_or, refl, sym, ap, subst, inl, inr, arith, append_assoc, append-nil}
 use Rattle.std.specs.Prelude.{MatchBool, codes, decimal, if◌then◌else◌}
-use Rattle.mz_cmd.specs.declared.statement.StmtAt.TheVariants.{End, Head}
-use Rattle.mz_cmd.specs.Codes.{statement_code}
-use Rattle.mz_cmd.specs.StatementList.{statement_at}
+use Rattle.mz_checks.specs.Checks.{AllHold}
+use Rattle.mz_cmd.specs.declared.code.StatementCode.{StatementCode}
+use Rattle.mz_cmd.specs.declared.code.StatementCode.TheVariants as kinds
+use Rattle.mz_cmd.specs.Codes.{statement_byte}
 use Rattle.mz_logic.specs.Declaration.{Declaration, sort_decl, term_decl, assertion_decl}
 use Rattle.mz_logic.specs.LegalLists.{Statement}
-use Rattle.mz_layout.specs.Tables.{list_at}
+use Rattle.mz_layout.specs.Heads.{head_checks}
+use Rattle.mz_layout.specs.declared.head.Head.{Head}
 use Rattle.mz_binary.specs.Spelling.{IsKindOf, is_local_code}
-use Rattle.mz_binary.specs.Chains.{GoodTo}
+use Rattle.mz_binary.specs.Chains.{IsListEnd}
 use Rattle.mz_binary.specs.Good.{Good}
 use Rattle.mz_binary.specs.Standards.{strict_standard}
-use Rattle.mz_binary.proofs.Offered.{head-at, one-list, good-spelled}
+use Rattle.mz_binary.proofs.Offered.{one-list, good-spelled}
+use Rattle.mz_walk.specs.Walk.{GoesOn, nothing_passed, passed_with, past_public}
+use Rattle.mz_walk.specs.declared.passed.Passed.{Passed}
+use Rattle.mz_walk.proofs.Offered.{HasGone, IsOnWay, one-code, way-asks, way-first, way-last, way-more}
 use Rattle.mz_spec.specs.State.{Entry}
 use Rattle.mz_spec.specs.Spec.{SpecMakes}
 use Rattle.mz_spec.proofs.Offered.{one-reading}
-use Rattle.mz_axioms.specs.Places.{past_public}
 use Rattle.mz_axioms.specs.Text.{name_at}
 use Rattle.mz_wording.specs.Wording.{sort_name, term_name}
 use Rattle.mz_phrasing.specs.Naming.{Naming}
@@ -27,22 +31,19 @@ use Rattle.mz_naming.proofs.Runs.{name-is}
 
 -- ---- by the code of a statement
 
-abbrev Same : List ℕ → ℕ → Declaration → Type 0
-Same name code d =
-    (as_sort (statement_code code) name ≡ sort_name d name) × (as_term (statement_code code) name ≡ term_name d name)
-    × (as_assertion (statement_code code) name ≡ assertion_name d name)
+abbrev Same : List ℕ → Declaration → StatementCode → Type 0
+Same name d code = (as_sort code name ≡ sort_name d name) × (as_term code name ≡ term_name d name) × (as_assertion code name ≡ assertion_name d name)
 
-by-axiom : (name : List ℕ) (code : ℕ) (d : Declaration) (b : Bool) → Same name 0x02 d → Same name 0x06 d → Same name 0x0E d
-    → MatchBool b (code ≡ 0x02) ((code ≡ 0x06) ⊎ (code ≡ 0x0E)) → Same name code d
-by-axiom name code d true x y z is = subst (λ (n : ℕ). Same name n d) (sym is) x
-by-axiom name code d false x y z (inl is) = subst (λ (n : ℕ). Same name n d) (sym is) y
-by-axiom name code d false x y z (inr is) = subst (λ (n : ℕ). Same name n d) (sym is) z
-
-by-code : (name : List ℕ) (code : ℕ) (d : Declaration) → IsKindOf code d → Same name code d
-by-code name code (sort_decl m) is = subst (λ (n : ℕ). Same name n (sort_decl m)) (sym is) (refl, refl, refl)
-by-code name code (term_decl t) (inl is) = subst (λ (n : ℕ). Same name n (term_decl t)) (sym is) (refl, refl, refl)
-by-code name code (term_decl t) (inr is) = subst (λ (n : ℕ). Same name n (term_decl t)) (sym is) (refl, refl, refl)
-by-code name code (assertion_decl a) is = by-axiom name code (assertion_decl a) a.is_axiom (refl, refl, refl) (refl, refl, refl) (refl, refl, refl) is
+by-code : (name : List ℕ) (code : StatementCode) (d : Declaration) → IsKindOf (statement_byte code) d → Same name d code
+by-code name code (sort_decl m) is = subst (Same name (sort_decl m)) (sym (one-code code kinds.Sort is)) (refl, refl, refl)
+by-code name code (term_decl t) (inl is) = subst (Same name (term_decl t)) (sym (one-code code kinds.Term is)) (refl, refl, refl)
+by-code name code (term_decl t) (inr is) = subst (Same name (term_decl t)) (sym (one-code code kinds.LocalDefinition is)) (refl, refl, refl)
+by-code name code (assertion_decl a) is = by a.is_axiom is
+  where
+    by : (b : Bool) → MatchBool b (statement_byte code ≡ 0x02) ((statement_byte code ≡ 0x06) ⊎ (statement_byte code ≡ 0x0E)) → Same name (assertion_decl a) code
+    by true e = subst (Same name (assertion_decl a)) (sym (one-code code kinds.Axiom e)) (refl, refl, refl)
+    by false (inl e) = subst (Same name (assertion_decl a)) (sym (one-code code kinds.Theorem e)) (refl, refl, refl)
+    by false (inr e) = subst (Same name (assertion_decl a)) (sym (one-code code kinds.LocalTheorem e)) (refl, refl, refl)
 
 -- ---- the name of a public statement
 
@@ -81,92 +82,90 @@ module _ (names : List (List ℕ)) where
       ∙ sym (ap (λ (xs : List (List ℕ)). old ++ xs) (cut part s ss publics number s.is_local)) ∙ so_far
 
   module _ (file : List ℕ) where
-    pub record Walked (at : ℕ) (naming : Naming) (number publics : ℕ) : Type 0 where
+    pub record Walked (p : Passed) (naming : Naming) : Type 0 where
       pub whole : List Statement
-      pub good : Good strict_standard file whole
+      pub before : List Statement
       pub after : List Statement
       pub env : List Declaration
-      pub left : GoodTo strict_standard file env at after good.env good.to
-      pub sorts : naming.sorts ++ left-of sort_name publics number after ≡ left-of sort_name 0 0 whole
-      pub terms : naming.terms ++ left-of term_name publics number after ≡ left-of term_name 0 0 whole
-      pub assertions : naming.assertions ++ left-of assertion_name publics number after ≡ left-of assertion_name 0 0 whole
+      pub way : IsOnWay file p whole before after env
+      pub sorts : naming.sorts ++ left-of sort_name p.publics p.statements after ≡ left-of sort_name 0 0 whole
+      pub terms : naming.terms ++ left-of term_name p.publics p.statements after ≡ left-of term_name 0 0 whole
+      pub assertions : naming.assertions ++ left-of assertion_name p.publics p.statements after ≡ left-of assertion_name 0 0 whole
       pub prefix : naming.prefix ≡ prefix_beside names
-      pub number_low : number ≤ at
-      pub publics_low : publics ≤ at
 
-    pub walked-first : (ss : List Statement) → Good strict_standard file ss → Walked (list_at file) (no-names (prefix_beside names)) 0 0
+    pub walked-first : (ss : List Statement) → Good strict_standard file ss → Walked (nothing_passed file) (no-names (prefix_beside names))
     walked-first ss good = record {
       whole = ss;
-      good = good;
+      before = [];
       after = ss;
       env = [];
-      left = good.statements;
+      way = way-first file ss good;
       sorts = refl;
       terms = refl;
       assertions = refl;
       prefix = refl;
-      number_low = omega arith;
-      publics_low = omega arith;
     }
 
-    past-most : (k : ℕ) (l : Bool) → past_public k l ≤ k + 1
-    past-most k true = omega arith
-    past-most k false = omega arith
+    pub walked-asks : (p : Passed) (naming : Naming) → Walked p naming → AllHold (head_checks file p.rows p.at)
+    walked-asks p naming w = way-asks file p w.whole w.before w.after w.env w.way
 
-    pub walked-more : (at code body next : ℕ) (old new : Naming) (number publics : ℕ) → Walked at old number publics → statement_at file at ≡ Ok (Head code body next)
-        → IsAdded (statement_code code) (next_name names old.prefix (is_local_code code) publics (number + 1)) old new → Walked next new (number + 1) (past_public publics (is_local_code code))
-    walked-more at code body next old new number publics w stands added = go w.after w.left w.sorts w.terms w.assertions
+    pub walked-more : (p : Passed) (head : Head) (after : Passed) (old new : Naming) → Walked p old → GoesOn file p head after
+        → IsAdded head.code (next_name names old.prefix (is_local_code (statement_byte head.code)) p.publics after.statements) old new → Walked after new
+    walked-more p head after old new w on added = subst (λ (q : Passed). Walked q new) (sym on.passed) (record {
+      whole = w.whole;
+      before = w.before ++ s ∷ [];
+      after = gone.rest;
+      env = w.env ++ s.decl ∷ [];
+      way = gone.on;
+      sorts = kept sort_name old.sorts new.sorts w.sorts (add.sorts ∙ ap (λ (xs : List (List ℕ)). old.sorts ++ xs) same.0);
+      terms = kept term_name old.terms new.terms w.terms (add.terms ∙ ap (λ (xs : List (List ℕ)). old.terms ++ xs) same.1);
+      assertions = kept assertion_name old.assertions new.assertions w.assertions (add.assertions ∙ ap (λ (xs : List (List ℕ)). old.assertions ++ xs) same.2);
+      prefix = add.prefix ∙ w.prefix;
+    })
       where
-        go : (after : List Statement) → GoodTo strict_standard file w.env at after w.good.env w.good.to
-            → old.sorts ++ left-of sort_name publics number after ≡ left-of sort_name 0 0 w.whole
-            → old.terms ++ left-of term_name publics number after ≡ left-of term_name 0 0 w.whole
-            → old.assertions ++ left-of assertion_name publics number after ≡ left-of assertion_name 0 0 w.whole
-            → Walked next new (number + 1) (past_public publics (is_local_code code))
-        go [] (_, end) sorts terms assertions =
-            absurd (let e : Ok (Head code body next) ≡ Ok End = sym stands ∙ ap (statement_at file) (sym end) ∙ w.good.ends.ends in cc)
-        go (s ∷ ss) (next', good, rest) sorts terms assertions =
-            let both : Ok (Head good.spelled.code good.spelled.body next') ≡ Ok (Head code body next) = sym good.spelled.stands ∙ stands in
-            let code-is : good.spelled.code ≡ code = cc in
-            let next-is : next' ≡ next = cc in
-            let local-is : is_local_code code ≡ s.is_local = sym (good.spelled.kind.1 ∙ ap is_local_code code-is) in
-            let name = next-of s.is_local publics number in
-            let number-is : number + 1 ≡ suc number = omega arith in
-            let name-is : next_name names old.prefix (is_local_code code) publics (number + 1) ≡ name =
-            ap (λ (p : List ℕ). next_name names p (is_local_code code) publics (number + 1)) w.prefix ∙ ap (λ (b : Bool). next_name names (prefix_beside names) b publics (number + 1)) local-is
-            ∙ ap (next_name names (prefix_beside names) s.is_local publics) number-is in
-            let same = by-code name code s.decl (subst (λ (n : ℕ). IsKindOf n s.decl) code-is good.spelled.kind.0) in
-            let add = subst (λ (n : List ℕ). IsAdded (statement_code code) n old new) name-is added in
-            subst (λ (b : Bool). Walked next new (number + 1) (past_public publics b)) (sym local-is)
-            (subst (λ (n : ℕ). Walked next new n (past_public publics s.is_local)) (sym number-is) (record {
-              whole = w.whole;
-              good = w.good;
-              after = ss;
-              env = w.env ++ s.decl ∷ [];
-              left = subst (λ (n : ℕ). GoodTo strict_standard file (w.env ++ s.decl ∷ []) n ss w.good.env w.good.to) next-is rest;
-              sorts = one-more sort_name s ss publics number old.sorts new.sorts (left-of sort_name 0 0 w.whole) (add.sorts ∙ ap (λ (xs : List (List ℕ)). old.sorts ++ xs) same.0) sorts;
-              terms = one-more term_name s ss publics number old.terms new.terms (left-of term_name 0 0 w.whole) (add.terms ∙ ap (λ (xs : List (List ℕ)). old.terms ++ xs) same.1) terms;
-              assertions = one-more assertion_name s ss publics number old.assertions new.assertions (left-of assertion_name 0 0 w.whole)
-                  (add.assertions ∙ ap (λ (xs : List (List ℕ)). old.assertions ++ xs) same.2) assertions;
-              prefix = add.prefix ∙ w.prefix;
-              number_low = (let a = w.number_low in let c = (head-at file at code body next stands).further in omega (arith, a, c));
-              publics_low = (let a = past-most publics s.is_local in let b = w.publics_low in let c = (head-at file at code body next stands).further in omega (arith, a, b, c));
-            }))
+        gone : HasGone file p w.whole w.before w.after w.env head
+        gone = way-more file p w.whole w.before w.after w.env head w.way on.next.head_is
 
-    pub walked-last : (at : ℕ) (naming : Naming) (number publics : ℕ) → Walked at naming number publics
-        → ((code body next : ℕ) → statement_at file at ≡ Ok (Head code body next) → ⊥) → AreGathered names file naming
-    walked-last at naming number publics w no_head = go w.after w.left w.sorts w.terms w.assertions
+        s : Statement
+        s = gone.statement
+
+        number-is : p.statements + 1 ≡ suc p.statements
+        number-is = omega arith
+
+        name : List ℕ
+        name = next-of s.is_local p.publics p.statements
+
+        name-is : next_name names old.prefix (is_local_code (statement_byte head.code)) p.publics after.statements ≡ name
+        name-is =
+            ap (λ (q : List ℕ). next_name names q (is_local_code (statement_byte head.code)) p.publics after.statements) w.prefix
+            ∙ ap (λ (b : Bool). next_name names (prefix_beside names) b p.publics after.statements) (sym gone.kind.1)
+            ∙ ap (next_name names (prefix_beside names) s.is_local p.publics) (ap (λ (q : Passed). q.statements) on.passed ∙ number-is)
+
+        add : IsAdded head.code name old new
+        add = subst (λ (n : List ℕ). IsAdded head.code n old new) name-is added
+
+        same : Same name s.decl head.code
+        same = by-code name head.code s.decl gone.kind.0
+
+        kept : (part : Declaration → List ℕ → List (List ℕ)) (xs ys : List (List ℕ)) → xs ++ left-of part p.publics p.statements w.after ≡ left-of part 0 0 w.whole
+            → ys ≡ xs ++ part s.decl name → ys ++ left-of part (passed_with p head).publics (passed_with p head).statements gone.rest ≡ left-of part 0 0 w.whole
+        kept part xs ys so-far more =
+            subst (λ (n : ℕ). ys ++ left-of part (past_public p.publics (is_local_code (statement_byte head.code))) n gone.rest ≡ left-of part 0 0 w.whole) (sym number-is)
+            (subst (λ (b : Bool). ys ++ left-of part (past_public p.publics b) (suc p.statements) gone.rest ≡ left-of part 0 0 w.whole) gone.kind.1
+            (one-more part s gone.rest p.publics p.statements xs ys (left-of part 0 0 w.whole) more
+            (subst (λ (ss : List Statement). xs ++ left-of part p.publics p.statements ss ≡ left-of part 0 0 w.whole) gone.after_is so-far)))
+
+    pub walked-last : (p : Passed) (naming : Naming) → Walked p naming → IsListEnd file p.at → AreGathered names file naming
+    walked-last p naming w end = (
+      w.whole,
+      w.way.good,
+      same-naming naming (naming_by names w.whole) (all sort_name naming.sorts w.sorts) (all term_name naming.terms w.terms) (all assertion_name naming.assertions w.assertions) w.prefix,
+    )
       where
-        go : (after : List Statement) → GoodTo strict_standard file w.env at after w.good.env w.good.to
-            → naming.sorts ++ left-of sort_name publics number after ≡ left-of sort_name 0 0 w.whole
-            → naming.terms ++ left-of term_name publics number after ≡ left-of term_name 0 0 w.whole
-            → naming.assertions ++ left-of assertion_name publics number after ≡ left-of assertion_name 0 0 w.whole
-            → AreGathered names file naming
-        go [] left sorts terms assertions = (
-          w.whole,
-          w.good,
-          same-naming naming (naming_by names w.whole) (sym (append-nil naming.sorts) ∙ sorts) (sym (append-nil naming.terms) ∙ terms) (sym (append-nil naming.assertions) ∙ assertions) w.prefix,
-        )
-        go (s ∷ ss) (next, good, rest) sorts terms assertions = absurd (no_head good.spelled.code good.spelled.body next good.spelled.stands)
+        all : (part : Declaration → List ℕ → List (List ℕ)) (xs : List (List ℕ)) → xs ++ left-of part p.publics p.statements w.after ≡ left-of part 0 0 w.whole → xs ≡ left-of part 0 0 w.whole
+        all part xs so-far =
+            sym (append-nil xs) ∙ subst (λ (ss : List Statement). xs ++ left-of part p.publics p.statements ss ≡ left-of part 0 0 w.whole)
+            (way-last file p w.whole w.before w.after w.env w.way end) so-far
 
 -- ---- the names of a pair
 

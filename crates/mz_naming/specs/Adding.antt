@@ -1,5 +1,5 @@
 -- The names of a binary's statements, gathered one after another.
-use Rattle.std.specs.Prelude.{◌≡◌, ◌++◌, ℕ, Bool, List, [], ◌∷◌, get_or, Option, Some, if◌then◌else◌, codes, decimal}
+use Rattle.std.specs.Prelude.{◌≡◌, ◌++◌, ℕ, Bool, List, [], ◌∷◌, get_or, if◌then◌else◌, codes, decimal}
 use Rattle.mz_cmd.specs.declared.code.StatementCode.{StatementCode}
 use Rattle.mz_cmd.specs.declared.code.StatementCode.TheVariants as kinds
 use Rattle.mz_logic.specs.LegalLists.{Statement}
@@ -16,23 +16,23 @@ abbrev pub next_name : List (List ℕ) → List ℕ → Bool → (publics number
 next_name names prefix local publics number = if local then local_name prefix number else get_or names publics []
 
 -- the name, by the code of its statement
-abbrev pub as_sort : Option StatementCode → List ℕ → List (List ℕ)
-as_sort (Some kinds.Sort) name = name ∷ []
+abbrev pub as_sort : StatementCode → List ℕ → List (List ℕ)
+as_sort kinds.Sort name = name ∷ []
 as_sort c name = []
 
-abbrev pub as_term : Option StatementCode → List ℕ → List (List ℕ)
-as_term (Some kinds.Term) name = name ∷ []
-as_term (Some kinds.LocalDefinition) name = name ∷ []
+abbrev pub as_term : StatementCode → List ℕ → List (List ℕ)
+as_term kinds.Term name = name ∷ []
+as_term kinds.LocalDefinition name = name ∷ []
 as_term c name = []
 
-abbrev pub as_assertion : Option StatementCode → List ℕ → List (List ℕ)
-as_assertion (Some kinds.Axiom) name = name ∷ []
-as_assertion (Some kinds.Theorem) name = name ∷ []
-as_assertion (Some kinds.LocalTheorem) name = name ∷ []
+abbrev pub as_assertion : StatementCode → List ℕ → List (List ℕ)
+as_assertion kinds.Axiom name = name ∷ []
+as_assertion kinds.Theorem name = name ∷ []
+as_assertion kinds.LocalTheorem name = name ∷ []
 as_assertion c name = []
 
 -- the name of a statement with this code was added
-pub record IsAdded (code : Option StatementCode) (name : List ℕ) (old new : Naming) : Type 0 where
+pub record IsAdded (code : StatementCode) (name : List ℕ) (old new : Naming) : Type 0 where
   pub sorts : new.sorts ≡ old.sorts ++ as_sort code name
   pub terms : new.terms ≡ old.terms ++ as_term code name
   pub assertions : new.assertions ≡ old.assertions ++ as_assertion code name

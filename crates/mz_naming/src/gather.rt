@@ -1,6 +1,6 @@
 // The names of an accepted pair, gathered statement by statement.
 ghost use Rattle.std.specs.Prelude.{◌≡◌, ◌<◌, ◌^◌, [], length, IfOk, OnOk};
-ghost use Rattle.mz_cmd.specs.Codes.{statement_code};
+ghost use Rattle.mz_cmd.specs.Codes.{statement_byte};
 ghost use Rattle.mz_binary.specs.Spelling.{is_local_code};
 ghost use Rattle.mz_match.specs.Verdict.{Accepts};
 ghost use Rattle.mz_axioms.specs.Rows.{IsGood};
@@ -10,11 +10,12 @@ ghost use Rattle.mz_naming.specs.Adding.{AreGathered, IsAdded, local_name, next_
 
 use crate::list::NameList;
 use crate::names::{Names, put_numbered};
-use crate::source::{declared_by, declared_name, prefix_beside};
-use crate::walk::{head_at, is_local, publics_with};
+use crate::source::prefix_beside;
+use mz_axioms::{declared_by, declared_name};
 use mz_cmd::{Mem, StatementCode};
 use mz_layout::Mmb;
 use mz_spec::Spec;
+use mz_walk::{Passed, is_local};
 use std::alloc::Global;
 
 impl Names {
@@ -34,14 +35,11 @@ impl Names {
         ensures { IfOk result (λ names. AreGathered (declared_names spec.now declared.now) mmb.now names) }
     {
         let mut names = Names::with_prefix(alloc, prefix_beside(alloc, spec, declared)?);
-        let mut at = mmb.proof_at();
-        let mut number = 0;
-        let mut publics = 0;
-        'statements: while let Some(head) = head_at(mmb, at) {
-            number += 1;
-            names.add_next(alloc, spec, declared, head.code, publics, number)?;
-            publics = publics_with(head.code, publics);
-            at = head.next;
+        let mut passed = Passed::nothing(mmb);
+        'statements: while let Some((head, after)) = passed.next(mmb) {
+            let number = after.statements;
+            names.add_next(alloc, spec, declared, head.code, passed.publics, number)?;
+            passed = after;
         }
         Ok(names)
     }
@@ -64,12 +62,12 @@ impl Names {
         alloc: Global,
         spec: &[u8],
         declared: &Spec,
-        code: u8,
+        code: StatementCode,
         publics: u32,
         number: u32,
     ) -> Result<(), Mem>
-        ensures { OnOk result (IsAdded (statement_code code)
-            (next_name (declared_names spec.now declared.now) self.old.prefix (is_local_code code) publics number) self.old self.new) }
+        ensures { OnOk result (IsAdded code
+            (next_name (declared_names spec.now declared.now) self.old.prefix (is_local_code (statement_byte code)) publics number) self.old self.new) }
     {
         if is_local(code) {
             let name = self.local_name(alloc, number)?;
@@ -88,15 +86,15 @@ impl Names {
     }
 
     /// Adds a name to those of its kind, which the code of its statement says.
-    fn add(&mut self, code: u8, name: &[u8]) -> Result<(), Mem>
-        ensures { OnOk result (IsAdded (statement_code code) name.now self.old self.new) }
+    fn add(&mut self, code: StatementCode, name: &[u8]) -> Result<(), Mem>
+        ensures { OnOk result (IsAdded code name.now self.old self.new) }
     {
-        match StatementCode::try_from(code) {
-            Ok(StatementCode::Sort) => self.sorts.push(name),
-            Ok(StatementCode::Term | StatementCode::LocalDefinition) => self.terms.push(name),
-            Ok(StatementCode::Axiom) => self.assertions.push(name),
-            Ok(StatementCode::Theorem | StatementCode::LocalTheorem) => self.assertions.push(name),
-            Err(_) => Ok(()),
+        match code {
+            StatementCode::Sort => self.sorts.push(name),
+            StatementCode::Term | StatementCode::LocalDefinition => self.terms.push(name),
+            StatementCode::Axiom | StatementCode::Theorem | StatementCode::LocalTheorem => {
+                self.assertions.push(name)
+            }
         }
     }
 }

@@ -9,7 +9,6 @@ mod laws;
 mod list;
 mod names;
 mod source;
-mod walk;
 
 pub use laws::named_statements_name;
 pub use names::Names;

@@ -1,7 +1,7 @@
 // Names by their numbers, in one run of bytes.
 ghost use Rattle.std.specs.Prelude.{◌≡◌, ◌++◌, ◌∷◌, [], get_or, IfOk, OnOk};
-ghost use Rattle.mz_layout.specs.Heads.{body_bytes as bytes_between};
 
+use mz_axioms::bytes_between;
 use mz_cmd::Mem;
 use std::alloc::Global;
 use std::marker::Model;
@@ -58,16 +58,8 @@ impl NameList {
         ensures { result.now ≡ get_or self.now i [] }
     {
         match self.spans.get(i as usize) {
-            Some(span) => part(&self.bytes, span.from, span.to),
+            Some(span) => bytes_between(&self.bytes, span.from, span.to),
             None => &[],
         }
     }
-}
-
-/// The bytes from a place up to another, as far as there are any.
-pub(crate) fn part(bytes: &[u8], from: usize, to: usize) -> &[u8]
-    ensures { result.now ≡ bytes_between bytes.now from to }
-{
-    let end = to.min(bytes.len());
-    if from < end { &bytes[from..end] } else { &[] }
 }

@@ -1,39 +1,12 @@
 // A specification that is read once more, for the names of its declarations.
-ghost use Rattle.std.specs.Prelude.{◌≡◌, ◌<◌, ◌++◌, ◌^◌, List, suc, length, replicate, IfOk, OnOk};
-ghost use Rattle.mz_spec.specs.State.{Entry};
-ghost use Rattle.mz_spec.specs.Spec.{SpecMakes};
+ghost use Rattle.std.specs.Prelude.{◌≡◌, ◌++◌, replicate, IfOk, OnOk};
 ghost use Rattle.mz_wording.specs.Wording;
-ghost use Rattle.mz_axioms.specs.Text.{name_at};
 ghost use Rattle.mz_naming.specs.Names;
 
-use crate::list::part;
+use mz_axioms::declared_name;
 use mz_cmd::Mem;
-use mz_spec::{Spec, SpecRead, read_spec};
-use std::alloc::{AllocError, Global};
-
-/// The declarations of a text that is known to be a specification, with the places of their names.
-pub(crate) fn declared_by(alloc: Global, spec: &[u8]) -> Result<Spec, Mem>
-    requires small { length spec.now < 2 ^ 32 }
-    requires good { (entries : List Entry) × SpecMakes spec.now entries }
-    ensures { IfOk result (λ declared. SpecMakes spec.now declared) }
-{
-    match read_spec(alloc, spec) {
-        SpecRead::Spec(declared) => Ok(declared),
-        SpecRead::Refused(_) => unreachable!(),
-        SpecRead::Mem => Err(AllocError),
-    }
-}
-
-/// The name of the k-th declaration; nothing past the last.
-pub(crate) fn declared_name<'a>(spec: &'a [u8], declared: &Spec, k: u32) -> &'a [u8]
-    ensures { result.now ≡ name_at spec.now declared.now k }
-{
-    if k >= declared.len() {
-        return &[];
-    }
-    let (from, to) = declared.name(k);
-    part(spec, from as usize, to as usize)
-}
+use mz_spec::Spec;
+use std::alloc::Global;
 
 /// With how many underscores the name begins.
 fn underscores(name: &[u8]) -> usize

@@ -6,12 +6,14 @@ use Rattle.mz_logic.specs.Declaration.{Declaration, sort_decl, term_decl, assert
 use Rattle.mz_logic.specs.Legality.{signature_at}
 use Rattle.mz_logic.specs.declared.binder.Binder.{Binder}
 use Rattle.mz_logic.proofs.Offered.{sorts-append, assertions-append}
-use Rattle.mz_forms.specs.Name.{Names, number_of, IsName, IsNew}
+use Rattle.mz_names.specs.Names.{number_of, IsNew}
+use Rattle.mz_names.proofs.Offered.{number-last, number-more}
+use Rattle.mz_forms.specs.Name.{Names, IsName}
 use Rattle.mz_forms.specs.Statements.{no_names, constant_name, names_with}
 use Rattle.mz_mmu.proofs.Offered.{Agrees}
 use Rattle.mz_phrasing.specs.Phrasing.{Vocabulary}
 use Rattle.mz_phrasing.specs.Phrasable.{HasNewName}
-use Rattle.mz_phrasing.proofs.Numbers.{Numbered, numbered-none, numbered-more, last-or-before, number-more, number-last}
+use Rattle.mz_phrasing.proofs.Numbers.{Numbered, numbered-none, numbered-more, last-or-before}
 
 -- of so many sorts, these terms, and so many axioms and theorems
 pub record Behind (v : Vocabulary) (n : ℕ) (many_sorts : ℕ) (sigs : List Signature) (many_facts : ℕ) (names : Names) : Type 0 where

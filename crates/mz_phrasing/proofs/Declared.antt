@@ -12,7 +12,8 @@ use Rattle.mz_logic.specs.Variables.{IsBoundAt}
 use Rattle.mz_logic.specs.declared.binder.Binder.{Binder}
 use Rattle.mz_logic.specs.declared.binder.SortMods.{SortMods}
 use Rattle.mz_logic.proofs.Offered.{each_from_all}
-use Rattle.mz_forms.specs.Name.{Names, IsName, IsNew}
+use Rattle.mz_names.specs.Names.{IsNew}
+use Rattle.mz_forms.specs.Name.{Names, IsName}
 use Rattle.mz_forms.specs.Gaps.{LeavesOnly}
 use Rattle.mz_forms.specs.Proof.{Proof, Statement}
 use Rattle.mz_forms.specs.declared.keyword.Kind.TheVariants.{Sort as sort_kind, Term as term_kind, Axiom as axiom_kind, Def as def_kind, Theorem as theorem_kind}

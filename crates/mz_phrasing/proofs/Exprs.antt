@@ -4,7 +4,8 @@ use Rattle.std.proofs.lemmas.List.Elements.{All-head, All-tail}
 use Rattle.mz_logic.specs.Tree.{Tree, Trees, var, app, none, more}
 use Rattle.mz_logic.specs.Signature.{Signature}
 use Rattle.mz_logic.specs.Legality.{signature_at, InRange, AllInRange}
-use Rattle.mz_forms.specs.Name.{Names, Scope, number_of, IsName, IsNew, HasNumber, IsNewName}
+use Rattle.mz_names.specs.Names.{number_of, IsNew}
+use Rattle.mz_forms.specs.Name.{Names, Scope, IsName, HasNumber, IsNewName}
 use Rattle.mz_forms.specs.Expressions.{IsExpr, AreExprs, IsExprList, AreVariables, IsVariableList}
 use Rattle.mz_forms.specs.Statements.{scope_of}
 use Rattle.mz_phrasing.specs.Phrases.{a_word, a_list}

@@ -1,40 +1,14 @@
 -- Names that are numbered: each has the number at which it stands.
-use Rattle.std.proofs.Common.{ℕ, zero, suc, ◌≡◌, ◌<◌, ◌≤◌, ◌∙◌, inl, inr, Bool, true, false, List, [], ◌∷◌, ◌++◌, length, Option, Some, None, sym, ap, subst, refl, arith, length-append}
-use Rattle.std.specs.Prelude.{bytes_eq, option_map, if◌then◌else◌}
+use Rattle.std.proofs.Common.{ℕ, zero, suc, ◌≡◌, ◌<◌, ◌≤◌, ◌∙◌, inl, inr, false, List, [], ◌∷◌, ◌++◌, length, Some, sym, ap, subst, refl, arith, length-append}
+use Rattle.std.specs.Prelude.{bytes_eq}
 use Rattle.std.proofs.lemmas.Bool.{cases_eq, false_from_ne_true}
 use Rattle.std.proofs.lemmas.Slice.Eq.{bytes_eq-Decides}
-use Rattle.mz_forms.specs.Name.{number_of, IsName, IsNew}
-use Rattle.mz_forms.proofs.Offered.{new_both}
+use Rattle.mz_names.specs.Names.{number_of, IsNew}
+use Rattle.mz_names.proofs.Offered.{new-more, number-last, number-more}
+use Rattle.mz_forms.specs.Name.{IsName}
 
 pub other-bytes : (a b : List ℕ) → (a ≡ b → ⊥) → bytes_eq a b ≡ false
 other-bytes a b not_ = false_from_ne_true (bytes_eq a b) (λ is. not_ ((bytes_eq-Decides a b).0 is))
-
--- number_of, where the name is the first or isn't
-abbrev At : Bool → Option ℕ → Option ℕ
-At b o = if b then Some 0 else option_map suc o
-
-pub new-more : (xs : List (List ℕ)) (x w : List ℕ) → IsNew xs w → (w ≡ x → ⊥) → IsNew (xs ++ x ∷ []) w
-new-more xs x w new not_ = new_both xs (x ∷ []) w new (ap (λ b. At b None) (other-bytes w x not_))
-
--- a name keeps its number
-pub number-more : (xs : List (List ℕ)) (x w : List ℕ) (i : ℕ) → number_of xs w ≡ Some i → number_of (xs ++ x ∷ []) w ≡ Some i
-number-more [] x w i e = absurd cc
-number-more (y ∷ xs) x w i e = go (bytes_eq w y) (number_of xs w) e (λ k e. number-more xs x w k e)
-  where
-    go : (b : Bool) (o : Option ℕ) → At b o ≡ Some i → ((k : ℕ) → o ≡ Some k → number_of (xs ++ x ∷ []) w ≡ Some k) → At b (number_of (xs ++ x ∷ []) w) ≡ Some i
-    go true o e more = e
-    go false None e more = absurd cc
-    go false (Some k) e more = ap (option_map suc) (more k refl) ∙ e
-
--- a new name that comes last has the last number
-pub number-last : (xs : List (List ℕ)) (w : List ℕ) → IsNew xs w → number_of (xs ++ w ∷ []) w ≡ Some (length xs)
-number-last [] w new = ap (λ b. At b None) ((bytes_eq-Decides w w).1 refl)
-number-last (y ∷ xs) w new = go (bytes_eq w y) (number_of xs w) new (λ e. number-last xs w e)
-  where
-    go : (b : Bool) (o : Option ℕ) → At b o ≡ None → (o ≡ None → number_of (xs ++ w ∷ []) w ≡ Some (length xs)) → At b (number_of (xs ++ w ∷ []) w) ≡ Some (suc (length xs))
-    go true o e more = absurd cc
-    go false None e more = ap (option_map suc) (more refl)
-    go false (Some k) e more = absurd cc
 
 -- ---- names that a vocabulary has by number
 
@@ -71,7 +45,7 @@ upto f (suc k) = upto f k ++ f k ∷ []
 
 pub new-upto : (f : ℕ → List ℕ) (k : ℕ) (w : List ℕ) → ((i : ℕ) → i < k → f i ≡ w → ⊥) → IsNew (upto f k) w
 new-upto f zero w others = refl
-new-upto f (suc k) w others = new-more (upto f k) (f k) w (new-upto f k w (λ i less. others i (omega arith))) (λ is. others k (omega arith) (sym is))
+new-upto f (suc k) w others = new-more (upto f k) (f k) w (new-upto f k w (λ i less. others i (omega arith))) (others k (omega arith))
 
 -- the first n are identifiers, and different
 abbrev pub AreOwn : (ℕ → List ℕ) → ℕ → Type 0

@@ -12,14 +12,15 @@ use Rattle.mz_logic.specs.Conversions.{Conversion, Conversions, refl_conv, sym_c
 use Rattle.mz_logic.specs.Derivations.{Derivations, Derives, AllDerive}
 use Rattle.mz_logic.specs.declared.binder.Binder.{Binder}
 use Rattle.mz_logic.proofs.Offered.{range_of_sort, ranges_of_fits}
-use Rattle.mz_forms.specs.Name.{Names, Scope, HasNumber, IsName, IsNew}
+use Rattle.mz_names.specs.Names.{IsNew}
+use Rattle.mz_names.proofs.Offered.{new-both}
+use Rattle.mz_forms.specs.Name.{Names, Scope, HasNumber, IsName}
 use Rattle.mz_forms.specs.Expressions.{IsExprList}
 use Rattle.mz_forms.specs.Gaps.{LeavesOnly, AllLeaveOnly}
 use Rattle.mz_forms.specs.Proof.{Proof, Proofs, by_hyp, by_name, by_citation, by_conv, by_let, by_gap, no_proofs, more_proofs}
 use Rattle.mz_forms.specs.Proofs.{IsConv, IsConvBy, AreConvs, IsProof, IsProofBy, AreProofs}
 use Rattle.mz_forms.specs.declared.keyword.Keyword.TheVariants.{Other as no_word}
 use Rattle.mz_forms.specs.Statements.{scope_of}
-use Rattle.mz_forms.proofs.Offered.{new_both}
 use Rattle.mz_type.specs.Meaning.{derivation, derivations, then_deriv, LetsDerive, AllLetsDerive}
 use Rattle.mz_phrasing.specs.Phrasing.{Vocabulary, conversion, conversions, proof, proofs}
 use Rattle.mz_phrasing.specs.Phrasable.{HasNames, SeesLets, AllSeeLets}
@@ -114,7 +115,7 @@ module _ (v : Vocabulary) (names : Names) (env : List Declaration) (ctx : List B
     no-label k less = new-upto v.hypothesis (length (listed hyps)) (v.let_name k) (λ i below is. has.apart i k (omega arith) less is)
 
     let-new : (k : ℕ) → k < n → IsNew (labels ++ lets_of k) (v.let_name k)
-    let-new k less = new_both labels (lets_of k) (v.let_name k) (no-label k less) (new-next v.let_name n (has.lets, has.own_lets) k less)
+    let-new k less = new-both labels (lets_of k) (v.let_name k) (no-label k less) (new-next v.let_name n (has.lets, has.own_lets) k less)
 
     as-cited : (at at' : ℕ) (k T : ℕ) (es : Trees) (ps : Proofs) → IsName (v.assertion T) → HasNumber names.assertions (atom at' (v.assertion T)) T → (m : Node) (ns : Nodes)
         → IsExprList sc m es → AreProofs sc labels (lets_of k) ns ps → IsProof sc labels (lets_of k) (list at (node (atom at' (v.assertion T)) (node m ns))) (by_citation T es ps)

@@ -60,10 +60,12 @@ pub(crate) fn end<L: Ledger>(
     if let Err(rule) = check_target(earlier, kind, row, nodes, target) {
         return Err(Stop::Rule(rule));
     }
-    let Ok(operands) = first_ids(alloc, own_arity(earlier, kind, row)) else {
+    let mut operands = Vec::new(alloc);
+    let Ok(()) = first_ids(&mut operands, own_arity(earlier, kind, row)) else {
         return Err(Stop::Mem);
     };
-    let Ok(proofs) = own_proofs(alloc, kind, hyps) else {
+    let mut proofs = Vec::new(alloc);
+    let Ok(()) = own_proofs(&mut proofs, kind, hyps) else {
         return Err(Stop::Mem);
     };
     let stream = own_stream(earlier, kind, row);

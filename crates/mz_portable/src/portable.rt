@@ -6,6 +6,7 @@ ghost use Rattle.mz_portable.specs.Portable.{FirstPortableRefusal, IsAcceptedByT
 use mz_binary::Standard;
 use mz_cmd::Steps;
 use mz_match::{Counts, Verdict, verify_by};
+use mz_store::Seed;
 use std::alloc::Global;
 use std::sync::ledger::Ledger;
 
@@ -13,6 +14,7 @@ use std::sync::ledger::Ledger;
 /// does, but that two expressions are the same only where the same commands of a body made them.
 pub fn portable_bytes<L: Ledger>(
     alloc: Global,
+    seed: Seed,
     spec: &[u8],
     bin: &[u8],
     steps: &mut Steps<L>,
@@ -27,5 +29,5 @@ pub fn portable_bytes<L: Ledger>(
     ensures steps { PortableTicks bin.now steps.old steps.new result }
     ensures bound { steps.new ≤ steps.old + (length bin.now * length bin.now + length bin.now) }
 {
-    verify_by(alloc, spec, bin, Standard::Portable, steps)
+    verify_by(alloc, seed, spec, bin, Standard::Portable, steps)
 }

@@ -18,13 +18,13 @@ use Rattle.mz_logic.proofs.Offered.{one_at}
 use Rattle.mz_grammar.specs.Statement.{TypeText}
 use Rattle.mz_printing.specs.Lines.{binders_at, binder_words, opening_words, naming_words, type_at}
 use Rattle.mz_printing.specs.Words.{stop}
-use Rattle.mz_variables.specs.Names.{number_of, IsNew, IsKnown}
+use Rattle.mz_names.specs.Names.{number_of, IsNew, IsKnown}
+use Rattle.mz_names.proofs.Offered.{known-first, known-later, new-more}
 use Rattle.mz_variables.specs.View.{Variable, name_texts, group_types}
 use Rattle.mz_spec.specs.State.{State, sort_number, binder_of}
 use Rattle.mz_variables.specs.Dependencies.{dep_places, Every, IsCalled, IsBoundAmong}
 use Rattle.mz_spec.specs.Rules.{are_others, is_other, is_known, type_checks, mods_of, HasSortThat, IsBinder, AreBinders, DependsOnNothing, IsDummySort, IsNotPure}
 use Rattle.mz_readback.specs.Declared.{Vocabulary, HasVariables, plain_binders, plain_dummies, plain_param, plain_dummy, plain_type}
-use Rattle.mz_readback.proofs.Names.{new-more, known-first, known-later}
 use Rattle.mz_readback.proofs.Shown.{AreTexts, IsTyped, typed-at, IsShown, AreShown, AllShown, names_from}
 use Rattle.mz_readback.proofs.Places.{Above, AllBelow, below-all, ascending, among-same, places-are}
 

@@ -23,7 +23,7 @@ use Rattle.mz_printing.specs.Lines.{Tokens, math_text}
 use Rattle.mz_printing.specs.Plain.{is_token_byte, IsToken, AreTokens as AllTokens}
 use Rattle.mz_printing.specs.Prefix.{tokens_of, operand_tokens, enclosed, IsSpoken, IsOfWanted, IsShort}
 use Rattle.mz_printing.proofs.Offered.{prefix-meant}
-use Rattle.mz_variables.specs.Names.{number_of}
+use Rattle.mz_names.specs.Names.{number_of}
 use Rattle.mz_variables.specs.View.{Variable, Formula, claim, body}
 use Rattle.mz_spec.specs.State.{State, scope_of, reader_of}
 use Rattle.mz_spec.specs.Formulas.{IsMeant, AreTokens, strings_checks, string_checks, math_of, wanted_of, told}

@@ -26,7 +26,8 @@ use Rattle.mz_grammar.specs.Reading.{place_of_first}
 use Rattle.mz_printing.specs.Words.{lexeme_at, lexemes_at, stop}
 use Rattle.mz_printing.specs.Lines.{Tokens, Line, sort_line, term_line, assert_line, definition_line, math_word, math_text, spaced_mark, spaced_name, sort_words, hyps_words, type_words, title_words, head_at, binders_at, type_at, hyps_at, body_at, colon_at, line_words, statement_at, next_line, lines_text, HasItsDummies, HaveNoDummies}
 use Rattle.mz_printing.specs.Plain.{IsPlain, ArePlain, lines_lexemes}
-use Rattle.mz_variables.specs.Names.{number_of, IsNew}
+use Rattle.mz_names.specs.Names.{number_of, IsNew}
+use Rattle.mz_names.proofs.Offered.{all-others, number-last, number-more}
 use Rattle.mz_variables.specs.View.{sorts as sort_space, terms, assertions, body, Variable, variables_of, unnamed, types_of, group_types, group_stated, premise_stated, Stated, stated_claim, claim}
 use Rattle.mz_spec.specs.State.{State, signature_of, dummy_binders, param_binders, nothing, with_sort, with_term, with_assertion, entries_of, env_of}
 use Rattle.mz_spec.specs.Formulas.{IsMeant, AreHyps}
@@ -35,7 +36,6 @@ use Rattle.mz_spec.specs.Declaring.{After, Declares, sort_bits, bit, is_axiom}
 use Rattle.mz_spec.specs.Spec.{IsGood, Stand}
 use Rattle.mz_readback.specs.Declared.{Named, Vocabulary, line_of, lines_of, decls_of, line_of_decl, modifiers_of, kind_of, plain_type, plain_binders, formula_of, formulas_of, HasVariables, HasNewName, AreShort, IsPrintable, ArePrintable, used_with}
 use Rattle.mz_readback.specs.Laws.{PrintedSpecificationsDeclare}
-use Rattle.mz_readback.proofs.Names.{number-more, number-last, all-others}
 use Rattle.mz_printing.specs.Plain.{AreNames, IsPlainType, ArePlainBinders, AreFormulas}
 use Rattle.mz_printing.specs.Lines.{name_word}
 use Rattle.mz_grammar.specs.Statement.{keyword_of}

@@ -30,7 +30,7 @@ use Rattle.mz_grammar.specs.declared.kind.Kind.TheVariants.{Term as TermKind, As
 use Rattle.mz_grammar.specs.Statement.{TypeText, Source, Group, Head, Statement, sort_statement, term_statement, assert_statement, definition_statement}
 use Rattle.mz_printing.specs.Words.{lexeme_at, stop}
 use Rattle.mz_printing.specs.Lines.{PlainBinder, Tokens, Line, math_word, math_text, spaced_mark, hyp_words, title_words, binders_at, type_at, hyps_at, body_at, head_at}
-use Rattle.mz_variables.specs.Names.{IsNew, IsKnown, number_of}
+use Rattle.mz_names.specs.Names.{IsNew, IsKnown, number_of}
 use Rattle.mz_variables.specs.View.{Named as NamedIn, Variable, Formula, claim, body, View, view, variables_of, unnamed, types_of, group_types, group_stated, premise_stated, stated_of, Stated, stated_claim, body_formulas, params_of, dummies_of, names_of}
 use Rattle.mz_spec.specs.State.{State, param_binders, dummy_binders, result_of, signature_of, scope_of, reader_of, sort_number, variable_bytes}
 use Rattle.mz_spec.specs.Formulas.{IsMeant, AreHyps, AreTokens, strings_checks, free_checks, wanted_of, CoversFreeVariables}

@@ -14,7 +14,7 @@ use Rattle.mz_grammar.specs.declared.kind.AssertKind.{AssertKind}
 use Rattle.mz_grammar.specs.declared.kind.AssertKind.TheVariants.{Axiom, Theorem}
 use Rattle.mz_printing.specs.Lines.{PlainType, PlainBinder, Tokens, Line, sort_line, term_line, assert_line, definition_line}
 use Rattle.mz_printing.specs.Prefix.{tokens_of, IsShort}
-use Rattle.mz_variables.specs.Names.{IsNew}
+use Rattle.mz_names.specs.Names.{IsNew}
 
 -- a declaration with its name
 pub record Named : Type 0 where

@@ -9,12 +9,13 @@ use Rattle.mz_notation.specs.Notation.{Table}
 use Rattle.mz_grammar.specs.Statement.{Statement, sort_statement, term_statement, assert_statement, definition_statement, operator_statement, coercion_statement, delimiter_statement, notation_statement, Spells, Sign, keyword, symbol, name, name_or_blank, formula, number, only_if, IsSign, AreSigns, end_signs, modifier_signs, statement_signs}
 use Rattle.mz_grammar.specs.Reading.{place_of_first}
 use Rattle.mz_spec.specs.declared.spec.Mark.{Mark}
-use Rattle.mz_variables.specs.Names.{IsNew}
+use Rattle.mz_names.specs.Names.{IsNew}
+use Rattle.mz_names.proofs.Offered.{new-first}
 use Rattle.mz_variables.specs.Dependencies.{Every}
 use Rattle.mz_spec.specs.State.{State, Entry, nothing, mark_at, env_of, with_table}
 use Rattle.mz_spec.specs.Declaring.{After}
 use Rattle.mz_spec.specs.Spec.{IsGood, Stand, SpecMakes}
-use Rattle.mz_spec.proofs.Offered.{IsOfKind, every-front, is_new-other, good-new, entries-decls, entries-marks, kept-nothing, lexes-kinds, stand-kept}
+use Rattle.mz_spec.proofs.Offered.{IsOfKind, every-front, good-new, entries-decls, entries-marks, kept-nothing, lexes-kinds, stand-kept}
 use Rattle.mz_layout.specs.Heads.{body_bytes as bytes_between}
 use Rattle.mz_axioms.specs.Text.{name_at}
 use Rattle.mz_naming.specs.Names.{names_from, declared_names}
@@ -22,7 +23,7 @@ use Rattle.mz_restating.proofs.Seen.{Seen, none_seen, seen_in, seen_with, IsOthe
 
 new-other : (xs : List (List ℕ)) (w : List ℕ) → IsNew xs w → IsOther w xs
 new-other [] w new = tt
-new-other (x ∷ xs) w new = let parts = is_new-other x xs w new in (parts.0, new-other xs w parts.1)
+new-other (x ∷ xs) w new = let parts = new-first x xs w new in (parts.0, new-other xs w parts.1)
 
 module _ (text : List ℕ) where
   -- ---- lexemes, and the signs that they are

@@ -1,8 +1,5 @@
 -- The body of a definition, and its free variables.
-use Rattle.std.proofs.Common.{◌≡◌, ◌<◌, ◌++◌, ℕ, List, [], ◌∷◌, length, map, Option, Some, None, slice_get, Contains, sym, refl, subst, inl, arith, length-append}
-use Rattle.std.proofs.lemmas.List.{map-append, length-map}
-use Rattle.std.proofs.lemmas.List.Elements.{All-contains}
-use Rattle.std.proofs.lemmas.Option.{slice_get_within}
+use Rattle.std.proofs.Common.{◌≡◌, ◌++◌, ℕ, List, [], ◌∷◌, map, Option, Some, None, Contains, sym, refl, subst, inl}
 use Rattle.mz_lex.specs.Lexemes.{Lexeme}
 use Rattle.mz_lex.specs.declared.rule.S.TheVariants as rules
 use Rattle.mz_checks.specs.Checks.{AllHold, FailsFirst, each_in_order}
@@ -11,7 +8,6 @@ use Rattle.mz_logic.specs.Tree.{Tree}
 use Rattle.mz_logic.specs.Declaration.{signatures}
 use Rattle.mz_logic.specs.Variables.{InFV}
 use Rattle.mz_logic.specs.declared.binder.ResultType.{ResultType}
-use Rattle.mz_logic.proofs.Offered.{DepsInside}
 use Rattle.mz_tokens.specs.declared.pieces.Piece.{Piece}
 use Rattle.mz_math.specs.declared.formula.Wanted.TheVariants.{Sort as of_sort}
 use Rattle.mz_notation.specs.Notation.{Variables}
@@ -25,14 +21,13 @@ use Rattle.mz_variables.specs.Code.{AreParts, all_of, variable}
 use Rattle.mz_spec.specs.Code.{EndsSmall}
 use Rattle.mz_spec.specs.Formulas.{AreTokens, IsMeant, CoversFreeVariables, inner, string_checks, strings_checks, free_checks}
 use Rattle.mz_spec.specs.Kept.{IsSpelled}
-use Rattle.mz_variables.specs.Dependencies.{Every, dep_places}
+use Rattle.mz_variables.specs.Dependencies.{Every}
 use Rattle.mz_spec.specs.Rules.{body_rules}
-use Rattle.mz_spec.specs.State.{State, binder_of, param_binders, dummy_binders, result_of, scope_of, reader_of, sort_number, variable_bytes}
-use Rattle.mz_variables.specs.View.{Variable, body, params_of, dummies_of}
+use Rattle.mz_spec.specs.State.{State, result_of, scope_of, reader_of, sort_number, variable_bytes}
+use Rattle.mz_variables.specs.View.{Variable, body, params_of}
 use Rattle.mz_variables.specs.declared.parts.Parts.{Parts}
 use Rattle.mz_spec.proofs.Loops.{mem-before}
 use Rattle.mz_spec.proofs.Naming.{body-small}
-use Rattle.mz_variables.proofs.Offered.{all-places, get-back}
 use Rattle.mz_spec.proofs.Strung.{last-halt, all-strings}
 
 -- ---- its rules

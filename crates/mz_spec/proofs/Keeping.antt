@@ -26,7 +26,8 @@ use Rattle.mz_tokens.proofs.Offered.{place_first, contains_either}
 use Rattle.mz_notation.proofs.Offered.{empty-is, name-is, coercion-is, delimiters-is, infix-one, prefix-one, general-one}
 use Rattle.mz_grammar.specs.declared.kind.Fixity.TheVariants as fixities
 use Rattle.mz_grammar.specs.Statement.{TypeText, Head, LiteralText, constant_literal, name_literal, TailText, Statement, sort_statement, term_statement, assert_statement, definition_statement, operator_statement, coercion_statement, delimiter_statement, notation_statement}
-use Rattle.mz_variables.specs.Names.{IsNew}
+use Rattle.mz_names.specs.Names.{IsNew}
+use Rattle.mz_names.proofs.Offered.{new-first}
 use Rattle.mz_variables.specs.View.{view}
 use Rattle.mz_spec.specs.State.{State, nothing, with_sort, with_term, with_assertion, with_table, scope_of, mark_at, term_number}
 use Rattle.mz_spec.specs.Forms.{IsLiteral, AreLiterals, ArePartsOf, MakesNotation, coercion_of, level_of}
@@ -35,7 +36,7 @@ use Rattle.mz_spec.specs.Declaring.{After}
 use Rattle.mz_spec.specs.Kept.{IsKept, IsSpelled, numbered}
 use Rattle.mz_spec.specs.Spec.{IsGood}
 use Rattle.mz_spec.proofs.Naming.{IsWritten, spelled-written, declared-written, variables-written}
-use Rattle.mz_spec.proofs.Places.{is_new-other, split-variables}
+use Rattle.mz_spec.proofs.Places.{split-variables}
 use Rattle.mz_spec.proofs.Good.{good-new, good-others, good-form}
 use Rattle.mz_spec.proofs.Legal.{legal-written}
 
@@ -72,8 +73,8 @@ numbered-more i (m ∷ ns) n =
 -- a new name is none of these
 pub numbered-new : (i : ℕ) (ns : List (List ℕ)) (t : List ℕ) → IsNew ns t → (m : TermName) → Contains (numbered i ns) m → m.name ≡ t → ⊥
 numbered-new i [] t new m (k, below, is) same = omega (arith, below)
-numbered-new i (n ∷ ns) t new m (zero, below, is) same = (is_new-other n ns t new).0 (ap (λ x. x.name) is ∙ same)
-numbered-new i (n ∷ ns) t new m (suc k, below, is) same = numbered-new (i + 1) ns t (is_new-other n ns t new).1 m (k, omega (arith, below), is) same
+numbered-new i (n ∷ ns) t new m (zero, below, is) same = (new-first n ns t new).0 (ap (λ x. x.name) is ∙ same)
+numbered-new i (n ∷ ns) t new m (suc k, below, is) same = numbered-new (i + 1) ns t (new-first n ns t new).1 m (k, omega (arith, below), is) same
 
 -- ---- one more declaration
 

@@ -23,7 +23,8 @@ use Rattle.mz_notation.specs.Kept.{IsTable, AreVariables}
 use Rattle.mz_math.proofs.Offered.{one-meaning}
 use Rattle.mz_grammar.specs.Statement.{TypeText, Source, type_source, formula_source, NameText, Group, Head, Statement, sort_statement, term_statement, assert_statement, definition_statement, operator_statement, coercion_statement, delimiter_statement, notation_statement}
 use Rattle.mz_grammar.specs.declared.kind.AssertKind.{AssertKind}
-use Rattle.mz_variables.specs.Names.{IsKnown}
+use Rattle.mz_names.specs.Names.{IsKnown}
+use Rattle.mz_names.proofs.Offered.{number-within}
 use Rattle.mz_variables.specs.View.{Variable, Stated, claim, body, view, variable_of, source_variables, group_variables, variables_of, unnamed, source_types, types_of, group_types, stated_of, names_of, params_of, dummies_of, is_among}
 use Rattle.mz_spec.specs.Rules.{are_others, type_checks, mods_of, HasSortThat, IsBinder, HaveBinders, DependsOnNothing, IsResult, IsDummySort, IsNotPure, statement_checks}
 use Rattle.mz_variables.specs.Dependencies.{Every, IsCalled, IsBoundAmong, dep_places}
@@ -32,7 +33,7 @@ use Rattle.mz_spec.specs.Formulas.{IsMeant, AreHyps, CoversFreeVariables, copies
 use Rattle.mz_spec.specs.Declaring.{Declares, IsForm, is_axiom}
 use Rattle.mz_spec.specs.Kept.{IsKept, IsSpelled}
 use Rattle.mz_spec.proofs.Naming.{every-front, every-join, IsWritten, spelled-written, plain-written, variables-written}
-use Rattle.mz_spec.proofs.Places.{number-within, one-param, param-at, dummy-at, binder-at, split-variables}
+use Rattle.mz_spec.proofs.Places.{one-param, param-at, dummy-at, binder-at, split-variables}
 use Rattle.mz_variables.proofs.Offered.{every-text, among, all-places, no-deps, get-map, get-back, get-within, get-take}
 use Rattle.mz_spec.proofs.Sorted.{claim-sorted, body-sorted}
 use Rattle.mz_spec.proofs.Good.{good-others, good-types, good-binders, good-dummies, good-results, good-free}

@@ -4,5 +4,4 @@ pub use Rattle.mz_spec.proofs.Keeping.{kept-nothing, signatures-more, sorts-more
 pub use Rattle.mz_spec.proofs.Marked.{entries-decls, entries-marks}
 pub use Rattle.mz_spec.proofs.Naming.{IsOfKind, every-front, every-join}
 pub use Rattle.mz_spec.proofs.OneSpec.{lexes-kinds, not-both, one-fault, one-reading, stand-kept}
-pub use Rattle.mz_spec.proofs.Places.{is_new-other}
 pub use Rattle.mz_spec.proofs.SomeSpec.{one-of-both}

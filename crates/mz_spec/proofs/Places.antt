@@ -1,16 +1,15 @@
 -- Variables by their places and names.
 use Rattle.std.proofs.Common.{◌≡◌, ◌≢◌, ◌∙◌, ◌++◌, ◌<◌, ◌≤◌, ◌+◌, ◌⊎◌, ℕ, zero, suc, List, [], ◌∷◌, length, map, take, Bool, true, false, Option, Some, None, slice_get, Contains, ap, sym, refl, subst, inl, inr, arith, append_assoc}
 use Rattle.std.proofs.lemmas.List.{append-nil, length-map}
-use Rattle.std.proofs.lemmas.Slice.Eq.{bytes_eq-Decides}
-use Rattle.std.specs.Bool.{Decides}
-use Rattle.std.specs.Prelude.{◌-◌, IsTrue, option_map, if◌then◌else◌, bytes_eq}
+use Rattle.std.specs.Prelude.{◌-◌, IsTrue, if◌then◌else◌}
 use Rattle.mz_lex.specs.Kinds.{is_name}
 use Rattle.mz_lex.specs.Lexemes.{Lexeme}
 use Rattle.mz_checks.specs.Checks.{AllHold}
 use Rattle.mz_checks.proofs.Offered.{all_hold-first, all_hold-rest}
 use Rattle.mz_notation.specs.Kept.{AreVariables}
 use Rattle.mz_tokens.proofs.Offered.{at_of, contains_at, contains_first, place_first}
-use Rattle.mz_variables.specs.Names.{number_of, IsNew}
+use Rattle.mz_names.specs.Names.{IsNew}
+use Rattle.mz_names.proofs.Offered.{new-last, new-parts}
 use Rattle.mz_variables.specs.View.{Variable, name_texts, params_of, dummies_of}
 use Rattle.mz_spec.specs.Rules.{are_others, is_other, IsBinder, AreBinders}
 use Rattle.mz_variables.specs.Dependencies.{Every, IsCalled}
@@ -18,46 +17,7 @@ use Rattle.mz_spec.specs.State.{State, bytes_of, variable_bytes}
 use Rattle.mz_variables.proofs.Offered.{get-back}
 use Rattle.mz_spec.proofs.Naming.{IsNamed}
 
-pub number-within : (names : List (List ℕ)) (name : List ℕ) (n : ℕ) → number_of names name ≡ Some n → n < length names
-number-within [] name n e = absurd cc
-number-within (other ∷ names) name n e = go (bytes_eq other name) (number_of names name) e (λ k. number-within names name k)
-  where
-    go : (b : Bool) (o : Option ℕ) → (if b then Some 0 else option_map suc o) ≡ Some n → ((k : ℕ) → o ≡ Some k → k < length names) → n < length (other ∷ names)
-    go true o is more = let same : 0 ≡ n = cc in omega (arith, same)
-    go false None is more = absurd cc
-    go false (Some k) is more = let same : suc k ≡ n = cc in omega (arith, same, more k refl)
-
 -- ---- names
-
-pub is_new-other : (x : List ℕ) (xs : List (List ℕ)) (t : List ℕ) → IsNew (x ∷ xs) t → (x ≡ t → ⊥) × IsNew xs t
-is_new-other x xs t none = go (bytes_eq x t) (number_of xs t) (bytes_eq-Decides x t) none
-  where
-    go : (b : Bool) (o : Option ℕ) → Decides b (x ≡ t) → (if b then Some 0 else option_map suc o) ≡ None → (x ≡ t → ⊥) × (o ≡ None)
-    go true o by e = absurd cc
-    go false None by e = ((λ same. let f : false ≡ true = by.1 same in cc), refl)
-    go false (Some k) by e = absurd cc
-
-is_new-front : (xs ys : List (List ℕ)) (t : List ℕ) → IsNew (xs ++ ys) t → IsNew xs t
-is_new-front [] ys t none = refl
-is_new-front (x ∷ xs) ys t none = go (bytes_eq x t) (number_of xs t) (number_of (xs ++ ys) t) none (is_new-front xs ys t)
-  where
-    go : (b : Bool) (o p : Option ℕ) → (if b then Some 0 else option_map suc p) ≡ None → (p ≡ None → o ≡ None) → (if b then Some 0 else option_map suc o) ≡ None
-    go true o p e more = absurd cc
-    go false o None e more = ap (option_map suc) (more refl)
-    go false o (Some k) e more = absurd cc
-
-not-new : (xs : List (List ℕ)) (t : List ℕ) → IsNew (xs ++ t ∷ []) t → ⊥
-not-new [] t none = go (bytes_eq t t) ((bytes_eq-Decides t t).1 refl) none
-  where
-    go : (b : Bool) → b ≡ true → if◌then◌else◌ {A = Option ℕ} b (Some 0) None ≡ None → ⊥
-    go true is e = cc
-    go false is e = cc
-not-new (x ∷ xs) t none = go (bytes_eq x t) (number_of (xs ++ t ∷ []) t) none (not-new xs t)
-  where
-    go : (b : Bool) (o : Option ℕ) → (if b then Some 0 else option_map suc o) ≡ None → (o ≡ None → ⊥) → ⊥
-    go true o e out = cc
-    go false None e out = out refl
-    go false (Some k) e out = cc
 
 -- a variable's name is none of those before it
 unseen : (seen : List (List ℕ)) (vs : List Variable) (k : ℕ) (w : Variable) (t : List ℕ) → AllHold (are_others seen vs) → slice_get vs k ≡ Some w → IsCalled w.name t → IsNew seen t
@@ -68,7 +28,7 @@ unseen seen (v ∷ vs) zero w t all at called = let same : v ≡ w = cc in go w.
     go None called all = absurd called
     go (Some l) called all = subst (IsNew seen) called all.0
 unseen seen (v ∷ vs) (suc k) w t all at called =
-    is_new-front seen (name_texts v.name) t (unseen (seen ++ name_texts v.name) vs k w t (all_hold-rest (is_other seen v.name) _ all) at called)
+    (new-parts seen (name_texts v.name) t (unseen (seen ++ name_texts v.name) vs k w t (all_hold-rest (is_other seen v.name) _ all) at called)).0
 
 called-text : (o : Option Lexeme) (t : List ℕ) → IsCalled o t → name_texts o ≡ t ∷ []
 called-text None t called = absurd called
@@ -76,7 +36,7 @@ called-text (Some l) t called = ap (λ x. x ∷ []) called
 
 clash : (seen : List (List ℕ)) (v w : Variable) (vs : List Variable) (k : ℕ) (t : List ℕ) → AllHold (are_others seen (v ∷ vs)) → slice_get vs k ≡ Some w → IsCalled v.name t → IsCalled w.name t → ⊥
 clash seen v w vs k t all at a b =
-    not-new seen t (subst (λ ts. IsNew (seen ++ ts) t) (called-text v.name t a) (unseen (seen ++ name_texts v.name) vs k w t (all_hold-rest (is_other seen v.name) _ all) at b))
+    (new-last seen t t (subst (λ ts. IsNew (seen ++ ts) t) (called-text v.name t a) (unseen (seen ++ name_texts v.name) vs k w t (all_hold-rest (is_other seen v.name) _ all) at b))).1 refl
 
 -- no two variables share a name
 pub one-place : (seen : List (List ℕ)) (vs : List Variable) (j k : ℕ) (v w : Variable) (t : List ℕ) → AllHold (are_others seen vs) → slice_get vs j ≡ Some v → slice_get vs k ≡ Some w

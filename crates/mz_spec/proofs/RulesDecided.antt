@@ -8,7 +8,7 @@ use Rattle.mz_logic.specs.Modifiers.{IsPure, IsStrict, IsFree}
 use Rattle.mz_logic.specs.declared.binder.SortMods.{SortMods}
 use Rattle.mz_math.proofs.Offered.{Decided, not-decided}
 use Rattle.mz_grammar.specs.Statement.{TypeText, Level, number_level, max_level}
-use Rattle.mz_variables.specs.Names.{number_of}
+use Rattle.mz_names.specs.Names.{number_of}
 use Rattle.mz_variables.specs.View.{Variable, View, names_of, name_texts, params_of, dummies_of}
 use Rattle.mz_spec.specs.State.{State, names_in}
 use Rattle.mz_spec.specs.Forms.{number_in, highest_level}

@@ -9,7 +9,7 @@ use Rattle.mz_logic.specs.Modifiers.{IsPure, IsStrict, IsFree}
 use Rattle.mz_logic.specs.declared.binder.SortMods.{SortMods}
 use Rattle.mz_tokens.specs.declared.pieces.Piece.{Piece}
 use Rattle.mz_grammar.specs.declared.refusal.Fault.{Fault}
-use Rattle.mz_variables.specs.Names.{number_of, IsNew, IsKnown}
+use Rattle.mz_names.specs.Names.{number_of, IsNew, IsKnown}
 use Rattle.mz_variables.specs.Dependencies.{Every, IsBoundAmong}
 use Rattle.mz_grammar.specs.Statement.{TypeText, Level, number_level, max_level, Statement}
 use Rattle.mz_variables.specs.View.{Named, Variable, Formula, View, view, params_of, dummies_of, names_of, name_texts}

@@ -1,6 +1,6 @@
 -- What the statements before declare, and what a statement's types and variables are over it (mm0.md, sections on
 -- sorts, terms, definitions, axioms and theorems).
-use Rattle.std.specs.Prelude.{◌+◌, ◌++◌, ℕ, List, [], ◌∷◌, map, length, refl, Option, Some, None, unwrap_or}
+use Rattle.std.specs.Prelude.{◌++◌, ℕ, List, [], ◌∷◌, map, length, refl, Option, Some, None, unwrap_or}
 use Rattle.std.specs.Coded.{Coded, code_by, coded×, coded_ℕ}
 use Rattle.mz_lex.specs.Lexemes.{Lexeme}
 use Rattle.mz_logic.specs.Declaration.{Declaration}
@@ -12,7 +12,7 @@ use Rattle.mz_notation.specs.Notation.{Table, empty_table, with_name}
 use Rattle.mz_notation.specs.Notation.{Variables}
 use Rattle.mz_math.specs.Formula.{Reader}
 use Rattle.mz_spec.specs.declared.spec.Mark.{Mark}
-use Rattle.mz_variables.specs.Names.{number_of}
+use Rattle.mz_names.specs.Names.{number_of}
 use Rattle.mz_variables.specs.Dependencies.{dep_places}
 use Rattle.mz_grammar.specs.Statement.{TypeText}
 use Rattle.mz_variables.specs.View.{Space, sorts, terms, assertions, Variable, params_of, dummies_of}

@@ -1,5 +1,5 @@
 // Statements that declare something: sorts, terms, axioms and theorems, and definitions.
-ghost use Rattle.std.specs.Prelude.{◌≡◌, ◌+◌, ◌<◌, ◌^◌, ◌++◌, ◌∷◌, [], List, Some, IfErr, IfOk, IsTrue, OnOk, length, map, option_map};
+ghost use Rattle.std.specs.Prelude.{◌≡◌, ◌+◌, ◌<◌, ◌^◌, ◌++◌, ◌∷◌, ⊤, [], List, Some, IfErr, IfOk, IsTrue, MatchOption, OnOk, length, map, option_map};
 ghost use Rattle.mz_grammar.specs.Code.{assertion as assertion_lem, definition as definition_lem, head, lexeme, modifiers as modifiers_lem, source, term as term_lem, type_text};
 ghost use Rattle.mz_checks.specs.Checks.{AllHold};
 ghost use Rattle.mz_grammar.specs.Statement.{TypeText as TypeLem, sort_statement};
@@ -16,14 +16,15 @@ ghost use Rattle.mz_spec.specs.Declaring.{After, Declares, IsForm, is_axiom, sor
 ghost use Rattle.mz_spec.specs.Entries.{state};
 ghost use Rattle.mz_spec.specs.Kept.{IsKept, IsSpelled};
 ghost use Rattle.mz_spec.specs.Formulas.{AreHyps, AreTokens, IsMeant, math_of, strings_checks};
-ghost use Rattle.mz_variables.specs.Names.{IsNew};
+ghost use Rattle.mz_names.specs.Names.{IsNew};
+ghost use Rattle.mz_variables.specs.Index.{IsIndexOf};
 ghost use Rattle.mz_variables.specs.Dependencies.{Every};
 ghost use Rattle.mz_spec.specs.Rules.{body_rules, new_name, parts_rules, variable_rules};
 ghost use Rattle.mz_spec.specs.State.{result_of, scope_of, variable_bytes, with_term};
 ghost use Rattle.mz_variables.specs.View.{Variable as VariableLem, body, body_formulas, claim, stated_of as stated_of_lem, view};
 
 use crate::formulas::{Stated, push_group_stated, push_premise_stated};
-use crate::rules::{check_new, distinct_names};
+use crate::rules::{check_new, distinct_names, index_of};
 use crate::spec::Mark;
 use crate::state::State;
 use mz_grammar::{
@@ -32,7 +33,7 @@ use mz_grammar::{
 use mz_lex::S;
 use mz_logic::{Decl, Expr, Exprs, ResultType, SortMods, TermDecl, TermForm, ThmDecl, ThmForm};
 use mz_math::{Scope, Wanted};
-use mz_variables::{Parts, TypeAt, Variable};
+use mz_variables::{NameIndex, Parts, TypeAt, Variable};
 use std::alloc::{AllocError, Global};
 
 /// The modifiers as the logic has them.
@@ -119,12 +120,19 @@ impl<'a> State<'a> {
     }
 
     /// The names, types and binders of a statement are right.
-    fn check_parts(&self, alloc: Global, place: u32, parts: &Parts<'_, 'a>) -> Result<(), Halt>
+    fn check_parts(
+        &self,
+        alloc: Global,
+        index: &Option<NameIndex<'a>>,
+        place: u32,
+        parts: &Parts<'_, 'a>,
+    ) -> Result<(), Halt>
         requires kept { IsKept (state self.now) }
+        requires index { MatchOption index.now ⊤ (IsIndexOf (map variable parts.now.params.items)) }
         ensures { (vs : List VariableLem) (types results : List TypeLem) → AreParts parts.now vs types results → JudgesOrMem result (parts_rules (state self.now) place vs types results) }
     {
         self.check_variables(alloc, &parts.variables, &parts.types)?;
-        self.check_binders(alloc, place, parts)?;
+        self.check_binders(index, place, parts)?;
         Ok(())
     }
 
@@ -171,10 +179,11 @@ impl<'a> State<'a> {
         ensures judged { JudgesStatement result (state self.now) place (term_lem term.now) }
         ensures declares { IfOk result (λ d. Declares (state self.now) (term_lem term.now) (term_of d)) }
     {
-        self.check_parts(alloc, place, parts)?;
+        let index = index_of(alloc, parts)?;
+        self.check_parts(alloc, &index, place, parts)?;
         Ok(TermDecl {
-            params: self.binders_of(alloc, &parts.params, &parts.params)?,
-            result: self.result_of(alloc, parts, &term.result)?,
+            params: self.binders_of(alloc, &index, &parts.params, &parts.params)?,
+            result: self.result_of(alloc, &index, parts, &term.result)?,
             form: TermForm::Plain,
         })
     }
@@ -198,6 +207,7 @@ impl<'a> State<'a> {
     fn form_of(
         &self,
         alloc: Global,
+        index: &Option<NameIndex<'a>>,
         place: u32,
         parts: &Parts<'_, 'a>,
         result_type: &ResultType,
@@ -205,6 +215,7 @@ impl<'a> State<'a> {
     ) -> Result<TermForm, Halt>
         requires kept { IsKept (state self.now) }
         requires few { length self.now.marks.items + 1 < 2 ^ 32 }
+        requires index { MatchOption index.now ⊤ (IsIndexOf (map variable parts.now.params.items)) }
         requires room { length parts.now.params.items + length parts.now.dummies.items < 2 ^ 32 }
         requires names { AreVariables (map variable_bytes (map variable parts.now.params.items) ++ map variable_bytes (map variable parts.now.dummies.items)) }
         requires small { Every EndsSmall (all_of (option_map lexeme body)) }
@@ -217,7 +228,7 @@ impl<'a> State<'a> {
     {
         match body {
             None => Ok(TermForm::Abstract),
-            Some(body) => self.body_of(alloc, place, parts, result_type, body),
+            Some(body) => self.body_of(alloc, index, place, parts, result_type, body),
         }
     }
 
@@ -225,6 +236,7 @@ impl<'a> State<'a> {
     fn body_of(
         &self,
         alloc: Global,
+        index: &Option<NameIndex<'a>>,
         place: u32,
         parts: &Parts<'_, 'a>,
         result_type: &ResultType,
@@ -232,6 +244,7 @@ impl<'a> State<'a> {
     ) -> Result<TermForm, Halt>
         requires kept { IsKept (state self.now) }
         requires few { length self.now.marks.items + 1 < 2 ^ 32 }
+        requires index { MatchOption index.now ⊤ (IsIndexOf (map variable parts.now.params.items)) }
         requires room { length parts.now.params.items + length parts.now.dummies.items < 2 ^ 32 }
         requires names { AreVariables (map variable_bytes (map variable parts.now.params.items) ++ map variable_bytes (map variable parts.now.dummies.items)) }
         requires small { EndsSmall (lexeme math) }
@@ -242,7 +255,7 @@ impl<'a> State<'a> {
         ensures form { IfOk result (λ f. (vs : List VariableLem) (ts : List TypeLem) (t : TypeLem) → AreParts parts.now vs ts (t ∷ []) → result_type.now ≡ result_of (state self.now) vs t
             → IsForm (state self.now) vs t (Some (lexeme math.entry)) (form f)) }
     {
-        let scope = self.scope_of(alloc, parts)?;
+        let scope = self.scope_of(alloc, index, parts)?;
         let body = self.formula(alloc, &scope, math, Wanted::Sort(result_type.sort))?;
         let has = self.has_free_variables(alloc, &scope, &body, &result_type.deps)?;
         if !has {
@@ -251,7 +264,7 @@ impl<'a> State<'a> {
                 rule: S::DefinitionDependencies,
             }));
         }
-        let dummies = self.binders_of(alloc, &parts.params, &parts.dummies)?;
+        let dummies = self.binders_of(alloc, index, &parts.params, &parts.dummies)?;
         Ok(TermForm::Body { dummies, body })
     }
 
@@ -289,10 +302,11 @@ impl<'a> State<'a> {
         ensures judged { JudgesStatement result (state self.now) place (definition_lem definition.now) }
         ensures declares { IfOk result (λ d. Declares (state self.now) (definition_lem definition.now) (term_of d)) }
     {
-        self.check_parts(alloc, place, parts)?;
-        let params = self.binders_of(alloc, &parts.params, &parts.params)?;
-        let result_type = self.result_of(alloc, parts, &definition.result)?;
-        let form = self.form_of(alloc, place, parts, &result_type, definition.body)?;
+        let index = index_of(alloc, parts)?;
+        self.check_parts(alloc, &index, place, parts)?;
+        let params = self.binders_of(alloc, &index, &parts.params, &parts.params)?;
+        let result_type = self.result_of(alloc, &index, parts, &definition.result)?;
+        let form = self.form_of(alloc, &index, place, parts, &result_type, definition.body)?;
         Ok(TermDecl {
             params,
             result: result_type,
@@ -323,11 +337,13 @@ impl<'a> State<'a> {
     fn claims_of(
         &self,
         alloc: Global,
+        index: &Option<NameIndex<'a>>,
         parts: &Parts<'_, 'a>,
         assertion: &AssertText<'a>,
     ) -> Result<(Exprs, Expr), Halt>
         requires kept { IsKept (state self.now) }
         requires few { length self.now.marks.items + 1 < 2 ^ 32 }
+        requires index { MatchOption index.now ⊤ (IsIndexOf (map variable parts.now.params.items)) }
         requires room { length parts.now.params.items + length parts.now.dummies.items < 2 ^ 32 }
         requires names { AreVariables (map variable_bytes (map variable parts.now.params.items) ++ map variable_bytes (map variable parts.now.dummies.items)) }
         requires small { Every (λ f. EndsSmall (math_of f)) (view (assertion_lem assertion.now)).formulas }
@@ -338,7 +354,7 @@ impl<'a> State<'a> {
             → AreHyps (state self.now) (view (assertion_lem assertion.now)).variables (stated_of_lem (head assertion.now.head).groups (map source assertion.now.premises.items)) claims.0
             × IsMeant (state self.now) (view (assertion_lem assertion.now)).variables (claim (lexeme assertion.now.conclusion)) (tree claims.1)) }
     {
-        let scope = self.scope_of(alloc, parts)?;
+        let scope = self.scope_of(alloc, index, parts)?;
         let stated = stated_of(alloc, assertion)?;
         self.claims_in(alloc, &scope, &stated, assertion)
     }
@@ -399,9 +415,10 @@ impl<'a> State<'a> {
         ensures judged { JudgesStatement result (state self.now) place (assertion_lem assertion.now) }
         ensures declares { IfOk result (λ d. Declares (state self.now) (assertion_lem assertion.now) (assertion_of d)) }
     {
-        self.check_parts(alloc, place, parts)?;
-        let (hyps, conclusion) = self.claims_of(alloc, parts, assertion)?;
-        let params = self.binders_of(alloc, &parts.params, &parts.params)?;
+        let index = index_of(alloc, parts)?;
+        self.check_parts(alloc, &index, place, parts)?;
+        let (hyps, conclusion) = self.claims_of(alloc, &index, parts, assertion)?;
+        let params = self.binders_of(alloc, &index, &parts.params, &parts.params)?;
         Ok(ThmDecl {
             form: thm_form(assertion.kind),
             params,

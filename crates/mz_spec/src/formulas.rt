@@ -110,6 +110,18 @@ fn push_copies(
     Ok(())
 }
 
+/// Adds an expression so many times: copies of it, and then itself.
+fn push_times(alloc: Global, exprs: &mut Exprs, expr: Expr, times: usize) -> Result<(), AllocError>
+    ensures { OnOk result (exprs.new ≡ followed_by exprs.old (copies times (tree expr))) }
+{
+    if times < 1 {
+        return Ok(());
+    }
+    push_copies(alloc, exprs, &expr, times - 1)?;
+    exprs.push(expr)?;
+    Ok(())
+}
+
 impl<'a> State<'a> {
     /// What a math string stands for.
     pub fn formula(
@@ -156,7 +168,7 @@ impl<'a> State<'a> {
             × (hyps.new ≡ followed_by hyps.old (copies (stated_lem hyp.now).times e))) }
     {
         let expr = self.formula(alloc, scope, hyp.math, Wanted::Provable)?;
-        push_copies(alloc, hyps, &expr, hyp.times)?;
+        push_times(alloc, hyps, expr, hyp.times)?;
         Ok(())
     }
 

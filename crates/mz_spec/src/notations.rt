@@ -1,5 +1,5 @@
 // Statements for math strings: operators, coercions, delimiters and general notations.
-ghost use Rattle.std.specs.Prelude.{◌≡◌, ◌+◌, ◌<◌, ◌^◌, ◌++◌, ◌∷◌, [], List, OnOk, length, map, option_map};
+ghost use Rattle.std.specs.Prelude.{◌≡◌, ◌+◌, ◌<◌, ◌^◌, ◌++◌, ◌∷◌, ⊤, [], List, MatchOption, OnOk, length, map, option_map};
 ghost use Rattle.mz_checks.specs.Checks.{AllHold, each_in_order};
 ghost use Rattle.mz_grammar.specs.Statement.{TypeText};
 ghost use Rattle.mz_grammar.specs.Code.{coercion as coercion_lem, delimiter as delimiter_lem, lexeme, level as level_lem, literal as literal_lem, notation as notation_lem, operator as operator_lem, tail as tail_lem, type_text};
@@ -13,19 +13,20 @@ ghost use Rattle.mz_spec.specs.Forms.{AreLiterals, MakesNotation, level_of as le
 ghost use Rattle.mz_spec.specs.Kept.{IsKept, IsSpelled};
 ghost use Rattle.mz_spec.specs.Noting.{halt_of as halt_of_lem, named_rules, noting_rules};
 ghost use Rattle.mz_spec.specs.Rules.{are_others, is_level};
+ghost use Rattle.mz_variables.specs.Index.{IsIndexOf};
 ghost use Rattle.mz_variables.specs.View.{Variable as VariableLem, literal_levels, tail_levels, view};
 
 use crate::formulas::inner;
 use crate::levels::{level_of, tail_of};
 use crate::literals::Literals;
-use crate::rules::{check_known, distinct_names};
+use crate::rules::{check_known, distinct_names, index_of};
 use crate::state::State;
 use mz_grammar::{
     CoercionText, DelimiterText, Fault, Fixity, Halt, Lexeme, NotationText, OperatorText,
 };
 use mz_lex::S;
 use mz_math::{NoteFault, Tail};
-use mz_variables::{Parts, TypeAt, Variable};
+use mz_variables::{NameIndex, Parts, TypeAt, Variable};
 use std::alloc::Global;
 
 impl<'a> State<'a> {
@@ -132,16 +133,18 @@ impl<'a> State<'a> {
     fn check_notation(
         &self,
         alloc: Global,
+        index: &Option<NameIndex<'a>>,
         place: u32,
         name: Lexeme<'a>,
         parts: &Parts<'_, 'a>,
     ) -> Result<(), Halt>
         requires kept { IsKept (state self.now) }
+        requires index { MatchOption index.now ⊤ (IsIndexOf (map variable parts.now.params.items)) }
         ensures { (vs : List VariableLem) (types results : List TypeText) → AreParts parts.now vs types results
             → JudgesOrMem result (noting_rules (state self.now) place (lexeme name.entry) vs types results) }
     {
         self.check_names(alloc, name, &parts.variables, &parts.types)?;
-        self.check_binders(alloc, place, parts)?;
+        self.check_binders(index, place, parts)?;
         Ok(())
     }
 
@@ -149,6 +152,7 @@ impl<'a> State<'a> {
     fn note_general(
         &mut self,
         alloc: Global,
+        index: &Option<NameIndex<'a>>,
         notation: &NotationText<'a>,
         parts: &Parts<'_, 'a>,
         literals: &Literals,
@@ -158,16 +162,17 @@ impl<'a> State<'a> {
         requires few { length self.old.marks.items + 1 < 2 ^ 32 }
         requires spelled { IsSpelled (notation_lem notation.now) }
         requires parts { AreParts parts.now (view (notation_lem notation.now)).variables (view (notation_lem notation.now)).types (view (notation_lem notation.now)).result }
+        requires index { MatchOption index.now ⊤ (IsIndexOf (map variable parts.now.params.items)) }
         requires others { AllHold (are_others [] (view (notation_lem notation.now)).variables) }
         requires literals { AreLiterals literals.now.text.items (map literal_lem notation.now.literals.items ++ literal_lem notation.now.last ∷ []) literals.now.spans.items }
         requires tail { tail ≡ tail_of_lem (option_map tail_lem notation.now.tail) }
         ensures answer { IsAnswer result (notation_checks (state self.old).table (MakesNotation (state self.old) (notation_lem notation.now))) }
         ensures after { OnOk result (After (state self.old) 0 (notation_lem notation.now) (state self.new)) }
     {
-        let Ok(scope) = self.scope_of(alloc, parts) else {
+        let Ok(scope) = self.scope_of(alloc, index, parts) else {
             return Err(NoteFault::Mem);
         };
-        let Ok(result_type) = self.result_of(alloc, parts, &notation.result) else {
+        let Ok(result_type) = self.result_of(alloc, index, parts, &notation.result) else {
             return Err(NoteFault::Mem);
         };
         let term = self.term_number(notation.head.name);
@@ -222,8 +227,9 @@ impl<'a> State<'a> {
         ensures judged { JudgesStatement result (state self.old) place (notation_lem notation.now) }
         ensures after { OnOk result (After (state self.old) place (notation_lem notation.now) (state self.new)) }
     {
-        self.check_notation(alloc, place, notation.head.name, parts)?;
-        match self.note_general(alloc, notation, parts, literals, tail) {
+        let index = index_of(alloc, parts)?;
+        self.check_notation(alloc, &index, place, notation.head.name, parts)?;
+        match self.note_general(alloc, &index, notation, parts, literals, tail) {
             Ok(()) => Ok(()),
             Err(fault) => Err(halt_of(place, fault)),
         }

@@ -17,9 +17,8 @@ use crate::state::State;
 use mz_grammar::{Fault, Halt, Lexeme, TypeText};
 use mz_lex::S;
 use mz_logic::SortMods;
-use mz_tokens::Places;
-use mz_variables::{Names, Parts, TypeAt, Variable, are_bound_before, places_of};
-use std::alloc::Global;
+use mz_variables::{NameIndex, Names, Parts, TypeAt, Variable, are_bound_before, places_of};
+use std::alloc::{AllocError, Global};
 
 /// The name is none of these.
 pub fn check_new<'a>(names: &Names<'a>, name: Lexeme<'a>) -> Result<(), Fault>
@@ -134,7 +133,7 @@ impl<'a> State<'a> {
     /// Whether the parameter at this place stands right behind those before it.
     fn is_binder(
         &self,
-        index: &Option<Places<u32>>,
+        index: &Option<NameIndex<'a>>,
         params: &[Variable<'_, 'a>],
         place: usize,
         variable: &Variable<'_, 'a>,
@@ -151,7 +150,7 @@ impl<'a> State<'a> {
     }
 
     /// Whether each parameter stands right behind those before it.
-    fn are_binders(&self, index: &Option<Places<u32>>, params: &[Variable<'_, 'a>]) -> bool
+    fn are_binders(&self, index: &Option<NameIndex<'a>>, params: &[Variable<'_, 'a>]) -> bool
         requires kept { IsKept (state self.now) }
         requires index { MatchOption index.now ⊤ (IsIndexOf (map variable_lem params.now)) }
         ensures { IsTrue result ↔ AreBinders (state self.now) [] (map variable_lem params.now) }
@@ -189,7 +188,7 @@ impl<'a> State<'a> {
     }
 
     /// Whether parameters, dummies and result depend on what they may.
-    fn have_binders(&self, index: &Option<Places<u32>>, parts: &Parts<'_, 'a>) -> bool
+    fn have_binders(&self, index: &Option<NameIndex<'a>>, parts: &Parts<'_, 'a>) -> bool
         requires kept { IsKept (state self.now) }
         requires index { MatchOption index.now ⊤ (IsIndexOf (map variable_lem parts.now.params.items)) }
         ensures { (vs : List VariableLem) (types results : List TypeLem) → AreParts parts.now vs types results → IsTrue result ↔ HaveBinders (state self.now) vs results }
@@ -202,15 +201,15 @@ impl<'a> State<'a> {
     /// The binders, the dummies' sorts and the result's sort are right.
     pub fn check_binders(
         &self,
-        alloc: Global,
+        index: &Option<NameIndex<'a>>,
         place: u32,
         parts: &Parts<'_, 'a>,
     ) -> Result<(), Halt>
         requires kept { IsKept (state self.now) }
+        requires index { MatchOption index.now ⊤ (IsIndexOf (map variable_lem parts.now.params.items)) }
         ensures { (vs : List VariableLem) (types results : List TypeLem) → AreParts parts.now vs types results → JudgesOrMem result (binder_rules (state self.now) place vs results) }
     {
-        let index = places_of(alloc, &parts.params, have_deps(parts))?;
-        if !self.have_binders(&index, parts) {
+        if !self.have_binders(index, parts) {
             return Err(Halt::Fault(Fault {
                 at: place,
                 rule: S::Binder,
@@ -233,7 +232,7 @@ impl<'a> State<'a> {
 }
 
 /// Whether none of the variables has dependencies.
-pub fn depend_on_nothing(variables: &[Variable<'_, '_>]) -> bool
+fn depend_on_nothing(variables: &[Variable<'_, '_>]) -> bool
     ensures { IsTrue result ↔ Every DependsOnNothing (map variable_lem variables.now) }
 {
     for variable in variables {
@@ -245,10 +244,10 @@ pub fn depend_on_nothing(variables: &[Variable<'_, '_>]) -> bool
 }
 
 /// Whether the result depends on bound parameters alone.
-fn depends_on_bound(
-    index: &Option<Places<u32>>,
-    params: &[Variable<'_, '_>],
-    result_type: Option<&TypeText<'_>>,
+fn depends_on_bound<'a>(
+    index: &Option<NameIndex<'a>>,
+    params: &[Variable<'_, 'a>],
+    result_type: Option<&TypeText<'a>>,
 ) -> bool
     requires { MatchOption index.now ⊤ (IsIndexOf (map variable_lem params.now)) }
     ensures { IsTrue result ↔ Every (IsResult (map variable_lem params.now)) (all_of (option_map (λ t. type_text t.now) result_type.entry)) }
@@ -257,6 +256,16 @@ fn depends_on_bound(
         Some(ty) => are_bound_before(index, params, params.len(), &ty.deps),
         None => true,
     }
+}
+
+/// The places of the parameters by their names, where one of them or the result has dependencies.
+pub fn index_of<'a>(
+    alloc: Global,
+    parts: &Parts<'_, 'a>,
+) -> Result<Option<NameIndex<'a>>, AllocError>
+    ensures { IfOk result (λ index. MatchOption index ⊤ (IsIndexOf (map variable_lem parts.now.params.items))) }
+{
+    places_of(alloc, &parts.params, have_deps(parts))
 }
 
 /// Whether a parameter or the result has dependencies.

@@ -9,13 +9,11 @@ ghost use Rattle.mz_variables.specs.Index.{IsIndexOf};
 ghost use Rattle.mz_spec.specs.State.{binder_of as binder_of_lem, bytes_of as bytes_of_lem, result_of, scope_of as scope_of_lem, sort_number as sort_number_lem, term_number as term_number_lem, variable_bytes};
 ghost use Rattle.mz_variables.specs.View.{Variable as VariableLem, alone};
 
-use crate::rules::depend_on_nothing;
 use crate::state::State;
 use mz_grammar::{Lexeme, TypeText};
 use mz_logic::{Binder, Binders, ResultType};
 use mz_math::Scope;
-use mz_tokens::Places;
-use mz_variables::{Parts, Variable, places_among, places_of};
+use mz_variables::{NameIndex, Parts, Variable, places_among};
 use std::alloc::{AllocError, Global};
 
 impl<'a> State<'a> {
@@ -45,7 +43,7 @@ impl<'a> State<'a> {
     fn binder_of(
         &self,
         alloc: Global,
-        index: &Option<Places<u32>>,
+        index: &Option<NameIndex<'a>>,
         params: &[Variable<'_, 'a>],
         variable: &Variable<'_, 'a>,
     ) -> Result<Binder, AllocError>
@@ -61,26 +59,11 @@ impl<'a> State<'a> {
         })
     }
 
-    /// The binders of variables, over these parameters.
+    /// The binders of variables, over these parameters with this index.
     pub fn binders_of(
         &self,
         alloc: Global,
-        params: &[Variable<'_, 'a>],
-        variables: &[Variable<'_, 'a>],
-    ) -> Result<Binders, AllocError>
-        requires few { length (state self.now).sort_names < 2 ^ 32 }
-        requires small { length params.now < 2 ^ 32 }
-        ensures { IfOk result (λ binders. binders ≡ map (binder_of_lem (state self.now) (map variable_lem params.now)) (map variable_lem variables.now)) }
-    {
-        let index = places_of(alloc, params, !depend_on_nothing(variables))?;
-        self.binders_by(alloc, &index, params, variables)
-    }
-
-    /// The same with this index of the parameters.
-    fn binders_by(
-        &self,
-        alloc: Global,
-        index: &Option<Places<u32>>,
+        index: &Option<NameIndex<'a>>,
         params: &[Variable<'_, 'a>],
         variables: &[Variable<'_, 'a>],
     ) -> Result<Binders, AllocError>
@@ -100,44 +83,26 @@ impl<'a> State<'a> {
     pub fn result_of(
         &self,
         alloc: Global,
+        index: &Option<NameIndex<'a>>,
         parts: &Parts<'_, 'a>,
         ty: &TypeText<'a>,
     ) -> Result<ResultType, AllocError>
+        requires index { MatchOption index.now ⊤ (IsIndexOf (map variable_lem parts.now.params.items)) }
         requires few { length (state self.now).sort_names < 2 ^ 32 }
         requires small { length parts.now.params.items < 2 ^ 32 }
         ensures { IfOk result (λ r. (vs : List VariableLem) (types results : List TypeLem) → AreParts parts.now vs types results → r ≡ result_of (state self.now) vs (type_text ty.now)) }
     {
-        let index = places_of(alloc, &parts.params, !ty.deps.is_empty())?;
         Ok(ResultType {
             sort: self.sort_number(ty.sort),
-            deps: places_among(alloc, &index, &parts.params, &ty.deps)?,
+            deps: places_among(alloc, index, &parts.params, &ty.deps)?,
         })
     }
 
-    /// Adds variables, with their binders over these parameters, to a scope.
+    /// Adds variables, with their binders over these parameters with this index, to a scope.
     fn push_variables(
         &self,
         alloc: Global,
-        scope: &mut Scope,
-        params: &[Variable<'_, 'a>],
-        variables: &[Variable<'_, 'a>],
-    ) -> Result<(), AllocError>
-        requires few { length (state self.now).sort_names < 2 ^ 32 }
-        requires small { length params.now < 2 ^ 32 }
-        requires room { length scope.old.names + length variables.now < 2 ^ 32 }
-        requires names { AreVariables (scope.old.names ++ map variable_bytes (map variable_lem variables.now)) }
-        ensures names { OnOk result (scope.new.names ≡ scope.old.names ++ map variable_bytes (map variable_lem variables.now)) }
-        ensures binders { OnOk result (scope.new.binders ≡ scope.old.binders ++ map (binder_of_lem (state self.now) (map variable_lem params.now)) (map variable_lem variables.now)) }
-    {
-        let index = places_of(alloc, params, !depend_on_nothing(variables))?;
-        self.push_indexed(alloc, &index, scope, params, variables)
-    }
-
-    /// The same with this index of the parameters.
-    fn push_indexed(
-        &self,
-        alloc: Global,
-        index: &Option<Places<u32>>,
+        index: &Option<NameIndex<'a>>,
         scope: &mut Scope,
         params: &[Variable<'_, 'a>],
         variables: &[Variable<'_, 'a>],
@@ -158,15 +123,21 @@ impl<'a> State<'a> {
     }
 
     /// What the statement's math strings see of its variables: parameters first, then dummies.
-    pub fn scope_of(&self, alloc: Global, parts: &Parts<'_, 'a>) -> Result<Scope, AllocError>
+    pub fn scope_of(
+        &self,
+        alloc: Global,
+        index: &Option<NameIndex<'a>>,
+        parts: &Parts<'_, 'a>,
+    ) -> Result<Scope, AllocError>
+        requires index { MatchOption index.now ⊤ (IsIndexOf (map variable_lem parts.now.params.items)) }
         requires few { length (state self.now).sort_names < 2 ^ 32 }
         requires room { length parts.now.params.items + length parts.now.dummies.items < 2 ^ 32 }
         requires names { AreVariables (map variable_bytes (map variable_lem parts.now.params.items) ++ map variable_bytes (map variable_lem parts.now.dummies.items)) }
         ensures { IfOk result (λ scope. (vs : List VariableLem) (types results : List TypeLem) → AreParts parts.now vs types results → scope ≡ scope_of_lem (state self.now) vs) }
     {
         let mut scope = Scope::new(alloc);
-        self.push_variables(alloc, &mut scope, &parts.params, &parts.params)?;
-        self.push_variables(alloc, &mut scope, &parts.params, &parts.dummies)?;
+        self.push_variables(alloc, index, &mut scope, &parts.params, &parts.params)?;
+        self.push_variables(alloc, index, &mut scope, &parts.params, &parts.dummies)?;
         Ok(scope)
     }
 }

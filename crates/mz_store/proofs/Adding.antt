@@ -170,8 +170,8 @@ missing-holds s v count os nodes kept view h is there None lacks =
 -- ---- the calls that add
 
 -- what the store keeps
-abbrev pub Keeps : DepsMode → ℕ → List Id → List Node → (ℕ → Option Id) → Type 0
-Keeps mode count os nodes newest = IsKept (sharing_of mode (all_made os nodes)) count os nodes × IsChained os nodes newest
+abbrev pub Keeps : ℕ → DepsMode → ℕ → List Id → List Node → (ℕ → Option Id) → Type 0
+Keeps factor mode count os nodes newest = IsKept (sharing_of mode (all_made os nodes)) count os nodes × IsChained factor os nodes newest
 
 view-pushed : (mode : DepsMode) (os os' : List Id) (nodes nodes' : List Node) (m : Made) (v : Sharing) → sharing_of mode (all_made os nodes) ≡ v
     → all_made os' nodes' ≡ all_made os nodes ++ m ∷ [] → sharing_of mode (all_made os' nodes') ≡ entered v m
@@ -183,104 +183,104 @@ byte-is true = refl
 byte-is false = refl
 
 -- a variable: no operands are added
-variable-pushed : (os : List Id) (nodes : List Node) (newest : ℕ → Option Id) (sort deps : ℕ) (bound : Bool) → IsChained os nodes newest
+variable-pushed : (factor : ℕ) (os : List Id) (nodes : List Node) (newest : ℕ → Option Id) (sort deps : ℕ) (bound : Bool) → IsChained factor os nodes newest
     → all_made os (nodes ++ record { sort = sort; deps = deps; form = Variable bound } ∷ []) ≡ all_made os nodes ++ record { sort = sort; deps = deps; form = variable bound } ∷ []
-variable-pushed os nodes newest sort deps bound chained =
+variable-pushed factor os nodes newest sort deps bound chained =
     sym (ap (λ (is : List Id). all_made is (nodes ++ record { sort = sort; deps = deps; form = Variable bound } ∷ [])) (append-nil os))
-    ∙ all-pushed os [] nodes (record { sort = sort; deps = deps; form = Variable bound }) (record { sort = sort; deps = deps; form = variable bound }) (all-lie os nodes newest chained) refl
+    ∙ all-pushed os [] nodes (record { sort = sort; deps = deps; form = Variable bound }) (record { sort = sort; deps = deps; form = variable bound }) (all-lie factor os nodes newest chained) refl
 
-pub enter-view : (mode : DepsMode) (count : ℕ) (os : List Id) (nodes nodes' : List Node) (newest : ℕ → Option Id) (sort deps : ℕ) (bound : Bool) (v : Sharing) → Keeps mode count os nodes newest
+pub enter-view : (factor : ℕ) (mode : DepsMode) (count : ℕ) (os : List Id) (nodes nodes' : List Node) (newest : ℕ → Option Id) (sort deps : ℕ) (bound : Bool) (v : Sharing) → Keeps factor mode count os nodes newest
     → sharing_of mode (all_made os nodes) ≡ v → nodes' ≡ nodes ++ record { sort = sort; deps = deps; form = Variable bound } ∷ []
     → sharing_of mode (all_made os nodes') ≡ entered v (record { sort = sort; deps = deps; form = variable bound })
-enter-view mode count os nodes nodes' newest sort deps bound v (_, chained) view is =
+enter-view factor mode count os nodes nodes' newest sort deps bound v (_, chained) view is =
     view-pushed mode os os nodes nodes' (record { sort = sort; deps = deps; form = variable bound }) v view
-    (ap (all_made os) is ∙ variable-pushed os nodes newest sort deps bound chained)
+    (ap (all_made os) is ∙ variable-pushed factor os nodes newest sort deps bound chained)
 
-pub enter-kept : (mode : DepsMode) (count : ℕ) (os : List Id) (nodes nodes' : List Node) (newest : ℕ → Option Id) (sort deps : ℕ) (bound : Bool) (v : Sharing) (k : ℕ) → Keeps mode count os nodes newest
+pub enter-kept : (factor : ℕ) (mode : DepsMode) (count : ℕ) (os : List Id) (nodes nodes' : List Node) (newest : ℕ → Option Id) (sort deps : ℕ) (bound : Bool) (v : Sharing) (k : ℕ) → Keeps factor mode count os nodes newest
     → sharing_of mode (all_made os nodes) ≡ v → IsVariableWord (length (bound_vars v.context)) deps bound → k ≡ bool_byte bound
-    → nodes' ≡ nodes ++ record { sort = sort; deps = deps; form = Variable bound } ∷ [] → Keeps mode (count + k) os nodes' newest
-enter-kept mode count os nodes nodes' newest sort deps bound v k (kept, chained) view word k-is is =
-    subst (λ (ns : List Node). Keeps mode (count + k) os ns newest) (sym is) (
+    → nodes' ≡ nodes ++ record { sort = sort; deps = deps; form = Variable bound } ∷ [] → Keeps factor mode (count + k) os nodes' newest
+enter-kept factor mode count os nodes nodes' newest sort deps bound v k (kept, chained) view word k-is is =
+    subst (λ (ns : List Node). Keeps factor mode (count + k) os ns newest) (sym is) (
       subst (λ (s : Sharing). IsKept s (count + k) os (nodes ++ record { sort = sort; deps = deps; form = Variable bound } ∷ []))
-          (sym (enter-view mode count os nodes (nodes ++ record { sort = sort; deps = deps; form = Variable bound } ∷ []) newest sort deps bound (sharing_of mode (all_made os nodes)) (kept, chained) refl refl))
+          (sym (enter-view factor mode count os nodes (nodes ++ record { sort = sort; deps = deps; form = Variable bound } ∷ []) newest sort deps bound (sharing_of mode (all_made os nodes)) (kept, chained) refl refl))
           (variable-kept (sharing_of mode (all_made os nodes)) count os nodes sort deps bound kept
           (subst (λ (s : Sharing). IsVariableWord (length (bound_vars s.context)) deps bound) (sym view) word) (count + k) (ap (λ j. count + j) (k-is ∙ byte-is bound))),
-      chained-variable os nodes newest sort deps bound chained,
+      chained-variable factor os nodes newest sort deps bound chained,
     )
 
-pub enter-over : (mode : DepsMode) (count : ℕ) (os : List Id) (nodes nodes' : List Node) (newest : ℕ → Option Id) (sort deps : ℕ) (bound : Bool) (v : Sharing) → Keeps mode count os nodes newest
+pub enter-over : (factor : ℕ) (mode : DepsMode) (count : ℕ) (os : List Id) (nodes nodes' : List Node) (newest : ℕ → Option Id) (sort deps : ℕ) (bound : Bool) (v : Sharing) → Keeps factor mode count os nodes newest
     → sharing_of mode (all_made os nodes) ≡ v → IsVariableWord (length (bound_vars v.context)) deps bound
     → nodes' ≡ nodes ++ record { sort = sort; deps = deps; form = Variable bound } ∷ []
     → (sigs : List Signature) → IsOver sigs v → IsOver sigs (sharing_of mode (all_made os nodes'))
-enter-over mode count os nodes nodes' newest sort deps bound v keeps view word is sigs over =
-    subst (IsOver sigs) (sym (enter-view mode count os nodes nodes' newest sort deps bound v keeps view is))
+enter-over factor mode count os nodes nodes' newest sort deps bound v keeps view word is sigs over =
+    subst (IsOver sigs) (sym (enter-view factor mode count os nodes nodes' newest sort deps bound v keeps view is))
     (over-entered v sort deps bound (subst (λ (s : Sharing). DepsInside s.context) view keeps.0.inside) word sigs over)
 
 -- a term: its operands are added
-pub term-view : (mode : DepsMode) (count : ℕ) (os os' news : List Id) (nodes nodes' : List Node) (newest : ℕ → Option Id) (sort deps : ℕ) (a : Term) (v : Sharing) → Keeps mode count os nodes newest
+pub term-view : (factor : ℕ) (mode : DepsMode) (count : ℕ) (os os' news : List Id) (nodes nodes' : List Node) (newest : ℕ → Option Id) (sort deps : ℕ) (a : Term) (v : Sharing) → Keeps factor mode count os nodes newest
     → sharing_of mode (all_made os nodes) ≡ v → os' ≡ os ++ news → a.from ≡ length os → a.to ≡ length os + length news
     → nodes' ≡ nodes ++ record { sort = sort; deps = deps; form = Application a } ∷ []
     → sharing_of mode (all_made os' nodes') ≡ entered v (record { sort = sort; deps = deps; form = application a.head news })
-term-view mode count os os' news nodes nodes' newest sort deps a v (_, chained) view os-is from-is to-is is =
+term-view factor mode count os os' news nodes nodes' newest sort deps a v (_, chained) view os-is from-is to-is is =
     view-pushed mode os os' nodes nodes' (record { sort = sort; deps = deps; form = application a.head news }) v view
     (ap (λ (is : List Id). all_made is nodes') os-is ∙ ap (all_made (os ++ news)) is
     ∙ all-pushed os news nodes (record { sort = sort; deps = deps; form = Application a }) (record { sort = sort; deps = deps; form = application a.head news })
-    (all-lie os nodes newest chained) (term-says os news sort deps a from-is to-is))
+    (all-lie factor os nodes newest chained) (term-says os news sort deps a from-is to-is))
 
-pub add-kept : (mode : DepsMode) (count : ℕ) (os os' news : List Id) (nodes nodes' : List Node) (newest newest' : ℕ → Option Id) (sort deps : ℕ) (a : Term) (v : Sharing) (print : ℕ) (id : Id)
-    → Keeps mode count os nodes newest → sharing_of mode (all_made os nodes) ≡ v → os' ≡ os ++ news → a.from ≡ length os → a.to ≡ length os + length news
+pub add-kept : (factor : ℕ) (mode : DepsMode) (count : ℕ) (os os' news : List Id) (nodes nodes' : List Node) (newest newest' : ℕ → Option Id) (sort deps : ℕ) (a : Term) (v : Sharing) (print : ℕ) (id : Id)
+    → Keeps factor mode count os nodes newest → sharing_of mode (all_made os nodes) ≡ v → os' ≡ os ++ news → a.from ≡ length os → a.to ≡ length os + length news
     → nodes' ≡ nodes ++ record { sort = sort; deps = deps; form = Application a } ∷ []
     → AreIn v news → ((i : ℕ) → Holds v i (app a.head (trees_of v news)) → ⊥)
-    → print ≡ print_of a.head news → a.earlier ≡ newest print → id.0 ≡ length nodes → Puts newest newest' print id
-    → Keeps mode count os' nodes' newest'
-add-kept mode count os os' news nodes nodes' newest newest' sort deps a v print id (kept, chained) view os-is from-is to-is is there fresh print-is earlier-is place puts =
-    subst (λ (ns : List Node). Keeps mode count os' ns newest') (sym is) (subst (λ (is : List Id). Keeps mode count is (nodes ++ n ∷ []) newest') (sym os-is) (
+    → print ≡ print_of factor a.head news → a.earlier ≡ newest print → id.0 ≡ length nodes → Puts newest newest' print id
+    → Keeps factor mode count os' nodes' newest'
+add-kept factor mode count os os' news nodes nodes' newest newest' sort deps a v print id (kept, chained) view os-is from-is to-is is there fresh print-is earlier-is place puts =
+    subst (λ (ns : List Node). Keeps factor mode count os' ns newest') (sym is) (subst (λ (is : List Id). Keeps factor mode count is (nodes ++ n ∷ []) newest') (sym os-is) (
       subst (λ (s : Sharing). IsKept s count (os ++ news) (nodes ++ n ∷ []))
-          (sym (term-view mode count os (os ++ news) news nodes (nodes ++ n ∷ []) newest sort deps a (sharing_of mode (all_made os nodes)) (kept, chained) refl refl from-is to-is refl))
-          (term-kept (sharing_of mode (all_made os nodes)) count os news nodes n sort deps a.head kept (all-lie os nodes newest chained) (term-says os news sort deps a from-is to-is)
+          (sym (term-view factor mode count os (os ++ news) news nodes (nodes ++ n ∷ []) newest sort deps a (sharing_of mode (all_made os nodes)) (kept, chained) refl refl from-is to-is refl))
+          (term-kept (sharing_of mode (all_made os nodes)) count os news nodes n sort deps a.head kept (all-lie factor os nodes newest chained) (term-says os news sort deps a from-is to-is)
           (subst (λ w. AreIn w news) (sym view) there) (λ i holds. fresh i (subst (λ w. Holds w i (app a.head (trees_of w news))) view holds))),
-      chained-term os news nodes newest newest' sort deps a print id chained from-is to-is print-is earlier-is place puts,
+      chained-term factor os news nodes newest newest' sort deps a print id chained from-is to-is print-is earlier-is place puts,
     ))
   where
     n : Node
     n = record { sort = sort; deps = deps; form = Application a }
 
 -- operands are added, and no node
-pub more-view : (mode : DepsMode) (count : ℕ) (os os' news : List Id) (nodes nodes' : List Node) (newest : ℕ → Option Id) (v : Sharing) → Keeps mode count os nodes newest
+pub more-view : (factor : ℕ) (mode : DepsMode) (count : ℕ) (os os' news : List Id) (nodes nodes' : List Node) (newest : ℕ → Option Id) (v : Sharing) → Keeps factor mode count os nodes newest
     → sharing_of mode (all_made os nodes) ≡ v → os' ≡ os ++ news → nodes' ≡ nodes → sharing_of mode (all_made os' nodes') ≡ v
-more-view mode count os os' news nodes nodes' newest v (_, chained) view is same =
-    ap (λ (ns : List Node). sharing_of mode (all_made os' ns)) same ∙ ap (λ (js : List Id). sharing_of mode (all_made js nodes)) is ∙ ap (sharing_of mode) (all-kept os news nodes (all-lie os nodes newest chained)) ∙ view
+more-view factor mode count os os' news nodes nodes' newest v (_, chained) view is same =
+    ap (λ (ns : List Node). sharing_of mode (all_made os' ns)) same ∙ ap (λ (js : List Id). sharing_of mode (all_made js nodes)) is ∙ ap (sharing_of mode) (all-kept os news nodes (all-lie factor os nodes newest chained)) ∙ view
 
-pub more-kept : (mode : DepsMode) (count : ℕ) (os os' news : List Id) (nodes nodes' : List Node) (newest newest' : ℕ → Option Id) → Keeps mode count os nodes newest
-    → os' ≡ os ++ news → nodes' ≡ nodes → ((q : ℕ) → newest' q ≡ newest q) → Keeps mode count os' nodes' newest'
-more-kept mode count os os' news nodes nodes' newest newest' (kept, chained) is alike same =
-    subst (λ (ns : List Node). Keeps mode count os' ns newest') (sym alike) (subst (λ (js : List Id). Keeps mode count js nodes newest') (sym is) (
-      subst (λ (s : Sharing). IsKept s count (os ++ news) nodes) (sym (more-view mode count os (os ++ news) news nodes nodes newest (sharing_of mode (all_made os nodes)) (kept, chained) refl refl refl))
+pub more-kept : (factor : ℕ) (mode : DepsMode) (count : ℕ) (os os' news : List Id) (nodes nodes' : List Node) (newest newest' : ℕ → Option Id) → Keeps factor mode count os nodes newest
+    → os' ≡ os ++ news → nodes' ≡ nodes → ((q : ℕ) → newest' q ≡ newest q) → Keeps factor mode count os' nodes' newest'
+more-kept factor mode count os os' news nodes nodes' newest newest' (kept, chained) is alike same =
+    subst (λ (ns : List Node). Keeps factor mode count os' ns newest') (sym alike) (subst (λ (js : List Id). Keeps factor mode count js nodes newest') (sym is) (
+      subst (λ (s : Sharing). IsKept s count (os ++ news) nodes) (sym (more-view factor mode count os (os ++ news) news nodes nodes newest (sharing_of mode (all_made os nodes)) (kept, chained) refl refl refl))
           (record {
             many = kept.many;
             count = kept.count;
             small = kept.small;
             inside = kept.inside;
-            shown = λ i n at. subst (Shows (sharing_of mode (all_made os nodes)) i) (sym (made-kept os news n (all-lie os nodes newest chained i n at))) (kept.shown i n at);
+            shown = λ i n at. subst (Shows (sharing_of mode (all_made os nodes)) i) (sym (made-kept os news n (all-lie factor os nodes newest chained i n at))) (kept.shown i n at);
             once = kept.once;
           }),
-      chained-by (os ++ news) nodes newest newest' (chained-more os news nodes newest chained) same,
+      chained-by factor (os ++ news) nodes newest newest' (chained-more factor os news nodes newest chained) same,
     ))
 
 -- ---- what a node shows
 
-pub shows-at : (mode : DepsMode) (count : ℕ) (os : List Id) (nodes : List Node) (newest : ℕ → Option Id) (v : Sharing) → Keeps mode count os nodes newest
-    → sharing_of mode (all_made os nodes) ≡ v → (i : ℕ) (n : Node) → IsIn v i → n ≡ get_or nodes i n → Shows v i (made_of os n)
-shows-at mode count os nodes newest v (kept, _) view i n inside is =
-    subst (λ w. Shows w i (made_of os n)) view (kept.shown i n (slice_get-get_or nodes i n within ∙ ap Some (sym is)))
-  where
-    within : i < length nodes
-    within = (let here : IsIn (sharing_of mode (all_made os nodes)) i = subst (λ w. IsIn w i) (sym view) inside in omega (arith, kept.many))
+pub kept-shows : (s : Sharing) (count : ℕ) (os : List Id) (nodes : List Node) → IsKept s count os nodes → (i : ℕ) (n : Node) → IsIn s i → n ≡ get_or nodes i n → Shows s i (made_of os n)
+kept-shows s count os nodes kept i n inside is = kept.shown i n (slice_get-get_or nodes i n (omega (arith, kept.many)) ∙ ap Some (sym is))
 
-pub form-at : (mode : DepsMode) (count : ℕ) (os : List Id) (nodes : List Node) (newest : ℕ → Option Id) (v : Sharing) → Keeps mode count os nodes newest
+pub shows-at : (factor : ℕ) (mode : DepsMode) (count : ℕ) (os : List Id) (nodes : List Node) (newest : ℕ → Option Id) (v : Sharing) → Keeps factor mode count os nodes newest
+    → sharing_of mode (all_made os nodes) ≡ v → (i : ℕ) (n : Node) → IsIn v i → n ≡ get_or nodes i n → Shows v i (made_of os n)
+shows-at factor mode count os nodes newest v (kept, _) view i n inside is =
+    subst (λ w. Shows w i (made_of os n)) view (kept-shows (sharing_of mode (all_made os nodes)) count os nodes kept i n (subst (λ w. IsIn w i) (sym view) inside) is)
+
+pub form-at : (factor : ℕ) (mode : DepsMode) (count : ℕ) (os : List Id) (nodes : List Node) (newest : ℕ → Option Id) (v : Sharing) → Keeps factor mode count os nodes newest
     → sharing_of mode (all_made os nodes) ≡ v → (i : ℕ) (n : Node) → IsIn v i → n ≡ get_or nodes i n → (f : Form) → n.form ≡ f → Forms v i (form_of os f)
-form-at mode count os nodes newest v keeps view i n inside is f form-is =
-    subst (λ (g : Form). Forms v i (form_of os g)) form-is (shows-at mode count os nodes newest v keeps view i n inside is).form
+form-at factor mode count os nodes newest v keeps view i n inside is f form-is =
+    subst (λ (g : Form). Forms v i (form_of os g)) form-is (shows-at factor mode count os nodes newest v keeps view i n inside is).form
 
 pub bound-variable : (v : Sharing) (i : ℕ) (bound : Bool) → Forms v i (variable bound) → IsTrue bound ↔ IsBoundVar v.context (tree_of v i)
 bound-variable v i bound (x, b, is, at, bound-is) = (λ t. (x, b, is, at, bound-is ∙ t), back)

@@ -32,30 +32,30 @@ one-longer (y ∷ xs) x = ap suc (one-longer xs x)
 within-first : (ms more : List Made) (j : ℕ) (m : Made) → j < length ms → slice_get (ms ++ more) j ≡ Some m → slice_get ms j ≡ Some m
 within-first ms more j m less at = elim (split_at ms more j m at) [ inl here ↦ here | inr later ↦ absurd (let place : j ≡ length ms + later.0 = later.1 in omega arith) ]
 
-pub last-below : (ms more : List Made) (k print : ℕ) (o : Option Id) → k ≤ length ms → IsLast ms k print o → IsLast (ms ++ more) k print o
-last-below ms more k print None below none = λ j m less at has. none j m less (within-first ms more j m (omega arith) at) has
-last-below ms more k print (Some e) below (less, (w, at, has), most) = (
+pub last-below : (factor : ℕ) (ms more : List Made) (k print : ℕ) (o : Option Id) → k ≤ length ms → IsLast factor ms k print o → IsLast factor (ms ++ more) k print o
+last-below factor ms more k print None below none = λ j m less at has. none j m less (within-first ms more j m (omega arith) at) has
+last-below factor ms more k print (Some e) below (less, (w, at, has), most) = (
   less,
   (w, extends_append ms more e.0 w at, has),
   λ j m less' at' has'. most j m less' (within-first ms more j m (omega arith) at') has',
 )
 
-last-skip : (ms : List Made) (m : Made) (k print : ℕ) (o : Option Id) → k ≡ length ms → IsLast ms k print o → (HasPrint m.form print → ⊥) → IsLast (ms ++ m ∷ []) (suc k) print o
-last-skip ms m k print None many none out = λ j x less at has. elim (split_at ms (m ∷ []) j x at) [
+last-skip : (factor : ℕ) (ms : List Made) (m : Made) (k print : ℕ) (o : Option Id) → k ≡ length ms → IsLast factor ms k print o → (HasPrint factor m.form print → ⊥) → IsLast factor (ms ++ m ∷ []) (suc k) print o
+last-skip factor ms m k print None many none out = λ j x less at has. elim (split_at ms (m ∷ []) j x at) [
   | inl here ↦ none j x (let within : j < length ms = slice_get_within ms j x here in omega arith) here has
-  | inr later ↦ out (subst (λ (y : Made). HasPrint y.form print) (sym (only-last m x later.0 later.2).1) has)
+  | inr later ↦ out (subst (λ (y : Made). HasPrint factor y.form print) (sym (only-last m x later.0 later.2).1) has)
 ]
-last-skip ms m k print (Some e) many (less, (w, at, has), most) out = (
+last-skip factor ms m k print (Some e) many (less, (w, at, has), most) out = (
   omega arith,
   (w, extends_append ms (m ∷ []) e.0 w at, has),
   λ j x less' at' has'. elim (split_at ms (m ∷ []) j x at') [
     | inl here ↦ most j x (let within : j < length ms = slice_get_within ms j x here in omega arith) here has'
-    | inr later ↦ absurd (out (subst (λ (y : Made). HasPrint y.form print) (sym (only-last m x later.0 later.2).1) has'))
+    | inr later ↦ absurd (out (subst (λ (y : Made). HasPrint factor y.form print) (sym (only-last m x later.0 later.2).1) has'))
   ],
 )
 
-last-here : (ms : List Made) (m : Made) (k print : ℕ) (e : Id) → k ≡ length ms → e.0 ≡ k → HasPrint m.form print → IsLast (ms ++ m ∷ []) (suc k) print (Some e)
-last-here ms m k print e many place has = (
+last-here : (factor : ℕ) (ms : List Made) (m : Made) (k print : ℕ) (e : Id) → k ≡ length ms → e.0 ≡ k → HasPrint factor m.form print → IsLast factor (ms ++ m ∷ []) (suc k) print (Some e)
+last-here factor ms m k print e many place has = (
   omega arith,
   (m, subst (λ i. slice_get (ms ++ m ∷ []) i ≡ Some m) (sym (place ∙ many)) (last-at ms m), has),
   λ j x less at has'. omega arith,
@@ -63,53 +63,53 @@ last-here ms m k print e many place has = (
 
 -- ---- links
 
-lies-by : (os : List Id) (ms : List Made) (i : ℕ) (f : Form) → Links os ms i f → Lies os f
-lies-by os ms i (Variable bound) _ = tt
-lies-by os ms i (Application a) (order, within, _) = (order, within)
+lies-by : (factor : ℕ) (os : List Id) (ms : List Made) (i : ℕ) (f : Form) → Links factor os ms i f → Lies os f
+lies-by factor os ms i (Variable bound) _ = tt
+lies-by factor os ms i (Application a) (order, within, _) = (order, within)
 
-pub all-lie : (os : List Id) (nodes : List Node) (newest : ℕ → Option Id) → IsChained os nodes newest → AllLie os nodes
-all-lie os nodes newest chained i n at = lies-by os (all_made os nodes) i n.form (chained.linked i n at)
+pub all-lie : (factor : ℕ) (os : List Id) (nodes : List Node) (newest : ℕ → Option Id) → IsChained factor os nodes newest → AllLie os nodes
+all-lie factor os nodes newest chained i n at = lies-by factor os (all_made os nodes) i n.form (chained.linked i n at)
 
-links-kept : (os more : List Id) (ms mores : List Made) (i : ℕ) (f : Form) → i ≤ length ms → Links os ms i f → Links (os ++ more) (ms ++ mores) i f
-links-kept os more ms mores i (Variable bound) below _ = tt
-links-kept os more ms mores i (Application a) below (order, within, last) = (
+links-kept : (factor : ℕ) (os more : List Id) (ms mores : List Made) (i : ℕ) (f : Form) → i ≤ length ms → Links factor os ms i f → Links factor (os ++ more) (ms ++ mores) i f
+links-kept factor os more ms mores i (Variable bound) below _ = tt
+links-kept factor os more ms mores i (Application a) below (order, within, last) = (
   order,
   omega (arith, length-append os more),
-  subst (λ (is : List Id). IsLast (ms ++ mores) i (print_of a.head is) a.earlier) (sym (operands-kept os more a.from a.to order within))
-      (last-below ms mores i (print_of a.head (operands_at os a.from a.to)) a.earlier below last),
+  subst (λ (is : List Id). IsLast factor (ms ++ mores) i (print_of factor a.head is) a.earlier) (sym (operands-kept os more a.from a.to order within))
+      (last-below factor ms mores i (print_of factor a.head (operands_at os a.from a.to)) a.earlier below last),
 )
 
-chained-grown : (os more : List Id) (nodes : List Node) (newest newest' : ℕ → Option Id) (n : Node) (m : Made) → IsChained os nodes newest → made_of (os ++ more) n ≡ m
-    → Links (os ++ more) (all_made os nodes ++ m ∷ []) (length nodes) n.form
-    → ((print : ℕ) → IsLast (all_made os nodes ++ m ∷ []) (suc (length nodes)) print (newest' print))
-    → IsChained (os ++ more) (nodes ++ n ∷ []) newest'
-chained-grown os more nodes newest newest' n m chained says links last = record {
-  linked = λ i k at. subst (λ (ms : List Made). Links (os ++ more) ms i k.form) (sym pushed) (go i k (split_at nodes (n ∷ []) i k at));
-  last = λ print. subst (λ j. IsLast (all_made (os ++ more) (nodes ++ n ∷ [])) j print (newest' print)) (sym (one-longer nodes n))
-      (subst (λ (ms : List Made). IsLast ms (suc (length nodes)) print (newest' print)) (sym pushed) (last print));
+chained-grown : (factor : ℕ) (os more : List Id) (nodes : List Node) (newest newest' : ℕ → Option Id) (n : Node) (m : Made) → IsChained factor os nodes newest → made_of (os ++ more) n ≡ m
+    → Links factor (os ++ more) (all_made os nodes ++ m ∷ []) (length nodes) n.form
+    → ((print : ℕ) → IsLast factor (all_made os nodes ++ m ∷ []) (suc (length nodes)) print (newest' print))
+    → IsChained factor (os ++ more) (nodes ++ n ∷ []) newest'
+chained-grown factor os more nodes newest newest' n m chained says links last = record {
+  linked = λ i k at. subst (λ (ms : List Made). Links factor (os ++ more) ms i k.form) (sym pushed) (go i k (split_at nodes (n ∷ []) i k at));
+  last = λ print. subst (λ j. IsLast factor (all_made (os ++ more) (nodes ++ n ∷ [])) j print (newest' print)) (sym (one-longer nodes n))
+      (subst (λ (ms : List Made). IsLast factor ms (suc (length nodes)) print (newest' print)) (sym pushed) (last print));
 }
   where
     pushed : all_made (os ++ more) (nodes ++ n ∷ []) ≡ all_made os nodes ++ m ∷ []
-    pushed = all-pushed os more nodes n m (all-lie os nodes newest chained) says
+    pushed = all-pushed os more nodes n m (all-lie factor os nodes newest chained) says
 
     go : (i : ℕ) (k : Node) → (slice_get nodes i ≡ Some k) ⊎ ((j : ℕ) × (i ≡ length nodes + j) × (slice_get (n ∷ []) j ≡ Some k))
-        → Links (os ++ more) (all_made os nodes ++ m ∷ []) i k.form
-    go i k (inl here) = links-kept os more (all_made os nodes) (m ∷ []) i k.form
+        → Links factor (os ++ more) (all_made os nodes ++ m ∷ []) i k.form
+    go i k (inl here) = links-kept factor os more (all_made os nodes) (m ∷ []) i k.form
         (let within : i < length nodes = slice_get_within nodes i k here in omega (arith, many-made os nodes)) (chained.linked i k here)
     go i k (inr (j, place, later)) =
         let last-is = only-last n k j later in
         let at-end : length nodes ≡ i = (let none : j ≡ 0 = last-is.0 in omega arith) in
-        subst (λ (x : ℕ). Links (os ++ more) (all_made os nodes ++ m ∷ []) x k.form) at-end
-        (subst (λ (x : Node). Links (os ++ more) (all_made os nodes ++ m ∷ []) (length nodes) x.form) last-is.1 links)
+        subst (λ (x : ℕ). Links factor (os ++ more) (all_made os nodes ++ m ∷ []) x k.form) at-end
+        (subst (λ (x : Node). Links factor (os ++ more) (all_made os nodes ++ m ∷ []) (length nodes) x.form) last-is.1 links)
 
 -- ---- what the store adds
 
-pub chained-variable : (os : List Id) (nodes : List Node) (newest : ℕ → Option Id) (sort deps : ℕ) (bound : Bool) → IsChained os nodes newest
-    → IsChained os (nodes ++ record { sort = sort; deps = deps; form = Variable bound } ∷ []) newest
-chained-variable os nodes newest sort deps bound chained =
-    subst (λ (is : List Id). IsChained is (nodes ++ n ∷ []) newest) (append-nil os)
-    (chained-grown os [] nodes newest newest n m chained refl tt
-    (λ print. last-skip (all_made os nodes) m (length nodes) print (newest print) (sym (many-made os nodes)) (chained.last print) (λ nope. nope)))
+pub chained-variable : (factor : ℕ) (os : List Id) (nodes : List Node) (newest : ℕ → Option Id) (sort deps : ℕ) (bound : Bool) → IsChained factor os nodes newest
+    → IsChained factor os (nodes ++ record { sort = sort; deps = deps; form = Variable bound } ∷ []) newest
+chained-variable factor os nodes newest sort deps bound chained =
+    subst (λ (is : List Id). IsChained factor is (nodes ++ n ∷ []) newest) (append-nil os)
+    (chained-grown factor os [] nodes newest newest n m chained refl tt
+    (λ print. last-skip factor (all_made os nodes) m (length nodes) print (newest print) (sym (many-made os nodes)) (chained.last print) (λ nope. nope)))
   where
     n : Node
     n = record { sort = sort; deps = deps; form = Variable bound }
@@ -126,11 +126,11 @@ pub term-says : (os more : List Id) (sort deps : ℕ) (a : Term) → a.from ≡ 
 term-says os more sort deps a from-is to-is =
     ap (λ (is : List Id). record { sort = sort; deps = deps; form = application a.head is }) (operands-new os more a.from a.to from-is to-is)
 
-pub chained-term : (os more : List Id) (nodes : List Node) (newest newest' : ℕ → Option Id) (sort deps : ℕ) (a : Term) (print : ℕ) (id : Id) → IsChained os nodes newest
-    → a.from ≡ length os → a.to ≡ length os + length more → print ≡ print_of a.head more → a.earlier ≡ newest print → id.0 ≡ length nodes → Puts newest newest' print id
-    → IsChained (os ++ more) (nodes ++ record { sort = sort; deps = deps; form = Application a } ∷ []) newest'
-chained-term os more nodes newest newest' sort deps a print id chained from-is to-is print-is earlier-is place puts =
-    chained-grown os more nodes newest newest' n m chained (term-says os more sort deps a from-is to-is) links last
+pub chained-term : (factor : ℕ) (os more : List Id) (nodes : List Node) (newest newest' : ℕ → Option Id) (sort deps : ℕ) (a : Term) (print : ℕ) (id : Id) → IsChained factor os nodes newest
+    → a.from ≡ length os → a.to ≡ length os + length more → print ≡ print_of factor a.head more → a.earlier ≡ newest print → id.0 ≡ length nodes → Puts newest newest' print id
+    → IsChained factor (os ++ more) (nodes ++ record { sort = sort; deps = deps; form = Application a } ∷ []) newest'
+chained-term factor os more nodes newest newest' sort deps a print id chained from-is to-is print-is earlier-is place puts =
+    chained-grown factor os more nodes newest newest' n m chained (term-says os more sort deps a from-is to-is) links last
   where
     n : Node
     n = record { sort = sort; deps = deps; form = Application a }
@@ -138,53 +138,53 @@ chained-term os more nodes newest newest' sort deps a print id chained from-is t
     m : Made
     m = record { sort = sort; deps = deps; form = application a.head more }
 
-    links : Links (os ++ more) (all_made os nodes ++ m ∷ []) (length nodes) (Application a)
+    links : Links factor (os ++ more) (all_made os nodes ++ m ∷ []) (length nodes) (Application a)
     links = (
       omega arith,
       omega (arith, length-append os more),
-      subst (λ (o : Option Id). IsLast (all_made os nodes ++ m ∷ []) (length nodes) (print_of a.head (operands_at (os ++ more) a.from a.to)) o) (sym earlier-is)
-          (subst (λ q. IsLast (all_made os nodes ++ m ∷ []) (length nodes) q (newest print)) (print-is ∙ ap (print_of a.head) (sym (operands-new os more a.from a.to from-is to-is)))
-          (last-below (all_made os nodes) (m ∷ []) (length nodes) print (newest print) (omega (arith, many-made os nodes)) (chained.last print))),
+      subst (λ (o : Option Id). IsLast factor (all_made os nodes ++ m ∷ []) (length nodes) (print_of factor a.head (operands_at (os ++ more) a.from a.to)) o) (sym earlier-is)
+          (subst (λ q. IsLast factor (all_made os nodes ++ m ∷ []) (length nodes) q (newest print)) (print-is ∙ ap (print_of factor a.head) (sym (operands-new os more a.from a.to from-is to-is)))
+          (last-below factor (all_made os nodes) (m ∷ []) (length nodes) print (newest print) (omega (arith, many-made os nodes)) (chained.last print))),
     )
 
-    last : (q : ℕ) → IsLast (all_made os nodes ++ m ∷ []) (suc (length nodes)) q (newest' q)
+    last : (q : ℕ) → IsLast factor (all_made os nodes ++ m ∷ []) (suc (length nodes)) q (newest' q)
     last q = go (nat_eq print q) refl
       where
-        go : (b : Bool) → nat_eq print q ≡ b → IsLast (all_made os nodes ++ m ∷ []) (suc (length nodes)) q (newest' q)
+        go : (b : Bool) → nat_eq print q ≡ b → IsLast factor (all_made os nodes ++ m ∷ []) (suc (length nodes)) q (newest' q)
         go true same =
-            subst (IsLast (all_made os nodes ++ m ∷ []) (suc (length nodes)) q) (sym (puts q ∙ ap (λ b. cond b (Some id) (newest q)) same))
-            (last-here (all_made os nodes) m (length nodes) q id (sym (many-made os nodes)) place (sym print-is ∙ (Decides-eqb print q).0 same))
+            subst (IsLast factor (all_made os nodes ++ m ∷ []) (suc (length nodes)) q) (sym (puts q ∙ ap (λ b. cond b (Some id) (newest q)) same))
+            (last-here factor (all_made os nodes) m (length nodes) q id (sym (many-made os nodes)) place (sym print-is ∙ (Decides-eqb print q).0 same))
         go false other =
-            subst (IsLast (all_made os nodes ++ m ∷ []) (suc (length nodes)) q) (sym (puts q ∙ ap (λ b. cond b (Some id) (newest q)) other))
-            (last-skip (all_made os nodes) m (length nodes) q (newest q) (sym (many-made os nodes)) (chained.last q)
+            subst (IsLast factor (all_made os nodes ++ m ∷ []) (suc (length nodes)) q) (sym (puts q ∙ ap (λ b. cond b (Some id) (newest q)) other))
+            (last-skip factor (all_made os nodes) m (length nodes) q (newest q) (sym (many-made os nodes)) (chained.last q)
             (λ has. let same : nat_eq print q ≡ true = (Decides-eqb print q).1 (print-is ∙ has) in apart (sym same ∙ other)))
           where
             apart : true ≡ false → ⊥
             apart nope = cc
 
 -- more operands and no node change nothing
-pub chained-more : (os more : List Id) (nodes : List Node) (newest : ℕ → Option Id) → IsChained os nodes newest → IsChained (os ++ more) nodes newest
-chained-more os more nodes newest chained = record {
-  linked = λ i n at. subst (λ (ms : List Made). Links (os ++ more) ms i n.form) (sym same)
+pub chained-more : (factor : ℕ) (os more : List Id) (nodes : List Node) (newest : ℕ → Option Id) → IsChained factor os nodes newest → IsChained factor (os ++ more) nodes newest
+chained-more factor os more nodes newest chained = record {
+  linked = λ i n at. subst (λ (ms : List Made). Links factor (os ++ more) ms i n.form) (sym same)
       (wider i n.form (let within : i < length nodes = slice_get_within nodes i n at in omega (arith, many-made os nodes)) (chained.linked i n at));
-  last = λ print. subst (λ (ms : List Made). IsLast ms (length nodes) print (newest print)) (sym same) (chained.last print);
+  last = λ print. subst (λ (ms : List Made). IsLast factor ms (length nodes) print (newest print)) (sym same) (chained.last print);
 }
   where
     same : all_made (os ++ more) nodes ≡ all_made os nodes
-    same = all-kept os more nodes (all-lie os nodes newest chained)
+    same = all-kept os more nodes (all-lie factor os nodes newest chained)
 
-    wider : (i : ℕ) (f : Form) → i ≤ length (all_made os nodes) → Links os (all_made os nodes) i f → Links (os ++ more) (all_made os nodes) i f
-    wider i f below links = subst (λ (ms : List Made). Links (os ++ more) ms i f) (append-nil (all_made os nodes)) (links-kept os more (all_made os nodes) [] i f below links)
+    wider : (i : ℕ) (f : Form) → i ≤ length (all_made os nodes) → Links factor os (all_made os nodes) i f → Links factor (os ++ more) (all_made os nodes) i f
+    wider i f below links = subst (λ (ms : List Made). Links factor (os ++ more) ms i f) (append-nil (all_made os nodes)) (links-kept factor os more (all_made os nodes) [] i f below links)
 
-pub chained-by : (os : List Id) (nodes : List Node) (newest newest' : ℕ → Option Id) → IsChained os nodes newest → ((q : ℕ) → newest' q ≡ newest q) → IsChained os nodes newest'
-chained-by os nodes newest newest' chained same = record {
+pub chained-by : (factor : ℕ) (os : List Id) (nodes : List Node) (newest newest' : ℕ → Option Id) → IsChained factor os nodes newest → ((q : ℕ) → newest' q ≡ newest q) → IsChained factor os nodes newest'
+chained-by factor os nodes newest newest' chained same = record {
   linked = chained.linked;
-  last = λ print. subst (IsLast (all_made os nodes) (length nodes) print) (sym (same print)) (chained.last print);
+  last = λ print. subst (IsLast factor (all_made os nodes) (length nodes) print) (sym (same print)) (chained.last print);
 }
 
-pub chained-empty : (os : List Id) (nodes : List Node) (newest : ℕ → Option Id) → nodes ≡ [] → ((q : ℕ) → newest q ≡ None) → IsChained os nodes newest
-chained-empty os nodes newest no-nodes lacks = record {
+pub chained-empty : (factor : ℕ) (os : List Id) (nodes : List Node) (newest : ℕ → Option Id) → nodes ≡ [] → ((q : ℕ) → newest q ≡ None) → IsChained factor os nodes newest
+chained-empty factor os nodes newest no-nodes lacks = record {
   linked = λ i n at. absurd (none_some (sym (ap (λ (ns : List Node). slice_get ns i) no-nodes) ∙ at));
-  last = λ print. subst (IsLast (all_made os nodes) (length nodes) print) (sym (lacks print))
+  last = λ print. subst (IsLast factor (all_made os nodes) (length nodes) print) (sym (lacks print))
       (λ j m less at has. absurd (let none : length nodes ≡ 0 = ap length no-nodes in omega arith));
 }

@@ -8,10 +8,11 @@ use Rattle.mz_logic.specs.declared.binder.Binder.{Binder}
 use Rattle.mz_logic.proofs.Offered.{none_some, extends_append, split_at, DepsInside}
 use Rattle.mz_store.specs.Bits.{bound_vars}
 use Rattle.mz_store.specs.Sharing.{Shared, Sharing, entry_of, tree_of, trees_of, IsIn, AreIn}
-use Rattle.mz_store.specs.Nodes.{Made, MadeOf, variable, application, made_of, entered, entered_all, context_with, tree_with, binder_after}
-use Rattle.mz_store.specs.Kept.{Forms, Shows, IsKept}
+use Rattle.mz_store.specs.Nodes.{Made, MadeOf, variable, application, made_of, all_made, entered, entered_all, no_expressions, context_with, tree_with, binder_after}
+use Rattle.mz_store.specs.Kept.{Forms, Shows, IsKept, shared_by}
 use Rattle.mz_store.specs.declared.item.Id.{Id}
 use Rattle.mz_store.specs.declared.node.Node.{Node}
+use Rattle.mz_store.specs.declared.expressions.Expressions.{Expressions}
 use Rattle.mz_store.proofs.Chained.{only-last, one-longer}
 
 pub entered-all-push : (s : Sharing) (ns : List Made) (n : Made) → entered_all s (ns ++ n ∷ []) ≡ entered (entered_all s ns) n
@@ -21,6 +22,9 @@ entered-all-push s (m ∷ ns) n = entered-all-push (entered s m) ns n
 pub mode-of : (s : Sharing) (ns : List Made) → (entered_all s ns).mode ≡ s.mode
 mode-of s [] = refl
 mode-of s (n ∷ ns) = mode-of (entered s n) ns
+
+pub mode-shared : (e : Expressions) → (shared_by e).mode ≡ e.mode
+mode-shared e = mode-of (no_expressions e.mode) (all_made e.operands.items e.nodes.items)
 
 -- s' has the expressions of s, under the same ids
 abbrev pub Begins : Sharing → Sharing → Type 0

@@ -9,6 +9,7 @@ mod Entering
 mod Adding
 mod Beginning
 mod OverTerms
+mod Placing
 mod Gathering
 pub mod Params
 mod AllVariables

@@ -17,20 +17,24 @@ abbrev pub IsNode : List Made → ℕ → List Id → ℕ → Type 0
 IsNode made head operands i = (m : Made) × (slice_get made i ≡ Some m) × IsOf m.form head operands
 
 -- it is a term with this print
-abbrev pub HasPrint : MadeOf → ℕ → Type 0
-HasPrint (variable bound) print = ⊥
-HasPrint (application h is) print = print_of h is ≡ print
+abbrev pub HasPrint : ℕ → MadeOf → ℕ → Type 0
+HasPrint factor (variable bound) print = ⊥
+HasPrint factor (application h is) print = print_of factor h is ≡ print
 
 -- of the first k the last one with this print
-abbrev pub IsLast : List Made → ℕ → ℕ → Option Id → Type 0
-IsLast made k print None = (j : ℕ) (m : Made) → j < k → slice_get made j ≡ Some m → HasPrint m.form print → ⊥
-IsLast made k print (Some e) = (e.0 < k) × ((m : Made) × (slice_get made e.0 ≡ Some m) × HasPrint m.form print)
-    × ((j : ℕ) (m : Made) → j < k → slice_get made j ≡ Some m → HasPrint m.form print → j ≤ e.0)
+abbrev pub IsLast : ℕ → List Made → ℕ → ℕ → Option Id → Type 0
+IsLast factor made k print None = (j : ℕ) (m : Made) → j < k → slice_get made j ≡ Some m → HasPrint factor m.form print → ⊥
+IsLast factor made k print (Some e) = (e.0 < k) × ((m : Made) × (slice_get made e.0 ≡ Some m) × HasPrint factor m.form print)
+    × ((j : ℕ) (m : Made) → j < k → slice_get made j ≡ Some m → HasPrint factor m.form print → j ≤ e.0)
 
 -- the operands lie within the list, and before the i-th with its print comes the one that it names
-abbrev pub Links : List Id → List Made → ℕ → Form → Type 0
-Links operands made i (Variable bound) = ⊤
-Links operands made i (Application a) = (a.from ≤ a.to) × (a.to ≤ length operands) × IsLast made i (print_of a.head (operands_at operands a.from a.to)) a.earlier
+abbrev pub Links : ℕ → List Id → List Made → ℕ → Form → Type 0
+Links factor operands made i (Variable bound) = ⊤
+Links factor operands made i (Application a) = (a.from ≤ a.to) × (a.to ≤ length operands) × IsLast factor made i (print_of factor a.head (operands_at operands a.from a.to)) a.earlier
 
-abbrev pub IsLinked : List Id → List Node → Type 0
-IsLinked operands nodes = (i : ℕ) (n : Node) → slice_get nodes i ≡ Some n → Links operands (all_made operands nodes) i n.form
+abbrev pub IsLinked : ℕ → List Id → List Node → Type 0
+IsLinked factor operands nodes = (i : ℕ) (n : Node) → slice_get nodes i ≡ Some n → Links factor operands (all_made operands nodes) i n.form
+
+-- under some factor the nodes are linked, and `newest` is the last one with the print of this term
+abbrev pub IsChain : List Id → List Node → ℕ → List Id → Option Id → Type 0
+IsChain operands nodes head args newest = (factor : ℕ) × IsLinked factor operands nodes × IsLast factor (all_made operands nodes) (length nodes) (print_of factor head args) newest

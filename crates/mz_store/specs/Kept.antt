@@ -1,14 +1,17 @@
 -- What holds between a store's nodes, their prints and the trees that they stand for.
-use Rattle.std.specs.Prelude.{ℕ, ◌≡◌, ◌<◌, ◌≤◌, Contains, List, length, slice_get, Option, Some}
+use Rattle.std.specs.Prelude.{ℕ, ◌≡◌, ◌<◌, ◌≤◌, ◌+◌, Contains, List, [], ◌∷◌, ◌++◌, length, slice_get, Option, Some}
 use Rattle.mz_logic.specs.Tree.{var, app}
 use Rattle.mz_logic.specs.Legality.{Each}
+use Rattle.mz_logic.specs.Words.{TermWords, term_at, word_sort, signatures_of}
 use Rattle.mz_logic.specs.declared.binder.Binder.{Binder}
-use Rattle.mz_store.specs.Bits.{bound_vars}
-use Rattle.mz_store.specs.Sharing.{Sharing, IsIn, AreIn, tree_of, trees_of, sort_of, deps_of}
-use Rattle.mz_store.specs.Nodes.{MadeOf, Made, variable, application, made_of, all_made}
+use Rattle.mz_store.specs.Bits.{Tells, bound_vars}
+use Rattle.mz_store.specs.Sharing.{Sharing, IsIn, AreIn, IsTold, tree_of, trees_of, sort_of, deps_of}
+use Rattle.mz_store.specs.Nodes.{MadeOf, Made, variable, application, made_of, all_made, sharing_of}
 use Rattle.mz_store.specs.Chains.{IsLast, IsLinked}
 use Rattle.mz_store.specs.declared.item.Id.{Id}
 use Rattle.mz_store.specs.declared.node.Node.{Node}
+use Rattle.mz_store.specs.declared.node.Form.TheVariants.{Application}
+use Rattle.mz_store.specs.declared.expressions.Expressions.{Expressions}
 
 -- the form is that of the i-th expression: a variable of the context, or a term over expressions of
 -- the store
@@ -33,6 +36,30 @@ pub record IsKept (s : Sharing) (bound_count : ℕ) (operands : List Id) (nodes 
   pub once : (i j : ℕ) → IsIn s i → IsIn s j → tree_of s i ≡ tree_of s j → i ≡ j
 
 -- the terms of each print are a chain, which begins with the last one
-pub record IsChained (operands : List Id) (nodes : List Node) (newest : ℕ → Option Id) : Type 0 where
-  pub linked : IsLinked operands nodes
-  pub last : (print : ℕ) → IsLast (all_made operands nodes) (length nodes) print (newest print)
+pub record IsChained (factor : ℕ) (operands : List Id) (nodes : List Node) (newest : ℕ → Option Id) : Type 0 where
+  pub linked : IsLinked factor operands nodes
+  pub last : (print : ℕ) → IsLast factor (all_made operands nodes) (length nodes) print (newest print)
+
+-- ---- the expressions without the table
+
+-- the store of these expressions
+abbrev pub shared_by : Expressions → Sharing
+shared_by e = sharing_of e.mode (all_made e.operands.items e.nodes.items)
+
+abbrev pub AreKept : Expressions → Type 0
+AreKept e = IsKept (shared_by e) e.bound_count e.operands.items e.nodes.items
+
+-- e' has the term t over these expressions as its last one, and its word tells its variables
+abbrev pub IsAdded : List TermWords → Expressions → ℕ → List Id → Option Id → Expressions → Type 0
+IsAdded terms e t is earlier e' = (deps : ℕ) × Tells (bound_vars (shared_by e).context) deps (IsTold (shared_by e).mode (signatures_of terms) (shared_by e).context (app t (trees_of (shared_by e) is)))
+    × (e'.operands.items ≡ e.operands.items ++ is)
+    × (e'.nodes.items ≡ e.nodes.items ++ record {
+      sort = word_sort (term_at terms t).result;
+      deps = deps;
+      form = Application (record { head = t; from = length e.operands.items; to = length e.operands.items + length is; earlier = earlier });
+    } ∷ [])
+    × (e'.mode ≡ e.mode) × (e'.bound_count ≡ e.bound_count)
+
+-- e' has the same expressions, and perhaps operands of none
+abbrev pub HasMore : Expressions → Expressions → Type 0
+HasMore e e' = (more : List Id) × (e'.operands.items ≡ e.operands.items ++ more) × (e'.nodes.items ≡ e.nodes.items) × (e'.mode ≡ e.mode) × (e'.bound_count ≡ e.bound_count)

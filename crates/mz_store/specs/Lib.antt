@@ -6,3 +6,4 @@ pub mod Chains
 pub mod Codes
 pub mod Kept
 pub mod Laws
+pub mod Placed

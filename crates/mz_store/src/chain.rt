@@ -3,24 +3,24 @@
 ghost use Rattle.std.specs.Prelude.{ℕ, ◌≡◌, ◌↔◌, ◌≤◌, IfSome, IfNone, IsTrue, List, length};
 ghost use Rattle.mz_store.specs.Nodes.{all_made, operands_at};
 ghost use Rattle.mz_store.specs.Prints.{mixed, print_of, spread};
-ghost use Rattle.mz_store.specs.Chains.{IsNode, IsLast, IsLinked};
+ghost use Rattle.mz_store.specs.Chains.{IsNode, IsChain};
 
 use crate::item::Id;
 use crate::node::{Form, Node};
-
-/// An odd number without a pattern, 2^64 over the golden section.
-const FACTOR: u64 = 0x9e37_79b9_7f4a_7c15;
 
 /// 2^32.
 const HALF: u64 = 0x1_0000_0000;
 
 /// The number of a head and operands by which they are looked up.
-pub(crate) fn print_of(head: u32, operands: &[Id]) -> u64
-    ensures { result ≡ print_of head operands.now }
+///
+/// It is the factor that is drawn by chance: with a known one, operands can be chosen that have one
+/// print whatever it begins with.
+pub(crate) fn print_of(factor: u64, head: u32, operands: &[Id]) -> u64
+    ensures { result ≡ print_of factor head operands.now }
 {
     let mut print = u64::from(head);
     for id in operands {
-        print = mixed(print, id.0);
+        print = mixed(factor, print, id.0);
     }
     print
 }
@@ -28,18 +28,18 @@ pub(crate) fn print_of(head: u32, operands: &[Id]) -> u64
 /// A print with one id more. The upper half is added to the lower one, so that terms of one print
 /// can't be found by sums alone.
 #[tactic(auto, unfolding(crate::specs::Prints::mixed))]
-fn mixed(print: u64, id: u64) -> u64
-    ensures { result ≡ mixed print id }
+fn mixed(factor: u64, print: u64, id: u64) -> u64
+    ensures { result ≡ mixed factor print id }
 {
-    let sum = spread(print, id);
+    let sum = spread(factor, print, id);
     sum.wrapping_add(sum / HALF)
 }
 
 #[tactic(auto, unfolding(crate::specs::Prints::spread))]
-fn spread(print: u64, id: u64) -> u64
-    ensures { result ≡ spread print id }
+fn spread(factor: u64, print: u64, id: u64) -> u64
+    ensures { result ≡ spread factor print id }
 {
-    print.wrapping_mul(FACTOR).wrapping_add(id)
+    print.wrapping_mul(factor).wrapping_add(id)
 }
 
 /// The id of the term `head` over these operands, if there is one. `newest` is the last expression
@@ -51,8 +51,7 @@ pub(crate) fn find(
     head: u32,
     args: &[Id],
 ) -> Option<Id>
-    requires linked { IsLinked operands.now nodes.now }
-    requires newest { IsLast (all_made operands.now nodes.now) (length nodes.now) (print_of head args.now) newest }
+    requires { IsChain operands.now nodes.now head args.now newest }
     ensures some { IfSome result (λ id. IsNode (all_made operands.now nodes.now) head args.now id.0) }
     ensures none { IfNone result ((i : ℕ) → IsNode (all_made operands.now nodes.now) head args.now i → ⊥) }
 {

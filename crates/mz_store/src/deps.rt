@@ -8,10 +8,11 @@ ghost use Rattle.mz_logic.specs.Words.{signatures_of, places_set};
 ghost use Rattle.mz_logic.specs.declared.binder.Binder.{Binder};
 ghost use Rattle.mz_store.specs.Bits.{Tells, bound_vars};
 ghost use Rattle.mz_store.specs.Sharing.{IsIn, AreIn, deps_of, trees_of, IsOver, IsTold, CanTake};
+ghost use Rattle.mz_store.specs.Kept.{shared_by, AreKept};
 ghost use Rattle.mz_store.specs.declared.item.DepsMode.TheVariants.{All, Free};
 
+use crate::expressions::Expressions;
 use crate::item::{DepsMode, Id};
-use crate::store::Store;
 use mz_logic::Terms;
 use std::alloc::{AllocError, Global};
 
@@ -22,27 +23,29 @@ use std::alloc::{AllocError, Global};
 /// Where there is no memory.
 pub fn deps_of_term<T: Terms>(
     alloc: Global,
-    store: &Store,
+    store: &Expressions,
     terms: &T,
     t: u32,
     args: &[Id],
 ) -> Result<u64, AllocError>
-    requires over { IsOver (signatures_of (T.all_terms terms.now)) store.now }
-    requires ids { AreIn store.now args.now }
-    requires fit { CanTake (T.all_terms terms.now) store.now.context t (trees_of store.now args.now) }
-    ensures { IfOk result (λ word. Tells (bound_vars store.now.context) word (IsTold store.now.mode (signatures_of (T.all_terms terms.now)) store.now.context (app t (trees_of store.now args.now)))) }
+    requires kept { AreKept store.now }
+    requires over { IsOver (signatures_of (T.all_terms terms.now)) (shared_by store.now) }
+    requires ids { AreIn (shared_by store.now) args.now }
+    requires fit { CanTake (T.all_terms terms.now) (shared_by store.now).context t (trees_of (shared_by store.now) args.now) }
+    ensures { IfOk result (λ word. Tells (bound_vars (shared_by store.now).context) word (IsTold (shared_by store.now).mode (signatures_of (T.all_terms terms.now)) (shared_by store.now).context (app t (trees_of (shared_by store.now) args.now)))) }
 {
-    match store.mode() {
+    match store.mode {
         DepsMode::All => Ok(all_deps(store, args)),
         DepsMode::Free => free_deps(alloc, store, terms, t, args),
     }
 }
 
 /// The variables of all operands.
-fn all_deps(store: &Store, args: &[Id]) -> u64
-    requires ids { AreIn store.now args.now }
+fn all_deps(store: &Expressions, args: &[Id]) -> u64
+    requires kept { AreKept store.now }
+    requires ids { AreIn (shared_by store.now) args.now }
     requires mode { store.now.mode ≡ All }
-    ensures { (sigs : List Signature) → IsOver sigs store.now → Tells (bound_vars store.now.context) result (λ x. InSomeV store.now.context x (trees_of store.now args.now)) }
+    ensures { (sigs : List Signature) → IsOver sigs (shared_by store.now) → Tells (bound_vars (shared_by store.now).context) result (λ x. InSomeV (shared_by store.now).context x (trees_of (shared_by store.now) args.now)) }
 {
     let mut word = 0;
     for arg in args {
@@ -55,16 +58,17 @@ fn all_deps(store: &Store, args: &[Id]) -> u64
 /// bound parameters on which the result depends.
 fn free_deps<T: Terms>(
     alloc: Global,
-    store: &Store,
+    store: &Expressions,
     terms: &T,
     t: u32,
     args: &[Id],
 ) -> Result<u64, AllocError>
     requires mode { store.now.mode ≡ Free }
-    requires over { IsOver (signatures_of (T.all_terms terms.now)) store.now }
-    requires ids { AreIn store.now args.now }
-    requires fit { CanTake (T.all_terms terms.now) store.now.context t (trees_of store.now args.now) }
-    ensures { IfOk result (λ word. Tells (bound_vars store.now.context) word (IsTold Free (signatures_of (T.all_terms terms.now)) store.now.context (app t (trees_of store.now args.now)))) }
+    requires kept { AreKept store.now }
+    requires over { IsOver (signatures_of (T.all_terms terms.now)) (shared_by store.now) }
+    requires ids { AreIn (shared_by store.now) args.now }
+    requires fit { CanTake (T.all_terms terms.now) (shared_by store.now).context t (trees_of (shared_by store.now) args.now) }
+    ensures { IfOk result (λ word. Tells (bound_vars (shared_by store.now).context) word (IsTold Free (signatures_of (T.all_terms terms.now)) (shared_by store.now).context (app t (trees_of (shared_by store.now) args.now)))) }
 {
     // the places of the bound parameters so far: only they can bind
     let mut bound = Vec::new(alloc);
@@ -82,12 +86,13 @@ fn free_deps<T: Terms>(
 
 /// The operands at those of the places whose bits are set. They are variables, where bound parameters
 /// stand at the places.
-fn named(store: &Store, places: &[u32], bits: u64, args: &[Id]) -> u64
-    requires ids { AreIn store.now args.now }
+fn named(store: &Expressions, places: &[u32], bits: u64, args: &[Id]) -> u64
+    requires kept { AreKept store.now }
+    requires ids { AreIn (shared_by store.now) args.now }
     requires within { (j : ℕ) → Contains places.now j → j < length args.now }
-    ensures { (sigs : List Signature) (params : List Binder) → IsOver sigs store.now → Fits sigs store.now.context (trees_of store.now args.now) params
+    ensures { (sigs : List Signature) (params : List Binder) → IsOver sigs (shared_by store.now) → Fits sigs (shared_by store.now).context (trees_of (shared_by store.now) args.now) params
         → ((j : ℕ) → Contains places.now j → IsBoundAt params j)
-        → Tells (bound_vars store.now.context) result (IsOperandAt params (trees_of store.now args.now) (places_set bits places.now)) }
+        → Tells (bound_vars (shared_by store.now).context) result (IsOperandAt params (trees_of (shared_by store.now) args.now) (places_set bits places.now)) }
 {
     let mut word = 0;
     let mut left = bits;
@@ -102,9 +107,10 @@ fn named(store: &Store, places: &[u32], bits: u64, args: &[Id]) -> u64
 }
 
 /// The word of the expression if the lowest of the bits is set, and else no variables.
-fn chosen(store: &Store, bits: u64, arg: Id) -> u64
-    requires { IsIn store.now arg.0 }
-    ensures { result ≡ (if bits % 2 == 1 then deps_of store.now arg.0 else 0) }
+fn chosen(store: &Expressions, bits: u64, arg: Id) -> u64
+    requires kept { AreKept store.now }
+    requires inside { IsIn (shared_by store.now) arg.0 }
+    ensures { result ≡ (if bits % 2 == 1 then deps_of (shared_by store.now) arg.0 else 0) }
 {
     if bits & 1 == 1 { store.deps(arg) } else { 0 }
 }

@@ -4,11 +4,14 @@
 
 mod chain;
 mod deps;
+mod expressions;
 mod item;
 mod laws;
 mod node;
+mod seed;
 mod store;
 
 pub use item::{DepsMode, Id, Item};
 pub use laws::{old_ids_keep_their_trees, words_meet};
+pub use seed::Seed;
 pub use store::Store;

@@ -1,21 +1,23 @@
 //! The store.
-ghost use Rattle.std.specs.Prelude.{ℕ, ◌≡◌, ◌↔◌, ◌<◌, ◌≤◌, ◌+◌, ◌∷◌, [], ◌++◌, List, map, OnOk, OnErr, IfOk, IfSome, IfNone, IsTrue, length};
+ghost use Rattle.std.specs.Prelude.{ℕ, ◌≡◌, ◌↔◌, ◌<◌, ◌≤◌, ◌+◌, ◌∷◌, [], ◌++◌, List, map, OnOk, OnErr, IfOk, IsTrue, length};
 ghost use Rattle.mz_logic.specs.Sorts.{HasSort, IsBoundVar};
 ghost use Rattle.mz_logic.specs.Signature.{Signature};
 ghost use Rattle.mz_logic.specs.Tree.{var, app};
 ghost use Rattle.mz_logic.specs.Words.{BitsRight, BitsRightAfter, binders_of, signatures_of};
 ghost use Rattle.mz_store.specs.Bits.{Tells, bound_vars};
 ghost use Rattle.mz_store.specs.Sharing.{IsIn, AreIn, Holds, tree_of, trees_of, sort_of, deps_of, head_of, operands_of, IsOver, IsTold, CanTake, KeepsIds, IsEmpty, dummy_binder};
-ghost use Rattle.mz_store.specs.Nodes.{IsVariableWord, variable, application, variable_node, entered, entered_all};
-ghost use Rattle.mz_store.specs.Prints.{print_of};
+ghost use Rattle.mz_store.specs.Nodes.{IsVariableWord, variable, variable_node, entered, entered_all};
+ghost use Rattle.mz_store.specs.Placed.{IsPlaced};
 
 use crate::chain::{find, print_of};
-use crate::deps::deps_of_term;
+use crate::expressions::Expressions;
 use crate::item::{DepsMode, Id};
-use crate::node::{Application, Form, Node};
+use crate::node::{Form, Node};
+use crate::seed::Seed;
 use mz_logic::{Terms, Word};
 use std::alloc::{AllocError, Global};
 use std::collections::HashMap;
+use std::collections::hash_map::Entry;
 use std::marker::Model;
 
 /// Expressions over the variables of one context, each kept once: two ids are equal exactly where
@@ -26,11 +28,9 @@ use std::marker::Model;
 #[derive(Drop)]
 pub struct Store {
     alloc: Global,
-    mode: DepsMode,
-    bound_count: u32,
-    nodes: Vec<Node>,
-    // of all terms, one after another
-    operands: Vec<Id>,
+    // what prints are made with: odd, so that it takes no bit of them away
+    factor: u64,
+    expressions: Expressions,
     // from a print to the last term that has it
     newest: HashMap<u64, Id>,
 }
@@ -45,25 +45,34 @@ impl Model for Store {
 
     ghost use Rattle.std.specs.Prelude.{nat_eq};
     ghost use Rattle.std.specs.HashMap.{get};
-    ghost use Rattle.mz_store.specs.Nodes.{all_made, sharing_of};
-    ghost use Rattle.mz_store.specs.Kept.{IsKept, IsChained};
+    ghost use Rattle.mz_store.specs.Kept.{shared_by, AreKept, IsChained};
 
-    ghost view = { λ s. sharing_of s.mode (all_made s.operands.items s.nodes.items) };
+    ghost view = { λ s. shared_by s.expressions };
 
-    ghost invariant = { λ s. IsKept (sharing_of s.mode (all_made s.operands.items s.nodes.items)) s.bound_count s.operands.items s.nodes.items × IsChained s.operands.items s.nodes.items (get nat_eq s.newest) };
+    ghost invariant = { λ s. AreKept s.expressions × IsChained s.factor s.expressions.operands.items s.expressions.nodes.items (get nat_eq s.newest) };
 }
 
 impl Store {
-    /// A store of nothing.
+    /// A store of nothing, for those who draw no seed.
     pub fn new(alloc: Global) -> Store
+        ensures { IsEmpty result }
+    {
+        Store::seeded(alloc, Seed::FIXED)
+    }
+
+    /// A store of nothing, whose terms are looked up by numbers that the seed makes.
+    pub fn seeded(alloc: Global, seed: Seed) -> Store
         ensures { IsEmpty result }
     {
         Store {
             alloc,
-            mode: DepsMode::All,
-            bound_count: 0,
-            nodes: Vec::new(alloc),
-            operands: Vec::new(alloc),
+            factor: seed.0 | 1,
+            expressions: Expressions {
+                mode: DepsMode::All,
+                bound_count: 0,
+                nodes: Vec::new(alloc),
+                operands: Vec::new(alloc),
+            },
             newest: HashMap::new(alloc),
         }
     }
@@ -97,10 +106,10 @@ impl Store {
         ensures empty { IsEmpty self.new }
         ensures mode { self.new.mode ≡ mode }
     {
-        self.mode = mode;
-        self.bound_count = 0;
-        self.nodes.clear();
-        self.operands.clear();
+        self.expressions.mode = mode;
+        self.expressions.bound_count = 0;
+        self.expressions.nodes.clear();
+        self.expressions.operands.clear();
         self.newest.clear();
     }
 
@@ -123,12 +132,12 @@ impl Store {
         ensures over { OnOk result ((sigs : List Signature) → IsOver sigs self.old → IsOver sigs self.new) }
         ensures err { OnErr result (self.new ≡ self.old) }
     {
-        self.nodes.push(Node {
+        self.expressions.nodes.push(Node {
             sort,
             deps,
             form: Form::Variable(bound),
         })?;
-        self.bound_count += u32::from(bound);
+        self.expressions.bound_count += u32::from(bound);
         Ok(())
     }
 
@@ -148,8 +157,8 @@ impl Store {
         ensures over { OnOk result ((sigs : List Signature) → IsOver sigs self.old → IsOver sigs self.new) }
         ensures err { OnErr result (self.new ≡ self.old) }
     {
-        let id = Id(self.nodes.len() as u64);
-        self.enter(sort, 1 << self.bound_count, true)?;
+        let id = Id(self.expressions.nodes.len() as u64);
+        self.enter(sort, 1 << self.expressions.bound_count, true)?;
         Ok(id)
     }
 
@@ -172,76 +181,47 @@ impl Store {
         ensures over { OnOk result (IsOver (signatures_of (T.all_terms terms.now)) self.new) }
         ensures err { OnErr result (self.new ≡ self.old) }
     {
-        let print = print_of(t, args);
-        if let Some(id) = self.look_up(print, t, args) {
-            return Ok(id);
-        }
-        let deps = deps_of_term(self.alloc, self, terms, t, args)?;
-        self.add(print, terms.result(t).sort(), deps, t, args)
+        self.find_or_add(terms, t, args)
     }
 
-    /// The id of the term `t` over these expressions, which have this print, if it has one.
-    fn look_up(&self, print: u64, t: u32, args: &[Id]) -> Option<Id>
-        requires ids { AreIn self.now args.now }
-        requires print { print ≡ print_of t args.now }
-        ensures some { IfSome result (λ id. Holds self.now id.0 (app t (trees_of self.now args.now))) }
-        ensures none { IfNone result ((i : ℕ) → Holds self.now i (app t (trees_of self.now args.now)) → ⊥) }
-    {
-        let newest = self.newest.get(&print).copied();
-        find(&self.nodes, &self.operands, newest, t, args)
-    }
-
-    /// Adds the term `t` over these expressions, which have this print and aren't there.
-    fn add(
-        &mut self,
-        print: u64,
-        sort: u32,
-        deps: u64,
-        t: u32,
-        args: &[Id],
-    ) -> Result<Id, AllocError>
+    /// The id of the term `t` over these expressions. The table is asked once, whether it is there or not.
+    fn find_or_add<T: Terms>(&mut self, terms: &T, t: u32, args: &[Id]) -> Result<Id, AllocError>
+        requires over { IsOver (signatures_of (T.all_terms terms.now)) self.old }
         requires ids { AreIn self.old args.now }
-        requires print { print ≡ print_of t args.now }
-        requires fresh { (i : ℕ) → Holds self.old i (app t (trees_of self.old args.now)) → ⊥ }
-        ensures id { IfOk result (λ id. id.0 ≡ length self.old.entries) }
-        ensures ok { OnOk result (self.new ≡ entered self.old (record { sort = sort; deps = deps; form = application t args.now })) }
+        requires fit { CanTake (T.all_terms terms.now) self.old.context t (trees_of self.old args.now) }
+        ensures ok { IfOk result (λ id. IsPlaced (T.all_terms terms.now) self.old t args.now id self.new) }
         ensures err { OnErr result (self.new ≡ self.old) }
     {
-        let from = self.operands.len();
-        self.operands.extend_from_slice(args)?;
-        let to = self.operands.len();
-        self.nodes.reserve(1)?;
-        let id = Id(self.nodes.len() as u64);
-        let earlier = self.newest.insert(print, id)?;
-        let made = Application {
-            head: t,
-            from,
-            to,
-            earlier,
-        };
-        let Ok(()) = self.nodes.push(Node {
-            sort,
-            deps,
-            form: Form::Application(made),
-        })
-        else {
-            unreachable!();
-        };
-        Ok(id)
+        match self.newest.entry(print_of(self.factor, t, args))? {
+            Entry::Occupied(mut place) => {
+                let newest = Some(*place.get());
+                let there = find(
+                    &self.expressions.nodes,
+                    &self.expressions.operands,
+                    newest,
+                    t,
+                    args,
+                );
+                if let Some(id) = there {
+                    return Ok(id);
+                }
+                let id = self.expressions.add(self.alloc, terms, t, args, newest)?;
+                place.insert(id);
+                Ok(id)
+            }
+            Entry::Vacant(place) => {
+                let id = self.expressions.add(self.alloc, terms, t, args, None)?;
+                place.insert(id);
+                Ok(id)
+            }
+        }
     }
 
     /// How many expressions there are: their ids are the numbers below.
     pub fn len(&self) -> usize
         ensures { result ≡ length self.now.entries }
     {
-        self.nodes.len()
-    }
-
-    /// Which variables the words tell.
-    pub(crate) fn mode(&self) -> DepsMode
-        ensures { result ≡ self.now.mode }
-    {
-        self.mode
+        self.expressions.nodes.len()
     }
 
     /// Different ids have different trees: it does nothing, and its contract is the law.
@@ -269,7 +249,7 @@ impl Store {
         ensures kept { result ≡ sort_of self.now id.0 }
         ensures sort { (sigs : List Signature) → IsOver sigs self.now → HasSort sigs self.now.context (tree_of self.now id.0) result }
     {
-        self.nodes[id.0 as usize].sort
+        self.expressions.nodes[id.0 as usize].sort
     }
 
     /// The word of the expression's variables: bit k is set exactly where the k-th bound variable is
@@ -279,7 +259,7 @@ impl Store {
         ensures kept { result ≡ deps_of self.now id.0 }
         ensures variables { (sigs : List Signature) → IsOver sigs self.now → Tells (bound_vars self.now.context) result (IsTold self.now.mode sigs self.now.context (tree_of self.now id.0)) }
     {
-        self.nodes[id.0 as usize].deps
+        self.expressions.deps(id)
     }
 
     /// Whether the expression is a bound variable.
@@ -287,7 +267,7 @@ impl Store {
         requires { IsIn self.now id.0 }
         ensures { IsTrue result ↔ IsBoundVar self.now.context (tree_of self.now id.0) }
     {
-        match self.nodes[id.0 as usize].form {
+        match self.expressions.nodes[id.0 as usize].form {
             Form::Variable(bound) => bound,
             Form::Application(_) => false,
         }
@@ -298,7 +278,7 @@ impl Store {
         requires { IsIn self.now id.0 }
         ensures { result ≡ head_of (tree_of self.now id.0) }
     {
-        match &self.nodes[id.0 as usize].form {
+        match &self.expressions.nodes[id.0 as usize].form {
             Form::Variable(_) => None,
             Form::Application(made) => Some(made.head),
         }
@@ -310,9 +290,9 @@ impl Store {
         ensures ids { AreIn self.now result.now }
         ensures trees { trees_of self.now result.now ≡ operands_of (tree_of self.now id.0) }
     {
-        match &self.nodes[id.0 as usize].form {
+        match &self.expressions.nodes[id.0 as usize].form {
             Form::Variable(_) => &[],
-            Form::Application(made) => &self.operands[made.from..made.to],
+            Form::Application(made) => &self.expressions.operands[made.from..made.to],
         }
     }
 
@@ -321,6 +301,6 @@ impl Store {
         ensures many { result ≡ length (bound_vars self.now.context) }
         ensures small { result ≤ 55 }
     {
-        self.bound_count
+        self.expressions.bound_count
     }
 }

@@ -1,5 +1,6 @@
 -- What is known of a statement that is told, and what is told of it.
 use Rattle.std.specs.Prelude.{◌≡◌, ◌≤◌, ◌+◌, ℕ, true, false, List, [], length, map, Option, Some, None, MatchBool}
+use Rattle.mz_cmd.specs.Codes.{statement_byte}
 use Rattle.mz_logic.specs.Signature.{Signature}
 use Rattle.mz_logic.specs.Declaration.{Term, Assertion, Declaration, sort_decl, term_decl, assertion_decl, sorts, terms, signatures, assertions}
 use Rattle.mz_logic.specs.declared.binder.Binder.{Binder}
@@ -11,6 +12,7 @@ use Rattle.mz_soundness.specs.FileRows.{term_of_file, thm_of_file}
 use Rattle.mz_soundness.specs.MachineState.{Declares}
 use Rattle.mz_earlier.specs.OwnRow.{MayRun, heading_of}
 use Rattle.mz_earlier.specs.Before.{tables_before}
+use Rattle.mz_layout.specs.declared.head.Head.{Head}
 use Rattle.mz_layout.specs.declared.taken.Rows.{Rows}
 use Rattle.mz_binary.specs.Spelling.{IsKindOf, is_local_code, SpellsRow}
 use Rattle.mz_forms.specs.Proof.{Proof, Statement}
@@ -23,7 +25,6 @@ use Rattle.mz_stating.specs.Measures.{capped}
 use Rattle.mz_unspell.specs.Rows.{AreArities, IsPhrase}
 use Rattle.mz_telling.specs.Adding.{Adds}
 use Rattle.mz_telling.specs.Naming.{next_name}
-use Rattle.mz_telling.specs.declared.head.Head.{Head}
 use Rattle.mz_telling.specs.declared.told.Told.{Told}
 use Rattle.mz_telling.specs.declared.proof.Proved.{Proved}
 
@@ -55,8 +56,8 @@ HasProof file before env body next (assertion_decl a) dummies p =
 
 -- the statement t, which declares what the next row of its kind spells, has this head after env
 pub record Stands (file : List ℕ) (names : Naming) (before : Rows) (env : List Declaration) (head : Head) (t : Statement) : Type 0 where
-  pub kind : IsKindOf head.code t.decl
-  pub mark : t.is_local ≡ is_local_code head.code
+  pub kind : IsKindOf (statement_byte head.code) t.decl
+  pub mark : t.is_local ≡ is_local_code (statement_byte head.code)
   pub counts : Counts env before
   pub named : t.name ≡ next_name (vocabulary_by names) env t.decl
   pub row : SpellsRow file env t.decl

@@ -6,7 +6,6 @@
 
 mod axiom;
 mod dummies;
-mod head;
 mod hypotheses;
 mod params;
 mod parts;
@@ -18,6 +17,5 @@ mod theorem;
 mod told;
 mod weight;
 
-pub use head::Head;
 pub use telling::statement;
 pub use told::Told;

@@ -12,9 +12,8 @@ ghost use Rattle.mz_soundness.specs.MachineState.{Declares};
 ghost use Rattle.mz_earlier.specs.OwnRow.{heading_of};
 ghost use Rattle.mz_earlier.specs.Before.{tables_before};
 
-use crate::head::Head;
 use mz_cmd::{Mem, Steps};
-use mz_layout::{Mmb, Rows};
+use mz_layout::{Head, Mmb, Rows};
 use mz_naming::Names;
 use mz_retelling::retell;
 use mz_stating::Phrases;

@@ -13,12 +13,11 @@ ghost use Rattle.mz_telling.specs.Telling.{IsTheorem, MakesProof, MakesSome, Spe
 
 use crate::axiom::put_heading;
 use crate::dummies::put_dummies;
-use crate::head::Head;
 use crate::hypotheses::put_hypotheses;
 use crate::proof::prove;
 use crate::weight::weight_said;
 use mz_cmd::Mem;
-use mz_layout::{Mmb, Rows};
+use mz_layout::{Head, Mmb, Rows};
 use mz_naming::Names;
 use mz_stating::Phrases;
 use mz_unspell::assertion;

@@ -10,12 +10,13 @@ use crate::output::Put;
 use mz_axioms::{AxiomsRead, axioms_of, axioms_text};
 use mz_cmd::Steps;
 use mz_match::{accepted_pairs_are_sound, each_pair_has_one_verdict, verdict_line};
+use mz_store::Seed;
 use std::alloc::Global;
 use std::marker::Brand;
 use std::sync::ledger::{Blank, Ledger};
 
 /// Tells on which axioms each theorem of a specification rests, where a binary is accepted against it.
-pub fn axioms(alloc: Global, spec: &[u8], bin: &[u8]) -> Outcome
+pub fn axioms(alloc: Global, seed: Seed, spec: &[u8], bin: &[u8]) -> Outcome
     requires spec { length spec.now < 2 ^ 32 }
     requires bin { length bin.now < 2 ^ 32 }
     ensures yes { IfYes result (λ put text. (put ≡ None) × AreAxiomsTold spec.now bin.now text) }
@@ -26,7 +27,7 @@ pub fn axioms(alloc: Global, spec: &[u8], bin: &[u8]) -> Outcome
 {
     each_pair_has_one_verdict();
     accepted_pairs_are_sound();
-    match rests::<Brand>(alloc, Blank::new(1), spec, bin) {
+    match rests::<Brand>(alloc, seed, Blank::new(1), spec, bin) {
         AxiomsRead::Lists(lists) => match axioms_text(alloc, spec, &lists) {
             Ok(text) => Outcome::Yes {
                 put: Put::Nothing,
@@ -43,7 +44,7 @@ pub fn axioms(alloc: Global, spec: &[u8], bin: &[u8]) -> Outcome
 }
 
 /// What the theorems rest on, the steps of the verification counted in a ledger of their own.
-fn rests<L: Ledger>(alloc: Global, blank: Blank, spec: &[u8], bin: &[u8]) -> AxiomsRead
+fn rests<L: Ledger>(alloc: Global, seed: Seed, blank: Blank, spec: &[u8], bin: &[u8]) -> AxiomsRead
     requires name { blank.name ≡ L.name }
     requires parts { blank.parts ≡ L.parts }
     requires some { 0 < blank.parts }
@@ -52,5 +53,5 @@ fn rests<L: Ledger>(alloc: Global, blank: Blank, spec: &[u8], bin: &[u8]) -> Axi
     ensures { IsAxiomsRead spec.now bin.now result }
 {
     let mut steps = Steps::<L>::start(blank);
-    axioms_of(alloc, spec, bin, &mut steps)
+    axioms_of(alloc, seed, spec, bin, &mut steps)
 }

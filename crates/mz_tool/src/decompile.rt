@@ -15,6 +15,7 @@ use mz_decompile::{
 };
 use mz_emit::{Compiled, L, compiled_line};
 use mz_match::{accepted_pairs_are_sound, verdict_line};
+use mz_store::Seed;
 use std::alloc::Global;
 use std::marker::Brand;
 use std::sync::ledger::{Blank, Ledger};
@@ -41,7 +42,7 @@ fn line_of(alloc: Global, made: &Decompiled) -> Result<Vec<u8>, Mem>
 }
 
 /// Makes the text of a binary that is accepted against a specification. The line is built before anything is put.
-pub fn decompile(alloc: Global, spec: &[u8], bin: &[u8]) -> Outcome
+pub fn decompile(alloc: Global, seed: Seed, spec: &[u8], bin: &[u8]) -> Outcome
     requires spec { length spec.now < 2 ^ 32 }
     requires bin { length bin.now < 2 ^ 32 }
     ensures yes { IfYes result (λ put line. IsDecompiledTo spec.now bin.now put line) }
@@ -53,7 +54,7 @@ pub fn decompile(alloc: Global, spec: &[u8], bin: &[u8]) -> Outcome
 {
     decompilation_is_decided();
     accepted_pairs_are_sound();
-    let made = text_of::<Brand>(alloc, Blank::new(1), spec, bin);
+    let made = text_of::<Brand>(alloc, seed, Blank::new(1), spec, bin);
     if let Decompiled::Mem = made {
         return Outcome::Mem;
     }
@@ -70,7 +71,13 @@ pub fn decompile(alloc: Global, spec: &[u8], bin: &[u8]) -> Outcome
 }
 
 /// The text, the steps of the verification counted in a ledger of their own.
-fn text_of<L: Ledger>(alloc: Global, blank: Blank, spec: &[u8], bin: &[u8]) -> Decompiled
+fn text_of<L: Ledger>(
+    alloc: Global,
+    seed: Seed,
+    blank: Blank,
+    spec: &[u8],
+    bin: &[u8],
+) -> Decompiled
     requires name { blank.name ≡ L.name }
     requires parts { blank.parts ≡ L.parts }
     requires some { 0 < blank.parts }
@@ -80,5 +87,5 @@ fn text_of<L: Ledger>(alloc: Global, blank: Blank, spec: &[u8], bin: &[u8]) -> D
     ensures text { IsTextForPair spec.now bin.now result }
 {
     let mut steps = Steps::<L>::start(blank);
-    decompile_bytes(alloc, spec, bin, &mut steps)
+    decompile_bytes(alloc, seed, spec, bin, &mut steps)
 }

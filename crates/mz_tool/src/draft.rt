@@ -14,13 +14,14 @@ use crate::output::Put;
 use mz_axioms::gaps_text;
 use mz_cmd::Steps;
 use mz_match::{Counts, Draft, Verdict, draft_bytes, verdict_line};
+use mz_store::Seed;
 use std::alloc::Global;
 use std::marker::Brand;
 use std::sync::ledger::{Blank, Ledger};
 
 /// Tells which theorems of a specification rest on a gap, where a binary whose proofs may have gaps is
 /// accepted against it.
-pub fn draft(alloc: Global, spec: &[u8], bin: &[u8]) -> Outcome
+pub fn draft(alloc: Global, seed: Seed, spec: &[u8], bin: &[u8]) -> Outcome
     requires spec { length spec.now < 2 ^ 32 }
     requires bin { length bin.now < 2 ^ 32 }
     ensures yes { IfYes result (λ put text. (put ≡ None) × IsDraftTold spec.now bin.now text) }
@@ -29,7 +30,7 @@ pub fn draft(alloc: Global, spec: &[u8], bin: &[u8]) -> Outcome
     ensures only_yes { (text : List ℕ) → IsDraftTold spec.now bin.now text → OnNo result ⊥ }
     ensures only_no { (text : List ℕ) → IsRefutedBy draft_standard spec.now bin.now text → OnYes result ⊥ }
 {
-    match judge::<Brand>(alloc, Blank::new(1), spec, bin) {
+    match judge::<Brand>(alloc, seed, Blank::new(1), spec, bin) {
         Draft::Accepted(counts, gaps) => {
             match gaps_text(alloc, spec, counts.theorems, gaps.places()) {
                 Ok(text) => Outcome::Yes {
@@ -69,7 +70,7 @@ fn verdict_of(draft: &Draft) -> Verdict
 }
 
 /// What is said, the steps of the check counted in a ledger of their own.
-fn judge<L: Ledger>(alloc: Global, blank: Blank, spec: &[u8], bin: &[u8]) -> Draft
+fn judge<L: Ledger>(alloc: Global, seed: Seed, blank: Blank, spec: &[u8], bin: &[u8]) -> Draft
     requires name { blank.name ≡ L.name }
     requires parts { blank.parts ≡ L.parts }
     requires some { 0 < blank.parts }
@@ -81,5 +82,5 @@ fn judge<L: Ledger>(alloc: Global, blank: Blank, spec: &[u8], bin: &[u8]) -> Dra
     ensures refused { (verdict : TheVerdict) → FirstRefusalBy draft_standard spec.now bin.now verdict → (verdict_of result ≡ verdict) ⊎ (verdict_of result ≡ verdicts.Mem) }
 {
     let mut steps = Steps::<L>::start(blank);
-    draft_bytes(alloc, spec, bin, &mut steps)
+    draft_bytes(alloc, seed, spec, bin, &mut steps)
 }

@@ -27,6 +27,7 @@ mod verify;
 mod whole;
 
 pub use command::Command;
+pub use mz_store::Seed;
 pub use program::{answer, run};
 pub use size::SampleSize;
 pub use status::{LONGEST, Status};

@@ -18,6 +18,7 @@ use crate::portable::portable;
 use crate::sample::sample;
 use crate::specify::specify;
 use crate::verify::verify;
+use mz_store::Seed;
 use std::alloc::Global;
 
 /// What a command answers over the contents of its files, before anything is put or written.
@@ -31,8 +32,8 @@ pub enum Outcome {
     Mem,
 }
 
-/// What a command other than `show` answers.
-pub fn outcome_of(alloc: Global, command: Command, contents: &Contents) -> Outcome
+/// What a command other than `show` answers. A binary's terms are numbered with the seed.
+pub fn outcome_of(alloc: Global, seed: Seed, command: Command, contents: &Contents) -> Outcome
     requires whole { IsShow (request command) → ⊥ }
     requires files { length (contents_of contents.now) ≡ length (names_read (request command)) }
     requires short { AreWithin longest (contents_of contents.now) }
@@ -44,17 +45,27 @@ pub fn outcome_of(alloc: Global, command: Command, contents: &Contents) -> Outco
     ensures only_no { (text : List ℕ) → IsNoOf (request command.entry) (contents_of contents.now) text → OnYes result ⊥ }
 {
     match (command, contents) {
-        (Command::Verify { .. }, Contents::Two(spec, bin)) => verify(alloc, spec, bin),
+        (Command::Verify { .. }, Contents::Two(spec, bin)) => verify(alloc, seed, spec, bin),
         (Command::Compile { mode, .. }, Contents::One(text)) => compile(alloc, text, mode),
         (Command::Assemble { .. }, Contents::One(listing)) => assemble(alloc, listing),
-        (Command::Axioms { .. }, Contents::Two(spec, bin)) => axioms(alloc, spec.as_slice(), bin),
-        (Command::Draft { .. }, Contents::Two(spec, bin)) => draft(alloc, spec.as_slice(), bin),
+        (Command::Axioms { .. }, Contents::Two(spec, bin)) => axioms(
+            alloc,
+            seed,
+            spec.as_slice(),
+            bin,
+        ),
+        (Command::Draft { .. }, Contents::Two(spec, bin)) => draft(
+            alloc,
+            seed,
+            spec.as_slice(),
+            bin,
+        ),
         (Command::Portable { .. }, Contents::Two(spec, bin)) => {
-            portable(alloc, spec.as_slice(), bin)
+            portable(alloc, seed, spec.as_slice(), bin)
         }
         (Command::Specify { .. }, Contents::One(text)) => specify(alloc, text),
         (Command::Decompile { .. }, Contents::Two(spec, bin)) => {
-            decompile(alloc, spec.as_slice(), bin)
+            decompile(alloc, seed, spec.as_slice(), bin)
         }
         (Command::Sample { size }, Contents::Nothing) => sample(alloc, size),
         _ => unreachable!(),

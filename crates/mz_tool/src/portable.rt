@@ -11,12 +11,13 @@ use crate::verdict::answered_by;
 use mz_cmd::Steps;
 use mz_match::{Counts, Verdict};
 use mz_portable::portable_bytes;
+use mz_store::Seed;
 use std::alloc::Global;
 use std::marker::Brand;
 use std::sync::ledger::{Blank, Ledger};
 
 /// Judges a binary against a specification as verifiers do that compare addresses.
-pub fn portable(alloc: Global, spec: &[u8], bin: &[u8]) -> Outcome
+pub fn portable(alloc: Global, seed: Seed, spec: &[u8], bin: &[u8]) -> Outcome
     requires spec { length spec.now < 2 ^ 32 }
     requires bin { length bin.now < 2 ^ 32 }
     ensures yes { IfYes result (λ put text. (put ≡ None) × IsVerifiedBy Portable spec.now bin.now text) }
@@ -25,12 +26,12 @@ pub fn portable(alloc: Global, spec: &[u8], bin: &[u8]) -> Outcome
     ensures only_yes { (text : List ℕ) → IsVerifiedBy Portable spec.now bin.now text → OnNo result ⊥ }
     ensures only_no { (text : List ℕ) → IsRefutedBy Portable spec.now bin.now text → OnYes result ⊥ }
 {
-    let verdict = judge::<Brand>(alloc, Blank::new(1), spec, bin);
+    let verdict = judge::<Brand>(alloc, seed, Blank::new(1), spec, bin);
     answered_by(alloc, &verdict)
 }
 
 /// The verdict, its steps counted in a ledger of their own.
-fn judge<L: Ledger>(alloc: Global, blank: Blank, spec: &[u8], bin: &[u8]) -> Verdict
+fn judge<L: Ledger>(alloc: Global, seed: Seed, blank: Blank, spec: &[u8], bin: &[u8]) -> Verdict
     requires name { blank.name ≡ L.name }
     requires parts { blank.parts ≡ L.parts }
     requires some { 0 < blank.parts }
@@ -43,5 +44,5 @@ fn judge<L: Ledger>(alloc: Global, blank: Blank, spec: &[u8], bin: &[u8]) -> Ver
     ensures refused { (verdict : Verdict) → FirstPortableRefusal spec.now bin.now verdict → (result ≡ verdict) ⊎ (result ≡ Verdict.Mem) }
 {
     let mut steps = Steps::<L>::start(blank);
-    portable_bytes(alloc, spec, bin, &mut steps)
+    portable_bytes(alloc, seed, spec, bin, &mut steps)
 }

@@ -10,13 +10,16 @@ use crate::show::show;
 use crate::status::{LONGEST, Status};
 use crate::whole::answer_whole;
 use mz_io::{Folder, Sink};
+use mz_store::Seed;
 use std::alloc::Global;
 
 /// Does what the words ask for, with the folder's files, and writes the answer to `out`.
 ///
-/// Want of memory may come in place of any answer but `Usage`.
+/// Want of memory may come in place of any answer but `Usage`. The terms of a binary's bodies are numbered with the seed,
+/// on which no answer depends.
 pub fn run<F: Folder, O: Sink>(
     alloc: Global,
+    seed: Seed,
     words: &[String],
     folder: &mut F,
     out: &mut O,
@@ -83,7 +86,7 @@ pub fn run<F: Folder, O: Sink>(
         → length text ≤ O.room out.old) → O.faults out.new ≡ O.faults out.old }
 {
     match Command::read(words) {
-        Some(command) => answer(alloc, LONGEST, command, folder, out),
+        Some(command) => answer(alloc, seed, LONGEST, command, folder, out),
         None => Status::Usage,
     }
 }
@@ -91,6 +94,7 @@ pub fn run<F: Folder, O: Sink>(
 /// Answers a command, with files of at most `limit` bytes.
 pub fn answer<F: Folder, O: Sink>(
     alloc: Global,
+    seed: Seed,
     limit: u64,
     command: Command,
     folder: &mut F,
@@ -135,6 +139,6 @@ pub fn answer<F: Folder, O: Sink>(
         | Command::Portable { .. }
         | Command::Specify { .. }
         | Command::Decompile { .. }
-        | Command::Sample { .. } => answer_whole(alloc, limit, command, folder, out),
+        | Command::Sample { .. } => answer_whole(alloc, seed, limit, command, folder, out),
     }
 }

@@ -12,6 +12,7 @@ use crate::verify::verify;
 use mz_emit::compilation_is_decided;
 use mz_mode::Mode;
 use mz_sample::{sample_line, sample_specification, sample_text};
+use mz_store::Seed;
 use mz_type::typed_or_faulty;
 use std::alloc::Global;
 
@@ -50,7 +51,7 @@ fn upheld(alloc: Global, specification: &[u8], text: &[u8]) -> Outcome
     typed_or_faulty();
     match compile(alloc, text, Mode::Strict) {
         Outcome::Yes { put, .. } => match put {
-            Put::File(bin) => verify(alloc, specification, &bin),
+            Put::File(bin) => verify(alloc, Seed::FIXED, specification, &bin),
             Put::Nothing => unreachable!(),
         },
         refused => refused,

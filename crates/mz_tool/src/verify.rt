@@ -8,12 +8,13 @@ use crate::outcome::Outcome;
 use crate::verdict::answered_by;
 use mz_cmd::Steps;
 use mz_match::{Counts, Verdict, verify_bytes};
+use mz_store::Seed;
 use std::alloc::Global;
 use std::marker::Brand;
 use std::sync::ledger::{Blank, Ledger};
 
 /// Judges a binary against a specification.
-pub fn verify(alloc: Global, spec: &[u8], bin: &[u8]) -> Outcome
+pub fn verify(alloc: Global, seed: Seed, spec: &[u8], bin: &[u8]) -> Outcome
     requires spec { length spec.now < 2 ^ 32 }
     requires bin { length bin.now < 2 ^ 32 }
     ensures yes { IfYes result (λ put text. (put ≡ None) × IsVerified spec.now bin.now text) }
@@ -22,12 +23,12 @@ pub fn verify(alloc: Global, spec: &[u8], bin: &[u8]) -> Outcome
     ensures only_yes { (text : List ℕ) → IsVerified spec.now bin.now text → OnNo result ⊥ }
     ensures only_no { (text : List ℕ) → IsRefuted spec.now bin.now text → OnYes result ⊥ }
 {
-    let verdict = judge::<Brand>(alloc, Blank::new(1), spec, bin);
+    let verdict = judge::<Brand>(alloc, seed, Blank::new(1), spec, bin);
     answered_by(alloc, &verdict)
 }
 
 /// The verdict, its steps counted in a ledger of their own.
-fn judge<L: Ledger>(alloc: Global, blank: Blank, spec: &[u8], bin: &[u8]) -> Verdict
+fn judge<L: Ledger>(alloc: Global, seed: Seed, blank: Blank, spec: &[u8], bin: &[u8]) -> Verdict
     requires name { blank.name ≡ L.name }
     requires parts { blank.parts ≡ L.parts }
     requires some { 0 < blank.parts }
@@ -39,5 +40,5 @@ fn judge<L: Ledger>(alloc: Global, blank: Blank, spec: &[u8], bin: &[u8]) -> Ver
     ensures refused { (verdict : Verdict) → FirstRefusal spec.now bin.now verdict → (result ≡ verdict) ⊎ (result ≡ Verdict.Mem) }
 {
     let mut steps = Steps::<L>::start(blank);
-    verify_bytes(alloc, spec, bin, &mut steps)
+    verify_bytes(alloc, seed, spec, bin, &mut steps)
 }

@@ -11,12 +11,14 @@ use crate::outcome::{Outcome, outcome_of};
 use crate::output::put_file;
 use crate::status::Status;
 use mz_io::{Folder, Sink, write_whole};
+use mz_store::Seed;
 use std::alloc::Global;
 
 /// Answers a command other than `show`, with files of at most `limit` bytes: reads them, puts the
 /// command's file where the answer is yes, and writes the text.
 pub fn answer_whole<F: Folder, O: Sink>(
     alloc: Global,
+    seed: Seed,
     limit: u64,
     command: Command,
     folder: &mut F,
@@ -56,7 +58,7 @@ pub fn answer_whole<F: Folder, O: Sink>(
         ReadAll::Fault => return Status::ReadFault,
         ReadAll::Mem => return Status::Memory,
     };
-    match outcome_of(alloc, command, &contents) {
+    match outcome_of(alloc, seed, command, &contents) {
         Outcome::Yes { put, text } => {
             let Ok(()) = put_file(command.output(), &put, folder) else {
                 return Status::WriteFault;

@@ -6,6 +6,7 @@ use mz_binary::{Checked, Checker, Next, Rows, Standard, Statement, check_all, re
 use mz_cmd::{K, Mem, Refusal, Steps};
 use mz_layout::Mmb;
 use mz_mode::Mode;
+use mz_store::Seed;
 use std::alloc::{AllocError, Global};
 use std::marker::Brand;
 use std::process::Abort;
@@ -44,7 +45,7 @@ fn check_with<L: Ledger>(alloc: Global, blank: Blank, file: &[u8], standard: Sta
     requires fits { length file.now < 2 ^ 32 }
 {
     let mut steps = Steps::<L>::start(blank);
-    check_all(alloc, file, standard, &mut steps)
+    check_all(alloc, Seed::FIXED, file, standard, &mut steps)
 }
 
 /// How many rows a file has, or its refusal's line.
@@ -114,7 +115,7 @@ fn end_of<L: Ledger>(
     requires some { 0 < blank.parts }
 {
     let mut steps = Steps::<L>::start(blank);
-    let mut checker = Checker::new(alloc, mmb, standard);
+    let mut checker = Checker::new(alloc, Seed::FIXED, mmb, standard);
     for _ in 0..10 {
         match checker.check_next(&mut steps) {
             Next::Statement(after, statement) => {

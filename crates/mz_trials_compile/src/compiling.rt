@@ -8,7 +8,7 @@ use crate::texts::{
     REFUSED_TEXTS, SAMPLE, SAMPLE_SPECIFICATION, SORT,
 };
 use mz_io::{Folder, MemFolder, MemSink};
-use mz_tool::{Status, run};
+use mz_tool::{Seed, Status, run};
 use std::alloc::{AllocError, Global};
 use std::process::Abort;
 use std::test::Fail;
@@ -85,7 +85,13 @@ fn expect_listed(rt: &(impl Abort + AllocGlobal), bin: &[u8], what: &str) -> Res
     let mut folder = MemFolder::new(alloc);
     folder.add("bin", bin)?;
     let mut out = MemSink::new(alloc, 8192)?;
-    let status = run(alloc, &words_of(alloc, "show bin")?, &mut folder, &mut out);
+    let status = run(
+        alloc,
+        Seed::FIXED,
+        &words_of(alloc, "show bin")?,
+        &mut folder,
+        &mut out,
+    );
     assert!(rt; status == Status::Done, "the listing for {what}");
     assert!(rt;
         out.bytes().ends_with(b"end\n"),
@@ -158,7 +164,7 @@ fn ended(
     folder.room(name, room)?;
     let mut out = MemSink::new(alloc, 100)?;
     let words = words_of(alloc, line)?;
-    let status = run(alloc, &words, &mut folder, &mut out);
+    let status = run(alloc, Seed::FIXED, &words, &mut folder, &mut out);
     Ok((status, folder))
 }
 

@@ -4,7 +4,7 @@ use crate::files::{EMPTY, FOLD_SPEC, IMP, IMP_SPEC, ONE, ONE_SPEC};
 use crate::runs::{compiled, expect_verdict, words_of};
 use crate::texts::SORT;
 use mz_io::{MemFolder, MemSink};
-use mz_tool::{Status, run};
+use mz_tool::{Seed, Status, run};
 use std::alloc::{AllocError, Global};
 use std::process::Abort;
 use std::test::Fail;
@@ -24,7 +24,7 @@ fn decompiled(
     folder.room("out", ROOM)?;
     let mut out = MemSink::new(alloc, 200)?;
     let words = words_of(alloc, "decompile spec bin out")?;
-    let status = run(alloc, &words, &mut folder, &mut out);
+    let status = run(alloc, Seed::FIXED, &words, &mut folder, &mut out);
     Ok((status, folder, out))
 }
 
@@ -288,7 +288,7 @@ fn a_text_is_put_where_there_is_room(rt: HostRuntime) -> Result<(), Fail> {
         let mut out = MemSink::new(alloc, 100)?;
         let line = format!(in alloc; "decompile spec bin {name}")?;
         let words = words_of(alloc, line.as_str())?;
-        let status = run(alloc, &words, &mut folder, &mut out);
+        let status = run(alloc, Seed::FIXED, &words, &mut folder, &mut out);
         let is_put = *wanted == Status::Done;
         assert!(rt; status == *wanted, "{line} of {room} bytes");
         assert!(rt;

@@ -3,7 +3,7 @@ use crate::files::{IMP, IMP_SPEC, ONE, ONE_SPEC};
 use crate::runs::words_of;
 use crate::texts::SORT;
 use mz_io::{Folder, MemFolder, MemSink};
-use mz_tool::{Command, Status, answer, run};
+use mz_tool::{Command, Seed, Status, answer, run};
 use std::alloc::{AllocError, Global};
 use std::process::Abort;
 use std::test::Fail;
@@ -119,7 +119,13 @@ fn ended_at_call(
     folder.fail_call(call)?;
     let mut out = MemSink::new(alloc, 200)?;
     out.take_at_most(1);
-    let status = run(alloc, &words_of(alloc, line)?, &mut folder, &mut out);
+    let status = run(
+        alloc,
+        Seed::FIXED,
+        &words_of(alloc, line)?,
+        &mut folder,
+        &mut out,
+    );
     let comes_next = folder.start("bin").is_err();
     Ok((status, folder, out, comes_next))
 }
@@ -177,7 +183,13 @@ fn ended_at_write(
     let mut out = MemSink::new(alloc, 200)?;
     out.take_at_most(1);
     out.fail_call(write)?;
-    let status = run(alloc, &words_of(alloc, line)?, &mut folder, &mut out);
+    let status = run(
+        alloc,
+        Seed::FIXED,
+        &words_of(alloc, line)?,
+        &mut folder,
+        &mut out,
+    );
     Ok((status, folder, out))
 }
 
@@ -227,7 +239,14 @@ fn ended_within(
     let mut out = MemSink::new(alloc, 200)?;
     let words = words_of(alloc, line)?;
     let status = match Command::read(&words) {
-        Some(command) => answer(alloc, u64::from(limit), command, &mut folder, &mut out),
+        Some(command) => answer(
+            alloc,
+            Seed::FIXED,
+            u64::from(limit),
+            command,
+            &mut folder,
+            &mut out,
+        ),
         None => Status::Usage,
     };
     Ok((status, folder, out))

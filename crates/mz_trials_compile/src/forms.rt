@@ -6,7 +6,7 @@ use crate::form_texts::{
 };
 use crate::runs::words_of;
 use mz_io::{MemFolder, MemSink};
-use mz_tool::{Status, run};
+use mz_tool::{Seed, Status, run};
 use std::alloc::{AllocError, Global};
 use std::process::Abort;
 use std::test::Fail;
@@ -57,7 +57,7 @@ fn expect_done(
 ) -> Result<MemSink, Fail> {
     let mut out = MemSink::new(rt.alloc(), ROOM)?;
     let words = words_of(rt.alloc(), command)?;
-    let status = run(rt.alloc(), &words, folder, &mut out);
+    let status = run(rt.alloc(), Seed::FIXED, &words, folder, &mut out);
     assert!(rt; status == Status::Done, "{command} of {text}");
     Ok(out)
 }

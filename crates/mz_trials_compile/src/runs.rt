@@ -1,6 +1,6 @@
 // Runs of the program over a folder and a sink in memory.
 use mz_io::{MemFolder, MemSink};
-use mz_tool::{Status, run};
+use mz_tool::{Seed, Status, run};
 use std::alloc::{AllocError, Global};
 use std::process::Abort;
 use std::test::Fail;
@@ -34,7 +34,7 @@ pub fn compiled_as(
     let mut out = MemSink::new(alloc, 200)?;
     let line = format!(in alloc; "{command} text out")?;
     let words = words_of(alloc, line.as_str())?;
-    let status = run(alloc, &words, &mut folder, &mut out);
+    let status = run(alloc, Seed::FIXED, &words, &mut folder, &mut out);
     Ok((status, folder, out))
 }
 
@@ -71,7 +71,7 @@ fn expect_said(
     folder.add("bin", bin)?;
     let mut out = MemSink::new(alloc, 200)?;
     let words = words_of(alloc, command)?;
-    let status = run(alloc, &words, &mut folder, &mut out);
+    let status = run(alloc, Seed::FIXED, &words, &mut folder, &mut out);
     let text = format!(in alloc; "{line}\n")?;
     assert!(rt; out.bytes() == text.as_bytes(), "the line for {what}");
     let is_accepted = line.as_bytes().starts_with(b"accepted: ");

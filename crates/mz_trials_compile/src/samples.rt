@@ -1,7 +1,7 @@
 // Samples that the program makes, compiles and verifies.
 use crate::runs::words_of;
 use mz_io::{Folder, MemFolder, MemSink};
-use mz_tool::{Status, run};
+use mz_tool::{Seed, Status, run};
 use std::alloc::Global;
 use std::test::Fail;
 
@@ -11,7 +11,7 @@ fn ended(alloc: Global, words: &[String]) -> Result<(Status, bool, MemSink), Fai
     folder.add("file", b"")?;
     folder.fail_call(1)?;
     let mut out = MemSink::new(alloc, 400)?;
-    let status = run(alloc, words, &mut folder, &mut out);
+    let status = run(alloc, Seed::FIXED, words, &mut folder, &mut out);
     Ok((status, folder.start("file").is_err(), out))
 }
 

@@ -4,7 +4,7 @@ ghost use Rattle.std.specs.Prelude.{◌≡◌};
 use crate::failing::{RUNS, assert_files, smallest};
 use crate::runs::words_of;
 use mz_io::{Failed, Folder, MemFolder, MemSink};
-use mz_tool::{Status, run};
+use mz_tool::{Seed, Status, run};
 use std::alloc::{AllocError, Global};
 use std::process::Abort;
 use std::test::Fail;
@@ -84,7 +84,13 @@ fn ended(alloc: Global, line: &str) -> Result<(Status, SlowFolder, MemSink), All
     };
     let mut out = MemSink::new(alloc, 200)?;
     out.take_at_most(1);
-    let status = run(alloc, &words_of(alloc, line)?, &mut folder, &mut out);
+    let status = run(
+        alloc,
+        Seed::FIXED,
+        &words_of(alloc, line)?,
+        &mut folder,
+        &mut out,
+    );
     Ok((status, folder, out))
 }
 

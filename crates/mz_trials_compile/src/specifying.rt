@@ -4,7 +4,7 @@ use crate::texts::{
     ALL_VARIABLES, FOLD_TEXT, IMPLICATION, LET_TWICE, LOCAL_DEFINITION, LOCAL_IN_AXIOM, SAMPLE,
 };
 use mz_io::{MemFolder, MemSink};
-use mz_tool::{Status, run};
+use mz_tool::{Seed, Status, run};
 use std::alloc::{AllocError, Global};
 use std::test::Fail;
 
@@ -18,7 +18,7 @@ fn specified(alloc: Global, text: &[u8]) -> Result<(Status, MemFolder, MemSink),
     folder.room("out", ROOM)?;
     let mut out = MemSink::new(alloc, 200)?;
     let words = words_of(alloc, "spec text out")?;
-    let status = run(alloc, &words, &mut folder, &mut out);
+    let status = run(alloc, Seed::FIXED, &words, &mut folder, &mut out);
     Ok((status, folder, out))
 }
 

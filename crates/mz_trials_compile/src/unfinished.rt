@@ -2,7 +2,7 @@
 use crate::runs::{compiled, compiled_as, words_of};
 use crate::texts::{FOLD_TEXT, IMPLICATION, LET_TWICE, SAMPLE};
 use mz_io::{MemFolder, MemSink};
-use mz_tool::{Status, run};
+use mz_tool::{Seed, Status, run};
 use std::alloc::{AllocError, Global};
 use std::test::Fail;
 
@@ -89,7 +89,7 @@ fn told(
     folder.add("bin", bin)?;
     let mut out = MemSink::new(alloc, 200)?;
     let words = words_of(alloc, line)?;
-    let status = run(alloc, &words, &mut folder, &mut out);
+    let status = run(alloc, Seed::FIXED, &words, &mut folder, &mut out);
     Ok((status, out))
 }
 

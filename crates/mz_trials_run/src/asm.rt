@@ -1,7 +1,7 @@
 // Listings that are assembled, with the line that is told of them.
 use crate::program::words_of;
 use mz_io::{MemFolder, MemSink};
-use mz_tool::{Status, run};
+use mz_tool::{Seed, Status, run};
 use std::process::Abort;
 use std::test::Fail;
 
@@ -79,7 +79,7 @@ fn expect_told(rt: &(impl Abort + AllocGlobal), listing: &str, line: &str) -> Re
     folder.room("out", 4096)?;
     let mut out = MemSink::new(alloc, 200)?;
     let words = words_of(alloc, "assemble list out")?;
-    let status = run(alloc, &words, &mut folder, &mut out);
+    let status = run(alloc, Seed::FIXED, &words, &mut folder, &mut out);
     let is_done = line.as_bytes().starts_with(b"assembled: ");
     assert!(rt; out.bytes() == line.as_bytes(), "the line for {listing}");
     assert!(rt;

@@ -18,7 +18,7 @@ mod worked;
 
 use change::{Change, changed};
 use mz_io::{MemFolder, MemSink};
-use mz_tool::{Status, run};
+use mz_tool::{Seed, Status, run};
 use std::alloc::{AllocError, Global};
 use std::process::Abort;
 use std::test::Fail;
@@ -50,7 +50,13 @@ pub fn expect(
     folder.add("spec", spec)?;
     folder.add("bin", bin)?;
     let mut out = MemSink::new(alloc, 4096)?;
-    let ended = run(alloc, &words_of(alloc, line)?, &mut folder, &mut out);
+    let ended = run(
+        alloc,
+        Seed::FIXED,
+        &words_of(alloc, line)?,
+        &mut folder,
+        &mut out,
+    );
     assert!(rt; out.bytes() == text, "the text for {what}");
     assert!(rt; ended == status, "the status for {what}");
     Ok(())

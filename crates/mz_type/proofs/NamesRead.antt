@@ -1,11 +1,10 @@
 -- What is read has all its names.
-use Rattle.std.proofs.Common.{ℕ, suc, ◌≡◌, ◌<◌, inl, inr, Bool, true, false, List, [], ◌∷◌, ◌++◌, length, Option, Some, None, refl, sym, ap, subst, arith}
-use Rattle.std.specs.Prelude.{bytes_eq, option_map, if◌then◌else◌}
+use Rattle.std.proofs.Common.{ℕ, suc, ◌≡◌, ◌<◌, inl, inr, List, [], ◌∷◌, ◌++◌, length, refl, sym, ap, subst}
 use Rattle.mz_sexpr.specs.Node.{Node, Nodes, atom, list, no_nodes, node}
 use Rattle.mz_logic.specs.Tree.{Tree, Trees}
 use Rattle.mz_logic.specs.Conversions.{Conversion, Conversions}
-use Rattle.mz_logic.proofs.Offered.{none_some}
-use Rattle.mz_forms.specs.Name.{Scope, number_of, HasNumber}
+use Rattle.mz_names.proofs.Offered.{number-within}
+use Rattle.mz_forms.specs.Name.{Scope, HasNumber}
 use Rattle.mz_forms.specs.Expressions.{IsExpr, AreExprs, IsExprList}
 use Rattle.mz_forms.specs.Proof.{Proof, Proofs}
 use Rattle.mz_forms.specs.declared.keyword.Keyword.{Keyword}
@@ -15,17 +14,8 @@ use Rattle.mz_typing.specs.Names.{ExprThere, ExprsThere, ConvThere, ConvsThere, 
 
 -- ---- numbers are in range
 
-pub number_below : (xs : List (List ℕ)) (w : List ℕ) (i : ℕ) → number_of xs w ≡ Some i → i < length xs
-number_below [] w i h = absurd (none_some h)
-number_below (x ∷ xs) w i h = go (bytes_eq w x) (number_of xs w) (number_below xs w) h
-  where
-    go : (b : Bool) (o : Option ℕ) → ((j : ℕ) → o ≡ Some j → j < length xs) → (if b then Some 0 else option_map suc o) ≡ Some i → i < suc (length xs)
-    go true o below h = let e : 0 ≡ i = cc in omega (arith, e)
-    go false None below h = absurd (none_some h)
-    go false (Some j) below h = let e : suc j ≡ i = cc in omega (arith, e, below j refl)
-
 pub number_there : (xs : List (List ℕ)) (n : Node) (i : ℕ) → HasNumber xs n i → i < length xs
-number_there xs (atom _ w) i (_, is) = number_below xs w i is
+number_there xs (atom _ w) i (_, is) = number-within xs w i is
 number_there xs (list _ _) i h = absurd h
 
 pub one_more : (xs : List (List ℕ)) (w : List ℕ) → length (xs ++ w ∷ []) ≡ suc (length xs)
@@ -43,8 +33,8 @@ module _ (sc : Scope) (many : length sc.names.constants ≡ length sc.names.term
 
   mutual
     pub expr_there : (n : Node) (e : Tree) → IsExpr sc n e → ExprThere ts vs e
-    expr_there (atom _ w) e (_, inl (x, at, is)) = subst (ExprThere ts vs) (sym is) (number_below sc.vars w x at)
-    expr_there (atom _ w) e (_, inr (_, (t, at, is))) = subst (ExprThere ts vs) (sym is) (subst (λ k. t < k) many (number_below sc.names.constants w t at), tt)
+    expr_there (atom _ w) e (_, inl (x, at, is)) = subst (ExprThere ts vs) (sym is) (number-within sc.vars w x at)
+    expr_there (atom _ w) e (_, inr (_, (t, at, is))) = subst (ExprThere ts vs) (sym is) (subst (λ k. t < k) many (number-within sc.names.constants w t at), tt)
     expr_there (list _ no_nodes) e h = absurd h
     expr_there (list _ (node h ns)) e (t, es, has, are, is) = subst (ExprThere ts vs) (sym is) (number_there sc.names.terms h t has, exprs_there ns es are)
 
@@ -102,8 +92,8 @@ module _ (sc : Scope) (many : length sc.names.constants ≡ length sc.names.term
     AllFit lets ps = ProofsThere ts vs (length sc.names.assertions) (length hyps) (length lets) ps
 
     fact_there : (lets : List (List ℕ)) (w : List ℕ) (p : Proof) → IsFact hyps lets w p → Fits lets p
-    fact_there lets w p (inl (i, at, is)) = subst (Fits lets) (sym is) (number_below hyps w i at)
-    fact_there lets w p (inr (_, (i, at, is))) = subst (Fits lets) (sym is) (number_below lets w i at)
+    fact_there lets w p (inl (i, at, is)) = subst (Fits lets) (sym is) (number-within hyps w i at)
+    fact_there lets w p (inr (_, (i, at, is))) = subst (Fits lets) (sym is) (number-within lets w i at)
 
     mutual
       pub proof_there : (lets : List (List ℕ)) (n : Node) (p : Proof) → IsProof sc hyps lets n p → Fits lets p

@@ -1,5 +1,5 @@
 -- Answers of checks one after another.
-use Rattle.std.proofs.Common.{◌≡◌, Result, Ok, Err, Vec, inr, sym, subst}
+use Rattle.std.proofs.Common.{◌≡◌, Result, Ok, Err, inr, sym, subst}
 use Rattle.std.specs.Result.{IsErrAnd}
 use Rattle.mz_checks.specs.Checks.{Checks, ask, ◌>>◌, AllHold, FailsFirst, Judges}
 use Rattle.mz_checks.proofs.Offered.{fails-before, fails-after, all_hold-both, Decides, decides-after}
@@ -7,8 +7,8 @@ use Rattle.mz_forms.specs.Stops.{Stops}
 use Rattle.mz_forms.specs.declared.fault.Fault.{Fault}
 use Rattle.mz_forms.specs.declared.fault.Stop.{Stop}
 use Rattle.mz_forms.specs.declared.fault.Stop.TheVariants.{Refused, Mem}
-use Rattle.mz_logic.specs.Tree.{Tree, Trees}
-use Rattle.mz_typing.specs.Answers.{Judged, IsProved, AreProved, told}
+use Rattle.mz_logic.specs.Tree.{Tree}
+use Rattle.mz_typing.specs.Answers.{Judged, IsProved, told}
 use Rattle.mz_typing.specs.declared.claim.Claim.{Claim}
 
 module _ {R : Type 0} where
@@ -96,11 +96,3 @@ module _ (cs : Checks Fault) where
   pub stop_proved : (x : Tree) (r : Result Claim Stop) (s : Stop) → IsErrAnd r (λ y. y ≡ s) → Stops s cs → IsProved r cs x
   stop_proved x (Ok e) s h k = absurd h
   stop_proved x (Err y) s h k = subst (λ z. Stops z cs) (sym h) k
-
-  pub stop_all_proved : {Z : Type 0} (xs : Trees) (r : Result (Vec Claim Z) Stop) (s : Stop) → IsErrAnd r (λ y. y ≡ s) → Stops s cs → AreProved r cs xs
-  stop_all_proved xs (Ok es) s h k = absurd h
-  stop_all_proved xs (Err y) s h k = subst (λ z. Stops z cs) (sym h) k
-
-pub proved_after : (bs cs : Checks Fault) (x : Tree) (r : Result Claim Stop) → AllHold bs → IsProved r cs x → IsProved r (bs >> cs) x
-proved_after bs cs x (Ok e) all (k, is) = (all_hold-both bs cs all k, is)
-proved_after bs cs x (Err s) all k = stopped_after bs cs s all k

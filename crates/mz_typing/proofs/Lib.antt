@@ -6,5 +6,6 @@ pub mod Building
 pub mod Claims
 pub mod ConvSteps
 pub mod ProofSteps
+pub mod Stacked
 pub mod StatementSteps
 pub mod Offered

@@ -1,5 +1,5 @@
 -- Steps of the checks of proofs.
-use Rattle.std.proofs.Common.{ℕ, ◌≡◌, ◌<◌, ◌≤◌, ◌+◌, List, [], ◌∷◌, length, get_or, drop, slice_get, None, Result, sym, ap, ◌∙◌, subst, inl, inr, arith}
+use Rattle.std.proofs.Common.{ℕ, ◌≡◌, ◌<◌, ◌≤◌, ◌+◌, List, [], ◌∷◌, length, get_or, drop, slice_get, None, sym, ap, ◌∙◌, subst, inl, inr, arith}
 use Rattle.std.proofs.lemmas.List.{drop_more}
 use Rattle.std.proofs.lemmas.Option.{slice_get-get_or}
 use Rattle.mz_checks.specs.Checks.{Checks, demand, ◌>>◌, AllHold, FailsFirst}
@@ -25,16 +25,15 @@ use Rattle.mz_forms.specs.Proof.{Proof, Proofs, by_citation, by_conv, more_proof
 use Rattle.mz_forms.specs.ProofCode.{proof_steps, proofs_steps}
 use Rattle.mz_forms.specs.ProofView.{proof_view, proofs_view}
 use Rattle.mz_logic.specs.Conversions.{Conversion}
-use Rattle.mz_typing.specs.Answers.{IsProved}
 use Rattle.mz_typing.specs.Claims.{claim_tree, claim_trees}
 use Rattle.mz_typing.specs.declared.claim.Claim.{Claim}
 use Rattle.mz_typing.specs.Names.{ExprsThere, ProofsThere}
 use Rattle.mz_typing.specs.Parts.{part, after}
 use Rattle.mz_typing.specs.Rules.{operand_rules, expr_rules, exprs_rules, conv_rules, subproof_rules, citation_rules, proof_rules, proofs_rules}
-use Rattle.mz_typing.specs.Sides.{left, right, assertion_at, proved, all_proved}
+use Rattle.mz_typing.specs.Sides.{left, right, proved, all_proved}
 use Rattle.mz_typing.proofs.Claims.{claims_cut}
 use Rattle.mz_typing.proofs.ExprRules.{fits_by_checks}
-use Rattle.mz_typing.proofs.Judging.{stopped_before, stopped_after, stopped_asked, proved_after}
+use Rattle.mz_typing.proofs.Judging.{stopped_before, stopped_after, stopped_asked}
 use Rattle.mz_typing.proofs.Steps.{trees_cut}
 
 pub is_there : {A : Type 0} (xs : List A) (i : ℕ) → i < length xs → None ≡ slice_get xs i → ⊥
@@ -97,13 +96,6 @@ module _ (env : List Declaration) (ctx : List Binder) (hyps lets : Trees) where
     pub citation_subproofs_stop : (s : Stop) → AllHold of_operands → Stops s of_subproofs → Stops s of_citation
     citation_subproofs_stop s h k = stopped_after of_operands _ s h (stopped_before of_subproofs _ s k)
 
-    pub citation_proved : (r : Result Claim Stop) (a : Assertion) (claims : Trees) → AllHold of_operands → AllHold of_subproofs → a ≡ assertion_at env T → claims ≡ all_proved env hyps lets ps
-        → IsProved r (citation_rules (signatures env) ctx a es claims n) (instance es a.conclusion) → IsProved r of_citation (proved env hyps lets (by_citation T es ps))
-    citation_proved r a claims h k same all p =
-        proved_after of_operands _ _ r h (proved_after of_subproofs _ _ r k
-        (subst (λ cs. IsProved r (citation_rules (signatures env) ctx (assertion_at env T) es cs n) (instance es (assertion_at env T).conclusion)) all
-        (subst (λ b. IsProved r (citation_rules (signatures env) ctx b es claims n) (instance es b.conclusion)) same p)))
-
   -- one proof more of a list
   module _ (xs : List Coded) (i : ℕ) (p : Coded) (below : i < length xs) (is : p ≡ get_or xs i p) where
     pub proofs_cut : proofs_view (drop i xs) ≡ more_proofs (proof_view p) (proofs_view (drop (i + 1) xs))
@@ -136,12 +128,6 @@ module _ (env : List Declaration) (ctx : List Binder) (hyps lets : Trees) where
 
     abbrev of_conversion : Checks Fault
     of_conversion = proof_rules env ctx hyps lets (by_conv e c p) n
-
-    pub conversion_expr_stop : (s : Stop) → Stops s of_expr → Stops s of_conversion
-    conversion_expr_stop s h = stopped_before of_expr _ s h
-
-    pub conversion_conv_stop : (s : Stop) → AllHold of_expr → Stops s of_conv → Stops s of_conversion
-    conversion_conv_stop s h k = stopped_after of_expr _ s h (stopped_before of_conv _ s k)
 
     pub conversion_proof_stop : (s : Stop) → AllHold of_expr → AllHold of_conv → Stops s of_proof → Stops s of_conversion
     conversion_proof_stop s h k l = stopped_after of_expr _ s h (stopped_after of_conv _ s k (stopped_before of_proof _ s l))

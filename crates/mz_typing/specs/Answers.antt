@@ -1,8 +1,12 @@
 -- What checks that take memory answer.
-use Rattle.std.specs.Prelude.{◌≡◌, Option, Some, None, Result, Ok, Err, Vec}
+use Rattle.std.specs.Prelude.{◌≡◌, List, Option, Some, None, Result, Ok, Err}
 use Rattle.std.specs.Borrow.{Bor}
-use Rattle.mz_checks.specs.Checks.{Checks, AllHold}
-use Rattle.mz_logic.specs.Tree.{Tree, Trees}
+use Rattle.mz_checks.specs.Checks.{Checks, ◌>>◌, AllHold}
+use Rattle.mz_sexpr.specs.Node.{Node, parts}
+use Rattle.mz_logic.specs.Conversions.{Conversion}
+use Rattle.mz_logic.specs.Declaration.{Declaration, signatures}
+use Rattle.mz_logic.specs.declared.binder.Binder.{Binder}
+use Rattle.mz_logic.specs.Tree.{Tree}
 use Rattle.mz_forms.specs.Proof.{Proof}
 use Rattle.mz_forms.specs.ProofView.{proof_view}
 use Rattle.mz_forms.specs.declared.proof.Proof.{Proof as Coded}
@@ -10,7 +14,9 @@ use Rattle.mz_forms.specs.Stops.{Stops}
 use Rattle.mz_forms.specs.declared.fault.Fault.{Fault}
 use Rattle.mz_forms.specs.declared.fault.Stop.{Stop}
 use Rattle.mz_forms.specs.declared.fault.Stop.TheVariants.{Refused}
-use Rattle.mz_typing.specs.Claims.{claim_tree, claim_trees}
+use Rattle.mz_typing.specs.Claims.{claim_tree}
+use Rattle.mz_typing.specs.Parts.{part}
+use Rattle.mz_typing.specs.Rules.{expr_rules, conv_rules}
 use Rattle.mz_typing.specs.declared.claim.Claim.{Claim}
 
 -- all hold, or the first that doesn't is told, or there was no memory
@@ -28,11 +34,11 @@ abbrev pub IsProved : Result Claim Stop → Checks Fault → Tree → Type 0
 IsProved (Ok claim) cs x = AllHold cs × (claim_tree claim ≡ x)
 IsProved (Err stop) cs x = Stops stop cs
 
-abbrev pub AreProved : {Z : Type 0} → Result (Vec Claim Z) Stop → Checks Fault → Trees → Type 0
-AreProved (Ok claims) cs xs = AllHold cs × (claim_trees claims.items ≡ xs)
-AreProved (Err stop) cs xs = Stops stop cs
-
 -- the proof that a statement states, if it states one
 abbrev pub stated : Option (Bor Coded) → Option Proof
 stated None = None
 stated (Some p) = Some (proof_view p.now)
+
+-- what a converted proof asks before its subproof
+abbrev pub converted_rules : List Declaration → List Binder → Tree → Conversion → Node → Checks Fault
+converted_rules env ctx e c n = expr_rules (signatures env) ctx e (part (parts n) 1) >> conv_rules env ctx c (part (parts n) 2)

@@ -3,7 +3,7 @@ ghost use Rattle.std.specs.Prelude.{◌≡◌, ◌↔◌, ⊤, Bool, true, false
 ghost use Rattle.mz_checks.specs.Checks.{Judges, AllHold};
 ghost use Rattle.mz_sexpr.specs.Number.{first, rest};
 ghost use Rattle.mz_sexpr.specs.Node.{parts};
-ghost use Rattle.mz_logic.specs.Conversions.{refl_conv, cong_conv, unfold_conv, gap_conv, IsBoundOf};
+ghost use Rattle.mz_logic.specs.Conversions.{refl_conv, sym_conv, cong_conv, unfold_conv, gap_conv, IsBoundOf};
 ghost use Rattle.mz_logic.specs.Declaration.{signatures};
 ghost use Rattle.mz_logic.specs.DeclView.{term_view};
 ghost use Rattle.mz_logic.specs.Legality;
@@ -26,7 +26,6 @@ use crate::exprs::{check_expr, check_exprs, check_operands, params_of, sort_of, 
 use mz_forms::{Conv, Convs, Fault, Stop, Vars};
 use mz_logic::{Binder, Context, Env, Expr, Exprs, TermDecl, in_tree, is_bound_var};
 use mz_sexpr::U;
-use std::alloc::Global;
 
 /// A refusal as a cause to stop.
 pub(crate) fn refuse(checked: Result<(), Fault>) -> Result<(), Stop>
@@ -251,11 +250,12 @@ fn check_gap_sides(
 /// What the type rules of conversions and proofs are tried over.
 #[derive(Clone, Copy)]
 pub(crate) struct Checker<'t, 'c> {
-    pub(crate) alloc: Global,
     /// The statements before.
     pub(crate) env: &'t Env,
     /// The variables.
     pub(crate) ctx: &'t Context<'c>,
+    /// The theorem's hypotheses.
+    pub(crate) hyps: &'t Exprs,
 }
 
 // Conversions and proofs stand deep in one another, and what calls itself through them takes stack
@@ -311,11 +311,21 @@ impl<'t, 'c> Checker<'t, 'c> {
     {
         match conv {
             Conv::Refl(e) => self.check_refl(e, nodes),
-            Conv::Sym(conv) => self.check_conv(conv.get(), &nodes.part(1)),
+            Conv::Sym(conv) => self.check_sym(conv.get(), nodes),
             Conv::Cong(t, convs) => self.check_cong(*t, convs, nodes),
             Conv::Unfold(t, es, vars, conv) => self.check_unfold(*t, es, vars, conv.get(), nodes),
             Conv::Gap(l, r) => self.check_gap_conv(l, r, nodes),
         }
+    }
+
+    /// The rules of a conversion turned round, at the first node.
+    #[cycle(check_conv)]
+    #[inline(never)]
+    fn check_sym(&self, conv: &Conv, nodes: &Cursor) -> Result<(), Stop>
+        requires { ConvThere (length (signatures self.now.env.now)) (length self.now.ctx.now) (conversion conv.now) }
+        ensures { Judged result (conv_rules self.now.env.now self.now.ctx.now (sym_conv (conversion conv.now)) (first nodes.now)) }
+    {
+        self.check_conv(conv, &nodes.part(1))
     }
 
     /// The rules of each conversion, at its node.
@@ -334,6 +344,7 @@ impl<'t, 'c> Checker<'t, 'c> {
 
     /// The rules of a conversion under a term, at the first node.
     #[cycle(check_conv)]
+    #[inline(never)]
     fn check_cong(&self, term: u32, convs: &Convs, nodes: &Cursor) -> Result<(), Stop>
         requires { ConvsThere (length (signatures self.now.env.now)) (length self.now.ctx.now) convs.now }
         ensures { Judged result (conv_rules self.now.env.now self.now.ctx.now (cong_conv term convs.now) (first nodes.now)) }
@@ -344,6 +355,7 @@ impl<'t, 'c> Checker<'t, 'c> {
 
     /// The rules of an unfolding, at the first node.
     #[cycle(check_conv)]
+    #[inline(never)]
     fn check_unfold(
         &self,
         term: u32,

@@ -81,6 +81,7 @@ impl<'n, 'a> Cursor<'n, 'a> {
     }
 
     /// The first node's part at the place, and those behind it.
+    #[inline(never)]
     pub(crate) fn part(&self, place: usize) -> Cursor<'n, 'a>
         ensures { Number.first result ≡ Parts.part (Node.parts (Number.first self.now)) place }
     {
@@ -95,6 +96,7 @@ impl<'n, 'a> Cursor<'n, 'a> {
     }
 
     /// The first node's parts behind so many.
+    #[inline(never)]
     pub(crate) fn parts_after(&self, count: usize) -> Cursor<'n, 'a>
         ensures { result ≡ Parts.after count (Node.parts (Number.first self.now)) }
     {

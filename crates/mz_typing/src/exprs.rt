@@ -1,7 +1,8 @@
 //! What is asked of expressions.
 ghost use Rattle.std.specs.Prelude.{◌≡◌, ◌↔◌, IsTrue, drop};
-ghost use Rattle.mz_checks.specs.Checks.{Judges};
-ghost use Rattle.mz_sexpr.specs.Number.{first};
+ghost use Rattle.mz_checks.specs.Checks.{Judges, AllHold};
+ghost use Rattle.mz_sexpr.specs.Node.{parts};
+ghost use Rattle.mz_sexpr.specs.Number.{first, rest};
 ghost use Rattle.mz_logic.specs.Declaration.{signatures};
 ghost use Rattle.mz_logic.specs.Legality;
 ghost use Rattle.mz_logic.specs.Legality.{signature_at, binder_at, IsClaim};
@@ -69,13 +70,28 @@ pub(crate) fn check_expr(env: &Env, ctx: &Context, expr: &Expr, nodes: &Cursor) 
 fn check_app(env: &Env, ctx: &Context, term: u32, es: &Exprs, nodes: &Cursor) -> Result<(), Fault>
     ensures { Judges result (expr_rules (signatures env.now) ctx.now (app term es.now) (first nodes.now)) }
 {
-    let operands = nodes.parts_after(1);
-    check_exprs(env, ctx, es, &operands)?;
+    check_exprs(env, ctx, es, &nodes.parts_after(1))?;
+    check_app_operands(env, ctx, term, es, nodes)
+}
+
+/// The own rules of a term's application, after those of its operands. It isn't inlined: what it needs
+/// would stand on the stack once a level.
+#[inline(never)]
+fn check_app_operands(
+    env: &Env,
+    ctx: &Context,
+    term: u32,
+    es: &Exprs,
+    nodes: &Cursor,
+) -> Result<(), Fault>
+    requires { AllHold (exprs_rules (signatures env.now) ctx.now es.now (rest (parts (first nodes.now)))) }
+    ensures { Judges result (expr_rules (signatures env.now) ctx.now (app term es.now) (first nodes.now)) }
+{
     let params = params_of(env, term);
     if es.len() != params.len() {
         return Err(nodes.fault(U::Arity));
     }
-    check_operands(env, ctx, es, &operands, params)
+    check_operands(env, ctx, es, &nodes.parts_after(1), params)
 }
 
 /// The rules of each expression, at its node.

@@ -1,6 +1,6 @@
 //! What is asked of proofs.
-ghost use Rattle.std.specs.Prelude.{◌≡◌, ◌↔◌, ◌<◌, ◌+◌, IsTrue, OnOk, drop, length};
-ghost use Rattle.mz_checks.specs.Checks.{AllHold};
+ghost use Rattle.std.specs.Prelude.{◌≡◌, ◌↔◌, ◌<◌, ◌≤◌, ◌+◌, IsTrue, OnOk, drop, take, length};
+ghost use Rattle.mz_checks.specs.Checks.{AllHold, nothing};
 ghost use Rattle.mz_sexpr.specs.Node.{parts};
 ghost use Rattle.mz_sexpr.specs.Number.{first};
 ghost use Rattle.mz_logic.specs.Declaration.{signatures, assertions};
@@ -10,34 +10,91 @@ ghost use Rattle.mz_logic.specs.View.{tree};
 ghost use Rattle.mz_forms.specs.ConvView.{conversion};
 ghost use Rattle.mz_forms.specs.Proof.{by_citation, by_conv, by_let};
 ghost use Rattle.mz_forms.specs.ProofView.{proof_view};
-ghost use Rattle.mz_typing.specs.Answers.{Judged, IsProved, AreProved};
+ghost use Rattle.mz_typing.specs.Answers.{Judged, IsProved, converted_rules};
 ghost use Rattle.mz_typing.specs.Claims.{claim_tree, claim_trees};
 ghost use Rattle.mz_typing.specs.Names.{ProofThere, ProofsThere, ConvThere, ExprThere, ExprsThere};
 ghost use Rattle.mz_typing.specs.Parts.{part};
-ghost use Rattle.mz_typing.specs.Rules.{proof_rules, proofs_rules, citation_rules, subproof_rules, exprs_rules, claim_rules};
-ghost use Rattle.mz_typing.specs.Sides.{left, right, proved, all_proved, with_fact};
+ghost use Rattle.mz_typing.specs.Rules.{proof_rules, citation_rules, subproof_rules, exprs_rules, claim_rules};
+ghost use Rattle.mz_typing.specs.Sides.{left, right, assertion_at, proved, with_fact};
 
 use crate::claim::{Claim, is_side, same_claim};
 use crate::convs::{Checker, refuse};
 use crate::cursor::Cursor;
-use crate::exprs::{check_claim, check_expr, check_exprs, check_operands};
+use crate::exprs::{check_claim, check_expr, check_operands};
 use mz_forms::{Conv, Proof, Proofs, Stop};
 use mz_logic::{Expr, Exprs, ThmDecl, are_apart};
 use mz_sexpr::U;
 
-/// Whether the conversion goes from the expression to the claim.
-fn goes_between(conv: &Conv, from: &Expr, to: Claim) -> bool
-    ensures { IsTrue result ↔ ((left (conversion conv.now) ≡ tree from.now) × (right (conversion conv.now) ≡ claim_tree to.entry)) }
+/// Whether the conversion goes from the expression to the claim at the place.
+#[inline(never)]
+fn goes_between(conv: &Conv, from: &Expr, claims: &[Claim], to: usize) -> bool
+    requires { to < length claims.now }
+    ensures { IsTrue result ↔ ((left (conversion conv.now) ≡ tree from.now) × (right (conversion conv.now) ≡ operand (claim_trees claims.now) to)) }
 {
-    is_side(conv, false, Claim::of(from)) && is_side(conv, true, to)
+    is_side(conv, false, Claim::of(from)) && is_side(conv, true, claim_at(claims, to))
 }
 
 /// The claim at the place.
-fn claim_at<'t>(claims: &[Claim<'t>], place: u32) -> Claim<'t>
+pub(crate) fn claim_at<'t>(claims: &[Claim<'t>], place: usize) -> Claim<'t>
     requires { place < length claims.now }
     ensures { claim_tree result ≡ operand (claim_trees claims.now) place }
 {
-    claims[place as usize]
+    claims[place]
+}
+
+/// The claims from a place on.
+fn claims_from<'s, 't>(claims: &'s [Claim<'t>], from: usize) -> &'s [Claim<'t>]
+    requires { from ≤ length claims.now }
+    ensures { result.now ≡ drop from claims.now }
+{
+    &claims[from..]
+}
+
+/// Puts the claim behind the others.
+fn push_claim<'t>(claims: &mut Vec<Claim<'t>>, claim: Claim<'t>) -> Result<(), Stop>
+    ensures stops { Judged result nothing }
+    ensures claims { OnOk result (claim_trees claims.new.items ≡ with_fact (claim_trees claims.old.items) (claim_tree claim.entry)) }
+{
+    claims.push(claim)?;
+    Ok(())
+}
+
+/// Puts the expression in place of the claims from a place on.
+#[inline(never)]
+fn claim_instead<'t>(claims: &mut Vec<Claim<'t>>, from: usize, expr: &'t Expr) -> Result<(), Stop>
+    ensures stops { Judged result nothing }
+    ensures claims { OnOk result (claim_trees claims.new.items ≡ with_fact (claim_trees (take from claims.old.items)) (tree expr.now)) }
+{
+    claims.truncate(from);
+    push_claim(claims, Claim::of(expr))
+}
+
+/// Puts what a visible let proves behind the claims.
+#[inline(never)]
+fn claim_let<'t>(lets: &[Claim<'t>], claims: &mut Vec<Claim<'t>>, place: u32) -> Result<(), Stop>
+    requires { place < length lets.now }
+    ensures stops { Judged result nothing }
+    ensures claims { OnOk result (claim_trees claims.new.items ≡ with_fact (claim_trees claims.old.items) (operand (claim_trees lets.now) place)) }
+{
+    push_claim(claims, claim_at(lets, place as usize))
+}
+
+/// Takes the claims from a place on away, and puts the first of them behind the visible lets.
+#[inline(never)]
+fn name_claim<'t>(
+    lets: &mut Vec<Claim<'t>>,
+    claims: &mut Vec<Claim<'t>>,
+    from: usize,
+) -> Result<(), Stop>
+    requires { from < length claims.old.items }
+    ensures stops { Judged result nothing }
+    ensures lets { OnOk result (claim_trees lets.new.items ≡ with_fact (claim_trees lets.old.items) (operand (claim_trees claims.old.items) from)) }
+    ensures visible { OnOk result (take (length lets.old.items) lets.new.items ≡ lets.old.items) }
+    ensures claims { OnOk result (claims.new.items ≡ take from claims.old.items) }
+{
+    lets.push(claim_at(claims, from))?;
+    claims.truncate(from);
+    Ok(())
 }
 
 impl<'t, 'c> Checker<'t, 'c> {
@@ -87,140 +144,198 @@ impl<'t, 'c> Checker<'t, 'c> {
         Ok(Claim::instance(&thm.conclusion, es))
     }
 
-    /// The rules of a gap, at the first node, and what it stands for a proof of.
-    fn check_gap(&self, e: &'t Expr, nodes: &Cursor) -> Result<Claim<'t>, Stop>
-        ensures { IsProved result (claim_rules self.now.env.now self.now.ctx.now (tree e.now) (part (parts (first nodes.now)) 1)) (tree e.now) }
+    /// The own rules of a citation of the assertion, after those of its parts: its subproofs prove the
+    /// claims from a place on, and what it proves is put in their place.
+    fn conclude(
+        &self,
+        thm: &'t ThmDecl,
+        claims: &mut Vec<Claim<'t>>,
+        from: usize,
+        es: &'t Exprs,
+        nodes: &Cursor,
+    ) -> Result<(), Stop>
+        requires there { ExprsThere (length (signatures self.now.env.now)) (length self.now.ctx.now) es.now }
+        requires sorted { AllHold (exprs_rules (signatures self.now.env.now) self.now.ctx.now es.now (parts (part (parts (first nodes.now)) 1))) }
+        requires within { from ≤ length claims.old.items }
+        ensures judged { Judged result (citation_rules (signatures self.now.env.now) self.now.ctx.now (assertion_view thm.now) es.now (claim_trees (drop from claims.old.items)) (first nodes.now)) }
+        ensures claims { OnOk result (claim_trees claims.new.items ≡ with_fact (claim_trees (take from claims.old.items)) (instance es.now (tree thm.now.conclusion))) }
     {
-        refuse(check_claim(self.env, self.ctx, e, &nodes.part(1)))?;
-        Ok(Claim::of(e))
+        let claim = self.check_assertion(thm, es, claims_from(claims, from), nodes)?;
+        claims.truncate(from);
+        push_claim(claims, claim)
     }
 
-    /// The rules of a proof, at the first node, and what it proves. The lets are what the visible
-    /// ones prove, the outermost first; they are the same afterwards.
-    #[cycle(check_proof)]
-    pub(crate) fn check_proof(
+    /// The same of a citation by its number.
+    #[inline(never)]
+    fn check_cited(
         &self,
-        hyps: &'t Exprs,
-        lets: &mut Vec<Claim<'t>>,
-        proof: &'t Proof,
+        claims: &mut Vec<Claim<'t>>,
+        from: usize,
+        number: u32,
+        es: &'t Exprs,
         nodes: &Cursor,
-    ) -> Result<Claim<'t>, Stop>
-        requires { ProofThere (length (signatures self.now.env.now)) (length self.now.ctx.now) (length (assertions self.now.env.now)) (length (listed hyps.now)) (length lets.old.items) (proof_view proof.now) }
-        ensures proved { IsProved result (proof_rules self.now.env.now self.now.ctx.now hyps.now (claim_trees lets.old.items) (proof_view proof.now) (first nodes.now)) (proved self.now.env.now hyps.now (claim_trees lets.old.items) (proof_view proof.now)) }
-        ensures same { OnOk result (lets.new.items ≡ lets.old.items) }
+    ) -> Result<(), Stop>
+        requires number { number < length (assertions self.now.env.now) }
+        requires there { ExprsThere (length (signatures self.now.env.now)) (length self.now.ctx.now) es.now }
+        requires sorted { AllHold (exprs_rules (signatures self.now.env.now) self.now.ctx.now es.now (parts (part (parts (first nodes.now)) 1))) }
+        requires within { from ≤ length claims.old.items }
+        ensures judged { Judged result (citation_rules (signatures self.now.env.now) self.now.ctx.now (assertion_at self.now.env.now number) es.now (claim_trees (drop from claims.old.items)) (first nodes.now)) }
+        ensures claims { OnOk result (claim_trees claims.new.items ≡ with_fact (claim_trees (take from claims.old.items)) (instance es.now (assertion_at self.now.env.now number).conclusion)) }
     {
-        match proof {
-            Proof::Hyp(i) => match hyps.get(*i as usize) {
-                None => unreachable!(),
-                Some(hyp) => Ok(Claim::of(hyp)),
-            },
-            Proof::Name(i) => Ok(claim_at(lets, *i)),
-            Proof::Cite(number, es, proofs) => {
-                self.check_citation(hyps, lets, *number, es, proofs, nodes)
-            }
-            Proof::Conv(e, conv, proof) => {
-                self.check_conversion(hyps, lets, e, conv.get(), proof.get(), nodes)
-            }
-            Proof::Let(first, second) => {
-                self.check_let(hyps, lets, first.get(), second.get(), nodes)
-            }
-            Proof::Gap(e) => self.check_gap(e, nodes),
+        match self.env.thm(number) {
+            None => unreachable!(),
+            Some(thm) => self.conclude(thm, claims, from, es, nodes),
         }
     }
 
-    /// The rules of a citation, at the first node, and what it proves.
+    /// Puts a hypothesis behind the claims.
+    #[inline(never)]
+    fn claim_hyp(&self, claims: &mut Vec<Claim<'t>>, place: u32) -> Result<(), Stop>
+        requires { place < length (listed self.now.hyps.now) }
+        ensures stops { Judged result nothing }
+        ensures claims { OnOk result (claim_trees claims.new.items ≡ with_fact (claim_trees claims.old.items) (operand self.now.hyps.now place)) }
+    {
+        match self.hyps.get(place as usize) {
+            None => unreachable!(),
+            Some(hyp) => push_claim(claims, Claim::of(hyp)),
+        }
+    }
+
+    /// The rules of a gap, at the first node; what it stands for a proof of is put behind the claims.
+    #[inline(never)]
+    fn check_gap(
+        &self,
+        claims: &mut Vec<Claim<'t>>,
+        e: &'t Expr,
+        nodes: &Cursor,
+    ) -> Result<(), Stop>
+        ensures judged { Judged result (claim_rules self.now.env.now self.now.ctx.now (tree e.now) (part (parts (first nodes.now)) 1)) }
+        ensures claims { OnOk result (claim_trees claims.new.items ≡ with_fact (claim_trees claims.old.items) (tree e.now)) }
+    {
+        refuse(check_claim(self.env, self.ctx, e, &nodes.part(1)))?;
+        push_claim(claims, Claim::of(e))
+    }
+
+    /// The rules of the expression and of the conversion of a converted proof, at the first node.
+    #[inline(never)]
+    fn check_converted(&self, e: &Expr, conv: &Conv, nodes: &Cursor) -> Result<(), Stop>
+        requires { ConvThere (length (signatures self.now.env.now)) (length self.now.ctx.now) (conversion conv.now) }
+        ensures { Judged result (converted_rules self.now.env.now self.now.ctx.now (tree e.now) (conversion conv.now) (first nodes.now)) }
+    {
+        refuse(check_expr(self.env, self.ctx, e, &nodes.part(1)))?;
+        self.check_conv(conv, &nodes.part(2))
+    }
+
+    /// The rules of a proof, at the first node; what it proves is put behind the claims. The lets are
+    /// what the visible ones prove, the outermost first; they are the same afterwards.
     #[cycle(check_proof)]
+    pub(crate) fn check_proof(
+        &self,
+        lets: &mut Vec<Claim<'t>>,
+        claims: &mut Vec<Claim<'t>>,
+        proof: &'t Proof,
+        nodes: &Cursor,
+    ) -> Result<(), Stop>
+        requires { ProofThere (length (signatures self.now.env.now)) (length self.now.ctx.now) (length (assertions self.now.env.now)) (length (listed self.now.hyps.now)) (length lets.old.items) (proof_view proof.now) }
+        ensures judged { Judged result (proof_rules self.now.env.now self.now.ctx.now self.now.hyps.now (claim_trees lets.old.items) (proof_view proof.now) (first nodes.now)) }
+        ensures claims { OnOk result (claim_trees claims.new.items ≡ with_fact (claim_trees claims.old.items) (proved self.now.env.now self.now.hyps.now (claim_trees lets.old.items) (proof_view proof.now))) }
+        ensures same { OnOk result (lets.new.items ≡ lets.old.items) }
+    {
+        match proof {
+            Proof::Hyp(i) => self.claim_hyp(claims, *i),
+            Proof::Name(i) => claim_let(lets, claims, *i),
+            Proof::Cite(number, es, proofs) => {
+                self.check_citation(lets, claims, *number, es, proofs, nodes)
+            }
+            Proof::Conv(e, conv, proof) => {
+                self.check_conversion(lets, claims, e, conv.get(), proof.get(), nodes)
+            }
+            Proof::Let(first, second) => {
+                self.check_let(lets, claims, first.get(), second.get(), nodes)
+            }
+            Proof::Gap(e) => self.check_gap(claims, e, nodes),
+        }
+    }
+
+    /// The rules of a citation, at the first node; what it proves is put behind the claims.
+    #[cycle(check_proof)]
+    #[inline(never)]
     fn check_citation(
         &self,
-        hyps: &'t Exprs,
         lets: &mut Vec<Claim<'t>>,
+        claims: &mut Vec<Claim<'t>>,
         number: u32,
         es: &'t Exprs,
         proofs: &'t Proofs,
         nodes: &Cursor,
-    ) -> Result<Claim<'t>, Stop>
+    ) -> Result<(), Stop>
         requires number { number < length (assertions self.now.env.now) }
         requires operands { ExprsThere (length (signatures self.now.env.now)) (length self.now.ctx.now) es.now }
-        requires subproofs { ProofsThere (length (signatures self.now.env.now)) (length self.now.ctx.now) (length (assertions self.now.env.now)) (length (listed hyps.now)) (length lets.old.items) proofs.now }
-        ensures proved { IsProved result (proof_rules self.now.env.now self.now.ctx.now hyps.now (claim_trees lets.old.items) (by_citation number es.now proofs.now) (first nodes.now)) (proved self.now.env.now hyps.now (claim_trees lets.old.items) (by_citation number es.now proofs.now)) }
+        requires subproofs { ProofsThere (length (signatures self.now.env.now)) (length self.now.ctx.now) (length (assertions self.now.env.now)) (length (listed self.now.hyps.now)) (length lets.old.items) proofs.now }
+        ensures judged { Judged result (proof_rules self.now.env.now self.now.ctx.now self.now.hyps.now (claim_trees lets.old.items) (by_citation number es.now proofs.now) (first nodes.now)) }
+        ensures claims { OnOk result (claim_trees claims.new.items ≡ with_fact (claim_trees claims.old.items) (proved self.now.env.now self.now.hyps.now (claim_trees lets.old.items) (by_citation number es.now proofs.now))) }
         ensures same { OnOk result (lets.new.items ≡ lets.old.items) }
     {
-        refuse(check_exprs(self.env, self.ctx, es, &nodes.parts_of(1)))?;
-        let claims = self.check_proofs(hyps, lets, proofs, &nodes.parts_after(2))?;
-        match self.env.thm(number) {
-            None => unreachable!(),
-            Some(thm) => self.check_assertion(thm, es, &claims, nodes),
-        }
-    }
-
-    /// The rules of each subproof, at its node, and what they prove.
-    #[cycle(check_proof)]
-    fn check_proofs(
-        &self,
-        hyps: &'t Exprs,
-        lets: &mut Vec<Claim<'t>>,
-        proofs: &'t Proofs,
-        nodes: &Cursor,
-    ) -> Result<Vec<Claim<'t>>, Stop>
-        requires { ProofsThere (length (signatures self.now.env.now)) (length self.now.ctx.now) (length (assertions self.now.env.now)) (length (listed hyps.now)) (length lets.old.items) proofs.now }
-        ensures proved { AreProved result (proofs_rules self.now.env.now self.now.ctx.now hyps.now (claim_trees lets.old.items) proofs.now nodes.now) (all_proved self.now.env.now hyps.now (claim_trees lets.old.items) proofs.now) }
-        ensures same { OnOk result (lets.new.items ≡ lets.old.items) }
-    {
-        let mut claims = Vec::new(self.alloc);
-        let mut left = nodes.after(0);
+        let from = claims.len();
+        self.check_part_exprs(es, 1, nodes)?;
+        let mut left = nodes.parts_after(2);
         for proof in proofs.as_slice() {
-            let claim = self.check_proof(hyps, lets, proof, &left)?;
-            claims.push(claim)?;
+            self.check_proof(lets, claims, proof, &left)?;
             left = left.rest();
         }
-        Ok(claims)
+        self.check_cited(claims, from, number, es, nodes)
     }
 
-    /// The rules of a converted proof, at the first node, and what it proves.
+    /// The rules of a converted proof, at the first node; what it proves is put behind the claims.
     #[cycle(check_proof)]
+    #[inline(never)]
     fn check_conversion(
         &self,
-        hyps: &'t Exprs,
         lets: &mut Vec<Claim<'t>>,
+        claims: &mut Vec<Claim<'t>>,
         e: &'t Expr,
         conv: &Conv,
         proof: &'t Proof,
         nodes: &Cursor,
-    ) -> Result<Claim<'t>, Stop>
+    ) -> Result<(), Stop>
         requires conv { ConvThere (length (signatures self.now.env.now)) (length self.now.ctx.now) (conversion conv.now) }
-        requires proof { ProofThere (length (signatures self.now.env.now)) (length self.now.ctx.now) (length (assertions self.now.env.now)) (length (listed hyps.now)) (length lets.old.items) (proof_view proof.now) }
-        ensures proved { IsProved result (proof_rules self.now.env.now self.now.ctx.now hyps.now (claim_trees lets.old.items) (by_conv (tree e.now) (conversion conv.now) (proof_view proof.now)) (first nodes.now)) (tree e.now) }
+        requires proof { ProofThere (length (signatures self.now.env.now)) (length self.now.ctx.now) (length (assertions self.now.env.now)) (length (listed self.now.hyps.now)) (length lets.old.items) (proof_view proof.now) }
+        ensures judged { Judged result (proof_rules self.now.env.now self.now.ctx.now self.now.hyps.now (claim_trees lets.old.items) (by_conv (tree e.now) (conversion conv.now) (proof_view proof.now)) (first nodes.now)) }
+        ensures claims { OnOk result (claim_trees claims.new.items ≡ with_fact (claim_trees claims.old.items) (tree e.now)) }
         ensures same { OnOk result (lets.new.items ≡ lets.old.items) }
     {
-        refuse(check_expr(self.env, self.ctx, e, &nodes.part(1)))?;
-        self.check_conv(conv, &nodes.part(2))?;
-        let claim = self.check_proof(hyps, lets, proof, &nodes.part(3))?;
-        if goes_between(conv, e, claim) {
-            Ok(Claim::of(e))
-        } else {
-            Err(Stop::Refused(nodes.fault(U::Conversion)))
+        let from = claims.len();
+        self.check_converted(e, conv, nodes)?;
+        self.check_proof(lets, claims, proof, &nodes.part(3))?;
+        if !goes_between(conv, e, claims, from) {
+            return Err(Stop::Refused(nodes.fault(U::Conversion)));
         }
+        claim_instead(claims, from, e)
     }
 
-    /// The rules of a let, at the first node, and what it proves.
+    /// The rules of a let, at the first node; what it proves is put behind the claims.
     #[cycle(check_proof)]
+    #[inline(never)]
     fn check_let(
         &self,
-        hyps: &'t Exprs,
         lets: &mut Vec<Claim<'t>>,
+        claims: &mut Vec<Claim<'t>>,
         stated: &'t Proof,
         proof: &'t Proof,
         nodes: &Cursor,
-    ) -> Result<Claim<'t>, Stop>
-        requires stated { ProofThere (length (signatures self.now.env.now)) (length self.now.ctx.now) (length (assertions self.now.env.now)) (length (listed hyps.now)) (length lets.old.items) (proof_view stated.now) }
-        requires proof { ProofThere (length (signatures self.now.env.now)) (length self.now.ctx.now) (length (assertions self.now.env.now)) (length (listed hyps.now)) (length lets.old.items + 1) (proof_view proof.now) }
-        ensures proved { IsProved result (proof_rules self.now.env.now self.now.ctx.now hyps.now (claim_trees lets.old.items) (by_let (proof_view stated.now) (proof_view proof.now)) (first nodes.now)) (proved self.now.env.now hyps.now (claim_trees lets.old.items) (by_let (proof_view stated.now) (proof_view proof.now))) }
+    ) -> Result<(), Stop>
+        requires stated { ProofThere (length (signatures self.now.env.now)) (length self.now.ctx.now) (length (assertions self.now.env.now)) (length (listed self.now.hyps.now)) (length lets.old.items) (proof_view stated.now) }
+        requires proof { ProofThere (length (signatures self.now.env.now)) (length self.now.ctx.now) (length (assertions self.now.env.now)) (length (listed self.now.hyps.now)) (length lets.old.items + 1) (proof_view proof.now) }
+        ensures judged { Judged result (proof_rules self.now.env.now self.now.ctx.now self.now.hyps.now (claim_trees lets.old.items) (by_let (proof_view stated.now) (proof_view proof.now)) (first nodes.now)) }
+        ensures claims { OnOk result (claim_trees claims.new.items ≡ with_fact (claim_trees claims.old.items) (proved self.now.env.now self.now.hyps.now (claim_trees lets.old.items) (by_let (proof_view stated.now) (proof_view proof.now)))) }
         ensures same { OnOk result (lets.new.items ≡ lets.old.items) }
     {
-        let claim = self.check_proof(hyps, lets, stated, &nodes.part(2))?;
-        lets.push(claim)?;
-        let proved = self.check_proof(hyps, lets, proof, &nodes.part(3))?;
-        lets.pop();
-        Ok(proved)
+        let visible = lets.len();
+        let from = claims.len();
+        self.check_proof(lets, claims, stated, &nodes.part(2))?;
+        name_claim(lets, claims, from)?;
+        self.check_proof(lets, claims, proof, &nodes.part(3))?;
+        lets.truncate(visible);
+        Ok(())
     }
 }

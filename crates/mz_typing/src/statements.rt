@@ -23,6 +23,7 @@ use crate::claim::{Claim, same_claim};
 use crate::convs::{Checker, refuse};
 use crate::cursor::Cursor;
 use crate::exprs::{check_claim, check_expr, sort_of as sort_of_expr};
+use crate::proofs::claim_at;
 use mz_forms::{Declared, Fault, Proof, ProofBox, Stop};
 use mz_logic::{
     Binder, Context, Decl, Env, Expr, Exprs, TermDecl, TermForm, ThmDecl, ThmForm, free_vars_are_in,
@@ -136,13 +137,14 @@ fn check_stated_proof(
     refuse(check_dummies(env, dummies, &parts.after(5).parts()))?;
     let ctx = Context::new(thm.params.as_slice(), dummies);
     let checker = Checker {
-        alloc,
         env,
         ctx: &ctx,
+        hyps: &thm.hyps,
     };
     let mut lets: Vec<Claim> = Vec::new(alloc);
-    let claim = checker.check_proof(&thm.hyps, &mut lets, proof, &parts.after(6))?;
-    if same_claim(claim, Claim::of(&thm.conclusion)) {
+    let mut claims: Vec<Claim> = Vec::new(alloc);
+    checker.check_proof(&mut lets, &mut claims, proof, &parts.after(6))?;
+    if same_claim(claim_at(&claims, 0), Claim::of(&thm.conclusion)) {
         Ok(())
     } else {
         Err(Stop::Refused(parts.after(4).fault(U::Conclusion)))

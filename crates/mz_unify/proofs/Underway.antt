@@ -1,21 +1,24 @@
 -- A run over a store that is underway: the run from here is the whole run, and so is the count.
-use Rattle.std.proofs.Common.{◌≡◌, ℕ, suc, ◌+◌, ◌≤◌, List, [], ◌∷◌, ◌++◌, length, drop, Some, None, Result, Ok, Err, refl, sym, ap, ◌∙◌, arith, append_assoc, length-append}
+use Rattle.std.proofs.Common.{◌≡◌, ℕ, suc, Bool, true, false, cond, eqb, Option, ◌+◌, ◌≤◌, List, [], ◌∷◌, ◌++◌, length, drop, Some, None, Result, Ok, Err, refl, sym, ap, ◌∙◌, arith, append_assoc, length-append}
 use Rattle.std.proofs.lemmas.List.{append-nil, drop-drop, length-drop}
 use Rattle.mz_cmd.specs.declared.rule.K.{K}
 use Rattle.mz_cmd.specs.declared.rule.K.TheVariants as k
 use Rattle.mz_cmd.specs.declared.command.Cmd.{Cmd}
 use Rattle.mz_cmd.specs.declared.command.CmdFault.{CmdFault}
+use Rattle.mz_cmd.specs.declared.code.UnifyCode.{UnifyCode}
+use Rattle.mz_cmd.specs.declared.code.UnifyCode.TheVariants as codes
+use Rattle.mz_cmd.specs.Codes.{unify_code}
 use Rattle.mz_cmd.specs.Reading.{first_command}
 use Rattle.mz_logic.specs.Tree.{Tree}
 use Rattle.mz_logic.specs.Signature.{Signature}
 use Rattle.mz_store.specs.Sharing.{Sharing}
 use Rattle.mz_store.specs.declared.item.Id.{Id}
 use Rattle.mz_store.specs.declared.item.Item.{Item as Kept}
-use Rattle.mz_unification.specs.Streams.{UnifyCommand, IsEnd, unify_command}
+use Rattle.mz_unification.specs.Streams.{StreamKind, of_assertion, of_definition, UnifyCommand, u_dummy, u_end, IsEnd, command_in, unify_command}
 use Rattle.mz_unification.specs.Profile.{strict}
-use Rattle.mz_unification.specs.UnifyMachine.{UnifyMode as Mode, kind_of, UnifyState, unify_row, unify_from, unify_steps_from, unify, unify_steps}
+use Rattle.mz_unification.specs.UnifyMachine.{UnifyMode as Mode, in_citation, at_end, in_definition, kind_of, UnifyState, unify_row, unify_from, unify_steps_from, unify, unify_steps}
 use Rattle.mz_unify.specs.Stored.{mode_of, trees_at, items_at, matching_at, AreLeft, EndsWith, Says}
-use Rattle.mz_unify.specs.Rows.{command_of, StopsBy, TellsAny, state_at, stopped_at}
+use Rattle.mz_unify.specs.Rows.{command_of, StopsBy, TellsFor, state_at, stopped_at}
 use Rattle.mz_unify.specs.declared.unified.Unified.{Unified}
 use Rattle.mz_unify.specs.declared.unified.UnifyMode.{UnifyMode}
 use Rattle.mz_unify.specs.declared.command.Command.{Command}
@@ -28,7 +31,7 @@ use Rattle.mz_unify.proofs.UnifyTurns.{run_left, count_left, cut-run, cut-count,
 -- from here, at a place of the stream, what is left gives the whole
 abbrev pub IsUnderway : Sharing → Mode → List ℕ → List Signature → UnifyState Tree → ℕ → ℕ → ℕ → List Id → List Id → List Kept → ℕ → Type 0
 IsUnderway s mode stream sigs start first at word heap targets hyps steps =
-    (es : List Tree) × TellsAny s.context word es
+    (es : List Tree) × TellsFor mode s.context word es
     × (run_left sigs s.context mode 0 stream start ≡ run_left sigs s.context mode at (drop at stream) (state_at s heap es targets hyps))
     × (steps + count_left sigs s.context mode (drop at stream) (state_at s heap es targets hyps) ≡ first + count_left sigs s.context mode stream start)
 
@@ -45,6 +48,32 @@ not-end (Ref i) h e = e
 not-end (Dummy s) h e = e
 not-end Hyp h e = e
 not-end End h e = h refl
+
+-- only definitions have dummies
+dummy-in : (kind : StreamKind) (value sort : ℕ) (o : Option UnifyCode) → command_in kind value o ≡ Some (u_dummy sort) → kind ≡ of_definition
+dummy-in kind value sort None e = absurd cc
+dummy-in kind value sort (Some codes.Term) e = absurd cc
+dummy-in kind value sort (Some codes.TermSave) e = absurd cc
+dummy-in kind value sort (Some codes.Ref) e = absurd cc
+dummy-in of_assertion value sort (Some codes.Dummy) e = absurd cc
+dummy-in of_definition value sort (Some codes.Dummy) e = refl
+dummy-in of_assertion value sort (Some codes.Hyp) e = absurd cc
+dummy-in of_definition value sort (Some codes.Hyp) e = absurd cc
+
+dummy-by : (kind : StreamKind) (byte value sort : ℕ) → unify_command kind byte value ≡ Some (u_dummy sort) → kind ≡ of_definition
+dummy-by kind byte value sort e = go (eqb byte 0x00) e
+  where
+    go : (a : Bool) → cond a (Some u_end) (command_in kind value (unify_code byte)) ≡ Some (u_dummy sort) → kind ≡ of_definition
+    go true h = absurd cc
+    go false h = dummy-in kind value sort (unify_code byte) h
+
+of-definitions : (mode : Mode) → kind_of mode ≡ of_definition → mode ≡ in_definition
+of-definitions in_citation e = absurd cc
+of-definitions at_end e = absurd cc
+of-definitions in_definition e = refl
+
+pub dummy-stands : (mode : Mode) (byte value sort : ℕ) (c : Command) → unify_command (kind_of mode) byte value ≡ Some (command_of c) → c ≡ Dummy sort → mode ≡ in_definition
+dummy-stands mode byte value sort c is same = of-definitions mode (dummy-by (kind_of mode) byte value sort (is ∙ ap (λ (d : Command). Some (command_of d)) same))
 
 pub left-none : {A : Type 0} (xs : List A) → AreLeft xs xs 0
 left-none xs = ([], sym (append-nil xs), refl)
@@ -84,7 +113,7 @@ module _ (s : Sharing) (mode : Mode) (stream : List ℕ) (sigs : List Signature)
 
       -- from each state that this may be
       abbrev pub Stops : Stop → Type 0
-      Stops stop = (es : List Tree) → TellsAny s.context word es → StopsBy stop (λ rule. unify_row strict sigs s.context mode u (state_at s heap es targets hyps) ≡ Err rule)
+      Stops stop = (es : List Tree) → TellsFor mode s.context word es → StopsBy stop (λ rule. unify_row strict sigs s.context mode u (state_at s heap es targets hyps) ≡ Err rule)
 
       pub stopped-whole : (stop : Stop) (P : ℕ → Type 0) → Stops stop → Says (stopped_at at stop) P (λ place rule. whole ≡ Err (place, rule))
       stopped-whole (Rule rule) P stops =
@@ -103,7 +132,7 @@ module _ (s : Sharing) (mode : Mode) (stream : List ℕ) (sigs : List Signature)
 
       module _ (word' : ℕ) (heap' targets' : List Id) (hyps' : List Kept) where
         abbrev pub Goes : Type 0
-        Goes = (es : List Tree) → TellsAny s.context word es → (fs : List Tree) × TellsAny s.context word' fs × (unify_row strict sigs s.context mode u (state_at s heap es targets hyps) ≡ Ok (state_at s heap' fs targets' hyps'))
+        Goes = (es : List Tree) → TellsFor mode s.context word es → (fs : List Tree) × TellsFor mode s.context word' fs × (unify_row strict sigs s.context mode u (state_at s heap es targets hyps) ≡ Ok (state_at s heap' fs targets' hyps'))
 
         pub ended-whole : IsEnd u → Goes → EndsWith whole (trees_at s heap') (items_at s hyps')
         ended-whole end goes =

@@ -9,7 +9,7 @@ use Rattle.mz_store.specs.Sharing.{Sharing}
 use Rattle.mz_store.specs.declared.item.Id.{Id}
 use Rattle.mz_store.specs.declared.item.Item.{Item as Kept}
 use Rattle.mz_unification.specs.Streams.{UnifyCommand, u_term, u_term_save, u_ref, u_dummy, u_hyp, u_end}
-use Rattle.mz_unification.specs.UnifyMachine.{UnifyState}
+use Rattle.mz_unification.specs.UnifyMachine.{UnifyMode as Mode, in_definition, UnifyState}
 use Rattle.mz_unify.specs.Stored.{trees_at, stack_at, items_at}
 use Rattle.mz_unify.specs.declared.unified.Unified.{Unified}
 use Rattle.mz_unify.specs.declared.unified.Unified.TheVariants as said
@@ -40,6 +40,10 @@ InAnyV ctx (e ∷ es) x = InV ctx x e ⊎ InAnyV ctx es x
 -- the word tells the variables of all of these
 abbrev pub TellsAny : List Binder → ℕ → List Tree → Type 0
 TellsAny ctx word es = Tells (bound_vars ctx) word (InAnyV ctx es)
+
+-- the word tells the variables of all of these, where the stream may meet dummies
+abbrev pub TellsFor : Mode → List Binder → ℕ → List Tree → Type 0
+TellsFor mode ctx word es = mode ≡ in_definition → TellsAny ctx word es
 
 -- the machine's state: what a dummy is kept apart from has no ids, only the word of its variables
 abbrev pub state_at : Sharing → List Id → List Tree → List Id → List Kept → UnifyState Tree

@@ -11,6 +11,6 @@ mod stop;
 mod unified;
 
 pub use command::{Command, decoded};
-pub use running::unify;
+pub use running::{unify, unify_in};
 pub use stop::{Stop, push, push_operands};
 pub use unified::{Unified, UnifyMode};

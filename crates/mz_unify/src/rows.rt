@@ -6,9 +6,10 @@ ghost use Rattle.mz_logic.specs.Signature.{Signature};
 ghost use Rattle.mz_store.specs.Sharing.{IsIn, AreIn, tree_of, IsOver};
 ghost use Rattle.mz_unification.specs.Profile.{strict};
 ghost use Rattle.mz_unification.specs.Streams.{UnifyCommand, u_term, u_term_save, u_ref, u_dummy, u_hyp, u_end};
-ghost use Rattle.mz_unification.specs.UnifyMachine.{UnifyMode as Mode, UnifyState, unify_row, is_fresh, next_hypothesis, nothing_left};
+ghost use Rattle.mz_unification.specs.UnifyMachine.{UnifyMode as Mode, in_definition, UnifyState, unify_row, is_fresh, next_hypothesis, nothing_left};
 ghost use Rattle.mz_unify.specs.Stored.{mode_of, trees_at, stack_at, items_at, AreItemsIn, AreLeft, TellsAllOf};
-ghost use Rattle.mz_unify.specs.Rows.{command_of, StopsBy, TellsAny, state_at, with_targets, IsRow};
+ghost use Rattle.mz_unify.specs.declared.command.Command.TheVariants.{Dummy};
+ghost use Rattle.mz_unify.specs.Rows.{command_of, StopsBy, TellsAny, TellsFor, state_at, with_targets, IsRow};
 
 use crate::command::Command;
 use crate::stop::{Stop, push, push_operands};
@@ -17,7 +18,7 @@ use mz_cmd::K;
 use mz_store::{Id, Item, Store};
 
 /// The word of the variables of all these.
-pub(crate) fn variables(store: &Store, ids: &[Id]) -> u64
+fn variables(store: &Store, ids: &[Id]) -> u64
     requires ids { AreIn store.now ids.now }
     requires told { TellsAllOf store.now ids.now }
     ensures { (sigs : List Signature) → IsOver sigs store.now → TellsAny store.now.context result (trees_at store.now ids.now) }
@@ -27,6 +28,19 @@ pub(crate) fn variables(store: &Store, ids: &[Id]) -> u64
         word |= store.deps(*id);
     }
     word
+}
+
+/// The word of the variables of the operands, from which a definition's dummies are kept apart. Other
+/// streams have no dummies.
+pub(crate) fn kept_apart(store: &Store, mode: UnifyMode, operands: &[Id]) -> u64
+    requires ids { AreIn store.now operands.now }
+    requires told { TellsAllOf store.now operands.now }
+    ensures { (sigs : List Signature) → IsOver sigs store.now → TellsFor (mode_of mode) store.now.context result (trees_at store.now operands.now) }
+{
+    match mode {
+        UnifyMode::Body => variables(store, operands),
+        UnifyMode::Use | UnifyMode::Final => 0,
+    }
 }
 
 /// Takes the top target.
@@ -175,7 +189,7 @@ fn end(store: &Store, mode: UnifyMode, targets: &[Id], hyps: &[Item]) -> Result<
     Ok(())
 }
 
-/// Executes a command.
+/// Executes a command, which stands in streams of the mode.
 pub(crate) fn step(
     store: &Store,
     mode: UnifyMode,
@@ -185,12 +199,13 @@ pub(crate) fn step(
     targets: &mut Vec<Id>,
     hyps: &mut Vec<Item>,
 ) -> Result<(), Stop>
+    requires stands { (sort : ℕ) → command ≡ Dummy sort → mode_of mode ≡ in_definition }
     requires heap { AreIn store.now heap.old.items }
     requires targets { AreIn store.now targets.old.items }
     requires hyps { AreItemsIn store.now hyps.old.items }
     ensures ids { OnOk result (AreIn store.now heap.new.items × AreIn store.now targets.new.items × AreItemsIn store.now hyps.new.items) }
     ensures left { OnOk result ((taken : ℕ) × (taken ≤ 1) × AreLeft hyps.old.items hyps.new.items taken) }
-    ensures row { (sigs : List Signature) (es : List Tree) → IsOver sigs store.now → TellsAny store.now.context apart.old es → MatchResult result (λ _. (fs : List Tree) × TellsAny store.now.context apart.new fs × (unify_row strict sigs store.now.context (mode_of mode) (command_of command) (state_at store.now heap.old.items es targets.old.items hyps.old.items) ≡ Ok (state_at store.now heap.new.items fs targets.new.items hyps.new.items))) (λ stop. StopsBy stop (λ k. unify_row strict sigs store.now.context (mode_of mode) (command_of command) (state_at store.now heap.old.items es targets.old.items hyps.old.items) ≡ Err k)) }
+    ensures row { (sigs : List Signature) (es : List Tree) → IsOver sigs store.now → TellsFor (mode_of mode) store.now.context apart.old es → MatchResult result (λ _. (fs : List Tree) × TellsFor (mode_of mode) store.now.context apart.new fs × (unify_row strict sigs store.now.context (mode_of mode) (command_of command) (state_at store.now heap.old.items es targets.old.items hyps.old.items) ≡ Ok (state_at store.now heap.new.items fs targets.new.items hyps.new.items))) (λ stop. StopsBy stop (λ k. unify_row strict sigs store.now.context (mode_of mode) (command_of command) (state_at store.now heap.old.items es targets.old.items hyps.old.items) ≡ Err k)) }
 {
     match command {
         Command::Term(term) => {

@@ -11,7 +11,7 @@ ghost use Rattle.mz_unify.specs.Patterns.{AreOperandsFor, IsExact};
 ghost use Rattle.mz_unify.specs.Rows.{state_at};
 
 use crate::command::{Command, decoded};
-use crate::rows::{step, variables};
+use crate::rows::{kept_apart, step};
 use crate::stop::Stop;
 use crate::unified::{Unified, UnifyMode};
 use mz_cmd::{K, Steps, cmd_at};
@@ -54,6 +54,45 @@ pub fn unify<T: Terms, L: Ledger>(
     ensures most { steps.new ≤ steps.old + length stream.now }
 {
     let mut targets = Vec::new(*heap.allocator());
+    unify_in(
+        terms,
+        stream,
+        mode,
+        heap,
+        target,
+        &mut targets,
+        hyps,
+        store,
+        steps,
+    )
+}
+
+/// Runs a unify stream as `unify` does. Its targets stand in a list of the caller's, whatever that held.
+pub fn unify_in<T: Terms, L: Ledger>(
+    terms: &T,
+    stream: &[u8],
+    mode: UnifyMode,
+    heap: &mut Vec<Id>,
+    target: Id,
+    targets: &mut Vec<Id>,
+    hyps: &mut Vec<Item>,
+    store: &Store,
+    steps: &mut Steps<L>,
+) -> Unified
+    requires stream { length stream.now < 2 ^ 32 }
+    requires over { IsOver (signatures_of (T.all_terms terms.now)) store.now }
+    requires heap { AreIn store.now heap.old.items }
+    requires target { IsIn store.now target.0 }
+    requires hyps { AreItemsIn store.now hyps.old.items }
+    requires told { TellsAllOf store.now heap.old.items }
+    ensures run { IsRun (unify strict (signatures_of (T.all_terms terms.now)) store.now.context (matching_at store.now mode stream.now heap.old.items target hyps.old.items)) result (trees_at store.now heap.new.items) (items_at store.now hyps.new.items) }
+    ensures exact { (params : List Binder) → AreOperandsFor mode params (matching_at store.now mode stream.now heap.old.items target hyps.old.items) → IsExact mode (signatures_of (T.all_terms terms.now)) store.now.context params (matching_at store.now mode stream.now heap.old.items target hyps.old.items) result (trees_at store.now heap.new.items) (items_at store.now hyps.new.items) }
+    ensures taken { OnDone result (λ taken. AreLeft hyps.old.items hyps.new.items taken) }
+    ensures ids { OnDone result (λ _. AreIn store.now heap.new.items × AreItemsIn store.now hyps.new.items) }
+    ensures steps { UnlessMem result (steps.new ≡ steps.old + unify_steps strict (signatures_of (T.all_terms terms.now)) store.now.context (matching_at store.now mode stream.now heap.old.items target hyps.old.items)) }
+    ensures most { steps.new ≤ steps.old + length stream.now }
+{
+    targets.clear();
     let Ok(()) = targets.push(target) else {
         return Unified::Mem;
     };
@@ -65,25 +104,24 @@ fn run<L: Ledger>(
     stream: &[u8],
     mode: UnifyMode,
     heap: &mut Vec<Id>,
-    start: Vec<Id>,
+    targets: &mut Vec<Id>,
     hyps: &mut Vec<Item>,
     store: &Store,
     steps: &mut Steps<L>,
 ) -> Unified
     requires stream { length stream.now < 2 ^ 32 }
     requires heap { AreIn store.now heap.old.items }
-    requires targets { AreIn store.now start.items }
+    requires targets { AreIn store.now targets.old.items }
     requires hyps { AreItemsIn store.now hyps.old.items }
     requires told { TellsAllOf store.now heap.old.items }
-    ensures run { (sigs : List Signature) → IsOver sigs store.now → IsRun (unify_from strict sigs store.now.context (mode_of mode) (length stream.now) 0 stream.now (state_at store.now heap.old.items (trees_at store.now heap.old.items) start.items hyps.old.items)) result (trees_at store.now heap.new.items) (items_at store.now hyps.new.items) }
+    ensures run { (sigs : List Signature) → IsOver sigs store.now → IsRun (unify_from strict sigs store.now.context (mode_of mode) (length stream.now) 0 stream.now (state_at store.now heap.old.items (trees_at store.now heap.old.items) targets.old.items hyps.old.items)) result (trees_at store.now heap.new.items) (items_at store.now hyps.new.items) }
     ensures taken { OnDone result (λ taken. AreLeft hyps.old.items hyps.new.items taken) }
     ensures ids { OnDone result (λ _. AreIn store.now heap.new.items × AreItemsIn store.now hyps.new.items) }
-    ensures steps { (sigs : List Signature) → IsOver sigs store.now → UnlessMem result (steps.new ≡ steps.old + unify_steps_from strict sigs store.now.context (mode_of mode) (length stream.now) stream.now (state_at store.now heap.old.items (trees_at store.now heap.old.items) start.items hyps.old.items)) }
+    ensures steps { (sigs : List Signature) → IsOver sigs store.now → UnlessMem result (steps.new ≡ steps.old + unify_steps_from strict sigs store.now.context (mode_of mode) (length stream.now) stream.now (state_at store.now heap.old.items (trees_at store.now heap.old.items) targets.old.items hyps.old.items)) }
     ensures most { steps.new ≤ steps.old + length stream.now }
 {
     let held = hyps.len();
-    let mut targets = start;
-    let mut apart = variables(store, heap);
+    let mut apart = kept_apart(store, mode, heap);
     let mut at = 0;
     'commands: loop {
         let Ok(cmd) = cmd_at(stream, at) else {
@@ -93,7 +131,7 @@ fn run<L: Ledger>(
         let Some(next) = decoded(mode, cmd) else {
             return Unified::stopped(at, Stop::Rule(K::Command));
         };
-        if let Err(stop) = step(store, mode, next, heap, &mut apart, &mut targets, hyps) {
+        if let Err(stop) = step(store, mode, next, heap, &mut apart, targets, hyps) {
             return Unified::stopped(at, stop);
         }
         if let Command::End = next {

@@ -49,10 +49,10 @@ pub fn push_operands(targets: &mut Vec<Id>, operands: &[Id]) -> Result<(), Stop>
     ensures ok { OnOk result (targets.new.items ≡ targets.old.items ++ reverse operands.now) }
     ensures err { MatchResult result (λ _. ⊤) (λ stop. StopsBy stop (λ _. ⊥)) }
 {
-    let from = targets.len();
-    let Ok(()) = targets.extend_from_slice(operands) else {
-        return Err(Stop::Mem);
-    };
-    targets[from..].reverse();
+    let mut at = operands.len();
+    'operands: while at > 0 {
+        at -= 1;
+        push(targets, operands[at])?;
+    }
     Ok(())
 }

@@ -1,5 +1,5 @@
 pub mod Walking
-pub mod Numbers
+pub mod Keyed
 pub mod Places
 pub mod Indexed
 pub mod Offered

@@ -1,4 +1,3 @@
-pub mod Names
 pub mod View
 pub mod Dependencies
 pub mod Index

@@ -7,10 +7,10 @@ ghost use Rattle.mz_variables.specs.Dependencies.{Every, IsBoundAmong, dep_place
 ghost use Rattle.mz_variables.specs.View.{Variable as VariableLem};
 ghost use Rattle.mz_variables.specs.declared.variables.Variable.{Variable as VariableRead};
 
+use crate::index::NameIndex;
 use crate::variables::{Variable, dep_places, is_bound};
 use mz_grammar::Lexeme;
 use mz_logic::Deps;
-use mz_tokens::Places;
 use std::alloc::{AllocError, Global};
 
 /// Fewer variables than this are gone through faster than an index of them is made.
@@ -22,19 +22,19 @@ const FEW: usize = 16;
 /// # Errors
 ///
 /// Where there is no memory.
-pub fn places_of(
+pub fn places_of<'a>(
     alloc: Global,
-    variables: &[Variable<'_, '_>],
+    variables: &[Variable<'_, 'a>],
     are_asked: bool,
-) -> Result<Option<Places<u32>>, AllocError>
+) -> Result<Option<NameIndex<'a>>, AllocError>
     ensures { IfOk result (λ index. MatchOption index ⊤ (IsIndexOf (map variable_lem variables.now))) }
 {
     if !are_asked || variables.len() < FEW {
         return Ok(None);
     }
-    let mut places = Places::new(alloc);
+    let mut places = NameIndex::new(alloc);
     for (i, variable) in variables.iter().enumerate() {
-        let is_new = add_place(alloc, &mut places, i, variable)?;
+        let is_new = add_place(&mut places, i, variable)?;
         if !is_new {
             return Ok(None);
         }
@@ -43,47 +43,39 @@ pub fn places_of(
 }
 
 /// Adds the place of a variable, if it has a name; whether no other before it has the same.
-fn add_place(
-    alloc: Global,
-    places: &mut Places<u32>,
+fn add_place<'a>(
+    places: &mut NameIndex<'a>,
     place: usize,
-    variable: &Variable<'_, '_>,
+    variable: &Variable<'_, 'a>,
 ) -> Result<bool, AllocError>
     ensures { IfOk result (λ is_new. is_new ≡ true → (vs : List VariableLem) → slice_get vs place ≡ Some (variable_lem variable.now) → IsIndexUpTo place vs places.old → IsIndexUpTo (place + 1) vs places.new) }
 {
     match variable.name {
         None => Ok(true),
-        Some(name) => add_name(alloc, places, place, name),
+        Some(name) => add_name(places, place, name),
     }
 }
 
-/// Adds the place of a name that isn't there; whether it isn't.
-fn add_name(
-    alloc: Global,
-    places: &mut Places<u32>,
+/// Adds the place of a name; whether it had none.
+fn add_name<'a>(
+    places: &mut NameIndex<'a>,
     place: usize,
-    name: Lexeme<'_>,
+    name: Lexeme<'a>,
 ) -> Result<bool, AllocError>
     ensures { IfOk result (λ is_new. is_new ≡ true → (vs : List VariableLem) (v : VariableLem) → slice_get vs place ≡ Some v → v.name ≡ Some (lexeme name.entry) → IsIndexUpTo place vs places.old → IsIndexUpTo (place + 1) vs places.new) }
 {
     let Ok(number) = u32::try_from(place) else {
         return Ok(false);
     };
-    match places.get(name.bytes) {
-        Some(_) => Ok(false),
-        None => {
-            places.insert(alloc, name.bytes, number)?;
-            Ok(true)
-        }
-    }
+    places.insert(name.bytes, number)
 }
 
 /// Whether all of these are names of bound variables among the first ones.
-pub fn are_bound_before(
-    index: &Option<Places<u32>>,
-    variables: &[Variable<'_, '_>],
+pub fn are_bound_before<'a>(
+    index: &Option<NameIndex<'a>>,
+    variables: &[Variable<'_, 'a>],
     end: usize,
-    deps: &[Lexeme<'_>],
+    deps: &[Lexeme<'a>],
 ) -> bool
     requires index { MatchOption index.now ⊤ (IsIndexOf (map variable_lem variables.now)) }
     requires end { end ≤ length variables.now }
@@ -97,11 +89,11 @@ pub fn are_bound_before(
     true
 }
 
-fn is_bound_before(
-    index: &Option<Places<u32>>,
-    variables: &[Variable<'_, '_>],
+fn is_bound_before<'a>(
+    index: &Option<NameIndex<'a>>,
+    variables: &[Variable<'_, 'a>],
     end: usize,
-    dep: Lexeme<'_>,
+    dep: Lexeme<'a>,
 ) -> bool
     requires index { MatchOption index.now ⊤ (IsIndexOf (map variable_lem variables.now)) }
     requires end { end ≤ length variables.now }
@@ -113,11 +105,11 @@ fn is_bound_before(
     }
 }
 
-fn is_found_bound(
-    places: &Places<u32>,
-    variables: &[Variable<'_, '_>],
+fn is_found_bound<'a>(
+    places: &NameIndex<'a>,
+    variables: &[Variable<'_, 'a>],
     end: usize,
-    dep: Lexeme<'_>,
+    dep: Lexeme<'a>,
 ) -> bool
     requires index { IsIndexOf (map variable_lem variables.now) places.now }
     requires end { end ≤ length variables.now }
@@ -145,11 +137,11 @@ fn is_bound_within(variables: &[Variable<'_, '_>], end: usize, place: usize) -> 
 /// # Errors
 ///
 /// Where there is no memory.
-pub fn places_among(
+pub fn places_among<'a>(
     alloc: Global,
-    index: &Option<Places<u32>>,
-    variables: &[Variable<'_, '_>],
-    deps: &[Lexeme<'_>],
+    index: &Option<NameIndex<'a>>,
+    variables: &[Variable<'_, 'a>],
+    deps: &[Lexeme<'a>],
 ) -> Result<Deps, AllocError>
     requires index { MatchOption index.now ⊤ (IsIndexOf (map variable_lem variables.now)) }
     requires small { length variables.now < 2 ^ 32 }
@@ -165,10 +157,10 @@ pub fn places_among(
 }
 
 /// The places of these names in order, each once.
-fn sorted_places(
+fn sorted_places<'a>(
     alloc: Global,
-    places: &Places<u32>,
-    deps: &[Lexeme<'_>],
+    places: &NameIndex<'a>,
+    deps: &[Lexeme<'a>],
 ) -> Result<Deps, AllocError>
     ensures { IfOk result (λ found. (vs : List VariableLem) → IsIndexOf vs places.now → found ≡ dep_places_lem 0 vs (map lexeme deps.now)) }
 {
@@ -179,10 +171,10 @@ fn sorted_places(
 }
 
 /// The place of each of these names that is there.
-fn places_found(
+fn places_found<'a>(
     alloc: Global,
-    places: &Places<u32>,
-    deps: &[Lexeme<'_>],
+    places: &NameIndex<'a>,
+    deps: &[Lexeme<'a>],
 ) -> Result<Vec<u32>, AllocError>
     ensures { IfOk result (λ found. found.items ≡ found_in places.now (map lexeme deps.now)) }
 {

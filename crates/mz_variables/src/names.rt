@@ -1,6 +1,6 @@
 // The names of a space.
 ghost use Rattle.std.specs.Prelude.{◌≡◌, ◌<◌, ◌++◌, ◌∷◌, [], length, map, IfSome, OnOk};
-ghost use Rattle.mz_variables.specs.Names.{IsNew, number_of as number_lem};
+ghost use Rattle.mz_names.specs.Names.{IsNew, number_of as number_lem};
 
 use indexmap::IndexSet;
 use std::alloc::{AllocError, Global};
@@ -87,7 +87,7 @@ fn number_among(names: &[&[u8]], name: &[u8]) -> Option<usize>
     ensures within { IfSome result (λ n. n < length names.now) }
 {
     for (i, other) in names.iter().enumerate() {
-        if *other == name {
+        if name == *other {
             return Some(i);
         }
     }

@@ -14,12 +14,13 @@ ghost use Rattle.mz_earlier.specs.Before.{tables_of, signatures_of};
 ghost use Rattle.mz_machine.specs.OverStore.{with_stack, pop_unfolding, Gives, GivesRule, UnlessMem};
 ghost use Rattle.mz_unify.specs.Rows.{StopsBy};
 
+use crate::spare::Spare;
 use crate::stack::{pop, pop_conversion, pop_expr, pop_obligation, pop_proof};
 use mz_cmd::{K, Steps};
 use mz_earlier::{Earlier, put_back};
 use mz_logic::Terms;
 use mz_store::{Id, Item, Store};
-use mz_unify::{Stop, Unified, UnifyMode, push, unify};
+use mz_unify::{Stop, Unified, UnifyMode, push, unify_in};
 use std::sync::ledger::Ledger;
 
 /// From an expression and a proof below to a proof of the expression, which the obligation above is
@@ -109,6 +110,7 @@ pub(crate) fn unfold<L: Ledger>(
     earlier: &Earlier,
     store: &Store,
     stack: &mut Vec<Item>,
+    spare: &mut Spare,
     steps: &mut Steps<L>,
 ) -> Result<(), Stop>
     requires over { IsOver (signatures_of earlier.now) store.now }
@@ -129,20 +131,20 @@ pub(crate) fn unfold<L: Ledger>(
     if !earlier.has_body(term) {
         return Err(Stop::Rule(K::Unfold));
     }
-    let alloc = *stack.allocator();
-    let mut operands = Vec::new(alloc);
-    let Ok(()) = operands.extend_from_slice(store.args(left)) else {
+    spare.operands.clear();
+    let Ok(()) = spare.operands.extend_from_slice(store.args(left)) else {
         return Err(Stop::Mem);
     };
-    let mut none = Vec::new(alloc);
+    spare.hyps.clear();
     let stream = earlier.stream_of_term(term);
-    match unify(
+    match unify_in(
         earlier,
         stream,
         UnifyMode::Body,
-        &mut operands,
+        &mut spare.operands,
         unfolded,
-        &mut none,
+        &mut spare.targets,
+        &mut spare.hyps,
         store,
         steps,
     ) {

@@ -15,24 +15,24 @@ ghost use Rattle.mz_earlier.specs.Before.{tables_of, signatures_of};
 ghost use Rattle.mz_machine.specs.OverStore.{with_stack, Gives, UnlessMem, Grows};
 
 use crate::apart::are_apart;
-use crate::fitting::{check_operands, pop_operands};
+use crate::fitting::{check_cited, check_operands, pop_operands};
+use crate::spare::Spare;
 use crate::stack::pop_expr;
 use mz_cmd::{K, Steps};
 use mz_earlier::Earlier;
 use mz_layout::Row;
 use mz_logic::Terms;
 use mz_store::{Id, Item, Store};
-use mz_unify::{Stop, Unified, UnifyMode, push, unify};
-use std::alloc::Global;
+use mz_unify::{Stop, Unified, UnifyMode, push, unify_in};
 use std::sync::ledger::Ledger;
 
 /// Makes the application of a term to the operands on top, which it takes.
 fn build(
-    alloc: Global,
     earlier: &Earlier,
     t: u32,
     store: &mut Store,
     stack: &mut Vec<Item>,
+    operands: &mut Vec<Id>,
 ) -> Result<Id, Stop>
     requires over { IsOver (signatures_of earlier.now) store.old }
     requires stack { AreItemsIn store.old stack.old.items }
@@ -44,11 +44,11 @@ fn build(
     if t >= earlier.terms() {
         return Err(Stop::Rule(K::TermIndex));
     }
-    let operands = pop_operands(alloc, store, earlier.arity_of(Row::Term(t)), stack)?;
-    if let Err(rule) = check_operands(earlier, Row::Term(t), store, &operands) {
+    pop_operands(store, earlier.arity_of(Row::Term(t)), stack, operands)?;
+    if let Err(rule) = check_operands(earlier, Row::Term(t), store, operands) {
         return Err(Stop::Rule(rule));
     }
-    let Ok(made) = store.app(earlier, t, &operands) else {
+    let Ok(made) = store.app(earlier, t, operands) else {
         return Err(Stop::Mem);
     };
     Ok(made)
@@ -56,11 +56,11 @@ fn build(
 
 /// Makes the application of a term to the operands on top, and puts it in their place.
 pub(crate) fn term(
-    alloc: Global,
     earlier: &Earlier,
     t: u32,
     store: &mut Store,
     stack: &mut Vec<Item>,
+    operands: &mut Vec<Id>,
 ) -> Result<Id, Stop>
     requires over { IsOver (signatures_of earlier.now) store.old }
     requires stack { AreItemsIn store.old stack.old.items }
@@ -70,7 +70,7 @@ pub(crate) fn term(
     ensures plain { (at : ℕ) (st : State Tree) → st.ctx ≡ store.old.context → st.stack ≡ items_at store.old stack.old.items → Gives (proof_row strict (tables_of earlier.now) at code.Term t st) result (λ _. with_stack st (items_at store.new stack.new.items)) }
     ensures saved { (at : ℕ) (st : State Tree) → st.ctx ≡ store.old.context → st.stack ≡ items_at store.old stack.old.items → Gives (proof_row strict (tables_of earlier.now) at code.TermSave t st) result (λ id. record (with_stack st (items_at store.new stack.new.items)) { heap = st.heap ++ expr (tree_of store.new id.0) ∷ [] }) }
 {
-    let made = build(alloc, earlier, t, store, stack)?;
+    let made = build(earlier, t, store, stack, operands)?;
     push(stack, Item::Expr(made))?;
     Ok(made)
 }
@@ -78,11 +78,11 @@ pub(crate) fn term(
 /// Cites an axiom or theorem for the expression on top, with the operands below: its stream runs on
 /// the expression, of which a proof stands then in their place, and takes the hypotheses.
 pub(crate) fn thm<L: Ledger>(
-    alloc: Global,
     earlier: &Earlier,
     t: u32,
     store: &Store,
     stack: &mut Vec<Item>,
+    spare: &mut Spare,
     steps: &mut Steps<L>,
 ) -> Result<Id, Stop>
     requires over { IsOver (signatures_of earlier.now) store.now }
@@ -94,14 +94,15 @@ pub(crate) fn thm<L: Ledger>(
     ensures steps { (st : State Tree) → st.ctx ≡ store.now.context → st.stack ≡ items_at store.now stack.old.items → UnlessMem result (steps.new ≡ steps.old + row_steps strict (tables_of earlier.now) code.Thm t st) }
     ensures most { steps.new ≤ steps.old + length earlier.now.file }
 {
-    let (target, mut operands) = take_citation(alloc, earlier, t, store, stack)?;
+    let target = take_citation(earlier, t, store, stack, spare)?;
     let stream = earlier.stream_of_thm(t);
-    match unify(
+    match unify_in(
         earlier,
         stream,
         UnifyMode::Use,
-        &mut operands,
+        &mut spare.operands,
         target,
+        &mut spare.targets,
         stack,
         store,
         steps,
@@ -115,21 +116,21 @@ pub(crate) fn thm<L: Ledger>(
     }
 }
 
-/// What a citation takes: the expression on top, and the operands below it, which fit their
-/// parameters and are apart.
+/// What a citation takes: the expression on top, and for the list of operands those below it, which fit
+/// their parameters and are apart.
 fn take_citation(
-    alloc: Global,
     earlier: &Earlier,
     t: u32,
     store: &Store,
     stack: &mut Vec<Item>,
-) -> Result<(Id, Vec<Id>), Stop>
+    spare: &mut Spare,
+) -> Result<Id, Stop>
     requires over { IsOver (signatures_of earlier.now) store.now }
     requires mode { store.now.mode ≡ All }
     requires stack { AreItemsIn store.now stack.old.items }
     ensures there { OnOk result (t < earlier.now.rows.thms) }
-    ensures ids { IfOk result (λ cited. IsIn store.now cited.0.0 × AreIn store.now cited.1.items × AreItemsIn store.now stack.new.items) }
-    ensures taken { (st : State Tree) → st.ctx ≡ store.now.context → st.stack ≡ items_at store.now stack.old.items → Gives (citation strict (tables_of earlier.now) t st) result (λ cited. matching_at store.now Use (drop (thm_row earlier.now.file t).stream_at earlier.now.file) cited.1.items cited.0 stack.new.items) }
+    ensures ids { IfOk result (λ target. IsIn store.now target.0 × AreIn store.now spare.new.operands.items × AreItemsIn store.now stack.new.items) }
+    ensures taken { (st : State Tree) → st.ctx ≡ store.now.context → st.stack ≡ items_at store.now stack.old.items → Gives (citation strict (tables_of earlier.now) t st) result (λ target. matching_at store.now Use (drop (thm_row earlier.now.file t).stream_at earlier.now.file) spare.new.operands.items target stack.new.items) }
 {
     if t >= earlier.thms() {
         return Err(Stop::Rule(K::TheoremIndex));
@@ -142,15 +143,16 @@ fn take_citation(
         Ok(target) => target,
         Err(rule) => return Err(Stop::Rule(rule)),
     };
-    let operands = pop_operands(alloc, store, arity, stack)?;
-    if let Err(rule) = check_operands(earlier, Row::Thm(t), store, &operands) {
-        return Err(Stop::Rule(rule));
-    }
-    let Ok(apart) = are_apart(alloc, earlier, Row::Thm(t), store, &operands) else {
-        return Err(Stop::Mem);
-    };
-    if !apart {
+    pop_operands(store, arity, stack, &mut spare.operands)?;
+    check_cited(
+        earlier,
+        Row::Thm(t),
+        store,
+        &spare.operands,
+        &mut spare.bound,
+    )?;
+    if !are_apart(earlier, Row::Thm(t), store, &spare.operands, &spare.bound) {
         return Err(Stop::Rule(K::Disjoint));
     }
-    Ok((target, operands))
+    Ok(target)
 }

@@ -2,7 +2,7 @@
 use super::files::{DUMMY, FOLD, GEN, IMP, ONE};
 use super::words_of;
 use mz_io::{MemFolder, MemSink};
-use mz_tool::{Status, run};
+use mz_tool::{Seed, Status, run};
 use std::alloc::{AllocError, Global};
 use std::test::Fail;
 
@@ -18,7 +18,13 @@ fn ended(
     folder.add("list", list)?;
     folder.room("out", 4096)?;
     let mut out = MemSink::new(alloc, 4096)?;
-    let status = run(alloc, &words_of(alloc, line)?, &mut folder, &mut out);
+    let status = run(
+        alloc,
+        Seed::FIXED,
+        &words_of(alloc, line)?,
+        &mut folder,
+        &mut out,
+    );
     Ok((status, folder, out))
 }
 

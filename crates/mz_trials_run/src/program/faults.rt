@@ -2,7 +2,7 @@
 use crate::program::files::{DUMMY, ONE, ONE_SPEC};
 use crate::program::{expect, words_of};
 use mz_io::{Folder, MemFolder, MemSink};
-use mz_tool::{Status, run};
+use mz_tool::{Seed, Status, run};
 use std::alloc::{AllocError, Global};
 use std::test::Fail;
 
@@ -68,7 +68,13 @@ fn ended_alone(
     folder.add("bin", ONE)?;
     folder.fail_call(failing)?;
     let mut out = MemSink::new(alloc, 100)?;
-    let status = run(alloc, &words_of(alloc, line)?, &mut folder, &mut out);
+    let status = run(
+        alloc,
+        Seed::FIXED,
+        &words_of(alloc, line)?,
+        &mut folder,
+        &mut out,
+    );
     Ok((status, out, folder.start("bin").is_err()))
 }
 
@@ -115,7 +121,13 @@ fn a_full_sink_holds_a_prefix(rt: HostRuntime) -> Result<(), Fail> {
     folder.add("bin", DUMMY)?;
     let mut out = MemSink::new(alloc, 11)?;
     out.take_at_most(1);
-    let status = run(alloc, &words_of(alloc, "show bin")?, &mut folder, &mut out);
+    let status = run(
+        alloc,
+        Seed::FIXED,
+        &words_of(alloc, "show bin")?,
+        &mut folder,
+        &mut out,
+    );
     assert!(rt; status == Status::OutFault, "less room than the listing");
     assert!(rt;
         out.bytes() == b"sort 0 4\nso".as_slice(),
@@ -172,12 +184,12 @@ fn want_of_memory_is_told(rt: HostRuntime) -> Result<(), Fail> {
         let Some(held) = take_all(alloc)? else {
             return Ok(());
         };
-        let status = run(alloc, &words, &mut folder, &mut out);
+        let status = run(alloc, Seed::FIXED, &words, &mut folder, &mut out);
         drop(held);
         assert!(rt; status == Status::Memory, "{line} without memory");
         assert!(rt; out.bytes().is_empty(), "{line} without memory");
         assert!(rt; folder.file("out").is_none(), "{line} without memory");
-        let status = run(alloc, &words, &mut folder, &mut out);
+        let status = run(alloc, Seed::FIXED, &words, &mut folder, &mut out);
         assert!(rt; status == Status::Done, "{line} with memory again");
     }
     Ok(())

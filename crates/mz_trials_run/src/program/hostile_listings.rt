@@ -4,7 +4,7 @@ use crate::program::change::{Change, changed, with_byte};
 use crate::program::listings::{COMMANDS_LISTING, DUMMY_LISTING, FOLD_LISTING};
 use crate::program::{hostile_sheets, words_of};
 use mz_io::{MemFolder, MemSink};
-use mz_tool::{Status, run};
+use mz_tool::{Seed, Status, run};
 use std::alloc::{AllocError, Global};
 use std::process::Abort;
 use std::test::Fail;
@@ -108,7 +108,7 @@ fn assembled(alloc: Global, listing: &[u8]) -> Result<(Status, MemFolder, MemSin
     folder.room("out", 4096)?;
     let mut out = MemSink::new(alloc, 200)?;
     let words = words_of(alloc, "assemble list out")?;
-    let status = run(alloc, &words, &mut folder, &mut out);
+    let status = run(alloc, Seed::FIXED, &words, &mut folder, &mut out);
     Ok((status, folder, out))
 }
 

@@ -1,10 +1,7 @@
-use Rattle.std.proofs.Common.{ℕ, sym, subst, arith}
-use Rattle.mz_cmd.specs.Codes.{statement_code}
-use Rattle.mz_binary.proofs.Offered.{head-at}
-use Rattle.mz_layout.specs.declared.taken.Rows.{Rows}
+use Rattle.std.proofs.Common.{sym, subst, arith}
 use Rattle.mz_phrasing.specs.Naming.{vocabulary_by}
-use Rattle.mz_decompile.specs.Standing.{no_rows}
-use Rattle.mz_decompile.proofs.Walking.{AreLow, IsWriting, writing-first, writing-stands, writing-more, writing-last, low-more}
+use Rattle.mz_walk.specs.declared.passed.Passed.{Passed}
+use Rattle.mz_decompile.proofs.Walking.{IsWriting, writing-asks, writing-first, writing-stands, writing-more, writing-last}
 use Rattle.mz_decompile.proofs.lines.text.Goals as goal
 
 pub statements-init : goal.statements-init
@@ -13,79 +10,47 @@ statements-init c =
     let names = c.args.names.now in
     let v = vocabulary_by names in
     record {
-      each = λ all are. subst (λ (n : ℕ). IsWriting file names v no_rows n c.new-out.result.items all) (sym c.proof_at-at.ensures.place)
+      each = λ all are. subst (λ (p : Passed). IsWriting file names v p c.new-out.result.items all) (sym c.nothing-passed.ensures.nothing)
           (writing-first file names v c.new-out.result.items all c.new-out.ensures.items are);
-      within = c.proof_at-at.ensures.within;
-      rows_low = record { sorts = omega arith; terms = omega arith; thms = omega arith };
+      placed = c.nothing-passed.ensures.placed;
     }
+
+pub next-requires-clause-placed : goal.next-requires-clause-placed
+next-requires-clause-placed c = c.statements.invariant.placed
+
+pub next-requires-clause-good : goal.next-requires-clause-good
+next-requires-clause-good c =
+    let names = c.args.names.now in
+    writing-asks c.args.mmb.now names (vocabulary_by names) c.statements.passed c.statements.out.items c.requires.0 (c.statements.invariant.each c.requires.0 c.requires.1)
 
 pub put_line-requires : goal.put_line-requires
 put_line-requires c =
-    let file = c.args.mmb.now in
     let names = c.args.names.now in
-    writing-stands file names (vocabulary_by names) c.statements.before c.statements.at c.statements.out.items c.requires.0 (c.statements.invariant.each c.requires.0 c.requires.1)
-    c.in-Some.head c.in-Some.ensures.there
-
-pub rows_with-before-requires-clause-sorts : goal.rows_with-before-requires-clause-sorts
-rows_with-before-requires-clause-sorts c =
-    let head = c.in-Some.head in
-    let stands = head-at c.args.mmb.now c.statements.at head.code head.body head.next c.in-Some.ensures.there in
-    let low = c.statements.invariant.rows_low.sorts in
-    let a = stands.further in
-    let b = stands.within in
-    let fits = c.proof_at-at.ensures.binary.fits in
-    omega (arith, low, a, b, fits)
-
-pub rows_with-before-requires-clause-terms : goal.rows_with-before-requires-clause-terms
-rows_with-before-requires-clause-terms c =
-    let head = c.in-Some.head in
-    let stands = head-at c.args.mmb.now c.statements.at head.code head.body head.next c.in-Some.ensures.there in
-    let low = c.statements.invariant.rows_low.terms in
-    let a = stands.further in
-    let b = stands.within in
-    let fits = c.proof_at-at.ensures.binary.fits in
-    omega (arith, low, a, b, fits)
-
-pub rows_with-before-requires-clause-thms : goal.rows_with-before-requires-clause-thms
-rows_with-before-requires-clause-thms c =
-    let head = c.in-Some.head in
-    let stands = head-at c.args.mmb.now c.statements.at head.code head.body head.next c.in-Some.ensures.there in
-    let low = c.statements.invariant.rows_low.thms in
-    let a = stands.further in
-    let b = stands.within in
-    let fits = c.proof_at-at.ensures.binary.fits in
-    omega (arith, low, a, b, fits)
+    writing-stands c.args.mmb.now names (vocabulary_by names) c.statements.passed c.statements.out.items c.requires.0 (c.statements.invariant.each c.requires.0 c.requires.1)
+    c.in-Some.head c.in-Some.after c.in-Some.ensures.goes_on
 
 pub statements-smaller : goal.statements-smaller
 statements-smaller c =
-    let head = c.in-Some.head in
-    let stands = head-at c.args.mmb.now c.statements.at head.code head.body head.next c.in-Some.ensures.there in
-    let a = stands.further in
-    let b = stands.within in
-    omega (arith, a, b)
+    let further = c.in-Some.ensures.goes_on.further in
+    let within = c.in-Some.ensures.goes_on.placed.within in
+    omega (arith, further, within)
 
 pub statements-preserved : goal.statements-preserved
 statements-preserved c =
     let file = c.args.mmb.now in
     let names = c.args.names.now in
     let v = vocabulary_by names in
-    let head = c.in-Some.head in
-    let stands = head-at file c.statements.at head.code head.body head.next c.in-Some.ensures.there in
-    let a = stands.further in
+    let on = c.in-Some.ensures.goes_on in
     record {
       each = λ all are.
           let m = c.statements.invariant.each all are in
-          let some = writing-stands file names v c.statements.before c.statements.at c.statements.out.items all m head c.in-Some.ensures.there in
-          subst (λ (rows : Rows). IsWriting file names v rows head.next c.put_line.new.out.items all) (sym c.rows_with-before.ensures)
-          (writing-more file names v c.statements.before c.statements.at c.statements.out.items all m head c.in-Some.ensures.there c.put_line.new.out.items (c.in_ok-put_line.ensures some.0
-          some.1 some.2));
-      within = stands.within;
-      rows_low = subst (λ (rows : Rows). AreLow head.next rows) (sym c.rows_with-before.ensures) (low-more c.statements.at head.next c.statements.before (statement_code head.code)
-          c.statements.invariant.rows_low a);
+          let some = writing-stands file names v c.statements.passed c.statements.out.items all m c.in-Some.head c.in-Some.after on in
+          writing-more file names v c.statements.passed c.statements.out.items all m c.in-Some.head c.in-Some.after on c.put_line.new.out.items
+          (c.in_ok-put_line.ensures some.0 some.1 some.2);
+      placed = on.placed;
     }
 
 pub returns : goal.returns
 returns c all are =
-    let file = c.args.mmb.now in
     let names = c.args.names.now in
-    writing-last file names (vocabulary_by names) c.statements.before c.statements.at c.statements.out.items all (c.statements.invariant.each all are) c.in_default.ensures.none
+    writing-last c.args.mmb.now names (vocabulary_by names) c.statements.passed c.statements.out.items all (c.statements.invariant.each all are) c.in_default.ensures.ends

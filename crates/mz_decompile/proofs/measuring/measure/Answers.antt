@@ -1,11 +1,8 @@
-use Rattle.std.proofs.Common.{◌+◌, ℕ, refl, sym, subst, arith}
-use Rattle.mz_cmd.specs.Codes.{statement_code}
-use Rattle.mz_binary.proofs.Offered.{head-at}
-use Rattle.mz_layout.specs.declared.taken.Rows.{Rows}
+use Rattle.std.proofs.Common.{refl, sym, subst, arith}
 use Rattle.mz_phrasing.specs.Naming.{vocabulary_by}
-use Rattle.mz_decompile.specs.Standing.{no_rows}
+use Rattle.mz_walk.specs.declared.passed.Passed.{Passed}
 use Rattle.mz_decompile.specs.declared.measuring.Sizes.{Sizes}
-use Rattle.mz_decompile.proofs.Walking.{AreLow, IsMeasuring, measuring-first, some-stands, measuring-deep, measuring-more, measuring-last, low-more, deep-if, low-unless}
+use Rattle.mz_decompile.proofs.Walking.{IsMeasuring, measuring-asks, measuring-first, measuring-stands, measuring-deep, measuring-more, measuring-last, deep-if, low-unless}
 use Rattle.mz_decompile.proofs.measuring.measure.Goals as goal
 
 pub statements-init : goal.statements-init
@@ -15,28 +12,23 @@ statements-init c =
     let v = vocabulary_by names in
     let s : Sizes = record { len = 0; weight = 0 } in
     record {
-      each = λ all are. subst (λ (n : ℕ). IsMeasuring file names v no_rows n 0 s all) (sym c.proof_at-at.ensures.place) (measuring-first file names v s all refl refl are);
-      within = c.proof_at-at.ensures.within;
-      low = omega arith;
-      rows_low = record { sorts = omega arith; terms = omega arith; thms = omega arith };
+      each = λ all are. subst (λ (p : Passed). IsMeasuring file names v p s all) (sym c.nothing-passed.ensures.nothing) (measuring-first file names v s all refl refl are);
+      placed = c.nothing-passed.ensures.placed;
     }
 
-pub overflow_add-number : goal.overflow_add-number
-overflow_add-number c =
-    let head = c.in-Some.head in
-    let stands = head-at c.args.mmb.now c.statements.at head.code head.body head.next c.in-Some.ensures.there in
-    let low = c.statements.invariant.low in
-    let a = stands.further in
-    let b = stands.within in
-    let fits = c.proof_at-at.ensures.binary.fits in
-    omega (arith, low, a, b, fits)
+pub next-requires-clause-placed : goal.next-requires-clause-placed
+next-requires-clause-placed c = c.statements.invariant.placed
+
+pub next-requires-clause-good : goal.next-requires-clause-good
+next-requires-clause-good c =
+    let names = c.args.names.now in
+    measuring-asks c.args.mmb.now names (vocabulary_by names) c.statements.passed c.statements.so_far c.requires.0 (c.statements.invariant.each c.requires.0 c.requires.1)
 
 pub line_of-requires : goal.line_of-requires
 line_of-requires c =
-    let file = c.args.mmb.now in
     let names = c.args.names.now in
-    some-stands file names (vocabulary_by names) c.statements.before c.statements.at c.statements.number c.statements.so_far c.requires.0 (c.statements.invariant.each c.requires.0 c.requires.1)
-    c.in-Some.head c.in-Some.ensures.there
+    measuring-stands c.args.mmb.now names (vocabulary_by names) c.statements.passed c.statements.so_far c.requires.0 (c.statements.invariant.each c.requires.0 c.requires.1)
+    c.in-Some.head c.in-Some.after c.in-Some.ensures.goes_on
 
 pub returns-then-line : goal.returns-then-line
 returns-then-line c all are =
@@ -44,77 +36,35 @@ returns-then-line c all are =
     let names = c.args.names.now in
     let v = vocabulary_by names in
     let m = c.statements.invariant.each all are in
-    let head = c.in-Some.head in
-    let stands = some-stands file names v c.statements.before c.statements.at c.statements.number c.statements.so_far all m head c.in-Some.ensures.there in
-    measuring-deep file names v c.statements.before c.statements.at c.statements.number c.statements.so_far all m head c.in-Some.ensures.there
-    (deep-if v stands.0 stands.1 c.in_ok-line.line (c.in_ok-line.ensures stands.0 stands.1 stands.2) c.if-line.true)
-
-pub rows_with-before-requires-clause-sorts : goal.rows_with-before-requires-clause-sorts
-rows_with-before-requires-clause-sorts c =
-    let head = c.in-Some.head in
-    let stands = head-at c.args.mmb.now c.statements.at head.code head.body head.next c.in-Some.ensures.there in
-    let low = c.statements.invariant.rows_low.sorts in
-    let a = stands.further in
-    let b = stands.within in
-    let fits = c.proof_at-at.ensures.binary.fits in
-    omega (arith, low, a, b, fits)
-
-pub rows_with-before-requires-clause-terms : goal.rows_with-before-requires-clause-terms
-rows_with-before-requires-clause-terms c =
-    let head = c.in-Some.head in
-    let stands = head-at c.args.mmb.now c.statements.at head.code head.body head.next c.in-Some.ensures.there in
-    let low = c.statements.invariant.rows_low.terms in
-    let a = stands.further in
-    let b = stands.within in
-    let fits = c.proof_at-at.ensures.binary.fits in
-    omega (arith, low, a, b, fits)
-
-pub rows_with-before-requires-clause-thms : goal.rows_with-before-requires-clause-thms
-rows_with-before-requires-clause-thms c =
-    let head = c.in-Some.head in
-    let stands = head-at c.args.mmb.now c.statements.at head.code head.body head.next c.in-Some.ensures.there in
-    let low = c.statements.invariant.rows_low.thms in
-    let a = stands.further in
-    let b = stands.within in
-    let fits = c.proof_at-at.ensures.binary.fits in
-    omega (arith, low, a, b, fits)
+    let on = c.in-Some.ensures.goes_on in
+    let some = measuring-stands file names v c.statements.passed c.statements.so_far all m c.in-Some.head c.in-Some.after on in
+    measuring-deep file names v c.statements.passed c.statements.so_far all m c.in-Some.head c.in-Some.after on
+    (deep-if v some.0 some.1 c.in_ok-line.line (c.in_ok-line.ensures some.0 some.1 some.2) c.if-line.true)
 
 pub statements-smaller : goal.statements-smaller
 statements-smaller c =
-    let head = c.in-Some.head in
-    let stands = head-at c.args.mmb.now c.statements.at head.code head.body head.next c.in-Some.ensures.there in
-    let a = stands.further in
-    let b = stands.within in
-    omega (arith, a, b)
+    let further = c.in-Some.ensures.goes_on.further in
+    let within = c.in-Some.ensures.goes_on.placed.within in
+    omega (arith, further, within)
 
 pub statements-preserved : goal.statements-preserved
 statements-preserved c =
     let file = c.args.mmb.now in
     let names = c.args.names.now in
     let v = vocabulary_by names in
-    let head = c.in-Some.head in
-    let stands = head-at file c.statements.at head.code head.body head.next c.in-Some.ensures.there in
-    let low = c.statements.invariant.low in
-    let a = stands.further in
+    let on = c.in-Some.ensures.goes_on in
     record {
       each = λ all are.
           let m = c.statements.invariant.each all are in
-          let some = some-stands file names v c.statements.before c.statements.at c.statements.number c.statements.so_far all m head c.in-Some.ensures.there in
+          let some = measuring-stands file names v c.statements.passed c.statements.so_far all m c.in-Some.head c.in-Some.after on in
           let line = c.in_ok-line.ensures some.0 some.1 some.2 in
-          subst (λ (rows : Rows). IsMeasuring file names v rows head.next (c.statements.number + 1) c.plus-so_far.result all) (sym c.rows_with-before.ensures)
-          (measuring-more file names v c.statements.before c.statements.at c.statements.number c.statements.so_far all m head c.in-Some.ensures.there c.in_ok-line.line.sizes
-          c.plus-so_far.result line.sizes
-          (low-unless v some.0 some.1 c.in_ok-line.line line c.if-line.false) c.plus-so_far.ensures.len c.plus-so_far.ensures.weight);
-      within = stands.within;
-      low = omega (arith, low, a);
-      rows_low = subst (λ (rows : Rows). AreLow head.next rows) (sym c.rows_with-before.ensures) (low-more c.statements.at head.next c.statements.before (statement_code head.code)
-          c.statements.invariant.rows_low a);
+          measuring-more file names v c.statements.passed c.statements.so_far all m c.in-Some.head c.in-Some.after on c.in_ok-line.line.sizes c.plus-so_far.result line.sizes
+          (low-unless v some.0 some.1 c.in_ok-line.line line c.if-line.false) c.plus-so_far.ensures.len c.plus-so_far.ensures.weight;
+      placed = on.placed;
     }
 
 pub returns : goal.returns
 returns c all are =
-    let file = c.args.mmb.now in
     let names = c.args.names.now in
-    let v = vocabulary_by names in
-    let last = measuring-last file names v c.statements.before c.statements.at c.statements.number c.statements.so_far all (c.statements.invariant.each all are) c.in_default.ensures.none in
+    let last = measuring-last c.args.mmb.now names (vocabulary_by names) c.statements.passed c.statements.so_far all (c.statements.invariant.each all are) c.in_default.ensures.ends in
     (last.depths, last.text, last.weights)

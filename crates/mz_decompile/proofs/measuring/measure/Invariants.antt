@@ -1,17 +1,16 @@
-use Rattle.std.proofs.Common.{◌≤◌, ◌-◌, List, length}
+use Rattle.std.proofs.Common.{◌-◌, List, length}
 use Rattle.mz_forms.specs.Proof.{Statement}
 use Rattle.mz_phrasing.specs.Naming.{vocabulary_by}
+use Rattle.mz_walk.specs.Walk.{IsPlaced}
 use Rattle.mz_decompile.specs.Standing.{AreAll}
-use Rattle.mz_decompile.proofs.Walking.{AreLow, IsMeasuring}
+use Rattle.mz_decompile.proofs.Walking.{IsMeasuring}
 use Rattle.mz_decompile.proofs.measuring.measure.Given as goal
 
 abbrev pub invariant-statements : goal.invariant-statements
 invariant-statements l = record {
-  each : (all : List Statement) → AreAll l.mmb l.names all → IsMeasuring l.mmb l.names (vocabulary_by l.names) l.before l.at l.number l.so_far all;
-  within : l.at ≤ length l.mmb;
-  low : l.number ≤ l.at;
-  rows_low : AreLow l.at l.before;
+  each : (all : List Statement) → AreAll l.mmb l.names all → IsMeasuring l.mmb l.names (vocabulary_by l.names) l.passed l.so_far all;
+  placed : IsPlaced l.mmb l.passed;
 }
 
 abbrev pub decreases-statements : goal.decreases-statements
-decreases-statements l = length l.mmb - l.at
+decreases-statements l = length l.mmb - l.passed.at

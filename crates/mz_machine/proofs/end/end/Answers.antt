@@ -86,7 +86,7 @@ returns-clause-row g c heap =
     let last = ap (λ (k : Kind). last_item k st.stack) is ∙ c.in-Ok.ensures.last in
     let ends = ap (λ (k : Kind). ending strict (tables_of E) h st k (tree_of s c.in-Ok.target.0)) is ∙ c.in_default.ensures st refl in
     let m = is-ending (tables_of E) h st _ _ last ends in
-    let own = own-matching h st kind s c.own_stream-stream.result.now c.in-Ok-first_ids.operands.items c.in-Ok.target c.in-Ok-own_proofs.proofs.items c.own_stream-stream.ensures.stream (ap (trees_at s) (c.in-Ok-first_ids.ensures ∙ ap first_ids c.own_arity.ensures.params) ∙ first-trees s _ c.requires.params) (ap (items_at s) c.in-Ok-own_proofs.ensures ∙ own-items s kind c.args.hyps.now) in
+    let own = own-matching h st kind s c.own_stream-stream.result.now c.first_ids.new.ids.items c.in-Ok.target c.own_proofs.new.items.items c.own_stream-stream.ensures.stream (ap (trees_at s) (c.in-Ok-first_ids.ensures ∙ ap first_ids c.own_arity.ensures.params) ∙ first-trees s _ c.requires.params) (ap (items_at s) c.in-Ok-own_proofs.ensures ∙ own-items s kind c.args.hyps.now) in
     own-end (tables_of E) h st _ c.run_own.result m (subst (λ n. IsOwnRun (unify strict (signatures_of E) s.context n) c.run_own.result) own c.run_own.ensures.run)
 
 pub returns-clause-steps : goal.returns-clause-steps
@@ -100,5 +100,5 @@ returns-clause-steps g c heap =
     let last = ap (λ (k : Kind). last_item k st.stack) is ∙ c.in-Ok.ensures.last in
     let ends = ap (λ (k : Kind). ending strict (tables_of E) h st k (tree_of s c.in-Ok.target.0)) is ∙ c.in_default.ensures st refl in
     let m = is-ending (tables_of E) h st _ _ last ends in
-    let own = own-matching h st kind s c.own_stream-stream.result.now c.in-Ok-first_ids.operands.items c.in-Ok.target c.in-Ok-own_proofs.proofs.items c.own_stream-stream.ensures.stream (ap (trees_at s) (c.in-Ok-first_ids.ensures ∙ ap first_ids c.own_arity.ensures.params) ∙ first-trees s _ c.requires.params) (ap (items_at s) c.in-Ok-own_proofs.ensures ∙ own-items s kind c.args.hyps.now) in
+    let own = own-matching h st kind s c.own_stream-stream.result.now c.first_ids.new.ids.items c.in-Ok.target c.own_proofs.new.items.items c.own_stream-stream.ensures.stream (ap (trees_at s) (c.in-Ok-first_ids.ensures ∙ ap first_ids c.own_arity.ensures.params) ∙ first-trees s _ c.requires.params) (ap (items_at s) c.in-Ok-own_proofs.ensures ∙ own-items s kind c.args.hyps.now) in
     unless-more c.run_own.result _ _ _ _ c.run_own.ensures.steps (end-steps (tables_of E) h st _ m ∙ sym (ap (λ n. unify_steps strict (signatures_of E) s.context n) own))

@@ -1,4 +1,4 @@
-use Rattle.std.proofs.Common.{◌≡◌, ◌↔◌, ◌∙◌, List, map, take, ap, sym, subst}
+use Rattle.std.proofs.Common.{◌↔◌, List, map, sym, subst}
 use Rattle.std.specs.Prelude.{IsTrue, option_map}
 use Rattle.std.proofs.Math.Seq.{take-length}
 use Rattle.mz_grammar.specs.Code.{lexeme, type_text}

@@ -4,7 +4,7 @@ use Rattle.mz_store.proofs.chain.find.Goals as goal
 use Rattle.mz_store.proofs.chain.find.Goals.{else-made-head-via-then-made-head+else-are_same, else-made-head-via-else-made-head}
 
 pub chain-init : goal.chain-init
-chain-init c = sought-first c.args.operands.now c.args.nodes.now c.args.head c.args.args.now c.args.newest c.requires.newest
+chain-init c = sought-first c.args.operands.now c.args.nodes.now c.args.head c.args.args.now c.args.newest c.requires
 
 pub returns-in_default-clause-none : goal.returns-in_default-clause-none
 returns-in_default-clause-none c = sought-none c.args.operands.now c.args.nodes.now c.args.head c.args.args.now (subst (IsSought c.args.operands.now c.args.nodes.now c.args.head c.args.args.now) c.in_default.is c.chain.invariant)
@@ -13,10 +13,10 @@ pub returns-in_default-form-clause-none : goal.returns-in_default-form-clause-no
 returns-in_default-form-clause-none c = λ i node. absurd (next-term c.args.operands.now c.args.nodes.now c.args.head c.args.args.now c.in-Some.id _ (subst (IsSought c.args.operands.now c.args.nodes.now c.args.head c.args.args.now) c.in-Some.is c.chain.invariant) c.in_default-form.field-0 c.in_default-form.is)
 
 pub part-requires-clause-order : goal.part-requires-clause-order
-part-requires-clause-order c = (next-order c.args.operands.now c.args.nodes.now c.in-Some.id _ c.in-Application.made c.requires.linked (next-within c.args.operands.now c.args.nodes.now c.args.head c.args.args.now c.in-Some.id (subst (IsSought c.args.operands.now c.args.nodes.now c.args.head c.args.args.now) c.in-Some.is c.chain.invariant)) c.in-Application.is).0
+part-requires-clause-order c = (next-order c.requires.0 c.args.operands.now c.args.nodes.now c.in-Some.id _ c.in-Application.made c.requires.1 (next-within c.args.operands.now c.args.nodes.now c.args.head c.args.args.now c.in-Some.id (subst (IsSought c.args.operands.now c.args.nodes.now c.args.head c.args.args.now) c.in-Some.is c.chain.invariant)) c.in-Application.is).0
 
 pub part-requires-clause-within : goal.part-requires-clause-within
-part-requires-clause-within c = (next-order c.args.operands.now c.args.nodes.now c.in-Some.id _ c.in-Application.made c.requires.linked (next-within c.args.operands.now c.args.nodes.now c.args.head c.args.args.now c.in-Some.id (subst (IsSought c.args.operands.now c.args.nodes.now c.args.head c.args.args.now) c.in-Some.is c.chain.invariant)) c.in-Application.is).1
+part-requires-clause-within c = (next-order c.requires.0 c.args.operands.now c.args.nodes.now c.in-Some.id _ c.in-Application.made c.requires.1 (next-within c.args.operands.now c.args.nodes.now c.args.head c.args.args.now c.in-Some.id (subst (IsSought c.args.operands.now c.args.nodes.now c.args.head c.args.args.now) c.in-Some.is c.chain.invariant)) c.in-Application.is).1
 
 pub returns-then-are_same-clause-some : goal.returns-then-are_same-clause-some
 returns-then-are_same-clause-some c = next-found c.args.operands.now c.args.nodes.now c.args.head c.args.args.now c.in-Some.id _ c.in-Application.made (next-within c.args.operands.now c.args.nodes.now c.args.head c.args.args.now c.in-Some.id (subst (IsSought c.args.operands.now c.args.nodes.now c.args.head c.args.args.now) c.in-Some.is c.chain.invariant)) c.in-Application.is
@@ -24,10 +24,10 @@ returns-then-are_same-clause-some c = next-found c.args.operands.now c.args.node
 
 pub chain-smaller : goal.chain-smaller
 chain-smaller c = subst (λ o. rank c.in-Application.made.earlier < rank o) (sym c.in-Some.is)
-    (rank-less c.args.operands.now c.args.nodes.now c.in-Some.id _ c.in-Application.made c.requires.linked (next-within c.args.operands.now c.args.nodes.now c.args.head c.args.args.now c.in-Some.id (subst (IsSought c.args.operands.now c.args.nodes.now c.args.head c.args.args.now) c.in-Some.is c.chain.invariant)) c.in-Application.is)
+    (rank-less c.requires.0 c.args.operands.now c.args.nodes.now c.in-Some.id _ c.in-Application.made c.requires.1 (next-within c.args.operands.now c.args.nodes.now c.args.head c.args.args.now c.in-Some.id (subst (IsSought c.args.operands.now c.args.nodes.now c.args.head c.args.args.now) c.in-Some.is c.chain.invariant)) c.in-Application.is)
 
 pub chain-preserved : goal.chain-preserved
-chain-preserved c = next-other c.args.operands.now c.args.nodes.now c.args.head c.args.args.now c.in-Some.id _ c.in-Application.made c.requires.linked (subst (IsSought c.args.operands.now c.args.nodes.now c.args.head c.args.args.now) c.in-Some.is c.chain.invariant) c.in-Application.is
+chain-preserved c = next-other c.args.operands.now c.args.nodes.now c.args.head c.args.args.now c.in-Some.id _ c.in-Application.made (subst (IsSought c.args.operands.now c.args.nodes.now c.args.head c.args.args.now) c.in-Some.is c.chain.invariant) c.in-Application.is
     (elim c.else-made-head.branch [
       | else-made-head-via-then-made-head+else-are_same w ↦ (λ both. not-both w.are_same.result (w.are_same.ensures.1 (w.part.ensures ∙ both.1)) w.if-are_same.false)
       | else-made-head-via-else-made-head w ↦ (λ both. w.if-made-head.false both.0)

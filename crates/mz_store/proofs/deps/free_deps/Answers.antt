@@ -1,5 +1,7 @@
 use Rattle.std.proofs.Common.{◌≡◌, ◌<◌, ◌≤◌, ◌+◌, ◌++◌, ◌∷◌, [], true, false, take, Contains, arith, refl, sym, ◌∙◌, ap, subst, length, add-one}
 use Rattle.mz_logic.specs.Words.{signatures_of, term_at, word_deps, bound_places, binders_of}
+use Rattle.mz_store.specs.Kept.{shared_by}
+use Rattle.mz_store.proofs.Growing.{mode-shared}
 use Rattle.mz_store.proofs.Params.{in-at, args-many}
 use Rattle.mz_store.proofs.BoundOperands.{names-told, places-next, places-are-bound, places-within}
 use Rattle.mz_store.proofs.FreeVariables.{free-skip, free-take, free-end}
@@ -9,16 +11,16 @@ use Rattle.mz_store.proofs.deps.free_deps.Goals.{then-bound+in_ok-push, else-bou
 pub bounds-args-i : goal.bounds-args-i
 bounds-args-i g c = omega (
   arith,
-  args-many (signatures_of (g.T.Terms.all_terms c.args.terms.now)) c.args.store.now.context c.args.store.now c.args.args.now
+  args-many (signatures_of (g.T.Terms.all_terms c.args.terms.now)) (shared_by c.args.store.now).context (shared_by c.args.store.now) c.args.args.now
       (term_at (g.T.Terms.all_terms c.args.terms.now) c.args.t).params c.requires.fit.1,
   c.arity-i-end.ensures,
 )
 
-pub deps-requires : goal.deps-requires
-deps-requires g c = in-at c.args.store.now c.args.args.now c.loop-i.i c.requires.ids
+pub deps-requires-clause-inside : goal.deps-requires-clause-inside
+deps-requires-clause-inside g c = in-at (shared_by c.args.store.now) c.args.args.now c.loop-i.i c.requires.ids
     (omega (
       arith,
-      args-many (signatures_of (g.T.Terms.all_terms c.args.terms.now)) c.args.store.now.context c.args.store.now c.args.args.now
+      args-many (signatures_of (g.T.Terms.all_terms c.args.terms.now)) (shared_by c.args.store.now).context (shared_by c.args.store.now) c.args.args.now
           (term_at (g.T.Terms.all_terms c.args.terms.now) c.args.t).params c.requires.fit.1,
       c.arity-i-end.ensures,
     ))
@@ -28,13 +30,13 @@ named-requires-clause-within g c =
     let terms = g.T.Terms.all_terms c.args.terms.now in
     let ws = (term_at terms c.args.t).params in
     let within : c.loop-i.i ≤ length ws = omega (arith, c.arity-i-end.ensures) in
-    places-within (signatures_of terms) c.args.store.now c.args.args.now ws c.requires.fit.1 c.loop-i.i within _ (c.deref.ensures.value ∙ c.loop-i.invariant.0)
+    places-within (signatures_of terms) (shared_by c.args.store.now) c.args.args.now ws c.requires.fit.1 c.loop-i.i within _ (c.deref.ensures.value ∙ c.loop-i.invariant.0)
 
 pub loop-i-preserved : goal.loop-i-preserved
 loop-i-preserved g c =
     let terms = g.T.Terms.all_terms c.args.terms.now in
     let ws = (term_at terms c.args.t).params in
-    let s = c.args.store.now in
+    let s = shared_by c.args.store.now in
     let is = c.args.args.now in
     let many : length is ≡ length ws = args-many (signatures_of terms) s.context s is ws c.requires.fit.1 in
     let inside : c.loop-i.i < length is = omega (arith, many, c.arity-i-end.ensures) in
@@ -52,7 +54,7 @@ loop-i-preserved g c =
             ap (λ b. b.items) w.bound-is ∙ c.loop-i.invariant.0
                 ∙ sym (places-next ws c.loop-i.i (c.loop-i.i + 1) c.param-param.result false c.param-param.ensures (add-one c.loop-i.i) regular),
             rw w.word-is (free-take (signatures_of terms) s is ws c.loop-i.i (c.loop-i.i + 1) c.loop-i.word w.deps.result w.named.result _ c.param-param.result c.param-param.ensures inside (add-one c.loop-i.i) regular
-                c.requires.mode w.deps.type_inv w.named.type_inv (w.deps.ensures.variables (signatures_of terms) c.requires.over)
+                (mode-shared c.args.store.now ∙ c.requires.mode) w.deps.type_inv w.named.type_inv (w.deps.ensures.variables (signatures_of terms) c.requires.over)
                 (names-told s is ws w.deref.result.now (bound_places 0 (take c.loop-i.i ws)) w.deps-else-bound.result (word_deps c.param-param.result) w.named.result
                 (w.deref.ensures.value ∙ c.loop-i.invariant.0) w.deps-else-bound.ensures
                 (w.named.ensures (signatures_of terms) (binders_of ws) c.requires.over c.requires.fit.1
@@ -67,17 +69,17 @@ named-requires-2-clause-within g c =
     let terms = g.T.Terms.all_terms c.args.terms.now in
     let ws = (term_at terms c.args.t).params in
     let within : c.loop-i.i ≤ length ws = omega (arith, c.arity-i-end.ensures) in
-    places-within (signatures_of terms) c.args.store.now c.args.args.now ws c.requires.fit.1 c.loop-i.i within _ (c.deref-2.ensures.value ∙ c.loop-i.invariant.0)
+    places-within (signatures_of terms) (shared_by c.args.store.now) c.args.args.now ws c.requires.fit.1 c.loop-i.i within _ (c.deref-2.ensures.value ∙ c.loop-i.invariant.0)
 
 pub returns : goal.returns
 returns g c =
     let terms = g.T.Terms.all_terms c.args.terms.now in
     let ws = (term_at terms c.args.t).params in
     let within : c.loop-i.i ≤ length ws = omega (arith, c.arity-i-end.ensures) in
-    let many : length c.args.args.now ≡ length ws = args-many (signatures_of terms) c.args.store.now.context c.args.store.now c.args.args.now ws c.requires.fit.1 in
-    free-end terms c.args.store.now c.args.args.now c.args.t c.loop-i.i c.loop-i.word c.named-2.result c.requires.fit
+    let many : length c.args.args.now ≡ length ws = args-many (signatures_of terms) (shared_by c.args.store.now).context (shared_by c.args.store.now) c.args.args.now ws c.requires.fit.1 in
+    free-end terms (shared_by c.args.store.now) c.args.args.now c.args.t c.loop-i.i c.loop-i.word c.named-2.result c.requires.fit
     (omega (arith, many, c.arity-i-end.ensures)) (omega (arith, c.arity-i-end.ensures)) c.loop-i.invariant.1
-    (names-told c.args.store.now c.args.args.now ws c.deref-2.result.now (bound_places 0 (take c.loop-i.i ws)) c.deps-2.result (word_deps (term_at terms c.args.t).result) c.named-2.result
+    (names-told (shared_by c.args.store.now) c.args.args.now ws c.deref-2.result.now (bound_places 0 (take c.loop-i.i ws)) c.deps-2.result (word_deps (term_at terms c.args.t).result) c.named-2.result
     (c.deref-2.ensures.value ∙ c.loop-i.invariant.0) (c.deps-2.ensures ∙ ap word_deps c.result.ensures)
     (c.named-2.ensures (signatures_of terms) (binders_of ws) c.requires.over c.requires.fit.1
     (λ j has. places-are-bound ws c.loop-i.i within j (subst (λ ps. Contains ps j) (c.deref-2.ensures.value ∙ c.loop-i.invariant.0) has))))

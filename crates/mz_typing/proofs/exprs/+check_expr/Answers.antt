@@ -1,5 +1,5 @@
 use Rattle.std.proofs.Common.{◌+◌, drop, sym, ap, ◌∙◌, subst, length, inl}
-use Rattle.mz_checks.specs.Checks.{FailsFirst, Judges}
+use Rattle.mz_checks.specs.Checks.{AllHold, FailsFirst, Judges}
 use Rattle.mz_checks.proofs.Offered.{fails-before, fails-after, judges-after, Decides}
 use Rattle.mz_sexpr.specs.Node.{place}
 use Rattle.mz_sexpr.specs.Number.{first}
@@ -15,29 +15,12 @@ check_app-returns-in_err-check_exprs t c =
     let sigs = signatures c.args.env.now in
     let ctx = c.args.ctx.now in
     let n = first c.args.nodes.now in
-    subst (λ ms. Judges c.from_residual.result (app_rules sigs ctx c.args.term c.args.es.now (place n) ms)) c.parts_after-operands.ensures
-    (handed_before (exprs_rules sigs ctx c.args.es.now c.parts_after-operands.result) _ c.from_residual.result c.in_err-check_exprs.field-0.0 c.from_residual.ensures.1 c.in_err-check_exprs.ensures)
+    subst (λ ms. Judges c.from_residual.result (app_rules sigs ctx c.args.term c.args.es.now (place n) ms)) c.parts_after.ensures
+    (handed_before (exprs_rules sigs ctx c.args.es.now c.parts_after.result) _ c.from_residual.result c.in_err-check_exprs.field-0.0 c.from_residual.ensures.1 c.in_err-check_exprs.ensures)
 
-pub check_app-returns-then-len-params : goal.check_app-returns-then-len-params
-check_app-returns-then-len-params t c =
-    let sigs = signatures c.args.env.now in
-    let ctx = c.args.ctx.now in
-    let n = first c.args.nodes.now in
-    subst (λ ms. FailsFirst (app_rules sigs ctx c.args.term c.args.es.now (place n) ms) c.fault.result) c.parts_after-operands.ensures
-    (fails-after (exprs_rules sigs ctx c.args.es.now c.parts_after-operands.result) _ c.fault.result c.in_ok-check_exprs.ensures
-    (inl (λ many. c.if-len-params.true (c.len.ensures ∙ many ∙ ap length (sym c.params_of-params.ensures)), c.fault.ensures)))
-
-pub check_app-returns : goal.check_app-returns
-check_app-returns t c =
-    let sigs = signatures c.args.env.now in
-    let ctx = c.args.ctx.now in
-    let n = first c.args.nodes.now in
-    let ns = c.parts_after-operands.result in
-    subst (λ ms. Judges c.check_operands.result (app_rules sigs ctx c.args.term c.args.es.now (place n) ms)) c.parts_after-operands.ensures
-    (judges-after (exprs_rules sigs ctx c.args.es.now ns) _ c.check_operands.result c.in_ok-check_exprs.ensures
-    (judges_asked _ _ (operand_rules sigs ctx c.args.es.now ns _) c.check_operands.result
-    (sym c.len.ensures ∙ c.if-len-params.false ∙ ap length c.params_of-params.ensures)
-    (subst (λ ps. Judges c.check_operands.result (operand_rules sigs ctx c.args.es.now ns ps)) c.params_of-params.ensures c.check_operands.ensures)))
+pub check_app-check_app_operands-requires : goal.check_app-check_app_operands-requires
+check_app-check_app_operands-requires t c =
+    subst (λ ns. AllHold (exprs_rules (signatures c.args.env.now) c.args.ctx.now c.args.es.now ns)) c.parts_after.ensures c.in_ok-check_exprs.ensures
 
 pub check_exprs-returns-in_err-check_expr : goal.check_exprs-returns-in_err-check_expr
 check_exprs-returns-in_err-check_expr t c =

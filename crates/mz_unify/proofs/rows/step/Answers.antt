@@ -24,7 +24,7 @@ returns-in_err-refer-in-Ref-clause-row c sigs es over told =
 pub returns-in_err-met-in-Dummy-clause-row : goal.returns-in_err-met-in-Dummy-clause-row
 returns-in_err-met-in-Dummy-clause-row c sigs es over told =
     let p = err_from_is_err_and c.from_residual-in_err-met-in-Dummy.result c.from_residual-in_err-met-in-Dummy.ensures.1 in
-    rw (p.1, p.2, c.in-Dummy.is) (c.in_err-met-in-Dummy.ensures.row sigs (mode_of c.args.mode) (state_at c.args.store.now c.args.heap.now.items es c.args.targets.now.items c.args.hyps.now.items) over told refl)
+    rw (p.1, p.2, c.in-Dummy.is) (c.in_err-met-in-Dummy.ensures.row sigs (mode_of c.args.mode) (state_at c.args.store.now c.args.heap.now.items es c.args.targets.now.items c.args.hyps.now.items) over (told (c.requires.stands _ c.in-Dummy.is)) refl)
 
 pub returns-in_err-hypothesis-in-Hyp-clause-row : goal.returns-in_err-hypothesis-in-Hyp-clause-row
 returns-in_err-hypothesis-in-Hyp-clause-row c sigs es over told =
@@ -54,7 +54,7 @@ returns-in_ok-push-in-Dummy-clause-ids c =
     (rw c.in_ok-push-in-Dummy.ensures.ok (are-in-both c.args.store.now _ _ c.requires.heap (c.in_ok-met-in-Dummy.ensures.ids.0, tt)), c.in_ok-met-in-Dummy.ensures.ids.1, c.requires.hyps)
 
 pub returns-in_ok-push-in-Dummy-clause-row : goal.returns-in_ok-push-in-Dummy-clause-row
-returns-in_ok-push-in-Dummy-clause-row c sigs es over told = (es ++ tree_of c.args.store.now c.in_ok-met-in-Dummy.met.0 ∷ [], c.in_ok-met-in-Dummy.ensures.told sigs es over told, rw (c.in-Dummy.is, c.in_ok-push-in-Dummy.ensures.ok, trees-append c.args.store.now c.args.heap.now.items (c.in_ok-met-in-Dummy.met ∷ [])) (c.in_ok-met-in-Dummy.ensures.row sigs (mode_of c.args.mode) (state_at c.args.store.now c.args.heap.now.items es c.args.targets.now.items c.args.hyps.now.items) over told refl))
+returns-in_ok-push-in-Dummy-clause-row c sigs es over told = (es ++ tree_of c.args.store.now c.in_ok-met-in-Dummy.met.0 ∷ [], λ _. c.in_ok-met-in-Dummy.ensures.told sigs es over (told (c.requires.stands _ c.in-Dummy.is)), rw (c.in-Dummy.is, c.in_ok-push-in-Dummy.ensures.ok, trees-append c.args.store.now c.args.heap.now.items (c.in_ok-met-in-Dummy.met ∷ [])) (c.in_ok-met-in-Dummy.ensures.row sigs (mode_of c.args.mode) (state_at c.args.store.now c.args.heap.now.items es c.args.targets.now.items c.args.hyps.now.items) over (told (c.requires.stands _ c.in-Dummy.is)) refl))
 
 pub returns-in_ok-hypothesis-in-Hyp-clause-row : goal.returns-in_ok-hypothesis-in-Hyp-clause-row
 returns-in_ok-hypothesis-in-Hyp-clause-row c sigs es over told = (es, told, rw (c.in-Hyp.is) (c.in_ok-hypothesis-in-Hyp.ensures.row sigs (state_at c.args.store.now c.args.heap.now.items es c.args.targets.now.items c.args.hyps.now.items) refl refl))

@@ -15,7 +15,7 @@ invariant-commands g l = record {
   ticked : l.steps ≤ l.fn.steps + l.at;
   held : l.held ≡ length l.fn.hyps.items;
   left : (taken : ℕ) × (taken ≤ l.at) × AreLeft l.fn.hyps.items l.hyps.items taken;
-  underway : (sigs : List Signature) → IsOver sigs l.store → IsUnderway l.store (mode_of l.mode) l.stream sigs (state_at l.store l.fn.heap.items (trees_at l.store l.fn.heap.items) l.fn.start.items l.fn.hyps.items) l.fn.steps l.at l.apart l.heap.items l.targets.items l.hyps.items l.steps;
+  underway : (sigs : List Signature) → IsOver sigs l.store → IsUnderway l.store (mode_of l.mode) l.stream sigs (state_at l.store l.fn.heap.items (trees_at l.store l.fn.heap.items) l.fn.targets.items l.fn.hyps.items) l.fn.steps l.at l.apart l.heap.items l.targets.items l.hyps.items l.steps;
 }
 
 abbrev pub decreases-commands : goal.decreases-commands

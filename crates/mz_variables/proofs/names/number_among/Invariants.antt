@@ -1,6 +1,6 @@
 use Rattle.std.proofs.Common.{◌≡◌, None, map, drop}
-use Rattle.mz_variables.specs.Names.{number_of}
-use Rattle.mz_variables.proofs.Numbers.{or_later}
+use Rattle.mz_names.specs.Names.{number_of}
+use Rattle.mz_names.proofs.Offered.{or_later}
 use Rattle.mz_variables.proofs.names.number_among.Given as goal
 
 abbrev pub invariant-loop-i : goal.invariant-loop-i

@@ -1,14 +1,17 @@
 use Rattle.std.proofs.Common.{◌≡◌, ◌∙◌, ◌++◌, ◌∷◌, [], sym, ap, subst, refl, arith, length, inl, map, if◌then◌else◌}
-use Rattle.mz_forms.specs.Name.{IsNew}
+use Rattle.mz_names.specs.Names.{IsNew}
+use Rattle.mz_names.proofs.Offered.{no-place}
 use Rattle.mz_forms.specs.SpaceView.{word_of_key, AreKeysFrom}
-use Rattle.mz_forms.proofs.Keys.{none_by_keys, keys-more, words-more, length-words, length-more}
+use Rattle.mz_forms.proofs.Keys.{is_key, keys-tell, keys-more, words-more, length-words, length-more}
 use Rattle.mz_forms.proofs.space.Space.push.Goals as goal
 
 now_keys : (c : goal.In_ok-insert) → c.insert.new.self.keys ≡ c.self.inside.keys.keys ++ (c.args.name, 0) ∷ []
 now_keys c =
     c.in_ok-insert.ensures.keys
     ∙ ap (λ b. if b then c.self.inside.keys.keys else c.self.inside.keys.keys ++ (c.args.name, 0) ∷ [])
-    (none_by_keys 0 c.self.inside.keys.keys c.args.name.now c.self.invariant.0 c.requires.name (subst (λ xs. IsNew xs c.args.name.now) (sym c.self.view_is) c.requires.new))
+    (no-place word_of_key c.args.name.now (is_key c.args.name.now 0) c.self.inside.keys.keys
+    (keys-tell 0 c.self.inside.keys.keys c.args.name.now c.self.invariant.0 c.requires.name)
+    (subst (λ xs. IsNew xs c.args.name.now) (sym c.self.view_is) c.requires.new))
 
 pub invariant_of-self-2 : goal.invariant_of-self-2
 invariant_of-self-2 c =

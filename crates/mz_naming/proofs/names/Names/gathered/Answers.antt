@@ -1,8 +1,8 @@
-use Rattle.std.proofs.Common.{◌≡◌, ◌∙◌, ◌+◌, ℕ, ap, sym, subst, arith}
+use Rattle.std.proofs.Common.{◌≡◌, ◌∙◌, ap, sym, subst, arith}
 use Rattle.mz_phrasing.specs.Naming.{Naming}
-use Rattle.mz_binary.proofs.Offered.{head-at}
+use Rattle.mz_walk.specs.declared.passed.Passed.{Passed}
 use Rattle.mz_naming.specs.Names.{declared_names, prefix_beside}
-use Rattle.mz_naming.proofs.Walking.{Walked, no-names, walked-first, walked-more, walked-last}
+use Rattle.mz_naming.proofs.Walking.{Walked, no-names, walked-asks, walked-first, walked-more, walked-last}
 use Rattle.mz_naming.proofs.names.Names.gathered.Goals as goal
 
 pub statements-init : goal.statements-init
@@ -11,52 +11,31 @@ statements-init c =
     let names = declared_names c.args.spec.now c.args.declared.now in
     let made : c.with_prefix-names.result ≡ no-names (prefix_beside names) = c.with_prefix-names.ensures ∙ ap no-names c.in_ok-prefix_beside.ensures in
     record {
-      so_far = subst (λ (n : Naming). Walked names file c.proof_at-at.result n 0 0) (sym made)
-          (subst (λ (at : ℕ). Walked names file at (no-names (prefix_beside names)) 0 0) (sym c.proof_at-at.ensures.place) (walked-first names file c.requires.0 c.requires.1));
-      within = c.proof_at-at.ensures.within;
+      so_far = subst (λ (n : Naming). Walked names file c.nothing-passed.result n) (sym made)
+          (subst (λ (p : Passed). Walked names file p (no-names (prefix_beside names))) (sym c.nothing-passed.ensures.nothing) (walked-first names file c.requires.0 c.requires.1));
+      placed = c.nothing-passed.ensures.placed;
     }
 
-pub overflow_add-number : goal.overflow_add-number
-overflow_add-number c =
-    let (body, there) = c.in-Some.ensures.there in
-    let stands = head-at c.args.mmb.now c.statements.at c.in-Some.head.code body c.in-Some.head.next there in
-    let low = c.statements.invariant.so_far.number_low in
-    let a = stands.further in
-    let b = stands.within in
-    let fits = c.proof_at-at.ensures.binary.fits in
-    omega (arith, low, a, b, fits)
+pub next-requires-clause-placed : goal.next-requires-clause-placed
+next-requires-clause-placed c = c.statements.invariant.placed
 
-pub publics_with-publics-requires : goal.publics_with-publics-requires
-publics_with-publics-requires c =
-    let (body, there) = c.in-Some.ensures.there in
-    let stands = head-at c.args.mmb.now c.statements.at c.in-Some.head.code body c.in-Some.head.next there in
-    let low = c.statements.invariant.so_far.publics_low in
-    let a = stands.further in
-    let b = stands.within in
-    let fits = c.proof_at-at.ensures.binary.fits in
-    omega (arith, low, a, b, fits)
+pub next-requires-clause-good : goal.next-requires-clause-good
+next-requires-clause-good c =
+    walked-asks (declared_names c.args.spec.now c.args.declared.now) c.args.mmb.now c.statements.passed c.statements.names c.statements.invariant.so_far
 
 pub statements-smaller : goal.statements-smaller
 statements-smaller c =
-    let (body, there) = c.in-Some.ensures.there in
-    let stands = head-at c.args.mmb.now c.statements.at c.in-Some.head.code body c.in-Some.head.next there in
-    let a = stands.further in
-    let b = stands.within in
-    omega (arith, a, b)
+    let further = c.in-Some.ensures.goes_on.further in
+    let within = c.in-Some.ensures.goes_on.placed.within in
+    omega (arith, further, within)
 
 pub statements-preserved : goal.statements-preserved
-statements-preserved c =
-    let head = c.in-Some.head in
-    let (body, there) = c.in-Some.ensures.there in
-    let names = declared_names c.args.spec.now c.args.declared.now in
-    record {
-      so_far = subst (λ (n : ℕ). Walked names c.args.mmb.now head.next c.add_next.new.self (c.statements.number + 1) n) (sym c.publics_with-publics.ensures)
-          (walked-more names c.args.mmb.now c.statements.at head.code body head.next c.statements.names c.add_next.new.self c.statements.number c.statements.publics c.statements.invariant.so_far
-          there c.in_ok-add_next.ensures);
-      within = (head-at c.args.mmb.now c.statements.at head.code body head.next there).within;
-    }
+statements-preserved c = record {
+  so_far = walked-more (declared_names c.args.spec.now c.args.declared.now) c.args.mmb.now c.statements.passed c.in-Some.head c.in-Some.after c.statements.names c.add_next.new.self
+      c.statements.invariant.so_far c.in-Some.ensures.goes_on c.in_ok-add_next.ensures;
+  placed = c.in-Some.ensures.goes_on.placed;
+}
 
 pub returns : goal.returns
 returns c =
-    walked-last (declared_names c.args.spec.now c.args.declared.now) c.args.mmb.now c.statements.at c.statements.names c.statements.number c.statements.publics c.statements.invariant.so_far
-    c.in_default.ensures.none
+    walked-last (declared_names c.args.spec.now c.args.declared.now) c.args.mmb.now c.statements.passed c.statements.names c.statements.invariant.so_far c.in_default.ensures.ends

@@ -1,10 +1,11 @@
-use Rattle.std.proofs.Common.{◌≤◌, ◌-◌, length}
+use Rattle.std.proofs.Common.{◌-◌, length}
+use Rattle.mz_walk.specs.Walk.{IsPlaced}
 use Rattle.mz_naming.specs.Names.{declared_names}
 use Rattle.mz_naming.proofs.Walking.{Walked}
 use Rattle.mz_naming.proofs.names.Names.gathered.Given as goal
 
 abbrev pub invariant-statements : goal.invariant-statements
-invariant-statements l = record { so_far : Walked (declared_names l.spec l.declared) l.mmb l.at l.names l.number l.publics; within : l.at ≤ length l.mmb }
+invariant-statements l = record { so_far : Walked (declared_names l.spec l.declared) l.mmb l.passed l.names; placed : IsPlaced l.mmb l.passed }
 
 abbrev pub decreases-statements : goal.decreases-statements
-decreases-statements l = length l.mmb - l.at
+decreases-statements l = length l.mmb - l.passed.at

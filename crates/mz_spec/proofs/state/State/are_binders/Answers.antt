@@ -1,4 +1,4 @@
-use Rattle.std.proofs.Common.{[], map, refl, sym, true≢false}
+use Rattle.std.proofs.Common.{[], map, sym, true≢false}
 use Rattle.mz_variables.specs.Code.{variable}
 use Rattle.mz_spec.specs.Entries.{state}
 use Rattle.mz_spec.specs.Rules.{AreBinders}

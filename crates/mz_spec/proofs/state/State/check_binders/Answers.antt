@@ -11,13 +11,13 @@ returns-then-not-have_binders c = λ vs ts rs parts. inl (test-out c.have_binder
 
 pub returns-then-not-are_dummy_sorts : goal.returns-then-not-are_dummy_sorts
 returns-then-not-are_dummy_sorts c = λ vs ts rs parts.
-    let same = ap (map variable) c.deref-2.ensures.value ∙ parts.dummies in
+    let same = ap (map variable) c.deref.ensures.value ∙ parts.dummies in
     let out = test-out c.are_dummy_sorts.result c.are_dummy_sorts.ensures c.if-not-are_dummy_sorts.true in
     inr (test-in c.have_binders.result (c.have_binders.ensures vs ts rs parts) c.if-not-have_binders.false, inl (λ all. out (subst (Every (IsDummySort (state c.args.self.now))) (sym same) all), refl))
 
 pub returns-then-not-is_not_pure : goal.returns-then-not-is_not_pure
 returns-then-not-is_not_pure c = λ vs ts rs parts.
-    let same = ap (map variable) c.deref-2.ensures.value ∙ parts.dummies in
+    let same = ap (map variable) c.deref.ensures.value ∙ parts.dummies in
     let dummies = test-in c.are_dummy_sorts.result c.are_dummy_sorts.ensures c.if-not-are_dummy_sorts.false in
     let out = test-out c.is_not_pure.result c.is_not_pure.ensures c.if-not-is_not_pure.true in
     inr (
@@ -27,7 +27,7 @@ returns-then-not-is_not_pure c = λ vs ts rs parts.
 
 pub returns : goal.returns
 returns c = λ vs ts rs parts.
-    let same = ap (map variable) c.deref-2.ensures.value ∙ parts.dummies in
+    let same = ap (map variable) c.deref.ensures.value ∙ parts.dummies in
     let dummies = test-in c.are_dummy_sorts.result c.are_dummy_sorts.ensures c.if-not-are_dummy_sorts.false in
     let pure = test-in c.is_not_pure.result c.is_not_pure.ensures c.if-not-is_not_pure.false in (
       test-in c.have_binders.result (c.have_binders.ensures vs ts rs parts) c.if-not-have_binders.false,

@@ -22,7 +22,7 @@ pub returns-in_err-check_parts-clause-judged : goal.returns-in_err-check_parts-c
 returns-in_err-check_parts-clause-judged c = λ tokens cut.
     let σ = state c.args.self.now in
     let v = view (definition c.args.definition.now) in
-    let p = err_from_is_err_and c.from_residual.result c.from_residual.ensures.1 in
+    let p = err_from_is_err_and c.from_residual-in_err-check_parts.result c.from_residual-in_err-check_parts.ensures.1 in
     subst (λ r. JudgesOrMem r (statement_checks σ c.args.place (definition c.args.definition.now) tokens)) (sym (p.1 ∙ ap Err p.2))
     (parts-halt σ c.args.place v.variables v.types v.result (new_name c.args.self.now.term_names (lexeme c.args.definition.now.head.name)) (body_rules σ c.args.place v.variables v.formulas tokens >> nothing)
     c.in_err-check_parts.field-0.0 c.requires.new (c.in_err-check_parts.ensures v.variables v.types v.result c.requires.parts))

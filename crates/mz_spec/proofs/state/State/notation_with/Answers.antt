@@ -28,7 +28,7 @@ returns-in_err-check_notation-clause-judged c =
     let σ = state c.args.self.now in
     let n = c.args.notation.now in
     let s = notation n in
-    let p = err_from_is_err_and c.from_residual.result c.from_residual.ensures.1 in
+    let p = err_from_is_err_and c.from_residual-in_err-check_notation.result c.from_residual-in_err-check_notation.ensures.1 in
     subst (λ r. JudgesStatement r σ c.args.place s) (sym (p.1 ∙ ap Err p.2))
     (general-rules σ c.args.place (head n.head) (type_text n.result) (map literal n.literals.items) (literal n.last) (option_map tail n.tail) ℕ c.in_err-check_notation.field-0.0 c.requires.levels c.requires.tail_level
     (c.in_err-check_notation.ensures (view s).variables (view s).types (view s).result c.requires.parts))
@@ -41,8 +41,8 @@ returns-in-Ok-clause-judged c =
     let good = c.in_ok-check_notation.ensures (view s).variables (view s).types (view s).result c.requires.parts in
     general-holds σ c.args.place (head n.head) (type_text n.result) (map literal n.literals.items) (literal n.last) (option_map tail n.tail) ℕ 0 c.requires.levels c.requires.tail_level good c.in-Ok.ensures.answer
 
-pub returns-in-Err-clause-judged : goal.returns-in-Err-clause-judged
-returns-in-Err-clause-judged c =
+pub returns-clause-judged : goal.returns-clause-judged
+returns-clause-judged c =
     let σ = state c.args.self.now in
     let n = c.args.notation.now in
     let s = notation n in

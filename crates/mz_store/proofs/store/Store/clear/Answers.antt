@@ -10,5 +10,5 @@ invariant_of-self c = (
   kept-empty _ c.clear-2.new.self.items c.clear.new.self.items
       (ap (λ ns. (sharing_of c.args.mode (all_made c.clear-2.new.self.items ns)).entries) c.clear.ensures.items)
       (ap (λ ns. (sharing_of c.args.mode (all_made c.clear-2.new.self.items ns)).context) c.clear.ensures.items) c.clear.ensures.items,
-  chained-empty c.clear-2.new.self.items c.clear.new.self.items _ c.clear.ensures.items (λ q. ap (lookup (nat_eq q)) c.clear-3.ensures.empty),
+  chained-empty c.self.inside.factor c.clear-2.new.self.items c.clear.new.self.items _ c.clear.ensures.items (λ q. ap (lookup (nat_eq q)) c.clear-3.ensures.empty),
 )

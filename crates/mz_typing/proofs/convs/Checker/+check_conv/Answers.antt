@@ -8,7 +8,6 @@ use Rattle.mz_logic.specs.Declaration.{signatures}
 use Rattle.mz_forms.specs.ConvView.{conversion, conversions}
 use Rattle.mz_forms.specs.Stops.{Stops}
 use Rattle.mz_typing.specs.Answers.{Judged}
-use Rattle.mz_typing.specs.Parts.{part}
 use Rattle.mz_typing.specs.Rules.{conv_rules, convs_rules}
 use Rattle.mz_typing.proofs.Building.{convs_size_step}
 use Rattle.mz_typing.proofs.Judging.{stop_handed_on, stopped_before, stopped_within, left_step}

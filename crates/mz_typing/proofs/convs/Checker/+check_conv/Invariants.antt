@@ -10,6 +10,9 @@ use Rattle.mz_typing.proofs.convs.Checker.+check_conv.Given as goal
 abbrev pub decreases-check_conv : goal.decreases-check_conv
 decreases-check_conv l = 3 * conv_steps (conversion l.conv.now)
 
+abbrev pub decreases-check_sym : goal.decreases-check_sym
+decreases-check_sym l = 3 * conv_steps (conversion l.conv.now) + 1
+
 abbrev pub decreases-check_convs : goal.decreases-check_convs
 decreases-check_convs l = 3 * convs_steps l.convs.now + 1
 

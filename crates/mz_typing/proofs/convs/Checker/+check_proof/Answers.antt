@@ -1,221 +1,82 @@
-use Rattle.std.proofs.Common.{◌+◌, ◌++◌, true≢false, [], ◌∷◌, drop, refl, sym, ap, ◌∙◌, subst, length}
+use Rattle.std.proofs.Common.{◌≡◌, ◌+◌, true≢false, drop, take, refl, sym, ap, ◌∙◌, subst, length, arith}
 use Rattle.std.proofs.lemmas.List.{drop_all}
-use Rattle.std.proofs.lemmas.Option.{get_or_from_slice_get}
-use Rattle.mz_checks.specs.Checks.{Judges, AllHold}
-use Rattle.mz_checks.proofs.Offered.{all_hold-both, Decides}
+use Rattle.std.proofs.lemmas.Result.{on_ok_weaker}
+use Rattle.mz_checks.specs.Checks.{AllHold, ◌>>◌}
+use Rattle.mz_checks.proofs.Offered.{all_hold-both, all_hold-first, all_hold-rest, Decides}
 use Rattle.mz_sexpr.specs.Number.{first, rest}
 use Rattle.mz_sexpr.specs.Node.{parts}
-use Rattle.mz_logic.specs.Tree.{none, more, listed, followed_by, instance}
+use Rattle.mz_logic.specs.Tree.{none, more, listed, operand, followed_by}
 use Rattle.mz_logic.specs.Declaration.{signatures, assertions}
-use Rattle.mz_logic.specs.DeclView.{assertion_view}
 use Rattle.mz_logic.specs.View.{tree}
 use Rattle.mz_forms.specs.ConvView.{conversion}
 use Rattle.mz_forms.specs.Proof.{by_citation, by_conv, by_let}
 use Rattle.mz_forms.specs.ProofView.{proof_view, proofs_view}
 use Rattle.mz_forms.specs.Stops.{Stops}
-use Rattle.mz_typing.specs.Answers.{IsProved}
+use Rattle.mz_typing.specs.Answers.{Judged}
 use Rattle.mz_typing.specs.Claims.{claim_trees}
-use Rattle.mz_typing.specs.Names.{ProofsThere}
-use Rattle.mz_typing.specs.Parts.{part}
-use Rattle.mz_typing.specs.Rules.{expr_rules, exprs_rules, conv_rules, citation_rules, proof_rules, proofs_rules}
+use Rattle.mz_typing.specs.Names.{ProofThere, ProofsThere}
+use Rattle.mz_typing.specs.Parts.{part, after}
+use Rattle.mz_typing.specs.Rules.{expr_rules, conv_rules, proof_rules, proofs_rules}
 use Rattle.mz_typing.specs.Sides.{proved, all_proved, with_fact}
 use Rattle.mz_typing.proofs.Building.{builds_more, built_whole}
-use Rattle.mz_typing.proofs.Claims.{claims_append}
-use Rattle.mz_typing.proofs.Judging.{stop_proved, stop_all_proved, stopped_before, stopped_after, stopped_within, left_step, told_stop, told_holds}
+use Rattle.mz_typing.proofs.Judging.{stop_handed_on, stopped_before, stopped_after, stopped_within, left_step}
 use Rattle.mz_typing.proofs.ProofSteps as step
+use Rattle.mz_typing.proofs.Stacked.{front_same, behind_same, many_behind, last_same, stopped_still, judged_still, on_ok, citation_judged, converted_stop}
 use Rattle.mz_typing.proofs.convs.Checker.+check_proof.Goals as goal
 
-pub check_citation-returns-in_err-refuse-clause-proved : goal.check_citation-returns-in_err-refuse-clause-proved
-check_citation-returns-in_err-refuse-clause-proved t c =
+pub check_citation-returns-in_err-check_part_exprs-clause-judged : goal.check_citation-returns-in_err-check_part_exprs-clause-judged
+check_citation-returns-in_err-check_part_exprs-clause-judged t c =
     let env = c.args.self.now.env.now in
     let ctx = c.args.self.now.ctx.now in
-    let hyps = c.args.hyps.now in
+    let hyps = c.args.self.now.hyps.now in
     let lets = claim_trees c.args.lets.now.items in
     let n = first c.args.nodes.now in
-    let s = c.in_err-refuse.field-0.0 in
-    stop_proved (proof_rules env ctx hyps lets (by_citation c.args.number c.args.es.now c.args.proofs.now) n) (proved env hyps lets (by_citation c.args.number c.args.es.now c.args.proofs.now)) c.from_residual.result s c.from_residual.ensures.1
-    (step.citation_operands_stop env ctx hyps lets c.args.number c.args.es.now c.args.proofs.now n s
-    (told_stop (exprs_rules (signatures env) ctx c.args.es.now (parts (part (parts n) 1))) c.check_exprs.result c.refuse.result s c.refuse.ensures c.in_err-refuse.was
-    (subst (λ ns. Judges c.check_exprs.result (exprs_rules (signatures env) ctx c.args.es.now ns)) c.parts_of.ensures c.check_exprs.ensures)))
+    let s = c.in_err-check_part_exprs.field-0.0 in
+    stop_handed_on (proof_rules env ctx hyps lets (by_citation c.args.number c.args.es.now c.args.proofs.now) n) c.from_residual.result s c.from_residual.ensures.1
+    (step.citation_operands_stop env ctx hyps lets c.args.number c.args.es.now c.args.proofs.now n s c.in_err-check_part_exprs.ensures)
 
-pub check_citation-returns-in_err-claims-clause-proved : goal.check_citation-returns-in_err-claims-clause-proved
-check_citation-returns-in_err-claims-clause-proved t c =
+pub check_citation-returns-in_err-check_proof-clause-judged : goal.check_citation-returns-in_err-check_proof-clause-judged
+check_citation-returns-in_err-check_proof-clause-judged t c =
     let env = c.args.self.now.env.now in
     let ctx = c.args.self.now.ctx.now in
-    let hyps = c.args.hyps.now in
+    let hyps = c.args.self.now.hyps.now in
     let lets = claim_trees c.args.lets.now.items in
     let n = first c.args.nodes.now in
-    let s = c.in_err-claims.field-0.0 in
-    stop_proved (proof_rules env ctx hyps lets (by_citation c.args.number c.args.es.now c.args.proofs.now) n) (proved env hyps lets (by_citation c.args.number c.args.es.now c.args.proofs.now)) c.from_residual-in_err-claims.result s c.from_residual-in_err-claims.ensures.1
-    (step.citation_subproofs_stop env ctx hyps lets c.args.number c.args.es.now c.args.proofs.now n s
-    (told_holds (exprs_rules (signatures env) ctx c.args.es.now (parts (part (parts n) 1))) c.check_exprs.result c.refuse.result c.in_ok-refuse.field-0 c.refuse.ensures c.in_ok-refuse.was
-    (subst (λ ns. Judges c.check_exprs.result (exprs_rules (signatures env) ctx c.args.es.now ns)) c.parts_of.ensures c.check_exprs.ensures))
-    (subst (λ ns. Stops s (proofs_rules env ctx hyps lets c.args.proofs.now ns)) c.parts_after.ensures c.in_err-claims.ensures.proved))
-
-pub check_citation-unreachable-requires : goal.check_citation-unreachable-requires
-check_citation-unreachable-requires t c = step.is_there (assertions c.args.self.now.env.now) c.args.number c.requires.number c.in-None.ensures
-
-pub check_citation-returns-clause-proved : goal.check_citation-returns-clause-proved
-check_citation-returns-clause-proved t c =
-    let env = c.args.self.now.env.now in
-    let ctx = c.args.self.now.ctx.now in
-    let hyps = c.args.hyps.now in
-    let lets = claim_trees c.args.lets.now.items in
-    let n = first c.args.nodes.now in
-    step.citation_proved env ctx hyps lets c.args.number c.args.es.now c.args.proofs.now n c.check_assertion.result (assertion_view c.in-Some.thm.now) (claim_trees c.in_ok-claims.claims.items)
-    (told_holds (exprs_rules (signatures env) ctx c.args.es.now (parts (part (parts n) 1))) c.check_exprs.result c.refuse.result c.in_ok-refuse.field-0 c.refuse.ensures c.in_ok-refuse.was
-    (subst (λ ns. Judges c.check_exprs.result (exprs_rules (signatures env) ctx c.args.es.now ns)) c.parts_of.ensures c.check_exprs.ensures))
-    (subst (λ ns. AllHold (proofs_rules env ctx hyps lets c.args.proofs.now ns)) c.parts_after.ensures c.in_ok-claims.ensures.proved.0)
-    (sym (get_or_from_slice_get (assertions env) c.args.number _ _ (sym c.in-Some.ensures))) c.in_ok-claims.ensures.proved.1
-    (subst (λ cs. IsProved c.check_assertion.result (citation_rules (signatures env) ctx (assertion_view c.in-Some.thm.now) c.args.es.now (claim_trees cs) n) (instance c.args.es.now (tree c.in-Some.thm.now.conclusion))) c.deref.ensures.value c.check_assertion.ensures)
-
-pub check_conversion-returns-in_err-refuse-clause-proved : goal.check_conversion-returns-in_err-refuse-clause-proved
-check_conversion-returns-in_err-refuse-clause-proved t c =
-    let env = c.args.self.now.env.now in
-    let ctx = c.args.self.now.ctx.now in
-    let hyps = c.args.hyps.now in
-    let lets = claim_trees c.args.lets.now.items in
-    let n = first c.args.nodes.now in
-    let s = c.in_err-refuse.field-0.0 in
-    stop_proved (proof_rules env ctx hyps lets (by_conv (tree c.args.e.now) (conversion c.args.conv.now) (proof_view c.args.proof.now)) n) (tree c.args.e.now) c.from_residual.result s c.from_residual.ensures.1
-    (step.conversion_expr_stop env ctx hyps lets (tree c.args.e.now) (conversion c.args.conv.now) (proof_view c.args.proof.now) n s
-    (told_stop (expr_rules (signatures env) ctx (tree c.args.e.now) (part (parts n) 1)) c.check_expr.result c.refuse.result s c.refuse.ensures c.in_err-refuse.was
-    (subst (λ m. Judges c.check_expr.result (expr_rules (signatures env) ctx (tree c.args.e.now) m)) c.part.ensures c.check_expr.ensures)))
-
-pub check_conversion-returns-in_err-check_conv-clause-proved : goal.check_conversion-returns-in_err-check_conv-clause-proved
-check_conversion-returns-in_err-check_conv-clause-proved t c =
-    let env = c.args.self.now.env.now in
-    let ctx = c.args.self.now.ctx.now in
-    let hyps = c.args.hyps.now in
-    let lets = claim_trees c.args.lets.now.items in
-    let n = first c.args.nodes.now in
-    let s = c.in_err-check_conv.field-0.0 in
-    stop_proved (proof_rules env ctx hyps lets (by_conv (tree c.args.e.now) (conversion c.args.conv.now) (proof_view c.args.proof.now)) n) (tree c.args.e.now) c.from_residual-in_err-check_conv.result s c.from_residual-in_err-check_conv.ensures.1
-    (step.conversion_conv_stop env ctx hyps lets (tree c.args.e.now) (conversion c.args.conv.now) (proof_view c.args.proof.now) n s
-    (told_holds (expr_rules (signatures env) ctx (tree c.args.e.now) (part (parts n) 1)) c.check_expr.result c.refuse.result c.in_ok-refuse.field-0 c.refuse.ensures c.in_ok-refuse.was
-    (subst (λ m. Judges c.check_expr.result (expr_rules (signatures env) ctx (tree c.args.e.now) m)) c.part.ensures c.check_expr.ensures))
-    (subst (λ m. Stops s (conv_rules env ctx (conversion c.args.conv.now) m)) c.part-2.ensures c.in_err-check_conv.ensures))
-
-pub check_conversion-returns-in_err-claim-clause-proved : goal.check_conversion-returns-in_err-claim-clause-proved
-check_conversion-returns-in_err-claim-clause-proved t c =
-    let env = c.args.self.now.env.now in
-    let ctx = c.args.self.now.ctx.now in
-    let hyps = c.args.hyps.now in
-    let lets = claim_trees c.args.lets.now.items in
-    let n = first c.args.nodes.now in
-    let s = c.in_err-claim.field-0.0 in
-    stop_proved (proof_rules env ctx hyps lets (by_conv (tree c.args.e.now) (conversion c.args.conv.now) (proof_view c.args.proof.now)) n) (tree c.args.e.now) c.from_residual-in_err-claim.result s c.from_residual-in_err-claim.ensures.1
-    (step.conversion_proof_stop env ctx hyps lets (tree c.args.e.now) (conversion c.args.conv.now) (proof_view c.args.proof.now) n s
-    (told_holds (expr_rules (signatures env) ctx (tree c.args.e.now) (part (parts n) 1)) c.check_expr.result c.refuse.result c.in_ok-refuse.field-0 c.refuse.ensures c.in_ok-refuse.was
-    (subst (λ m. Judges c.check_expr.result (expr_rules (signatures env) ctx (tree c.args.e.now) m)) c.part.ensures c.check_expr.ensures))
-    (subst (λ m. AllHold (conv_rules env ctx (conversion c.args.conv.now) m)) c.part-2.ensures c.in_ok-check_conv.ensures)
-    (subst (λ m. Stops s (proof_rules env ctx hyps lets (proof_view c.args.proof.now) m)) c.part-3.ensures c.in_err-claim.ensures.proved))
-
-pub check_conversion-returns-then-goes_between-clause-proved : goal.check_conversion-returns-then-goes_between-clause-proved
-check_conversion-returns-then-goes_between-clause-proved t c =
-    let env = c.args.self.now.env.now in
-    let ctx = c.args.self.now.ctx.now in
-    let hyps = c.args.hyps.now in
-    let lets = claim_trees c.args.lets.now.items in
-    let n = first c.args.nodes.now in
-    let sides = c.if-goes_between.ensures.0 refl in (
-      step.conversion_holds env ctx hyps lets (tree c.args.e.now) (conversion c.args.conv.now) (proof_view c.args.proof.now) n
-          (told_holds (expr_rules (signatures env) ctx (tree c.args.e.now) (part (parts n) 1)) c.check_expr.result c.refuse.result c.in_ok-refuse.field-0 c.refuse.ensures c.in_ok-refuse.was
-          (subst (λ m. Judges c.check_expr.result (expr_rules (signatures env) ctx (tree c.args.e.now) m)) c.part.ensures c.check_expr.ensures))
-          (subst (λ m. AllHold (conv_rules env ctx (conversion c.args.conv.now) m)) c.part-2.ensures c.in_ok-check_conv.ensures)
-          (subst (λ m. AllHold (proof_rules env ctx hyps lets (proof_view c.args.proof.now) m)) c.part-3.ensures c.in_ok-claim.ensures.proved.0)
-          (sides.0, sides.1 ∙ c.in_ok-claim.ensures.proved.1),
-      c.of.ensures,
-    )
-
-pub check_conversion-returns-else-goes_between-clause-proved : goal.check_conversion-returns-else-goes_between-clause-proved
-check_conversion-returns-else-goes_between-clause-proved t c =
-    let env = c.args.self.now.env.now in
-    let ctx = c.args.self.now.ctx.now in
-    let hyps = c.args.hyps.now in
-    let lets = claim_trees c.args.lets.now.items in
-    let n = first c.args.nodes.now in
-    step.conversion_differs env ctx hyps lets (tree c.args.e.now) (conversion c.args.conv.now) (proof_view c.args.proof.now) n c.fault.result
-    (told_holds (expr_rules (signatures env) ctx (tree c.args.e.now) (part (parts n) 1)) c.check_expr.result c.refuse.result c.in_ok-refuse.field-0 c.refuse.ensures c.in_ok-refuse.was
-    (subst (λ m. Judges c.check_expr.result (expr_rules (signatures env) ctx (tree c.args.e.now) m)) c.part.ensures c.check_expr.ensures))
-    (subst (λ m. AllHold (conv_rules env ctx (conversion c.args.conv.now) m)) c.part-2.ensures c.in_ok-check_conv.ensures)
-    (subst (λ m. AllHold (proof_rules env ctx hyps lets (proof_view c.args.proof.now) m)) c.part-3.ensures c.in_ok-claim.ensures.proved.0)
-    c.fault.ensures (λ is. true≢false (sym (c.if-goes_between.ensures.1 (is.0, is.1 ∙ sym c.in_ok-claim.ensures.proved.1))))
-
-pub check_let-returns-in_err-claim-clause-proved : goal.check_let-returns-in_err-claim-clause-proved
-check_let-returns-in_err-claim-clause-proved t c =
-    let env = c.args.self.now.env.now in
-    let ctx = c.args.self.now.ctx.now in
-    let hyps = c.args.hyps.now in
-    let lets = claim_trees c.args.lets.now.items in
-    let n = first c.args.nodes.now in
-    let s = c.in_err-claim.field-0.0 in
-    stop_proved (proof_rules env ctx hyps lets (by_let (proof_view c.args.stated.now) (proof_view c.args.proof.now)) n) (proved env hyps lets (by_let (proof_view c.args.stated.now) (proof_view c.args.proof.now))) c.from_residual.result s c.from_residual.ensures.1
-    (stopped_before (proof_rules env ctx hyps lets (proof_view c.args.stated.now) (part (parts n) 2)) _ s (subst (λ m. Stops s (proof_rules env ctx hyps lets (proof_view c.args.stated.now) m)) c.part.ensures c.in_err-claim.ensures.proved))
-
-pub check_let-returns-in_err-proved-clause-proved : goal.check_let-returns-in_err-proved-clause-proved
-check_let-returns-in_err-proved-clause-proved t c =
-    let env = c.args.self.now.env.now in
-    let ctx = c.args.self.now.ctx.now in
-    let hyps = c.args.hyps.now in
-    let lets = claim_trees c.args.lets.now.items in
-    let n = first c.args.nodes.now in
-    let s = c.in_err-proved.field-0.0 in
-    stop_proved (proof_rules env ctx hyps lets (by_let (proof_view c.args.stated.now) (proof_view c.args.proof.now)) n) (proved env hyps lets (by_let (proof_view c.args.stated.now) (proof_view c.args.proof.now))) c.from_residual-in_err-proved.result s c.from_residual-in_err-proved.ensures.1
-    (stopped_after (proof_rules env ctx hyps lets (proof_view c.args.stated.now) (part (parts n) 2)) (proof_rules env ctx hyps (with_fact lets (proved env hyps lets (proof_view c.args.stated.now))) (proof_view c.args.proof.now) (part (parts n) 3)) s
-    (subst (λ m. AllHold (proof_rules env ctx hyps lets (proof_view c.args.stated.now) m)) c.part.ensures c.in_ok-claim.ensures.proved.0)
-    (subst (λ ls. Stops s (proof_rules env ctx hyps ls (proof_view c.args.proof.now) (part (parts n) 3))) (ap claim_trees (c.in_ok-push.ensures.items ∙ ap (λ ls. ls ++ c.in_ok-claim.claim ∷ []) c.in_ok-claim.ensures.same) ∙ claims_append c.args.lets.now.items c.in_ok-claim.claim ∙ ap (with_fact lets) c.in_ok-claim.ensures.proved.1)
-    (subst (λ m. Stops s (proof_rules env ctx hyps (claim_trees c.push.new.self.items) (proof_view c.args.proof.now) m)) c.part-2.ensures c.in_err-proved.ensures.proved)))
-
-pub check_let-returns-clause-proved : goal.check_let-returns-clause-proved
-check_let-returns-clause-proved t c =
-    let env = c.args.self.now.env.now in
-    let ctx = c.args.self.now.ctx.now in
-    let hyps = c.args.hyps.now in
-    let lets = claim_trees c.args.lets.now.items in
-    let n = first c.args.nodes.now in (
-      all_hold-both (proof_rules env ctx hyps lets (proof_view c.args.stated.now) (part (parts n) 2)) (proof_rules env ctx hyps (with_fact lets (proved env hyps lets (proof_view c.args.stated.now))) (proof_view c.args.proof.now) (part (parts n) 3))
-          (subst (λ m. AllHold (proof_rules env ctx hyps lets (proof_view c.args.stated.now) m)) c.part.ensures c.in_ok-claim.ensures.proved.0)
-          (subst (λ ls. AllHold (proof_rules env ctx hyps ls (proof_view c.args.proof.now) (part (parts n) 3))) (ap claim_trees (c.in_ok-push.ensures.items ∙ ap (λ ls. ls ++ c.in_ok-claim.claim ∷ []) c.in_ok-claim.ensures.same) ∙ claims_append c.args.lets.now.items c.in_ok-claim.claim ∙ ap (with_fact lets) c.in_ok-claim.ensures.proved.1)
-          (subst (λ m. AllHold (proof_rules env ctx hyps (claim_trees c.push.new.self.items) (proof_view c.args.proof.now) m)) c.part-2.ensures c.in_ok-proved.ensures.proved.0)),
-      c.in_ok-proved.ensures.proved.1 ∙ ap (λ ls. proved env hyps ls (proof_view c.args.proof.now)) (ap claim_trees (c.in_ok-push.ensures.items ∙ ap (λ ls. ls ++ c.in_ok-claim.claim ∷ []) c.in_ok-claim.ensures.same) ∙ claims_append c.args.lets.now.items c.in_ok-claim.claim ∙ ap (with_fact lets) c.in_ok-claim.ensures.proved.1),
-    )
-
-pub check_proofs-returns-in_err-claim-clause-proved : goal.check_proofs-returns-in_err-claim-clause-proved
-check_proofs-returns-in_err-claim-clause-proved t c =
-    let env = c.args.self.now.env.now in
-    let ctx = c.args.self.now.ctx.now in
-    let hyps = c.args.hyps.now in
-    let lets = claim_trees c.args.lets.now.items in
-    let n = first c.args.nodes.now in
+    let T = c.args.number in
+    let es = c.args.es.now in
+    let ps = c.args.proofs.now in
     let items = c.as_slice-proof-items.result.now in
     let i = c.loop-proof.proof-index in
+    let whole = proofs_rules env ctx hyps lets ps (after 2 (parts n)) in
     let p = c.proof-item.result in
     let below = c.loop-proof-test.true in
     let is = c.proof-item.is in
-    let whole = proofs_rules env ctx hyps lets c.args.proofs.now c.args.nodes.now in
     let own = proof_rules env ctx hyps lets (proof_view p) (first c.loop-proof.left) in
     let behind = proofs_rules env ctx hyps lets (proofs_view (drop (i + 1) items)) (rest c.loop-proof.left) in
     let same = c.loop-proof.invariant.same in
-    let s = c.in_err-claim.field-0.0 in
-    stop_all_proved whole (all_proved env hyps lets c.args.proofs.now) c.from_residual.result s c.from_residual.ensures.1
+    let s = c.in_err-check_proof.field-0.0 in
+    stop_handed_on (proof_rules env ctx hyps lets (by_citation T es ps) n) c.from_residual-in_err-check_proof.result s c.from_residual-in_err-check_proof.ensures.1
+    (step.citation_subproofs_stop env ctx hyps lets T es ps n s c.in_ok-check_part_exprs.ensures
     (stopped_within (proofs_rules env ctx hyps lets (proofs_view (drop i items)) c.loop-proof.left) own behind whole s
     (step.proofs_rules_cut env ctx hyps lets items i p below is c.loop-proof.left) c.loop-proof.invariant.decides
-    (subst (λ ls. Stops s (proof_rules env ctx hyps (claim_trees ls) (proof_view p) (first c.loop-proof.left))) same c.in_err-claim.ensures.proved))
+    (subst (λ ls. Stops s (proof_rules env ctx hyps (claim_trees ls) (proof_view p) (first c.loop-proof.left))) same c.in_err-check_proof.ensures.judged)))
 
-pub check_proofs-loop-proof-preserved : goal.check_proofs-loop-proof-preserved
-check_proofs-loop-proof-preserved t c =
+pub check_citation-loop-proof-preserved : goal.check_citation-loop-proof-preserved
+check_citation-loop-proof-preserved t c =
     let env = c.args.self.now.env.now in
     let ctx = c.args.self.now.ctx.now in
-    let hyps = c.args.hyps.now in
+    let hyps = c.args.self.now.hyps.now in
     let lets = claim_trees c.args.lets.now.items in
     let n = first c.args.nodes.now in
+    let T = c.args.number in
+    let es = c.args.es.now in
+    let ps = c.args.proofs.now in
     let items = c.as_slice-proof-items.result.now in
     let i = c.loop-proof.proof-index in
+    let whole = proofs_rules env ctx hyps lets ps (after 2 (parts n)) in
     let p = c.proof-item.result in
     let below = c.loop-proof-test.true in
     let is = c.proof-item.is in
-    let whole = proofs_rules env ctx hyps lets c.args.proofs.now c.args.nodes.now in
     let own = proof_rules env ctx hyps lets (proof_view p) (first c.loop-proof.left) in
     let behind = proofs_rules env ctx hyps lets (proofs_view (drop (i + 1) items)) (rest c.loop-proof.left) in
     let same = c.loop-proof.invariant.same in
@@ -223,49 +84,337 @@ check_proofs-loop-proof-preserved t c =
       decides = subst (λ ns. Decides (proofs_rules env ctx hyps lets (proofs_view (drop (i + 1) items)) ns) whole) (sym c.rest-left.ensures)
           (left_step (proofs_rules env ctx hyps lets (proofs_view (drop i items)) c.loop-proof.left) own behind whole
           (step.proofs_rules_cut env ctx hyps lets items i p below is c.loop-proof.left) c.loop-proof.invariant.decides
-          (subst (λ ls. AllHold (proof_rules env ctx hyps (claim_trees ls) (proof_view p) (first c.loop-proof.left))) same c.in_ok-claim.ensures.proved.0));
-      builds = builds_more (claim_trees c.loop-proof.claims.items) _ (all_proved env hyps lets (proofs_view (drop i items))) (all_proved env hyps lets (proofs_view (drop (i + 1) items))) (all_proved env hyps lets c.args.proofs.now)
+          (subst (λ ls. AllHold (proof_rules env ctx hyps (claim_trees ls) (proof_view p) (first c.loop-proof.left))) same c.in_ok-check_proof.ensures.judged));
+      builds = builds_more (claim_trees c.loop-proof.claims.items) _ (all_proved env hyps lets (proofs_view (drop i items))) (all_proved env hyps lets (proofs_view (drop (i + 1) items)))
+          (followed_by (claim_trees c.args.claims.now.items) (all_proved env hyps lets ps))
           (proved env hyps lets (proof_view p)) (step.all_proved_cut env ctx hyps lets items i p below is)
-          (ap claim_trees c.in_ok-push.ensures.items ∙ claims_append c.loop-proof.claims.items c.in_ok-claim.claim
-          ∙ ap (λ e. followed_by (claim_trees c.loop-proof.claims.items) (more e none)) (c.in_ok-claim.ensures.proved.1 ∙ ap (λ ls. proved env hyps (claim_trees ls) (proof_view p)) same)) c.loop-proof.invariant.builds;
-      there = subst (λ ls. ProofsThere (length (signatures env)) (length ctx) (length (assertions env)) (length (listed hyps)) (length ls) (proofs_view (drop (i + 1) items))) (sym c.in_ok-claim.ensures.same)
+          (c.in_ok-check_proof.ensures.claims ∙ ap (λ ls. with_fact (claim_trees c.loop-proof.claims.items) (proved env hyps (claim_trees ls) (proof_view p))) same) c.loop-proof.invariant.builds;
+      there = subst (λ ls. ProofsThere (length (signatures env)) (length ctx) (length (assertions env)) (length (listed hyps)) (length ls) (proofs_view (drop (i + 1) items))) (sym c.in_ok-check_proof.ensures.same)
           (step.proofs_there_cut env ctx hyps lets items i p below is (length (signatures env)) (length ctx) (length (assertions env)) (length (listed hyps)) (length c.loop-proof.lets.items) c.loop-proof.invariant.there);
-      same = c.in_ok-claim.ensures.same ∙ same;
+      same = c.in_ok-check_proof.ensures.same ∙ same;
       small = (step.proofs_size_step env ctx hyps lets items i p below is _ c.loop-proof.invariant.small).1;
     }
 
-pub check_proofs-returns-clause-proved : goal.check_proofs-returns-clause-proved
-check_proofs-returns-clause-proved t c =
+pub check_citation-check_cited-requires-clause-within : goal.check_citation-check_cited-requires-clause-within
+check_citation-check_cited-requires-clause-within t c =
+    let from : c.len-from.result ≡ length c.args.claims.now.items = omega (arith, c.len-from.ensures) in
     let env = c.args.self.now.env.now in
     let ctx = c.args.self.now.ctx.now in
-    let hyps = c.args.hyps.now in
+    let hyps = c.args.self.now.hyps.now in
     let lets = claim_trees c.args.lets.now.items in
     let n = first c.args.nodes.now in
+    let T = c.args.number in
+    let es = c.args.es.now in
+    let ps = c.args.proofs.now in
     let items = c.as_slice-proof-items.result.now in
     let i = c.loop-proof.proof-index in
-    let ends = drop_all i items c.loop-proof-test.false in (
-      c.loop-proof.invariant.decides.holds (subst (λ ps. AllHold (proofs_rules env ctx hyps lets (proofs_view ps) c.loop-proof.left)) (sym ends) tt),
-      built_whole (claim_trees c.loop-proof.claims.items) (all_proved env hyps lets (proofs_view (drop i items))) (all_proved env hyps lets c.args.proofs.now)
-          (ap (λ ps. all_proved env hyps lets (proofs_view ps)) ends) c.loop-proof.invariant.builds,
-    )
+    let whole = proofs_rules env ctx hyps lets ps (after 2 (parts n)) in
+    let ends = drop_all i items c.loop-proof-test.false in
+    let old = c.args.claims.now.items in
+    let new = c.loop-proof.claims.items in
+    let all = all_proved env hyps lets ps in
+    let are : claim_trees new ≡ followed_by (claim_trees old) all =
+    built_whole (claim_trees new) (all_proved env hyps lets (proofs_view (drop i items))) (followed_by (claim_trees old) all) (ap (λ qs. all_proved env hyps lets (proofs_view qs)) ends) c.loop-proof.invariant.builds in
+    let many = many_behind old new all are in
+    omega (arith, many, from)
 
-pub check_proof-returns-in-Cite-clause-proved : goal.check_proof-returns-in-Cite-clause-proved
-check_proof-returns-in-Cite-clause-proved t c =
+pub check_citation-returns-clause-judged : goal.check_citation-returns-clause-judged
+check_citation-returns-clause-judged t c =
+    let from : c.len-from.result ≡ length c.args.claims.now.items = omega (arith, c.len-from.ensures) in
     let env = c.args.self.now.env.now in
     let ctx = c.args.self.now.ctx.now in
-    let hyps = c.args.hyps.now in
+    let hyps = c.args.self.now.hyps.now in
     let lets = claim_trees c.args.lets.now.items in
     let n = first c.args.nodes.now in
-    subst (λ x. IsProved c.check_citation.result (proof_rules env ctx hyps lets (proof_view x) n) (proved env hyps lets (proof_view x))) (sym c.in-Cite.is) c.check_citation.ensures.proved
+    let T = c.args.number in
+    let es = c.args.es.now in
+    let ps = c.args.proofs.now in
+    let items = c.as_slice-proof-items.result.now in
+    let i = c.loop-proof.proof-index in
+    let whole = proofs_rules env ctx hyps lets ps (after 2 (parts n)) in
+    let ends = drop_all i items c.loop-proof-test.false in
+    let old = c.args.claims.now.items in
+    let new = c.loop-proof.claims.items in
+    let all = all_proved env hyps lets ps in
+    let are : claim_trees new ≡ followed_by (claim_trees old) all =
+    built_whole (claim_trees new) (all_proved env hyps lets (proofs_view (drop i items))) (followed_by (claim_trees old) all) (ap (λ qs. all_proved env hyps lets (proofs_view qs)) ends) c.loop-proof.invariant.builds in
+    citation_judged env ctx hyps lets n T es ps c.check_cited.result (claim_trees (drop c.len-from.result new)) c.in_ok-check_part_exprs.ensures
+    (c.loop-proof.invariant.decides.holds (subst (λ qs. AllHold (proofs_rules env ctx hyps lets (proofs_view qs) c.loop-proof.left)) (sym ends) tt))
+    (ap (λ k. claim_trees (drop k new)) from ∙ behind_same old new all are) c.check_cited.ensures.judged
 
-pub check_proof-returns-in-Conv-clause-proved : goal.check_proof-returns-in-Conv-clause-proved
-check_proof-returns-in-Conv-clause-proved t c =
+pub check_citation-returns-clause-claims : goal.check_citation-returns-clause-claims
+check_citation-returns-clause-claims t c =
+    let from : c.len-from.result ≡ length c.args.claims.now.items = omega (arith, c.len-from.ensures) in
     let env = c.args.self.now.env.now in
     let ctx = c.args.self.now.ctx.now in
-    let hyps = c.args.hyps.now in
+    let hyps = c.args.self.now.hyps.now in
     let lets = claim_trees c.args.lets.now.items in
     let n = first c.args.nodes.now in
-    subst (λ x. IsProved c.check_conversion.result (proof_rules env ctx hyps lets (proof_view x) n) (proved env hyps lets (proof_view x))) (sym c.in-Conv.is)
-    (subst (λ q. IsProved c.check_conversion.result (proof_rules env ctx hyps lets (by_conv (tree c.in-Conv.e) c.in-Conv.conv q) n) (tree c.in-Conv.e)) c.get-in-Conv-2.ensures
-    (subst (λ z. IsProved c.check_conversion.result (proof_rules env ctx hyps lets (by_conv (tree c.in-Conv.e) z (proof_view c.get-in-Conv-2.result.now)) n) (tree c.in-Conv.e)) c.get-in-Conv.ensures
-    c.check_conversion.ensures.proved))
+    let T = c.args.number in
+    let es = c.args.es.now in
+    let ps = c.args.proofs.now in
+    let items = c.as_slice-proof-items.result.now in
+    let i = c.loop-proof.proof-index in
+    let whole = proofs_rules env ctx hyps lets ps (after 2 (parts n)) in
+    let ends = drop_all i items c.loop-proof-test.false in
+    let old = c.args.claims.now.items in
+    let new = c.loop-proof.claims.items in
+    let all = all_proved env hyps lets ps in
+    let are : claim_trees new ≡ followed_by (claim_trees old) all =
+    built_whole (claim_trees new) (all_proved env hyps lets (proofs_view (drop i items))) (followed_by (claim_trees old) all) (ap (λ qs. all_proved env hyps lets (proofs_view qs)) ends) c.loop-proof.invariant.builds in
+    let x = proved env hyps lets (by_citation T es ps) in
+    on_ok_weaker c.check_cited.result
+    (λ same. same ∙ ap (λ k. with_fact (claim_trees (take k new)) x) from ∙ ap (λ ts. with_fact ts x) (front_same old new all are)) c.check_cited.ensures.claims
+
+pub check_citation-returns-clause-same : goal.check_citation-returns-clause-same
+check_citation-returns-clause-same t c =
+    on_ok c.check_cited.result c.loop-proof.invariant.same
+
+pub check_conversion-returns-in_err-check_converted-clause-judged : goal.check_conversion-returns-in_err-check_converted-clause-judged
+check_conversion-returns-in_err-check_converted-clause-judged t c =
+    let env = c.args.self.now.env.now in
+    let ctx = c.args.self.now.ctx.now in
+    let hyps = c.args.self.now.hyps.now in
+    let lets = claim_trees c.args.lets.now.items in
+    let n = first c.args.nodes.now in
+    let s = c.in_err-check_converted.field-0.0 in
+    stop_handed_on (proof_rules env ctx hyps lets (by_conv (tree c.args.e.now) (conversion c.args.conv.now) (proof_view c.args.proof.now)) n) c.from_residual.result s c.from_residual.ensures.1
+    (converted_stop env ctx hyps lets n (tree c.args.e.now) (conversion c.args.conv.now) (proof_view c.args.proof.now) s c.in_err-check_converted.ensures)
+
+pub check_conversion-returns-in_err-check_proof-clause-judged : goal.check_conversion-returns-in_err-check_proof-clause-judged
+check_conversion-returns-in_err-check_proof-clause-judged t c =
+    let env = c.args.self.now.env.now in
+    let ctx = c.args.self.now.ctx.now in
+    let hyps = c.args.self.now.hyps.now in
+    let lets = claim_trees c.args.lets.now.items in
+    let n = first c.args.nodes.now in
+    let A = expr_rules (signatures env) ctx (tree c.args.e.now) (part (parts n) 1) in
+    let B = conv_rules env ctx (conversion c.args.conv.now) (part (parts n) 2) in
+    let s = c.in_err-check_proof.field-0.0 in
+    stop_handed_on (proof_rules env ctx hyps lets (by_conv (tree c.args.e.now) (conversion c.args.conv.now) (proof_view c.args.proof.now)) n) c.from_residual-in_err-check_proof.result s c.from_residual-in_err-check_proof.ensures.1
+    (step.conversion_proof_stop env ctx hyps lets (tree c.args.e.now) (conversion c.args.conv.now) (proof_view c.args.proof.now) n s
+    (all_hold-first A B c.in_ok-check_converted.ensures) (all_hold-rest A B c.in_ok-check_converted.ensures)
+    (subst (λ m. Stops s (proof_rules env ctx hyps lets (proof_view c.args.proof.now) m)) c.part.ensures c.in_err-check_proof.ensures.judged))
+
+pub check_conversion-goes_between-requires : goal.check_conversion-goes_between-requires
+check_conversion-goes_between-requires t c =
+    let from : c.len-from.result ≡ length c.args.claims.now.items = omega (arith, c.len-from.ensures) in
+    let env = c.args.self.now.env.now in
+    let ctx = c.args.self.now.ctx.now in
+    let hyps = c.args.self.now.hyps.now in
+    let lets = claim_trees c.args.lets.now.items in
+    let n = first c.args.nodes.now in
+    let old = c.args.claims.now.items in
+    let new = c.check_proof.new.claims.items in
+    let x = proved env hyps lets (proof_view c.args.proof.now) in
+    let are = c.in_ok-check_proof.ensures.claims in
+    let many = many_behind old new (more x none) are in
+    omega (arith, many, from)
+
+pub check_conversion-returns-then-not-goes_between-clause-judged : goal.check_conversion-returns-then-not-goes_between-clause-judged
+check_conversion-returns-then-not-goes_between-clause-judged t c =
+    let from : c.len-from.result ≡ length c.args.claims.now.items = omega (arith, c.len-from.ensures) in
+    let env = c.args.self.now.env.now in
+    let ctx = c.args.self.now.ctx.now in
+    let hyps = c.args.self.now.hyps.now in
+    let lets = claim_trees c.args.lets.now.items in
+    let n = first c.args.nodes.now in
+    let A = expr_rules (signatures env) ctx (tree c.args.e.now) (part (parts n) 1) in
+    let B = conv_rules env ctx (conversion c.args.conv.now) (part (parts n) 2) in
+    let old = c.args.claims.now.items in
+    let new = c.check_proof.new.claims.items in
+    let x = proved env hyps lets (proof_view c.args.proof.now) in
+    let are = c.in_ok-check_proof.ensures.claims in
+    let at = ap (λ cs. operand (claim_trees cs) c.len-from.result) c.deref.ensures.value ∙ ap (operand (claim_trees new)) from ∙ last_same old new x are in
+    step.conversion_differs env ctx hyps lets (tree c.args.e.now) (conversion c.args.conv.now) (proof_view c.args.proof.now) n c.fault.result
+    (all_hold-first A B c.in_ok-check_converted.ensures) (all_hold-rest A B c.in_ok-check_converted.ensures)
+    (subst (λ m. AllHold (proof_rules env ctx hyps lets (proof_view c.args.proof.now) m)) c.part.ensures c.in_ok-check_proof.ensures.judged)
+    c.fault.ensures (λ is. true≢false (sym (c.if-not-goes_between.ensures.1 (is.0, is.1 ∙ sym at))))
+
+pub check_conversion-returns-clause-judged : goal.check_conversion-returns-clause-judged
+check_conversion-returns-clause-judged t c =
+    let from : c.len-from.result ≡ length c.args.claims.now.items = omega (arith, c.len-from.ensures) in
+    let env = c.args.self.now.env.now in
+    let ctx = c.args.self.now.ctx.now in
+    let hyps = c.args.self.now.hyps.now in
+    let lets = claim_trees c.args.lets.now.items in
+    let n = first c.args.nodes.now in
+    let A = expr_rules (signatures env) ctx (tree c.args.e.now) (part (parts n) 1) in
+    let B = conv_rules env ctx (conversion c.args.conv.now) (part (parts n) 2) in
+    let old = c.args.claims.now.items in
+    let new = c.check_proof.new.claims.items in
+    let x = proved env hyps lets (proof_view c.args.proof.now) in
+    let are = c.in_ok-check_proof.ensures.claims in
+    let at = ap (λ cs. operand (claim_trees cs) c.len-from.result) c.deref.ensures.value ∙ ap (operand (claim_trees new)) from ∙ last_same old new x are in
+    let sides = c.if-not-goes_between.ensures.0 refl in
+    judged_still (proof_rules env ctx hyps lets (by_conv (tree c.args.e.now) (conversion c.args.conv.now) (proof_view c.args.proof.now)) n) c.claim_instead.result
+    (step.conversion_holds env ctx hyps lets (tree c.args.e.now) (conversion c.args.conv.now) (proof_view c.args.proof.now) n
+    (all_hold-first A B c.in_ok-check_converted.ensures) (all_hold-rest A B c.in_ok-check_converted.ensures)
+    (subst (λ m. AllHold (proof_rules env ctx hyps lets (proof_view c.args.proof.now) m)) c.part.ensures c.in_ok-check_proof.ensures.judged)
+    (sides.0, sides.1 ∙ at)) c.claim_instead.ensures.stops
+
+pub check_conversion-returns-clause-claims : goal.check_conversion-returns-clause-claims
+check_conversion-returns-clause-claims t c =
+    let from : c.len-from.result ≡ length c.args.claims.now.items = omega (arith, c.len-from.ensures) in
+    let env = c.args.self.now.env.now in
+    let ctx = c.args.self.now.ctx.now in
+    let hyps = c.args.self.now.hyps.now in
+    let lets = claim_trees c.args.lets.now.items in
+    let n = first c.args.nodes.now in
+    let old = c.args.claims.now.items in
+    let new = c.check_proof.new.claims.items in
+    let x = proved env hyps lets (proof_view c.args.proof.now) in
+    let are = c.in_ok-check_proof.ensures.claims in
+    let e = tree c.args.e.now in
+    on_ok_weaker c.claim_instead.result
+    (λ is. is ∙ ap (λ k. with_fact (claim_trees (take k new)) e) from ∙ ap (λ ts. with_fact ts e) (front_same old new (more x none) are)) c.claim_instead.ensures.claims
+
+pub check_conversion-returns-clause-same : goal.check_conversion-returns-clause-same
+check_conversion-returns-clause-same t c =
+    on_ok c.claim_instead.result c.in_ok-check_proof.ensures.same
+
+pub check_let-returns-in_err-check_proof-clause-judged : goal.check_let-returns-in_err-check_proof-clause-judged
+check_let-returns-in_err-check_proof-clause-judged t c =
+    let env = c.args.self.now.env.now in
+    let ctx = c.args.self.now.ctx.now in
+    let hyps = c.args.self.now.hyps.now in
+    let lets = claim_trees c.args.lets.now.items in
+    let n = first c.args.nodes.now in
+    let p = proof_view c.args.stated.now in
+    let q = proof_view c.args.proof.now in
+    let s = c.in_err-check_proof.field-0.0 in
+    stop_handed_on (proof_rules env ctx hyps lets (by_let p q) n) c.from_residual.result s c.from_residual.ensures.1
+    (stopped_before (proof_rules env ctx hyps lets p (part (parts n) 2)) _ s
+    (subst (λ m. Stops s (proof_rules env ctx hyps lets p m)) c.part.ensures c.in_err-check_proof.ensures.judged))
+
+pub check_let-name_claim-requires : goal.check_let-name_claim-requires
+check_let-name_claim-requires t c =
+    let from : c.len-from.result ≡ length c.args.claims.now.items = omega (arith, c.len-from.ensures) in
+    let env = c.args.self.now.env.now in
+    let hyps = c.args.self.now.hyps.now in
+    let lets = claim_trees c.args.lets.now.items in
+    let x = proved env hyps lets (proof_view c.args.stated.now) in
+    let many = many_behind c.args.claims.now.items c.check_proof.new.claims.items (more x none) c.in_ok-check_proof.ensures.claims in
+    omega (arith, many, from)
+
+pub check_let-returns-in_err-name_claim-clause-judged : goal.check_let-returns-in_err-name_claim-clause-judged
+check_let-returns-in_err-name_claim-clause-judged t c =
+    let env = c.args.self.now.env.now in
+    let ctx = c.args.self.now.ctx.now in
+    let hyps = c.args.self.now.hyps.now in
+    let lets = claim_trees c.args.lets.now.items in
+    let n = first c.args.nodes.now in
+    let s = c.in_err-name_claim.field-0.0 in
+    let cs = proof_rules env ctx hyps lets (by_let (proof_view c.args.stated.now) (proof_view c.args.proof.now)) n in
+    stop_handed_on cs c.from_residual-in_err-name_claim.result s c.from_residual-in_err-name_claim.ensures.1 (stopped_still cs s c.in_err-name_claim.ensures.stops)
+
+pub check_let-check_proof-requires-2 : goal.check_let-check_proof-requires-2
+check_let-check_proof-requires-2 t c =
+    let from : c.len-from.result ≡ length c.args.claims.now.items = omega (arith, c.len-from.ensures) in
+    let env = c.args.self.now.env.now in
+    let ctx = c.args.self.now.ctx.now in
+    let hyps = c.args.self.now.hyps.now in
+    let lets = claim_trees c.args.lets.now.items in
+    let n = first c.args.nodes.now in
+    let p = proof_view c.args.stated.now in
+    let q = proof_view c.args.proof.now in
+    let x = proved env hyps lets p in
+    let one = c.check_proof.new.claims.items in
+    let named : claim_trees c.name_claim.new.lets.items ≡ with_fact lets x =
+    c.in_ok-name_claim.ensures.lets ∙ ap (λ ls. with_fact (claim_trees ls) (operand (claim_trees one) c.len-from.result)) c.in_ok-check_proof.ensures.same
+    ∙ ap (with_fact lets) (ap (operand (claim_trees one)) from ∙ last_same c.args.claims.now.items one x c.in_ok-check_proof.ensures.claims) in
+    let behind = many_behind c.args.lets.now.items c.name_claim.new.lets.items (more x none) named in
+    let many : length c.args.lets.now.items + 1 ≡ length c.name_claim.new.lets.items = omega (arith, behind) in
+    (omega arith, subst (λ k. ProofThere (length (signatures env)) (length ctx) (length (assertions env)) (length (listed hyps)) k q) many c.requires.proof)
+
+pub check_let-returns-in_err-check_proof-2-clause-judged : goal.check_let-returns-in_err-check_proof-2-clause-judged
+check_let-returns-in_err-check_proof-2-clause-judged t c =
+    let from : c.len-from.result ≡ length c.args.claims.now.items = omega (arith, c.len-from.ensures) in
+    let env = c.args.self.now.env.now in
+    let ctx = c.args.self.now.ctx.now in
+    let hyps = c.args.self.now.hyps.now in
+    let lets = claim_trees c.args.lets.now.items in
+    let n = first c.args.nodes.now in
+    let p = proof_view c.args.stated.now in
+    let q = proof_view c.args.proof.now in
+    let x = proved env hyps lets p in
+    let one = c.check_proof.new.claims.items in
+    let named : claim_trees c.name_claim.new.lets.items ≡ with_fact lets x =
+    c.in_ok-name_claim.ensures.lets ∙ ap (λ ls. with_fact (claim_trees ls) (operand (claim_trees one) c.len-from.result)) c.in_ok-check_proof.ensures.same
+    ∙ ap (with_fact lets) (ap (operand (claim_trees one)) from ∙ last_same c.args.claims.now.items one x c.in_ok-check_proof.ensures.claims) in
+    let A = proof_rules env ctx hyps lets p (part (parts n) 2) in
+    let B = proof_rules env ctx hyps (with_fact lets x) q (part (parts n) 3) in
+    let held = subst (λ m. AllHold (proof_rules env ctx hyps lets p m)) c.part.ensures c.in_ok-check_proof.ensures.judged in
+    let s = c.in_err-check_proof-2.field-0.0 in
+    stop_handed_on (A >> B) c.from_residual-in_err-check_proof-2.result s c.from_residual-in_err-check_proof-2.ensures.1
+    (stopped_after A B s held (subst (λ ls. Stops s (proof_rules env ctx hyps ls q (part (parts n) 3))) named
+    (subst (λ m. Stops s (proof_rules env ctx hyps (claim_trees c.name_claim.new.lets.items) q m)) c.part-2.ensures c.in_err-check_proof-2.ensures.judged)))
+
+pub check_let-returns-clause-judged : goal.check_let-returns-clause-judged
+check_let-returns-clause-judged t c =
+    let from : c.len-from.result ≡ length c.args.claims.now.items = omega (arith, c.len-from.ensures) in
+    let env = c.args.self.now.env.now in
+    let ctx = c.args.self.now.ctx.now in
+    let hyps = c.args.self.now.hyps.now in
+    let lets = claim_trees c.args.lets.now.items in
+    let n = first c.args.nodes.now in
+    let p = proof_view c.args.stated.now in
+    let q = proof_view c.args.proof.now in
+    let x = proved env hyps lets p in
+    let one = c.check_proof.new.claims.items in
+    let named : claim_trees c.name_claim.new.lets.items ≡ with_fact lets x =
+    c.in_ok-name_claim.ensures.lets ∙ ap (λ ls. with_fact (claim_trees ls) (operand (claim_trees one) c.len-from.result)) c.in_ok-check_proof.ensures.same
+    ∙ ap (with_fact lets) (ap (operand (claim_trees one)) from ∙ last_same c.args.claims.now.items one x c.in_ok-check_proof.ensures.claims) in
+    let A = proof_rules env ctx hyps lets p (part (parts n) 2) in
+    let B = proof_rules env ctx hyps (with_fact lets x) q (part (parts n) 3) in
+    let held = subst (λ m. AllHold (proof_rules env ctx hyps lets p m)) c.part.ensures c.in_ok-check_proof.ensures.judged in
+    all_hold-both A B held (subst (λ ls. AllHold (proof_rules env ctx hyps ls q (part (parts n) 3))) named
+    (subst (λ m. AllHold (proof_rules env ctx hyps (claim_trees c.name_claim.new.lets.items) q m)) c.part-2.ensures c.in_ok-check_proof-2.ensures.judged))
+
+pub check_let-returns-clause-claims : goal.check_let-returns-clause-claims
+check_let-returns-clause-claims t c =
+    let from : c.len-from.result ≡ length c.args.claims.now.items = omega (arith, c.len-from.ensures) in
+    let env = c.args.self.now.env.now in
+    let ctx = c.args.self.now.ctx.now in
+    let hyps = c.args.self.now.hyps.now in
+    let lets = claim_trees c.args.lets.now.items in
+    let n = first c.args.nodes.now in
+    let p = proof_view c.args.stated.now in
+    let q = proof_view c.args.proof.now in
+    let x = proved env hyps lets p in
+    let one = c.check_proof.new.claims.items in
+    let named : claim_trees c.name_claim.new.lets.items ≡ with_fact lets x =
+    c.in_ok-name_claim.ensures.lets ∙ ap (λ ls. with_fact (claim_trees ls) (operand (claim_trees one) c.len-from.result)) c.in_ok-check_proof.ensures.same
+    ∙ ap (with_fact lets) (ap (operand (claim_trees one)) from ∙ last_same c.args.claims.now.items one x c.in_ok-check_proof.ensures.claims) in
+    let y = proved env hyps (claim_trees c.name_claim.new.lets.items) q in
+    c.in_ok-check_proof-2.ensures.claims ∙ ap (λ xs. with_fact (claim_trees xs) y) c.in_ok-name_claim.ensures.claims ∙ ap (λ k. with_fact (claim_trees (take k one)) y) from
+    ∙ ap (λ ts. with_fact ts y) (front_same c.args.claims.now.items one (more x none) c.in_ok-check_proof.ensures.claims)
+    ∙ ap (λ ls. with_fact (claim_trees c.args.claims.now.items) (proved env hyps ls q)) named
+
+pub check_let-returns-clause-same : goal.check_let-returns-clause-same
+check_let-returns-clause-same t c =
+    let visible : c.len-visible.result ≡ length c.args.lets.now.items = omega (arith, c.len-visible.ensures) in
+    let same = c.in_ok-check_proof.ensures.same in
+    c.truncate.ensures.items ∙ ap (take c.len-visible.result) c.in_ok-check_proof-2.ensures.same
+    ∙ ap (λ k. take k c.name_claim.new.lets.items) (visible ∙ ap length (sym same)) ∙ c.in_ok-name_claim.ensures.visible ∙ same
+
+pub check_proof-returns-in-Cite-clause-judged : goal.check_proof-returns-in-Cite-clause-judged
+check_proof-returns-in-Cite-clause-judged t c =
+    let env = c.args.self.now.env.now in
+    let ctx = c.args.self.now.ctx.now in
+    let hyps = c.args.self.now.hyps.now in
+    let lets = claim_trees c.args.lets.now.items in
+    let n = first c.args.nodes.now in
+    subst (λ x. Judged c.check_citation.result (proof_rules env ctx hyps lets (proof_view x) n)) (sym c.in-Cite.is) c.check_citation.ensures.judged
+
+pub check_proof-returns-in-Conv-clause-judged : goal.check_proof-returns-in-Conv-clause-judged
+check_proof-returns-in-Conv-clause-judged t c =
+    let env = c.args.self.now.env.now in
+    let ctx = c.args.self.now.ctx.now in
+    let hyps = c.args.self.now.hyps.now in
+    let lets = claim_trees c.args.lets.now.items in
+    let n = first c.args.nodes.now in
+    subst (λ x. Judged c.check_conversion.result (proof_rules env ctx hyps lets (proof_view x) n)) (sym c.in-Conv.is)
+    (subst (λ q. Judged c.check_conversion.result (proof_rules env ctx hyps lets (by_conv (tree c.in-Conv.e) c.in-Conv.conv q) n)) c.get-in-Conv.ensures
+    (subst (λ z. Judged c.check_conversion.result (proof_rules env ctx hyps lets (by_conv (tree c.in-Conv.e) z (proof_view c.get-in-Conv.result.now)) n)) c.get.ensures
+    c.check_conversion.ensures.judged))

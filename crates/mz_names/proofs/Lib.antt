@@ -1,0 +1,4 @@
+pub mod Numbering
+pub mod Keyed
+pub mod WorkedNames
+pub mod Offered

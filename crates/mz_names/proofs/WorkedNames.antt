@@ -1,0 +1,18 @@
+-- Numbers of names, computed.
+use Rattle.std.proofs.Common.{◌≡◌, ◌∷◌, [], Some, refl}
+use Rattle.std.specs.Prelude.{codes}
+use Rattle.mz_names.specs.Names.{number_of, IsNew, IsKnown}
+
+second : number_of (codes "wff" ∷ codes "set" ∷ codes "wff" ∷ []) (codes "set") ≡ Some 1
+second = refl
+
+-- of two that are the same the first counts
+first : number_of (codes "wff" ∷ codes "set" ∷ codes "wff" ∷ []) (codes "wff") ≡ Some 0
+first = refl
+
+known : IsKnown (codes "wff" ∷ codes "set" ∷ []) (codes "set")
+known = (1, refl)
+
+-- a name that begins as another one does is another name
+longer : IsNew (codes "wff" ∷ codes "set" ∷ []) (codes "sets")
+longer = refl

@@ -1,0 +1,12 @@
+use Rattle.std.proofs.Common.{◌≡◌, ◌++◌, map, drop}
+use Rattle.mz_variables.specs.Code.{variable}
+use Rattle.mz_spec.specs.Entries.{state}
+use Rattle.mz_spec.specs.State.{binder_of, variable_bytes}
+use Rattle.mz_spec.proofs.state.State.push_variables.Given as goal
+
+abbrev pub invariant-loop-variable : goal.invariant-loop-variable
+invariant-loop-variable l = record {
+  names : l.scope.names ++ map variable_bytes (map variable (drop l.variable-index l.variables)) ≡ l.initial.scope.names ++ map variable_bytes (map variable l.variables);
+  binders : l.scope.binders ++ map (binder_of (state l.self) (map variable l.params)) (map variable (drop l.variable-index l.variables))
+      ≡ l.initial.scope.binders ++ map (binder_of (state l.self) (map variable l.params)) (map variable l.variables);
+}

@@ -1,0 +1,96 @@
+-- A term is looked for and put in at once.
+use Rattle.std.proofs.Common.{ℕ, ◌≡◌, ◌+◌, List, length, Option, Some, None, inl, inr, refl, ap, sym, ◌∙◌, subst}
+use Rattle.mz_logic.specs.Tree.{app}
+use Rattle.mz_logic.specs.Words.{TermWords, term_at, word_sort, signatures_of}
+use Rattle.mz_store.specs.Bits.{Tells, bound_vars}
+use Rattle.mz_store.specs.Sharing.{Sharing, AreIn, Holds, trees_of, IsOver, IsTold, CanTake}
+use Rattle.mz_store.specs.Nodes.{all_made, application, entered}
+use Rattle.mz_store.specs.Prints.{print_of}
+use Rattle.mz_store.specs.Chains.{IsLast, IsNode}
+use Rattle.mz_store.specs.Kept.{shared_by, IsAdded, HasMore}
+use Rattle.mz_store.specs.Placed.{IsPlaced}
+use Rattle.mz_store.specs.declared.item.Id.{Id}
+use Rattle.mz_store.specs.declared.node.Node.{Node}
+use Rattle.mz_store.specs.declared.node.Application.{Application as Term}
+use Rattle.mz_store.specs.declared.expressions.Expressions.{Expressions}
+use Rattle.mz_store.proofs.Chained.{Puts}
+use Rattle.mz_store.proofs.Finding.{sought-first, sought-none}
+use Rattle.mz_store.proofs.Adding.{Keeps, term-view, add-kept, more-view, more-kept, found-holds, missing-holds}
+use Rattle.mz_store.proofs.OverTerms.{over-term}
+
+-- what a store of these expressions and this table keeps
+abbrev pub Has : ℕ → Expressions → (ℕ → Option Id) → Type 0
+Has factor e newest = Keeps factor e.mode e.bound_count e.operands.items e.nodes.items newest
+
+same-modes : (factor : ℕ) (e e' : Expressions) (newest : ℕ → Option Id) → e'.mode ≡ e.mode → e'.bound_count ≡ e.bound_count → Keeps factor e.mode e.bound_count e'.operands.items e'.nodes.items newest → Has factor e' newest
+same-modes factor e e' newest mode-is count-is keeps =
+    subst (λ m. Keeps factor m e'.bound_count e'.operands.items e'.nodes.items newest) (sym mode-is)
+    (subst (λ k. Keeps factor e.mode k e'.operands.items e'.nodes.items newest) (sym count-is) keeps)
+
+-- ---- a term is added
+
+-- the last node's operands and what it comes after
+abbrev term-of : Expressions → ℕ → List Id → Option Id → Term
+term-of e t is earlier = record { head = t; from = length e.operands.items; to = length e.operands.items + length is; earlier = earlier }
+
+pub placed-kept : (factor : ℕ) (terms : List TermWords) (e e' : Expressions) (newest newest' : ℕ → Option Id) (v : Sharing) (t : ℕ) (is : List Id) (earlier : Option Id) (print : ℕ) (id : Id)
+    → Has factor e newest → shared_by e ≡ v → IsAdded terms e t is earlier e' → AreIn v is → ((i : ℕ) → Holds v i (app t (trees_of v is)) → ⊥)
+    → print ≡ print_of factor t is → earlier ≡ newest print → id.0 ≡ length e.nodes.items → Puts newest newest' print id → Has factor e' newest'
+placed-kept factor terms e e' newest newest' v t is earlier print id keeps view (deps, tells, os-are, nodes-are, mode-is, count-is) there fresh print-is earlier-is place puts =
+    same-modes factor e e' newest' mode-is count-is
+    (add-kept factor e.mode e.bound_count e.operands.items e'.operands.items is e.nodes.items e'.nodes.items newest newest' (word_sort (term_at terms t).result) deps (term-of e t is earlier) v print id
+    keeps view os-are refl refl nodes-are there fresh print-is earlier-is place puts)
+
+pub placed-new : (factor : ℕ) (terms : List TermWords) (e e' : Expressions) (newest : ℕ → Option Id) (v : Sharing) (t : ℕ) (is : List Id) (earlier : Option Id) (id : Id)
+    → Has factor e newest → shared_by e ≡ v → IsAdded terms e t is earlier e' → IsOver (signatures_of terms) v → CanTake terms v.context t (trees_of v is)
+    → id.0 ≡ length e.nodes.items → IsPlaced terms v t is id (shared_by e')
+placed-new factor terms e e' newest v t is earlier id keeps view (deps, tells, os-are, nodes-are, mode-is, count-is) over fit place =
+    inr (
+      word_sort (term_at terms t).result,
+      deps,
+      now-is,
+      place ∙ sym keeps.0.many ∙ ap (λ s. length s.entries) view,
+      subst (IsOver (signatures_of terms)) (sym now-is)
+          (over-term terms v t is (word_sort (term_at terms t).result) deps over fit refl
+          (subst (λ s. Tells (bound_vars s.context) deps (IsTold s.mode (signatures_of terms) s.context (app t (trees_of s is)))) view tells)),
+    )
+  where
+    now-is : shared_by e' ≡ entered v (record { sort = word_sort (term_at terms t).result; deps = deps; form = application t is })
+    now-is = ap (λ m. shared_by (record e' { mode = m })) mode-is
+        ∙ term-view factor e.mode e.bound_count e.operands.items e'.operands.items is e.nodes.items e'.nodes.items newest (word_sort (term_at terms t).result) deps (term-of e t is earlier) v
+        keeps view os-are refl refl nodes-are
+
+-- ---- no memory
+
+pub left-kept : (factor : ℕ) (e e' : Expressions) (newest newest' : ℕ → Option Id) → Has factor e newest → HasMore e e' → ((q : ℕ) → newest' q ≡ newest q) → Has factor e' newest'
+left-kept factor e e' newest newest' keeps (more, os-are, nodes-are, mode-is, count-is) same =
+    same-modes factor e e' newest' mode-is count-is
+    (more-kept factor e.mode e.bound_count e.operands.items e'.operands.items more e.nodes.items e'.nodes.items newest newest' keeps os-are nodes-are same)
+
+pub left-same : (factor : ℕ) (e e' : Expressions) (newest : ℕ → Option Id) (v : Sharing) → Has factor e newest → shared_by e ≡ v → HasMore e e' → shared_by e' ≡ v
+left-same factor e e' newest v keeps view (more, os-are, nodes-are, mode-is, count-is) =
+    ap (λ m. shared_by (record e' { mode = m })) mode-is
+    ∙ more-view factor e.mode e.bound_count e.operands.items e'.operands.items more e.nodes.items e'.nodes.items newest v keeps view os-are nodes-are
+
+-- ---- the table knows no term with the print
+
+pub none-holds : (factor : ℕ) (e : Expressions) (newest : ℕ → Option Id) (v : Sharing) (t : ℕ) (is : List Id) → Has factor e newest → shared_by e ≡ v → AreIn v is → newest (print_of factor t is) ≡ None
+    → (i : ℕ) → Holds v i (app t (trees_of v is)) → ⊥
+none-holds factor e newest v t is (kept, chained) view there lacks =
+    missing-holds (shared_by e) v e.bound_count e.operands.items e.nodes.items kept view t is there None
+    (sought-none e.operands.items e.nodes.items t is (sought-first e.operands.items e.nodes.items t is None
+    (factor, chained.linked, subst (IsLast factor (all_made e.operands.items e.nodes.items) (length e.nodes.items) (print_of factor t is)) lacks (chained.last (print_of factor t is)))))
+
+-- ---- what was found along the chain, or wasn't
+
+pub found-placed : (factor : ℕ) (terms : List TermWords) (e : Expressions) (newest : ℕ → Option Id) (v s' : Sharing) (t : ℕ) (is : List Id) (os : List Id) (nodes : List Node) (id : Id)
+    → Has factor e newest → shared_by e ≡ v → s' ≡ v → os ≡ e.operands.items → nodes ≡ e.nodes.items → IsNode (all_made os nodes) t is id.0 → IsPlaced terms v t is id s'
+found-placed factor terms e newest v s' t is os nodes id (kept, _) view same os-are nodes-are node =
+    inl (same, found-holds (shared_by e) v e.bound_count e.operands.items e.nodes.items kept view t is (Some id) (rw (sym os-are, sym nodes-are) node))
+
+pub missing-fresh : (factor : ℕ) (e : Expressions) (newest : ℕ → Option Id) (v : Sharing) (t : ℕ) (is : List Id) (os : List Id) (nodes : List Node)
+    → Has factor e newest → shared_by e ≡ v → AreIn v is → os ≡ e.operands.items → nodes ≡ e.nodes.items → ((i : ℕ) → IsNode (all_made os nodes) t is i → ⊥)
+    → (i : ℕ) → Holds v i (app t (trees_of v is)) → ⊥
+missing-fresh factor e newest v t is os nodes (kept, _) view there os-are nodes-are lacks =
+    missing-holds (shared_by e) v e.bound_count e.operands.items e.nodes.items kept view t is there None
+    (λ i node. lacks i (rw (os-are, nodes-are) node))

@@ -1,0 +1,76 @@
+//! The expressions of a store, without the table by which they are found: the table may be lent while
+//! they grow.
+ghost use Rattle.std.specs.Prelude.{ℕ, ◌≡◌, IfOk, OnOk, OnErr, List, length};
+ghost use Rattle.mz_logic.specs.Signature.{Signature};
+ghost use Rattle.mz_logic.specs.Words.{signatures_of};
+ghost use Rattle.mz_store.specs.Bits.{Tells, bound_vars};
+ghost use Rattle.mz_store.specs.Sharing.{IsIn, AreIn, tree_of, trees_of, deps_of, IsOver, IsTold, CanTake};
+ghost use Rattle.mz_store.specs.Kept.{shared_by, AreKept, IsAdded, HasMore};
+
+use crate::deps::deps_of_term;
+use crate::item::{DepsMode, Id};
+use crate::node::{Application, Form, Node};
+use mz_logic::Terms;
+use std::alloc::{AllocError, Global};
+
+/// Expressions over the variables of one context. The id of each is its place.
+#[derive(Drop)]
+pub struct Expressions {
+    pub mode: DepsMode,
+    pub bound_count: u32,
+    pub nodes: Vec<Node>,
+    // of all terms, one after another
+    pub operands: Vec<Id>,
+}
+
+impl Expressions {
+    /// The word of the expression's variables.
+    pub fn deps(&self, id: Id) -> u64
+        requires kept { AreKept self.now }
+        requires inside { IsIn (shared_by self.now) id.0 }
+        ensures kept { result ≡ deps_of (shared_by self.now) id.0 }
+        ensures variables { (sigs : List Signature) → IsOver sigs (shared_by self.now) → Tells (bound_vars (shared_by self.now).context) result (IsTold (shared_by self.now).mode sigs (shared_by self.now).context (tree_of (shared_by self.now) id.0)) }
+    {
+        self.nodes[id.0 as usize].deps
+    }
+
+    /// Adds the term `t` over these expressions, which isn't there. `earlier` is the last one with its
+    /// print.
+    ///
+    /// # Errors
+    ///
+    /// Where there is no memory. The same expressions are there then.
+    pub fn add<T: Terms>(
+        &mut self,
+        alloc: Global,
+        terms: &T,
+        t: u32,
+        args: &[Id],
+        earlier: Option<Id>,
+    ) -> Result<Id, AllocError>
+        requires kept { AreKept self.old }
+        requires over { IsOver (signatures_of (T.all_terms terms.now)) (shared_by self.old) }
+        requires ids { AreIn (shared_by self.old) args.now }
+        requires fit { CanTake (T.all_terms terms.now) (shared_by self.old).context t (trees_of (shared_by self.old) args.now) }
+        ensures id { IfOk result (λ id. id.0 ≡ length self.old.nodes.items) }
+        ensures ok { OnOk result (IsAdded (T.all_terms terms.now) self.old t args.now earlier self.new) }
+        ensures err { OnErr result (HasMore self.old self.new) }
+    {
+        let deps = deps_of_term(alloc, self, terms, t, args)?;
+        let from = self.operands.len();
+        self.operands.extend_from_slice(args)?;
+        let made = Application {
+            head: t,
+            from,
+            to: self.operands.len(),
+            earlier,
+        };
+        let id = Id(self.nodes.len() as u64);
+        self.nodes.push(Node {
+            sort: terms.result(t).sort(),
+            deps,
+            form: Form::Application(made),
+        })?;
+        Ok(id)
+    }
+}

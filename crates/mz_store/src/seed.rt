@@ -1,0 +1,10 @@
+/// What the numbers are made with by which a store's terms are looked up. It is drawn by chance, so that
+/// a file can't be chosen for terms that share them, which take long to be told apart. No answer
+/// depends on it.
+#[derive(Clone, Copy, Debug, PartialEq, Eq)]
+pub struct Seed(pub u64);
+
+impl Seed {
+    /// The seed of those who draw none: 2^64 over the golden section, an odd number without a pattern.
+    pub const FIXED: Seed = Seed(0x9e37_79b9_7f4a_7c15);
+}
