@@ -5,8 +5,8 @@ use Rattle.mz_logic.specs.Tree.{Tree, Trees, var, app, none, more}
 use Rattle.mz_logic.specs.Signature.{Signature}
 use Rattle.mz_logic.specs.Legality.{InRange, AllInRange}
 use Rattle.mz_logic.specs.declared.binder.Binder.{Binder}
-use Rattle.mz_match.specs.Trees.{SameOver, AllSameOver, IsPaired}
-use Rattle.mz_match.proofs.Offered.{own_pairs, pairs-own, paired-own}
+use Rattle.mz_verdicts.specs.Trees.{SameOver, AllSameOver, IsPaired}
+use Rattle.mz_verdicts.proofs.Offered.{own_pairs, pairs-own, paired-own}
 use Rattle.mz_accepting.specs.Laws.{SameFormsHaveSameBodies}
 use Rattle.mz_accepting.proofs.SameBodies.{same-body-back}
 

@@ -10,14 +10,14 @@ use Rattle.mz_logic.specs.declared.binder.Binder.{Binder}
 use Rattle.mz_layout.specs.Normal.{Parts, file_of}
 use Rattle.mz_layout.specs.Standing.{Fit}
 use Rattle.mz_spec.specs.Spec.{SpecOf}
-use Rattle.mz_match.specs.Match.{publics, Agrees}
-use Rattle.mz_match.specs.Trees.{SameBody}
-use Rattle.mz_match.specs.Verdict.{AcceptsBy}
+use Rattle.mz_verdicts.specs.Match.{publics, Agrees}
+use Rattle.mz_verdicts.specs.Trees.{SameBody}
+use Rattle.mz_verdicts.specs.Verdict.{AcceptsBy}
 use Rattle.mz_steps.specs.Sameness.{IsSameForm}
 use Rattle.mz_steps.specs.SameLists.{IsSameList}
 use Rattle.mz_streams.specs.SpelledLists.{list_spelled}
 use Rattle.mz_writing.specs.Writing.{IsWrittenAs}
-use Rattle.mz_binary.specs.Standards.{by_table}
+use Rattle.mz_files.specs.Standards.{by_table}
 
 -- ---- lists that are the same
 

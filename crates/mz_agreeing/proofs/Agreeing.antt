@@ -11,9 +11,9 @@ use Rattle.mz_logic.specs.LegalLists.{Statement, LegalAfter, Legal, gap_free, de
 use Rattle.mz_logic.specs.declared.binder.Binder.{Binder}
 use Rattle.mz_publics.specs.PublicPart.{public_number, is_local_term, marks_of, mark_of, renamed, all_renamed, mentions_local, public_decl, public_decls, public_part, Hides, IsSayable, AreSayable}
 use Rattle.mz_publics.proofs.Offered.{AllTerms, AllTermsIn, all-public, all-public-in, pick}
-use Rattle.mz_match.specs.Match.{term_rows, partner_of, publics_after, publics, match_checks, Agrees}
-use Rattle.mz_match.specs.Trees.{SameOver, AllSameOver, IsPaired, SameBody, SameTree}
-use Rattle.mz_match.proofs.Offered.{own_pairs, pairs-own, paired-own}
+use Rattle.mz_verdicts.specs.Match.{term_rows, partner_of, publics_after, publics, match_checks, Agrees}
+use Rattle.mz_verdicts.specs.Trees.{SameOver, AllSameOver, IsPaired, SameBody, SameTree}
+use Rattle.mz_verdicts.proofs.Offered.{own_pairs, pairs-own, paired-own}
 use Rattle.mz_agreeing.proofs.Cases.{chosen}
 use Rattle.mz_agreeing.proofs.Rows.{IsTracked, row-at}
 

@@ -8,8 +8,8 @@ use Rattle.mz_logic.specs.Tree.{Tree}
 use Rattle.mz_logic.specs.LegalLists.{Legal}
 use Rattle.mz_math.specs.Meaning.{height}
 use Rattle.mz_math.specs.Formula.{most}
-use Rattle.mz_forms.specs.Proof.{Statement}
-use Rattle.mz_forms.specs.Statements.{no_names}
+use Rattle.mz_statements.specs.Statements.{Statement}
+use Rattle.mz_forms.specs.Name.{no_names}
 use Rattle.mz_mmu.specs.Laws.{IsWhole}
 use Rattle.mz_mmu.proofs.Offered.{one_reading, are_whole}
 use Rattle.mz_type.specs.Meaning.{marked}
@@ -20,7 +20,7 @@ use Rattle.mz_printing.specs.Prefix.{IsShort}
 use Rattle.mz_readback.specs.Declared.{HasVariables, formula_of, decls_of}
 use Rattle.mz_readback.proofs.Offered.{printed-declare}
 use Rattle.mz_publics.specs.PublicPart.{public_number, public_part, mentions_local, Hides, AreSayable}
-use Rattle.mz_match.specs.Match.{publics, Agrees}
+use Rattle.mz_verdicts.specs.Match.{publics, Agrees}
 use Rattle.mz_wording.specs.Wording.{vocabulary_of, local_terms, is_short, is_hidden, prefix_text, local_checks, long_checks, wording_checks}
 use Rattle.mz_agreeing.specs.Laws.{SpecificationsOfTextsDeclare}
 use Rattle.mz_agreeing.proofs.Naming.{is-identifier, distinct-names}

@@ -8,7 +8,7 @@ use Rattle.mz_logic.specs.Declaration.{Form, plain_form, abstract_form, defined,
 use Rattle.mz_logic.specs.Legality.{InRange, AllInRange, NamesThere}
 use Rattle.mz_logic.specs.LegalLists.{LegalAfter, Legal, gap_free}
 use Rattle.mz_logic.specs.declared.binder.Binder.{Binder}
-use Rattle.mz_forms.specs.Proof.{Statement}
+use Rattle.mz_statements.specs.Statements.{Statement}
 use Rattle.mz_type.specs.Meaning.{marked}
 use Rattle.mz_printing.specs.Lines.{PlainBinder, Tokens, term_line, assert_line, definition_line}
 use Rattle.mz_readback.specs.Declared.{Vocabulary, plain_type, plain_param, plain_dummy, plain_dummies, plain_binders, formula_of, formulas_of, kind_of, term_line_of, line_of_decl, lines_of, decls_of}

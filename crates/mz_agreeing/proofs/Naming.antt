@@ -2,14 +2,13 @@
 use Rattle.std.proofs.Common.{◌≡◌, ◌<◌, ◌≤◌, ◌∙◌, ◌++◌, ℕ, zero, suc, List, [], ◌∷◌, length, true, get_or, ap, sym, refl, arith, decimal, codes, ◌^◌}
 use Rattle.std.specs.Prelude.{IsTrue, replicate}
 use Rattle.std.specs.List.{list_all}
-use Rattle.std.specs.Str.Parse.{AllDigits}
-use Rattle.std.proofs.lemmas.Bool.{and_from, or_right, le-leb}
+use Rattle.std.proofs.lemmas.Bool.{and_from}
 use Rattle.std.proofs.lemmas.Fmt.{decimal_injective, decimal_is_IsNumeral}
-use Rattle.std.proofs.lemmas.Str.Parse.{digit_from_value}
 use Rattle.std.proofs.lemmas.List.{append_cancel_left}
-use Rattle.mz_lex.specs.Kinds.{is_name, is_name_start, is_name_byte, is_digit}
+use Rattle.mz_names.specs.Identifiers.{is_name, is_name_byte}
+use Rattle.mz_names.proofs.Offered.{digits-named}
 use Rattle.mz_logic.specs.Declaration.{Declaration, sort_decl, term_decl, assertion_decl}
-use Rattle.mz_forms.specs.Proof.{Statement}
+use Rattle.mz_statements.specs.Statements.{Statement}
 use Rattle.mz_wording.specs.Wording.{underscores, longest_run, variable_prefix, term_name, term_names, vocabulary_of}
 
 -- ---- how they begin
@@ -39,12 +38,6 @@ pub distinct-names : (ss : List Statement) (x y : ℕ) → x < 2 ^ 64 → y < 2 
 distinct-names ss x y a b is = decimal_injective x y a b (append_cancel_left (variable_prefix ss) (decimal x) (decimal y) is)
 
 -- ---- they are identifiers
-
-digits-named : (ds : List ℕ) → AllDigits 10 ds → list_all is_name_byte ds ≡ true
-digits-named [] all = refl
-digits-named (c ∷ cs) (here, rest) =
-    let range = digit_from_value c here in
-    and_from _ _ (or_right (is_name_start c) (is_digit c) (and_from _ _ (le-leb 48 c (omega arith)) (le-leb c 57 (omega arith)))) (digits-named cs rest)
 
 behind-named : (n : ℕ) (cs : List ℕ) → list_all is_name_byte cs ≡ true → list_all is_name_byte ((replicate n 95 ++ codes "v") ++ cs) ≡ true
 behind-named zero cs all = all

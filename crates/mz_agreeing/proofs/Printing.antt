@@ -14,21 +14,20 @@ use Rattle.mz_logic.specs.LegalLists.{Statement as Marked, LegalAfter, Legal, ga
 use Rattle.mz_logic.proofs.Offered.{sorts-append}
 use Rattle.mz_names.specs.Names.{IsNew}
 use Rattle.mz_names.proofs.Offered.{new-last, new-more, new-other}
-use Rattle.mz_forms.specs.Name.{Names}
-use Rattle.mz_forms.specs.Proof.{Statement}
-use Rattle.mz_forms.specs.Statements.{no_names, names_with}
+use Rattle.mz_forms.specs.Name.{Names, no_names, names_with}
+use Rattle.mz_statements.specs.Statements.{Statement}
 use Rattle.mz_mmu.specs.Laws.{IsWhole, Ascends}
 use Rattle.mz_type.specs.Meaning.{marked}
 use Rattle.mz_printing.specs.Prefix.{IsShort}
 use Rattle.mz_readback.specs.Declared.{Named, Vocabulary, formula_of, AreShort, HasNewName, HasShortBody, IsWithin, used_with, ArePrintable}
 use Rattle.mz_publics.specs.PublicPart.{public_number, is_local_term, mark_of, marks_of, renamed, all_renamed, mentions_local, any_mentions_local, shown, public_decl, Hides, IsSayable}
 use Rattle.mz_publics.proofs.Offered.{AreBeside, signatures-append, same-signatures, same-sorts, none-beside, all-public, pick, decl-legal, IsAt, mark-at, at-next, at-known, public-next, local-next}
-use Rattle.mz_match.specs.Match.{term_rows}
+use Rattle.mz_verdicts.specs.Match.{term_rows}
 use Rattle.mz_wording.specs.Wording.{sort_name, term_name, sort_names, term_names, vocabulary_of, local_terms, IsBrief}
 use Rattle.mz_agreeing.proofs.Naming.{other-name}
 use Rattle.mz_agreeing.proofs.Rows.{IsTracked, row-at}
 use Rattle.mz_agreeing.proofs.Spoken.{KeepsName, same-short}
-use Rattle.mz_agreeing.proofs.Titles.{IsTitled, AreTitled, is-name}
+use Rattle.mz_agreeing.proofs.Titles.{IsTitled, AreTitled}
 
 -- ---- numbers of terms
 
@@ -294,7 +293,7 @@ module _ (all : List Statement) (hidden : Tree → Bool) (n : ℕ) where
         (λ local. printable-after ss (env ++ s.decl ∷ []) env' (names_with names s.name s.decl) used (behind-local env env' names used s ss local (legal.0.1 local) b) titled.1 further wanted.1 legal.1)
         (λ public. (
           record {
-            identifier = is-name s.name titled.0.0;
+            identifier = titled.0.0;
             legal = decl-legal ls hidden hides env env' b.beside s.decl (wanted.0 public).0 legal.0.0;
             new = name-new env env' names used ss s.name s.decl b.so_far.sorts_are b.so_far.terms_are b.so_far.sorts_many b.so_far.terms_many (at-known ls env (marked_one s) (marked ss) false public b.so_far.at) b.beside b.low b.new_used titled.0;
             within = decl-within env (few-terms env (s ∷ ss) b.so_far.at) hides short names s.name s.decl legal.0.0.0 (wanted.0 public) (whole 0 s (omega arith)).ascend titled.0;

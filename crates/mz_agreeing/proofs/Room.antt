@@ -9,7 +9,7 @@ use Rattle.mz_logic.specs.Declaration.{Form, plain_form, abstract_form, defined,
 use Rattle.mz_logic.specs.declared.binder.Binder.{Binder}
 use Rattle.mz_grammar.specs.declared.kind.Kind.{Kind}
 use Rattle.mz_grammar.specs.declared.kind.Kind.TheVariants.{Term, Assert, Definition}
-use Rattle.mz_forms.specs.Proof.{Statement}
+use Rattle.mz_statements.specs.Statements.{Statement}
 use Rattle.mz_printing.specs.Words.{Word, written}
 use Rattle.mz_printing.specs.Lines.{PlainBinder, Line, binder_words, binders_words, colon_words, end_words, type_words, body_words, hyps_words, math_word, head_words, title_words, line_words, line_text, lines_text}
 use Rattle.mz_printing.proofs.Offered.{written-append}

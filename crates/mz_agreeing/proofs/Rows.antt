@@ -5,7 +5,7 @@ use Rattle.std.proofs.lemmas.Bool.{true≢false}
 use Rattle.mz_logic.specs.Declaration.{Declaration, sort_decl, term_decl, assertion_decl, terms, signatures}
 use Rattle.mz_logic.specs.LegalLists.{Statement, declarations}
 use Rattle.mz_publics.specs.PublicPart.{public_number, is_local_term, mark_of, marks_of}
-use Rattle.mz_match.specs.Match.{term_row_of, term_rows}
+use Rattle.mz_verdicts.specs.Match.{term_row_of, term_rows}
 
 -- the public number of t is the place of its row
 abbrev pub IsTracked : List ℕ → (ℕ → ℕ) → ℕ → Type 0

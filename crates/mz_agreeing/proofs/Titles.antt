@@ -1,17 +1,13 @@
 -- The names of a text's statements: each is an identifier, and new in its space.
-use Rattle.std.proofs.Common.{◌≡◌, ◌≤◌, ◌<◌, ℕ, List, [], ◌∷◌, Bool, true, false, sym, refl, subst, inl, inr, arith}
-use Rattle.std.specs.Prelude.{⊤, IsTrue, ◌==◌, ◌&&◌, ◌||◌}
-use Rattle.std.specs.List.{list_all}
-use Rattle.std.proofs.lemmas.Bool.{and_parts, and_from, or_cases, or_left, or_right}
-use Rattle.mz_lex.specs.Kinds as kinds
+use Rattle.std.proofs.Common.{◌≤◌, ◌<◌, ℕ, List, [], ◌∷◌, Bool, true, false, sym, subst, arith}
+use Rattle.std.specs.Prelude.{⊤}
 use Rattle.mz_logic.specs.Declaration.{Declaration, sort_decl, term_decl, assertion_decl}
 use Rattle.mz_sexpr.specs.Node.{Node, Nodes, atom, list, no_nodes, node}
 use Rattle.mz_names.specs.Names.{IsNew}
-use Rattle.mz_forms.specs.Name.{Names, is_name_start, is_name_byte, are_name_bytes, is_between, IsName, IsNewName}
-use Rattle.mz_forms.specs.Proof.{Statement}
-use Rattle.mz_forms.specs.declared.keyword.Kind.{Kind}
-use Rattle.mz_forms.specs.declared.keyword.Kind.TheVariants.{Sort as sort_kind, Term as term_kind, Axiom as axiom_kind, Def as def_kind, Theorem as theorem_kind}
-use Rattle.mz_forms.specs.Statements.{kind_of, is_local_word, Modifiers, bit, modifier_bits, IsDeclared, IsLocal, IsMarked, IsStatement, AreStatements, names_with}
+use Rattle.mz_forms.specs.Name.{Names, IsName, IsNewName, names_with}
+use Rattle.mz_statements.specs.Statements.{Statement, kind_of, is_local_word, Modifiers, bit, modifier_bits, IsDeclared, IsLocal, IsMarked, IsStatement, AreStatements}
+use Rattle.mz_statements.specs.declared.kind.Kind.{Kind}
+use Rattle.mz_statements.specs.declared.kind.Kind.TheVariants.{Sort as sort_kind, Term as term_kind, Axiom as axiom_kind, Def as def_kind, Theorem as theorem_kind}
 
 -- ---- what each statement has
 
@@ -72,33 +68,3 @@ pub all-titled : (names : Names) (ns : Nodes) (ss : List Statement) → AreState
 all-titled names no_nodes ss h = subst (AreTitled names) (sym h) tt
 all-titled names (node n ns) ss (s, rest, h, hs, is) =
     subst (AreTitled names) (sym is) (statement-titled names n s h, all-titled (names_with names s.name s.decl) ns rest hs)
-
--- ---- identifiers of a text are those of a specification
-
-start-named : (b : ℕ) → is_name_start b ≡ true → kinds.is_name_start b ≡ true
-start-named b is =
-    elim (or_cases (is_between 65 b 90 || is_between 97 b 122) (b == 95) is) [
-      | inl letter ↦ or_left _ (b == 95) (elim (or_cases (is_between 65 b 90) (is_between 97 b 122) letter) [
-        | inl large ↦ or_right (kinds.is_between 97 122 b) (kinds.is_between 65 90 b) large
-        | inr small ↦ or_left (kinds.is_between 97 122 b) (kinds.is_between 65 90 b) small
-      ])
-      | inr line ↦ or_right (kinds.is_between 97 122 b || kinds.is_between 65 90 b) (b == 95) line
-    ]
-
-byte-named : (b : ℕ) → is_name_byte b ≡ true → kinds.is_name_byte b ≡ true
-byte-named b is =
-    elim (or_cases (is_name_start b) (is_between 48 b 57) is) [
-      | inl start ↦ or_left (kinds.is_name_start b) _ (start-named b start)
-      | inr digit ↦ or_right (kinds.is_name_start b) _ digit
-    ]
-
-bytes-named : (bs : List ℕ) → are_name_bytes bs ≡ true → list_all kinds.is_name_byte bs ≡ true
-bytes-named [] are = refl
-bytes-named (b ∷ bs) are = let parts = and_parts (is_name_byte b) (are_name_bytes bs) are in and_from _ _ (byte-named b parts.0) (bytes-named bs parts.1)
-
-pub is-name : (w : List ℕ) → IsName w → IsTrue (kinds.is_name w)
-is-name [] is = absurd cc
-is-name (b ∷ bs) is =
-    let whole = and_parts (is_name_start b && are_name_bytes bs) _ is in
-    let front = and_parts (is_name_start b) (are_name_bytes bs) whole.0 in
-    and_from _ _ (and_from _ _ (start-named b front.0) (bytes-named bs front.1)) whole.1

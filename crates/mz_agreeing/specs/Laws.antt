@@ -2,11 +2,11 @@
 -- project's own).
 use Rattle.std.specs.Prelude.{◌<◌, ◌^◌, ℕ, false, List}
 use Rattle.mz_logic.specs.Declaration.{Declaration}
-use Rattle.mz_forms.specs.Proof.{Statement}
+use Rattle.mz_statements.specs.Statements.{Statement}
 use Rattle.mz_type.specs.Meaning.{marked}
 use Rattle.mz_type.specs.TextOf.{TextOf}
 use Rattle.mz_spec.specs.Spec.{SpecOf}
-use Rattle.mz_match.specs.Match.{publics, Agrees}
+use Rattle.mz_verdicts.specs.Match.{publics, Agrees}
 use Rattle.mz_wording.specs.Wording.{IsWordedAs}
 
 -- what it declares agrees with the text's public statements, as the match compares them

@@ -15,10 +15,12 @@ use Rattle.mz_asm.specs.declared.kind.Kind.{Kind}
 use Rattle.mz_asm.specs.declared.kind.Kind.TheVariants as kinds
 use Rattle.mz_asm.specs.declared.line.Line.{Line}
 use Rattle.mz_asm.specs.declared.line.Line.TheVariants as lines
-use Rattle.mz_asm.specs.Numbers.{is_digit, are_digits, IsNumber, number_in, word_in}
+use Rattle.mz_names.specs.Identifiers.{is_digit}
+use Rattle.mz_names.proofs.Offered.{digit-between}
+use Rattle.mz_asm.specs.Numbers.{are_digits, IsNumber, number_in, word_in}
 use Rattle.mz_asm.specs.Lines.{kind_name, IsValue, IsLine}
 use Rattle.mz_asm.specs.Reading.{kind_of_word, local_kind_of_word, unify_named, plain_proof_named, proof_named, first_word, other_words, head_of, numbers_in, head_in, param_of, param_in, result_of, result_in, value_in, unify_valued, unify_of, unify_line_in, proof_valued, proof_of, proof_line_in, part_named, part_in, line_named, line_in}
-use Rattle.mz_asm.proofs.Numerals.{both-true, some-if, same-bytes, digit-between, number-sound, number-complete, numeral-digits, word-sound, word-complete}
+use Rattle.mz_asm.proofs.Numerals.{both-true, some-if, same-bytes, number-sound, number-complete, numeral-digits, word-sound, word-complete}
 
 abbrev is_space : ℕ → Bool
 is_space b = b == 32

@@ -12,12 +12,14 @@ use Rattle.mz_show.specs.Words.{texts, numbered, param_line, result_line, comman
 use Rattle.mz_asm.specs.declared.line.Line.{Line}
 use Rattle.mz_asm.specs.declared.line.Line.TheVariants as lines
 use Rattle.mz_asm.specs.declared.rows.Rows.{Rows}
-use Rattle.mz_asm.specs.Numbers.{is_digit, are_digits, is_numeral, IsNumber}
+use Rattle.mz_names.specs.Identifiers.{is_digit}
+use Rattle.mz_names.proofs.Offered.{digit-between}
+use Rattle.mz_asm.specs.Numbers.{are_digits, is_numeral, IsNumber}
 use Rattle.mz_asm.specs.Lines.{kind_name, IsValue, IsLine}
 use Rattle.mz_asm.specs.Rows.{rows_after, IsInRange}
 use Rattle.mz_asm.specs.Assembling.{newline_at, behind_line, HasLines, AreFitting}
 use Rattle.mz_asm.proofs.Kept.{most-few}
-use Rattle.mz_asm.proofs.Numerals.{both-true, digit-between, numeral-digits}
+use Rattle.mz_asm.proofs.Numerals.{both-true, numeral-digits}
 
 abbrev pub line_text : Line → List ℕ
 line_text (lines.Head kind row number) = numbered (numbered (kind_name kind) row) number ++ codes "\n"

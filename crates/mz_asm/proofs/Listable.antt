@@ -21,7 +21,8 @@ use Rattle.mz_asm.specs.declared.kind.Kind.TheVariants as kinds
 use Rattle.mz_asm.specs.declared.line.Line.{Line}
 use Rattle.mz_asm.specs.declared.line.Line.TheVariants as lines
 use Rattle.mz_asm.specs.declared.rows.Rows.{Rows}
-use Rattle.mz_asm.specs.Numbers.{is_digit, are_digits, is_numeral, IsNumber}
+use Rattle.mz_names.specs.Identifiers.{is_digit}
+use Rattle.mz_asm.specs.Numbers.{are_digits, is_numeral, IsNumber}
 use Rattle.mz_asm.specs.Lines.{kind_name, IsValue, IsLine}
 use Rattle.mz_asm.specs.Rows.{rows_after, IsInRange}
 use Rattle.mz_asm.specs.Assembling.{behind_line, HasLines, AreFitting, IsPlain, ArePlain}

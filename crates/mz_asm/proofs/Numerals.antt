@@ -1,5 +1,5 @@
 -- Numbers and words that a listing's bytes write.
-use Rattle.std.proofs.Common.{◌≡◌, ◌≤◌, ◌<◌, ◌+◌, ◌*◌, ◌-◌, ◌^◌, min, ℕ, zero, suc, Bool, true, false, cond, List, [], ◌∷◌, length, take, get_or, Result, Ok, Err, Some, None, refl, sym, ap, subst, ◌∙◌, arith}
+use Rattle.std.proofs.Common.{◌≡◌, ◌<◌, ◌+◌, ◌*◌, ◌-◌, ◌^◌, min, ℕ, zero, suc, Bool, true, false, cond, List, [], ◌∷◌, length, take, get_or, Result, Ok, Err, Some, None, refl, sym, ap, subst, ◌∙◌, arith}
 use Rattle.std.specs.Prelude.{◌&&◌, bytes_eq}
 use Rattle.std.specs.Int.{w64, from_be_bytes, to_be_bytes, bytes_high_first}
 use Rattle.std.specs.Bool.{Decides}
@@ -13,7 +13,8 @@ use Rattle.hex.specs.declared.error.FromHexError.{FromHexError}
 use Rattle.hex.proofs.HexLemmas.{decode_of-ok, decode_sized-ok, decode_sized-twice, decode_sized-encode_lower}
 use Rattle.mz_logic.specs.declared.word.Word.{Word}
 use Rattle.mz_show.specs.Words.{word_text}
-use Rattle.mz_asm.specs.Numbers.{is_digit, are_digits, is_numeral, number_of, IsNumber, number_in, word_from, word_in}
+use Rattle.mz_names.proofs.Offered.{digit-at, digit-between}
+use Rattle.mz_asm.specs.Numbers.{are_digits, is_numeral, number_of, IsNumber, number_in, word_from, word_in}
 
 -- ---- tests
 
@@ -37,14 +38,6 @@ bytes-same [] = refl
 bytes-same (x ∷ xs) = grind (arith, nat_tests, bytes-same xs)
 
 -- ---- digits
-
-pub digit-at : (ds : List ℕ) (i d : ℕ) → are_digits ds ≡ true → i < length ds → is_digit (get_or ds i d) ≡ true
-digit-at [] i d all below = absurd (omega (arith, below))
-digit-at (c ∷ cs) zero d all below = (both-true (is_digit c) (are_digits cs) all).0
-digit-at (c ∷ cs) (suc i) d all below = digit-at cs i d (both-true (is_digit c) (are_digits cs) all).1 (omega (arith, below))
-
-pub digit-between : (c : ℕ) → is_digit c ≡ true → (48 ≤ c) × (c ≤ 57)
-digit-between c is = (grind (arith, nat_tests), grind (arith, nat_tests))
 
 -- one more digit
 pub next-value : (ds : List ℕ) (i value : ℕ) → i < length ds → are_digits ds ≡ true → value ≡ number_of (take i ds)

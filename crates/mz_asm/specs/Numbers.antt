@@ -1,16 +1,14 @@
 -- The numbers and words of a listing (this project's own form).
-use Rattle.std.specs.Prelude.{◌≡◌, ℕ, Bool, false, IsTrue, ◌&&◌, ◌||◌, not, ◌==◌, nat_le, min, List, [], ◌∷◌, length, Option, Some, None, Result, Ok, Err, bytes_eq, if◌then◌else◌}
+use Rattle.std.specs.Prelude.{◌≡◌, ℕ, Bool, false, IsTrue, ◌&&◌, ◌||◌, not, ◌==◌, min, List, [], ◌∷◌, length, Option, Some, None, Result, Ok, Err, bytes_eq, if◌then◌else◌}
 use Rattle.std.specs.Int.{w64, from_be_bytes}
 use Rattle.std.specs.List.{list_all}
 use Rattle.std.specs.Str.Parse.{digits_value}
 use Rattle.hex.specs.Hex.{encode_lower, decode_sized}
 use Rattle.hex.specs.declared.error.FromHexError.{FromHexError}
+use Rattle.mz_names.specs.Identifiers.{is_digit}
 use Rattle.mz_logic.specs.declared.word.Word.{Word}
 
 -- ---- numbers, decimal, without leading zeros
-
-abbrev pub is_digit : ℕ → Bool
-is_digit c = nat_le 48 c && nat_le c 57
 
 abbrev pub are_digits : List ℕ → Bool
 are_digits ds = list_all is_digit ds

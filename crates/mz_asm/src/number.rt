@@ -1,18 +1,13 @@
 // The numbers and words of a listing.
 ghost use Rattle.std.specs.Prelude.{◌≡◌, ◌≤◌, ◌<◌, IsTrue, length};
 ghost use Rattle.std.specs.List.{list_all};
-ghost use Rattle.mz_asm.specs.Numbers.{is_digit as digit, are_digits, is_numeral as numeral, number_of, number_in, word_in};
+ghost use Rattle.mz_asm.specs.Numbers.{are_digits, is_numeral as numeral, number_of, number_in, word_in};
 
 use mz_logic::Word;
+use mz_names::is_digit;
 
 /// The number for which all numbers stand that are too large.
 const TOO_LARGE: u64 = 4_294_967_296;
-
-fn is_digit(byte: u8) -> bool
-    ensures { result ≡ digit byte }
-{
-    matches!(byte, b'0'..=b'9')
-}
 
 /// Whether all bytes are digits.
 fn are_digits(bytes: &[u8]) -> bool

@@ -8,13 +8,13 @@ use Rattle.mz_logic.specs.LegalLists.{Statement, declarations, MayBeLocal, IsPro
 use Rattle.mz_logic.proofs.Offered.{one_at, none_some, legal_at}
 use Rattle.mz_layout.specs.Tables.{list_at}
 use Rattle.mz_cmd.specs.StatementList.{statement_at}
-use Rattle.mz_binary.specs.Good.{Good}
-use Rattle.mz_binary.proofs.Offered.{good-legal, one-list, good-spelled}
-use Rattle.mz_match.specs.Match.{publics, Agrees}
-use Rattle.mz_match.specs.Verdict.{Accepts}
+use Rattle.mz_files.specs.Good.{Good}
+use Rattle.mz_files.proofs.Offered.{good-legal, one-list, good-spelled}
+use Rattle.mz_verdicts.specs.Match.{publics, Agrees}
+use Rattle.mz_verdicts.specs.Verdict.{Accepts}
 use Rattle.mz_axioms.specs.declared.rows.Place.{Place}
 use Rattle.mz_axioms.specs.declared.rows.Row.{Row}
-use Rattle.mz_binary.specs.Gapped.{AssertionBody, body_there, place_after, body_of, bodies_from, bodies_of}
+use Rattle.mz_files.specs.Gapped.{AssertionBody, body_there, place_after, body_of, bodies_from, bodies_of}
 use Rattle.mz_axioms.specs.Supports.{IsKind, InSupport, within_support}
 use Rattle.mz_axioms.specs.Places.{StandsFor, theorems_of, place_there, places_from, is_listed}
 use Rattle.mz_walk.specs.Walk.{past_public}
@@ -25,7 +25,7 @@ use Rattle.mz_axioms.proofs.Supporting.{support-axiom, one-kind, kind-within}
 use Rattle.mz_axioms.proofs.Placing.{IsPlaceOf, place-of, numbers-grow, declared-at, publics-count, listed_number, listed_numbers, theorems-listed}
 use Rattle.mz_axioms.proofs.Resting.{rest-on-supports}
 use Rattle.mz_axioms.proofs.Telling.{rows-many}
-use Rattle.mz_binary.specs.Standards.{strict_standard}
+use Rattle.mz_files.specs.Standards.{strict_standard}
 
 -- ---- lists
 

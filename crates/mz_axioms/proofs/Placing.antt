@@ -8,10 +8,10 @@ use Rattle.mz_cmd.specs.Codes.{statement_byte}
 use Rattle.mz_logic.specs.Declaration.{Declaration, sort_decl, term_decl, assertion_decl, Assertion, Form, plain_form, abstract_form, defined, assertions}
 use Rattle.mz_logic.specs.LegalLists.{Statement, declarations}
 use Rattle.mz_logic.proofs.Offered.{one_at, none_some}
-use Rattle.mz_binary.specs.Spelling.{IsKindOf, is_local_code, HasKind}
-use Rattle.mz_match.specs.declared.kind.Kind.TheVariants as kinds
-use Rattle.mz_match.specs.Match.{Partner, partner_of, publics, publics_after, kind_of, kind_of_form, match_checks, Agrees}
-use Rattle.mz_match.proofs.Offered.{publics-append, publics-public}
+use Rattle.mz_files.specs.Spelling.{IsKindOf, is_local_code, HasKind}
+use Rattle.mz_verdicts.specs.declared.kind.Kind.TheVariants as kinds
+use Rattle.mz_verdicts.specs.Match.{Partner, partner_of, publics, publics_after, kind_of, kind_of_form, match_checks, Agrees}
+use Rattle.mz_verdicts.proofs.Offered.{publics-append, publics-public}
 use Rattle.mz_walk.specs.Walk.{past_public}
 use Rattle.mz_walk.proofs.Offered.{one-code}
 use Rattle.mz_axioms.specs.declared.rows.Place.{Place}

@@ -10,15 +10,15 @@ use Rattle.mz_logic.proofs.Offered.{one_at, none_some, assertions-append, cites_
 use Rattle.mz_layout.specs.Tables.{list_at}
 use Rattle.mz_soundness.specs.Sound.{IsCited, used_by, cites_as}
 use Rattle.mz_layout.specs.Heads.{body_bytes}
-use Rattle.mz_binary.specs.Chains.{IsGoodStatement, GoodTo}
-use Rattle.mz_binary.specs.Good.{Good}
-use Rattle.mz_binary.proofs.Offered.{chain-more, good-legal, cite-as-bodies}
+use Rattle.mz_files.specs.Chains.{IsGoodStatement, GoodTo}
+use Rattle.mz_files.specs.Good.{Good}
+use Rattle.mz_files.proofs.Offered.{chain-more, good-legal, cite-as-bodies}
 use Rattle.mz_axioms.specs.Commands.{IsCitedIn}
-use Rattle.mz_binary.specs.Gapped.{AssertionBody, body_there, place_after, body_of, bodies_from, bodies_of}
+use Rattle.mz_files.specs.Gapped.{AssertionBody, body_there, place_after, body_of, bodies_from, bodies_of}
 use Rattle.mz_axioms.specs.Supports.{Cites, IsKind, InSupport, within_support}
 use Rattle.mz_axioms.proofs.Citing.{cited-within}
 use Rattle.mz_axioms.proofs.Supporting.{support-step}
-use Rattle.mz_binary.specs.Standards.{strict_standard}
+use Rattle.mz_files.specs.Standards.{strict_standard}
 
 pub at-seam : (done : List AssertionBody) (body : AssertionBody) (tail : List AssertionBody) (n : ℕ) → length done ≡ n → slice_get (done ++ body ∷ tail) n ≡ Some body
 at-seam [] body tail zero is = refl

@@ -2,7 +2,7 @@
 use Rattle.std.proofs.Common.{◌≡◌, ◌∙◌, ◌<◌, ◌+◌, ℕ, zero, suc, Bool, true, false, List, [], ◌∷◌, ◌++◌, length, slice_get, refl, sym, ap, subst, inl, inr, arith}
 use Rattle.std.specs.Prelude.{◌↔◌}
 use Rattle.mz_logic.proofs.Offered.{one_at}
-use Rattle.mz_binary.specs.Gapped.{AssertionBody}
+use Rattle.mz_files.specs.Gapped.{AssertionBody}
 use Rattle.mz_axioms.specs.Supports.{Cites, IsKind, InSupport, by_axiom, by_theorem}
 use Rattle.mz_axioms.specs.Rows.{ComesTo}
 use Rattle.mz_axioms.proofs.Increasing.{get-within}

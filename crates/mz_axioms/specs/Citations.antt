@@ -7,7 +7,7 @@ use Rattle.mz_cmd.specs.StatementList.{statement_at}
 use Rattle.mz_soundness.specs.Sound.{IsCitation}
 use Rattle.mz_layout.specs.Heads.{body_bytes}
 use Rattle.mz_axioms.specs.Commands.{StandThere, length_of, IsCiting, IsCitedIn}
-use Rattle.mz_binary.specs.Gapped.{place_after}
+use Rattle.mz_files.specs.Gapped.{place_after}
 
 -- Of the commands of bytes that begin at a place, the first that cites: it cites the row, the next command's place is this
 -- one, and no command before it cites.

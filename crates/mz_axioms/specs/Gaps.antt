@@ -2,9 +2,9 @@
 use Rattle.std.specs.Prelude.{◌≡◌, ◌++◌, ℕ, List, length, codes, decimal, flat_map}
 use Rattle.mz_spec.specs.State.{Entry}
 use Rattle.mz_spec.specs.Spec.{SpecMakes}
-use Rattle.mz_match.specs.declared.verdict.Counts.{Counts}
+use Rattle.mz_verdicts.specs.declared.verdict.Counts.{Counts}
 use Rattle.mz_match.specs.Drafts.{DraftAccepts}
-use Rattle.mz_axioms.specs.Text.{name_at}
+use Rattle.mz_spec_names.specs.Names.{name_at}
 
 -- how many of the theorems do
 abbrev pub count_line : (gaps theorems : ℕ) → List ℕ

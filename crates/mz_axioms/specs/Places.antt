@@ -6,7 +6,7 @@ use Rattle.mz_cmd.specs.declared.code.StatementCode.{StatementCode}
 use Rattle.mz_cmd.specs.declared.code.StatementCode.TheVariants as codes
 use Rattle.mz_logic.specs.Declaration.{Declaration, sort_decl, term_decl, assertion_decl, Assertion, assertions}
 use Rattle.mz_logic.specs.LegalLists.{Statement, declarations}
-use Rattle.mz_match.specs.Match.{publics, partner_of, match_checks}
+use Rattle.mz_verdicts.specs.Match.{publics, partner_of, match_checks}
 use Rattle.mz_walk.specs.Walk.{past_public}
 use Rattle.mz_axioms.specs.declared.rows.Place.{Place}
 

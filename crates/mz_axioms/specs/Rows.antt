@@ -3,15 +3,15 @@
 use Rattle.std.specs.Prelude.{◌≡◌, ◌≤◌, ◌<◌, ◌⊎◌, ◌↔◌, ℕ, true, false, if◌then◌else◌, MatchBool, List, [], ◌∷◌, ◌++◌, map, flat_map, length, All, Contains, slice_get, Option, Some, None}
 use Rattle.std.specs.List.Sorted.{IsStrictlyIncreasing}
 use Rattle.mz_logic.specs.LegalLists.{Statement}
-use Rattle.mz_binary.specs.Good.{Good}
-use Rattle.mz_binary.specs.Gapped.{AssertionBody, bodies_of}
+use Rattle.mz_files.specs.Good.{Good}
+use Rattle.mz_files.specs.Gapped.{AssertionBody, bodies_of}
 use Rattle.mz_axioms.specs.Supports.{IsKind, InSupport}
 use Rattle.mz_axioms.specs.Commands.{IsCitedIn}
 use Rattle.mz_axioms.specs.Places.{places_from, is_listed}
 use Rattle.mz_axioms.specs.Lists.{TheoremSupport}
 use Rattle.mz_axioms.specs.declared.rows.Place.{Place}
 use Rattle.mz_axioms.specs.declared.rows.Row.{Row}
-use Rattle.mz_binary.specs.Standards.{strict_standard}
+use Rattle.mz_files.specs.Standards.{strict_standard}
 
 -- a citation of the U-th comes to axiom A: it is A, or a theorem in whose support A is
 abbrev pub ComesTo : List AssertionBody → ℕ → ℕ → Type 0
@@ -26,10 +26,6 @@ pub record Tells (bodies : List AssertionBody) (U : ℕ) (row : Row) : Type 0 wh
 pub record TellsAll (file : List ℕ) (ss : List Statement) (rows : List Row) : Type 0 where
   pub places : map (λ r. r.place) rows ≡ places_from 0 ss
   pub each : (U : ℕ) (row : Row) → slice_get rows U ≡ Some row → Tells (bodies_of file ss) U row
-
--- a binary that is good, with its statements
-abbrev pub IsGood : List ℕ → Type 0
-IsGood file = (ss : List Statement) × Good strict_standard file ss
 
 abbrev pub TellsFile : List ℕ → List Row → Type 0
 TellsFile file rows = (ss : List Statement) × Good strict_standard file ss × TellsAll file ss rows

@@ -1,17 +1,9 @@
 -- What is printed of the supports (this project's own).
-use Rattle.std.specs.Prelude.{◌≡◌, ◌<◌, ◌++◌, ℕ, List, [], length, All, slice_get, Option, Some, None, codes, flat_map}
-use Rattle.mz_layout.specs.Heads.{body_bytes as bytes_between}
+use Rattle.std.specs.Prelude.{◌≡◌, ◌<◌, ◌++◌, ℕ, List, length, All, codes, flat_map}
 use Rattle.mz_spec.specs.State.{Entry}
 use Rattle.mz_spec.specs.Spec.{SpecMakes}
+use Rattle.mz_spec_names.specs.Names.{name_at}
 use Rattle.mz_axioms.specs.Lists.{TheoremSupport, AreSupports}
-
-abbrev pub name_in : List ℕ → Option Entry → List ℕ
-name_in text None = []
-name_in text (Some e) = bytes_between text e.from e.to
-
--- the name of the k-th declaration, as the text has it
-abbrev pub name_at : List ℕ → List Entry → ℕ → List ℕ
-name_at text entries k = name_in text (slice_get entries k)
 
 -- for each axiom a space and its name
 abbrev pub axiom_names : List ℕ → List Entry → List ℕ → List ℕ

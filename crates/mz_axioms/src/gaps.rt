@@ -2,9 +2,9 @@
 ghost use Rattle.std.specs.Prelude.{◌≡◌, ◌<◌, ◌++◌, ◌^◌, length, All, IfOk, OnOk};
 ghost use Rattle.mz_axioms.specs.Gaps.{AreGapsOf, IsGapsTextOf, count_line, gap_line, gap_lines};
 
-use crate::names::{declared_by, put_name};
 use mz_cmd::Mem;
 use mz_spec::Spec;
+use mz_spec_names::{declared_by, put_name};
 use std::alloc::Global;
 
 /// How many of a specification's `theorems` rest on a gap, and a line with the name of each. They are

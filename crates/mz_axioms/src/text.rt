@@ -3,9 +3,9 @@ ghost use Rattle.std.specs.Prelude.{◌≡◌, ◌<◌, ◌++◌, ◌^◌, lengt
 ghost use Rattle.mz_axioms.specs.Text.{AreOfSome, IsNamed, IsTextOf, axiom_names, support_line, supports_text};
 
 use crate::lists::{Lists, Support};
-use crate::names::{declared_by, put_name};
 use mz_cmd::Mem;
 use mz_spec::Spec;
+use mz_spec_names::{declared_by, put_name};
 use std::alloc::Global;
 
 /// A line for each theorem of the specification: its name, a colon, and for each axiom on which it

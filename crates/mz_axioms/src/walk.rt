@@ -3,7 +3,8 @@ ghost use Rattle.std.specs.Prelude.{◌≡◌, ◌⊎◌, ◌↔◌, ◌≤◌, 
 ghost use Rattle.std.specs.List.Sorted.{IsStrictlyIncreasing};
 ghost use Rattle.mz_layout.specs.Heads.{body_bytes};
 ghost use Rattle.mz_axioms.specs.Places.{place_by};
-ghost use Rattle.mz_axioms.specs.Rows.{AreInOrder, Gives, IsGood, IsNoted, Reaches, TellsFile};
+ghost use Rattle.mz_axioms.specs.Rows.{AreInOrder, Gives, IsNoted, Reaches, TellsFile};
+ghost use Rattle.mz_files.specs.Good.{IsGood};
 
 use crate::citations::citation_in;
 use crate::places::place_of;

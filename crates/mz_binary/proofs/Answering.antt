@@ -9,7 +9,7 @@ use Rattle.mz_machine.specs.declared.body.BodyChecked.{BodyChecked}
 use Rattle.mz_machine.specs.declared.body.BodyChecked.TheVariants.{Good, Refused, Mem}
 use Rattle.mz_numbered.specs.Numbered.{Numbered}
 use Rattle.mz_pmachine.specs.BodyAnswers.{IsBodyRun as IsRunByAddress}
-use Rattle.mz_binary.specs.declared.standard.Standard.TheVariants.{Published, Portable}
+use Rattle.mz_files.specs.declared.standard.Standard.TheVariants.{Published, Portable}
 use Rattle.mz_binary.specs.Judging.{IsBodyRun}
 
 pub by-trees : (mode : Mode) (h : Heading) (bytes : List ℕ) (r : Result (State Tree) (ℕ × K)) (b : BodyChecked) → IsRunOverTrees h bytes r b → IsBodyRun (Published mode) bytes r b

@@ -9,7 +9,7 @@ use Rattle.mz_cmd.specs.Codes.{proof_code}
 use Rattle.mz_cmd.specs.Reading.{first_command}
 use Rattle.mz_unification.proofs.Offered.{command-long, drop-less}
 use Rattle.mz_soundness.specs.Sound.{IsCitation, CitesWithin}
-use Rattle.mz_binary.specs.Gapped.{CitesMarked, IsMarked, is_citing, mark_in, cites_mark}
+use Rattle.mz_files.specs.Gapped.{CitesMarked, IsMarked, is_citing, mark_in, cites_mark}
 
 cites-is : (o : Option ProofCode) → is_citing o ≡ true → (o ≡ Some code.Thm) ⊎ (o ≡ Some code.ThmSave)
 cites-is None e = absurd cc

@@ -8,11 +8,9 @@ use Rattle.mz_logic.specs.declared.binder.SortMods.{SortMods}
 use Rattle.mz_layout.specs.Tables.{term_row, thm_row}
 use Rattle.mz_words.specs.RowWords.{param_checks, word_checks}
 use Rattle.mz_earlier.specs.Before.{HasRightWords, HasRightParams}
-use Rattle.mz_binary.specs.Chains.{GoodTo}
-use Rattle.mz_binary.proofs.Declared.{sorts-many, terms-many, assertions-many}
-use Rattle.mz_binary.proofs.SortsSoFar.{HasSorts, sorts-more}
-use Rattle.mz_binary.proofs.RowLaws.{HasRightRow, right-row}
-use Rattle.mz_binary.specs.declared.standard.Standard.{Standard}
+use Rattle.mz_files.specs.Chains.{GoodTo}
+use Rattle.mz_files.proofs.Offered.{sorts-many, terms-many, assertions-many, HasSorts, sorts-more, HasRightRow, right-row}
+use Rattle.mz_files.specs.declared.standard.Standard.{Standard}
 
 -- each row's words are right where some of these sorts are declared
 pub record WereRight (file : List ℕ) (many_sorts many_terms many_thms : ℕ) : Type 0 where

@@ -25,13 +25,12 @@ use Rattle.mz_words.specs.RowWords.{param_checks, word_checks}
 use Rattle.mz_words.proofs.Offered.{length-first_sorts}
 use Rattle.mz_earlier.specs.OwnRow.{heading_of}
 use Rattle.mz_earlier.specs.Before.{taken_before}
-use Rattle.mz_binary.specs.Checking.{counts}
-use Rattle.mz_binary.specs.FileRun.{Passing, test, test_params, test_words, test_row, Found, list_ends, stands_alone, has_body, is_empty_body, with_term, with_thm, after_kind, find_empty, find_term_body, find_term_parts, find_thm_parts, find_parts, find_kind, find_of, find_at, all_taken}
+use Rattle.mz_files.specs.Checking.{counts}
+use Rattle.mz_files.specs.FileRun.{Passing, test, test_params, test_words, test_row, Found, list_ends, stands_alone, has_body, is_empty_body, with_term, with_thm, after_kind, find_empty, find_term_body, find_term_parts, find_thm_parts, find_parts, find_kind, find_of, find_at, all_taken}
 use Rattle.mz_binary.specs.Progress.{Finds, IsOf, StandsAt, found_of, kind_byte, is_axiom_kind, IsTermKind, IsAssertionKind}
 use Rattle.mz_binary.specs.declared.place.Found.{Found as Seen}
 use Rattle.mz_binary.specs.declared.place.Found.TheVariants as seen
-use Rattle.mz_binary.proofs.Heads.{code-of}
-use Rattle.mz_binary.proofs.PlacesJudged.{judges-test, params-judged, words-judged, row-judged, empty-decides, taken-decides}
+use Rattle.mz_files.proofs.Offered.{code-of, judges-test, params-judged, words-judged, row-judged, empty-decides, taken-decides}
 
 -- ---- one after another
 

@@ -14,9 +14,9 @@ use Rattle.mz_logic.specs.LegalLists.{Statement}
 use Rattle.mz_layout.specs.Tables.{list_at, mods_of, sort_count, term_count, thm_count}
 use Rattle.mz_layout.specs.Layout.{IsBinary}
 use Rattle.mz_unification.specs.Steps.{◌>>=◌}
-use Rattle.mz_soundness.specs.MachineState.{Heading, State}
-use Rattle.mz_soundness.specs.Bodies.{body_run}
-use Rattle.mz_earlier.specs.OwnRow.{heading_of}
+use Rattle.mz_soundness.specs.MachineState.{Heading, Kind, State}
+use Rattle.mz_soundness.specs.Bodies.{body_run, body_steps}
+use Rattle.mz_earlier.specs.OwnRow.{heading_by, kind_at}
 use Rattle.mz_earlier.specs.Before.{tables_before, taken_before}
 use Rattle.mz_binary.specs.declared.place.Found.TheVariants as seen
 use Rattle.mz_layout.specs.declared.head.Head.{Head}
@@ -24,25 +24,19 @@ use Rattle.mz_layout.specs.declared.taken.Rows.{Rows}
 use Rattle.mz_layout.specs.Heads.{IsHead, body_bytes, next_row, rows_after}
 use Rattle.mz_binary.specs.declared.statement.Statement.{Statement as Told}
 use Rattle.mz_soundness.specs.FileRows.{Taken, taken_by}
-use Rattle.mz_binary.specs.Spelling.{IsKindOf, HasKind, IsSpelled, is_local_code}
-use Rattle.mz_binary.specs.Checking.{kind_checks, place_checks}
-use Rattle.mz_binary.specs.FileRun.{with_term, with_thm, Found, list_ends, has_body, Onward, ended, onward, if_runs, after_kind, find_at, run_found, run_place, RunsBody}
-use Rattle.mz_binary.specs.Chains.{IsGoodStatement, GoodTo}
-use Rattle.mz_binary.specs.Good.{Good, FailsAfter}
+use Rattle.mz_files.specs.Spelling.{IsKindOf, HasKind, IsSpelled, is_local_code}
+use Rattle.mz_files.specs.Checking.{kind_checks, place_checks}
+use Rattle.mz_files.specs.FileRun.{with_term, with_thm, Found, list_ends, has_body, Onward, ended, onward, if_runs, after_kind, find_at, found_steps, run_found, run_place, RunsBody}
+use Rattle.mz_files.specs.Chains.{IsGoodStatement, GoodTo}
+use Rattle.mz_files.specs.Good.{Good, FailsAfter}
 use Rattle.mz_binary.specs.Progress.{Progress, HasPassed, found_of, CountsRows, IsReached, RestsOnGap, marks_past, kind_byte, is_local_kind, kind_code, row_after}
-use Rattle.mz_binary.specs.Gapped.{AreMarks}
+use Rattle.mz_files.specs.Gapped.{AreMarks}
 use Rattle.mz_binary.specs.Judging.{Passes}
-use Rattle.mz_binary.proofs.Heads.{code-of, head-at, IsHeadAt}
-use Rattle.mz_binary.proofs.ChainLaws.{chain-more}
+use Rattle.mz_files.proofs.Offered.{code-of, head-at, IsHeadAt, chain-more, place-judged, ends-there, FollowedBy, followed, well-chain, at-head}
 use Rattle.mz_binary.proofs.GapMarks.{kind-tells, NewMark, new-mark}
-use Rattle.mz_binary.proofs.SortsSoFar.{taken}
-use Rattle.mz_binary.proofs.PlacesJudged.{place-judged}
-use Rattle.mz_binary.proofs.Inverting.{ends-there}
-use Rattle.mz_binary.proofs.Following.{FollowedBy, followed}
-use Rattle.mz_binary.proofs.LegalChains.{well-chain}
-use Rattle.mz_binary.proofs.WholeFiles.{at-head}
-use Rattle.mz_binary.specs.declared.standard.Standard.{Standard}
-use Rattle.mz_binary.specs.Standards.{lets_gaps, profile_of}
+use Rattle.mz_binary.proofs.TakenSoFar.{taken}
+use Rattle.mz_files.specs.declared.standard.Standard.{Standard}
+use Rattle.mz_files.specs.Standards.{lets_gaps, profile_of}
 
 -- ---- kinds
 
@@ -159,21 +153,30 @@ run-of standard file t at f e = ap (λ r. r >>= run_found standard file t) e
 
 -- with its body, under the heading of the kind and the row
 module _ (standard : Standard) (file : List ℕ) (rows : Rows) (at : ℕ) (head : Head) (there : find_at file (taken_before file rows) at ≡ Ok (found_of file rows (seen.WithBody head)))
-    (kind row : ℕ) (kind-is : kind ≡ kind_byte head.code) (row-is : row ≡ next_row rows head.code) where
+    (kind : Kind) (row : ℕ) (kind-is : kind ≡ kind_at (kind_byte head.code)) (row-is : row ≡ next_row rows head.code) where
   abbrev on : Onward
   on = onward (after_kind file (taken_before file rows) head.code) head.next
 
   abbrev run : Result (State (profile_of standard).T) (ℕ × K)
-  run = body_run (profile_of standard) (tables_before file rows) (heading_of file kind row) head.body (body_bytes file head.body head.next)
+  run = body_run (profile_of standard) (tables_before file rows) (heading_by file row kind) head.body (body_bytes file head.body head.next)
 
   run-is : run_place standard file (taken_before file rows) at ≡ if_runs run on
   run-is =
-      subst (λ (n : ℕ). run_place standard file (taken_before file rows) at ≡ if_runs (body_run (profile_of standard) (tables_before file rows) (heading_of file kind n) head.body (body_bytes file head.body head.next)) on) (sym row-is)
-      (subst (λ (k : ℕ). run_place standard file (taken_before file rows) at ≡ if_runs (body_run (profile_of standard) (tables_before file rows) (heading_of file k (next_row rows head.code)) head.body (body_bytes file head.body head.next)) on) (sym kind-is)
+      subst (λ (n : ℕ). run_place standard file (taken_before file rows) at ≡ if_runs (body_run (profile_of standard) (tables_before file rows) (heading_by file n kind) head.body (body_bytes file head.body head.next)) on) (sym row-is)
+      (subst (λ (k : Kind). run_place standard file (taken_before file rows) at ≡ if_runs (body_run (profile_of standard) (tables_before file rows) (heading_by file (next_row rows head.code) k) head.body (body_bytes file head.body head.next)) on) (sym kind-is)
       (run-of standard file (taken_before file rows) at (found_of file rows (seen.WithBody head)) there))
 
   pub body-runs : (last : State (profile_of standard).T) → run ≡ Ok last → run_place standard file (taken_before file rows) at ≡ Ok on
   body-runs last is = run-is ∙ ap (λ (r : Result (State (profile_of standard).T) (ℕ × K)). if_runs r on) is
+
+  abbrev counted : ℕ → Kind → ℕ
+  counted r k = body_steps (profile_of standard) (tables_before file rows) (heading_by file r k) head.body (body_bytes file head.body head.next)
+
+  steps-there : found_steps standard file (taken_before file rows) (find_at file (taken_before file rows) at) ≡ counted row kind
+  steps-there = ap (found_steps standard file (taken_before file rows)) there ∙ ap (λ (r : ℕ). counted r (kind_at (kind_byte head.code))) (sym row-is) ∙ ap (counted row) (sym kind-is)
+
+  pub body-counts : (old new : ℕ) → new ≡ old + counted row kind → new ≡ old + found_steps standard file (taken_before file rows) (find_at file (taken_before file rows) at)
+  body-counts old new is = is ∙ ap (λ (n : ℕ). old + n) (sym steps-there)
 
   pub body-stops : (f : ℕ × K) → run ≡ Err f → run_place standard file (taken_before file rows) at ≡ Err f
   body-stops f is = run-is ∙ ap (λ (r : Result (State (profile_of standard).T) (ℕ × K)). if_runs r on) is

@@ -16,11 +16,10 @@ use Rattle.mz_earlier.specs.Before.{taken_before}
 use Rattle.mz_soundness.specs.Lists.{assertion_of}
 use Rattle.mz_layout.specs.declared.taken.Rows.{Rows}
 use Rattle.mz_logic.specs.Declaration.{sorts, terms, assertions}
-use Rattle.mz_binary.specs.Checking.{counts}
-use Rattle.mz_binary.specs.FileRun.{Passing, test, test_params, test_row, test_words, Found, stands_alone, has_body, is_empty_body, with_sort, with_term, with_thm, find_empty, find_term_body, find_term_parts, find_thm_parts, find_parts, find_kind}
+use Rattle.mz_files.specs.Checking.{counts}
+use Rattle.mz_files.specs.FileRun.{Passing, test, test_params, test_row, test_words, Found, stands_alone, has_body, is_empty_body, with_sort, with_term, with_thm, find_empty, find_term_body, find_term_parts, find_thm_parts, find_parts, find_kind}
 use Rattle.mz_binary.specs.Progress.{Progress, IsReached, kind_byte}
-use Rattle.mz_binary.proofs.PlacesJudged.{params-judged, row-judged, words-judged}
-use Rattle.mz_binary.proofs.Inverting.{then-ok, found-is}
+use Rattle.mz_files.proofs.Offered.{params-judged, row-judged, words-judged, then-ok, found-is}
 use Rattle.mz_binary.proofs.EarlierWords.{WereRight, were-right}
 
 -- ---- tests that went through

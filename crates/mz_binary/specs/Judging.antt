@@ -13,16 +13,16 @@ use Rattle.mz_binary.specs.declared.whole.Checked.{Checked}
 use Rattle.mz_binary.specs.declared.whole.Checked.TheVariants as checked
 use Rattle.mz_soundness.specs.MachineState.{State}
 use Rattle.mz_soundness.specs.FileRows.{taken_by}
-use Rattle.mz_machine.specs.BodyAnswers.{HasGap}
+use Rattle.mz_soundness.specs.Sound.{HasGap}
 use Rattle.mz_machine.specs.declared.body.BodyChecked.{BodyChecked}
 use Rattle.mz_machine.specs.declared.body.BodyChecked.TheVariants as bodies
-use Rattle.mz_binary.specs.FileRun.{RunsBody}
-use Rattle.mz_binary.specs.Chains.{IsGoodStatement, GoodTo}
-use Rattle.mz_binary.specs.Good.{Good, FailsAfter, BinaryFault}
-use Rattle.mz_binary.specs.Gapped.{GappedIn, AreFreeUnlessGapped}
+use Rattle.mz_files.specs.FileRun.{RunsBody}
+use Rattle.mz_files.specs.Chains.{IsGoodStatement, GoodTo}
+use Rattle.mz_files.specs.Good.{Good, FailsAfter, BinaryFault}
+use Rattle.mz_files.specs.Gapped.{GappedIn, AreFreeUnlessGapped}
 use Rattle.mz_binary.specs.Progress.{Progress, HasPassed, CountsRows, Tells, next_steps, steps_left, most_left}
-use Rattle.mz_binary.specs.declared.standard.Standard.{Standard}
-use Rattle.mz_binary.specs.Standards.{lets_gaps}
+use Rattle.mz_files.specs.declared.standard.Standard.{Standard}
+use Rattle.mz_files.specs.Standards.{lets_gaps}
 
 -- The answer is what the run of these bytes comes to, and where gaps are let through it tells whether they leave one.
 -- Want of memory says nothing.

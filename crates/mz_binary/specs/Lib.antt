@@ -1,14 +1,2 @@
-pub mod Spelling
-pub mod Standards
-pub mod Checking
-pub mod Chains
-pub mod Good
-pub mod Gapped
-pub mod FileRun
-pub mod WholeLaws
-pub mod Files
-pub mod WholeExamples
 pub mod Progress
 pub mod Judging
-pub mod RefusalLine
-pub mod Laws

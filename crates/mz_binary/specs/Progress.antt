@@ -13,15 +13,15 @@ use Rattle.mz_layout.specs.declared.head.Head.{Head}
 use Rattle.mz_layout.specs.declared.taken.Rows.{Rows}
 use Rattle.mz_earlier.specs.OwnRow.{heading_of}
 use Rattle.mz_earlier.specs.Before.{taken_before}
-use Rattle.mz_binary.specs.FileRun.{Found, list_ends, stands_alone, has_body, after_kind, find_at, found_steps, list_steps}
+use Rattle.mz_files.specs.FileRun.{Found, list_ends, stands_alone, has_body, after_kind, find_at, found_steps, list_steps}
 use Rattle.mz_binary.specs.declared.statement.Statement.{Statement as Told}
 use Rattle.mz_binary.specs.declared.place.Found.{Found as Seen}
 use Rattle.mz_binary.specs.declared.place.Found.TheVariants as seen
-use Rattle.mz_machine.specs.BodyAnswers.{HasGap}
-use Rattle.mz_binary.specs.Chains.{GoodTo, IsListEnd}
-use Rattle.mz_binary.specs.Gapped.{AreMarks, CitesMarked}
-use Rattle.mz_binary.specs.declared.standard.Standard.{Standard}
-use Rattle.mz_binary.specs.Standards.{lets_gaps}
+use Rattle.mz_soundness.specs.Sound.{HasGap}
+use Rattle.mz_files.specs.Chains.{GoodTo, IsListEnd}
+use Rattle.mz_files.specs.Gapped.{AreMarks, CitesMarked}
+use Rattle.mz_files.specs.declared.standard.Standard.{Standard}
+use Rattle.mz_files.specs.Standards.{lets_gaps}
 
 -- what env declares has taken these rows
 pub record CountsRows (rows : Rows) (env : List Declaration) : Type 0 where

@@ -1,17 +1,18 @@
 // A body, run as its binary is held to.
 ghost use Rattle.std.specs.Prelude.{◌≡◌, ◌≤◌, ◌+◌, ◌-◌, ◌*◌, length};
-ghost use Rattle.mz_earlier.specs.OwnRow.{MayRun, heading_of};
+ghost use Rattle.mz_earlier.specs.OwnRow.{MayRun, byte_of, heading_of};
 ghost use Rattle.mz_earlier.specs.Before.{tables_before};
 ghost use Rattle.mz_machine.specs.BodyAnswers.{UnlessMem};
 ghost use Rattle.mz_soundness.specs.Bodies.{body_run, body_steps};
 ghost use Rattle.mz_layout.specs.Heads.{body_bytes};
 ghost use Rattle.mz_binary.specs.Judging.{IsBodyRun};
-ghost use Rattle.mz_binary.specs.Standards.{profile_of};
+ghost use Rattle.mz_files.specs.Standards.{profile_of};
 
 use crate::rooms::Rooms;
-use crate::standard::Standard;
 use crate::statement::Rows;
 use mz_cmd::Steps;
+use mz_earlier::BodyKind;
+use mz_files::Standard;
 use mz_layout::Mmb;
 use mz_machine::{BodyChecked, check_body_in};
 use mz_pmachine::check_portable_in;
@@ -25,18 +26,18 @@ pub fn check_body_by<L: Ledger>(
     rooms: &mut Rooms,
     mmb: &Mmb,
     standard: Standard,
-    kind: u8,
+    kind: BodyKind,
     row: u32,
     before: Rows,
     body: (u32, u32),
     steps: &mut Steps<L>,
 ) -> BodyChecked
-    requires may_run { MayRun mmb.now kind row before }
+    requires may_run { MayRun mmb.now (byte_of kind) row before }
     requires order { body.0 ≤ body.1 }
     requires within { body.1 ≤ length mmb.now }
-    ensures run { IsBodyRun standard (body_bytes mmb.now body.0 body.1) (body_run (profile_of standard) (tables_before mmb.now before) (heading_of mmb.now kind row) body.0 (body_bytes mmb.now body.0 body.1)) result }
+    ensures run { IsBodyRun standard (body_bytes mmb.now body.0 body.1) (body_run (profile_of standard) (tables_before mmb.now before) (heading_of mmb.now (byte_of kind) row) body.0 (body_bytes mmb.now body.0 body.1)) result }
     ensures most { steps.new ≤ steps.old + (body.1 - body.0) * (length mmb.now + 1) }
-    ensures steps { UnlessMem result (steps.new ≡ steps.old + body_steps (profile_of standard) (tables_before mmb.now before) (heading_of mmb.now kind row) body.0 (body_bytes mmb.now body.0 body.1)) }
+    ensures steps { UnlessMem result (steps.new ≡ steps.old + body_steps (profile_of standard) (tables_before mmb.now before) (heading_of mmb.now (byte_of kind) row) body.0 (body_bytes mmb.now body.0 body.1)) }
 {
     match standard {
         Standard::Published(mode) => check_body_in(

@@ -3,20 +3,22 @@ ghost use Rattle.std.specs.Prelude.{◌≡◌, ◌≤◌, ◌+◌, ◌-◌, ◌*
 ghost use Rattle.mz_logic.specs.Declaration.{Declaration};
 ghost use Rattle.mz_logic.specs.LegalLists.{Statement as Declared};
 ghost use Rattle.mz_earlier.specs.Before.{taken_before};
-ghost use Rattle.mz_machine.specs.BodyAnswers.{HasGap};
+ghost use Rattle.mz_earlier.specs.OwnRow.{kind_at, kind_of as kind_lem};
+ghost use Rattle.mz_soundness.specs.Sound.{HasGap};
 ghost use Rattle.mz_layout.specs.Heads.{IsHead, body_bytes};
-ghost use Rattle.mz_binary.specs.FileRun.{after_kind, file_steps, find_at, onward, run_place, RunsBody};
+ghost use Rattle.mz_files.specs.FileRun.{after_kind, file_steps, find_at, onward, run_place, RunsBody};
 ghost use Rattle.mz_binary.specs.Progress.{HasPassed, RestsOnGap, found_of, is_assertion_kind, is_theorem_kind, kind_byte, marks_past, next_steps, steps_left, most_left};
 ghost use Rattle.mz_binary.specs.Judging.{IfTold, IsLeft, IsMost, IsNext};
-ghost use Rattle.mz_binary.specs.Standards.{lets_gaps};
+ghost use Rattle.mz_files.specs.Standards.{lets_gaps};
 
 use crate::body::check_body_by;
 use crate::gaps::cites_marked;
 use crate::place::{Found, found_at, is_local};
 use crate::rooms::Rooms;
-use crate::standard::Standard;
 use crate::statement::{Rows, Statement};
 use mz_cmd::{Mem, Refusal, StatementCode, Steps};
+use mz_earlier::BodyKind;
+use mz_files::Standard;
 use mz_layout::{Fault, Head, Mmb};
 use mz_machine::BodyChecked;
 use mz_store::Seed;
@@ -114,7 +116,7 @@ impl<'a> Checker<'a> {
         ensures left { IsLeft self.entry result }
     {
         let (alloc, mmb, standard, rows) = (self.alloc, self.mmb, self.standard, self.rows);
-        let kind = kind_of(head.code);
+        let kind = body_kind(head.code);
         let row = rows.next(head.code);
         let body = (head.body, head.next);
         let rooms = &mut self.rooms;
@@ -239,6 +241,18 @@ fn is_assertion(code: StatementCode) -> bool
     match code {
         StatementCode::Axiom | StatementCode::Theorem | StatementCode::LocalTheorem => true,
         StatementCode::Sort | StatementCode::Term | StatementCode::LocalDefinition => false,
+    }
+}
+
+/// The kind of the body. A sort has none: it counts with the theorems, and none is run for it.
+fn body_kind(code: StatementCode) -> BodyKind
+    ensures { kind_lem result ≡ kind_at (kind_byte code) }
+{
+    match code {
+        StatementCode::Axiom => BodyKind::Axiom,
+        StatementCode::Term | StatementCode::LocalDefinition => BodyKind::Definition,
+        StatementCode::Sort | StatementCode::Theorem | StatementCode::LocalTheorem =>
+            BodyKind::Theorem,
     }
 }
 

@@ -4,7 +4,7 @@ ghost use Rattle.mz_checks.specs.Checks.{AllHold, Judges};
 ghost use Rattle.mz_layout.specs.Heads.{empty_checks, row_checks};
 ghost use Rattle.mz_layout.specs.Tables.{sort_count, term_count, thm_count};
 ghost use Rattle.mz_earlier.specs.Before.{taken_before};
-ghost use Rattle.mz_binary.specs.FileRun.{find_at, find_parts};
+ghost use Rattle.mz_files.specs.FileRun.{find_at, find_parts};
 ghost use Rattle.mz_binary.specs.Progress.{Finds, IsAssertionKind, IsOf, IsTermKind, StandsAt, is_local_kind};
 
 use crate::statement::Rows;

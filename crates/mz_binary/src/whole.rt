@@ -1,14 +1,14 @@
 // A whole binary.
 ghost use Rattle.std.specs.Prelude.{◌≡◌, ◌≤◌, ◌<◌, ◌+◌, ◌*◌, ◌^◌, List, [], length};
 ghost use Rattle.mz_layout.specs.Layout.{Layout};
-ghost use Rattle.mz_binary.specs.FileRun.{file_steps};
+ghost use Rattle.mz_files.specs.FileRun.{file_steps};
 ghost use Rattle.mz_binary.specs.Progress.{HasPassed, most_left, steps_left};
 ghost use Rattle.mz_binary.specs.Judging.{IfJudged, IsChecked};
 
 use crate::checker::{Checker, Next};
-use crate::standard::Standard;
 use crate::statement::Rows;
 use mz_cmd::{Refusal, Steps};
+use mz_files::Standard;
 use mz_layout::Mmb;
 use mz_store::Seed;
 use std::alloc::Global;

@@ -7,14 +7,14 @@ use Rattle.mz_logic.specs.Tree.{Tree, Trees, none, more, listed, instance, insta
 use Rattle.mz_logic.specs.Declaration.{Assertion, Declaration, signatures, assertions}
 use Rattle.mz_logic.specs.Legality.{IsLegalEnv}
 use Rattle.mz_logic.specs.Conversions.{Between}
-use Rattle.mz_logic.specs.Derivations.{Derivation, Derivations, hypothesis, cite, convert, gap, no_derivs, more_derivs, Derives, AllDerive}
+use Rattle.mz_logic.specs.Derivations.{Derivation, Derivations, hypothesis, cite, convert, gap, no_derivs, more_derivs, Derives, AllDerive, derivation_at}
 use Rattle.mz_logic.specs.declared.binder.Binder.{Binder}
 use Rattle.mz_logic.proofs.Offered.{one_at, sort_of_instance, legal_env_is_right}
 use Rattle.mz_logic.specs.Sorts.{HasProvable}
 use Rattle.mz_forms.specs.Gaps.{LeavesOnly, AllLeaveOnly}
 use Rattle.mz_forms.specs.Proof.{Proof, Proofs, by_hyp, by_name, by_citation, by_conv, by_let, by_gap, no_proofs, more_proofs}
 use Rattle.mz_typing.specs.Names.{ProofThere, ProofsThere}
-use Rattle.mz_type.specs.Meaning.{derivation_at, then_deriv, derivation, derivations, LetsDerive, AllLetsDerive}
+use Rattle.mz_type.specs.Meaning.{then_deriv, derivation, derivations, LetsDerive, AllLetsDerive}
 use Rattle.mz_shared.specs.Instances.{InReach}
 use Rattle.mz_bodies.specs.Claims.{claim_at, conclusion_of, proved, all_proved, IsCitable, IsSound, AreSound}
 use Rattle.mz_shared.proofs.Offered.{reach_of_sort}

@@ -4,9 +4,9 @@ use Rattle.std.proofs.Common.{refl, sym, ap, ◌∙◌, arith, inl, inr, eq-eqb}
 use Rattle.std.proofs.lemmas.Bool.{eqb-true}
 use Rattle.std.proofs.lemmas.List.{map-append}
 use Rattle.mz_logic.specs.Conversions.{Conversion, Conversions, refl_conv, sym_conv, cong_conv, unfold_conv, gap_conv, no_convs, more_convs, GapsOnly, AllGapsOnly}
-use Rattle.mz_logic.specs.Derivations.{Derivation, Derivations, no_derivs, more_derivs, CitesOnly, AllCiteOnly}
+use Rattle.mz_logic.specs.Derivations.{Derivation, Derivations, no_derivs, more_derivs, CitesOnly, AllCiteOnly, derivation_at}
 use Rattle.mz_forms.specs.Proof.{Proof, Proofs, by_hyp, by_name, by_citation, by_conv, by_let, by_gap, no_proofs, more_proofs}
-use Rattle.mz_type.specs.Meaning.{derivation_at, then_deriv, derivation, derivations}
+use Rattle.mz_type.specs.Meaning.{then_deriv, derivation, derivations}
 use Rattle.mz_bodies.specs.Uses.{Use, a_gap, assertion, is_gap, is_assertion, conv_uses, convs_use, uses, some_use}
 use Rattle.mz_bodies.proofs.Offered.{or_left, or_right}
 use Rattle.mz_claims.specs.Laws.{may_use, allowing, StatedProofsUseWhatTheyMean}

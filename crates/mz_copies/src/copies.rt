@@ -3,7 +3,9 @@ ghost use Rattle.std.specs.Prelude.{◌≡◌, IfOk};
 ghost use Rattle.mz_logic.specs.DeclView.{declaration, form, term_view, assertion_view};
 ghost use Rattle.mz_logic.specs.View.{tree};
 
-use mz_logic::{Binder, Binders, Decl, Deps, Expr, Exprs, ResultType, TermDecl, TermForm, ThmDecl};
+use mz_logic::{
+    Binder, Binders, Decl, Deps, Expr, Exprs, Hyps, ResultType, TermDecl, TermForm, ThmDecl,
+};
 use std::alloc::{AllocError, Global};
 
 /// A list that is copied up to an application, whose operands are copied first.
@@ -137,11 +139,20 @@ fn copy_of_term(alloc: Global, term: &TermDecl) -> Result<TermDecl, AllocError>
     })
 }
 
+fn copy_of_hyps(alloc: Global, hyps: &Hyps) -> Result<Hyps, AllocError>
+    ensures { IfOk result (λ copy. copy ≡ hyps.now) }
+{
+    let (formulas, ends) = hyps.groups();
+    let formulas = copies_of(alloc, formulas)?;
+    let ends = Vec::from_slice(alloc, ends)?;
+    Ok(Hyps::from_groups(formulas, ends))
+}
+
 fn copy_of_thm(alloc: Global, thm: &ThmDecl) -> Result<ThmDecl, AllocError>
     ensures { IfOk result (λ copy. assertion_view copy ≡ assertion_view thm.now) }
 {
     let params = copy_of_binders(alloc, &thm.params)?;
-    let hyps = copies_of(alloc, &thm.hyps)?;
+    let hyps = copy_of_hyps(alloc, &thm.hyps)?;
     let conclusion = copy_of(alloc, &thm.conclusion)?;
     Ok(ThmDecl {
         form: thm.form,

@@ -3,8 +3,8 @@ use Rattle.std.proofs.Common.{◌≡◌, ◌∙◌, ◌<◌, ◌^◌, ◌++◌, 
 use Rattle.mz_logic.specs.Declaration.{Declaration}
 use Rattle.mz_logic.specs.LegalLists.{Statement as Marked}
 use Rattle.mz_layout.specs.Tables.{list_at}
-use Rattle.mz_forms.specs.Proof.{Statement}
-use Rattle.mz_match.specs.Verdict.{Accepts}
+use Rattle.mz_statements.specs.Statements.{Statement}
+use Rattle.mz_verdicts.specs.Verdict.{Accepts}
 use Rattle.mz_tracing.specs.Laws.{BodiesMakeOne}
 use Rattle.mz_phrasing.specs.Naming.{Naming, vocabulary_by}
 use Rattle.mz_naming.specs.Names.{declared_names, statement_names, naming_of}
@@ -18,7 +18,7 @@ use Rattle.mz_decompile.specs.Standing.{AreAll, SomeAreAll}
 use Rattle.mz_decompile.specs.declared.decompiled.Decompiled.{Decompiled}
 use Rattle.mz_decompile.specs.declared.decompiled.Decompiled.TheVariants as answers
 use Rattle.mz_type.specs.Laws.{IsTypedOrFaulty}
-use Rattle.mz_binary.proofs.Offered.{one-list, good-spelled}
+use Rattle.mz_files.proofs.Offered.{one-list, good-spelled}
 use Rattle.mz_decompile.proofs.Bridging.{good-standing}
 use Rattle.mz_decompile.proofs.Texts.{text-for}
 

@@ -1,6 +1,5 @@
 -- Statements that restate a good binary's stand in its list, one after another.
-use Rattle.std.proofs.Common.{◌≡◌, ◌∙◌, ◌⊎◌, ◌<◌, ◌≤◌, ◌+◌, ◌++◌, ℕ, suc, Bool, true, false, inl, inr, List}
-use Rattle.std.proofs.Common.{[], ◌∷◌, length, get_or, Option, Some, None, Ok, refl, sym, ap, subst, arith, append_assoc, length-append}
+use Rattle.std.proofs.Common.{◌≡◌, ◌∙◌, ◌⊎◌, ◌<◌, ◌≤◌, ◌+◌, ◌++◌, ℕ, suc, Bool, true, false, inl, inr, List, [], ◌∷◌, length, get_or, Option, Some, None, Ok, refl, sym, ap, subst, arith, append_assoc, length-append}
 use Rattle.std.specs.Prelude.{Result, MatchBool}
 use Rattle.std.proofs.lemmas.List.{append-nil, get_or_at}
 use Rattle.std.proofs.lemmas.Option.{slice_get_within}
@@ -31,14 +30,16 @@ use Rattle.mz_soundness.proofs.Offered.{signature-at}
 use Rattle.mz_earlier.specs.Before.{AreWithin, HasRightParams, taken_before}
 use Rattle.mz_earlier.specs.OwnRow.{MayRun, heading_of}
 use Rattle.mz_layout.specs.declared.taken.Rows.{Rows}
-use Rattle.mz_binary.specs.Chains.{IsGoodStatement, GoodTo}
-use Rattle.mz_binary.specs.Checking.{checks_of, counts as taken-counts, kind_checks}
-use Rattle.mz_binary.specs.Good.{Good}
-use Rattle.mz_binary.specs.Spelling.{IsKindOf, SpellsRow, is_local_code}
-use Rattle.mz_binary.specs.Standards.{strict_standard}
-use Rattle.mz_binary.proofs.Offered.{sorts-many, terms-many, assertions-many, were-right, entry-good, same-taken, head-at, well-chain, HasRightRow, right-row, HasSorts, chain-sorts}
-use Rattle.mz_match.proofs.Offered.{length-binders}
-use Rattle.mz_forms.specs.Proof.{Proof, Statement}
+use Rattle.mz_files.specs.Chains.{IsGoodStatement, GoodTo}
+use Rattle.mz_files.specs.Checking.{checks_of, counts as taken-counts, kind_checks}
+use Rattle.mz_files.specs.Good.{Good}
+use Rattle.mz_files.specs.Spelling.{IsKindOf, SpellsRow, is_local_code}
+use Rattle.mz_files.specs.Standards.{strict_standard}
+use Rattle.mz_files.proofs.Offered.{sorts-many, terms-many, assertions-many, entry-good, same-taken, head-at, well-chain, HasRightRow, right-row, HasSorts, chain-sorts}
+use Rattle.mz_binary.proofs.Offered.{were-right}
+use Rattle.mz_verdicts.proofs.Offered.{length-binders}
+use Rattle.mz_forms.specs.Proof.{Proof}
+use Rattle.mz_statements.specs.Statements.{Statement}
 use Rattle.mz_wording.specs.Wording.{sort_name, term_name, sort_names, term_names}
 use Rattle.mz_tracing.specs.Laws.{BodiesMakeOne}
 use Rattle.mz_tracing.specs.Traces.{Made, under_lets}

@@ -3,14 +3,15 @@ use Rattle.std.proofs.Common.{◌≡◌, ◌⊎◌, ◌∙◌, ℕ, suc, inl, in
 use Rattle.mz_checks.specs.Checks.{AllHold, FailsFirst, AreDecided}
 use Rattle.mz_checks.proofs.Offered.{fails_first-unique, all_hold-excludes, all_hold-or_fails, are_decided-both, at_most-decided}
 use Rattle.mz_sexpr.specs.Node.{depth_limit}
-use Rattle.mz_forms.specs.Proof.{Statement}
-use Rattle.mz_match.specs.declared.verdict.Counts.{Counts}
-use Rattle.mz_match.specs.declared.verdict.Verdict.{Verdict}
-use Rattle.mz_match.specs.Verdict.{Accepts, AcceptsWith, FirstRefusal, counts_of}
+use Rattle.mz_statements.specs.Statements.{Statement}
+use Rattle.mz_verdicts.specs.declared.verdict.Counts.{Counts}
+use Rattle.mz_verdicts.specs.declared.verdict.Verdict.{Verdict}
+use Rattle.mz_verdicts.specs.Verdict.{Accepts, AcceptsWith, FirstRefusal, counts_of}
 use Rattle.mz_phrasing.specs.Phrases.{depth}
 use Rattle.mz_phrasing.specs.Phrasing.{Vocabulary, statement, text_of}
 use Rattle.mz_naming.specs.Names.{vocabulary_of}
-use Rattle.mz_restating.specs.Restated.{Restates, Unstated, depth_checks, greater_length, longest, stating_checks}
+use Rattle.mz_wording.specs.Wording.{longest}
+use Rattle.mz_restating.specs.Restated.{Restates, Unstated, depth_checks, greater_length, stating_checks}
 use Rattle.mz_restating.specs.Laws.{AcceptedAreRestated, RestatedAlike}
 use Rattle.mz_restating.specs.Texts.{IsPlainText, IsUnstated}
 use Rattle.mz_decompile.specs.Decompiling.{IsDecided}

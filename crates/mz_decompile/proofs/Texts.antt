@@ -2,10 +2,10 @@
 use Rattle.std.proofs.Common.{◌≡◌, ◌<◌, ◌^◌, ◌∙◌, ℕ, Bool, false, List, length, sym, ap, subst}
 use Rattle.mz_type.specs.Laws.{IsTypedOrFaulty}
 use Rattle.mz_type.specs.Meaning.{marked}
-use Rattle.mz_binary.specs.Standards.{strict_standard}
-use Rattle.mz_binary.specs.WholeLaws.{OneListOfStatements, GoodFilesSpell}
-use Rattle.mz_match.specs.Match.{publics, Agrees}
-use Rattle.mz_match.specs.Verdict.{Accepts}
+use Rattle.mz_files.specs.Standards.{strict_standard}
+use Rattle.mz_files.specs.WholeLaws.{OneListOfStatements, GoodFilesSpell}
+use Rattle.mz_verdicts.specs.Match.{publics, Agrees}
+use Rattle.mz_verdicts.specs.Verdict.{Accepts}
 use Rattle.mz_emit.specs.Compiling.{CompilesTo}
 use Rattle.mz_restating.specs.Laws.{AreBytes, IsTextOfBinary, PlainTextsAreTexts}
 use Rattle.mz_restating.specs.Texts.{IsPlainText}

@@ -11,11 +11,11 @@ use Rattle.mz_logic.specs.Declaration.{Declaration}
 use Rattle.mz_layout.specs.Heads.{IsHeadAt, head_checks}
 use Rattle.mz_layout.specs.declared.head.Head.{Head}
 use Rattle.mz_sexpr.specs.Node.{depth_limit}
-use Rattle.mz_binary.specs.Chains.{IsListEnd}
+use Rattle.mz_files.specs.Chains.{IsListEnd}
 use Rattle.mz_walk.specs.Walk.{GoesOn, nothing_passed, passed_with}
 use Rattle.mz_walk.specs.declared.passed.Passed.{Passed}
 use Rattle.mz_walk.proofs.Offered.{head-here, one-code}
-use Rattle.mz_forms.specs.Proof.{Statement}
+use Rattle.mz_statements.specs.Statements.{Statement}
 use Rattle.mz_type.specs.Weight.{statement_weight, weight_after, weight_of}
 use Rattle.mz_phrasing.specs.Phrases.{Phrase, depth, written}
 use Rattle.mz_phrasing.specs.Phrasing.{Vocabulary, statement, text_of}

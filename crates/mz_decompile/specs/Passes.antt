@@ -3,7 +3,7 @@ use Rattle.std.specs.Prelude.{◌≡◌, ◌<◌, ◌↔◌, ⊤, IsTrue, List, 
 use Rattle.mz_checks.specs.Checks.{AllHold, FailsFirst}
 use Rattle.mz_sexpr.specs.Node.{depth_limit}
 use Rattle.mz_logic.specs.Declaration.{Declaration}
-use Rattle.mz_forms.specs.Proof.{Statement}
+use Rattle.mz_statements.specs.Statements.{Statement}
 use Rattle.mz_type.specs.Weight.{statement_weight, weight_of}
 use Rattle.mz_phrasing.specs.Phrases.{depth, written}
 use Rattle.mz_phrasing.specs.Phrasing.{Vocabulary, statement, text_of}

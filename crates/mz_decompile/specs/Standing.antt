@@ -4,10 +4,10 @@ use Rattle.mz_checks.specs.Checks.{AllHold}
 use Rattle.mz_logic.specs.Declaration.{Declaration}
 use Rattle.mz_layout.specs.Heads.{IsHeadAt, head_checks}
 use Rattle.mz_layout.specs.declared.head.Head.{Head}
-use Rattle.mz_binary.specs.Chains.{IsListEnd}
+use Rattle.mz_files.specs.Chains.{IsListEnd}
 use Rattle.mz_walk.specs.Walk.{nothing_passed, passed_with}
 use Rattle.mz_walk.specs.declared.passed.Passed.{Passed}
-use Rattle.mz_forms.specs.Proof.{Statement}
+use Rattle.mz_statements.specs.Statements.{Statement}
 use Rattle.mz_phrasing.specs.Naming.{Naming}
 use Rattle.mz_telling.specs.Telling.{Stands}
 

@@ -1,6 +1,6 @@
 // The text, or what stands against it.
 ghost use Rattle.std.specs.Prelude.{◌≡◌, ◌+◌, ◌*◌, ℕ, IfOk, List, max};
-ghost use Rattle.mz_forms.specs.Proof.{Statement};
+ghost use Rattle.mz_statements.specs.Statements.{Statement};
 ghost use Rattle.mz_phrasing.specs.Naming.{vocabulary_by};
 ghost use Rattle.mz_stating.specs.Measures.{capped};
 ghost use Rattle.mz_decompile.specs.Standing.{AreAll, SomeAreAll};

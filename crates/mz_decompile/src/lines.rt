@@ -1,7 +1,7 @@
 // The second pass: the text itself.
 ghost use Rattle.std.specs.Prelude.{◌≡◌, ◌++◌, IfOk, List, OnOk, codes};
 ghost use Rattle.mz_logic.specs.Declaration.{Declaration};
-ghost use Rattle.mz_forms.specs.Proof.{Statement};
+ghost use Rattle.mz_statements.specs.Statements.{Statement};
 ghost use Rattle.mz_phrasing.specs.Naming.{vocabulary_by};
 ghost use Rattle.mz_phrasing.specs.Phrases.{written};
 ghost use Rattle.mz_phrasing.specs.Phrasing.{statement as the_statement, text_of};

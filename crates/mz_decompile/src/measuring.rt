@@ -1,7 +1,7 @@
 // The first pass: how long and how heavy the text is, and whether a statement is too deep.
 ghost use Rattle.std.specs.Prelude.{◌≡◌, ◌+◌, ℕ, IfOk, List};
 ghost use Rattle.mz_logic.specs.Declaration.{Declaration};
-ghost use Rattle.mz_forms.specs.Proof.{Statement};
+ghost use Rattle.mz_statements.specs.Statements.{Statement};
 ghost use Rattle.mz_phrasing.specs.Naming.{vocabulary_by};
 ghost use Rattle.mz_stating.specs.Measures.{capped};
 ghost use Rattle.mz_telling.specs.Telling.{SomeStands, Stands};

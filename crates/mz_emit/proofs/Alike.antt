@@ -3,10 +3,10 @@ use Rattle.std.proofs.Common.{◌≡◌, ◌≤◌, Bool, true, false, List, ℕ
 use Rattle.std.specs.Prelude.{◌↔◌}
 use Rattle.mz_logic.specs.LegalLists.{Statement as Marked, LegalBy, allowed_with}
 use Rattle.mz_layout.specs.Normal.{file_of}
-use Rattle.mz_binary.specs.Chains.{Statements}
-use Rattle.mz_binary.specs.Gapped.{GappedIn}
-use Rattle.mz_binary.proofs.Offered.{one-list}
-use Rattle.mz_forms.specs.Proof.{Statement}
+use Rattle.mz_files.specs.Chains.{Statements}
+use Rattle.mz_files.specs.Gapped.{GappedIn}
+use Rattle.mz_files.proofs.Offered.{one-list}
+use Rattle.mz_statements.specs.Statements.{Statement}
 use Rattle.mz_sexpr.specs.declared.rule.TextRefusal.{TextRefusal}
 use Rattle.mz_type.specs.Laws.{IsTypedOrFaulty}
 use Rattle.mz_type.specs.Meaning.{marked}

@@ -7,8 +7,8 @@ use Rattle.mz_logic.proofs.Offered.{sorts-append}
 use Rattle.mz_layout.specs.Normal.{Parts, file_of, file_length}
 use Rattle.mz_layout.specs.Standing.{Fit}
 use Rattle.mz_layout.proofs.Offered.{file-bound, file-length}
-use Rattle.mz_binary.specs.Gapped.{GappedIn}
-use Rattle.mz_forms.specs.Proof.{Statement}
+use Rattle.mz_files.specs.Gapped.{GappedIn}
+use Rattle.mz_statements.specs.Statements.{Statement}
 use Rattle.mz_type.specs.Meaning.{LegalAsStated, marked}
 use Rattle.mz_type.specs.TypedText.{declared}
 use Rattle.mz_type.specs.Weight.{sort_count, byte_bound, IsWithinLimits}

@@ -6,8 +6,7 @@ use Rattle.mz_checks.proofs.Offered.{all_hold-first, all_hold-rest}
 use Rattle.mz_logic.specs.Declaration.{Declaration, sorts}
 use Rattle.mz_logic.specs.Legality.{LegalEnvAfter}
 use Rattle.mz_logic.specs.WordsWritten.{CanBeWords}
-use Rattle.mz_forms.specs.Gaps.{HasGapsOnly}
-use Rattle.mz_forms.specs.Proof.{Statement}
+use Rattle.mz_statements.specs.Statements.{HasGapsOnly, Statement}
 use Rattle.mz_mmu.specs.Laws.{IsWhole}
 use Rattle.mz_typing.specs.Names.{StatementThere, StatementsThere}
 use Rattle.mz_type.specs.Meaning.{IsLegalAsStated, LegalAsStatedAfter, LegalAsStated}

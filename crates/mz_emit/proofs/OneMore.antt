@@ -10,8 +10,8 @@ use Rattle.mz_logic.specs.WordsWritten.{words_of, words_from, result_word}
 use Rattle.mz_logic.specs.declared.binder.Binder.{Binder}
 use Rattle.mz_logic.specs.declared.binder.SortMods.{SortMods}
 use Rattle.mz_layout.specs.Normal.{Row, Written, Parts, row_of_term, row_of_thm}
-use Rattle.mz_binary.specs.Spelling.{HasKind, is_local_code}
-use Rattle.mz_forms.specs.Proof.{Statement}
+use Rattle.mz_files.specs.Spelling.{HasKind, is_local_code}
+use Rattle.mz_statements.specs.Statements.{Statement}
 use Rattle.mz_type.specs.Meaning.{marked}
 use Rattle.mz_type.specs.TypedText.{declared}
 use Rattle.mz_type.specs.Weight.{declaration_weight, statement_weight}

@@ -8,9 +8,10 @@ use Rattle.mz_logic.specs.Legality.{IsDummy}
 use Rattle.mz_logic.specs.declared.binder.Binder.{Binder}
 use Rattle.mz_logic.specs.declared.binder.SortMods.{SortMods}
 use Rattle.mz_logic.proofs.Offered.{sorts-append, each_from_all}
-use Rattle.mz_forms.specs.Proof.{Proof, Statement}
+use Rattle.mz_forms.specs.Proof.{Proof}
+use Rattle.mz_statements.specs.Statements.{Statement}
 use Rattle.mz_type.specs.TypedText.{declared}
-use Rattle.mz_binary.specs.Spelling.{HasKind, is_local_code}
+use Rattle.mz_files.specs.Spelling.{HasKind, is_local_code}
 use Rattle.mz_writing.proofs.Offered.{words-say-params}
 use Rattle.mz_logic.specs.Words.{signatures_of}
 use Rattle.mz_shared.specs.Rows.{words_of_row}

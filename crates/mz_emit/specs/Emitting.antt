@@ -17,8 +17,8 @@ use Rattle.mz_unification.specs.Streams.{of_assertion, of_definition}
 use Rattle.mz_soundness.specs.Lists.{kind_of}
 use Rattle.mz_soundness.specs.Premises.{bound_count as bound_in}
 use Rattle.mz_soundness.specs.MachineState.{is_axiom, is_theorem, is_definition}
-use Rattle.mz_forms.specs.Gaps.{HasGapsOnly}
-use Rattle.mz_forms.specs.Proof.{Proof, Statement}
+use Rattle.mz_statements.specs.Statements.{HasGapsOnly, Statement}
+use Rattle.mz_forms.specs.Proof.{Proof}
 use Rattle.mz_mmu.specs.Laws.{IsWhole}
 use Rattle.mz_typing.specs.Names.{StatementThere}
 use Rattle.mz_type.specs.Meaning.{IsLegalAsStated, LegalAsStated, marked}

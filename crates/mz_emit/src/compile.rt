@@ -1,7 +1,7 @@
 // From a text to a binary.
 ghost use Rattle.std.specs.Prelude.{Bool, false, ◌≡◌, ◌<◌, ◌^◌, IfOk, ℕ, List, length};
 ghost use Rattle.mz_mode.specs.Gaps.{gaps_of};
-ghost use Rattle.mz_forms.specs.Proof.{Statement};
+ghost use Rattle.mz_statements.specs.Statements.{Statement};
 ghost use Rattle.mz_type.specs.Meaning.{LegalAsStated};
 ghost use Rattle.mz_type.specs.StatedView.{AreRead, statements_of};
 ghost use Rattle.mz_type.specs.TextOf.{TextOf};

@@ -14,7 +14,7 @@ ghost use Rattle.mz_logic.specs.declared.binder.Binder.{Binder as BinderOf};
 ghost use Rattle.mz_logic.specs.declared.binder.SortMods.{SortMods as Modifiers};
 ghost use Rattle.mz_layout.specs.Normal.{row_of_term, row_of_thm};
 ghost use Rattle.mz_forms.specs.ProofView.{proof_view};
-ghost use Rattle.mz_forms.specs.Proof.{Statement};
+ghost use Rattle.mz_statements.specs.Statements.{Statement};
 ghost use Rattle.mz_typing.specs.Answers.{stated};
 ghost use Rattle.mz_type.specs.Meaning.{LegalAsStated};
 ghost use Rattle.mz_type.specs.StatedView.{with_decl};
@@ -351,7 +351,7 @@ impl Emitter {
         let params = words.params.as_slice().len() as u32;
         let mut shared = Shared::new(self.alloc, &words.params, dummies)?;
         let conclusion = shared.id(&self.table, &thm.conclusion)?;
-        let hyps = shared.ids(&self.table, &thm.hyps)?;
+        let hyps = shared.hyp_ids(&self.table, &thm.hyps)?;
         let stream = assertion_stream(self.alloc, &shared, params, conclusion, &hyps)?;
         let body = self.assertion_body(shared, params, &hyps, conclusion, proof)?;
         Ok(Emitted { stream, body })

@@ -1,18 +1,14 @@
--- Variables, binders and hypotheses, one after another.
+-- Variables and binders, one after another.
 use Rattle.std.proofs.Common.{◌≡◌, ◌∙◌, ℕ, List, [], ◌∷◌, ◌++◌, sym, ap, refl, subst, append_assoc}
 use Rattle.mz_checks.specs.Checks.{Checks, AllHold}
 use Rattle.mz_checks.proofs.Offered.{Decides, decides-after}
 use Rattle.mz_sexpr.specs.Node.{Node, Nodes, node, parts}
-use Rattle.mz_logic.specs.Tree.{Tree, Trees, more, none, followed_by}
 use Rattle.mz_logic.specs.declared.binder.Binder.{Binder}
-use Rattle.mz_logic.proofs.Offered.{followed_by_push}
 use Rattle.mz_forms.specs.declared.fault.Fault.{Fault}
-use Rattle.mz_forms.specs.Name.{Scope, HasNumber}
+use Rattle.mz_forms.specs.Name.{HasNumber}
 use Rattle.mz_forms.specs.Expressions.{AreVariables, AreBinders}
-use Rattle.mz_forms.specs.Statements.{IsHyp, AreHyps}
-use Rattle.mz_forms.specs.Order.{known_asked, variables_asked, first_word, binders_asked, hyp_asked}
+use Rattle.mz_forms.specs.Order.{known_asked, variables_asked, first_word, binders_asked}
 use Rattle.mz_forms.proofs.Hold.{known_holds}
-use Rattle.mz_forms.proofs.HoldStatements.{hyp_holds, hyp_word}
 
 module _ (vars : List (List ℕ)) (left ns : Nodes) (n : Node) (is : left ≡ node n ns) (x : ℕ) (h : HasNumber vars n x) where
   pub variables_read_more : (P : List ℕ → Type 0) (sofar now : List ℕ) → now ≡ sofar ++ x ∷ [] → ((xs : List ℕ) → AreVariables vars left xs → P (sofar ++ xs))
@@ -38,18 +34,3 @@ module _ (Is : List (List ℕ) → Node → List ℕ → Binder → Type 0) (ask
   binders_asked_more whole d =
       subst (λ vs. Decides (binders_asked asked vs ns) whole) (sym (more_vars ∙ ap (λ w. vars ++ w ∷ []) (says vars n x b h)))
       (decides-after (asked vars n) (binders_asked asked (vars ++ first_word (parts n) ∷ []) ns) whole (holds vars n x b h) (subst (λ l. Decides (binders_asked asked vars l) whole) is d))
-
-module _ (sc : Scope) (taken later : List (List ℕ)) (left ns : Nodes) (n : Node) (is : left ≡ node n ns) (w : List ℕ) (e : Tree) (h : IsHyp sc taken n w e)
-    (more_taken : later ≡ taken ++ w ∷ []) where
-  pub hyps_read_more : (P : Trees → List (List ℕ) → Type 0) (sofar now : Trees) → now ≡ followed_by sofar (more e none)
-      → ((es : Trees) (after : List (List ℕ)) → AreHyps sc taken left es after → P (followed_by sofar es) after)
-      → (es : Trees) (after : List (List ℕ)) → AreHyps sc later ns es after → P (followed_by now es) after
-  hyps_read_more P sofar now pushed read es after r =
-      subst (λ fs. P fs after) (sym (ap (λ x. followed_by x es) pushed ∙ followed_by_push sofar es e))
-      (read (more e es) after (subst (λ l. AreHyps sc taken l (more e es) after) (sym is) (w, e, es, h, subst (λ vs. AreHyps sc vs ns es after) more_taken r, refl)))
-
-  pub hyps_asked_more : (whole : Checks Fault) → Decides (binders_asked (hyp_asked sc) taken left) whole → Decides (binders_asked (hyp_asked sc) later ns) whole
-  hyps_asked_more whole d =
-      subst (λ vs. Decides (binders_asked (hyp_asked sc) vs ns) whole) (sym (more_taken ∙ ap (λ v. taken ++ v ∷ []) (hyp_word sc taken n w e h)))
-      (decides-after (hyp_asked sc taken n) (binders_asked (hyp_asked sc) (taken ++ first_word (parts n) ∷ []) ns) whole (hyp_holds sc taken n w e h)
-      (subst (λ l. Decides (binders_asked (hyp_asked sc) taken l) whole) is d))

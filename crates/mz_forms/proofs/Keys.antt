@@ -5,7 +5,8 @@ use Rattle.std.specs.List.{list_any}
 use Rattle.std.proofs.lemmas.Bool.Decides.{nat_tests}
 use Rattle.std.specs.Cmp.Lexicographic.{same_text}
 use Rattle.mz_names.proofs.Offered.{Tells}
-use Rattle.mz_forms.specs.Name.{is_identifier, IsName}
+use Rattle.mz_names.specs.Identifiers.{is_name}
+use Rattle.mz_forms.specs.Name.{IsName}
 use Rattle.mz_forms.specs.SpaceView.{Key, word_of_key, IsKeyAt, AreKeysFrom}
 
 abbrev pub is_key : List ℕ → ℕ → Key → Bool
@@ -29,7 +30,7 @@ found_here i w k (inr here) h =
   where
     differs : (b : Bool) → bytes_eq w k.0.now ≡ b → b ≡ false
     differs false e = refl
-    differs true e = absurd (true≢false (sym h ∙ ap is_identifier (same_text w k.0.now (sym e)) ∙ here.0))
+    differs true e = absurd (true≢false (sym h ∙ ap is_name (same_text w k.0.now (sym e)) ∙ here.0))
 
 -- so of each key the test tells whether its word is this name
 pub keys-tell : (i : ℕ) (ks : List Key) (w : List ℕ) → AreKeysFrom i ks → IsName w → Tells word_of_key w (is_key w 0) ks

@@ -1,6 +1,5 @@
 pub mod Keys
 pub mod Hold
-pub mod HoldStatements
 pub mod Stopping
 pub mod Cursors
 pub mod ExprLists
@@ -12,5 +11,4 @@ pub mod BinderLists
 pub mod ConvLists
 pub mod ProofLists
 pub mod Dispatch
-pub mod StatementDispatch
 pub mod Offered

@@ -1,7 +1,7 @@
 -- Where gaps stand in the proofs of a text.
 use Rattle.std.specs.Prelude.{⊤, Option, Some, None}
 use Rattle.mz_logic.specs.Conversions.{GapsOnly}
-use Rattle.mz_forms.specs.Proof.{Proof, Proofs, by_hyp, by_name, by_citation, by_conv, by_let, by_gap, no_proofs, more_proofs, Statement}
+use Rattle.mz_forms.specs.Proof.{Proof, Proofs, by_hyp, by_name, by_citation, by_conv, by_let, by_gap, no_proofs, more_proofs}
 
 -- a gap stands in the proof, or in one of its conversions, only where G holds
 abbrev mutual
@@ -20,7 +20,3 @@ abbrev mutual
 abbrev pub SomeLeavesOnly : Type 0 → Option Proof → Type 0
 SomeLeavesOnly G None = ⊤
 SomeLeavesOnly G (Some p) = LeavesOnly G p
-
--- the same of the proof that a statement has
-abbrev pub HasGapsOnly : Type 0 → Statement → Type 0
-HasGapsOnly G s = SomeLeavesOnly G s.proof

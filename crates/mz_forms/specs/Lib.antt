@@ -2,14 +2,12 @@ pub mod Name
 pub mod Proof
 pub mod Expressions
 pub mod Proofs
-pub mod Statements
 pub mod Order
 pub mod Stops
 pub mod Steps
 pub mod Cursor
 pub mod SpaceView
 pub mod ScopeView
-pub mod StatementView
 pub mod Gaps
 pub mod NamesMore
 pub mod ConvCode

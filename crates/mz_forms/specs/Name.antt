@@ -1,33 +1,20 @@
 -- Names (mm0.md, identifiers), and what each of them stands for.
-use Rattle.std.specs.Prelude.{ℕ, Bool, true, false, ◌==◌, ◌||◌, ◌&&◌, nat_le, not, ◌≡◌, ◌⊎◌, IsTrue, List, [], ◌∷◌, Some, bytes_eq, codes}
+use Rattle.std.specs.Prelude.{ℕ, Bool, ◌≡◌, ◌⊎◌, IsTrue, List, Some, codes, [], ◌∷◌, ◌++◌}
+use Rattle.mz_names.specs.Identifiers.{is_name}
 use Rattle.mz_names.specs.Names.{number_of, IsNew}
 use Rattle.mz_sexpr.specs.Node.{Node, atom, list}
+use Rattle.mz_logic.specs.Declaration.{Declaration, sort_decl, term_decl, assertion_decl}
+use Rattle.mz_logic.specs.declared.binder.Binder.{Binder}
 
--- ---- identifiers: letters, digits and `_`, no digit first, and not `_` alone
-
-abbrev pub is_between : ℕ → ℕ → ℕ → Bool
-is_between low b high = nat_le low b && nat_le b high
-
-abbrev pub is_name_start : ℕ → Bool
-is_name_start b = is_between 65 b 90 || is_between 97 b 122 || b == 95
-
-abbrev pub is_name_byte : ℕ → Bool
-is_name_byte b = is_name_start b || is_between 48 b 57
-
-abbrev pub are_name_bytes : List ℕ → Bool
-are_name_bytes [] = true
-are_name_bytes (b ∷ bs) = is_name_byte b && are_name_bytes bs
+-- ---- names
 
 -- the word of a parameter that has no name
 abbrev pub hidden : List ℕ
 hidden = codes "_"
 
-abbrev pub is_identifier : List ℕ → Bool
-is_identifier [] = false
-is_identifier (b ∷ bs) = is_name_start b && are_name_bytes bs && not (bytes_eq (b ∷ bs) hidden)
-
+-- the word is an identifier
 abbrev pub IsName : List ℕ → Type 0
-IsName w = IsTrue (is_identifier w)
+IsName w = IsTrue (is_name w)
 
 -- ---- numbers
 
@@ -61,3 +48,20 @@ pub record Names : Type 0 where
 pub record Scope : Type 0 where
   pub names : Names
   pub vars : List (List ℕ)
+
+-- those where these variables are visible
+abbrev pub scope_of : Names → List (List ℕ) → Scope
+scope_of names vars = record { names = names; vars = vars }
+
+abbrev pub no_names : Bool → Names
+no_names gaps = record { gaps = gaps; sorts = []; terms = []; constants = []; assertions = [] }
+
+-- a term's name where it has no parameters, and nothing where it has some
+abbrev pub constant_name : List Binder → List ℕ → List ℕ
+constant_name [] w = w
+constant_name (_ ∷ _) w = []
+
+abbrev pub names_with : Names → List ℕ → Declaration → Names
+names_with names w (sort_decl _) = record names { sorts = names.sorts ++ w ∷ [] }
+names_with names w (term_decl d) = record names { terms = names.terms ++ w ∷ []; constants = names.constants ++ constant_name d.signature.params w ∷ [] }
+names_with names w (assertion_decl _) = record names { assertions = names.assertions ++ w ∷ [] }

@@ -1,10 +1,7 @@
--- Proofs as a text states them, with names resolved, and statements (this project's own form of Carneiro's
--- derivations). Conversions are the logic's.
-use Rattle.std.specs.Prelude.{ℕ, Bool, List, Option}
+-- Proofs as a text states them, with names resolved (this project's own form of Carneiro's derivations). Conversions are the logic's.
+use Rattle.std.specs.Prelude.{ℕ}
 use Rattle.mz_logic.specs.Tree.{Tree, Trees}
-use Rattle.mz_logic.specs.Declaration.{Declaration}
 use Rattle.mz_logic.specs.Conversions.{Conversion}
-use Rattle.mz_logic.specs.declared.binder.Binder.{Binder}
 
 -- a hypothesis; a visible let, counted from the outermost; a citation of an axiom or theorem; an
 -- expression that converts to what is proved; a let with the proof in which it is visible; and a gap, in the
@@ -21,11 +18,3 @@ mutual
   pub data Proofs : Type 0 where
     no_proofs : Proofs
     more_proofs : Proof → Proofs → Proofs
-
--- a statement of a text, with its mark and its name; a theorem has dummies and a proof
-pub record Statement : Type 0 where
-  pub is_local : Bool
-  pub name : List ℕ
-  pub decl : Declaration
-  pub dummies : List Binder
-  pub proof : Option Proof

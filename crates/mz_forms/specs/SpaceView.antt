@@ -2,7 +2,8 @@
 -- place and 1, since it may come again.
 use Rattle.std.specs.Prelude.{ℕ, suc, ◌≡◌, ◌⊎◌, ⊤, false, List, [], ◌∷◌}
 use Rattle.std.specs.Borrow.{Bor}
-use Rattle.mz_forms.specs.Name.{is_identifier, IsName}
+use Rattle.mz_names.specs.Identifiers.{is_name}
+use Rattle.mz_forms.specs.Name.{IsName}
 
 abbrev pub Key : Type 0
 Key = Bor (List ℕ) × ℕ
@@ -11,7 +12,7 @@ abbrev pub word_of_key : Key → List ℕ
 word_of_key k = k.0.now
 
 abbrev pub IsKeyAt : ℕ → Key → Type 0
-IsKeyAt i k = (IsName k.0.now × (k.1 ≡ 0)) ⊎ ((is_identifier k.0.now ≡ false) × (k.1 ≡ suc i))
+IsKeyAt i k = (IsName k.0.now × (k.1 ≡ 0)) ⊎ ((is_name k.0.now ≡ false) × (k.1 ≡ suc i))
 
 -- from the place i on
 abbrev pub AreKeysFrom : ℕ → List Key → Type 0

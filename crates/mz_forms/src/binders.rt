@@ -9,11 +9,12 @@ ghost use Rattle.mz_forms.specs.ScopeView.{names as names_view};
 ghost use Rattle.mz_forms.specs.Stops.{Stops};
 
 use crate::fault::Stop;
-use crate::name::{HIDDEN, is_identifier};
+use crate::name::HIDDEN;
 use crate::reader::Reader;
 use crate::scope::Names;
 use crate::space::Space;
 use mz_logic::{Binder, Binders, Deps, ResultType};
+use mz_names::is_identifier;
 use mz_sexpr::U;
 
 /// These places in ascending order, each once.
@@ -130,12 +131,12 @@ impl<'r, 'a> Reader<'r, 'a> {
     }
 
     /// The parameters of a statement; their names are put into the space, which is empty.
-    pub(crate) fn params(
-        &self,
-        names: &Names<'a>,
-        vars: &mut Space<'a>,
-        n: u32,
-    ) -> Result<Binders, Stop>
+    ///
+    /// # Errors
+    ///
+    /// The first of the rules on forms and names that the node breaks, at its place; or where there is no
+    /// memory.
+    pub fn params(&self, names: &Names<'a>, vars: &mut Space<'a>, n: u32) -> Result<Binders, Stop>
         requires within { n < node_count self.now.nodes.now }
         requires none { vars.old ≡ [] }
         requires few { node_size (node_at self.now.nodes.now n) < 2 ^ 32 }
@@ -154,12 +155,12 @@ impl<'r, 'a> Reader<'r, 'a> {
     }
 
     /// The dummies of a statement; their names are put to those of its parameters.
-    pub(crate) fn dummies(
-        &self,
-        names: &Names<'a>,
-        vars: &mut Space<'a>,
-        n: u32,
-    ) -> Result<Binders, Stop>
+    ///
+    /// # Errors
+    ///
+    /// The first of the rules on forms and names that the node breaks, at its place; or where there is no
+    /// memory.
+    pub fn dummies(&self, names: &Names<'a>, vars: &mut Space<'a>, n: u32) -> Result<Binders, Stop>
         requires within { n < node_count self.now.nodes.now }
         requires few { length vars.old + node_size (node_at self.now.nodes.now n) < 2 ^ 32 }
         ensures read { IfOk result (λ bs. AreDummies (names_view names.now) vars.old (node_at self.now.nodes.now n) bs vars.new) }
@@ -177,12 +178,12 @@ impl<'r, 'a> Reader<'r, 'a> {
     }
 
     /// A result.
-    pub(crate) fn result(
-        &self,
-        names: &Names<'a>,
-        vars: &Space<'a>,
-        n: u32,
-    ) -> Result<ResultType, Stop>
+    ///
+    /// # Errors
+    ///
+    /// The first of the rules on forms and names that the node breaks, at its place; or where there is no
+    /// memory.
+    pub fn result(&self, names: &Names<'a>, vars: &Space<'a>, n: u32) -> Result<ResultType, Stop>
         requires { n < node_count self.now.nodes.now }
         ensures read { IfOk result (IsResult (names_view names.now) vars.now (node_at self.now.nodes.now n)) }
         ensures stops { IfErr result (λ stop. Stops stop (result_asked (names_view names.now) vars.now (node_at self.now.nodes.now n))) }

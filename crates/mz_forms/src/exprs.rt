@@ -96,7 +96,12 @@ impl<'r, 'a> Reader<'r, 'a> {
     ///
     /// Expressions may stand deep in one another. Those around the one that is being read are kept
     /// in a list, and not on the stack.
-    pub(crate) fn expr(&self, sc: &Scope<'_, 'a>, n: u32) -> Result<Expr, Stop>
+    ///
+    /// # Errors
+    ///
+    /// The first of the rules on forms and names that the node breaks, at its place; or where there is no
+    /// memory.
+    pub fn expr(&self, sc: &Scope<'_, 'a>, n: u32) -> Result<Expr, Stop>
         requires { n < node_count self.now.nodes.now }
         ensures read { IfOk result (λ e. IsExpr (scope sc.now) (node_at self.now.nodes.now n) (tree e)) }
         ensures stops { IfErr result (λ stop. Stops stop (expr_asked (scope sc.now) (node_at self.now.nodes.now n))) }
@@ -148,7 +153,12 @@ impl<'r, 'a> Reader<'r, 'a> {
     }
 
     /// The expressions of a list.
-    pub(crate) fn expr_list(&self, sc: &Scope<'_, 'a>, n: u32) -> Result<Exprs, Stop>
+    ///
+    /// # Errors
+    ///
+    /// The first of the rules on forms and names that the node breaks, at its place; or where there is no
+    /// memory.
+    pub fn expr_list(&self, sc: &Scope<'_, 'a>, n: u32) -> Result<Exprs, Stop>
         requires { n < node_count self.now.nodes.now }
         ensures read { IfOk result (IsExprList (scope sc.now) (node_at self.now.nodes.now n)) }
         ensures stops { IfErr result (λ stop. Stops stop (expr_list_asked (scope sc.now) (node_at self.now.nodes.now n))) }

@@ -1,7 +1,6 @@
-//! The words with which conversions, proofs and statements begin.
+//! The words with which conversions and proofs begin.
 ghost use Rattle.std.specs.Prelude.{◌≡◌, bytes_eq};
 ghost use Rattle.mz_forms.specs.Proofs.{conv_keyword_of, proof_keyword_of};
-ghost use Rattle.mz_forms.specs.Statements.{kind_of_word};
 
 /// Whether the word is this one.
 pub fn is(word: &[u8], other: &[u8]) -> bool
@@ -59,44 +58,6 @@ impl Keyword {
             Keyword::Sorry
         } else {
             Keyword::Other
-        }
-    }
-}
-
-/// The literal words with which statements begin.
-#[derive(Clone, Copy, Debug, PartialEq, Eq)]
-pub enum Kind {
-    /// `sort`
-    Sort,
-    /// `term`
-    Term,
-    /// `axiom`
-    Axiom,
-    /// `def`
-    Def,
-    /// `theorem`
-    Theorem,
-    /// Any other word.
-    Other,
-}
-
-impl Kind {
-    /// The kind of statement that the word begins.
-    pub fn of(word: &[u8]) -> Kind
-        ensures { result ≡ kind_of_word word.now }
-    {
-        if is(word, b"sort") {
-            Kind::Sort
-        } else if is(word, b"term") {
-            Kind::Term
-        } else if is(word, b"axiom") {
-            Kind::Axiom
-        } else if is(word, b"def") {
-            Kind::Def
-        } else if is(word, b"theorem") {
-            Kind::Theorem
-        } else {
-            Kind::Other
         }
     }
 }

@@ -1,5 +1,5 @@
-//! Forms and names of the proof text: the statement that a node is, with names resolved, or the first
-//! form or name that it gets wrong.
+//! Forms and names of the proof text: the expression, the binders, the conversion or the proof that a node
+//! is, with names resolved, or the first form or name that it gets wrong.
 #![tactic(auto)]
 
 mod binders;
@@ -14,11 +14,11 @@ mod proofs;
 mod reader;
 mod scope;
 mod space;
-mod statements;
 
 pub use conv::{Conv, ConvBox, Convs, Vars};
 pub use fault::{Fault, Stop};
+pub use keyword::is;
 pub use proof::{Proof, ProofBox, Proofs};
 pub use reader::Reader;
-pub use scope::Names;
-pub use statements::Declared;
+pub use scope::{Names, Scope};
+pub use space::Space;

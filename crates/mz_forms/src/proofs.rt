@@ -77,7 +77,12 @@ impl<'r, 'a> Reader<'r, 'a> {
     }
 
     /// A box of the proof that the node is.
-    pub(crate) fn boxed_proof(
+    ///
+    /// # Errors
+    ///
+    /// The first of the rules on forms, gaps and names that the node breaks, at its place; or where there is
+    /// no memory.
+    pub fn boxed_proof(
         &self,
         sc: &Scope<'_, 'a>,
         hyps: &Space<'a>,

@@ -11,8 +11,8 @@ ghost use Rattle.mz_forms.specs.Stops.{Stops};
 ghost use Rattle.mz_forms.specs.declared.fault.Stop.TheVariants.{Refused};
 
 use crate::fault::{Fault, Stop};
-use crate::name::is_identifier;
 use crate::space::Space;
+use mz_names::is_identifier;
 use mz_sexpr::{Sexprs, U};
 use std::alloc::Global;
 
@@ -27,7 +27,7 @@ pub struct Reader<'r, 'a> {
 
 impl<'r, 'a> Reader<'r, 'a> {
     /// A rule that is broken at the node.
-    pub(crate) fn wrong(&self, n: u32, rule: U) -> Stop
+    pub fn wrong(&self, n: u32, rule: U) -> Stop
         requires { n < node_count self.now.nodes.now }
         ensures { result ≡ Refused (fault (place (node_at self.now.nodes.now n)) rule) }
     {
@@ -38,7 +38,7 @@ impl<'r, 'a> Reader<'r, 'a> {
     }
 
     /// An atom's bytes, none for a list.
-    pub(crate) fn word(&self, n: u32) -> &'a [u8]
+    pub fn word(&self, n: u32) -> &'a [u8]
         requires { n < node_count self.now.nodes.now }
         ensures { result.now ≡ Node.word (node_at self.now.nodes.now n) }
     {
@@ -78,7 +78,11 @@ impl<'r, 'a> Reader<'r, 'a> {
     }
 
     /// A name that the space doesn't have.
-    pub(crate) fn new_name(&self, space: &Space<'a>, n: u32) -> Result<&'a [u8], Stop>
+    ///
+    /// # Errors
+    ///
+    /// Where the node is no name, or one that the space has.
+    pub fn new_name(&self, space: &Space<'a>, n: u32) -> Result<&'a [u8], Stop>
         requires { n < node_count self.now.nodes.now }
         ensures read { IfOk result (λ w. IsNewName space.now (node_at self.now.nodes.now n) w.now) }
         ensures stops { IfErr result (λ stop. Stops stop (new_asked space.now (node_at self.now.nodes.now n))) }
@@ -91,7 +95,11 @@ impl<'r, 'a> Reader<'r, 'a> {
     }
 
     /// The first part of a list.
-    pub(crate) fn list(&self, n: u32) -> Result<Option<u32>, Stop>
+    ///
+    /// # Errors
+    ///
+    /// Where the node is an atom.
+    pub fn list(&self, n: u32) -> Result<Option<u32>, Stop>
         requires { n < node_count self.now.nodes.now }
         ensures there { IfOk result (IsThere self.now.nodes.now) }
         ensures read { IfOk result (λ first. node_at self.now.nodes.now n ≡ list (place (node_at self.now.nodes.now n)) (nodes_from self.now.nodes.now first)) }
@@ -117,7 +125,7 @@ impl<'r, 'a> Reader<'r, 'a> {
     }
 
     /// The two nodes, if there are two.
-    pub(crate) fn two(&self, first: Option<u32>) -> Option<(u32, u32)>
+    pub fn two(&self, first: Option<u32>) -> Option<(u32, u32)>
         requires { IsThere self.now.nodes.now first }
         ensures { AreTwo self.now.nodes.now result (nodes_from self.now.nodes.now first) }
     {
@@ -127,7 +135,7 @@ impl<'r, 'a> Reader<'r, 'a> {
     }
 
     /// The three nodes, if there are three.
-    pub(crate) fn three(&self, first: Option<u32>) -> Option<(u32, u32, u32)>
+    pub fn three(&self, first: Option<u32>) -> Option<(u32, u32, u32)>
         requires { IsThere self.now.nodes.now first }
         ensures { AreThree self.now.nodes.now result (nodes_from self.now.nodes.now first) }
     {
@@ -137,7 +145,7 @@ impl<'r, 'a> Reader<'r, 'a> {
     }
 
     /// The four nodes, if there are four.
-    pub(crate) fn four(&self, first: Option<u32>) -> Option<(u32, u32, u32, u32)>
+    pub fn four(&self, first: Option<u32>) -> Option<(u32, u32, u32, u32)>
         requires { IsThere self.now.nodes.now first }
         ensures { AreFour self.now.nodes.now result (nodes_from self.now.nodes.now first) }
     {
@@ -147,7 +155,7 @@ impl<'r, 'a> Reader<'r, 'a> {
     }
 
     /// The five nodes, if there are five.
-    pub(crate) fn five(&self, first: Option<u32>) -> Option<(u32, u32, u32, u32, u32)>
+    pub fn five(&self, first: Option<u32>) -> Option<(u32, u32, u32, u32, u32)>
         requires { IsThere self.now.nodes.now first }
         ensures { AreFive self.now.nodes.now result (nodes_from self.now.nodes.now first) }
     {
@@ -157,7 +165,7 @@ impl<'r, 'a> Reader<'r, 'a> {
     }
 
     /// The six nodes, if there are six.
-    pub(crate) fn six(&self, first: Option<u32>) -> Option<(u32, u32, u32, u32, u32, u32)>
+    pub fn six(&self, first: Option<u32>) -> Option<(u32, u32, u32, u32, u32, u32)>
         requires { IsThere self.now.nodes.now first }
         ensures { AreSix self.now.nodes.now result (nodes_from self.now.nodes.now first) }
     {

@@ -3,9 +3,8 @@ ghost use Rattle.std.specs.Prelude.{◌≡◌, ◌^◌, ◌-◌, OnOk};
 ghost use Rattle.mz_logic.specs.DeclView.{declaration};
 ghost use Rattle.mz_mode.specs.Gaps.{gaps_of};
 ghost use Rattle.mz_names.specs.Names.{IsNew};
-ghost use Rattle.mz_forms.specs.Name.{IsName};
+ghost use Rattle.mz_forms.specs.Name.{IsName, no_names, names_with};
 ghost use Rattle.mz_forms.specs.NamesMore.{IsUnused, AreFew, with_term};
-ghost use Rattle.mz_forms.specs.Statements.{no_names, names_with};
 ghost use Rattle.mz_forms.specs.ScopeView.{names};
 
 use crate::space::Space;

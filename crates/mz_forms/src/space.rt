@@ -1,7 +1,8 @@
 //! The names of one space, by their numbers.
 ghost use Rattle.std.specs.Prelude.{◌≡◌, ◌++◌, ◌⊎◌, ◌∷◌, [], ◌<◌, ◌+◌, ◌^◌, ℕ, List, false, length, OnOk};
 ghost use Rattle.mz_names.specs.Names.{number_of, IsNew};
-ghost use Rattle.mz_forms.specs.Name.{is_identifier, hidden, IsName};
+ghost use Rattle.mz_names.specs.Identifiers.{is_name};
+ghost use Rattle.mz_forms.specs.Name.{hidden, IsName};
 
 use crate::name::HIDDEN;
 use indexmap::IndexSet;
@@ -69,7 +70,7 @@ impl<'a> Space<'a> {
     ///
     /// Where there is no memory.
     pub fn push_other(&mut self, word: &'a [u8]) -> Result<(), AllocError>
-        requires other { is_identifier word.now ≡ false }
+        requires other { is_name word.now ≡ false }
         requires few { length self.old + 1 < 2 ^ 32 }
         ensures { OnOk result (self.new ≡ self.old ++ word.now ∷ []) }
     {

@@ -1,6 +1,6 @@
 -- What crates above may use of these proofs; all else is this crate's own, and may change.
 pub use Rattle.mz_layout.proofs.Decided.{layout-decided}
-pub use Rattle.mz_layout.proofs.HeadPlaces.{code-is, command-takes, head-ahead, stands-here}
+pub use Rattle.mz_layout.proofs.HeadPlaces.{code-is, command-takes, head-ahead}
 pub use Rattle.mz_layout.proofs.HeadsDecided.{empty-decided, head-decided}
 pub use Rattle.mz_layout.proofs.LayoutHolds.{layout-holds}
 pub use Rattle.mz_layout.proofs.LengthBound.{file-bound}

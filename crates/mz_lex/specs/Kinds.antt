@@ -1,11 +1,9 @@
 -- Bytes, and which of them make a lexeme of each kind (mm0.md, section on the lexical structure).
-use Rattle.std.specs.Prelude.{ℕ, ◌-◌, List, [], ◌∷◌, length, slice_range, Bool, false, nat_le, ◌==◌, ◌&&◌, ◌||◌, not, bytes_eq, codes}
+use Rattle.std.specs.Prelude.{ℕ, ◌-◌, List, [], ◌∷◌, length, slice_range, Bool, false, ◌==◌, ◌&&◌, ◌||◌, not, bytes_eq, codes}
 use Rattle.std.specs.List.{list_all, list_any}
+use Rattle.mz_names.specs.Identifiers.{is_between, is_digit, is_name}
 use Rattle.mz_lex.specs.declared.token.TokenKind.{TokenKind}
 use Rattle.mz_lex.specs.declared.token.TokenKind.TheVariants as kinds
-
-abbrev pub is_between : ℕ → ℕ → ℕ → Bool
-is_between low high c = nat_le low c && nat_le c high
 
 -- whitespace: a space or a newline
 abbrev pub is_space : ℕ → Bool
@@ -18,21 +16,6 @@ is_comment_byte c = is_between 32 126 c
 -- a byte that may stand in a text
 abbrev pub is_allowed : ℕ → Bool
 is_allowed c = is_comment_byte c || (c == 10)
-
-abbrev pub is_digit : ℕ → Bool
-is_digit c = is_between 48 57 c
-
--- a letter or `_`
-abbrev pub is_name_start : ℕ → Bool
-is_name_start c = is_between 97 122 c || is_between 65 90 c || (c == 95)
-
-abbrev pub is_name_byte : ℕ → Bool
-is_name_byte c = is_name_start c || is_digit c
-
--- an identifier: a letter or `_`, then letters, digits and `_`, but not `_` alone
-abbrev pub is_name : List ℕ → Bool
-is_name [] = false
-is_name (c ∷ cs) = is_name_start c && list_all is_name_byte cs && not (bytes_eq (c ∷ cs) (codes "_"))
 
 abbrev pub is_symbol_byte : ℕ → Bool
 is_symbol_byte c = list_any (λ s. c == s) (codes "*.:;()>{}=_")

@@ -1,7 +1,9 @@
 // Classes of bytes, and how far their runs go.
 ghost use Rattle.std.specs.Prelude.{◌≡◌, ◌≤◌, length};
-ghost use Rattle.mz_lex.specs.Kinds.{is_allowed as allowed, is_digit as digit, is_name_start as name_start, is_number_start as number_start, is_space as space, is_symbol_byte};
+ghost use Rattle.mz_lex.specs.Kinds.{is_allowed as allowed, is_number_start as number_start, is_space as space, is_symbol_byte};
 ghost use Rattle.mz_lex.specs.Scan.{IsRun, is_in};
+
+use mz_names::{is_digit, is_name_byte};
 
 /// The bytes of which runs are made.
 #[derive(Clone, Copy)]
@@ -12,6 +14,7 @@ pub enum Class {
     Math,
 }
 
+/// Whether the byte is whitespace: a space or a newline.
 pub fn is_space(byte: u8) -> bool
     ensures { result ≡ space byte }
 {
@@ -22,12 +25,6 @@ pub fn is_allowed(byte: u8) -> bool
     ensures { result ≡ allowed byte }
 {
     matches!(byte, b' '..=b'~' | b'\n')
-}
-
-pub fn is_name_start(byte: u8) -> bool
-    ensures { result ≡ name_start byte }
-{
-    matches!(byte, b'a'..=b'z' | b'A'..=b'Z' | b'_')
 }
 
 pub fn is_number_start(byte: u8) -> bool
@@ -45,18 +42,12 @@ pub fn is_symbol(byte: u8) -> bool
     )
 }
 
-fn is_digit(byte: u8) -> bool
-    ensures { result ≡ digit byte }
-{
-    matches!(byte, b'0'..=b'9')
-}
-
 impl Class {
     fn contains(self, byte: u8) -> bool
         ensures { result ≡ is_in self byte }
     {
         match self {
-            Class::Name => is_name_start(byte) || is_digit(byte),
+            Class::Name => is_name_byte(byte),
             Class::Digit => is_digit(byte),
             Class::Comment => matches!(byte, b' '..=b'~'),
             Class::Math => is_allowed(byte) && byte != b'$',

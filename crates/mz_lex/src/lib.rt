@@ -8,6 +8,7 @@ mod lexer;
 mod rule;
 mod token;
 
+pub use bytes::is_space;
 pub use laws::{
     first_lexemes, lexemes_are_one, math_strings_have_an_inside, next_is_one, spans_are_in_order,
 };

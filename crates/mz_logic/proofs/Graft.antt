@@ -5,7 +5,7 @@ use Rattle.mz_logic.specs.Declaration.{Declaration, signatures}
 use Rattle.mz_logic.specs.Sorts.{IsBoundVar, HasSort, Fits, IsSorted}
 use Rattle.mz_logic.specs.Variables.{InV, InSomeV, Apart}
 use Rattle.mz_logic.specs.Conversions.{Conversion, Conversions, refl_conv, sym_conv, cong_conv, unfold_conv, gap_conv, no_convs, more_convs, IsBoundOf, AreFresh, Between, AllBetween, GapsOnly, AllGapsOnly}
-use Rattle.mz_logic.specs.Derivations.{Derivation, Derivations, hypothesis, cite, convert, gap, no_derivs, more_derivs, Derives, AllDerive, Uses, CitesOnly, AllCiteOnly}
+use Rattle.mz_logic.specs.Derivations.{Derivation, Derivations, hypothesis, cite, convert, gap, no_derivs, more_derivs, Derives, AllDerive, Uses, CitesOnly, AllCiteOnly, derivation_at}
 use Rattle.mz_logic.specs.declared.binder.Binder.{Binder}
 use Rattle.mz_logic.proofs.Instance.{one_at, none_some, bound_operand, sort_of_operand, sort_of_instance, fits_of_instances}
 use Rattle.mz_logic.proofs.Apart.{in_v_of_pattern, apart_of_instances}
@@ -33,11 +33,6 @@ abbrev mutual
   pub convs_instance : Trees → Conversions → Conversions
   convs_instance f no_convs = no_convs
   convs_instance f (more_convs c cs) = more_convs (conv_instance f c) (convs_instance f cs)
-
-abbrev pub derivation_at : Derivations → ℕ → Derivation
-derivation_at no_derivs i = hypothesis 0
-derivation_at (more_derivs d ds) zero = d
-derivation_at (more_derivs d ds) (suc i) = derivation_at ds i
 
 abbrev mutual
   pub graft : Trees → Derivations → Derivation → Derivation

@@ -15,6 +15,9 @@ pub mod Trees
 pub mod Scoped
 pub mod Bound
 pub mod Follow
+pub mod Repeated
+pub mod Grouped
+pub mod AsExprs
 pub mod EightRules
 pub mod PlainLegality
 pub mod Longer

@@ -12,6 +12,12 @@ use Rattle.mz_logic.specs.declared.decl.ThmDecl.{ThmDecl}
 use Rattle.mz_logic.proofs.Instance.{one_at, none_some}
 use Rattle.mz_logic.proofs.Sound.{signature_of_term}
 
+-- nothing stands there
+pub none_read : {A : Type 0} (xs : List A) (i : ℕ) (d : A) → None ≡ slice_get xs i → get_or xs i d ≡ d
+none_read [] i d h = refl
+none_read (x ∷ xs) zero d h = absurd (let e : None ≡ Some x = h in cc)
+none_read (x ∷ xs) (suc i) d h = none_read xs i d h
+
 -- ---- terms
 
 -- what is at the place p of the i-th term, where the first declaration's place is n

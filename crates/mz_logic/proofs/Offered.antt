@@ -1,6 +1,6 @@
 -- What crates above may use of these proofs; all else is this crate's own, and may change.
 pub use Rattle.mz_logic.proofs.Apart.{in_instance, operand_has_sort}
-pub use Rattle.mz_logic.proofs.Bound.{depends_on_bound}
+pub use Rattle.mz_logic.proofs.AsExprs.{expr-read, exprs_of, length-exprs, trees-exprs}
 pub use Rattle.mz_logic.proofs.Closing.{legal_at, legal_by_supports, legal_list_is_closed}
 pub use Rattle.mz_logic.proofs.Compose.{contains_cases, contains_head, contains_tail, instance-instance, instances-followed_by}
 pub use Rattle.mz_logic.proofs.EightRules.{legal_by_rules}
@@ -12,7 +12,9 @@ pub use Rattle.mz_logic.proofs.Instance.{none_some, one_at, sort_of_instance}
 pub use Rattle.mz_logic.proofs.LegalIsRight.{legal_env_is_right, legal_push}
 pub use Rattle.mz_logic.proofs.Lists.{AllSoFar, all_at_end, all_from_each, all_so_far_more, each_from_all}
 pub use Rattle.mz_logic.proofs.Longer.{derived_has_provable, keep_sorts}
+pub use Rattle.mz_logic.proofs.Lookup.{none_read}
 pub use Rattle.mz_logic.proofs.PlainLegality.{assertions_are_sorted, terms_are_sorted}
+pub use Rattle.mz_logic.proofs.Repeated.{each_repeated}
 pub use Rattle.mz_logic.proofs.Rules.{many_of_fits, range_of_sort, ranges_of_fits, signature_is, sort_by_rules, sort_is}
 pub use Rattle.mz_logic.proofs.Scoped.{DepsInside, free_below}
 pub use Rattle.mz_logic.proofs.Sound.{signature_of_term}

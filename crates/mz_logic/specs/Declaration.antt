@@ -35,6 +35,7 @@ dummies_of plain_form = []
 dummies_of abstract_form = []
 dummies_of (defined dummies _) = dummies
 
+-- a form with dummies and a body
 abbrev pub is_defined : Form → Bool
 is_defined plain_form = false
 is_defined abstract_form = false

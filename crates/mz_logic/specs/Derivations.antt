@@ -1,5 +1,5 @@
 -- Derivations (Carneiro, the rules of derivation).
-use Rattle.std.specs.Prelude.{ℕ, ◌≡◌, ⊤, List, slice_get, Some}
+use Rattle.std.specs.Prelude.{ℕ, zero, suc, ◌≡◌, ⊤, List, slice_get, Some}
 use Rattle.mz_logic.specs.Tree.{Tree, Trees, none, more, listed, instance, instances}
 use Rattle.mz_logic.specs.Declaration.{Assertion, Declaration, signatures, assertions}
 use Rattle.mz_logic.specs.Sorts.{Fits, HasProvable}
@@ -19,6 +19,12 @@ mutual
   pub data Derivations : Type 0 where
     no_derivs : Derivations
     more_derivs : Derivation → Derivations → Derivations
+
+-- the i-th of a list; past the end, where no rule looks, a hypothesis
+abbrev pub derivation_at : Derivations → ℕ → Derivation
+derivation_at no_derivs i = hypothesis 0
+derivation_at (more_derivs d ds) zero = d
+derivation_at (more_derivs d ds) (suc i) = derivation_at ds i
 
 -- d derives e from the hypotheses: it is one of them; or it is the instance of a cited conclusion,
 -- under operands that fit and are apart, and the instances of the cited hypotheses are derived; or it

@@ -1,4 +1,5 @@
 pub mod Tree
+pub mod Groups
 pub mod Signature
 pub mod Declaration
 pub mod Places

@@ -11,8 +11,8 @@ use crate::context::Context;
 use crate::decl::{Decl, DeclFault, TermDecl, ThmDecl};
 use crate::env::Env;
 use crate::sorts::{
-    all_are_claims, all_have_bound_operands, all_have_operand_sorts, all_in_range,
-    has_bound_operands, has_operand_sorts, in_range, is_claim, sort_of_expr,
+    all_are_claims, all_have_bound_operands, all_have_operand_sorts, has_bound_operands,
+    has_operand_sorts, hyps_are_in_range, in_range, is_claim, sort_of,
 };
 use crate::vars::{body_deps_are_right, is_bound_at};
 
@@ -108,7 +108,7 @@ fn thm_names_are_there(env: &Env, thm: &ThmDecl) -> bool
 {
     let end = thm.params.len();
     binders_are_there(env, end, thm.params.as_slice())
-        && all_in_range(env, end, &thm.hyps)
+        && hyps_are_in_range(env, end, &thm.hyps)
         && in_range(env, end, &thm.conclusion)
 }
 
@@ -236,21 +236,21 @@ fn is_dummy(binder: &Binder) -> bool
 // ---- 2, 3 and 7: what a sort may be used for
 
 /// Whether the sort is there and a bound parameter may have it.
-fn may_be_bound_sort(env: &Env, sort: u32) -> bool
+pub fn may_be_bound_sort(env: &Env, sort: u32) -> bool
     ensures { IsTrue result ↔ MayBeBoundSort (sorts env.now) sort }
 {
     env.mods(sort).is_some_and(|mods| !mods.is_strict())
 }
 
 /// Whether the sort is there and a term may have results of it.
-fn may_be_result_sort(env: &Env, sort: u32) -> bool
+pub fn may_be_result_sort(env: &Env, sort: u32) -> bool
     ensures { IsTrue result ↔ MayBeResultSort (sorts env.now) sort }
 {
     env.mods(sort).is_some_and(|mods| !mods.is_pure())
 }
 
 /// Whether the sort is there and a dummy may have it.
-fn may_be_dummy_sort(env: &Env, sort: u32) -> bool
+pub fn may_be_dummy_sort(env: &Env, sort: u32) -> bool
     ensures { IsTrue result ↔ MayBeDummySort (sorts env.now) sort }
 {
     env.mods(sort)
@@ -279,7 +279,7 @@ fn body_sorts_are_right(env: &Env, term: &TermDecl) -> bool
         None => true,
         Some(e) => {
             let ctx = term.context();
-            has_operand_sorts(env, &ctx, e) && sort_of_expr(env, &ctx, e) == term.result.sort
+            has_operand_sorts(env, &ctx, e) && sort_of(env, &ctx, e) == term.result.sort
         }
     }
 }

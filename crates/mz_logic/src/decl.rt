@@ -7,7 +7,8 @@ ghost use Rattle.mz_logic.specs.View.{tree};
 
 use crate::binder::{Binder, Binders, ResultType, SortMods};
 use crate::context::Context;
-use crate::expr::{Expr, Exprs};
+use crate::expr::Expr;
+use crate::hyps::Hyps;
 
 /// Whether a term is declared alone, or is a definition.
 #[derive(Drop)]
@@ -73,7 +74,7 @@ pub enum ThmForm {
 pub struct ThmDecl {
     pub form: ThmForm,
     pub params: Binders,
-    pub hyps: Exprs,
+    pub hyps: Hyps,
     pub conclusion: Expr,
 }
 

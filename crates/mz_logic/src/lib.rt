@@ -12,6 +12,7 @@ mod disjoint;
 mod env;
 mod examples;
 mod expr;
+mod hyps;
 mod laws;
 mod room;
 mod sorts;
@@ -19,7 +20,9 @@ mod vars;
 mod word;
 
 pub use binder::{Binder, Binders, Deps, ResultType, SortMods};
-pub use check::{are_bound_before, check_decl};
+pub use check::{
+    are_bound_before, check_decl, may_be_bound_sort, may_be_dummy_sort, may_be_result_sort,
+};
 pub use context::Context;
 pub use decl::{Decl, DeclFault, TermDecl, TermForm, ThmDecl, ThmForm};
 pub use disjoint::are_apart;
@@ -29,6 +32,7 @@ pub use examples::{
     implication_is_derived, operands_are_apart,
 };
 pub use expr::{Expr, Exprs, same_expr, same_exprs};
+pub use hyps::Hyps;
 pub use laws::{
     conversions_keep_sorts, derived_is_provable, instances_have_what_is_put_in,
     instances_keep_sorts, instances_stay_apart, legal_declarations_are_sorted,
@@ -36,7 +40,7 @@ pub use laws::{
     words_are_read_back, words_say_binders,
 };
 pub use room::push_tightly;
-pub use sorts::is_bound_var;
+pub use sorts::{is_bound_var, is_claim, sort_of, sort_of_term};
 pub use vars::{
     free_vars_are_in, has_place, in_all_vars, in_free_tree, in_free_vars, in_tree, is_bound_at,
 };

@@ -1,6 +1,7 @@
 ghost use Rattle.std.specs.Prelude.{◌≡◌, ◌↔◌, ◌<◌, ◌≤◌, ℕ, length, drop, IsTrue};
 ghost use Rattle.mz_logic.specs.Declaration.{signatures};
-ghost use Rattle.mz_logic.specs.Legality.{InRange, AllInRange, HasOperandSorts, OperandsOf, HasBoundOperands, SortsFit, BoundFit, sort_of, EachTree, IsClaim};
+ghost use Rattle.mz_logic.specs.Legality;
+ghost use Rattle.mz_logic.specs.Legality.{InRange, AllInRange, HasOperandSorts, OperandsOf, HasBoundOperands, SortsFit, BoundFit, binder_at, signature_at, EachTree, IsClaim};
 ghost use Rattle.mz_logic.specs.Tree.{listed};
 ghost use Rattle.mz_logic.specs.Sorts.{IsBoundVar};
 ghost use Rattle.mz_logic.specs.View.{tree};
@@ -9,6 +10,7 @@ use crate::binder::Binder;
 use crate::context::Context;
 use crate::env::Env;
 use crate::expr::{Expr, Exprs};
+use crate::hyps::Hyps;
 
 /// Whether all terms of the expression are there, with as many operands as parameters, and its
 /// variables are places below `end`.
@@ -27,7 +29,7 @@ pub fn in_range(env: &Env, end: usize, expr: &Expr) -> bool
 
 /// The same of each expression.
 #[cycle(in_range)]
-pub fn all_in_range(env: &Env, end: usize, es: &Exprs) -> bool
+fn all_in_range(env: &Env, end: usize, es: &Exprs) -> bool
     ensures { IsTrue result ↔ AllInRange (signatures env.now) end es.now }
 {
     for e in es.as_slice() {
@@ -38,20 +40,40 @@ pub fn all_in_range(env: &Env, end: usize, es: &Exprs) -> bool
     true
 }
 
-/// The sort of an expression whose names are there.
-pub fn sort_of_expr(env: &Env, ctx: &Context, expr: &Expr) -> u32
-    requires { InRange (signatures env.now) (length ctx.now) (tree expr.now) }
-    ensures { result ≡ sort_of (signatures env.now) ctx.now (tree expr.now) }
+/// The same of each hypothesis.
+pub fn hyps_are_in_range(env: &Env, end: usize, hyps: &Hyps) -> bool
+    ensures { IsTrue result ↔ AllInRange (signatures env.now) end hyps.now }
+{
+    all_in_range(env, end, hyps.formulas())
+}
+
+/// The sort of a variable, 0 where it isn't there.
+fn sort_of_variable(ctx: &Context, place: u32) -> u32
+    ensures { result ≡ (binder_at ctx.now place).sort }
+{
+    match ctx.get(place) {
+        None => 0,
+        Some(binder) => binder.sort,
+    }
+}
+
+/// The sort of a term's applications, 0 where the term isn't there.
+pub fn sort_of_term(env: &Env, term: u32) -> u32
+    ensures { result ≡ (signature_at (signatures env.now) term).result.sort }
+{
+    match env.term(term) {
+        None => 0,
+        Some(term) => term.result.sort,
+    }
+}
+
+/// The sort of an expression, 0 where its name isn't there.
+pub fn sort_of(env: &Env, ctx: &Context, expr: &Expr) -> u32
+    ensures { result ≡ Legality.sort_of (signatures env.now) ctx.now (tree expr.now) }
 {
     match expr {
-        Expr::Var(x) => match ctx.get(*x) {
-            None => unreachable!(),
-            Some(binder) => binder.sort,
-        },
-        Expr::App(t, _) => match env.term(*t) {
-            None => unreachable!(),
-            Some(term) => term.result.sort,
-        },
+        Expr::Var(x) => sort_of_variable(ctx, *x),
+        Expr::App(t, _) => sort_of_term(env, *t),
     }
 }
 
@@ -80,7 +102,7 @@ fn have_operand_sorts(env: &Env, ctx: &Context, es: &Exprs, params: &[Binder]) -
     let items = es.as_slice();
     for i in 0..items.len() {
         let e = &items[i];
-        if !(sort_of_expr(env, ctx, e) == params[i].sort && has_operand_sorts(env, ctx, e)) {
+        if !(sort_of(env, ctx, e) == params[i].sort && has_operand_sorts(env, ctx, e)) {
             return false;
         }
     }
@@ -140,12 +162,12 @@ pub fn is_bound_var(ctx: &Context, expr: &Expr) -> bool
     }
 }
 
-/// The rule on operands' sorts for each expression.
-pub fn all_have_operand_sorts(env: &Env, ctx: &Context, es: &Exprs) -> bool
-    requires { AllInRange (signatures env.now) (length ctx.now) es.now }
-    ensures { IsTrue result ↔ EachTree (HasOperandSorts (signatures env.now) ctx.now) es.now }
+/// The rule on operands' sorts for each hypothesis.
+pub fn all_have_operand_sorts(env: &Env, ctx: &Context, hyps: &Hyps) -> bool
+    requires { AllInRange (signatures env.now) (length ctx.now) hyps.now }
+    ensures { IsTrue result ↔ EachTree (HasOperandSorts (signatures env.now) ctx.now) hyps.now }
 {
-    for e in es.as_slice() {
+    for e in hyps.formulas().as_slice() {
         if !has_operand_sorts(env, ctx, e) {
             return false;
         }
@@ -153,12 +175,12 @@ pub fn all_have_operand_sorts(env: &Env, ctx: &Context, es: &Exprs) -> bool
     true
 }
 
-/// The rule on bound operands for each expression.
-pub fn all_have_bound_operands(env: &Env, ctx: &Context, es: &Exprs) -> bool
-    requires { AllInRange (signatures env.now) (length ctx.now) es.now }
-    ensures { IsTrue result ↔ EachTree (HasBoundOperands (signatures env.now) ctx.now) es.now }
+/// The rule on bound operands for each hypothesis.
+pub fn all_have_bound_operands(env: &Env, ctx: &Context, hyps: &Hyps) -> bool
+    requires { AllInRange (signatures env.now) (length ctx.now) hyps.now }
+    ensures { IsTrue result ↔ EachTree (HasBoundOperands (signatures env.now) ctx.now) hyps.now }
 {
-    for e in es.as_slice() {
+    for e in hyps.formulas().as_slice() {
         if !has_bound_operands(env, ctx, e) {
             return false;
         }
@@ -166,12 +188,11 @@ pub fn all_have_bound_operands(env: &Env, ctx: &Context, es: &Exprs) -> bool
     true
 }
 
-/// Whether each expression has a provable sort.
-pub fn all_are_claims(env: &Env, ctx: &Context, es: &Exprs) -> bool
-    requires { AllInRange (signatures env.now) (length ctx.now) es.now }
-    ensures { IsTrue result ↔ EachTree (IsClaim env.now ctx.now) es.now }
+/// Whether each hypothesis has a provable sort.
+pub fn all_are_claims(env: &Env, ctx: &Context, hyps: &Hyps) -> bool
+    ensures { IsTrue result ↔ EachTree (IsClaim env.now ctx.now) hyps.now }
 {
-    for e in es.as_slice() {
+    for e in hyps.formulas().as_slice() {
         if !is_claim(env, ctx, e) {
             return false;
         }
@@ -181,11 +202,8 @@ pub fn all_are_claims(env: &Env, ctx: &Context, es: &Exprs) -> bool
 
 /// Whether the expression has a provable sort.
 pub fn is_claim(env: &Env, ctx: &Context, expr: &Expr) -> bool
-    requires { InRange (signatures env.now) (length ctx.now) (tree expr.now) }
     ensures { IsTrue result ↔ IsClaim env.now ctx.now (tree expr.now) }
 {
-    match env.mods(sort_of_expr(env, ctx, expr)) {
-        None => false,
-        Some(mods) => mods.is_provable(),
-    }
+    env.mods(sort_of(env, ctx, expr))
+        .is_some_and(|mods| mods.is_provable())
 }

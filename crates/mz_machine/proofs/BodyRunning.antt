@@ -7,7 +7,8 @@ use Rattle.mz_logic.specs.Tree.{Tree}
 use Rattle.mz_soundness.specs.MachineState.{State}
 use Rattle.mz_soundness.specs.ProofMachine.{proof_end}
 use Rattle.mz_unification.specs.Profile.{plain}
-use Rattle.mz_machine.specs.BodyAnswers.{HasGap, IsBodyRun}
+use Rattle.mz_soundness.specs.Sound.{HasGap}
+use Rattle.mz_machine.specs.BodyAnswers.{IsBodyRun}
 use Rattle.mz_machine.specs.BodyAnswers.{UnlessMem as UnlessBodyMem}
 use Rattle.mz_machine.specs.Steps.{Underway, tables_for, heading_for, row_of, steps_for, end_steps}
 use Rattle.mz_cmd.specs.declared.command.Cmd.{Cmd}

@@ -9,9 +9,8 @@ use Rattle.mz_cmd.specs.Codes.{proof_code}
 use Rattle.mz_cmd.specs.Reading.{first_command}
 use Rattle.mz_unification.specs.UnifyMachine.{is_empty}
 use Rattle.mz_unification.proofs.Offered.{command-long, drop-less}
-use Rattle.mz_soundness.specs.Sound.{GapsWithin}
+use Rattle.mz_soundness.specs.Sound.{GapsWithin, HasGap}
 use Rattle.mz_machine.specs.Steps.{is_sorry}
-use Rattle.mz_machine.specs.BodyAnswers.{HasGap}
 
 sorry-is : (o : Option ProofCode) → is_sorry o ≡ true → o ≡ Some code.Sorry
 sorry-is None e = absurd cc

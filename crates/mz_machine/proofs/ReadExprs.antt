@@ -21,9 +21,12 @@ use Rattle.mz_machine.proofs.TakenOperands.{pop-enough}
 
 -- ---- read from below
 
--- from a place on
-pub rest-of : (ys xs : List Kept) (n : ℕ) → ys ≡ xs → take (length ys - n) (drop n ys) ≡ drop n xs
+rest-of : (ys xs : List Kept) (n : ℕ) → ys ≡ xs → take (length ys - n) (drop n ys) ≡ drop n xs
 rest-of ys xs n same = ap (λ (m : ℕ). take m (drop n ys)) (sym (length-drop n ys)) ∙ take-length (drop n ys) ∙ ap (drop n) same
+
+-- from a place on
+pub read-of : (ys xs : List Kept) (n : ℕ) (r : Result (List Id) K) → ys ≡ xs → exprs_of (take (length ys - n) (drop n ys)) ≡ r → exprs_of (drop n xs) ≡ r
+read-of ys xs n r same is = ap exprs_of (sym (rest-of ys xs n same)) ∙ is
 
 -- those before these
 abbrev pub after : List Id → Result (List Id) K → Result (List Id) K

@@ -4,7 +4,7 @@ use Rattle.std.specs.Prelude.{◌≡◌, ◌↔◌, ℕ, ⊤, ◌+◌, true, Lis
 use Rattle.mz_cmd.specs.declared.rule.K.{K}
 use Rattle.mz_logic.specs.Tree.{Tree}
 use Rattle.mz_soundness.specs.MachineState.{State, Heading}
-use Rattle.mz_soundness.specs.Sound.{GapsWithin}
+use Rattle.mz_soundness.specs.Sound.{HasGap}
 use Rattle.mz_machine.specs.declared.body.BodyEnd.{BodyEnd}
 use Rattle.mz_machine.specs.declared.body.BodyChecked.{BodyChecked}
 use Rattle.mz_machine.specs.declared.body.BodyChecked.TheVariants.{Good, Refused, Mem}
@@ -13,10 +13,6 @@ use Rattle.mz_machine.specs.declared.body.BodyChecked.TheVariants.{Good, Refused
 pub record CountsOf (h : Heading) (last : State Tree) (end : BodyEnd) : Type 0 where
   pub hyps : end.hyps ≡ length last.hyps
   pub dummies : end.dummies + length h.params ≡ length last.ctx
-
--- a command of the body leaves a gap
-abbrev pub HasGap : List ℕ → Type 0
-HasGap bytes = GapsWithin (length bytes) bytes
 
 -- the answer is what the run of these bytes comes to; want of memory says nothing
 abbrev pub IsBodyRun : Heading → List ℕ → Result (State Tree) (ℕ × K) → BodyChecked → Type 0

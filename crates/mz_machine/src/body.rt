@@ -5,7 +5,7 @@ ghost use Rattle.mz_unification.specs.Profile.{plain};
 ghost use Rattle.mz_soundness.specs.Bodies.{body_run, body_steps, body_from, body_steps_from};
 ghost use Rattle.mz_machine.specs.Steps.{heading_for, tables_for};
 ghost use Rattle.mz_layout.specs.Heads.{body_bytes};
-ghost use Rattle.mz_earlier.specs.OwnRow.{MayRun, heading_of};
+ghost use Rattle.mz_earlier.specs.OwnRow.{MayRun, byte_of, heading_of};
 ghost use Rattle.mz_earlier.specs.Before.{tables_before};
 ghost use Rattle.mz_machine.specs.BodyAnswers.{IsBodyRun, UnlessMem};
 ghost use Rattle.mz_machine.specs.Running.{IsRunning, machine_of};
@@ -14,6 +14,7 @@ ghost use Rattle.mz_machine.specs.Stepping.{ended_at, stopped_at};
 use crate::machine::{Finished, Parts, Setting};
 use crate::room::{Desk, Room};
 use mz_cmd::{END, K, Steps, cmd_at};
+use mz_earlier::{BodyKind, kind_by};
 use mz_layout::{Mmb, Rows};
 use mz_mode::Mode;
 use mz_store::Seed;
@@ -92,6 +93,7 @@ pub fn check_body<L: Ledger>(
     ensures steps { UnlessMem result (steps.new ≡ steps.old + body_steps (plain (gaps_of mode)) (tables_before mmb.now before) (heading_of mmb.now kind row) body.0 (body_bytes mmb.now body.0 body.1)) }
 {
     let mut room = Room::new(Seed::FIXED);
+    let kind = kind_by(kind);
     check_body_in(alloc, &mut room, mmb, mode, kind, row, before, body, steps)
 }
 
@@ -101,18 +103,18 @@ pub fn check_body_in<L: Ledger>(
     room: &mut Room,
     mmb: &Mmb,
     mode: Mode,
-    kind: u8,
+    kind: BodyKind,
     row: u32,
     before: Rows,
     body: (u32, u32),
     steps: &mut Steps<L>,
 ) -> BodyChecked
-    requires may_run { MayRun mmb.now kind row before }
+    requires may_run { MayRun mmb.now (byte_of kind) row before }
     requires order { body.0 ≤ body.1 }
     requires within { body.1 ≤ length mmb.now }
-    ensures run { IsBodyRun (heading_of mmb.now kind row) (body_bytes mmb.now body.0 body.1) (body_run (plain (gaps_of mode)) (tables_before mmb.now before) (heading_of mmb.now kind row) body.0 (body_bytes mmb.now body.0 body.1)) result }
+    ensures run { IsBodyRun (heading_of mmb.now (byte_of kind) row) (body_bytes mmb.now body.0 body.1) (body_run (plain (gaps_of mode)) (tables_before mmb.now before) (heading_of mmb.now (byte_of kind) row) body.0 (body_bytes mmb.now body.0 body.1)) result }
     ensures most { steps.new ≤ steps.old + (body.1 - body.0) * (length mmb.now + 1) }
-    ensures steps { UnlessMem result (steps.new ≡ steps.old + body_steps (plain (gaps_of mode)) (tables_before mmb.now before) (heading_of mmb.now kind row) body.0 (body_bytes mmb.now body.0 body.1)) }
+    ensures steps { UnlessMem result (steps.new ≡ steps.old + body_steps (plain (gaps_of mode)) (tables_before mmb.now before) (heading_of mmb.now (byte_of kind) row) body.0 (body_bytes mmb.now body.0 body.1)) }
 {
     let Ok(mut desk) = room.take(alloc) else {
         return BodyChecked::Mem;
@@ -127,18 +129,18 @@ fn check_on<L: Ledger>(
     desk: &mut Desk,
     mmb: &Mmb,
     mode: Mode,
-    kind: u8,
+    kind: BodyKind,
     row: u32,
     before: Rows,
     body: (u32, u32),
     steps: &mut Steps<L>,
 ) -> BodyChecked
-    requires may_run { MayRun mmb.now kind row before }
+    requires may_run { MayRun mmb.now (byte_of kind) row before }
     requires order { body.0 ≤ body.1 }
     requires within { body.1 ≤ length mmb.now }
-    ensures run { IsBodyRun (heading_of mmb.now kind row) (body_bytes mmb.now body.0 body.1) (body_run (plain (gaps_of mode)) (tables_before mmb.now before) (heading_of mmb.now kind row) body.0 (body_bytes mmb.now body.0 body.1)) result }
+    ensures run { IsBodyRun (heading_of mmb.now (byte_of kind) row) (body_bytes mmb.now body.0 body.1) (body_run (plain (gaps_of mode)) (tables_before mmb.now before) (heading_of mmb.now (byte_of kind) row) body.0 (body_bytes mmb.now body.0 body.1)) result }
     ensures most { steps.new ≤ steps.old + (body.1 - body.0) * (length mmb.now + 1) }
-    ensures steps { UnlessMem result (steps.new ≡ steps.old + body_steps (plain (gaps_of mode)) (tables_before mmb.now before) (heading_of mmb.now kind row) body.0 (body_bytes mmb.now body.0 body.1)) }
+    ensures steps { UnlessMem result (steps.new ≡ steps.old + body_steps (plain (gaps_of mode)) (tables_before mmb.now before) (heading_of mmb.now (byte_of kind) row) body.0 (body_bytes mmb.now body.0 body.1)) }
 {
     let Ok(setting) = Setting::begin(
         mmb,

@@ -7,7 +7,7 @@ ghost use Rattle.mz_store.specs.Sharing.{AreIn, IsOver};
 ghost use Rattle.mz_unification.specs.Profile.{plain};
 ghost use Rattle.mz_unify.specs.Stored.{AreItemsIn};
 ghost use Rattle.mz_soundness.specs.Bodies.{body_command};
-ghost use Rattle.mz_earlier.specs.OwnRow.{MayRun, kind_of, mode_for};
+ghost use Rattle.mz_earlier.specs.OwnRow.{MayRun, byte_of, kind_of, mode_for};
 ghost use Rattle.mz_earlier.specs.Before.{tables_of, signatures_of};
 ghost use Rattle.mz_machine.specs.OverStore.{state_at, code_of, Gives, NeverWants, Grows};
 ghost use Rattle.mz_machine.specs.OverStore.{UnlessMem as OrMem};
@@ -121,6 +121,7 @@ impl<'a> Machine<'a> {
     {
         let mut words = Vec::new(alloc);
         let mut parts = Parts::new(alloc, Seed::FIXED);
+        let kind = kind_by(kind);
         let setting = Setting::begin(mmb, mode, kind, row, before, &mut words, &mut parts)?;
         Ok(Machine { setting, parts })
     }
@@ -184,18 +185,17 @@ impl<'a> Setting<'a> {
     pub(crate) fn begin(
         mmb: &'a Mmb<'a>,
         mode: Mode,
-        kind: u8,
+        kind: BodyKind,
         row: u32,
         before: Rows,
         words: &mut Vec<Word>,
         parts: &mut Parts,
     ) -> Result<Setting<'a>, AllocError>
-        requires { MayRun mmb.now kind row before }
+        requires { MayRun mmb.now (byte_of kind) row before }
         ensures running { IfOk result (λ setting. IsRunning setting parts.new) }
-        ensures begun { IfOk result (λ setting. IsBegun (gaps_of mode) mmb.now kind row before (machine_of setting parts.new)) }
+        ensures begun { IfOk result (λ setting. IsBegun (gaps_of mode) mmb.now (byte_of kind) row before (machine_of setting parts.new)) }
     {
         let earlier = Earlier::new(mmb, before);
-        let kind = kind_by(kind);
         read_words(words, &earlier, kind, row)?;
         parts.store.begin(words.as_slice(), deps_mode(kind))?;
         first_items(&mut parts.heap, words.len())?;

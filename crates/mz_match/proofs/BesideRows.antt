@@ -5,19 +5,18 @@ use Rattle.std.proofs.lemmas.List.{reverse-reverse}
 use Rattle.std.proofs.lemmas.Bool.{true≢false, false≢true}
 use Rattle.mz_logic.specs.Tree.{Tree, Trees, none, more, listed}
 use Rattle.mz_checks.specs.Checks.{AllHold, FailsFirst}
-use Rattle.mz_logic.specs.Declaration.{Assertion, Term, Form, plain_form, abstract_form, defined}
+use Rattle.mz_logic.specs.Declaration.{Assertion, Term, Form, plain_form, abstract_form, defined, is_defined}
 use Rattle.mz_logic.specs.DeclView.{form}
 use Rattle.mz_logic.specs.declared.binder.Binder.{Binder}
 use Rattle.mz_logic.specs.declared.expr.Expr.{Expr}
 use Rattle.mz_logic.specs.declared.decl.TermForm.{TermForm}
 use Rattle.mz_logic.specs.declared.decl.TermForm.TheVariants.{Plain, Abstract, Body}
 use Rattle.mz_layout.specs.Tables.{term_row}
-use Rattle.mz_binary.specs.Laws.{is_defined}
-use Rattle.mz_match.specs.declared.rule.M.TheVariants as rules
-use Rattle.mz_match.specs.Match.{form_checks}
+use Rattle.mz_verdicts.specs.declared.rule.M.TheVariants as rules
+use Rattle.mz_verdicts.specs.Match.{form_checks}
 use Rattle.mz_unification.specs.Spells.{Marks, trees_of}
 use Rattle.mz_match.specs.declared.compare.Sides.{Sides}
-use Rattle.mz_match.specs.Trees.{SameTrees, SameBody}
+use Rattle.mz_verdicts.specs.Trees.{SameTrees, SameBody}
 use Rattle.mz_match.specs.TellsRow.{SaysFirst, SaysForm, SaysClaims, IsTermRow}
 use Rattle.mz_match.specs.Marks.{AreKept}
 use Rattle.mz_match.specs.Beside.{IsStream, IsPlainStream}

@@ -41,13 +41,13 @@ use Rattle.mz_soundness.specs.ProofMachine.{ends_with, matched_by, built, referr
 use Rattle.mz_soundness.specs.Bodies.{BodyCommand, ends, proves, stands_in, if_allowed, body_command, body_turn, body_turn_by, body_from, body_start, Runs}
 use Rattle.mz_soundness.proofs.Offered.{bodies-checked, body-fact, end-ran, own-run}
 use Rattle.mz_words.proofs.Offered.{right-words}
-use Rattle.mz_binary.specs.Chains.{IsGoodStatement, GoodTo}
-use Rattle.mz_binary.specs.Checking.{checks_of, kind_checks, term_checks, term_body_checks}
-use Rattle.mz_binary.specs.Laws.{HasRow}
-use Rattle.mz_binary.specs.Spelling.{IsKindOf, SpellsRow}
-use Rattle.mz_binary.proofs.Offered.{well-chain, good-rows, runs-by-table}
-use Rattle.mz_binary.specs.Standards.{lets_gaps, profile_of}
-use Rattle.mz_binary.specs.declared.standard.Standard.{Standard}
+use Rattle.mz_files.specs.Chains.{IsGoodStatement, GoodTo}
+use Rattle.mz_files.specs.Checking.{checks_of, kind_checks, term_checks, term_body_checks}
+use Rattle.mz_files.specs.Laws.{HasRow}
+use Rattle.mz_files.specs.Spelling.{IsKindOf, SpellsRow}
+use Rattle.mz_files.proofs.Offered.{well-chain, good-rows, runs-by-table}
+use Rattle.mz_files.specs.Standards.{lets_gaps, profile_of}
+use Rattle.mz_files.specs.declared.standard.Standard.{Standard}
 
 -- ---- the commands of a definition's body add at most one bound variable, where there are fewer than 55
 

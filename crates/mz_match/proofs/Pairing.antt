@@ -5,36 +5,34 @@ use Rattle.mz_checks.specs.Checks.{AllHold, FailsFirst}
 use Rattle.mz_cmd.specs.declared.rule.Refusal.{Refusal}
 use Rattle.mz_cmd.specs.declared.statement.StmtAt.TheVariants.{End}
 use Rattle.mz_logic.specs.Declaration.{Declaration, sort_decl, term_decl, assertion_decl, terms}
-use Rattle.mz_logic.proofs.Offered.{legal_list_is_closed}
 use Rattle.mz_logic.specs.LegalLists.{Statement, declarations}
 use Rattle.mz_layout.specs.Layout.{Layout}
 use Rattle.mz_layout.specs.Tables.{list_at}
 use Rattle.mz_layout.proofs.Offered.{parts-of_layout}
-use Rattle.mz_binary.specs.declared.statement.Statement.{Statement as Told}
 use Rattle.mz_soundness.specs.FileRows.{taken_by}
 use Rattle.mz_layout.specs.Heads.{AllTaken}
-use Rattle.mz_binary.specs.Checking.{counts, checks_of}
-use Rattle.mz_binary.specs.Chains.{IsGoodStatement, GoodTo}
-use Rattle.mz_binary.specs.Good.{Good, FailsAfter}
+use Rattle.mz_files.specs.Checking.{counts, checks_of}
+use Rattle.mz_files.specs.Chains.{IsGoodStatement, GoodTo}
+use Rattle.mz_files.specs.Good.{Good, FailsAfter}
+use Rattle.mz_binary.specs.declared.statement.Statement.{Statement as Told}
 use Rattle.mz_binary.specs.Progress.{Progress, HasPassed, Tells, kind_code, row_after}
 use Rattle.mz_binary.specs.Judging.{Passes}
-use Rattle.mz_binary.specs.FileRun.{file_steps}
-use Rattle.mz_binary.proofs.Offered.{chain-declares, good-legal, good-spelled}
+use Rattle.mz_files.specs.FileRun.{file_steps}
+use Rattle.mz_files.proofs.Offered.{chain-declares}
 use Rattle.mz_spec.specs.Spec.{SpecMakes}
 use Rattle.mz_spec.specs.State.{Entry, env_of}
 use Rattle.mz_match.specs.declared.matching.Matching.{Matching}
-use Rattle.mz_match.specs.declared.rule.M.{M}
-use Rattle.mz_match.specs.declared.rule.M.TheVariants as rules
-use Rattle.mz_match.specs.declared.verdict.Verdict.{Verdict}
-use Rattle.mz_match.specs.declared.verdict.Verdict.TheVariants as verdicts
-use Rattle.mz_match.specs.Match.{partner_of, publics_after, publics, term_row_of, term_rows, Agrees, Leaves, partner_checks}
+use Rattle.mz_verdicts.specs.declared.rule.M.{M}
+use Rattle.mz_verdicts.specs.declared.rule.M.TheVariants as rules
+use Rattle.mz_verdicts.specs.declared.verdict.Verdict.{Verdict}
+use Rattle.mz_verdicts.specs.declared.verdict.Verdict.TheVariants as verdicts
+use Rattle.mz_verdicts.specs.Match.{partner_of, publics_after, publics, term_row_of, term_rows, Agrees, Leaves, partner_checks}
 use Rattle.mz_match.specs.Drafts.{ListsGapsOf, IsJudged}
 use Rattle.mz_match.specs.Told.{IsTold, IsMatched}
-use Rattle.mz_match.specs.Verdict.{Accepts, IsDifference, IsSound, TicksBy, counts_of, IsSoundIfAccepted, IsVerdict, IsVerdictBy}
-use Rattle.mz_match.proofs.ProvingTheorems.{theorems-proved}
-use Rattle.mz_match.proofs.Lists.{append-nil, publics-append, publics-local, publics-public, term_rows-append, drop-further, drop-past, kinds-total, length-declarations, length-env, leaves-nothing, leaves-local, leaves-public, partner-there}
-use Rattle.mz_binary.specs.declared.standard.Standard.{Standard}
-use Rattle.mz_binary.specs.Standards.{lets_gaps, strict_standard}
+use Rattle.mz_verdicts.specs.Verdict.{IsDifference, TicksBy, counts_of, IsSoundIfAccepted, IsVerdict, IsVerdictBy}
+use Rattle.mz_verdicts.proofs.Offered.{append-nil, publics-append, publics-local, publics-public, term_rows-append, drop-further, drop-past, kinds-total, length-declarations, length-env, leaves-nothing, leaves-local, leaves-public, partner-there, accepted-sound}
+use Rattle.mz_files.specs.declared.standard.Standard.{Standard}
+use Rattle.mz_files.specs.Standards.{lets_gaps}
 
 abbrev assertion_code : Bool → ℕ
 assertion_code b = if b then 0x02 else 0x06
@@ -219,19 +217,6 @@ few-statements standard file ss small good =
     let taken : AllTaken file (counts (taken_by good.env)) = at_end.0 in
     let declares : length good.env ≡ length (declarations ss) = ap length (chain-declares (IsGoodStatement standard file) [] (list_at file) ss good.env good.to good.statements) in
     omega (arith, small, parts.few_sorts, parts.few_terms, parts.few_thms, taken.sorts_taken, taken.terms_taken, taken.thms_taken, declares, kinds-total good.env, length-declarations ss)
-
--- what is accepted is sound
-pub accepted-sound : (spec bin : List ℕ) → Accepts spec bin → IsSound spec bin
-accepted-sound spec bin a = record {
-  declared = a.declared;
-  statements = a.statements;
-  is_spec = a.is_spec;
-  spelled = good-spelled strict_standard bin a.statements a.is_good;
-  theorems = theorems-proved a.declared a.statements (good-legal strict_standard bin a.statements a.is_good) a.agrees;
-  legal = good-legal strict_standard bin a.statements a.is_good;
-  closed = legal_list_is_closed a.statements (good-legal strict_standard bin a.statements a.is_good);
-  agrees = a.agrees;
-}
 
 pub sound : (spec bin : List ℕ) (v : Verdict) → IsVerdict spec bin v → IsSoundIfAccepted spec bin v
 sound spec bin (verdicts.Accepted counts) (a, is) = accepted-sound spec bin a

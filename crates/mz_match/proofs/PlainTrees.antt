@@ -11,10 +11,10 @@ use Rattle.mz_logic.specs.declared.expr.Expr.{Expr}
 use Rattle.mz_unification.specs.Spells.{Marks, dummy_of, trees_of}
 use Rattle.mz_match.specs.declared.stream.Cursor.{Cursor}
 use Rattle.mz_match.specs.Streams.{step_at, Says, Passes, IsSaid, AreSaid, IsMade, AreMarks, HypsAreSaid}
-use Rattle.mz_match.specs.Trees.{SameOver, AllSameOver, SameTree, SameTrees, Pairs, IsPaired}
-use Rattle.mz_match.specs.Comparing.{Beside, compared}
+use Rattle.mz_verdicts.specs.Trees.{SameOver, AllSameOver, SameTree, SameTrees, Pairs, IsPaired}
+use Rattle.mz_verdicts.specs.Comparing.{Beside, compared}
 use Rattle.mz_match.proofs.Steps.{step-takes}
-use Rattle.mz_match.proofs.Renaming.{SaysNothing, weaker, no-pairs, no-dummy, sound, complete}
+use Rattle.mz_verdicts.proofs.Offered.{SaysNothing, weaker, no-pairs, no-dummy, sound, complete}
 
 -- ---- over parameters alone
 

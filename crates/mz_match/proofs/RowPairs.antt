@@ -4,20 +4,21 @@ use Rattle.std.specs.Prelude.{if◌then◌else◌, OnErr}
 use Rattle.std.proofs.lemmas.Bool.{true≢false, false≢true}
 use Rattle.mz_checks.specs.Checks.{Checks, AllHold, FailsFirst, Judges, demand, ◌>>◌}
 use Rattle.mz_checks.proofs.Offered.{judges-after, fails-before}
+use Rattle.mz_cmd.specs.Codes.{statement_byte}
+use Rattle.mz_cmd.specs.declared.code.StatementCode.TheVariants as codes
 use Rattle.mz_logic.specs.Signature.{Signature}
 use Rattle.mz_logic.specs.declared.binder.SortMods.{SortMods}
-use Rattle.mz_logic.specs.Declaration.{Declaration, sort_decl, term_decl, assertion_decl, Term, Assertion, Form, plain_form, abstract_form, defined}
+use Rattle.mz_logic.specs.Declaration.{Declaration, sort_decl, term_decl, assertion_decl, Term, Assertion, Form, plain_form, abstract_form, defined, is_defined}
 use Rattle.mz_logic.specs.Words.{signature_of}
 use Rattle.mz_layout.specs.Tables.{sort_count, mods_of, term_row}
-use Rattle.mz_binary.specs.Laws.{is_defined}
 use Rattle.mz_binary.specs.declared.statement.Statement.{Statement as Told}
-use Rattle.mz_match.specs.declared.kind.Kind.{Kind}
-use Rattle.mz_match.specs.declared.kind.Kind.TheVariants as kinds
-use Rattle.mz_match.specs.declared.rule.M.{M}
-use Rattle.mz_match.specs.declared.rule.M.TheVariants as rules
-use Rattle.mz_match.specs.Match.{Partner, kind_of_form, is_plain, match_checks, partner_checks, signature_checks, form_checks, assertion_checks}
-use Rattle.mz_match.specs.TellsRow.{SaysForm, IsTermRow, IsThmRow, IsRowOf}
-use Rattle.mz_match.proofs.Spelled.{length-binders}
+use Rattle.mz_verdicts.specs.declared.kind.Kind.{Kind}
+use Rattle.mz_verdicts.specs.declared.kind.Kind.TheVariants as kinds
+use Rattle.mz_verdicts.specs.declared.rule.M.{M}
+use Rattle.mz_verdicts.specs.declared.rule.M.TheVariants as rules
+use Rattle.mz_verdicts.specs.Match.{Partner, kind_of_form, is_plain, match_checks, partner_checks, signature_checks, form_checks, assertion_checks}
+use Rattle.mz_match.specs.TellsRow.{SaysForm, IsTermRow, IsThmRow, IsRowOf, assertion_code}
+use Rattle.mz_verdicts.proofs.Offered.{length-binders}
 
 -- the declaration at hand is the partner's
 pub judges-partner : {A : Type 0} → (ds rest : List Declaration) (d : Declaration) (p : Partner) (r : Result A M) → ds ≡ d ∷ rest → Judges r (match_checks d p) → Judges r (partner_checks ds p)
@@ -43,13 +44,13 @@ assertion-term false abstract_form e = cc
 assertion-term false (defined ds body) e = cc
 
 abbrev code : Bool → ℕ
-code b = if b then 0x02 else 0x06
+code b = statement_byte (assertion_code b)
 
-code-term : (b : Bool) → code b ≡ 0x05 → ⊥
+code-term : (b : Bool) → code b ≡ statement_byte codes.Term → ⊥
 code-term true e = absurd (omega arith)
 code-term false e = absurd (omega arith)
 
-code-sort : (b : Bool) → code b ≡ 0x04 → ⊥
+code-sort : (b : Bool) → code b ≡ statement_byte codes.Sort → ⊥
 code-sort true e = absurd (omega arith)
 code-sort false e = absurd (omega arith)
 
@@ -74,22 +75,22 @@ module _ (rows bin : List ℕ) (told : Told) (mods : SortMods) where
   abbrev partner : Declaration → Partner
   partner p = record { rows = rows; decl = p }
 
-  pub sort-kind-differs : (p : Declaration) → IsRowOf bin told p → (told.kind ≡ 0x04 → ⊥) → FailsFirst (match_checks (sort_decl mods) (partner p)) rules.Kind
+  pub sort-kind-differs : (p : Declaration) → IsRowOf bin told p → (told.kind ≡ statement_byte codes.Sort → ⊥) → FailsFirst (match_checks (sort_decl mods) (partner p)) rules.Kind
   sort-kind-differs (sort_decl m) row other = absurd (other row.0)
   sort-kind-differs (term_decl d) row other = inl (λ e. form-kind d.form (sym e), refl)
   sort-kind-differs (assertion_decl a) row other = inl (λ e. assertion-sort a.is_axiom (sym e), refl)
 
-  pub sort-mods-differ : (p : Declaration) → IsRowOf bin told p → told.kind ≡ 0x04 → (mods ≡ mods_of bin told.row → ⊥) → FailsFirst (match_checks (sort_decl mods) (partner p)) rules.Modifiers
+  pub sort-mods-differ : (p : Declaration) → IsRowOf bin told p → told.kind ≡ statement_byte codes.Sort → (mods ≡ mods_of bin told.row → ⊥) → FailsFirst (match_checks (sort_decl mods) (partner p)) rules.Modifiers
   sort-mods-differ (sort_decl m) row kind differ = inr (refl, inl (λ e. differ (e ∙ row.2), refl))
   sort-mods-differ (term_decl d) row kind differ = absurd (omega (arith, kind, row.0))
   sort-mods-differ (assertion_decl a) row kind differ = absurd (code-sort a.is_axiom (sym row.0 ∙ kind))
 
-  pub sort-same : (p : Declaration) → IsRowOf bin told p → told.kind ≡ 0x04 → mods ≡ mods_of bin told.row → AllHold (match_checks (sort_decl mods) (partner p))
+  pub sort-same : (p : Declaration) → IsRowOf bin told p → told.kind ≡ statement_byte codes.Sort → mods ≡ mods_of bin told.row → AllHold (match_checks (sort_decl mods) (partner p))
   sort-same (sort_decl m) row kind same = (refl, (same ∙ sym row.2, tt))
   sort-same (term_decl d) row kind same = absurd (omega (arith, kind, row.0))
   sort-same (assertion_decl a) row kind same = absurd (code-sort a.is_axiom (sym row.0 ∙ kind))
 
-pub sort-row : (bin : List ℕ) (told : Told) (p : Declaration) → IsRowOf bin told p → told.kind ≡ 0x04 → told.row < sort_count bin
+pub sort-row : (bin : List ℕ) (told : Told) (p : Declaration) → IsRowOf bin told p → told.kind ≡ statement_byte codes.Sort → told.row < sort_count bin
 sort-row bin told (sort_decl m) row kind = row.1
 sort-row bin told (term_decl d) row kind = absurd (omega (arith, kind, row.0))
 sort-row bin told (assertion_decl a) row kind = absurd (code-sort a.is_axiom (sym row.0 ∙ kind))
@@ -126,12 +127,12 @@ form-open rows n (defined ds b) g (Ok x) is none = absurd (true≢false is)
 form-open rows n f g (Err e) is none = absurd none
 
 module _ (rows bin : List ℕ) (told : Told) (d : Term) where
-  pub term-kind-differs : (p : Declaration) → IsRowOf bin told p → (told.kind ≡ 0x05 → ⊥) → FailsFirst (match_checks (term_decl d) (record { rows = rows; decl = p })) rules.Kind
+  pub term-kind-differs : (p : Declaration) → IsRowOf bin told p → (told.kind ≡ statement_byte codes.Term → ⊥) → FailsFirst (match_checks (term_decl d) (record { rows = rows; decl = p })) rules.Kind
   term-kind-differs (sort_decl m) row other = inl (λ e. form-kind d.form e, refl)
   term-kind-differs (term_decl e) row other = absurd (other row.0)
   term-kind-differs (assertion_decl a) row other = inl (λ e. assertion-term a.is_axiom d.form (sym e), refl)
 
-  pub term-form-differs : (p : Declaration) → IsRowOf bin told p → told.kind ≡ 0x05 → is_plain d.form ≡ (term_row bin told.row).words.has_body → FailsFirst (match_checks (term_decl d) (record { rows = rows; decl = p })) rules.Kind
+  pub term-form-differs : (p : Declaration) → IsRowOf bin told p → told.kind ≡ statement_byte codes.Term → is_plain d.form ≡ (term_row bin told.row).words.has_body → FailsFirst (match_checks (term_decl d) (record { rows = rows; decl = p })) rules.Kind
   term-form-differs (sort_decl m) row kind same = absurd (omega (arith, kind, row.0))
   term-form-differs (term_decl e) row kind same = inl (λ k. closed-kind d.form e.form bin _ _ row.1.form (same ∙ row.1.has_body) k, refl)
   term-form-differs (assertion_decl a) row kind same = absurd (code-term a.is_axiom (sym row.0 ∙ kind))
@@ -142,7 +143,7 @@ module _ (rows bin : List ℕ) (told : Told) (d : Term) where
   term-judged e r row other judges =
       judges-after (demand rules.Kind (kind_of_form d.form ≡ kind_of_form e.form)) _ r (same-kind d.form e.form bin _ _ row.form (λ same. other (same ∙ sym row.has_body)), tt) judges
 
-pub term-row : (bin : List ℕ) (told : Told) (p : Declaration) → IsRowOf bin told p → told.kind ≡ 0x05 → (e : Term) × (p ≡ term_decl e) × IsTermRow bin told.row e
+pub term-row : (bin : List ℕ) (told : Told) (p : Declaration) → IsRowOf bin told p → told.kind ≡ statement_byte codes.Term → (e : Term) × (p ≡ term_decl e) × IsTermRow bin told.row e
 term-row bin told (sort_decl m) row kind = absurd (omega (arith, kind, row.0))
 term-row bin told (term_decl e) row kind = (e, refl, row.1)
 term-row bin told (assertion_decl a) row kind = absurd (code-term a.is_axiom (sym row.0 ∙ kind))

@@ -1,9 +1,10 @@
 -- What the row of a good statement says.
-use Rattle.std.proofs.Common.{◌≡◌, ◌≤◌, ◌<◌, ◌+◌, ◌∙◌, ◌⊎◌, ℕ, zero, suc, Bool, List, [], ◌∷◌, ◌++◌, length, drop, reverse, Option, Some, None, slice_get, refl, sym, ap, subst, inl, inr, arith, append_assoc}
+use Rattle.std.proofs.Common.{◌≡◌, ◌≤◌, ◌<◌, ◌+◌, ◌∙◌, ◌⊎◌, ℕ, zero, suc, Bool, true, false, List, [], ◌∷◌, ◌++◌, length, drop, reverse, Option, Some, None, slice_get, refl, sym, ap, subst, inl, inr, arith, append_assoc}
 use Rattle.std.specs.Prelude.{if◌then◌else◌}
+use Rattle.mz_cmd.specs.Codes.{statement_byte}
 use Rattle.mz_logic.specs.Tree.{Tree, Trees, var, none, listed}
 use Rattle.mz_logic.specs.Signature.{Signature}
-use Rattle.mz_logic.specs.Declaration.{Declaration, sort_decl, term_decl, assertion_decl, Term, Assertion, Form, plain_form, abstract_form, defined, sorts, terms, signatures, assertions}
+use Rattle.mz_logic.specs.Declaration.{Declaration, sort_decl, term_decl, assertion_decl, Term, Assertion, Form, plain_form, abstract_form, defined, sorts, terms, signatures, assertions, is_defined}
 use Rattle.mz_logic.specs.LegalLists.{Statement}
 use Rattle.mz_logic.specs.Words.{binders_of}
 use Rattle.mz_logic.specs.declared.binder.Binder.{Binder}
@@ -13,19 +14,19 @@ use Rattle.mz_unification.specs.Spells.{Marks, SpellsText, Text, SpellsForm, at_
 use Rattle.mz_words.proofs.Offered.{right-words}
 use Rattle.mz_soundness.specs.FileRows.{stream_of, term_of_file}
 use Rattle.mz_binary.specs.declared.statement.Statement.{Statement as Told}
-use Rattle.mz_binary.specs.Chains.{GoodTo}
-use Rattle.mz_binary.specs.Laws.{HasRow, SaysTerm, is_defined}
+use Rattle.mz_files.specs.Chains.{GoodTo}
+use Rattle.mz_files.specs.Laws.{HasRow, SaysTerm}
 use Rattle.mz_binary.specs.Progress.{kind_code, row_after}
-use Rattle.mz_binary.specs.Spelling.{SpellsRow}
-use Rattle.mz_binary.proofs.Offered.{good-rows}
+use Rattle.mz_files.specs.Spelling.{SpellsRow}
+use Rattle.mz_files.proofs.Offered.{good-rows}
 use Rattle.mz_match.specs.Streams.{AreMarks, HypsAreSaid}
-use Rattle.mz_match.specs.TellsRow.{SaysFirst, SaysForm, SaysClaims, IsTermRow, IsThmRow, IsRowOf}
+use Rattle.mz_match.specs.TellsRow.{SaysFirst, SaysForm, SaysClaims, IsTermRow, IsThmRow, IsRowOf, assertion_code}
 use Rattle.mz_match.specs.Told.{IsTold}
 use Rattle.mz_match.proofs.Steps.{command-takes}
-use Rattle.mz_match.proofs.Spelled.{length-binders}
+use Rattle.mz_verdicts.proofs.Offered.{length-binders}
 use Rattle.mz_match.proofs.FewDummies.{few-dummies}
 use Rattle.mz_match.proofs.SaidStreams.{joined, Grows, Segment, append-none, grows-not, hyps-grow, spelled-said, hyps-said}
-use Rattle.mz_binary.specs.declared.standard.Standard.{Standard}
+use Rattle.mz_files.specs.declared.standard.Standard.{Standard}
 
 -- ---- the signatures of what was declared are those of the rows
 
@@ -171,6 +172,11 @@ claims-said file env r a arities (last, text, met) =
     let whole : SaysClaims file (length params) (thm_row file r).stream_at a = record { marks = last; conclusion = said.first; no_dummies = met; hyps = said.hyps_said met } in
     subst (λ (k : ℕ). SaysClaims file k (thm_row file r).stream_at a) (length-binders 0 [] (thm_row file r).params) whole
 
+-- the byte that is told of an axiom or a theorem is that of its code
+assertion-kind : (b : Bool) → (if b then 0x02 else 0x06) ≡ statement_byte (assertion_code b)
+assertion-kind true = refl
+assertion-kind false = refl
+
 row-told : (file : List ℕ) (env : List Declaration) (told : Told) (d : Declaration) → Arities file env → told.kind ≡ kind_code d → told.row ≡ row_after env d → HasRow file env d → SpellsRow file env d
     → ((t : Term) (dummies : List Binder) (body : Tree) → d ≡ term_decl t → t.form ≡ defined dummies body → length dummies ≤ 55) → IsRowOf file told d
 row-told file env told (sort_decl m) arities kind row (here, is) spelled few = (kind, omega (arith, row, here), is ∙ ap (mods_of file) (sym row))
@@ -185,7 +191,7 @@ row-told file env told (term_decl t) arities kind row (there, says) (_, spelled)
   }),
 )
 row-told file env told (assertion_decl a) arities kind row (there, says) (_, spelled) few = (
-  kind,
+  kind ∙ assertion-kind a.is_axiom,
   subst (λ (r : ℕ). IsThmRow file r a) (sym row) (record {
     there = there;
     params = says.signature;

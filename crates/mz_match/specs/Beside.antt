@@ -6,7 +6,7 @@ use Rattle.mz_match.specs.declared.compare.Sides.{Sides}
 use Rattle.mz_match.specs.declared.stream.Cursor.{Cursor}
 use Rattle.mz_match.specs.Marks.{AreKept}
 use Rattle.mz_match.specs.Streams.{IsSaid, AreSaid, IsMade, AreMarks, HypsAreSaid}
-use Rattle.mz_match.specs.Comparing.{Beside}
+use Rattle.mz_verdicts.specs.Comparing.{Beside}
 
 -- what is compared, where the stream has these marks
 abbrev pub beside : Sides → Marks → Beside

@@ -1,12 +1,7 @@
-pub mod Trees
 pub mod Streams
 pub mod Marks
-pub mod Comparing
+pub mod Comparison
 pub mod Beside
 pub mod TellsRow
-pub mod Match
-pub mod Proved
-pub mod Lines
-pub mod Verdict
 pub mod Told
 pub mod Drafts

@@ -1,12 +1,14 @@
 -- What the row of a statement that is told says.
-use Rattle.std.specs.Prelude.{◌≡◌, ◌≤◌, ◌<◌, ⊤, ℕ, List, [], length, reverse, if◌then◌else◌}
+use Rattle.std.specs.Prelude.{◌≡◌, ◌≤◌, ◌<◌, ⊤, ℕ, Bool, true, false, List, [], length, reverse}
+use Rattle.mz_cmd.specs.Codes.{statement_byte}
+use Rattle.mz_cmd.specs.declared.code.StatementCode.{StatementCode}
+use Rattle.mz_cmd.specs.declared.code.StatementCode.TheVariants as codes
 use Rattle.mz_logic.specs.Tree.{Tree, listed}
-use Rattle.mz_logic.specs.Declaration.{Declaration, sort_decl, term_decl, assertion_decl, Term, Assertion, Form, plain_form, abstract_form, defined}
+use Rattle.mz_logic.specs.Declaration.{Declaration, sort_decl, term_decl, assertion_decl, Term, Assertion, Form, plain_form, abstract_form, defined, is_defined}
 use Rattle.mz_logic.specs.Words.{binders_of, signature_of}
 use Rattle.mz_layout.specs.Tables.{sort_count, term_count, thm_count, mods_of, term_row, thm_row}
 use Rattle.mz_unification.specs.Spells.{Marks}
 use Rattle.mz_words.specs.RowWords.{bound_count}
-use Rattle.mz_binary.specs.Laws.{is_defined}
 use Rattle.mz_binary.specs.declared.statement.Statement.{Statement as Told}
 use Rattle.mz_match.specs.declared.stream.Cursor.{Cursor}
 use Rattle.mz_match.specs.Streams.{AreMarks, IsSaid, HypsAreSaid}
@@ -44,8 +46,13 @@ pub record IsThmRow (file : List ℕ) (row : ℕ) (a : Assertion) : Type 0 where
   pub few : bound_count (thm_row file row).params ≤ 55
   pub claims : SaysClaims file (length (thm_row file row).params) (thm_row file row).stream_at a
 
+-- the code of an axiom's public statement, and of a theorem's
+abbrev pub assertion_code : Bool → StatementCode
+assertion_code true = codes.Axiom
+assertion_code false = codes.Theorem
+
 -- the row of the statement that is told says the declaration
 abbrev pub IsRowOf : List ℕ → Told → Declaration → Type 0
-IsRowOf bin told (sort_decl m) = (told.kind ≡ 0x04) × (told.row < sort_count bin) × (m ≡ mods_of bin told.row)
-IsRowOf bin told (term_decl d) = (told.kind ≡ 0x05) × IsTermRow bin told.row d
-IsRowOf bin told (assertion_decl a) = (told.kind ≡ (if a.is_axiom then 0x02 else 0x06)) × IsThmRow bin told.row a
+IsRowOf bin told (sort_decl m) = (told.kind ≡ statement_byte codes.Sort) × (told.row < sort_count bin) × (m ≡ mods_of bin told.row)
+IsRowOf bin told (term_decl d) = (told.kind ≡ statement_byte codes.Term) × IsTermRow bin told.row d
+IsRowOf bin told (assertion_decl a) = (told.kind ≡ statement_byte (assertion_code a.is_axiom)) × IsThmRow bin told.row a

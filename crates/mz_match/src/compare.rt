@@ -5,8 +5,10 @@ ghost use Rattle.mz_logic.specs.Tree.{Tree, Trees, listed, var};
 ghost use Rattle.mz_logic.specs.View.{tree};
 ghost use Rattle.mz_layout.specs.Tables.{term_count, term_row};
 ghost use Rattle.mz_unification.specs.Spells.{Marks, trees_of};
-ghost use Rattle.mz_match.specs.Trees.{SameBody, SameTree, SameTrees};
-ghost use Rattle.mz_match.specs.Comparing.{all_none, Answers, all_compared, compared, dummy_compared, has_sort as sort_lem, is_taken as taken_lem, is_number as number_lem, makes_term as term_lem, paired};
+ghost use Rattle.mz_match.specs.Streams.{step_at as step_lem};
+ghost use Rattle.mz_verdicts.specs.Trees.{SameBody, SameTree, SameTrees};
+ghost use Rattle.mz_verdicts.specs.Comparing.{all_none, all_compared, compared, dummy_compared, has_sort as sort_lem, is_taken as taken_lem, is_number as number_lem, makes_term as term_lem, paired};
+ghost use Rattle.mz_match.specs.Comparison.{Answers};
 ghost use Rattle.mz_match.specs.Beside.{AllSaidAt, at_start, HypsSaidAt, IsPlainStream, IsStream, MadeAt, SaidAt, beside};
 
 use crate::marks::place_of_mark;
@@ -14,7 +16,7 @@ use crate::publics::Publics;
 use crate::stream::{Cursor, Step, next_hyp, step_at};
 use mz_cmd::UnifyCode;
 use mz_layout::Mmb;
-use mz_logic::{Binder, Expr, Exprs, Terms};
+use mz_logic::{Binder, Expr, Exprs, Hyps, Terms};
 
 /// What is compared: a unify stream of the file, that begins at `start` and is over so many
 /// parameters, beside expressions of a specification over as many and these dummies. `places` has
@@ -54,13 +56,12 @@ pub fn same_first(sides: &Sides, expr: &Expr) -> bool
 }
 
 /// Whether the stream says these hypotheses: behind the conclusion, from the last to the first.
-pub fn same_hyps(sides: &Sides, hyps: &Exprs) -> bool
+pub fn same_hyps(sides: &Sides, hyps: &Hyps) -> bool
     requires { (m : Marks) × (hs : List Tree) × IsPlainStream sides.now m × HypsSaidAt sides.now m hs }
     ensures { (m : Marks) (hs : List Tree) → IsPlainStream sides.now m → HypsSaidAt sides.now m hs
         → (IsTrue result ↔ SameTrees sides.now.publics.now hyps.now (trees_of (reverse hs))) }
 {
-    let items = hyps.as_slice();
-    let mut left = items.len();
+    let mut left = hyps.len();
     let mut at = sides.start;
     'hyps: loop {
         let Some(next) = next_hyp(sides.mmb.file(), at) else {
@@ -70,7 +71,7 @@ pub fn same_hyps(sides: &Sides, hyps: &Exprs) -> bool
             return false;
         }
         left -= 1;
-        let Some(behind) = same_tree(sides, &items[left], next) else {
+        let Some(behind) = same_tree(sides, hyps.at(left), next) else {
             return false;
         };
         at = behind;
@@ -116,7 +117,7 @@ pub fn same_at(
         return None;
     };
     if !is_ref(step.code) {
-        return same_made(sides, expr, from, pairs);
+        return same_made(sides, expr, from, step, pairs);
     }
     if !same_mark(sides, expr, step.value, pairs) {
         return None;
@@ -141,18 +142,24 @@ fn same_mark(sides: &Sides, expr: &Expr, mark: u32, pairs: &mut [Option<u32>]) -
     let Some(place) = place_of_mark(sides.mmb, sides.start, places, mark - sides.params) else {
         return false;
     };
-    same_made(sides, expr, place, pairs).is_some()
+    let Some(step) = step_at(sides.mmb.file(), place.at) else {
+        return false;
+    };
+    same_made(sides, expr, place, step, pairs).is_some()
 }
 
-/// The same of a place at which no reference stands.
+/// The same of a place at which this command stands, which is no reference.
 #[cycle(same_at)]
-fn same_made(sides: &Sides, expr: &Expr, from: Cursor, pairs: &mut [Option<u32>]) -> Option<Cursor>
-    requires { (m : Marks) × (f : Tree) × (to : Cursor) × IsStream sides.now m × MadeAt sides.now m from f to }
+fn same_made(
+    sides: &Sides,
+    expr: &Expr,
+    from: Cursor,
+    step: Step,
+    pairs: &mut [Option<u32>],
+) -> Option<Cursor>
+    requires { (step_lem sides.now.mmb.now from.at ≡ Some step) × (m : Marks) × (f : Tree) × (to : Cursor) × IsStream sides.now m × MadeAt sides.now m from f to }
     ensures { (m : Marks) (f : Tree) (to : Cursor) → IsStream sides.now m → MadeAt sides.now m from f to → Answers result pairs.new (compared (beside sides.now m) pairs.old (tree expr.now) f) to }
 {
-    let Some(step) = step_at(sides.mmb.file(), from.at) else {
-        return None;
-    };
     match expr {
         Expr::Var(x) => {
             if !is_dummy(sides, *x, from.dummies, step, pairs) {

@@ -8,16 +8,16 @@ ghost use Rattle.mz_binary.specs.Progress.{HasPassed, Progress};
 ghost use Rattle.mz_spec.specs.Spec.{SpecMakes};
 ghost use Rattle.mz_spec.specs.State.{Entry, env_of};
 ghost use Rattle.mz_match.specs.Told.{IsMatched, IsNextTold};
-ghost use Rattle.mz_match.specs.Verdict.{IsDifference, IsVerdictBy, counts_of};
+ghost use Rattle.mz_verdicts.specs.Verdict.{IsDifference, IsVerdictBy, counts_of};
 
 use crate::count::count_all;
-use crate::pair::{TERM, match_statement};
+use crate::pair::{has_kind, match_statement};
 use crate::publics::Publics;
-use crate::rule::M;
-use crate::verdict::Verdict;
 use mz_binary::Statement;
+use mz_cmd::StatementCode;
 use mz_layout::Mmb;
 use mz_spec::Spec;
+use mz_verdicts::{M, Verdict};
 use std::alloc::Global;
 
 /// How many declarations have their partner, how many statements have passed, and the public terms
@@ -70,7 +70,7 @@ impl Matching {
                 });
             }
             self.done += 1;
-            if told.kind == TERM {
+            if has_kind(told, StatementCode::Term) {
                 let Ok(()) = self.publics.push(told.row) else {
                     return Err(Verdict::Mem);
                 };

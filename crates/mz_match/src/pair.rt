@@ -1,37 +1,28 @@
 // A declaration and its partner.
-ghost use Rattle.std.specs.Prelude.{◌≡◌, ◌≤◌, ◌↔◌, ℕ, Bool, IsTrue, List, OnErr, drop, if◌then◌else◌, length, false, true};
+ghost use Rattle.std.specs.Prelude.{◌≡◌, ◌≤◌, ◌↔◌, ℕ, Bool, IsTrue, List, OnErr, drop, length, false, true};
 ghost use Rattle.mz_checks.specs.Checks.{Judges};
-ghost use Rattle.mz_logic.specs.Declaration.{Assertion, Declaration, Term, sort_decl};
+ghost use Rattle.mz_logic.specs.Declaration.{Assertion, Declaration, Term, is_defined, sort_decl};
+ghost use Rattle.mz_cmd.specs.Codes.{statement_byte};
 ghost use Rattle.mz_logic.specs.DeclView.{assertion_of, assertion_view, declaration, form as form_lem, is_axiom, term_of};
 ghost use Rattle.mz_logic.specs.LegalLists.{Statement as Declared};
 ghost use Rattle.mz_spec.specs.State.{env_of};
 ghost use Rattle.mz_layout.specs.Tables.{term_row};
-ghost use Rattle.mz_binary.specs.Laws.{is_defined};
-ghost use Rattle.mz_binary.specs.declared.standard.Standard.{Standard};
-ghost use Rattle.mz_match.specs.Match.{assertion_checks, form_checks, is_plain as plain_lem, match_checks, partner_checks, partner_of};
-ghost use Rattle.mz_match.specs.TellsRow.{IsRowOf, IsTermRow, IsThmRow};
+ghost use Rattle.mz_files.specs.declared.standard.Standard.{Standard};
+ghost use Rattle.mz_verdicts.specs.Match.{assertion_checks, form_checks, is_plain as plain_lem, match_checks, partner_checks, partner_of};
+ghost use Rattle.mz_match.specs.TellsRow.{IsRowOf, IsTermRow, IsThmRow, assertion_code};
 ghost use Rattle.mz_match.specs.Told.{IsTold};
 
 use crate::compare::{Sides, same_body, same_first, same_hyps};
 use crate::marks::kept_marks;
 use crate::publics::Publics;
-use crate::rule::M;
 use crate::signature::{match_params, match_signature};
 use mz_binary::Statement;
+use mz_cmd::StatementCode;
 use mz_layout::{Mmb, Row};
 use mz_logic::{Decl, SortMods, TermDecl, TermForm, Terms, ThmDecl, ThmForm};
 use mz_spec::Spec;
+use mz_verdicts::M;
 use std::alloc::Global;
-
-/// The codes of a sort's and of a term's statement.
-pub const SORT: u8 = 0x04;
-
-pub const TERM: u8 = 0x05;
-
-/// The codes of an axiom's and of a theorem's statement.
-pub const AXIOM: u8 = 0x02;
-
-pub const THEOREM: u8 = 0x06;
 
 /// Compares a public statement, which a checker of the binary told, with the i-th declaration, its
 /// partner. `publics` holds the public terms before it.
@@ -59,6 +50,13 @@ pub fn match_statement(
     match_declaration(alloc, spec.decl(i), mmb, statement, publics)
 }
 
+/// Whether the statement's kind is that of public statements with this code.
+pub fn has_kind(statement: &Statement, code: StatementCode) -> bool
+    ensures { IsTrue result ↔ (statement.now.kind ≡ statement_byte code) }
+{
+    statement.kind == u8::from(code)
+}
+
 /// Compares the statement with a declaration.
 fn match_declaration(
     alloc: Global,
@@ -81,7 +79,7 @@ fn match_sort(mods: SortMods, mmb: &Mmb, statement: &Statement, publics: &Public
     requires { (p : Declaration) × IsRowOf mmb.now statement.now p }
     ensures { (p : Declaration) → IsRowOf mmb.now statement.now p → Judges result (match_checks (sort_decl mods) (record { rows = publics.now; decl = p })) }
 {
-    if statement.kind != SORT {
+    if !has_kind(statement, StatementCode::Sort) {
         return Err(M::Kind);
     }
     if mods != mmb.mods(statement.row) {
@@ -100,7 +98,7 @@ fn match_term(
     requires { (p : Declaration) × IsRowOf mmb.now statement.now p }
     ensures { (p : Declaration) → IsRowOf mmb.now statement.now p → Judges result (match_checks (term_of term.now) (record { rows = publics.now; decl = p })) }
 {
-    if statement.kind != TERM {
+    if !has_kind(statement, StatementCode::Term) {
         return Err(M::Kind);
     }
     let plain = is_plain(&term.form);
@@ -171,19 +169,19 @@ fn match_assertion(
     requires { (p : Declaration) × IsRowOf mmb.now statement.now p }
     ensures { (p : Declaration) → IsRowOf mmb.now statement.now p → Judges result (match_checks (assertion_of thm.now) (record { rows = publics.now; decl = p })) }
 {
-    if statement.kind != code_of(thm.form) {
+    if !has_kind(statement, code_of(thm.form)) {
         return Err(M::Kind);
     }
     match_claims(alloc, thm, mmb, statement.row, publics)
 }
 
-/// The code of an axiom's or a theorem's statement.
-fn code_of(form: ThmForm) -> u8
-    ensures { result ≡ (if is_axiom form then 0x02 else 0x06) }
+/// The code of an axiom's or a theorem's public statement.
+fn code_of(form: ThmForm) -> StatementCode
+    ensures { result ≡ assertion_code (is_axiom form) }
 {
     match form {
-        ThmForm::Axiom => AXIOM,
-        ThmForm::Theorem => THEOREM,
+        ThmForm::Axiom => StatementCode::Axiom,
+        ThmForm::Theorem => StatementCode::Theorem,
     }
 }
 

@@ -5,12 +5,12 @@ ghost use Rattle.mz_logic.specs.Words.{binder_of, binders_of, bound_places, plac
 ghost use Rattle.mz_layout.specs.Rows.{IsRow, params_of};
 ghost use Rattle.mz_layout.specs.Tables.{term_count, term_row};
 ghost use Rattle.mz_words.specs.RowWords.{bound_count};
-ghost use Rattle.mz_match.specs.Match.{signature_checks};
+ghost use Rattle.mz_verdicts.specs.Match.{signature_checks};
 
-use crate::rule::M;
 use arrayvec::ArrayVec;
 use mz_layout::{Mmb, Row};
 use mz_logic::{Binder, ResultType, Terms, Word};
+use mz_verdicts::M;
 
 /// The places of bound parameters, of which a row has at most 55.
 type Places = ArrayVec<u32, 55>;

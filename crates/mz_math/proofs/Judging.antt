@@ -187,8 +187,8 @@ module _ (r : Reader) (w : Wanted) (is : IsTable r.table) (vs : AreVariables r.s
 -- ---- the provable sort that is reached
 
 pub goal-found : (env : List Declaration) (cs : List Coercion) → OnePath cs → (s : ℕ) → (MayBeClaimSort (sorts env) s → ⊥) → (found : Option ℕ)
-    → ((j : ℕ) (d : Coercion) → slice_get cs j ≡ Some d → MayBeClaimSort (sorts env) d.to → Reaches cs (length cs) s d.to → found ≡ Some d.to)
-    → IfSome found (λ g. MayBeClaimSort (sorts env) g × Reaches cs (length cs) s g)
+    → ((j : ℕ) (d : Coercion) → slice_get cs j ≡ Some d → MayBeClaimSort (sorts env) d.to → (path : List ℕ) → IsPath cs s path d.to → found ≡ Some d.to)
+    → IfSome found (λ g. MayBeClaimSort (sorts env) g × (path : List ℕ) × IsPath cs s path g)
     → MatchOption found ((goal : ℕ) (path : List ℕ) → IsGoal env cs s goal → IsPath cs s path goal → ⊥) (λ goal. IsGoal env cs s goal × Reaches cs (length cs) s goal)
 goal-found env cs one s own None all some = go
   where
@@ -196,12 +196,12 @@ goal-found env cs one s own None all some = go
     go goal path (inl (same, claim)) on = own claim
     go goal path (inr (never, claim, only)) on = elim (last-end cs s goal path on) [
       | inl same ↦ own (subst (MayBeClaimSort (sorts env)) (sym same) claim)
-      | inr found ↦ no-some (all found.0 found.1 found.2 (subst (MayBeClaimSort (sorts env)) (sym found.3) claim) (subst (Reaches cs (length cs) s) (sym found.3) (path-reaches cs one s goal path on)))
+      | inr found ↦ no-some (all found.0 found.1 found.2 (subst (MayBeClaimSort (sorts env)) (sym found.3) claim) path (subst (IsPath cs s path) (sym found.3) on))
     ]
       where
         no-some : {x : ℕ} → None ≡ Some x → ⊥
         no-some e = cc
-goal-found env cs one s own (Some g) all (claim, reach) = (inr (own, claim, (λ other path is on. go other path is on)), reach)
+goal-found env cs one s own (Some g) all (claim, way, there) = (inr (own, claim, (λ other path is on. go other path is on)), path-reaches cs one s g way there)
   where
     same-some : {x y : ℕ} → Some x ≡ Some y → y ≡ x
     same-some e = cc
@@ -209,5 +209,5 @@ goal-found env cs one s own (Some g) all (claim, reach) = (inr (own, claim, (λ 
     go : (other : ℕ) (path : List ℕ) → MayBeClaimSort (sorts env) other → IsPath cs s path other → other ≡ g
     go other path is on = elim (last-end cs s other path on) [
       | inl same ↦ absurd (own (subst (MayBeClaimSort (sorts env)) (sym same) is))
-      | inr found ↦ sym found.3 ∙ same-some (all found.0 found.1 found.2 (subst (MayBeClaimSort (sorts env)) (sym found.3) is) (subst (Reaches cs (length cs) s) (sym found.3) (path-reaches cs one s other path on)))
+      | inr found ↦ sym found.3 ∙ same-some (all found.0 found.1 found.2 (subst (MayBeClaimSort (sorts env)) (sym found.3) is) path (subst (IsPath cs s path) (sym found.3) on))
     ]

@@ -2,7 +2,7 @@
 use Rattle.std.proofs.Common.{List, ℕ, inl, inr, subst, sym, refl, arith, Contains}
 use Rattle.std.specs.Prelude.{codes, IsTrue}
 use Rattle.std.proofs.lemmas.Bool.{false≢true}
-use Rattle.mz_lex.specs.Kinds.{is_name}
+use Rattle.mz_names.specs.Identifiers.{is_name}
 use Rattle.mz_logic.specs.Signature.{Signature}
 use Rattle.mz_notation.specs.Notation.{Table}
 use Rattle.mz_notation.specs.declared.notation.Element.TheVariants.{Fixed as fixed}

@@ -15,7 +15,7 @@ ghost use Rattle.mz_tokens.specs.Pieces.{Pieces, piece_texts};
 use crate::meaning::{Built, coerced, sort_of};
 use crate::parser::{Syntax, parse};
 use crate::words::Vocabulary;
-use mz_coercions::{Coercions, distance, wrap};
+use mz_coercions::{Coercions, distance, reaches, wrap};
 use mz_lex::S;
 use mz_logic::{Context, Env, Expr};
 use mz_notation::{Notations, Scope};
@@ -214,7 +214,7 @@ fn goal_of(env: &Env, coercions: &Coercions, sort: u32) -> Option<u32>
     let items = coercions.as_slice();
     'coercions: for i in 0..items.len() {
         let to = items[i].to;
-        if is_provable(env, to) && distance(coercions, sort, to).is_some() {
+        if is_provable(env, to) && reaches(coercions, sort, to) {
             if is_other(found, to) {
                 return None;
             }

@@ -21,4 +21,4 @@ pub use laws::{
 pub use mz_notation::{
     Coercion, Element, Elements, Literal, Notation, Notations, NoteFault, Scope, Tail, TermName,
 };
-pub use mz_tokens::{Bytes, Delimiters, Piece, is_identifier};
+pub use mz_tokens::{Bytes, Delimiters, Piece};

@@ -6,14 +6,16 @@ use Rattle.mz_checks.proofs.Offered.{are_decided-both, bytes-decided, retold-dec
 use Rattle.mz_sexpr.specs.Node.{Node, Nodes, atom, list, no_nodes, node, word, parts}
 use Rattle.mz_forms.specs.declared.fault.Fault.{Fault}
 use Rattle.mz_names.specs.Names.{number_of}
-use Rattle.mz_forms.specs.Name.{Names, Scope, hidden, is_identifier}
+use Rattle.mz_names.specs.Identifiers.{is_name}
+use Rattle.mz_forms.specs.Name.{Names, Scope, hidden, scope_of}
 use Rattle.mz_forms.specs.declared.keyword.Keyword.{Keyword}
 use Rattle.mz_forms.specs.declared.keyword.Keyword.TheVariants.{Conv as conv_word, Let as let_word, Refl as refl_word, Sym as sym_word, Unfold as unfold_word, Sorry as sorry_word, Other as no_word}
 use Rattle.mz_forms.specs.Proofs.{conv_keyword, proof_keyword}
-use Rattle.mz_forms.specs.declared.keyword.Kind.{Kind}
-use Rattle.mz_forms.specs.declared.keyword.Kind.TheVariants.{Sort as sort_kind, Term as term_kind, Axiom as axiom_kind, Def as def_kind, Theorem as theorem_kind, Other as no_kind}
-use Rattle.mz_forms.specs.Statements.{kind_of, is_local_word, Modifiers, no_modifiers, with_modifier, scope_of}
-use Rattle.mz_forms.specs.Order.{known_asked, new_asked, param_name_asked, expr_asked, exprs_asked, expr_list_asked, variables_asked, variable_list_asked, param_asked, dummy_asked, names_of, first_word, binders_asked, params_asked, dummies_asked, result_asked, conv_asked, conv_asked_by, convs_asked, proof_asked, proof_asked_by, proofs_asked, modifiers_asked, hyp_asked, hyps_asked, declared_asked, local_asked, marked_asked, statement_asked, in_statement, names_after, statements_asked}
+use Rattle.mz_statements.specs.declared.kind.Kind.{Kind}
+use Rattle.mz_statements.specs.declared.kind.Kind.TheVariants.{Sort as sort_kind, Term as term_kind, Axiom as axiom_kind, Def as def_kind, Theorem as theorem_kind, Other as no_kind}
+use Rattle.mz_statements.specs.Statements.{kind_of, is_local_word, Modifiers, no_modifiers, with_modifier}
+use Rattle.mz_forms.specs.Order.{known_asked, new_asked, param_name_asked, expr_asked, exprs_asked, expr_list_asked, variables_asked, variable_list_asked, param_asked, dummy_asked, names_of, first_word, binders_asked, params_asked, dummies_asked, result_asked, conv_asked, conv_asked_by, convs_asked, proof_asked, proof_asked_by, proofs_asked}
+use Rattle.mz_statements.specs.Order.{modifiers_asked, hyp_asked, hyps_asked, declared_asked, local_asked, marked_asked, statement_asked, in_statement, names_after, statements_asked}
 
 abbrev Decided : Type 0 → Type 0
 Decided P = P ⊎ (P → ⊥)
@@ -44,14 +46,14 @@ no-decided = (inr (λ h. h), λ _. tt)
 -- ---- names
 
 known : (xs : List (List ℕ)) (n : Node) → AreDecided (known_asked xs n)
-known xs n = (true-decided (is_identifier (word n)), λ _. (some-decided (number_of xs (word n)), λ _. tt))
+known xs n = (true-decided (is_name (word n)), λ _. (some-decided (number_of xs (word n)), λ _. tt))
 
 new : (xs : List (List ℕ)) (n : Node) → AreDecided (new_asked xs n)
-new xs n = (true-decided (is_identifier (word n)), λ _. (none-decided (number_of xs (word n)), λ _. tt))
+new xs n = (true-decided (is_name (word n)), λ _. (none-decided (number_of xs (word n)), λ _. tt))
 
 param_name : (xs : List (List ℕ)) (n : Node) → AreDecided (param_name_asked xs n)
 param_name xs n = (
-  either-decided (bytes-decided (word n) hidden) (true-decided (is_identifier (word n))),
+  either-decided (bytes-decided (word n) hidden) (true-decided (is_name (word n))),
   λ _. (either-decided (bytes-decided (word n) hidden) (none-decided (number_of xs (word n))), λ _. tt),
 )
 
@@ -60,7 +62,7 @@ param_name xs n = (
 mutual
   expr : (sc : Scope) (n : Node) → AreDecided (expr_asked sc n)
   expr sc (atom at w) = (
-    true-decided (is_identifier w),
+    true-decided (is_name w),
     λ _. (either-decided (some-decided (number_of sc.vars w)) (some-decided (number_of sc.names.constants w)), λ _. tt),
   )
   expr sc (list at no_nodes) = no-decided
@@ -179,7 +181,7 @@ module _ (sc : Scope) (hyps : List (List ℕ)) where
   mutual
     proof : (lets : List (List ℕ)) (n : Node) → AreDecided (proof_asked sc hyps lets n)
     proof lets (atom at w) = (
-      true-decided (is_identifier w),
+      true-decided (is_name w),
       λ _. (either-decided (some-decided (number_of hyps w)) (some-decided (number_of lets w)), λ _. tt),
     )
     proof lets (list at no_nodes) = no-decided

@@ -8,14 +8,15 @@ use Rattle.mz_logic.specs.Tree.{Tree, Trees, none, more}
 use Rattle.mz_logic.specs.Declaration.{sort_decl, term_decl, assertion_decl, plain_form, defined}
 use Rattle.mz_logic.specs.declared.binder.Binder.{Binder}
 use Rattle.mz_logic.specs.declared.binder.ResultType.{ResultType}
-use Rattle.mz_forms.specs.Name.{Names, Scope, IsNewName}
+use Rattle.mz_forms.specs.Name.{Names, Scope, IsNewName, scope_of, names_with}
 use Rattle.mz_forms.specs.Expressions.{IsExpr, AreParams, AreDummies, IsResult}
-use Rattle.mz_forms.specs.Proof.{Proof, Statement}
+use Rattle.mz_forms.specs.Proof.{Proof}
+use Rattle.mz_statements.specs.Statements.{Statement, kind_of, is_local_word, Modifiers, no_modifiers, modifier_bits, with_modifier, AreModifiers, IsHyp, AreHyps, AreNamedHyps, IsDeclared, IsLocal, IsMarked, IsStatement, AreStatements}
 use Rattle.mz_forms.specs.Proofs.{IsProof}
-use Rattle.mz_forms.specs.declared.keyword.Kind.{Kind}
-use Rattle.mz_forms.specs.declared.keyword.Kind.TheVariants.{Sort as sort_kind, Term as term_kind, Axiom as axiom_kind, Def as def_kind, Theorem as theorem_kind, Other as no_kind}
-use Rattle.mz_forms.specs.Statements.{kind_of, is_local_word, Modifiers, no_modifiers, modifier_bits, with_modifier, AreModifiers, IsHyp, AreHyps, AreNamedHyps, scope_of, IsDeclared, IsLocal, IsMarked, IsStatement, names_with, AreStatements}
-use Rattle.mz_forms.specs.Order.{new_asked, expr_asked, expr_list_asked, first_word, names_of, binders_asked, params_asked, dummies_asked, result_asked, proof_asked, modifiers_asked, hyp_asked, hyps_asked, declared_asked, local_asked, marked_asked, statement_asked, in_statement, names_after, statements_asked}
+use Rattle.mz_statements.specs.declared.kind.Kind.{Kind}
+use Rattle.mz_statements.specs.declared.kind.Kind.TheVariants.{Sort as sort_kind, Term as term_kind, Axiom as axiom_kind, Def as def_kind, Theorem as theorem_kind, Other as no_kind}
+use Rattle.mz_forms.specs.Order.{new_asked, expr_asked, expr_list_asked, first_word, names_of, binders_asked, params_asked, dummies_asked, result_asked, proof_asked}
+use Rattle.mz_statements.specs.Order.{modifiers_asked, hyp_asked, hyps_asked, declared_asked, local_asked, marked_asked, statement_asked, in_statement, names_after, statements_asked}
 use Rattle.mz_mmu.proofs.Declared.{statement_says}
 use Rattle.mz_mmu.proofs.Found.{new_found, expr_found, expr_list_found, params_found, dummies_found, result_found, proof_found}
 

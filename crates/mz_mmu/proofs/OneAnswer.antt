@@ -6,10 +6,9 @@ use Rattle.mz_sexpr.specs.declared.rule.TextRefusal.{TextRefusal}
 use Rattle.mz_sexpr.specs.Grammar.{Reads as Spells}
 use Rattle.mz_sexpr.specs.Node.{Nodes, no_nodes, node}
 use Rattle.mz_sexpr.proofs.Offered.{one_reading_only, is_read_or_refused}
-use Rattle.mz_forms.specs.Name.{Names}
-use Rattle.mz_forms.specs.Proof.{Statement}
-use Rattle.mz_forms.specs.Statements.{no_names, names_with, AreStatements, Reads}
-use Rattle.mz_forms.specs.Order.{statement_asked, statements_asked, in_statement, names_after, Refuses}
+use Rattle.mz_forms.specs.Name.{Names, no_names, names_with}
+use Rattle.mz_statements.specs.Statements.{Statement, AreStatements, Reads}
+use Rattle.mz_statements.specs.Order.{statement_asked, statements_asked, in_statement, names_after, Refuses}
 use Rattle.mz_mmu.specs.Laws.{IsReadOrRefusedOnce, IsReadOrRefused, HasOneReading}
 use Rattle.mz_mmu.proofs.Declared.{statement_says}
 use Rattle.mz_mmu.proofs.Decided.{statements-decided}

@@ -3,13 +3,12 @@ use Rattle.std.proofs.Common.{ℕ, suc, ◌≡◌, ◌≤◌, ◌<◌, ◌+◌, 
 use Rattle.std.specs.Prelude.{bytes_eq, if◌then◌else◌}
 use Rattle.mz_checks.specs.Checks.{Checks, retold, FailsFirst}
 use Rattle.mz_checks.proofs.Offered.{Decides, decides-after, fails-before, retold-fails, retold-holds}
-use Rattle.mz_sexpr.specs.Node.{Node, Nodes, no_nodes, node}
+use Rattle.mz_sexpr.specs.Node.{Node, Nodes, no_nodes, node, atom, list}
 use Rattle.mz_sexpr.specs.Number.{node_count, node_at}
 use Rattle.mz_sexpr.specs.declared.rule.TextRefusal.{TextRefusal}
 use Rattle.mz_logic.specs.Declaration.{Declaration, sort_decl, term_decl, assertion_decl}
 use Rattle.mz_logic.specs.declared.binder.Binder.{Binder}
 use Rattle.mz_sexpr.specs.Grammar.{Reads as Spells}
-use Rattle.mz_sexpr.specs.Node.{atom, list}
 use Rattle.mz_sexpr.specs.Rows.{entries}
 use Rattle.mz_sexpr.specs.Token.{Token, close, spelled, spelled_node}
 use Rattle.mz_sexpr.proofs.Offered.{few_rows, tokens_when_read}
@@ -22,12 +21,11 @@ use Rattle.mz_mmu.specs.declared.text.TextStop.{TextStop}
 use Rattle.mz_forms.specs.declared.fault.Fault.{Fault}
 use Rattle.mz_names.specs.Names.{IsNew}
 use Rattle.mz_names.proofs.Offered.{new-both, new-parts}
-use Rattle.mz_forms.specs.Name.{Names, IsName}
+use Rattle.mz_forms.specs.Name.{Names, IsName, no_names, names_with, constant_name}
 use Rattle.mz_forms.specs.NamesMore.{AreFew}
 use Rattle.mz_mmu.specs.EntryView.{AreNumbers}
-use Rattle.mz_forms.specs.Proof.{Statement}
-use Rattle.mz_forms.specs.Statements.{no_names, names_with, constant_name, IsStatement, AreStatements}
-use Rattle.mz_forms.specs.Order.{statement_asked, statements_asked, in_statement, names_after}
+use Rattle.mz_statements.specs.Statements.{Statement, IsStatement, AreStatements}
+use Rattle.mz_statements.specs.Order.{statement_asked, statements_asked, in_statement, names_after}
 use Rattle.mz_forms.proofs.Offered.{length-more}
 use Rattle.mz_mmu.proofs.Declared.{Agrees, statement_says}
 

@@ -2,7 +2,7 @@
 use Rattle.std.specs.Prelude.{ℕ, ◌≡◌, ⊤}
 use Rattle.mz_checks.specs.Checks.{Checks, FailsFirst}
 use Rattle.mz_sexpr.specs.declared.rule.TextRefusal.{TextRefusal}
-use Rattle.mz_forms.specs.Order.{in_statement}
+use Rattle.mz_statements.specs.Order.{in_statement}
 use Rattle.mz_forms.specs.declared.fault.Stop.{Stop}
 use Rattle.mz_forms.specs.declared.fault.Stop.TheVariants as stop
 use Rattle.mz_mmu.specs.declared.text.TextStop.{TextStop}

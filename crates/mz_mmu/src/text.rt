@@ -2,20 +2,20 @@
 ghost use Rattle.std.specs.Prelude.{◌≡◌, ◌<◌, ◌^◌, ◌-◌, ◌++◌, ◌∷◌, [], length, IfOk, IfErr, OnOk};
 ghost use Rattle.mz_logic.specs.DeclView.{declaration};
 ghost use Rattle.mz_mode.specs.Gaps.{gaps_of};
-ghost use Rattle.mz_forms.specs.Name.{IsName};
+ghost use Rattle.mz_forms.specs.Name.{IsName, no_names, names_with};
 ghost use Rattle.mz_forms.specs.NamesMore.{IsUnused, AreFew};
 ghost use Rattle.mz_mmu.specs.EntryView.{IsRooted};
-ghost use Rattle.mz_forms.specs.Order.{statements_asked};
+ghost use Rattle.mz_statements.specs.Order.{statements_asked};
 ghost use Rattle.mz_forms.specs.ScopeView.{names as names_view};
-ghost use Rattle.mz_forms.specs.Statements.{no_names, names_with};
 ghost use Rattle.mz_mmu.specs.TextRead.{IsReading};
 ghost use Rattle.mz_mmu.specs.TextStops.{IsStopped, TextStops, IsRefusal};
 ghost use Rattle.mz_forms.specs.Cursor.{nodes_size};
 
-use mz_forms::{Declared, Fault, Names, Proof, Reader, Stop};
+use mz_forms::{Fault, Names, Proof, Reader, Stop};
 use mz_logic::{Binders, Decl};
 use mz_mode::Mode;
 use mz_sexpr::{SexprRead, Sexprs, TextRefusal, read_sexprs};
+use mz_statements::{Declared, statement};
 use std::alloc::{AllocError, Global};
 use std::marker::Model;
 
@@ -121,7 +121,7 @@ fn read_all<'a>(
     let mut left = nodes.roots();
     while let Some(n) = left {
         let number = entries.len() as u32 + 1;
-        let (is_local, declared) = match reader.statement(names, n) {
+        let (is_local, declared) = match statement(&reader, names, n) {
             Ok(read) => read,
             Err(stop) => return Err(in_statement(number, stop)),
         };
@@ -203,7 +203,8 @@ impl<'a> Text<'a> {
     ghost use Rattle.mz_sexpr.specs.Number.{node_count, node_at};
     ghost use Rattle.mz_mmu.specs.EntryView.{entry, IsRooted};
     ghost use Rattle.mz_forms.specs.ProofView.{proof_view};
-    ghost use Rattle.mz_forms.specs.Statements.{no_names, AreStatements};
+    ghost use Rattle.mz_forms.specs.Name.{no_names};
+    ghost use Rattle.mz_statements.specs.Statements.{AreStatements};
     ghost use Rattle.mz_mmu.specs.TextRead.{listed};
     ghost use Rattle.mz_mode.specs.Gaps.{gaps_of};
 

@@ -1,4 +1,5 @@
 pub mod Numbering
 pub mod Keyed
 pub mod WorkedNames
+pub mod Identifying
 pub mod Offered

@@ -1,6 +1,7 @@
--- Numbers of names, computed.
-use Rattle.std.proofs.Common.{◌≡◌, ◌∷◌, [], Some, refl}
+-- Numbers of names, and which words are names, computed.
+use Rattle.std.proofs.Common.{◌≡◌, ◌∷◌, [], Some, true, false, refl}
 use Rattle.std.specs.Prelude.{codes}
+use Rattle.mz_names.specs.Identifiers.{is_name}
 use Rattle.mz_names.specs.Names.{number_of, IsNew, IsKnown}
 
 second : number_of (codes "wff" ∷ codes "set" ∷ codes "wff" ∷ []) (codes "set") ≡ Some 1
@@ -16,3 +17,14 @@ known = (1, refl)
 -- a name that begins as another one does is another name
 longer : IsNew (codes "wff" ∷ codes "set" ∷ []) (codes "sets")
 longer = refl
+
+-- ---- identifiers
+
+an_identifier : is_name (codes "_x1") ≡ true
+an_identifier = refl
+
+line_alone : is_name (codes "_") ≡ false
+line_alone = refl
+
+digit_first : is_name (codes "1x") ≡ false
+digit_first = refl

@@ -1,6 +1,11 @@
-//! The numbers that names have.
+//! Names: which words are identifiers, and which numbers names have.
 //!
 //! A specification and a proof text both declare by name, and each name stands for the number of what it
-//! was declared for. The crate has no code: `specs/Names.antt` has the definitions, `proofs/Numbering.antt`
-//! the lemmas on lists of names, `proofs/Keyed.antt` those on what is looked up by a test.
+//! was declared for. `specs/Identifiers.antt` says which words are names, `specs/Names.antt` which number a
+//! name has. `proofs/Numbering.antt` has the lemmas on lists of names, `proofs/Keyed.antt` those on what is
+//! looked up by a test, `proofs/Identifying.antt` those on identifiers.
 #![tactic(auto)]
+
+mod identifier;
+
+pub use identifier::{is_digit, is_identifier, is_name_byte, is_name_start};

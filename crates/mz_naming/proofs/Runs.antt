@@ -3,7 +3,7 @@ use Rattle.std.proofs.Common.{◌≡◌, ◌∙◌, ◌≤◌, ◌<◌, ◌+◌,
 use Rattle.std.proofs.lemmas.List.{drop_all, replicate-append-replicate}
 use Rattle.std.proofs.lemmas.Option.{slice_get_past}
 use Rattle.mz_spec.specs.State.{Entry}
-use Rattle.mz_axioms.specs.Text.{name_at, name_in}
+use Rattle.mz_spec_names.specs.Names.{name_at, name_in}
 use Rattle.mz_wording.specs.Wording.{underscores}
 use Rattle.mz_naming.specs.Names.{longest_run, names_from, declared_names}
 

@@ -9,18 +9,18 @@ use Rattle.mz_logic.specs.Declaration.{Declaration, sort_decl, term_decl, assert
 use Rattle.mz_logic.specs.LegalLists.{Statement}
 use Rattle.mz_layout.specs.Heads.{head_checks}
 use Rattle.mz_layout.specs.declared.head.Head.{Head}
-use Rattle.mz_binary.specs.Spelling.{IsKindOf, is_local_code}
-use Rattle.mz_binary.specs.Chains.{IsListEnd}
-use Rattle.mz_binary.specs.Good.{Good}
-use Rattle.mz_binary.specs.Standards.{strict_standard}
-use Rattle.mz_binary.proofs.Offered.{one-list, good-spelled}
+use Rattle.mz_files.specs.Spelling.{IsKindOf, is_local_code}
+use Rattle.mz_files.specs.Chains.{IsListEnd}
+use Rattle.mz_files.specs.Good.{Good}
+use Rattle.mz_files.specs.Standards.{strict_standard}
+use Rattle.mz_files.proofs.Offered.{one-list, good-spelled}
 use Rattle.mz_walk.specs.Walk.{GoesOn, nothing_passed, passed_with, past_public}
 use Rattle.mz_walk.specs.declared.passed.Passed.{Passed}
 use Rattle.mz_walk.proofs.Offered.{HasGone, IsOnWay, one-code, way-asks, way-first, way-last, way-more}
 use Rattle.mz_spec.specs.State.{Entry}
 use Rattle.mz_spec.specs.Spec.{SpecMakes}
 use Rattle.mz_spec.proofs.Offered.{one-reading}
-use Rattle.mz_axioms.specs.Text.{name_at}
+use Rattle.mz_spec_names.specs.Names.{name_at}
 use Rattle.mz_wording.specs.Wording.{sort_name, term_name}
 use Rattle.mz_phrasing.specs.Naming.{Naming}
 use Rattle.mz_naming.specs.Names.{assertion_name, prefix_beside, declared_names, statement_names}

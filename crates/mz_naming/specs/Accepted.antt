@@ -3,10 +3,10 @@
 use Rattle.std.specs.Prelude.{◌≡◌, ◌++◌, ⊤, ℕ, List, [], ◌∷◌}
 use Rattle.mz_logic.specs.Declaration.{Declaration}
 use Rattle.mz_logic.specs.LegalLists.{Statement as Marked}
-use Rattle.mz_forms.specs.Proof.{Statement}
+use Rattle.mz_statements.specs.Statements.{Statement}
 use Rattle.mz_spec.specs.State.{Entry}
 use Rattle.mz_spec.specs.Spec.{SpecMakes}
-use Rattle.mz_match.specs.Verdict.{Accepts}
+use Rattle.mz_verdicts.specs.Verdict.{Accepts}
 use Rattle.mz_wording.specs.Wording.{sort_name, term_name}
 use Rattle.mz_phrasing.specs.Naming.{Naming}
 use Rattle.mz_naming.specs.Names.{prefix_beside, declared_names, statement_names, assertion_name, naming_of}

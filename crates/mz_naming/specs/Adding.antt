@@ -3,8 +3,8 @@ use Rattle.std.specs.Prelude.{◌≡◌, ◌++◌, ℕ, Bool, List, [], ◌∷�
 use Rattle.mz_cmd.specs.declared.code.StatementCode.{StatementCode}
 use Rattle.mz_cmd.specs.declared.code.StatementCode.TheVariants as kinds
 use Rattle.mz_logic.specs.LegalLists.{Statement}
-use Rattle.mz_binary.specs.Good.{Good}
-use Rattle.mz_binary.specs.Standards.{strict_standard}
+use Rattle.mz_files.specs.Good.{Good}
+use Rattle.mz_files.specs.Standards.{strict_standard}
 use Rattle.mz_phrasing.specs.Naming.{Naming}
 use Rattle.mz_naming.specs.Accepted.{naming_by}
 

@@ -2,9 +2,9 @@
 use Rattle.std.specs.Prelude.{ℕ, suc, max, ◌++◌, List, [], ◌∷◌, get_or, replicate, if◌then◌else◌, codes, decimal}
 use Rattle.mz_logic.specs.Declaration.{Declaration, sort_decl, term_decl, assertion_decl}
 use Rattle.mz_logic.specs.LegalLists.{Statement as Marked}
-use Rattle.mz_forms.specs.Proof.{Statement}
+use Rattle.mz_statements.specs.Statements.{Statement}
 use Rattle.mz_spec.specs.State.{Entry}
-use Rattle.mz_axioms.specs.Text.{name_at}
+use Rattle.mz_spec_names.specs.Names.{name_at}
 use Rattle.mz_wording.specs.Wording.{underscores, sort_names, term_names}
 use Rattle.mz_phrasing.specs.Phrasing.{Vocabulary}
 use Rattle.mz_phrasing.specs.Naming.{Naming, vocabulary_by}

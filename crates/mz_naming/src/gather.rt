@@ -1,9 +1,9 @@
 // The names of an accepted pair, gathered statement by statement.
 ghost use Rattle.std.specs.Prelude.{◌≡◌, ◌<◌, ◌^◌, [], length, IfOk, OnOk};
 ghost use Rattle.mz_cmd.specs.Codes.{statement_byte};
-ghost use Rattle.mz_binary.specs.Spelling.{is_local_code};
-ghost use Rattle.mz_match.specs.Verdict.{Accepts};
-ghost use Rattle.mz_axioms.specs.Rows.{IsGood};
+ghost use Rattle.mz_files.specs.Spelling.{is_local_code};
+ghost use Rattle.mz_verdicts.specs.Verdict.{Accepts};
+ghost use Rattle.mz_files.specs.Good.{IsGood};
 ghost use Rattle.mz_naming.specs.Names.{declared_names};
 ghost use Rattle.mz_naming.specs.Accepted.{IsNamingOf};
 ghost use Rattle.mz_naming.specs.Adding.{AreGathered, IsAdded, local_name, next_name};
@@ -11,10 +11,10 @@ ghost use Rattle.mz_naming.specs.Adding.{AreGathered, IsAdded, local_name, next_
 use crate::list::NameList;
 use crate::names::{Names, put_numbered};
 use crate::source::prefix_beside;
-use mz_axioms::{declared_by, declared_name};
 use mz_cmd::{Mem, StatementCode};
 use mz_layout::Mmb;
 use mz_spec::Spec;
+use mz_spec_names::{declared_by, declared_name};
 use mz_walk::{Passed, is_local};
 use std::alloc::Global;
 

@@ -1,8 +1,8 @@
 // Names by their numbers, in one run of bytes.
 ghost use Rattle.std.specs.Prelude.{◌≡◌, ◌++◌, ◌∷◌, [], get_or, IfOk, OnOk};
 
-use mz_axioms::bytes_between;
 use mz_cmd::Mem;
+use mz_spec_names::bytes_between;
 use std::alloc::Global;
 use std::marker::Model;
 

@@ -3,9 +3,9 @@ ghost use Rattle.std.specs.Prelude.{◌≡◌, ◌++◌, replicate, IfOk, OnOk};
 ghost use Rattle.mz_wording.specs.Wording;
 ghost use Rattle.mz_naming.specs.Names;
 
-use mz_axioms::declared_name;
 use mz_cmd::Mem;
 use mz_spec::Spec;
+use mz_spec_names::declared_name;
 use std::alloc::Global;
 
 /// With how many underscores the name begins.

@@ -1,7 +1,7 @@
 -- Tables: what each statement keeps of them.
 use Rattle.std.proofs.Common.{◌≡◌, ◌≢◌, ◌⊎◌, ◌++◌, ◌∙◌, ℕ, zero, suc, List, [], ◌∷◌, length, Bool, true, false, Some, None, Option, slice_get, ap, ap₂, sym, refl, subst, inl, inr, arith, Contains, Result, Ok, Err}
 use Rattle.std.specs.Prelude.{codes, IsTrue, MatchBool, slice_range, ◌+◌, OnOk, OnErr, if◌then◌else◌}
-use Rattle.mz_lex.specs.Kinds.{is_name}
+use Rattle.mz_names.specs.Identifiers.{is_name}
 use Rattle.mz_logic.specs.Signature.{Signature}
 use Rattle.mz_tokens.specs.Pieces.{piece_text, no_delimiters, AreDelimiters}
 use Rattle.mz_tokens.specs.declared.pieces.Delimiters.{Delimiters}

@@ -1,6 +1,6 @@
 -- What holds of each table that the calls make, and of the variables of each statement.
 use Rattle.std.specs.Prelude.{◌≡◌, ◌≢◌, ◌⊎◌, ℕ, List, [], Some, slice_get, Contains, codes, IsTrue}
-use Rattle.mz_lex.specs.Kinds.{is_name}
+use Rattle.mz_names.specs.Identifiers.{is_name}
 use Rattle.mz_notation.specs.Notation.{Notation, TermName, Table}
 use Rattle.mz_notation.specs.Clear.{IsClear, HasConstant, LedBy, JoinedBy}
 use Rattle.mz_coercions.specs.Coercions.{OnePath}

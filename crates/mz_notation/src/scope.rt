@@ -1,6 +1,6 @@
 // The variables of a statement.
 ghost use Rattle.std.specs.Prelude.{◌≡◌, ◌≢◌, ◌↔◌, ◌⊎◌, ◌<◌, ◌++◌, ◌∷◌, [], IsTrue, Contains, MatchOption, OnOk, OnErr, length, slice_get};
-ghost use Rattle.mz_lex.specs.Kinds.{is_name};
+ghost use Rattle.mz_names.specs.Identifiers.{is_name};
 ghost use Rattle.mz_notation.specs.Notation.{with_variable};
 ghost use Rattle.mz_notation.specs.Kept.{AreVariables};
 

@@ -1,6 +1,6 @@
 // What has been declared for math strings, and the statements that add to it.
 ghost use Rattle.std.specs.Prelude.{◌≡◌, ◌↔◌, ◌⊎◌, List, ℕ, IsTrue, MatchOption, Contains, OnOk, OnErr, IfErr, length, option_map};
-ghost use Rattle.mz_lex.specs.Kinds.{is_name};
+ghost use Rattle.mz_names.specs.Identifiers.{is_name};
 ghost use Rattle.mz_logic.specs.Declaration.{signatures};
 ghost use Rattle.mz_notation.specs.Answers.{IsAdded, IsPlain, IsShaped};
 ghost use Rattle.mz_notation.specs.Clear.{HasConstant, JoinedBy, LedBy};

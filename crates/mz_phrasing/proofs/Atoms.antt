@@ -1,15 +1,17 @@
 -- Identifiers and the literal words of statements are atoms of allowed bytes.
 use Rattle.std.proofs.Common.{ℕ, ◌≡◌, ◌≤◌, Bool, true, false, List, [], ◌∷◌, refl, ap, ◌∙◌, arith, inl, inr, leb-true, le-leb}
 use Rattle.std.specs.Prelude.{All, ◌==◌, ◌||◌, ◌&&◌, nat_le, not, bytes_eq, if◌then◌else◌}
+use Rattle.std.specs.List.{list_all}
 use Rattle.std.proofs.lemmas.Bool.{and_parts, or_cases, and_from, eqb-true, false≢true}
 use Rattle.std.proofs.lemmas.Bool.Decides.{nat_tests}
 use Rattle.std.proofs.lemmas.List.Elements.{All-nil, All-cons}
 use Rattle.mz_sexpr.specs.Grammar.{IsAllowed, IsAtom, is_letter, begins_with}
-use Rattle.mz_forms.specs.Name.{is_between, is_name_start, is_name_byte, are_name_bytes, hidden, IsName}
+use Rattle.mz_names.specs.Identifiers.{is_between, is_name_start, is_digit, is_name_byte}
+use Rattle.mz_forms.specs.Name.{hidden, IsName}
 
 -- from `0` to `z`, where the digits, the colon, the letters and `_` are
 abbrev is_plain_byte : ℕ → Bool
-is_plain_byte b = is_between 48 b 122
+is_plain_byte b = is_between 48 122 b
 
 abbrev pub are_plain_bytes : List ℕ → Bool
 are_plain_bytes [] = true
@@ -60,8 +62,8 @@ plain-atom (b ∷ bs) is =
 
 -- ---- identifiers
 
-within : (low b high : ℕ) → 48 ≤ low → high ≤ 122 → is_between low b high ≡ true → is_plain_byte b ≡ true
-within low b high from to is =
+within : (low high b : ℕ) → 48 ≤ low → high ≤ 122 → is_between low high b ≡ true → is_plain_byte b ≡ true
+within low high b from to is =
     let parts = and_parts (nat_le low b) (nat_le b high) is in
     let above : low ≤ b = leb-true low b parts.0 in
     let below : b ≤ high = leb-true b high parts.1 in
@@ -69,30 +71,30 @@ within low b high from to is =
 
 name-start : (b : ℕ) → is_name_start b ≡ true → is_plain_byte b ≡ true
 name-start b is =
-    elim (or_cases (is_between 65 b 90 || is_between 97 b 122) (b == 95) is) [
-      | inl letter ↦ elim (or_cases (is_between 65 b 90) (is_between 97 b 122) letter) [
-        | inl upper ↦ within 65 b 90 (omega arith) (omega arith) upper
-        | inr lower ↦ within 97 b 122 (omega arith) (omega arith) lower
+    elim (or_cases (is_between 97 122 b || is_between 65 90 b) (b == 95) is) [
+      | inl letter ↦ elim (or_cases (is_between 97 122 b) (is_between 65 90 b) letter) [
+        | inl lower ↦ within 97 122 b (omega arith) (omega arith) lower
+        | inr upper ↦ within 65 90 b (omega arith) (omega arith) upper
       ]
       | inr line ↦ ap is_plain_byte (eqb-true b 95 line)
     ]
 
 name-byte : (b : ℕ) → is_name_byte b ≡ true → is_plain_byte b ≡ true
 name-byte b is =
-    elim (or_cases (is_name_start b) (is_between 48 b 57) is) [
+    elim (or_cases (is_name_start b) (is_digit b) is) [
       | inl start ↦ name-start b start
-      | inr digit ↦ within 48 b 57 (omega arith) (omega arith) digit
+      | inr digit ↦ within 48 57 b (omega arith) (omega arith) digit
     ]
 
-name-bytes : (bs : List ℕ) → are_name_bytes bs ≡ true → are_plain_bytes bs ≡ true
+name-bytes : (bs : List ℕ) → list_all is_name_byte bs ≡ true → are_plain_bytes bs ≡ true
 name-bytes [] are = refl
 name-bytes (b ∷ bs) are =
-    let parts = and_parts (is_name_byte b) (are_name_bytes bs) are in
+    let parts = and_parts (is_name_byte b) (list_all is_name_byte bs) are in
     and_from (is_plain_byte b) (are_plain_bytes bs) (name-byte b parts.0) (name-bytes bs parts.1)
 
 pub name-atom : (w : List ℕ) → IsName w → IsAtom w × All IsAllowed w
 name-atom [] is = absurd (false≢true is)
 name-atom (b ∷ bs) is =
-    let whole = and_parts (is_name_start b && are_name_bytes bs) (not (bytes_eq (b ∷ bs) hidden)) is in
-    let parts = and_parts (is_name_start b) (are_name_bytes bs) whole.0 in
+    let whole = and_parts (is_name_start b && list_all is_name_byte bs) (not (bytes_eq (b ∷ bs) hidden)) is in
+    let parts = and_parts (is_name_start b) (list_all is_name_byte bs) whole.0 in
     plain-atom (b ∷ bs) (and_from (is_plain_byte b) (are_plain_bytes bs) (name-start b parts.0) (name-bytes bs parts.1))

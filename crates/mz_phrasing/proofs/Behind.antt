@@ -8,8 +8,7 @@ use Rattle.mz_logic.specs.declared.binder.Binder.{Binder}
 use Rattle.mz_logic.proofs.Offered.{sorts-append, assertions-append}
 use Rattle.mz_names.specs.Names.{number_of, IsNew}
 use Rattle.mz_names.proofs.Offered.{number-last, number-more}
-use Rattle.mz_forms.specs.Name.{Names, IsName}
-use Rattle.mz_forms.specs.Statements.{no_names, constant_name, names_with}
+use Rattle.mz_forms.specs.Name.{Names, IsName, no_names, constant_name, names_with}
 use Rattle.mz_mmu.proofs.Offered.{Agrees}
 use Rattle.mz_phrasing.specs.Phrasing.{Vocabulary}
 use Rattle.mz_phrasing.specs.Phrasable.{HasNewName}

@@ -13,9 +13,9 @@ use Rattle.mz_logic.specs.declared.binder.Binder.{Binder}
 use Rattle.mz_logic.specs.declared.binder.ResultType.{ResultType}
 use Rattle.mz_logic.specs.declared.binder.SortMods.{SortMods}
 use Rattle.mz_logic.proofs.Offered.{each_from_all}
-use Rattle.mz_forms.specs.Name.{Names, IsParamName}
+use Rattle.mz_forms.specs.Name.{Names, IsParamName, scope_of}
 use Rattle.mz_forms.specs.Expressions.{AreDeps, IsParam, IsDummy, AreBinders, AreParams, AreDummies, IsResult}
-use Rattle.mz_forms.specs.Statements.{AreHyps, AreNamedHyps, scope_of}
+use Rattle.mz_statements.specs.Statements.{AreHyps, AreNamedHyps}
 use Rattle.mz_phrasing.specs.Phrases.{a_word, a_list}
 use Rattle.mz_phrasing.specs.Phrasing.{Vocabulary, list_of, variable_names, binder, binders, result, named_hypotheses}
 use Rattle.mz_phrasing.proofs.Saying.{Says, AllSay, a-word, a-list, take, done, so, all-so}

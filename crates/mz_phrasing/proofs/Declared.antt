@@ -15,9 +15,9 @@ use Rattle.mz_logic.proofs.Offered.{each_from_all}
 use Rattle.mz_names.specs.Names.{IsNew}
 use Rattle.mz_forms.specs.Name.{Names, IsName}
 use Rattle.mz_forms.specs.Gaps.{LeavesOnly}
-use Rattle.mz_forms.specs.Proof.{Proof, Statement}
-use Rattle.mz_forms.specs.declared.keyword.Kind.TheVariants.{Sort as sort_kind, Term as term_kind, Axiom as axiom_kind, Def as def_kind, Theorem as theorem_kind}
-use Rattle.mz_forms.specs.Statements.{IsDeclared}
+use Rattle.mz_forms.specs.Proof.{Proof}
+use Rattle.mz_statements.specs.Statements.{Statement, IsDeclared}
+use Rattle.mz_statements.specs.declared.kind.Kind.TheVariants.{Sort as sort_kind, Term as term_kind, Axiom as axiom_kind, Def as def_kind, Theorem as theorem_kind}
 use Rattle.mz_type.specs.Meaning.{IsProvedAsStated, derivation, LetsDerive}
 use Rattle.mz_phrasing.specs.Phrases.{a_word, a_list}
 use Rattle.mz_phrasing.specs.Phrasing.{Vocabulary, of_parts, expression, expressions, binders, result, named_hypotheses, proof, modifiers}

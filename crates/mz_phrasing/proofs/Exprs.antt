@@ -5,9 +5,8 @@ use Rattle.mz_logic.specs.Tree.{Tree, Trees, var, app, none, more}
 use Rattle.mz_logic.specs.Signature.{Signature}
 use Rattle.mz_logic.specs.Legality.{signature_at, InRange, AllInRange}
 use Rattle.mz_names.specs.Names.{number_of, IsNew}
-use Rattle.mz_forms.specs.Name.{Names, Scope, IsName, HasNumber, IsNewName}
+use Rattle.mz_forms.specs.Name.{Names, Scope, IsName, HasNumber, IsNewName, scope_of}
 use Rattle.mz_forms.specs.Expressions.{IsExpr, AreExprs, IsExprList, AreVariables, IsVariableList}
-use Rattle.mz_forms.specs.Statements.{scope_of}
 use Rattle.mz_phrasing.specs.Phrases.{a_word, a_list}
 use Rattle.mz_phrasing.specs.Phrasing.{Vocabulary, expression, expressions, word_list, variable_names}
 use Rattle.mz_phrasing.proofs.Saying.{Says, AllSay, a-word, a-list, take, done, all-so}

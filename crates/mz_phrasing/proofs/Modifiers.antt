@@ -3,7 +3,7 @@ use Rattle.std.proofs.Common.{ℕ, ◌≡◌, ◌<◌, ◌+◌, ◌*◌, ◌/◌
 use Rattle.std.specs.Prelude.{codes, if◌then◌else◌}
 use Rattle.std.proofs.lemmas.Bool.{cases_eq, eq-eqb, ne_eqb}
 use Rattle.mz_logic.specs.declared.binder.SortMods.{SortMods}
-use Rattle.mz_forms.specs.Statements.{Modifiers, no_modifiers, with_modifier, AreModifiers, bit, modifier_bits}
+use Rattle.mz_statements.specs.Statements.{Modifiers, no_modifiers, with_modifier, AreModifiers, bit, modifier_bits}
 use Rattle.mz_phrasing.specs.Phrases.{a_word}
 use Rattle.mz_phrasing.specs.Phrasing.{of_parts, if_set, modifiers}
 use Rattle.mz_phrasing.proofs.Saying.{IsFit, AllSay, key, done, all-so}

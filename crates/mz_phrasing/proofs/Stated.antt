@@ -7,10 +7,10 @@ use Rattle.mz_logic.specs.Signature.{Signature}
 use Rattle.mz_logic.specs.Declaration.{Form, plain_form, abstract_form, defined, Declaration, sort_decl, term_decl, assertion_decl}
 use Rattle.mz_logic.specs.declared.binder.Binder.{Binder}
 use Rattle.mz_logic.specs.declared.binder.SortMods.{SortMods}
-use Rattle.mz_forms.specs.Name.{Names, IsName}
+use Rattle.mz_forms.specs.Name.{Names, IsName, no_names, names_with}
 use Rattle.mz_forms.specs.Gaps.{SomeLeavesOnly}
-use Rattle.mz_forms.specs.Proof.{Proof, Statement}
-use Rattle.mz_forms.specs.Statements.{IsStatement, AreStatements, no_names, names_with}
+use Rattle.mz_forms.specs.Proof.{Proof}
+use Rattle.mz_statements.specs.Statements.{Statement, IsStatement, AreStatements}
 use Rattle.mz_mmu.proofs.Offered.{Agrees, agrees_more, agrees_first}
 use Rattle.mz_type.specs.Meaning.{IsLegalAsStated, LegalAsStatedAfter}
 use Rattle.mz_phrasing.specs.Phrases.{depth, depth_of_all}

@@ -14,13 +14,12 @@ use Rattle.mz_logic.specs.declared.binder.Binder.{Binder}
 use Rattle.mz_logic.proofs.Offered.{range_of_sort, ranges_of_fits}
 use Rattle.mz_names.specs.Names.{IsNew}
 use Rattle.mz_names.proofs.Offered.{new-both}
-use Rattle.mz_forms.specs.Name.{Names, Scope, HasNumber, IsName}
+use Rattle.mz_forms.specs.Name.{Names, Scope, HasNumber, IsName, scope_of}
 use Rattle.mz_forms.specs.Expressions.{IsExprList}
 use Rattle.mz_forms.specs.Gaps.{LeavesOnly, AllLeaveOnly}
 use Rattle.mz_forms.specs.Proof.{Proof, Proofs, by_hyp, by_name, by_citation, by_conv, by_let, by_gap, no_proofs, more_proofs}
 use Rattle.mz_forms.specs.Proofs.{IsConv, IsConvBy, AreConvs, IsProof, IsProofBy, AreProofs}
 use Rattle.mz_forms.specs.declared.keyword.Keyword.TheVariants.{Other as no_word}
-use Rattle.mz_forms.specs.Statements.{scope_of}
 use Rattle.mz_type.specs.Meaning.{derivation, derivations, then_deriv, LetsDerive, AllLetsDerive}
 use Rattle.mz_phrasing.specs.Phrasing.{Vocabulary, conversion, conversions, proof, proofs}
 use Rattle.mz_phrasing.specs.Phrasable.{HasNames, SeesLets, AllSeeLets}

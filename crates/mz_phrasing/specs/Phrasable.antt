@@ -6,10 +6,9 @@ use Rattle.mz_logic.specs.Tree.{listed}
 use Rattle.mz_logic.specs.Declaration.{Form, plain_form, abstract_form, defined, context_of, Declaration, sort_decl, term_decl, assertion_decl, sorts, signatures, assertions, DepsAscend}
 use Rattle.mz_logic.specs.declared.binder.Binder.{Binder}
 use Rattle.mz_names.specs.Names.{IsNew}
-use Rattle.mz_forms.specs.Name.{Names, IsName}
-use Rattle.mz_forms.specs.Statements.{no_names, names_with}
-use Rattle.mz_forms.specs.Gaps.{HasGapsOnly}
-use Rattle.mz_forms.specs.Proof.{Proof, Proofs, by_hyp, by_name, by_citation, by_conv, by_let, by_gap, no_proofs, more_proofs, Statement}
+use Rattle.mz_forms.specs.Name.{Names, IsName, no_names, names_with}
+use Rattle.mz_statements.specs.Statements.{HasGapsOnly, Statement}
+use Rattle.mz_forms.specs.Proof.{Proof, Proofs, by_hyp, by_name, by_citation, by_conv, by_let, by_gap, no_proofs, more_proofs}
 use Rattle.mz_type.specs.Meaning.{IsLegalAsStated}
 use Rattle.mz_phrasing.specs.Phrases.{depth}
 use Rattle.mz_phrasing.specs.Phrasing.{Vocabulary, statement}

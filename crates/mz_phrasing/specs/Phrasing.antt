@@ -8,7 +8,8 @@ use Rattle.mz_logic.specs.Conversions.{Conversion, Conversions, refl_conv, sym_c
 use Rattle.mz_logic.specs.declared.binder.Binder.{Binder}
 use Rattle.mz_logic.specs.declared.binder.ResultType.{ResultType}
 use Rattle.mz_logic.specs.declared.binder.SortMods.{SortMods}
-use Rattle.mz_forms.specs.Proof.{Proof, Proofs, by_hyp, by_name, by_citation, by_conv, by_let, by_gap, no_proofs, more_proofs, Statement}
+use Rattle.mz_forms.specs.Proof.{Proof, Proofs, by_hyp, by_name, by_citation, by_conv, by_let, by_gap, no_proofs, more_proofs}
+use Rattle.mz_statements.specs.Statements.{Statement}
 use Rattle.mz_phrasing.specs.Phrases.{Phrase, Phrases, a_word, a_list, no_phrases, one_more, lines_of}
 
 -- the names of sorts, of terms, of axioms and theorems, and in a statement of variables, of hypotheses and of lets, each

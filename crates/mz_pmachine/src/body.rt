@@ -4,7 +4,7 @@ ghost use Rattle.mz_numbered.specs.Numbered.{portable};
 ghost use Rattle.mz_soundness.specs.Bodies.{body_run, body_steps, body_from, body_steps_from};
 ghost use Rattle.mz_pmachine.specs.Steps.{heading_for, tables_for};
 ghost use Rattle.mz_layout.specs.Heads.{body_bytes};
-ghost use Rattle.mz_earlier.specs.OwnRow.{MayRun, heading_of};
+ghost use Rattle.mz_earlier.specs.OwnRow.{MayRun, byte_of, heading_of};
 ghost use Rattle.mz_earlier.specs.Before.{tables_before};
 ghost use Rattle.mz_machine.specs.BodyAnswers.{UnlessMem};
 ghost use Rattle.mz_pmachine.specs.BodyAnswers.{IsBodyRun};
@@ -13,6 +13,7 @@ ghost use Rattle.mz_pmachine.specs.Running.{IsRunning, machine_of};
 use crate::machine::{Parts, Setting};
 use crate::room::{Desk, PortableRoom};
 use mz_cmd::{END, K, Steps, cmd_at};
+use mz_earlier::{BodyKind, kind_by};
 use mz_layout::{Mmb, Rows};
 use mz_machine::BodyChecked;
 use std::alloc::Global;
@@ -43,6 +44,7 @@ pub fn check_portable<L: Ledger>(
     ensures steps { UnlessMem result (steps.new ≡ steps.old + body_steps portable (tables_before mmb.now before) (heading_of mmb.now kind row) body.0 (body_bytes mmb.now body.0 body.1)) }
 {
     let mut room = PortableRoom::new();
+    let kind = kind_by(kind);
     check_portable_in(alloc, &mut room, mmb, kind, row, before, body, steps)
 }
 
@@ -51,18 +53,18 @@ pub fn check_portable_in<L: Ledger>(
     alloc: Global,
     room: &mut PortableRoom,
     mmb: &Mmb,
-    kind: u8,
+    kind: BodyKind,
     row: u32,
     before: Rows,
     body: (u32, u32),
     steps: &mut Steps<L>,
 ) -> BodyChecked
-    requires may_run { MayRun mmb.now kind row before }
+    requires may_run { MayRun mmb.now (byte_of kind) row before }
     requires order { body.0 ≤ body.1 }
     requires within { body.1 ≤ length mmb.now }
-    ensures run { IsBodyRun (heading_of mmb.now kind row) (body_run portable (tables_before mmb.now before) (heading_of mmb.now kind row) body.0 (body_bytes mmb.now body.0 body.1)) result }
+    ensures run { IsBodyRun (heading_of mmb.now (byte_of kind) row) (body_run portable (tables_before mmb.now before) (heading_of mmb.now (byte_of kind) row) body.0 (body_bytes mmb.now body.0 body.1)) result }
     ensures most { steps.new ≤ steps.old + (body.1 - body.0) * (length mmb.now + 1) }
-    ensures steps { UnlessMem result (steps.new ≡ steps.old + body_steps portable (tables_before mmb.now before) (heading_of mmb.now kind row) body.0 (body_bytes mmb.now body.0 body.1)) }
+    ensures steps { UnlessMem result (steps.new ≡ steps.old + body_steps portable (tables_before mmb.now before) (heading_of mmb.now (byte_of kind) row) body.0 (body_bytes mmb.now body.0 body.1)) }
 {
     let Ok(mut desk) = room.take(alloc) else {
         return BodyChecked::Mem;
@@ -77,18 +79,18 @@ fn check_on<L: Ledger>(
     alloc: Global,
     desk: &mut Desk,
     mmb: &Mmb,
-    kind: u8,
+    kind: BodyKind,
     row: u32,
     before: Rows,
     body: (u32, u32),
     steps: &mut Steps<L>,
 ) -> BodyChecked
-    requires may_run { MayRun mmb.now kind row before }
+    requires may_run { MayRun mmb.now (byte_of kind) row before }
     requires order { body.0 ≤ body.1 }
     requires within { body.1 ≤ length mmb.now }
-    ensures run { IsBodyRun (heading_of mmb.now kind row) (body_run portable (tables_before mmb.now before) (heading_of mmb.now kind row) body.0 (body_bytes mmb.now body.0 body.1)) result }
+    ensures run { IsBodyRun (heading_of mmb.now (byte_of kind) row) (body_run portable (tables_before mmb.now before) (heading_of mmb.now (byte_of kind) row) body.0 (body_bytes mmb.now body.0 body.1)) result }
     ensures most { steps.new ≤ steps.old + (body.1 - body.0) * (length mmb.now + 1) }
-    ensures steps { UnlessMem result (steps.new ≡ steps.old + body_steps portable (tables_before mmb.now before) (heading_of mmb.now kind row) body.0 (body_bytes mmb.now body.0 body.1)) }
+    ensures steps { UnlessMem result (steps.new ≡ steps.old + body_steps portable (tables_before mmb.now before) (heading_of mmb.now (byte_of kind) row) body.0 (body_bytes mmb.now body.0 body.1)) }
 {
     let Ok(setting) = Setting::begin(
         alloc,

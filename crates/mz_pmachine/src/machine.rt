@@ -4,7 +4,7 @@ ghost use Rattle.mz_store.specs.Bits.{bound_vars};
 ghost use Rattle.mz_nodes.specs.Numbering.{AreIn, IsOver};
 ghost use Rattle.mz_punify.specs.Stored.{AreItemsIn};
 ghost use Rattle.mz_soundness.specs.Bodies.{body_command};
-ghost use Rattle.mz_earlier.specs.OwnRow.{MayRun, kind_of};
+ghost use Rattle.mz_earlier.specs.OwnRow.{MayRun, byte_of, kind_of};
 ghost use Rattle.mz_earlier.specs.Before.{tables_of, signatures_of};
 ghost use Rattle.mz_pmachine.specs.OverNodes.{state_at, Grows};
 ghost use Rattle.mz_machine.specs.OverStore.{Gives};
@@ -19,7 +19,7 @@ use crate::command::decoded;
 use crate::commands::execute;
 use crate::end::end;
 use mz_cmd::{Cmd, K, Steps};
-use mz_earlier::{BodyKind, Earlier, deps_mode, first_items, kind_by, read_words};
+use mz_earlier::{BodyKind, Earlier, deps_mode, first_items, read_words};
 use mz_layout::{Mmb, Rows};
 use mz_logic::Word;
 use mz_machine::{BodyEnd, Finished};
@@ -61,11 +61,10 @@ impl Parts {
 }
 
 impl<'a> Setting<'a> {
-    /// The setting of a statement's body. The statement's kind is 02 for an axiom, 05 for a definition
-    /// and 06 for a theorem; `row` is the next row of its table, and `before` counts the rows that were
-    /// declared before. The words of the row and of those before it are right. The words become those
-    /// of the row, and the parts those before the first command, whatever they were: the row's
-    /// parameters are in the heap.
+    /// The setting of a statement's body, which is of this kind; `row` is the next row of its table, and
+    /// `before` counts the rows that were declared before. The words of the row and of those before it
+    /// are right. The words become those of the row, and the parts those before the first command,
+    /// whatever they were: the row's parameters are in the heap.
     ///
     /// # Errors
     ///
@@ -73,18 +72,17 @@ impl<'a> Setting<'a> {
     pub(crate) fn begin(
         alloc: Global,
         mmb: &'a Mmb<'a>,
-        kind: u8,
+        kind: BodyKind,
         row: u32,
         before: Rows,
         words: &mut Vec<Word>,
         parts: &mut Parts,
     ) -> Result<Setting<'a>, AllocError>
-        requires { MayRun mmb.now kind row before }
+        requires { MayRun mmb.now (byte_of kind) row before }
         ensures running { IfOk result (λ setting. IsRunning setting parts.new) }
-        ensures begun { IfOk result (λ setting. IsBegun mmb.now kind row before (machine_of setting parts.new)) }
+        ensures begun { IfOk result (λ setting. IsBegun mmb.now (byte_of kind) row before (machine_of setting parts.new)) }
     {
         let earlier = Earlier::new(mmb, before);
-        let kind = kind_by(kind);
         read_words(words, &earlier, kind, row)?;
         parts.nodes.begin(words.as_slice(), deps_mode(kind))?;
         first_items(&mut parts.heap, words.len())?;

@@ -16,10 +16,10 @@ use Rattle.mz_words.specs.RowWords.{param_checks, word_checks}
 use Rattle.mz_soundness.specs.MachineState.{RowsBefore, Heading}
 use Rattle.mz_soundness.proofs.Offered.{bodies-checked}
 use Rattle.mz_numbered.specs.Numbered.{portable}
-use Rattle.mz_binary.specs.declared.standard.Standard.TheVariants.{Portable}
-use Rattle.mz_binary.specs.Standards.{strict_standard}
-use Rattle.mz_binary.specs.Checking.{term_body_checks, term_checks, thm_checks, kind_checks}
-use Rattle.mz_binary.specs.Spelling.{IsKindOf}
+use Rattle.mz_files.specs.declared.standard.Standard.TheVariants.{Portable}
+use Rattle.mz_files.specs.Standards.{strict_standard}
+use Rattle.mz_files.specs.Checking.{term_body_checks, term_checks, thm_checks, kind_checks}
+use Rattle.mz_files.specs.Spelling.{IsKindOf}
 
 -- the bytes of a body run by address where they run by the published table
 abbrev pub RunsToo : RowsBefore → Heading → ℕ → List ℕ → Type 0

@@ -15,13 +15,13 @@ use Rattle.mz_layout.proofs.Offered.{all-listed, counts-said}
 use Rattle.mz_layout.specs.Heads.{body_bytes}
 use Rattle.mz_soundness.specs.FileRows.{taken_by, rows_taken}
 use Rattle.mz_soundness.specs.MachineState.{Declares}
-use Rattle.mz_binary.specs.declared.standard.Standard.{Standard}
-use Rattle.mz_binary.specs.declared.standard.Standard.TheVariants.{Portable}
-use Rattle.mz_binary.specs.Standards.{strict_standard}
-use Rattle.mz_binary.specs.Chains.{IsGoodStatement, GoodTo, EndsAt}
-use Rattle.mz_binary.specs.Checking.{checks_of}
-use Rattle.mz_binary.specs.Good.{Good}
-use Rattle.mz_binary.proofs.Offered.{well-chain}
+use Rattle.mz_files.specs.declared.standard.Standard.{Standard}
+use Rattle.mz_files.specs.declared.standard.Standard.TheVariants.{Portable}
+use Rattle.mz_files.specs.Standards.{strict_standard}
+use Rattle.mz_files.specs.Chains.{IsGoodStatement, GoodTo, EndsAt}
+use Rattle.mz_files.specs.Checking.{checks_of}
+use Rattle.mz_files.specs.Good.{Good}
+use Rattle.mz_files.proofs.Offered.{well-chain}
 use Rattle.mz_steps.specs.Sameness.{IsSameEnv}
 use Rattle.mz_steps.proofs.Offered.{same-at-first}
 use Rattle.mz_by_address.specs.SharedRows.{AreSharedRows}

@@ -19,8 +19,8 @@ use Rattle.mz_soundness.specs.FileRows.{taken_by, term_of_file, thm_of_file, row
 use Rattle.mz_soundness.specs.Lists.{definition_of, assertion_of}
 use Rattle.mz_soundness.specs.MachineState.{RowsBefore, Declares}
 use Rattle.mz_soundness.proofs.Offered.{pairs-long}
-use Rattle.mz_binary.specs.Spelling.{SpellsRow}
-use Rattle.mz_binary.proofs.Offered.{terms-many, rows-after}
+use Rattle.mz_files.specs.Spelling.{SpellsRow}
+use Rattle.mz_files.proofs.Offered.{terms-many, rows-after}
 use Rattle.mz_steps.specs.Sameness.{IsSameTerm, IsSameEnv}
 use Rattle.mz_by_address.specs.SharedRows.{AreSharedRows}
 use Rattle.mz_by_address.proofs.Offered.{shared-with-term, assertions-run, definitions-run}

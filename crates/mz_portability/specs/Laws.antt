@@ -5,12 +5,12 @@ use Rattle.mz_logic.specs.Declaration.{Declaration}
 use Rattle.mz_logic.specs.LegalLists.{Statement, Legal}
 use Rattle.mz_layout.specs.Normal.{Parts, file_of}
 use Rattle.mz_layout.specs.Standing.{Fit}
-use Rattle.mz_binary.specs.Good.{Good}
-use Rattle.mz_binary.specs.declared.standard.Standard.TheVariants.{Portable}
+use Rattle.mz_files.specs.Good.{Good}
+use Rattle.mz_files.specs.declared.standard.Standard.TheVariants.{Portable}
 use Rattle.mz_writing.specs.Writing.{IsWrittenAs}
 use Rattle.mz_spec.specs.Spec.{SpecOf}
-use Rattle.mz_match.specs.Match.{publics, Agrees}
-use Rattle.mz_match.specs.Verdict.{AcceptsBy}
+use Rattle.mz_verdicts.specs.Match.{publics, Agrees}
+use Rattle.mz_verdicts.specs.Verdict.{AcceptsBy}
 
 -- a finished legal text, written within the format's bounds, is by address too a good binary of the made statements
 abbrev pub WrittenFilesAreGoodByAddress : Type 0

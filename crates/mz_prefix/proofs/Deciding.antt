@@ -9,7 +9,7 @@ use Rattle.mz_math.specs.Formula.{most}
 use Rattle.mz_printing.specs.Prefix.{IsShort}
 use Rattle.mz_publics.specs.PublicPart.{mentions_local, any_mentions_local, IsSayable}
 use Rattle.mz_readback.specs.Declared.{Vocabulary, formula_of, AreShort}
-use Rattle.mz_forms.specs.Proof.{Statement}
+use Rattle.mz_statements.specs.Statements.{Statement}
 use Rattle.mz_sexpr.specs.declared.rule.TextRefusal.{TextRefusal}
 use Rattle.mz_type.specs.TextOf.{TextOf, TextFault}
 use Rattle.mz_type.specs.Laws.{IsTypedOrFaulty}

@@ -5,7 +5,7 @@ use Rattle.std.proofs.Math.Seq.{drop-cons}
 use Rattle.std.proofs.lemmas.List.{drop_all, replicate-append-replicate}
 use Rattle.mz_logic.specs.Declaration.{Declaration}
 use Rattle.mz_publics.specs.PublicPart.{mark_of}
-use Rattle.mz_forms.specs.Proof.{Statement}
+use Rattle.mz_statements.specs.Statements.{Statement}
 use Rattle.mz_type.specs.TypedText.{statement_at}
 use Rattle.mz_wording.specs.Wording.{sort_name, term_name, sort_names, term_names, local_terms, variable_prefix, underscores, longest_run}
 use Rattle.mz_prefix.specs.declared.names.Names.{Names}

@@ -6,3 +6,4 @@ pub mod Checking
 pub mod Writings
 pub mod Answering
 pub mod Deciding
+pub mod Shared

@@ -1,7 +1,7 @@
 -- The specification, statement by statement.
 use Rattle.std.specs.Prelude.{if◌then◌else◌}
 use Rattle.std.proofs.Common.{◌≡◌, ◌≤◌, ◌<◌, ◌+◌, ◌++◌, ◌∙◌, ℕ, Bool, true, false, List, [], ◌∷◌, length, drop, refl, ap}
-use Rattle.mz_forms.specs.Proof.{Statement}
+use Rattle.mz_statements.specs.Statements.{Statement}
 use Rattle.mz_printing.specs.Lines.{line_text, lines_text}
 use Rattle.mz_publics.specs.PublicPart.{public_decl}
 use Rattle.mz_readback.specs.Declared.{Vocabulary, Named, line_of_decl, line_of, lines_of}

@@ -1,7 +1,7 @@
 -- The names of a text as the code keeps them.
 use Rattle.std.specs.Prelude.{◌≡◌, ℕ, List, map}
 use Rattle.std.specs.Borrow.{Bor}
-use Rattle.mz_forms.specs.Proof.{Statement}
+use Rattle.mz_statements.specs.Statements.{Statement}
 use Rattle.mz_readback.specs.Declared.{Vocabulary}
 use Rattle.mz_wording.specs.Wording.{sort_names, term_names, local_terms, variable_prefix, vocabulary_from}
 use Rattle.mz_prefix.specs.declared.names.Names.{Names}

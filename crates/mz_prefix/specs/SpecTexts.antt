@@ -1,7 +1,7 @@
 -- What making a specification of a text answers (this project's own answers).
 use Rattle.std.specs.Prelude.{◌≡◌, ◌⊎◌, ⊤, ℕ, false, List}
 use Rattle.mz_checks.specs.Checks.{AllHold}
-use Rattle.mz_forms.specs.Proof.{Statement}
+use Rattle.mz_statements.specs.Statements.{Statement}
 use Rattle.mz_sexpr.specs.declared.rule.TextRefusal.{TextRefusal}
 use Rattle.mz_type.specs.TextOf.{TextOf, TextFault}
 use Rattle.mz_agreeing.specs.Laws.{DeclaresText}

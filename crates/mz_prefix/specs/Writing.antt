@@ -2,7 +2,7 @@
 use Rattle.std.specs.Prelude.{◌++◌, ℕ, List, [], Bool, true, false, if◌then◌else◌, codes}
 use Rattle.mz_logic.specs.Signature.{Signature}
 use Rattle.mz_logic.specs.Declaration.{Declaration}
-use Rattle.mz_forms.specs.Proof.{Statement}
+use Rattle.mz_statements.specs.Statements.{Statement}
 use Rattle.mz_printing.specs.Words.{written}
 use Rattle.mz_printing.specs.Lines.{PlainBinder, binders_words, type_words, line_text}
 use Rattle.mz_publics.specs.PublicPart.{public_decl}

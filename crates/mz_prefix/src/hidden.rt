@@ -10,7 +10,7 @@ ghost use Rattle.mz_prefix.specs.Names.{spoken};
 
 use crate::measure::is_short;
 use crate::names::Names;
-use mz_logic::{Decl, Expr, Exprs};
+use mz_logic::{Decl, Expr, Exprs, Hyps};
 
 impl<'a> Names<'a> {
     /// Whether a local term stands in the expression.
@@ -40,6 +40,13 @@ impl<'a> Names<'a> {
         false
     }
 
+    /// Whether a local term stands in one of the hypotheses.
+    fn any_hyp_mentions_local(&self, hyps: &Hyps) -> bool
+        ensures { result ≡ any_mentions_local self.now.locals.items hyps.now }
+    {
+        self.any_mentions_local(hyps.formulas())
+    }
+
     /// Whether a definition's body isn't written.
     pub(crate) fn is_hidden(&self, body: &Expr) -> bool
         ensures { result ≡ Wording.is_hidden self.now.locals.items (spoken self.now) (tree body.now) }
@@ -53,18 +60,18 @@ impl<'a> Names<'a> {
     {
         match decl {
             Decl::Thm(thm) => {
-                !self.any_mentions_local(&thm.hyps) && !self.mentions_local(&thm.conclusion)
+                !self.any_hyp_mentions_local(&thm.hyps) && !self.mentions_local(&thm.conclusion)
             }
             _ => true,
         }
     }
 }
 
-/// Whether the prefix form of each of the expressions is within the limits.
-fn are_short(es: &Exprs) -> bool
-    ensures { (v : Vocabulary) → IsTrue result ↔ AreShort v es.now }
+/// Whether the prefix form of each hypothesis is within the limits.
+fn are_short(hyps: &Hyps) -> bool
+    ensures { (v : Vocabulary) → IsTrue result ↔ AreShort v hyps.now }
 {
-    for e in es.as_slice() {
+    for e in hyps.formulas().as_slice() {
         if !is_short(e) {
             return false;
         }

@@ -8,7 +8,7 @@ ghost use Rattle.mz_readback.specs.Declared.{formula_of, formulas_of, plain_bind
 ghost use Rattle.mz_prefix.specs.Names.{spoken};
 
 use crate::names::Names;
-use mz_logic::{Binder, Expr, Exprs};
+use mz_logic::{Binder, Expr, Hyps};
 use std::alloc::AllocError;
 
 /// Appends bytes.
@@ -135,11 +135,11 @@ impl<'a> Names<'a> {
     }
 
     /// Appends hypotheses, each with a `>` behind it.
-    pub(crate) fn put_hyps(&self, hyps: &Exprs, out: &mut Vec<u8>) -> Result<(), AllocError>
+    pub(crate) fn put_hyps(&self, hyps: &Hyps, out: &mut Vec<u8>) -> Result<(), AllocError>
         ensures { OnOk result (out.new.items ≡ out.old.items ++ written (hyps_words (formulas_of (spoken self.now) hyps.now))) }
     {
-        for hyp in hyps.as_slice() {
-            self.put_formula(hyp, out)?;
+        for i in 0..hyps.len() {
+            self.put_formula(hyps.at(i), out)?;
             out.extend_from_slice(b" >")?;
         }
         Ok(())

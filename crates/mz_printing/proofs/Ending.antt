@@ -1,10 +1,11 @@
 -- A word isn't made longer by what ends it.
-use Rattle.std.proofs.Common.{◌≡◌, ◌≢◌, ◌∙◌, ◌++◌, ◌∷◌, [], ◌&&◌, ◌||◌, ℕ, List, ◌⊎◌, Bool, true, false, not, ap, sym, refl, inl, inr, subst}
+use Rattle.std.proofs.Common.{◌≡◌, ◌∙◌, ◌++◌, ◌∷◌, [], ◌&&◌, ◌||◌, ℕ, List, ◌⊎◌, Bool, true, false, not, ap, sym, refl, inl, inr, subst}
 use Rattle.std.specs.Prelude.{◌==◌, bytes_eq, codes}
 use Rattle.std.specs.List.{list_all}
 use Rattle.std.proofs.lemmas.List.Folds.{list_all-append}
 use Rattle.std.proofs.lemmas.Bool.{false≢true, and_left, and_right, and_parts, or_cases, and_cases, or_from, eqb-true, not-true, ne_eqb, false_from_ne_true}
-use Rattle.mz_lex.specs.Kinds.{is_space, is_between, is_digit, is_name_start, is_name_byte, is_number_start, is_symbol_byte, is_of_kind, ends_math}
+use Rattle.mz_names.specs.Identifiers.{is_digit, is_name_start, is_name_byte}
+use Rattle.mz_lex.specs.Kinds.{is_space, is_number_start, is_symbol_byte, is_of_kind, ends_math}
 use Rattle.mz_lex.specs.declared.token.TokenKind.{TokenKind}
 use Rattle.mz_lex.specs.declared.token.TokenKind.TheVariants as kinds
 use Rattle.mz_lex.proofs.Offered.{among, longest-symbol, longest-name, two-bytes, starts-no_digit, math-once}

@@ -1,6 +1,6 @@
 -- The math string of a prefix form means the expression.
-use Rattle.std.proofs.Common.{◌≡◌, ◌<◌, ◌≤◌, ◌++◌, ◌∷◌, [], ℕ, List, length, ap, sym, refl, subst, inl, inr, arith}
-use Rattle.std.specs.Prelude.{⊤, codes, true, Contains, Some, slice_get}
+use Rattle.std.proofs.Common.{◌<◌, ◌++◌, ◌∷◌, [], ℕ, List, length, sym, refl, subst, inl, inr}
+use Rattle.std.specs.Prelude.{⊤, codes}
 use Rattle.std.proofs.lemmas.Option.{slice_get_within, get_or_from_slice_get}
 use Rattle.mz_checks.specs.Checks.{AllHold}
 use Rattle.mz_checks.proofs.Offered.{all_hold-both}
@@ -18,12 +18,12 @@ use Rattle.mz_tokens.specs.declared.pieces.Delimiters.{Delimiters}
 use Rattle.mz_math.specs.declared.formula.Wanted.{Wanted}
 use Rattle.mz_math.specs.declared.formula.Wanted.TheVariants.{Provable as provable, Sort as of_sort}
 use Rattle.mz_tokens.specs.Pieces.{Pieces, piece_texts}
-use Rattle.mz_math.specs.Grammar.{Words, IsVariable, IsKnown, Exp}
+use Rattle.mz_math.specs.Grammar.{Words, IsKnown}
 use Rattle.mz_math.specs.Meaning.{Coerced, CoercedAll, IsSettled, IsClaimed}
-use Rattle.mz_math.specs.Formula.{Reader, words, StandsFor, Means, known_checks, token_checks, IsFormula}
+use Rattle.mz_math.specs.Formula.{Reader, words, StandsFor, Means, known_checks, token_checks}
 use Rattle.mz_printing.specs.Lines.{Tokens, math_text}
 use Rattle.mz_printing.specs.Plain.{pieces_at}
-use Rattle.mz_printing.specs.Prefix.{tokens_of, operand_tokens, enclosed, IsSpoken, IsOfWanted, IsShort}
+use Rattle.mz_printing.specs.Prefix.{tokens_of, operand_tokens, enclosed, IsSpoken, IsOfWanted}
 use Rattle.mz_printing.specs.Laws.{PrefixFormsAreMeant}
 use Rattle.mz_printing.proofs.Tokens.{tokens-are-pieces}
 use Rattle.mz_printing.proofs.Prefix.{prefix-read}

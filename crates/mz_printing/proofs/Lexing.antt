@@ -1,11 +1,11 @@
 -- Words one after the other are the lexemes of their text.
-use Rattle.std.proofs.Common.{◌≡◌, ◌≢◌, ◌<◌, ◌≤◌, ◌+◌, ◌-◌, ◌∙◌, ◌++◌, ◌∷◌, [], ℕ, suc, List, length, drop, take, get_or, true, false, arith, ap, ap₂, sym, refl, inl, inr, subst, Option, length-append, append_assoc}
+use Rattle.std.proofs.Common.{◌≡◌, ◌<◌, ◌+◌, ◌-◌, ◌∙◌, ◌++◌, ◌∷◌, [], ℕ, List, length, drop, take, get_or, true, false, arith, ap, ap₂, sym, refl, inl, subst, Option, length-append, append_assoc}
 use Rattle.std.specs.Prelude.{slice_range, bytes_eq, codes}
 use Rattle.std.specs.List.{list_all}
 use Rattle.std.proofs.Math.Seq.{take-append_seam, drop-append_seam}
 use Rattle.std.proofs.lemmas.Bool.{and_parts, false≢true}
 use Rattle.mz_lex.specs.Kinds.{is_space, is_of_kind}
-use Rattle.mz_lex.specs.Lexemes.{IsGap, IsSpace, IsBlank, BlankVia, IsNext, Lexeme, LexesFrom}
+use Rattle.mz_lex.specs.Lexemes.{IsSpace, IsBlank, BlankVia, IsNext, Lexeme, LexesFrom}
 use Rattle.mz_lex.specs.declared.token.TokenKind.{TokenKind}
 use Rattle.mz_lex.specs.declared.token.TokenKind.TheVariants as kinds
 use Rattle.mz_lex.specs.declared.token.LexFault.{LexFault}

@@ -1,23 +1,22 @@
 -- The words of plain lines end where they are written, so that lines are read again.
 use Rattle.std.proofs.Common.{◌≡◌, ◌∙◌, ◌+◌, ◌++◌, ◌∷◌, [], ℕ, List, Bool, length, true, false, ap, sym, refl, subst, arith, append_assoc, append-nil, length-append, Some, None, Option}
-use Rattle.std.specs.Prelude.{codes, bytes_eq, not, ◌&&◌}
+use Rattle.std.specs.Prelude.{codes}
 use Rattle.std.specs.List.{list_all}
 use Rattle.std.proofs.lemmas.Bool.{and_parts, and_from, not-true}
 use Rattle.std.proofs.lemmas.List.Folds.{list_all-append}
-use Rattle.mz_lex.specs.Kinds.{is_name, is_name_byte, is_name_start, is_math_byte, is_space, ends_math, is_math}
-use Rattle.mz_lex.specs.Lexemes.{LexesFrom, Lexeme, IsBlank, IsNext, EndsBy}
+use Rattle.mz_names.specs.Identifiers.{is_name}
+use Rattle.mz_lex.specs.Kinds.{is_math_byte, is_space, ends_math, is_math}
+use Rattle.mz_lex.specs.Lexemes.{LexesFrom, Lexeme, IsBlank}
 use Rattle.mz_lex.specs.declared.token.TokenKind.TheVariants as kinds
-use Rattle.mz_lex.specs.declared.token.LexFault.{LexFault}
 use Rattle.mz_grammar.specs.declared.kind.Kind.{Kind}
 use Rattle.mz_grammar.specs.declared.kind.Kind.TheVariants.{Term, Assert, Definition, Notation}
 use Rattle.mz_grammar.specs.declared.kind.AssertKind.TheVariants.{Axiom, Theorem}
 use Rattle.mz_grammar.specs.Statement.{Modifiers, keyword_of, opening_of, closing_of}
-use Rattle.mz_printing.specs.Words.{Word, written, lexemes_at, stop, IsWord, AreWords, EndsBefore}
-use Rattle.mz_printing.specs.Lines.{PlainType, PlainBinder, Tokens, Line, sort_line, term_line, assert_line, definition_line, mark, spaced_mark, name_word, spaced_name, spaced, math_text, math_word, dep_words, type_words, dot_words, opening_words, naming_words, binder_words, binders_words, title_words, head_words, colon_words, end_words, hyp_words, hyps_words, body_words, modifier_names, sort_keywords, keyword_words, sort_words, line_words, line_text, lines_text, next_line}
+use Rattle.mz_printing.specs.Words.{Word, written, stop, IsWord, AreWords, EndsBefore}
+use Rattle.mz_printing.specs.Lines.{PlainType, PlainBinder, Tokens, Line, sort_line, term_line, assert_line, definition_line, mark, spaced_mark, spaced_name, spaced, math_text, math_word, dep_words, type_words, dot_words, opening_words, naming_words, binder_words, binders_words, head_words, colon_words, end_words, hyps_words, body_words, modifier_names, sort_keywords, keyword_words, sort_words, line_words, line_text, lines_text, next_line}
 use Rattle.mz_printing.specs.Plain.{AreNames, is_token_byte, AreTokens, IsPlainType, IsPlainBinder, ArePlainBinders, AreFormulas, IsPlainBody, IsPlain, ArePlain, lines_lexemes}
 use Rattle.mz_printing.specs.Laws.{LinesLex}
 use Rattle.mz_printing.proofs.Lexing.{words-are-lexemes, blank-then, via-spaces}
-use Rattle.mz_printing.proofs.Spelling.{lexemes-append}
 
 -- ---- words one after the other
 

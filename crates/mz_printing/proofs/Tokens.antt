@@ -1,13 +1,12 @@
 -- The tokens of a math string that is written.
-use Rattle.std.proofs.Common.{◌≡◌, ◌<◌, ◌≤◌, ◌∙◌, ◌+◌, ◌++◌, ◌∷◌, [], ℕ, List, Bool, length, true, false, get_or, ap, ap₂, sym, refl, subst, inl, inr, arith, append_assoc, length-append}
-use Rattle.std.specs.Prelude.{codes, slice_range, not, Contains, ◌&&◌, IsTrue}
+use Rattle.std.proofs.Common.{◌≡◌, ◌<◌, ◌∙◌, ◌+◌, ◌++◌, ◌∷◌, [], ℕ, List, length, true, get_or, ap, ap₂, sym, refl, subst, inl, inr, arith, append_assoc, length-append}
+use Rattle.std.specs.Prelude.{codes, not, Contains}
 use Rattle.std.specs.List.{list_all}
 use Rattle.std.proofs.lemmas.List.{append_cancel_left, append_cancel_right}
 use Rattle.std.proofs.lemmas.Bool.{and_parts, and_from, not-true}
 use Rattle.mz_lex.specs.Kinds.{is_space, is_math_byte, inside_of}
 use Rattle.mz_lex.proofs.Offered.{has-inside, part-at}
-use Rattle.mz_tokens.specs.Pieces.{IsSpaces, IsPiece, PiecesFrom, Pieces, no_delimiters, piece_text, piece_texts}
-use Rattle.mz_tokens.specs.declared.pieces.Piece.{Piece}
+use Rattle.mz_tokens.specs.Pieces.{IsSpaces, IsPiece, PiecesFrom, Pieces, no_delimiters, piece_texts}
 use Rattle.mz_printing.specs.Lines.{Tokens, spaced, math_text}
 use Rattle.mz_printing.specs.Plain.{is_token_byte, IsToken, AreTokens, pieces_at}
 use Rattle.mz_printing.specs.Laws.{TokensArePieces}

@@ -1,6 +1,6 @@
 -- Statements of a specification as a printer writes them: each binder with a name of its own, each math string as tokens
 -- (mm0.md, section on the grammar; where spaces stand is this project's own).
-use Rattle.std.specs.Prelude.{◌≡◌, ◌+◌, ◌++◌, ⊤, ℕ, List, [], ◌∷◌, Bool, true, false, Option, Some, None, if◌then◌else◌, codes}
+use Rattle.std.specs.Prelude.{◌≡◌, ◌+◌, ◌++◌, ⊤, ℕ, List, [], ◌∷◌, Bool, true, false, Option, Some, None, codes}
 use Rattle.mz_lex.specs.declared.token.TokenKind.TheVariants as kinds
 use Rattle.mz_grammar.specs.declared.kind.AssertKind.{AssertKind}
 use Rattle.mz_grammar.specs.declared.kind.Kind.{Kind}

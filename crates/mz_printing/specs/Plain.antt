@@ -1,7 +1,8 @@
 -- What can be read again of what is written (mm0.md, section on the lexical structure, and on math strings).
-use Rattle.std.specs.Prelude.{◌≡◌, ◌≢◌, ◌+◌, ◌++◌, ◌&&◌, ⊤, ℕ, List, [], ◌∷◌, length, Bool, true, not, Option, Some, None, IsTrue}
+use Rattle.std.specs.Prelude.{◌≢◌, ◌+◌, ◌++◌, ◌&&◌, ⊤, ℕ, List, [], ◌∷◌, length, Bool, not, Option, Some, None, IsTrue}
 use Rattle.std.specs.List.{list_all}
-use Rattle.mz_lex.specs.Kinds.{is_name, is_space, is_math_byte}
+use Rattle.mz_names.specs.Identifiers.{is_name}
+use Rattle.mz_lex.specs.Kinds.{is_space, is_math_byte}
 use Rattle.mz_lex.specs.Lexemes.{Lexeme}
 use Rattle.mz_tokens.specs.declared.pieces.Piece.{Piece}
 use Rattle.mz_printing.specs.Words.{lexemes_at}

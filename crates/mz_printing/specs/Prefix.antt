@@ -2,8 +2,7 @@
 -- notations: a term's name and its operands, an operand of an application in parentheses).
 use Rattle.std.specs.Prelude.{◌≡◌, ◌≢◌, ◌<◌, ◌≤◌, ◌++◌, ℕ, List, [], ◌∷◌, length, Some, slice_get, Contains, codes}
 use Rattle.mz_logic.specs.Tree.{Tree, Trees, var, app, none, more}
-use Rattle.mz_logic.specs.Declaration.{signatures, sorts}
-use Rattle.mz_logic.specs.Sorts.{HasSort}
+use Rattle.mz_logic.specs.Declaration.{sorts}
 use Rattle.mz_logic.specs.Modifiers.{MayBeClaimSort}
 use Rattle.mz_notation.specs.declared.table.TermName.{TermName}
 use Rattle.mz_tokens.specs.Pieces.{no_delimiters}
@@ -11,7 +10,7 @@ use Rattle.mz_math.specs.Grammar.{Words, IsVariable}
 use Rattle.mz_math.specs.declared.formula.Wanted.{Wanted}
 use Rattle.mz_math.specs.declared.formula.Wanted.TheVariants.{Provable as provable, Sort as of_sort}
 use Rattle.mz_math.specs.Meaning.{height}
-use Rattle.mz_math.specs.Formula.{Reader, words, most}
+use Rattle.mz_math.specs.Formula.{Reader, most}
 use Rattle.mz_printing.specs.Lines.{Tokens}
 
 -- the tokens, where terms and variables have these names by their numbers

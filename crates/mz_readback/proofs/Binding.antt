@@ -1,10 +1,10 @@
 -- The rules on names, types and binders hold of what is printed.
-use Rattle.std.proofs.Common.{◌≡◌, ◌∙◌, ◌<◌, ◌≤◌, ◌+◌, ◌++◌, ◌⊎◌, ℕ, zero, suc, List, [], ◌∷◌, length, map, Bool, true, false, Some, None, ap, ap₂, sym, refl, subst, inl, inr, arith, get_or, append-nil, append_assoc}
+use Rattle.std.proofs.Common.{◌≡◌, ◌∙◌, ◌<◌, ◌≤◌, ◌+◌, ◌++◌, ◌⊎◌, ℕ, zero, suc, List, [], ◌∷◌, length, map, Bool, true, false, Some, ap, ap₂, sym, refl, subst, inl, inr, arith, get_or, append-nil, append_assoc}
 use Rattle.std.specs.Prelude.{slice_get, All, option_and_then, unwrap_or, Option}
 use Rattle.std.specs.List.Sorted.{IsStrictlyIncreasing}
 use Rattle.std.proofs.lemmas.Bool.{cases_Bool, cases_order}
-use Rattle.std.proofs.lemmas.Option.{slice_get_within, slice_get-get_or}
-use Rattle.mz_checks.specs.Checks.{AllHold, each_in_order, ◌>>◌}
+use Rattle.std.proofs.lemmas.Option.{slice_get_within}
+use Rattle.mz_checks.specs.Checks.{AllHold, each_in_order}
 use Rattle.mz_checks.proofs.Offered.{all_hold-both}
 use Rattle.mz_lex.specs.Lexemes.{Lexeme}
 use Rattle.mz_logic.specs.Declaration.{sorts, DepsAscend}
@@ -12,7 +12,6 @@ use Rattle.mz_logic.specs.Modifiers.{IsPure, IsStrict, IsFree, MayBeResultSort, 
 use Rattle.mz_logic.specs.Variables.{IsBoundAt}
 use Rattle.mz_logic.specs.Legality.{IsParam, AreParams, AreBindersThere, IsDummy}
 use Rattle.mz_logic.specs.declared.binder.Binder.{Binder}
-use Rattle.mz_logic.specs.declared.binder.ResultType.{ResultType}
 use Rattle.mz_logic.specs.declared.binder.SortMods.{SortMods}
 use Rattle.mz_logic.proofs.Offered.{one_at}
 use Rattle.mz_grammar.specs.Statement.{TypeText}
@@ -21,12 +20,12 @@ use Rattle.mz_printing.specs.Words.{stop}
 use Rattle.mz_names.specs.Names.{number_of, IsNew, IsKnown}
 use Rattle.mz_names.proofs.Offered.{known-first, known-later, new-more}
 use Rattle.mz_variables.specs.View.{Variable, name_texts, group_types}
-use Rattle.mz_spec.specs.State.{State, sort_number, binder_of}
+use Rattle.mz_spec.specs.State.{State, binder_of}
 use Rattle.mz_variables.specs.Dependencies.{dep_places, Every, IsCalled, IsBoundAmong}
 use Rattle.mz_spec.specs.Rules.{are_others, is_other, is_known, type_checks, mods_of, HasSortThat, IsBinder, AreBinders, DependsOnNothing, IsDummySort, IsNotPure}
 use Rattle.mz_readback.specs.Declared.{Vocabulary, HasVariables, plain_binders, plain_dummies, plain_param, plain_dummy, plain_type}
 use Rattle.mz_readback.proofs.Shown.{AreTexts, IsTyped, typed-at, IsShown, AreShown, AllShown, names_from}
-use Rattle.mz_readback.proofs.Places.{Above, AllBelow, below-all, ascending, among-same, places-are}
+use Rattle.mz_readback.proofs.Places.{AllBelow, below-all, ascending, among-same, places-are}
 
 -- ---- names
 

@@ -1,32 +1,31 @@
 -- The formulas that are printed mean the expressions.
-use Rattle.std.proofs.Common.{◌≡◌, ◌∙◌, ◌<◌, ◌≤◌, ◌+◌, ◌++◌, ◌⊎◌, ℕ, zero, suc, List, [], ◌∷◌, length, map, Bool, true, false, Some, None, ap, ap₂, sym, refl, subst, inl, inr, arith, get_or}
-use Rattle.std.specs.Prelude.{⊤, slice_get, All, IsTrue, codes, not, Contains, ◌==◌, ◌&&◌, ◌||◌}
+use Rattle.std.proofs.Common.{◌≡◌, ◌∙◌, ◌<◌, ◌≤◌, ◌+◌, ◌++◌, ℕ, List, [], ◌∷◌, length, true, Some, ap, ap₂, sym, refl, subst, inl, inr, arith, get_or}
+use Rattle.std.specs.Prelude.{⊤, slice_get, IsTrue, codes, not, Contains, ◌==◌, ◌&&◌, ◌||◌}
 use Rattle.std.specs.List.{list_all}
 use Rattle.std.proofs.lemmas.Bool.{and_parts, and_from, or_cases, or_left, eqb-true, ne_eqb, leb-true, le-leb, false≢true}
 use Rattle.std.proofs.lemmas.Option.{get_or_from_slice_get}
-use Rattle.mz_checks.specs.Checks.{AllHold, each_in_order, ◌>>◌}
+use Rattle.mz_checks.specs.Checks.{AllHold}
 use Rattle.mz_checks.proofs.Offered.{all_hold-both, retold-holds}
-use Rattle.mz_lex.specs.Kinds.{is_name, is_name_start, is_name_byte, is_between, is_space, is_math_byte, is_allowed, inside_of}
+use Rattle.mz_names.specs.Identifiers.{is_name, is_name_start, is_name_byte, is_between}
+use Rattle.mz_lex.specs.Kinds.{is_space, is_math_byte, is_allowed, inside_of}
 use Rattle.mz_logic.specs.Tree.{Tree, Trees, var, app, none, more}
 use Rattle.mz_logic.specs.Declaration.{sorts, signatures}
 use Rattle.mz_logic.specs.Sorts.{HasSort}
 use Rattle.mz_logic.specs.Legality.{InRange, AllInRange}
 use Rattle.mz_logic.specs.declared.binder.Binder.{Binder}
 use Rattle.mz_logic.proofs.Offered.{range_of_sort}
-use Rattle.mz_notation.specs.declared.table.TermName.{TermName}
 use Rattle.mz_tokens.specs.declared.pieces.Piece.{Piece}
 use Rattle.mz_math.specs.declared.formula.Wanted.{Wanted}
 use Rattle.mz_tokens.specs.Pieces.{no_delimiters}
 use Rattle.mz_math.specs.Formula.{words, IsFormula}
-use Rattle.mz_grammar.specs.declared.refusal.Fault.{Fault}
 use Rattle.mz_printing.specs.Lines.{Tokens, math_text}
 use Rattle.mz_printing.specs.Plain.{is_token_byte, IsToken, AreTokens as AllTokens}
-use Rattle.mz_printing.specs.Prefix.{tokens_of, operand_tokens, enclosed, IsSpoken, IsOfWanted, IsShort}
+use Rattle.mz_printing.specs.Prefix.{operand_tokens, enclosed, IsSpoken, IsOfWanted, IsShort}
 use Rattle.mz_printing.proofs.Offered.{prefix-meant}
 use Rattle.mz_names.specs.Names.{number_of}
-use Rattle.mz_variables.specs.View.{Variable, Formula, claim, body}
+use Rattle.mz_variables.specs.View.{Variable, Formula}
 use Rattle.mz_spec.specs.State.{State, scope_of, reader_of}
-use Rattle.mz_spec.specs.Formulas.{IsMeant, AreTokens, strings_checks, string_checks, math_of, wanted_of, told}
+use Rattle.mz_spec.specs.Formulas.{IsMeant, AreTokens, strings_checks, string_checks, math_of, told}
 use Rattle.mz_readback.specs.Declared.{Vocabulary, HasVariables, formula_of}
 use Rattle.mz_readback.proofs.Shown.{names_from, length-names, name-there}
 

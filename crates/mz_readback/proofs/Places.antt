@@ -1,5 +1,5 @@
 -- The places of dependencies, in order.
-use Rattle.std.proofs.Common.{◌≡◌, ◌≢◌, ◌∙◌, ◌<◌, ◌≤◌, ◌+◌, ℕ, zero, suc, List, [], ◌∷◌, length, Bool, true, false, ap, ap₂, sym, refl, subst, inl, inr, arith, get_or}
+use Rattle.std.proofs.Common.{◌≡◌, ◌∙◌, ◌<◌, ◌≤◌, ◌+◌, ℕ, suc, List, [], ◌∷◌, length, true, false, ap, ap₂, sym, refl, subst, inl, inr, arith, get_or}
 use Rattle.std.specs.Prelude.{⊤, ◌==◌, ◌||◌, bytes_eq, if◌then◌else◌, All}
 use Rattle.std.specs.List.{list_any}
 use Rattle.std.specs.List.Sorted.{IsStrictlyIncreasing}

@@ -1,40 +1,37 @@
 -- Lines that are printed of declarations are a specification that declares them.
-use Rattle.std.proofs.Common.{◌≡◌, ◌∙◌, ◌<◌, ◌≤◌, ◌+◌, ◌*◌, ◌++◌, ◌⊎◌, ◌/◌, ◌%◌, ℕ, zero, suc, List, [], ◌∷◌, length, map, Bool, true, false, Option, Some, None, ap, ap₂, sym, refl, subst, subst₂, inl, inr, arith, get_or, append-nil, append_assoc, length-append}
-use Rattle.std.specs.Prelude.{⊤, slice_get, All, IsTrue, Contains, codes, ◌==◌, if◌then◌else◌}
+use Rattle.std.proofs.Common.{◌≡◌, ◌∙◌, ◌<◌, ◌≤◌, ◌+◌, ◌++◌, ◌/◌, ◌%◌, ℕ, zero, suc, List, [], ◌∷◌, length, map, Bool, true, false, Some, None, ap, ap₂, sym, refl, subst, subst₂, inl, inr, arith, get_or, append-nil, append_assoc, length-append}
+use Rattle.std.specs.Prelude.{⊤, All, IsTrue, Contains, codes, ◌==◌}
 use Rattle.std.proofs.Math.Seq.{get_or-append_seam}
 use Rattle.std.proofs.lemmas.List.{get_or_append_left}
 use Rattle.std.proofs.lemmas.List.Elements.{All-nil}
 use Rattle.std.proofs.lemmas.Bool.{cases_order}
-use Rattle.std.proofs.lemmas.Option.{slice_get_within}
-use Rattle.mz_checks.specs.Checks.{AllHold, each_in_order}
 use Rattle.mz_lex.specs.Lexemes.{Lexeme}
-use Rattle.mz_lex.specs.Kinds.{is_name}
+use Rattle.mz_names.specs.Identifiers.{is_name}
 use Rattle.mz_logic.specs.Tree.{Tree, Trees, none, more}
 use Rattle.mz_logic.specs.Signature.{Signature}
 use Rattle.mz_logic.specs.Declaration.{Form, plain_form, abstract_form, defined, Term, Assertion, Declaration, sort_decl, term_decl, assertion_decl, sorts, signatures}
-use Rattle.mz_logic.specs.Modifiers.{MayBeClaimSort, MayBeDummySort}
-use Rattle.mz_logic.specs.Legality.{AreBindersThere, IsBinderThere, IsDummy, IsLegalDecl, IsClaim, EachTree, AllInRange, InRange, HasOperandSorts, HasBoundOperands}
+use Rattle.mz_logic.specs.Modifiers.{MayBeDummySort}
+use Rattle.mz_logic.specs.Legality.{AreBindersThere, IsBinderThere, IsDummy, IsClaim, EachTree, AllInRange, InRange, HasOperandSorts, HasBoundOperands}
 use Rattle.mz_logic.specs.declared.binder.Binder.{Binder}
 use Rattle.mz_logic.specs.declared.binder.SortMods.{SortMods}
 use Rattle.mz_logic.proofs.Offered.{sorts-append}
 use Rattle.mz_notation.specs.declared.table.TermName.{TermName}
 use Rattle.mz_grammar.specs.declared.kind.AssertKind.{AssertKind}
-use Rattle.mz_grammar.specs.declared.kind.AssertKind.TheVariants.{Axiom, Theorem}
 use Rattle.mz_grammar.specs.declared.kind.Kind.TheVariants.{Term as TermKind, Assert, Definition}
-use Rattle.mz_grammar.specs.Statement.{TypeText, Modifiers, Statement, sort_statement, term_statement, assert_statement, definition_statement, Spells}
+use Rattle.mz_grammar.specs.Statement.{TypeText, Statement, sort_statement, term_statement, assert_statement, definition_statement}
 use Rattle.mz_grammar.specs.Reading.{place_of_first}
 use Rattle.mz_printing.specs.Words.{lexeme_at, lexemes_at, stop}
-use Rattle.mz_printing.specs.Lines.{Tokens, Line, sort_line, term_line, assert_line, definition_line, math_word, math_text, spaced_mark, spaced_name, sort_words, hyps_words, type_words, title_words, head_at, binders_at, type_at, hyps_at, body_at, colon_at, line_words, statement_at, next_line, lines_text, HasItsDummies, HaveNoDummies}
+use Rattle.mz_printing.specs.Lines.{Line, math_word, math_text, spaced_mark, spaced_name, sort_words, hyps_words, type_words, title_words, binders_at, type_at, hyps_at, colon_at, line_words, statement_at, next_line, HasItsDummies, HaveNoDummies}
 use Rattle.mz_printing.specs.Plain.{IsPlain, ArePlain, lines_lexemes}
 use Rattle.mz_names.specs.Names.{number_of, IsNew}
 use Rattle.mz_names.proofs.Offered.{all-others, number-last, number-more}
 use Rattle.mz_variables.specs.View.{sorts as sort_space, terms, assertions, body, Variable, variables_of, unnamed, types_of, group_types, group_stated, premise_stated, Stated, stated_claim, claim}
-use Rattle.mz_spec.specs.State.{State, signature_of, dummy_binders, param_binders, nothing, with_sort, with_term, with_assertion, entries_of, env_of}
+use Rattle.mz_spec.specs.State.{State, signature_of, dummy_binders, param_binders, nothing, with_sort, with_term, with_assertion, entries_of}
 use Rattle.mz_spec.specs.Formulas.{IsMeant, AreHyps}
 use Rattle.mz_printing.specs.Prefix.{IsShort}
-use Rattle.mz_spec.specs.Declaring.{After, Declares, sort_bits, bit, is_axiom}
+use Rattle.mz_spec.specs.Declaring.{After, sort_bits, bit, is_axiom}
 use Rattle.mz_spec.specs.Spec.{IsGood, Stand}
-use Rattle.mz_readback.specs.Declared.{Named, Vocabulary, line_of, lines_of, decls_of, line_of_decl, modifiers_of, kind_of, plain_type, plain_binders, formula_of, formulas_of, HasVariables, HasNewName, AreShort, IsPrintable, ArePrintable, used_with}
+use Rattle.mz_readback.specs.Declared.{Named, Vocabulary, line_of, lines_of, decls_of, line_of_decl, modifiers_of, kind_of, plain_type, plain_binders, formula_of, formulas_of, HasVariables, AreShort, IsPrintable, ArePrintable, used_with}
 use Rattle.mz_readback.specs.Laws.{PrintedSpecificationsDeclare}
 use Rattle.mz_printing.specs.Plain.{AreNames, IsPlainType, ArePlainBinders, AreFormulas}
 use Rattle.mz_printing.specs.Lines.{name_word}
@@ -44,7 +41,7 @@ use Rattle.mz_spec.proofs.Offered.{entries-decls}
 use Rattle.mz_readback.specs.Declared.{term_line_of, plain_dummies}
 use Rattle.mz_readback.proofs.Places.{AllBelow, below-all}
 use Rattle.mz_readback.proofs.Formulas.{IsBehind, tokens-are}
-use Rattle.mz_readback.proofs.Statements.{GoodBy, good-by, shown_vs, good-typed, good-claims, no-stated, no-types, params-same, signature-same, dummies-same, meant-claim, meant-body, covered, hyps-meant, AreRight}
+use Rattle.mz_readback.proofs.Statements.{GoodBy, good-by, good-typed, good-claims, no-stated, no-types, params-same, signature-same, dummies-same, meant-claim, meant-body, covered, hyps-meant}
 
 -- ---- modifiers
 

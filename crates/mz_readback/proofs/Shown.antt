@@ -1,15 +1,15 @@
 -- What the rules see of binders that are printed.
-use Rattle.std.proofs.Common.{◌≡◌, ◌∙◌, ◌<◌, ◌≤◌, ◌++◌, ◌+◌, ℕ, zero, suc, List, [], ◌∷◌, length, map, Bool, true, false, Option, Some, None, ap, sym, refl, subst, arith, get_or}
-use Rattle.std.specs.Prelude.{⊤, bytes_eq, codes, if◌then◌else◌, IsTrue, slice_get, ◌||◌, Contains}
-use Rattle.std.proofs.lemmas.Bool.{false≢true, and_parts, not-true, cases_Bool}
-use Rattle.mz_lex.specs.Kinds.{is_name}
+use Rattle.std.proofs.Common.{◌≡◌, ◌∙◌, ◌<◌, ◌≤◌, ◌++◌, ◌+◌, ℕ, zero, suc, List, [], ◌∷◌, length, map, Bool, true, false, Some, None, ap, sym, refl, subst, arith}
+use Rattle.std.specs.Prelude.{⊤, bytes_eq, codes, if◌then◌else◌, IsTrue, slice_get, ◌||◌}
+use Rattle.std.proofs.lemmas.Bool.{and_parts, not-true}
+use Rattle.mz_names.specs.Identifiers.{is_name}
 use Rattle.mz_lex.specs.Lexemes.{Lexeme}
 use Rattle.mz_logic.specs.declared.binder.Binder.{Binder}
 use Rattle.mz_logic.specs.Legality.{IsDummy}
-use Rattle.mz_grammar.specs.Statement.{TypeText, Group}
+use Rattle.mz_grammar.specs.Statement.{TypeText}
 use Rattle.mz_printing.specs.Words.{lexeme_at, lexemes_at, stop}
-use Rattle.mz_printing.specs.Lines.{PlainType, PlainBinder, name_word, spaced_name, dep_words, type_at, opening_words, naming_words, binder_words, binder_at, binders_at}
-use Rattle.mz_variables.specs.View.{Variable, variables_of, name_of, params_of, dummies_of, names_of, name_texts, group_types}
+use Rattle.mz_printing.specs.Lines.{name_word, spaced_name, dep_words, type_at, opening_words, naming_words, binder_words, binders_at}
+use Rattle.mz_variables.specs.View.{Variable, variables_of, name_of, params_of, dummies_of, names_of, name_texts}
 use Rattle.mz_spec.specs.State.{variable_bytes, bytes_of}
 use Rattle.mz_readback.specs.Declared.{Vocabulary, plain_type, plain_param, plain_dummy, plain_dummies, plain_binders}
 

@@ -1,47 +1,40 @@
 -- A statement that is printed is good, and declares what it was printed from.
-use Rattle.std.proofs.Common.{◌≡◌, ◌∙◌, ◌<◌, ◌≤◌, ◌+◌, ◌++◌, ◌⊎◌, ℕ, zero, suc, List, [], ◌∷◌, length, map, Bool, true, false, Option, Some, None, ap, ap₂, sym, refl, subst, inl, inr, arith, get_or, append-nil, length-append}
-use Rattle.std.specs.Prelude.{⊤, slice_get, All, IsTrue, Contains, unwrap_or, if◌then◌else◌}
+use Rattle.std.proofs.Common.{◌≡◌, ◌∙◌, ◌<◌, ◌≤◌, ◌+◌, ◌++◌, ℕ, List, [], ◌∷◌, length, map, true, false, ap, ap₂, sym, refl, subst, inl, inr, arith, get_or, length-append}
+use Rattle.std.specs.Prelude.{⊤, slice_get, All, Contains, unwrap_or}
 use Rattle.std.specs.List.Sorted.{IsStrictlyIncreasing}
-use Rattle.std.proofs.lemmas.List.{get_or_append_left}
 use Rattle.std.proofs.lemmas.Option.{slice_get_within, slice_get-get_or, get_or_from_slice_get}
 use Rattle.std.proofs.lemmas.Bool.{cases_Bool}
-use Rattle.mz_checks.specs.Checks.{AllHold, Checks, nothing, each_in_order, ◌>>◌}
+use Rattle.mz_checks.specs.Checks.{AllHold, nothing, each_in_order, ◌>>◌}
 use Rattle.mz_checks.proofs.Offered.{all_hold-both}
 use Rattle.mz_lex.specs.Lexemes.{Lexeme}
-use Rattle.mz_lex.specs.Kinds.{is_name}
 use Rattle.mz_logic.specs.Tree.{Tree, Trees, none, more}
 use Rattle.mz_logic.specs.Signature.{Signature}
-use Rattle.mz_logic.specs.Declaration.{Form, plain_form, abstract_form, defined, Term, Assertion, Declaration, sort_decl, term_decl, assertion_decl, sorts, signatures, DepsAscend}
+use Rattle.mz_logic.specs.Declaration.{sorts, signatures, DepsAscend}
 use Rattle.mz_logic.specs.Sorts.{HasSort}
 use Rattle.mz_math.specs.declared.formula.Wanted.TheVariants.{Provable as provable, Sort as of_sort}
 use Rattle.mz_math.specs.Formula.{IsFormula}
 use Rattle.mz_lex.specs.Kinds.{inside_of}
-use Rattle.mz_logic.specs.Modifiers.{MayBeResultSort, MayBeDummySort, MayBeClaimSort}
+use Rattle.mz_logic.specs.Modifiers.{MayBeResultSort, MayBeDummySort}
 use Rattle.mz_logic.specs.Variables.{IsBoundAt, InFV}
-use Rattle.mz_logic.specs.Legality.{IsLegalDecl, IsClaim, AreBindersThere, AreParams, IsParam, IsDummy, sort_of, InRange, AllInRange, HasOperandSorts, HasBoundOperands, EachTree}
+use Rattle.mz_logic.specs.Legality.{IsClaim, AreBindersThere, AreParams, IsDummy, sort_of, InRange, HasOperandSorts, HasBoundOperands}
 use Rattle.mz_logic.specs.declared.binder.Binder.{Binder}
 use Rattle.mz_logic.specs.declared.binder.ResultType.{ResultType}
 use Rattle.mz_logic.specs.declared.binder.SortMods.{SortMods}
 use Rattle.mz_logic.proofs.Offered.{sort_by_rules}
 use Rattle.mz_tokens.specs.declared.pieces.Piece.{Piece}
-use Rattle.mz_grammar.specs.declared.refusal.Fault.{Fault}
-use Rattle.mz_grammar.specs.declared.kind.AssertKind.{AssertKind}
-use Rattle.mz_grammar.specs.declared.kind.Kind.TheVariants.{Term as TermKind, Assert, Definition}
-use Rattle.mz_grammar.specs.Statement.{TypeText, Source, Group, Head, Statement, sort_statement, term_statement, assert_statement, definition_statement}
+use Rattle.mz_grammar.specs.Statement.{TypeText}
 use Rattle.mz_printing.specs.Words.{lexeme_at, stop}
-use Rattle.mz_printing.specs.Lines.{PlainBinder, Tokens, Line, math_word, math_text, spaced_mark, hyp_words, title_words, binders_at, type_at, hyps_at, body_at, head_at}
-use Rattle.mz_names.specs.Names.{IsNew, IsKnown, number_of}
-use Rattle.mz_variables.specs.View.{Named as NamedIn, Variable, Formula, claim, body, View, view, variables_of, unnamed, types_of, group_types, group_stated, premise_stated, stated_of, Stated, stated_claim, body_formulas, params_of, dummies_of, names_of}
-use Rattle.mz_spec.specs.State.{State, param_binders, dummy_binders, result_of, signature_of, scope_of, reader_of, sort_number, variable_bytes}
-use Rattle.mz_spec.specs.Formulas.{IsMeant, AreHyps, AreTokens, strings_checks, free_checks, wanted_of, CoversFreeVariables}
+use Rattle.mz_printing.specs.Lines.{PlainBinder, Tokens, math_word, math_text, hyp_words, binders_at, type_at, hyps_at}
+use Rattle.mz_names.specs.Names.{IsKnown}
+use Rattle.mz_variables.specs.View.{Named as NamedIn, Variable, Formula, claim, body, variables_of, types_of, group_types, group_stated, premise_stated, Stated, stated_claim, params_of, dummies_of, names_of}
+use Rattle.mz_spec.specs.State.{State, param_binders, dummy_binders, signature_of, reader_of, sort_number}
+use Rattle.mz_spec.specs.Formulas.{IsMeant, AreHyps, AreTokens, strings_checks, free_checks, CoversFreeVariables}
 use Rattle.mz_spec.specs.Rules.{is_new, are_others, type_checks, binder_rules, body_rules, HaveBinders, IsResult, IsDummySort, IsNotPure, AreBinders}
-use Rattle.mz_variables.specs.Dependencies.{Every, IsBoundAmong}
-use Rattle.mz_spec.specs.Declaring.{IsForm, is_axiom}
-use Rattle.mz_spec.specs.Spec.{IsGood}
-use Rattle.mz_readback.specs.Declared.{Vocabulary, HasVariables, AreShort, HasShortBody, formula_of, formulas_of, plain_type, plain_binders}
+use Rattle.mz_variables.specs.Dependencies.{Every}
+use Rattle.mz_readback.specs.Declared.{Vocabulary, HasVariables, formula_of, formulas_of, plain_type, plain_binders}
 use Rattle.mz_printing.specs.Prefix.{IsShort}
-use Rattle.mz_readback.proofs.Shown.{AreShown, AllShown, IsTyped, typed-at, binders-shown, params-shown, dummies-apart, names_from, names-join, bytes-are, all-names}
-use Rattle.mz_readback.proofs.Places.{AllBelow, below-all}
+use Rattle.mz_readback.proofs.Shown.{AreShown, AllShown, typed-at, binders-shown, params-shown, dummies-apart, names_from, names-join, bytes-are, all-names}
+use Rattle.mz_readback.proofs.Places.{below-all}
 use Rattle.mz_readback.proofs.Binding.{Have, all-others, known-variable, sort-found, type-holds, types-hold, not-pure, dummies-hold, are-binders, result-among, deps-are, binders-same}
 use Rattle.mz_readback.proofs.Formulas.{IsBehind, IsOver, formula-meant, AllMeant, strung}
 

@@ -1,10 +1,10 @@
 -- Declarations with names, and the lines that are printed of them (mm0.md, section on the grammar: sorts, terms,
 -- definitions, axioms and theorems).
-use Rattle.std.specs.Prelude.{◌≡◌, ◌<◌, ◌≤◌, ◌++◌, ◌+◌, ◌/◌, ◌%◌, ◌==◌, ⊤, ℕ, suc, List, [], ◌∷◌, map, length, Bool, true, false, Some, None, IsTrue, if◌then◌else◌}
+use Rattle.std.specs.Prelude.{◌≡◌, ◌<◌, ◌≤◌, ◌++◌, ◌/◌, ◌%◌, ◌==◌, ⊤, ℕ, suc, List, [], ◌∷◌, map, length, Bool, true, false, Some, None, IsTrue, if◌then◌else◌}
 use Rattle.std.specs.List.Sorted.{IsStrictlyIncreasing}
-use Rattle.mz_lex.specs.Kinds.{is_name}
+use Rattle.mz_names.specs.Identifiers.{is_name}
 use Rattle.mz_logic.specs.Tree.{Tree, Trees, none, more}
-use Rattle.mz_logic.specs.Declaration.{Form, plain_form, abstract_form, defined, dummies_of, context_of, Term, Declaration, sort_decl, term_decl, assertion_decl, sorts, signatures, DepsAscend}
+use Rattle.mz_logic.specs.Declaration.{Form, plain_form, abstract_form, defined, context_of, Declaration, sort_decl, term_decl, assertion_decl, sorts, signatures, DepsAscend}
 use Rattle.mz_logic.specs.Signature.{Signature}
 use Rattle.mz_logic.specs.Legality.{IsLegalDecl}
 use Rattle.mz_logic.specs.declared.binder.Binder.{Binder}

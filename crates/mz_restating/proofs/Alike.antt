@@ -4,12 +4,13 @@ use Rattle.mz_cmd.specs.declared.statement.StmtAt.TheVariants.{Head}
 use Rattle.mz_logic.specs.Declaration.{Declaration, sort_decl, term_decl, assertion_decl}
 use Rattle.mz_logic.specs.LegalLists.{Statement as Marked}
 use Rattle.mz_logic.specs.declared.binder.Binder.{Binder}
-use Rattle.mz_forms.specs.Proof.{Proof, Statement}
+use Rattle.mz_forms.specs.Proof.{Proof}
+use Rattle.mz_statements.specs.Statements.{Statement}
 use Rattle.mz_layout.specs.Tables.{list_at}
 use Rattle.mz_layout.specs.Heads.{body_bytes}
 use Rattle.mz_soundness.specs.FileRows.{taken_by, rows_taken}
-use Rattle.mz_binary.specs.WholeLaws.{OneListOfStatements, GoodFilesSpell}
-use Rattle.mz_binary.specs.Standards.{strict_standard}
+use Rattle.mz_files.specs.WholeLaws.{OneListOfStatements, GoodFilesSpell}
+use Rattle.mz_files.specs.Standards.{strict_standard}
 use Rattle.mz_spec.specs.State.{Entry}
 use Rattle.mz_spec.specs.Laws.{OneReading}
 use Rattle.mz_tracing.specs.Laws.{BodiesMakeOne}

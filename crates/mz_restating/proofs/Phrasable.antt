@@ -10,17 +10,16 @@ use Rattle.mz_logic.specs.Declaration.{Declaration}
 use Rattle.mz_logic.specs.Legality.{IsLegalDecl, IsLegalEnv}
 use Rattle.mz_logic.specs.LegalLists.{Statement as Marked, MayBeLocal, LegalAfter, gap_free}
 use Rattle.mz_logic.specs.declared.binder.Binder.{Binder}
-use Rattle.mz_forms.specs.Name.{Names, IsName}
-use Rattle.mz_forms.specs.Statements.{names_with}
-use Rattle.mz_forms.specs.Proof.{Statement}
+use Rattle.mz_forms.specs.Name.{Names, IsName, names_with}
+use Rattle.mz_statements.specs.Statements.{Statement}
 use Rattle.mz_type.specs.Meaning.{marked}
 use Rattle.mz_type.specs.Weight.{parameter_limit, bound_limit, params_of, parameter_count, bound_count as bound_in, each_within}
 use Rattle.mz_soundness.specs.MachineState.{Declares}
 use Rattle.mz_soundness.specs.Premises.{bound_count}
 use Rattle.mz_soundness.specs.FileRows.{taken_by, rows_taken}
-use Rattle.mz_binary.specs.Chains.{IsGoodStatement, GoodTo}
-use Rattle.mz_binary.specs.Standards.{strict_standard}
-use Rattle.mz_binary.proofs.Offered.{head-at}
+use Rattle.mz_files.specs.Chains.{IsGoodStatement, GoodTo}
+use Rattle.mz_files.specs.Standards.{strict_standard}
+use Rattle.mz_files.proofs.Offered.{head-at}
 use Rattle.mz_tracing.specs.Laws.{MadeProofsProve}
 use Rattle.mz_phrasing.specs.Phrases.{depth}
 use Rattle.mz_phrasing.specs.Phrasing.{Vocabulary, statement}

@@ -5,13 +5,14 @@ use Rattle.mz_logic.specs.Declaration.{Declaration, sort_decl, term_decl, assert
 use Rattle.mz_logic.specs.LegalLists.{Statement as Marked}
 use Rattle.mz_logic.specs.Legality.{IsLegalEnv}
 use Rattle.mz_logic.specs.declared.binder.Binder.{Binder}
-use Rattle.mz_forms.specs.Proof.{Proof, Statement}
+use Rattle.mz_forms.specs.Proof.{Proof}
+use Rattle.mz_statements.specs.Statements.{Statement}
 use Rattle.mz_layout.specs.Tables.{list_at}
 use Rattle.mz_soundness.specs.MachineState.{Declares}
 use Rattle.mz_layout.specs.Heads.{body_bytes}
 use Rattle.mz_soundness.specs.FileRows.{taken_by, rows_taken}
-use Rattle.mz_binary.specs.Chains.{IsGoodStatement, GoodTo}
-use Rattle.mz_binary.specs.Standards.{strict_standard}
+use Rattle.mz_files.specs.Chains.{IsGoodStatement, GoodTo}
+use Rattle.mz_files.specs.Standards.{strict_standard}
 use Rattle.mz_tracing.specs.Laws.{BodiesMakeProofs}
 use Rattle.mz_tracing.specs.Traces.{under_lets}
 use Rattle.mz_naming.specs.Names.{prefix_beside, declared_names, statement_names}

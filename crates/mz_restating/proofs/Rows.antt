@@ -27,12 +27,12 @@ use Rattle.mz_soundness.specs.Lists.{definition_of, BodyIsGood}
 use Rattle.mz_layout.specs.Heads.{body_bytes}
 use Rattle.mz_soundness.specs.FileRows.{taken_by, rows_taken, term_of_file, thm_of_file}
 use Rattle.mz_words.proofs.Offered.{right-words}
-use Rattle.mz_binary.specs.Checking.{checks_of, kind_checks}
-use Rattle.mz_binary.specs.Chains.{IsGoodStatement}
-use Rattle.mz_binary.specs.Laws.{HasRow}
-use Rattle.mz_binary.specs.Spelling.{IsKindOf, SpellsRow}
-use Rattle.mz_binary.specs.Standards.{strict_standard}
-use Rattle.mz_binary.proofs.Offered.{body_of, entry-good, good-rows}
+use Rattle.mz_files.specs.Checking.{checks_of, kind_checks}
+use Rattle.mz_files.specs.Chains.{IsGoodStatement}
+use Rattle.mz_files.specs.Laws.{HasRow}
+use Rattle.mz_files.specs.Spelling.{IsKindOf, SpellsRow}
+use Rattle.mz_files.specs.Standards.{strict_standard}
+use Rattle.mz_files.proofs.Offered.{body_of, entry-good, good-rows}
 use Rattle.mz_phrasing.specs.Phrasable.{HasForm}
 use Rattle.mz_restating.specs.Laws.{AreBytes}
 use Rattle.mz_restating.proofs.Ascending.{params-ascend, result-ascends}

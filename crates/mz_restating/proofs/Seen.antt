@@ -3,11 +3,10 @@ use Rattle.std.proofs.Common.{◌≡◌, ℕ, List, [], ◌∷◌, ◌++◌, Boo
 use Rattle.std.specs.Prelude.{⊤, IsTrue, if◌then◌else◌, option_map, bytes_eq, suc}
 use Rattle.std.specs.Bool.{Decides}
 use Rattle.std.proofs.lemmas.Slice.Eq.{bytes_eq-Decides}
-use Rattle.mz_lex.specs.Kinds.{is_name}
+use Rattle.mz_names.specs.Identifiers.{is_name}
 use Rattle.mz_logic.specs.Declaration.{Declaration, sort_decl, term_decl, assertion_decl}
 use Rattle.mz_names.specs.Names.{number_of, IsNew}
-use Rattle.mz_forms.specs.Name.{Names}
-use Rattle.mz_forms.specs.Statements.{names_with}
+use Rattle.mz_forms.specs.Name.{Names, names_with}
 use Rattle.mz_variables.specs.Dependencies.{Every}
 
 pub record Seen : Type 0 where

@@ -1,7 +1,8 @@
 -- The names of a specification's declarations are identifiers, each another than those before it in its space.
 use Rattle.std.proofs.Common.{◌≡◌, ◌⊎◌, ◌∙◌, ℕ, zero, suc, List, [], ◌∷◌, ◌++◌, map, drop, Option, Some, None, inl, inr, refl, sym, ap, subst, append_assoc, append-nil}
 use Rattle.std.specs.Prelude.{⊤, IsTrue, slice_get, codes}
-use Rattle.mz_lex.specs.Kinds.{is_name, is_of_kind}
+use Rattle.mz_names.specs.Identifiers.{is_name}
+use Rattle.mz_lex.specs.Kinds.{is_of_kind}
 use Rattle.mz_lex.specs.Lexemes.{Lexeme, IsNext, LexesFrom}
 use Rattle.mz_lex.specs.declared.token.LexFault.{LexFault}
 use Rattle.mz_logic.specs.Declaration.{Declaration}
@@ -17,7 +18,7 @@ use Rattle.mz_spec.specs.Declaring.{After}
 use Rattle.mz_spec.specs.Spec.{IsGood, Stand, SpecMakes}
 use Rattle.mz_spec.proofs.Offered.{IsOfKind, every-front, good-new, entries-decls, entries-marks, kept-nothing, lexes-kinds, stand-kept}
 use Rattle.mz_layout.specs.Heads.{body_bytes as bytes_between}
-use Rattle.mz_axioms.specs.Text.{name_at}
+use Rattle.mz_spec_names.specs.Names.{name_at}
 use Rattle.mz_naming.specs.Names.{names_from, declared_names}
 use Rattle.mz_restating.proofs.Seen.{Seen, none_seen, seen_in, seen_with, IsOther, AreNew}
 
@@ -191,7 +192,7 @@ module _ (text : List ℕ) where
   names-mapped all k [] is = refl
   names-mapped all k (e ∷ es) is =
       let parts = get-drop all k e es is in
-      ap (λ (o : Option Entry). Rattle.mz_axioms.specs.Text.name_in text o ∷ names_from text all (suc k) es) parts.0
+      ap (λ (o : Option Entry). Rattle.mz_spec_names.specs.Names.name_in text o ∷ names_from text all (suc k) es) parts.0
       ∙ ap (λ (ws : List (List ℕ)). bytes_between text e.from e.to ∷ ws) (names-mapped all (suc k) es parts.1)
 
   pub spec-names : (entries : List Entry) → SpecMakes text entries → AreNew none_seen (env_of entries) (declared_names text entries)

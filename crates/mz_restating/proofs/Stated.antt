@@ -12,8 +12,8 @@ use Rattle.mz_soundness.specs.MachineState.{Declares}
 use Rattle.mz_soundness.specs.Premises.{bound_count}
 use Rattle.mz_layout.specs.Heads.{body_bytes}
 use Rattle.mz_soundness.specs.FileRows.{taken_by, rows_taken}
-use Rattle.mz_binary.specs.Chains.{IsGoodStatement}
-use Rattle.mz_binary.specs.Standards.{strict_standard}
+use Rattle.mz_files.specs.Chains.{IsGoodStatement}
+use Rattle.mz_files.specs.Standards.{strict_standard}
 use Rattle.mz_tracing.specs.Laws.{MadeProofsProve}
 use Rattle.mz_tracing.specs.Traces.{under_lets}
 use Rattle.mz_phrasing.specs.Phrasable.{HasProofIfTheorem, IsWithin}

@@ -7,29 +7,30 @@ use Rattle.mz_cmd.specs.declared.statement.StmtAt.{StmtAt}
 use Rattle.mz_cmd.specs.declared.statement.StmtFault.{StmtFault}
 use Rattle.mz_logic.specs.Declaration.{Declaration, sort_decl, term_decl, assertion_decl, sorts}
 use Rattle.mz_logic.specs.LegalLists.{Statement as Marked, declarations}
-use Rattle.mz_forms.specs.Proof.{Statement}
+use Rattle.mz_statements.specs.Statements.{Statement}
 use Rattle.mz_type.specs.Meaning.{marked}
 use Rattle.mz_type.specs.TextOf.{TextOf}
 use Rattle.mz_type.specs.Weight.{sort_count, byte_bound, parameter_limit, bound_limit, byte_limit, parameter_count, bound_count, within, each_within, IsWithinLimits}
 use Rattle.mz_layout.specs.Tables.{list_at}
 use Rattle.mz_layout.proofs.Offered.{parts-of_layout}
 use Rattle.mz_soundness.specs.FileRows.{taken_by}
-use Rattle.mz_binary.specs.Checking.{checks_of}
-use Rattle.mz_binary.specs.Chains.{Statements, IsGoodStatement}
-use Rattle.mz_binary.specs.Good.{Good}
-use Rattle.mz_binary.specs.WholeLaws.{GoodFilesSpell}
-use Rattle.mz_binary.specs.Standards.{strict_standard}
-use Rattle.mz_binary.proofs.Offered.{chain-declares, good-legal}
+use Rattle.mz_files.specs.Checking.{checks_of}
+use Rattle.mz_files.specs.Chains.{Statements, IsGoodStatement}
+use Rattle.mz_files.specs.Good.{Good}
+use Rattle.mz_files.specs.WholeLaws.{GoodFilesSpell}
+use Rattle.mz_files.specs.Standards.{strict_standard}
+use Rattle.mz_files.proofs.Offered.{chain-declares, good-legal}
 use Rattle.mz_spec.specs.State.{env_of}
 use Rattle.mz_spec.specs.Laws.{OneReading}
-use Rattle.mz_match.specs.Match.{publics, Agrees}
+use Rattle.mz_verdicts.specs.Match.{publics, Agrees}
 use Rattle.mz_tracing.specs.Laws.{MadeProofsProve}
 use Rattle.mz_phrasing.specs.Laws.{StatedTextsAreRead}
 use Rattle.mz_phrasing.specs.Phrasing.{Vocabulary, text_of}
 use Rattle.mz_phrasing.specs.Phrasable.{HasNames}
 use Rattle.mz_restating.specs.Laws.{PlainTextsAreTexts}
 use Rattle.mz_naming.specs.Names.{longest_run, declared_names, statement_names, vocabulary_of}
-use Rattle.mz_restating.specs.Restated.{depth_checks, stating_checks, greater_length, longest}
+use Rattle.mz_wording.specs.Wording.{longest}
+use Rattle.mz_restating.specs.Restated.{depth_checks, stating_checks, greater_length}
 use Rattle.mz_restating.proofs.Prefixed.{prefix_of, prefixed-named, same-number, same-letter}
 use Rattle.mz_restating.proofs.SpecNames.{spec-names}
 use Rattle.mz_restating.proofs.Titles.{AreTitled, restated-titled}

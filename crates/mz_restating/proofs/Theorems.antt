@@ -20,11 +20,11 @@ use Rattle.mz_soundness.specs.Sound.{AreRowParams, thm_row}
 use Rattle.mz_layout.specs.Heads.{body_bytes}
 use Rattle.mz_soundness.specs.FileRows.{taken_by, rows_taken}
 use Rattle.mz_earlier.specs.OwnRow.{heading_of}
-use Rattle.mz_binary.specs.Checking.{checks_of, kind_checks}
-use Rattle.mz_binary.specs.Chains.{IsGoodStatement}
-use Rattle.mz_binary.specs.Spelling.{IsKindOf, SpellsRow}
-use Rattle.mz_binary.specs.Standards.{strict_standard}
-use Rattle.mz_binary.proofs.Offered.{entry-good, well-chain}
+use Rattle.mz_files.specs.Checking.{checks_of, kind_checks}
+use Rattle.mz_files.specs.Chains.{IsGoodStatement}
+use Rattle.mz_files.specs.Spelling.{IsKindOf, SpellsRow}
+use Rattle.mz_files.specs.Standards.{strict_standard}
+use Rattle.mz_files.proofs.Offered.{entry-good, well-chain}
 
 -- the heading of the next theorem's row
 abbrev pub next_heading : List ℕ → List Declaration → Heading

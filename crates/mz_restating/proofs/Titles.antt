@@ -4,21 +4,20 @@ use Rattle.std.specs.Prelude.{⊤, if◌then◌else◌}
 use Rattle.mz_logic.specs.Declaration.{Form, plain_form, abstract_form, defined, Declaration, sort_decl, term_decl, assertion_decl, sorts, signatures, assertions}
 use Rattle.mz_logic.specs.LegalLists.{Statement as Marked}
 use Rattle.mz_logic.proofs.Offered.{assertions-append}
-use Rattle.mz_forms.specs.Name.{Names, IsName}
-use Rattle.mz_forms.specs.Statements.{no_names, names_with}
-use Rattle.mz_forms.specs.Proof.{Statement}
+use Rattle.mz_forms.specs.Name.{Names, IsName, no_names, names_with}
+use Rattle.mz_statements.specs.Statements.{Statement}
 use Rattle.mz_type.specs.Meaning.{marked}
 use Rattle.mz_variables.specs.Dependencies.{Every}
 use Rattle.mz_spec.proofs.Offered.{every-front, every-join, sorts-more, signatures-more}
-use Rattle.mz_match.specs.declared.kind.Kind.{Kind}
-use Rattle.mz_match.specs.declared.kind.Kind.TheVariants as kinds
-use Rattle.mz_match.specs.Match.{partner_of, publics_after, publics, kind_of, kind_of_form, Agrees}
+use Rattle.mz_verdicts.specs.declared.kind.Kind.{Kind}
+use Rattle.mz_verdicts.specs.declared.kind.Kind.TheVariants as kinds
+use Rattle.mz_verdicts.specs.Match.{partner_of, publics_after, publics, kind_of, kind_of_form, Agrees}
 use Rattle.mz_wording.specs.Wording.{underscores, sort_name, term_name, sort_names, term_names}
 use Rattle.mz_phrasing.specs.Phrasing.{Vocabulary}
 use Rattle.mz_phrasing.specs.Phrasable.{HasNewName}
 use Rattle.mz_naming.specs.Names.{longest_run, statement_names, assertion_name, assertion_names, vocabulary_of}
 use Rattle.mz_restating.proofs.Seen.{Seen, none_seen, seen_in, seen_with, IsOther, AreNew, seen_of, seen-with, other-new}
-use Rattle.mz_restating.proofs.Prefixed.{prefix_of, prefixed, all-short, prefixed-named, is-identifier, not-short, same-number, same-letter}
+use Rattle.mz_restating.proofs.Prefixed.{prefix_of, prefixed, all-short, prefixed-named, not-short, same-number, same-letter}
 
 -- ---- two declarations of one kind are of one space
 
@@ -355,7 +354,7 @@ module _ (L : ℕ) (all : List (List ℕ)) (whole : List Statement) (n : ℕ) wh
           let name-is : t.name ≡ w = first ∙ here.0 in
           let rest : map (λ t. t.name) ts ≡ statement_names all (prefix_of L) (suc k) (suc number) (marked ts) = cc in
           let same = kinds-space d t.decl agrees.0.0 in (
-            subst IsName (sym name-is) (is-identifier w far.new.0),
+            subst IsName (sym name-is) far.new.0,
             titled whole env names (sort_names ts) (term_names ts) (assertion_names ts) (prefix_of L) n t.decl t.name far.stands
                 (subst (λ (w : List ℕ). IsOther w (seen_in (seen_of names) t.decl)) (sym name-is) (public-other L number spec (seen_of names) d t.decl w same far.short.0 far.new.1 far.beside))
                 (λ x less is. not-short L 118 x w refl far.short.0 (is ∙ name-is)),

@@ -1,11 +1,11 @@
 -- What is promised of the text of a pair that is accepted (this project's own).
 use Rattle.std.specs.Prelude.{◌≡◌, ◌<◌, ◌^◌, ℕ, false, List, length, slice_index}
-use Rattle.mz_forms.specs.Proof.{Statement}
+use Rattle.mz_statements.specs.Statements.{Statement}
 use Rattle.mz_type.specs.Meaning.{marked}
 use Rattle.mz_type.specs.TextOf.{TextOf}
 use Rattle.mz_type.specs.Weight.{IsWithinLimits}
-use Rattle.mz_binary.specs.Chains.{Statements}
-use Rattle.mz_match.specs.Verdict.{Accepts}
+use Rattle.mz_files.specs.Chains.{Statements}
+use Rattle.mz_verdicts.specs.Verdict.{Accepts}
 use Rattle.mz_restating.specs.Restated.{Restates}
 use Rattle.mz_restating.specs.Texts.{IsPlainText}
 

@@ -8,7 +8,8 @@ use Rattle.mz_logic.specs.Declaration.{Declaration, sort_decl, term_decl, assert
 use Rattle.mz_logic.specs.LegalLists.{Statement as Marked}
 use Rattle.mz_logic.specs.declared.binder.Binder.{Binder}
 use Rattle.mz_sexpr.specs.Node.{depth_limit}
-use Rattle.mz_forms.specs.Proof.{Proof, Statement}
+use Rattle.mz_forms.specs.Proof.{Proof}
+use Rattle.mz_statements.specs.Statements.{Statement}
 use Rattle.mz_type.specs.Weight.{byte_bound}
 use Rattle.mz_layout.specs.Tables.{list_at}
 use Rattle.mz_layout.specs.Heads.{body_bytes}
@@ -16,7 +17,8 @@ use Rattle.mz_soundness.specs.FileRows.{taken_by, rows_taken}
 use Rattle.mz_earlier.specs.OwnRow.{heading_of}
 use Rattle.mz_spec.specs.State.{Entry}
 use Rattle.mz_spec.specs.Spec.{SpecMakes}
-use Rattle.mz_match.specs.Verdict.{Accepts}
+use Rattle.mz_verdicts.specs.Verdict.{Accepts}
+use Rattle.mz_wording.specs.Wording.{longest}
 use Rattle.mz_naming.specs.Names.{prefix_beside, declared_names, statement_names}
 use Rattle.mz_tracing.specs.Traces.{Made, under_lets}
 use Rattle.mz_phrasing.specs.Phrases.{depth}
@@ -75,9 +77,6 @@ depth_checks v k (s ∷ ss) = demand (deep k) (depth (statement v s) ≤ depth_l
 -- the text's length, or the bound on that of what it compiles to, if it is greater
 abbrev pub greater_length : Vocabulary → List Statement → ℕ
 greater_length v ss = max (length (text_of v ss)) (byte_bound ss)
-
-abbrev pub longest : ℕ
-longest = 4294967295
 
 -- a length as it is told: the greatest that is
 abbrev pub told_length : ℕ → ℕ

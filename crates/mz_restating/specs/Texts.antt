@@ -1,7 +1,7 @@
 -- The text of a pair that is accepted, or what stands first against it (this project's own).
 use Rattle.std.specs.Prelude.{◌≡◌, ℕ, List}
 use Rattle.mz_checks.specs.Checks.{AllHold, FailsFirst}
-use Rattle.mz_forms.specs.Proof.{Statement}
+use Rattle.mz_statements.specs.Statements.{Statement}
 use Rattle.mz_phrasing.specs.Phrasing.{text_of}
 use Rattle.mz_naming.specs.Names.{vocabulary_of}
 use Rattle.mz_restating.specs.Restated.{Restates, Unstated, stating_checks}

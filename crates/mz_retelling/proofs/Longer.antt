@@ -5,8 +5,8 @@ use Rattle.std.proofs.lemmas.List.Elements.{All-append}
 use Rattle.std.proofs.lemmas.Result.{IfOk-weaker}
 use Rattle.mz_phrasing.specs.Phrases.{Phrase, a_word, a_list, one_more}
 use Rattle.mz_phrasing.specs.Phrasing.{of_parts, word_list}
-use Rattle.mz_stating.specs.ByNumber.{phrase_at, phrases_at}
-use Rattle.mz_retelling.specs.Growing.{Grows, AreThere, those_at, Tells, Adds, chosen}
+use Rattle.mz_stating.specs.ByNumber.{phrase_at, phrases_at, Grows}
+use Rattle.mz_retelling.specs.Growing.{AreThere, those_at, Tells, Adds, chosen}
 
 pub grows-same : (ps : List Phrase) → Grows ps ps
 grows-same ps = ([], sym (append-nil ps))

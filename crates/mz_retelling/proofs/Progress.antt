@@ -4,12 +4,12 @@ use Rattle.std.proofs.lemmas.List.{length-append, length-map, map-append}
 use Rattle.std.proofs.Math.ListN.{get_or-map}
 use Rattle.mz_phrasing.specs.Phrases.{Phrase}
 use Rattle.mz_phrasing.specs.Phrasing.{Vocabulary}
-use Rattle.mz_stating.specs.ByNumber.{phrase_at}
+use Rattle.mz_stating.specs.ByNumber.{phrase_at, Grows}
 use Rattle.mz_stating.specs.Measures.{capped}
 use Rattle.mz_stating.proofs.Offered.{capped-sum}
 use Rattle.mz_trace.specs.declared.node.RunNode.{RunNode}
 use Rattle.mz_trace.specs.declared.node.RunNode.TheVariants as node
-use Rattle.mz_retelling.specs.Growing.{Grows, AreThere, those_at}
+use Rattle.mz_retelling.specs.Growing.{AreThere, those_at}
 use Rattle.mz_retelling.specs.Telling.{told, weight_at, weights_at, weighed, weighed_after, all_weighed, told_after, all_told, AreLowerAfter}
 use Rattle.mz_retelling.specs.Gathering.{AreTold, AreGathered, IsOneMore, phrases_in}
 use Rattle.mz_retelling.proofs.Longer.{grows-on, grows-same, no-numbers}

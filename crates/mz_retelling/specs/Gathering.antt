@@ -2,10 +2,10 @@
 use Rattle.std.specs.Prelude.{ℕ, ◌≡◌, ◌<◌, List, [], ◌∷◌, ◌++◌, length, map, drop}
 use Rattle.mz_phrasing.specs.Phrases.{Phrase}
 use Rattle.mz_phrasing.specs.Phrasing.{Vocabulary}
-use Rattle.mz_stating.specs.ByNumber.{phrase_at}
+use Rattle.mz_stating.specs.ByNumber.{phrase_at, Grows}
 use Rattle.mz_stating.specs.Measures.{capped}
 use Rattle.mz_trace.specs.declared.node.RunNode.{RunNode}
-use Rattle.mz_retelling.specs.Growing.{Grows, AreThere, those_at}
+use Rattle.mz_retelling.specs.Growing.{AreThere, those_at}
 use Rattle.mz_retelling.specs.Telling.{told, told_behind, weighed, weight_at, weight_behind, all_told, all_weighed}
 use Rattle.mz_retelling.specs.declared.whole.Told.{Told}
 

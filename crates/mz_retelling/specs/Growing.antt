@@ -1,11 +1,7 @@
 -- Phrases to which more are added.
 use Rattle.std.specs.Prelude.{ℕ, ◌≡◌, ◌<◌, All, List, ◌++◌, length, map, get_or}
 use Rattle.mz_phrasing.specs.Phrases.{Phrase}
-use Rattle.mz_stating.specs.ByNumber.{phrase_at}
-
--- the second begin with the first
-abbrev pub Grows : List Phrase → List Phrase → Type 0
-Grows old new = (more : List Phrase) × (new ≡ old ++ more)
+use Rattle.mz_stating.specs.ByNumber.{Grows, phrase_at}
 
 -- numbers of phrases that are there
 abbrev pub AreThere : List Phrase → List ℕ → Type 0

@@ -3,9 +3,9 @@ ghost use Rattle.std.specs.Prelude.{◌≡◌, ◌<◌, ◌∷◌, [], All, IfOk
 ghost use Rattle.mz_phrasing.specs.Phrases.{a_word};
 ghost use Rattle.mz_phrasing.specs.Phrasing.{list_of};
 ghost use Rattle.mz_phrasing.specs.Naming.{vocabulary_by};
-ghost use Rattle.mz_stating.specs.ByNumber.{phrase_at};
+ghost use Rattle.mz_stating.specs.ByNumber.{phrase_at, Grows};
 ghost use Rattle.mz_stating.specs.Measures.{capped};
-ghost use Rattle.mz_retelling.specs.Growing.{Grows, Tells};
+ghost use Rattle.mz_retelling.specs.Growing.{Tells};
 ghost use Rattle.mz_retelling.specs.Telling.{AreLowerAfter, IsLower};
 ghost use Rattle.mz_retelling.specs.Gathering.{AreGathered, AreTold, IsOneMore, IsBehind};
 ghost use Rattle.mz_retelling.specs.Retelling.{IsWhole, IsRetold, IsWeighed};

@@ -15,7 +15,7 @@ ghost use Rattle.mz_shared.specs.Variables.{IsShared};
 use crate::table::Table;
 use mz_cmd::Mem;
 use mz_forms::Vars;
-use mz_logic::{Binder, Expr, Exprs, Terms, Word};
+use mz_logic::{Binder, Expr, Exprs, Hyps, Terms, Word};
 use mz_store::{DepsMode, Id, Store};
 use std::alloc::Global;
 
@@ -110,6 +110,31 @@ fn instance_ids<T: Terms>(
     Ok(ids)
 }
 
+/// The same of each hypothesis.
+fn instance_hyps<T: Terms>(
+    alloc: Global,
+    store: &mut Store,
+    terms: &T,
+    operands: &[Id],
+    hyps: &Hyps,
+) -> Result<Vec<Id>, Mem>
+    requires over { IsOver (signatures_of (T.all_terms terms.now)) store.old }
+    requires ids { AreIn store.old operands.now }
+    requires there { AllInReach (length operands.now) hyps.now }
+    requires sorted { AreSorted (signatures_of (T.all_terms terms.now)) store.old.context (instances (trees_of store.old operands.now) hyps.now) }
+    ensures ids { IfOk result (λ ids. AreIn store.new ids.items) }
+    ensures trees { IfOk result (λ ids. trees_of store.new ids.items ≡ instances (trees_of store.old operands.now) hyps.now) }
+    ensures grows { OnOk result (Grows store.old store.new) }
+    ensures over { OnOk result (IsOver (signatures_of (T.all_terms terms.now)) store.new) }
+{
+    let mut ids = Vec::new(alloc);
+    for i in 0..hyps.len() {
+        let id = instance_id(alloc, store, terms, operands, hyps.at(i))?;
+        ids.push(id)?;
+    }
+    Ok(ids)
+}
+
 impl Shared {
     /// No expressions but the variables: the parameters that the words say, and the dummies behind them,
     /// at most 55 of them bound.
@@ -167,6 +192,24 @@ impl Shared {
         ensures shared { OnOk result (IsShared (signatures_of (map words_of_row table.now.terms.items)) self.new.store self.new.variables.items) }
     {
         let ids = instance_ids(self.alloc, &mut self.store, table, &self.variables, es)?;
+        Ok(ids)
+    }
+
+    /// The ids of the hypotheses.
+    ///
+    /// # Errors
+    ///
+    /// Where there is no memory.
+    pub fn hyp_ids(&mut self, table: &Table, hyps: &Hyps) -> Result<Vec<Id>, Mem>
+        requires shared { IsShared (signatures_of (map words_of_row table.now.terms.items)) self.old.store self.old.variables.items }
+        requires sorted { AreSorted (signatures_of (map words_of_row table.now.terms.items)) self.old.store.context hyps.now }
+        ensures ids { IfOk result (λ ids. AreIn self.new.store ids.items) }
+        ensures trees { IfOk result (λ ids. trees_of self.new.store ids.items ≡ hyps.now) }
+        ensures grows { OnOk result (Grows self.old.store self.new.store) }
+        ensures variables { OnOk result (self.new.variables.items ≡ self.old.variables.items) }
+        ensures shared { OnOk result (IsShared (signatures_of (map words_of_row table.now.terms.items)) self.new.store self.new.variables.items) }
+    {
+        let ids = instance_hyps(self.alloc, &mut self.store, table, &self.variables, hyps)?;
         Ok(ids)
     }
 

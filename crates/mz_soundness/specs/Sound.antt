@@ -42,6 +42,10 @@ abbrev pub GapsWithin : ℕ → List ℕ → Type 0
 GapsWithin zero bytes = ⊥
 GapsWithin (suc n) bytes = (c : Cmd) × (first_command bytes ≡ Ok c) × ((proof_code c.code ≡ Some Sorry) ⊎ GapsWithin n (drop c.len bytes))
 
+-- a command of the body leaves a gap
+abbrev pub HasGap : List ℕ → Type 0
+HasGap bytes = GapsWithin (length bytes) bytes
+
 -- a command of the body leaves a gap, where gaps are let through
 abbrev pub LeavesGap : Bool → List ℕ → Type 0
 LeavesGap gaps bytes = (gaps ≡ true) × GapsWithin (length bytes) bytes

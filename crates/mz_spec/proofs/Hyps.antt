@@ -1,5 +1,5 @@
 -- The hypotheses that formulas make, one after another.
-use Rattle.std.proofs.Common.{◌≡◌, ◌∙◌, ◌<◌, ◌+◌, ◌-◌, ℕ, zero, suc, List, [], ◌∷◌, length, map, drop, get_or, ap, sym, refl, subst, arith}
+use Rattle.std.proofs.Common.{◌≡◌, ◌∙◌, ◌<◌, ◌+◌, ℕ, List, [], ◌∷◌, length, map, drop, get_or, ap, sym, refl, subst}
 use Rattle.mz_checks.specs.Checks.{Checks, AllHold, FailsFirst}
 use Rattle.mz_checks.proofs.Offered.{Decides, decides-after, fails-before}
 use Rattle.mz_logic.specs.Tree.{Tree, Trees, none, more, followed_by}
@@ -24,19 +24,6 @@ followed-assoc (more e es) fs gs = ap (more e) (followed-assoc es fs gs)
 pub followed-none : (es : Trees) → followed_by es none ≡ es
 followed-none none = refl
 followed-none (more e es) = ap (more e) (followed-none es)
-
--- ---- copies
-
-pub copies-step : (n i : ℕ) (e f : Tree) (hyps now whole : Trees) → i < n → f ≡ e → now ≡ followed_by hyps (more f none) → followed_by hyps (copies (n - i) e) ≡ whole → followed_by now (copies (n - (i + 1)) e) ≡ whole
-copies-step n i e f hyps now whole below same is so_far =
-    let left : n - i ≡ suc (n - (i + 1)) = omega arith in
-    ap (λ x. followed_by x (copies (n - (i + 1)) e)) is ∙ followed-assoc hyps (more f none) (copies (n - (i + 1)) e)
-    ∙ ap (λ g. followed_by hyps (more g (copies (n - (i + 1)) e))) same ∙ ap (λ m. followed_by hyps (copies m e)) (sym left) ∙ so_far
-
--- one more at the end
-pub copies-last : (n : ℕ) (e : Tree) → followed_by (copies n e) (more e none) ≡ copies (suc n) e
-copies-last zero e = refl
-copies-last (suc n) e = ap (more e) (copies-last n e)
 
 -- ---- strings
 

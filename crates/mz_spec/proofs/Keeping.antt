@@ -1,7 +1,7 @@
 -- What holds of the state behind good statements holds of the state behind one more.
 use Rattle.std.proofs.Common.{◌≡◌, ◌≢◌, ◌∙◌, ◌++◌, ◌+◌, ℕ, zero, suc, List, [], ◌∷◌, length, Bool, true, false, Option, Some, slice_get, Contains, ap, sym, refl, subst, inl, inr, arith, length-append}
 use Rattle.std.specs.Prelude.{IsTrue, if◌then◌else◌}
-use Rattle.mz_lex.specs.Kinds.{is_name}
+use Rattle.mz_names.specs.Identifiers.{is_name}
 use Rattle.mz_lex.specs.Lexemes.{Lexeme}
 use Rattle.mz_logic.specs.Declaration.{Declaration, sort_decl, term_decl, assertion_decl, sorts, signatures}
 use Rattle.mz_logic.specs.Legality.{IsLegalDecl}
@@ -71,7 +71,7 @@ numbered-more i (m ∷ ns) n =
     ap (λ xs. record { name = m; term = i } ∷ xs) (numbered-more (i + 1) ns n ∙ ap (λ k. numbered (i + 1) ns ++ record { name = n; term = k } ∷ []) e)
 
 -- a new name is none of these
-pub numbered-new : (i : ℕ) (ns : List (List ℕ)) (t : List ℕ) → IsNew ns t → (m : TermName) → Contains (numbered i ns) m → m.name ≡ t → ⊥
+numbered-new : (i : ℕ) (ns : List (List ℕ)) (t : List ℕ) → IsNew ns t → (m : TermName) → Contains (numbered i ns) m → m.name ≡ t → ⊥
 numbered-new i [] t new m (k, below, is) same = omega (arith, below)
 numbered-new i (n ∷ ns) t new m (zero, below, is) same = (new-first n ns t new).0 (ap (λ x. x.name) is ∙ same)
 numbered-new i (n ∷ ns) t new m (suc k, below, is) same = numbered-new (i + 1) ns t (new-first n ns t new).1 m (k, omega (arith, below), is) same

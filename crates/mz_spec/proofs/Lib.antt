@@ -22,5 +22,7 @@ pub mod SomeSpec
 pub mod Numerals
 pub mod Noted
 pub mod Spans
+mod Sizes
+mod NamesAlone
 pub mod Marked
 pub mod Offered

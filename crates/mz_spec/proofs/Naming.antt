@@ -4,7 +4,8 @@ use Rattle.std.proofs.lemmas.List.{length-map}
 use Rattle.std.proofs.lemmas.Slice.Eq.{bytes_eq-Decides}
 use Rattle.std.specs.Bool.{Decides}
 use Rattle.std.specs.Prelude.{⊤, IsTrue, codes, if◌then◌else◌, bytes_eq}
-use Rattle.mz_lex.specs.Kinds.{is_name, is_of_kind}
+use Rattle.mz_names.specs.Identifiers.{is_name}
+use Rattle.mz_lex.specs.Kinds.{is_of_kind}
 use Rattle.mz_lex.specs.Lexemes.{Lexeme}
 use Rattle.mz_lex.specs.declared.token.TokenKind.TheVariants as kinds
 use Rattle.mz_grammar.specs.declared.kind.Kind.{Kind}
@@ -12,7 +13,7 @@ use Rattle.mz_grammar.specs.declared.kind.Kind.TheVariants.{Term, Assert, Defini
 use Rattle.mz_grammar.specs.declared.kind.AssertKind.{AssertKind}
 use Rattle.mz_grammar.specs.Statement.{TypeText, Source, type_source, formula_source, NameText, Group, Head, Statement, sort_statement, term_statement, assert_statement, definition_statement, operator_statement, coercion_statement, delimiter_statement, notation_statement, Spells, Sign, keyword, symbol, name, name_or_blank, formula, number, only_if, IsSign, AreSigns, each, end_signs, modifier_signs, type_signs, takes_dummies, closing_of, dot_signs, name_signs, group_source_signs, group_signs, argument_signs, premise_signs, body_signs, literal_signs, tail_signs, statement_signs}
 use Rattle.mz_spec.specs.Code.{EndsSmall}
-use Rattle.mz_spec.specs.Kept.{AreOfText, IsSpelled}
+use Rattle.mz_spec.specs.Kept.{AreOfText, IsSpelled, bytes_of}
 use Rattle.mz_variables.specs.Dependencies.{Every}
 use Rattle.mz_variables.specs.View.{Variable, view, name_of, variable_of, source_variables, group_variables, variables_of, unnamed, types_of, group_stated, premise_stated, stated_of, source_stated, params_of, dummies_of}
 
@@ -323,8 +324,13 @@ variables-few (notation_statement h t ls l tail) =
     let first = length-append (each (group_signs Notation) h.groups) (symbol (codes ":") ∷ (type_signs t ++ (symbol (codes "=") ∷ (each literal_signs ls ++ (literal_signs l ++ (tail_signs tail ++ end_signs)))))) in
     omega (arith, groups-few Notation h.groups, first)
 
+-- each lexeme has a byte
+lexemes-few : (ls : List Lexeme) → AreOfText ls → length ls ≤ bytes_of ls
+lexemes-few [] of = omega arith
+lexemes-few (l ∷ ls) (kind, small, of) = let e = lexemes-few ls of in let some = small.0 in omega (arith, e, some)
+
 pub spelled-few : (s : Statement) → IsSpelled s → length (view s).variables < 2 ^ 32
-spelled-few s (ls, spells, of, few) = let long = signs-long (statement_signs s) ls spells in omega (arith, variables-few s, long, few)
+spelled-few s (ls, spells, of, few) = let long = signs-long (statement_signs s) ls spells in let many = lexemes-few ls of in omega (arith, variables-few s, long, many, few)
 
 split-few : (vs : List Variable) → length (params_of vs) + length (dummies_of vs) ≡ length vs
 split-few [] = refl

@@ -1,5 +1,6 @@
 -- How statements on notations are judged by their parts.
 use Rattle.std.proofs.Common.{◌≡◌, ◌∙◌, ◌++◌, ℕ, List, [], ◌∷◌, map, OnOk, Bool, Option, Result, Ok, Err, ap, sym, refl, subst, inl, inr}
+use Rattle.std.specs.Prelude.{option_map}
 use Rattle.mz_lex.specs.Lexemes.{Lexeme}
 use Rattle.mz_checks.specs.Checks.{Checks, nothing, each_in_order, ◌>>◌, retold, AllHold, FailsFirst}
 use Rattle.mz_checks.proofs.Offered.{fails-before, fails-after, all_hold-both, retold-fails, retold-holds}
@@ -7,25 +8,27 @@ use Rattle.mz_logic.specs.Declaration.{signatures}
 use Rattle.mz_logic.specs.Signature.{Signature}
 use Rattle.mz_tokens.specs.declared.pieces.Delimiters.{Delimiters}
 use Rattle.mz_tokens.specs.declared.pieces.Piece.{Piece}
+use Rattle.mz_coercions.specs.declared.coercion.Coercion.{Coercion}
 use Rattle.mz_notation.specs.declared.notation.Notation.{Notation}
 use Rattle.mz_notation.specs.declared.table.NoteFault.{NoteFault}
 use Rattle.mz_notation.specs.declared.table.NoteFault.TheVariants as faults
-use Rattle.mz_notation.specs.Notation.{Table}
-use Rattle.mz_notation.specs.Forms.{IsInfix, IsPrefix, IsGeneral, General, notation_checks, IsAnswer, AddsNotation}
+use Rattle.mz_notation.specs.Notation.{Table, with_coercion}
+use Rattle.mz_notation.specs.Forms.{IsInfix, IsPrefix, IsGeneral, General, notation_checks, IsAnswer, AddsDelimiters, AddsNotation}
 use Rattle.mz_notation.specs.Kept.{AreVariables}
 use Rattle.mz_grammar.specs.declared.kind.Fixity.{Fixity}
 use Rattle.mz_grammar.specs.declared.refusal.Fault.{Fault}
 use Rattle.mz_grammar.specs.declared.refusal.Halt.{Halt}
 use Rattle.mz_grammar.specs.declared.refusal.Halt.TheVariants as halts
 use Rattle.mz_grammar.specs.Reading.{OnFault}
-use Rattle.mz_grammar.specs.Statement.{TypeText, Head, Level, LiteralText, TailText, Statement, operator_statement, notation_statement}
+use Rattle.mz_grammar.specs.Statement.{TypeText, Head, Level, LiteralText, TailText, Statement, coercion_statement, delimiter_statement, operator_statement, notation_statement}
 use Rattle.mz_spec.specs.Answers.{JudgesOrMem, JudgesStatement}
-use Rattle.mz_spec.specs.Formulas.{AreTokens}
-use Rattle.mz_spec.specs.Forms.{ArePartsOf, MakesOperator, MakesNotation, at_statement, form_checks}
+use Rattle.mz_spec.specs.Formulas.{AreTokens, inner}
+use Rattle.mz_spec.specs.Forms.{ArePartsOf, MakesOperator, MakesNotation, at_statement, coercion_of, form_checks}
 use Rattle.mz_spec.specs.Noting.{halt_of, noting_rules}
 use Rattle.mz_variables.specs.Dependencies.{Every}
 use Rattle.mz_spec.specs.Rules.{is_level, is_known, are_others, type_checks, binder_rules, statement_checks}
-use Rattle.mz_spec.specs.State.{State, variable_bytes, with_table}
+use Rattle.mz_spec.specs.Entries.{names_alone}
+use Rattle.mz_spec.specs.State.{State, variable_bytes}
 use Rattle.mz_variables.specs.Code.{AreParts, variable}
 use Rattle.mz_spec.specs.Declaring.{After}
 use Rattle.mz_variables.specs.declared.parts.Parts.{Parts}
@@ -34,6 +37,7 @@ use Rattle.mz_spec.proofs.Loops.{assoc, fails-front, judges-behind, mem-before, 
 use Rattle.mz_spec.proofs.Naming.{IsNamed}
 use Rattle.mz_spec.proofs.Places.{split-variables}
 use Rattle.mz_spec.proofs.Keeping.{general-other}
+use Rattle.mz_spec.proofs.NamesAlone.{over_table, same-names, notation-same, delimiters-same}
 
 -- ---- statements without formulas
 
@@ -55,6 +59,34 @@ prefix-answer r t sigs d n m b c l q x y z is =
 
 pub operator-answer : {A : Type 0} → (r : Result A NoteFault) (σ : State) (f g : Fixity) (n c : Lexeme) (level : Level) → f ≡ g → IsAnswer r (notation_checks σ.table (MakesOperator σ g n c level)) → IsAnswer r (notation_checks σ.table (MakesOperator σ f n c level))
 operator-answer r σ f g n c level same is = subst (λ h. IsAnswer r (notation_checks σ.table (MakesOperator σ h n c level))) (sym same) is
+
+-- ---- what the table has then
+
+pub infix-after : {A : Type 0} → (r : Result A NoteFault) (t u : Table) (sigs : List Signature) (d : Delimiters) (n m : ℕ) (b c : List ℕ) (l q : Option ℕ) (right : Bool) → n ≡ m → b ≡ c → l ≡ q
+    → OnOk r (AddsNotation t (IsInfix sigs d n b l right) u) → OnOk r (AddsNotation t (IsInfix sigs d m c q right) u)
+infix-after r t u sigs d n m b c l q right x y z is =
+    subst (λ q. OnOk r (AddsNotation t (IsInfix sigs d m c q right) u)) z (subst (λ c. OnOk r (AddsNotation t (IsInfix sigs d m c l right) u)) y (subst (λ m. OnOk r (AddsNotation t (IsInfix sigs d m b l right) u)) x is))
+
+pub prefix-after : {A : Type 0} → (r : Result A NoteFault) (t u : Table) (sigs : List Signature) (d : Delimiters) (n m : ℕ) (b c : List ℕ) (l q : Option ℕ) → n ≡ m → b ≡ c → l ≡ q
+    → OnOk r (AddsNotation t (IsPrefix sigs d n b l) u) → OnOk r (AddsNotation t (IsPrefix sigs d m c q) u)
+prefix-after r t u sigs d n m b c l q x y z is =
+    subst (λ q. OnOk r (AddsNotation t (IsPrefix sigs d m c q) u)) z (subst (λ c. OnOk r (AddsNotation t (IsPrefix sigs d m c l) u)) y (subst (λ m. OnOk r (AddsNotation t (IsPrefix sigs d m b l) u)) x is))
+
+pub operator-after : {A : Type 0} → (r : Result A NoteFault) (σ : State) (u : Table) (f g : Fixity) (n c : Lexeme) (level : Level) → σ.term_names ≡ names_alone σ.table.names → f ≡ g
+    → OnOk r (AddsNotation σ.table (MakesOperator σ g n c level) u) → OnOk r (After σ 0 (operator_statement f n c level) (over_table σ u))
+operator-after (Ok a) σ u f g n c level alone same adds =
+    (u, subst (λ h. AddsNotation σ.table (MakesOperator σ h n c level) u) (sym same) adds, same-names σ u (ap names_alone (notation-same σ.table u (MakesOperator σ g n c level) adds) ∙ sym alone))
+operator-after (Err e) σ u f g n c level alone same adds = tt
+
+pub coercion-after : (σ : State) (place : ℕ) (u : Table) (n from to : Lexeme) (c : Coercion) → σ.term_names ≡ names_alone σ.table.names → c ≡ coercion_of σ n from to → u ≡ with_coercion σ.table c
+    → After σ place (coercion_statement n from to) (over_table σ u)
+coercion-after σ place u n from to c alone same is =
+    (u, is ∙ ap (with_coercion σ.table) same, same-names σ u (ap (λ (v : Table). names_alone v.names) is ∙ sym alone))
+
+pub delimiter-after : (σ : State) (place : ℕ) (u : Table) (left : Lexeme) (right : Option Lexeme) (l : List ℕ) (r : Option (List ℕ)) → σ.term_names ≡ names_alone σ.table.names → l ≡ inner left → r ≡ option_map inner right
+    → AddsDelimiters σ.table l r u → After σ place (delimiter_statement left right) (over_table σ u)
+delimiter-after σ place u left right l r alone first second adds =
+    (u, subst (λ o. AddsDelimiters σ.table (inner left) o u) second (subst (λ w. AddsDelimiters σ.table w r u) first adds), same-names σ u (ap names_alone (delimiters-same σ.table u l r adds) ∙ sym alone))
 
 -- a fault of the table, behind what holds
 table-halt : (place : ℕ) (t : Table) (Makes : Notation → Type 0) (fault : NoteFault) (before : Checks Fault) → AllHold before → IsAnswer {A = ℕ} (Err fault) (notation_checks t Makes)
@@ -202,9 +234,11 @@ module _ (σ : State) (h : Head) (t : TypeText) (ls : List LiteralText) (last : 
       answer-other σ.table (IsGeneral (signatures σ.env) σ.table.delimiters g) (MakesNotation σ (notation_statement h t ls last o)) (λ k makes. (g, parts, makes))
       (λ k makes. general-other σ h t (ls ++ last ∷ []) o makes.0 g k makes.1 parts makes.2) r is
 
-  pub general-after : {A : Type 0} → (r : Result A NoteFault) (u : Table) → OnOk r (AddsNotation σ.table (IsGeneral (signatures σ.env) σ.table.delimiters g) u) → OnOk r (After σ 0 (notation_statement h t ls last o) (with_table σ u))
-  general-after (Ok a) u adds = (u, (adds.0, (g, parts, adds.1), adds.2), refl)
-  general-after (Err e) u adds = tt
+  pub general-after : {A : Type 0} → (r : Result A NoteFault) (u : Table) → σ.term_names ≡ names_alone σ.table.names → OnOk r (AddsNotation σ.table (IsGeneral (signatures σ.env) σ.table.delimiters g) u)
+      → OnOk r (After σ 0 (notation_statement h t ls last o) (over_table σ u))
+  general-after (Ok a) u alone adds =
+      (u, (adds.0, (g, parts, adds.1), adds.2), same-names σ u (ap names_alone (notation-same σ.table u (IsGeneral (signatures σ.env) σ.table.delimiters g) adds) ∙ sym alone))
+  general-after (Err e) u alone adds = tt
 
 -- ---- the variables of parts
 

@@ -1,5 +1,5 @@
 -- The levels of a statement that lexemes of a text spell are written in digits.
-use Rattle.std.proofs.Common.{◌≡◌, ◌∙◌, ◌++◌, ◌<◌, ◌≤◌, ◌+◌, ◌*◌, ◌-◌, take, ℕ, zero, suc, List, [], ◌∷◌, length, get_or, Bool, true, false, Option, Some, None, ap, sym, refl, subst, arith}
+use Rattle.std.proofs.Common.{◌≡◌, ◌∙◌, ◌++◌, ◌<◌, ◌+◌, ◌*◌, ◌-◌, take, ℕ, List, [], ◌∷◌, length, get_or, Bool, true, false, Option, Some, None, ap, sym, refl, subst, arith}
 use Rattle.std.specs.Prelude.{⊤, ◌||◌, ◌&&◌, IsTrue, codes, bytes_eq}
 use Rattle.std.specs.List.{list_all}
 use Rattle.std.specs.Bool.{Decides}
@@ -8,7 +8,9 @@ use Rattle.std.proofs.lemmas.Str.{digit_value_digit}
 use Rattle.std.proofs.lemmas.Int.Digits.{digits_value_more}
 use Rattle.std.proofs.lemmas.Bool.Decides.{nat_tests}
 use Rattle.std.proofs.lemmas.Slice.Eq.{bytes_eq-Decides}
-use Rattle.mz_lex.specs.Kinds.{is_digit, is_number_start, is_number, is_of_kind}
+use Rattle.mz_names.specs.Identifiers.{is_digit}
+use Rattle.mz_names.proofs.Offered.{digit-at, digit-between}
+use Rattle.mz_lex.specs.Kinds.{is_number_start, is_number, is_of_kind}
 use Rattle.mz_lex.specs.Lexemes.{Lexeme}
 use Rattle.mz_grammar.specs.declared.kind.Kind.TheVariants.{Notation}
 use Rattle.mz_grammar.specs.declared.kind.Fixity.{Fixity}
@@ -36,15 +38,6 @@ number-digits (c ∷ cs) is = go (bytes_eq (c ∷ cs) (codes "0")) (bytes_eq-Dec
     go : (b : Bool) → Decides b ((c ∷ cs) ≡ codes "0") → (b || (is_number_start c && list_all is_digit cs)) ≡ true → IsTrue (list_all is_digit (c ∷ cs))
     go true by e = subst (λ t. IsTrue (list_all is_digit t)) (sym (by.0 refl)) refl
     go false by e = let both = both-true (is_number_start c) (list_all is_digit cs) e in joined-true (is_digit c) (list_all is_digit cs) (start-digit c both.0) both.1
-
--- a digit among digits
-pub digit-at : (ds : List ℕ) (i d : ℕ) → IsTrue (list_all is_digit ds) → i < length ds → is_digit (get_or ds i d) ≡ true
-digit-at [] i d all below = absurd (omega (arith, below))
-digit-at (c ∷ cs) zero d all below = (both-true (is_digit c) (list_all is_digit cs) all).0
-digit-at (c ∷ cs) (suc i) d all below = digit-at cs i d (both-true (is_digit c) (list_all is_digit cs) all).1 (omega (arith, below))
-
-pub digit-between : (c : ℕ) → is_digit c ≡ true → (48 ≤ c) × (c ≤ 57)
-digit-between c is = (grind (arith, nat_tests), grind (arith, nat_tests))
 
 -- one more digit
 pub next-value : (ds : List ℕ) (i value : ℕ) → i < length ds → IsTrue (list_all is_digit ds) → value ≡ digits_value 10 (take i ds) → digits_value 10 (take (i + 1) ds) ≡ value * 10 + (get_or ds i 0 - 48)

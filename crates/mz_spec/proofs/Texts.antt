@@ -14,7 +14,7 @@ use Rattle.mz_grammar.specs.Statement.{Statement, sort_statement, term_statement
 use Rattle.mz_grammar.specs.Reading.{place_of_first, IsRead, StopsFrom, OnFault}
 use Rattle.mz_spec.specs.Answers.{IsAnswer, halted}
 use Rattle.mz_spec.specs.Code.{EndsSmall}
-use Rattle.mz_spec.specs.Kept.{AreOfText, IsSpelled}
+use Rattle.mz_spec.specs.Kept.{AreOfText, IsSpelled, bytes_of}
 use Rattle.mz_spec.specs.State.{State, nothing, entries_of, mark_at}
 use Rattle.mz_variables.specs.View.{view}
 use Rattle.mz_spec.specs.Declaring.{After}
@@ -127,6 +127,13 @@ range-length text from to some within = taken (to - from) (drop from text) (let 
     taken (suc n) [] le = absurd (omega (arith, le))
     taken (suc n) (x ∷ xs) le = ap suc (taken n xs (omega (arith, le)))
 
+-- lexemes stand one behind the other, so that together they have no more bytes than stand there
+bytes-long : (text : List ℕ) (from to : ℕ) (ls : List Lexeme) → LexemesTo text from ls to → from + bytes_of ls ≤ to
+bytes-long text from to [] lexes = omega (arith, lexes)
+bytes-long text from to (l ∷ ls) (is, lexes) =
+    let long = ap length is.spelled ∙ range-length text l.from l.to is.some is.within in
+    omega (arith, bytes-long text l.to to ls lexes, long, is.some, blank-forward text from l.from is.blank)
+
 next-of_text : (text : List ℕ) (from : ℕ) (l : Lexeme) → length text < 2 ^ 32 → IsNext text from l → IsTrue (is_of_kind l.kind l.text) × EndsSmall l
 next-of_text text from l small is =
     let long = ap length is.spelled ∙ range-length text l.from l.to is.some is.within in
@@ -139,7 +146,7 @@ of_text text from to (l ∷ ls) small (is, lexes) = let here = next-of_text text
 
 pub read-spelled : (text : List ℕ) (from : ℕ) (read : StatementRead) → length text < 2 ^ 32 → read.end ≤ length text → IsRead text from read → IsSpelled (statement read.statement)
 read-spelled text from read small within (front, lexes, spells, _) =
-    (front, spells, of_text text from read.end front small lexes, let long = lexemes-long text from read.end front lexes in omega (arith, long, within, small))
+    (front, spells, of_text text from read.end front small lexes, let long = bytes-long text from read.end front lexes in omega (arith, long, within, small))
 
 -- a statement has two lexemes at least
 signs-two : (s : Statement) → 2 ≤ length (statement_signs s)

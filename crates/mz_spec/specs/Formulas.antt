@@ -1,12 +1,13 @@
 -- What the formulas of a statement stand for, and the rules that they break (mm0.md, sections on definitions, axioms
 -- and theorems).
-use Rattle.std.specs.Prelude.{◌≡◌, ◌+◌, ⊤, ℕ, zero, suc, List, [], ◌∷◌, Contains}
+use Rattle.std.specs.Prelude.{◌≡◌, ◌+◌, ⊤, ℕ, List, [], ◌∷◌, Contains}
 use Rattle.mz_lex.specs.Kinds.{inside_of}
 use Rattle.mz_lex.specs.Lexemes.{Lexeme}
 use Rattle.mz_lex.specs.declared.rule.S.{S}
 use Rattle.mz_lex.specs.declared.rule.S.TheVariants as rules
 use Rattle.mz_checks.specs.Checks.{Checks, nothing, demand, retold, ◌>>◌}
-use Rattle.mz_logic.specs.Tree.{Tree, Trees, none, more, followed_by}
+use Rattle.mz_logic.specs.Tree.{Tree, Trees, none, followed_by}
+pub use Rattle.mz_logic.specs.Tree.{copies}
 use Rattle.mz_logic.specs.Declaration.{signatures}
 use Rattle.mz_logic.specs.Variables.{InFV}
 use Rattle.mz_tokens.specs.declared.pieces.Piece.{Piece}
@@ -37,11 +38,6 @@ wanted_of σ (body l t) = of_sort (sort_number σ t)
 -- the formula breaks no rule, and stands for the expression
 abbrev pub IsMeant : State → List Variable → Formula → Tree → Type 0
 IsMeant σ vs f e = IsFormula (reader_of σ vs) (wanted_of σ f) (inner (math_of f)) e
-
--- so many times the same
-abbrev pub copies : ℕ → Tree → Trees
-copies zero e = none
-copies (suc n) e = more e (copies n e)
 
 -- the hypotheses that formulas make
 abbrev pub AreHyps : State → List Variable → List Stated → Trees → Type 0

@@ -34,6 +34,11 @@ abbrev pub AreOfText : List Lexeme → Type 0
 AreOfText [] = ⊤
 AreOfText (l ∷ ls) = IsTrue (is_of_kind l.kind l.text) × EndsSmall l × AreOfText ls
 
--- fewer than 2 ^ 32 such lexemes spell the statement
+-- how many bytes lexemes have together
+abbrev pub bytes_of : List Lexeme → ℕ
+bytes_of [] = 0
+bytes_of (l ∷ ls) = length l.text + bytes_of ls
+
+-- such lexemes, which have fewer than 2 ^ 32 bytes together, spell the statement
 abbrev pub IsSpelled : Statement → Type 0
-IsSpelled s = (ls : List Lexeme) × Spells s ls × AreOfText ls × (length ls < 2 ^ 32)
+IsSpelled s = (ls : List Lexeme) × Spells s ls × AreOfText ls × (bytes_of ls < 2 ^ 32)

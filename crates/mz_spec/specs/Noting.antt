@@ -1,24 +1,34 @@
 -- What the code of the statements on notations, coercions and delimiters answers.
-use Rattle.std.specs.Prelude.{⊤, ℕ, List, [], IsTrue}
+use Rattle.std.specs.Prelude.{⊤, ℕ, ◌+◌, List, [], ◌∷◌, length, IsTrue}
 use Rattle.std.specs.List.{list_all}
-use Rattle.mz_lex.specs.Kinds.{is_digit}
+use Rattle.mz_names.specs.Identifiers.{is_digit}
 use Rattle.mz_lex.specs.Lexemes.{Lexeme}
 use Rattle.mz_checks.specs.Checks.{Checks, each_in_order, ◌>>◌}
 use Rattle.mz_notation.specs.declared.table.NoteFault.{NoteFault}
 use Rattle.mz_notation.specs.declared.table.NoteFault.TheVariants as faults
 use Rattle.mz_grammar.specs.declared.refusal.Halt.{Halt}
 use Rattle.mz_grammar.specs.declared.refusal.Halt.TheVariants as halts
-use Rattle.mz_grammar.specs.Statement.{TypeText, Level, number_level, max_level}
+use Rattle.mz_grammar.specs.Statement.{TypeText, Level, number_level, max_level, LiteralText, constant_literal, name_literal}
 use Rattle.mz_grammar.specs.declared.refusal.Fault.{Fault}
 use Rattle.mz_variables.specs.View.{Variable, names_of}
 use Rattle.mz_spec.specs.State.{State}
 use Rattle.mz_spec.specs.Rules.{are_others, is_known, type_checks, binder_rules}
+use Rattle.mz_spec.specs.Formulas.{inner}
 use Rattle.mz_spec.specs.Forms.{at_statement}
 
 -- a level that is a number is written in digits
 abbrev pub IsNumeral : Level → Type 0
 IsNumeral (number_level l) = IsTrue (list_all is_digit l.text)
 IsNumeral max_level = ⊤
+
+-- how many bytes a literal has, and literals together
+abbrev pub literal_size : LiteralText → ℕ
+literal_size (constant_literal c level) = length (inner c)
+literal_size (name_literal n) = length n.text
+
+abbrev pub literals_size : List LiteralText → ℕ
+literals_size [] = 0
+literals_size (l ∷ ls) = literal_size l + literals_size ls
 
 -- a fault of the table, told of the statement at a place
 abbrev pub halt_of : ℕ → NoteFault → Halt

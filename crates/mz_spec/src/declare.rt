@@ -3,7 +3,7 @@ ghost use Rattle.std.specs.Prelude.{◌≡◌, ◌+◌, ◌<◌, ◌^◌, ◌++�
 ghost use Rattle.mz_grammar.specs.Code.{assertion as assertion_lem, definition as definition_lem, head, lexeme, modifiers as modifiers_lem, source, term as term_lem, type_text};
 ghost use Rattle.mz_checks.specs.Checks.{AllHold};
 ghost use Rattle.mz_grammar.specs.Statement.{TypeText as TypeLem, sort_statement};
-ghost use Rattle.mz_lex.specs.Kinds.{is_name};
+ghost use Rattle.mz_names.specs.Identifiers.{is_name};
 ghost use Rattle.mz_logic.specs.DeclView.{assertion_of, form, is_axiom as is_axiom_lem, term_of};
 ghost use Rattle.mz_logic.specs.Legality.{IsLegalDecl};
 ghost use Rattle.mz_logic.specs.View.{tree};
@@ -31,7 +31,7 @@ use mz_grammar::{
     AssertKind, AssertText, DefinitionText, Fault, Halt, Lexeme, Modifiers, TermText,
 };
 use mz_lex::S;
-use mz_logic::{Decl, Expr, Exprs, ResultType, SortMods, TermDecl, TermForm, ThmDecl, ThmForm};
+use mz_logic::{Decl, Expr, Hyps, ResultType, SortMods, TermDecl, TermForm, ThmDecl, ThmForm};
 use mz_math::{Scope, Wanted};
 use mz_variables::{NameIndex, Parts, TypeAt, Variable};
 use std::alloc::{AllocError, Global};
@@ -109,11 +109,10 @@ impl<'a> State<'a> {
         ensures mem { IfErr result (λ halt. halt ≡ Halt.Mem) }
         ensures with { OnOk result (state self.new ≡ with_term (state self.old) place (lexeme name.entry) (term_of term)) }
     {
-        let number = self.term_names.len() as u32;
+        let number = self.notations.names().len() as u32;
         let Ok(()) = self.notations.add_term_name(&self.env, name.bytes, number) else {
             return Err(Halt::Mem);
         };
-        self.term_names.push(name.bytes)?;
         self.env.push_decl(Decl::Term(term))?;
         self.marks.push(mark_of(name, place))?;
         Ok(())
@@ -158,7 +157,7 @@ impl<'a> State<'a> {
         ensures judged { JudgesStatement result (state self.now) place (term_lem term.now) }
         ensures declares { IfOk result (λ d. Declares (state self.now) (term_lem term.now) (term_of d)) }
     {
-        check_new(&self.term_names, term.head.name)?;
+        self.check_new_term(term.head.name)?;
         let parts = Parts::of_term(alloc, term)?;
         self.term_with(alloc, place, term, &parts)
     }
@@ -257,7 +256,7 @@ impl<'a> State<'a> {
     {
         let scope = self.scope_of(alloc, index, parts)?;
         let body = self.formula(alloc, &scope, math, Wanted::Sort(result_type.sort))?;
-        let has = self.has_free_variables(alloc, &scope, &body, &result_type.deps)?;
+        let has = self.admits_free_variables(alloc, &scope, &body, &result_type.deps)?;
         if !has {
             return Err(Halt::Fault(Fault {
                 at: place,
@@ -281,7 +280,7 @@ impl<'a> State<'a> {
         ensures judged { JudgesStatement result (state self.now) place (definition_lem definition.now) }
         ensures declares { IfOk result (λ d. Declares (state self.now) (definition_lem definition.now) (term_of d)) }
     {
-        check_new(&self.term_names, definition.head.name)?;
+        self.check_new_term(definition.head.name)?;
         let parts = Parts::of_definition(alloc, definition)?;
         self.definition_with(alloc, place, definition, &parts)
     }
@@ -340,7 +339,7 @@ impl<'a> State<'a> {
         index: &Option<NameIndex<'a>>,
         parts: &Parts<'_, 'a>,
         assertion: &AssertText<'a>,
-    ) -> Result<(Exprs, Expr), Halt>
+    ) -> Result<(Hyps, Expr), Halt>
         requires kept { IsKept (state self.now) }
         requires few { length self.now.marks.items + 1 < 2 ^ 32 }
         requires index { MatchOption index.now ⊤ (IsIndexOf (map variable parts.now.params.items)) }
@@ -366,7 +365,7 @@ impl<'a> State<'a> {
         scope: &Scope,
         stated: &[Stated<'a>],
         assertion: &AssertText<'a>,
-    ) -> Result<(Exprs, Expr), Halt>
+    ) -> Result<(Hyps, Expr), Halt>
         requires stated { map stated_lem stated.now ≡ stated_of_lem (head assertion.now.head).groups (map source assertion.now.premises.items) }
         requires small { Every (λ f. EndsSmall (math_of f)) (view (assertion_lem assertion.now)).formulas }
         ensures judged { scope.now ≡ scope_of (state self.now) (view (assertion_lem assertion.now)).variables

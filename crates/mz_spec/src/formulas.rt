@@ -21,12 +21,11 @@ ghost use Rattle.mz_spec.specs.State.{scope_of};
 ghost use Rattle.mz_variables.specs.View.{Variable, group_stated, premise_stated, stated_claim};
 
 use crate::state::State;
-use mz_copies::copy_of;
+use mz_free::free_vars_are_among;
 use mz_grammar::{Fault, Group, Halt, Lexeme, Source};
 use mz_lex::S;
-use mz_logic::{Deps, Expr, Exprs};
+use mz_logic::{Context, Deps, Expr, Hyps};
 use mz_math::{Parsed, Scope, Wanted, parse_formula};
-use mz_variables::{Covered, covers};
 use std::alloc::{AllocError, Global};
 
 /// A formula of an axiom or a theorem, with the number of hypotheses that it makes.
@@ -95,33 +94,6 @@ fn place_in(math: Lexeme<'_>, at: u32, rule: S) -> u32
     }
 }
 
-/// Adds so many copies of an expression.
-fn push_copies(
-    alloc: Global,
-    exprs: &mut Exprs,
-    expr: &Expr,
-    times: usize,
-) -> Result<(), AllocError>
-    ensures { OnOk result (exprs.new ≡ followed_by exprs.old (copies times (tree expr.now))) }
-{
-    for _ in 0..times {
-        exprs.push(copy_of(alloc, expr)?)?;
-    }
-    Ok(())
-}
-
-/// Adds an expression so many times: copies of it, and then itself.
-fn push_times(alloc: Global, exprs: &mut Exprs, expr: Expr, times: usize) -> Result<(), AllocError>
-    ensures { OnOk result (exprs.new ≡ followed_by exprs.old (copies times (tree expr))) }
-{
-    if times < 1 {
-        return Ok(());
-    }
-    push_copies(alloc, exprs, &expr, times - 1)?;
-    exprs.push(expr)?;
-    Ok(())
-}
-
 impl<'a> State<'a> {
     /// What a math string stands for.
     pub fn formula(
@@ -158,7 +130,7 @@ impl<'a> State<'a> {
         &self,
         alloc: Global,
         scope: &Scope,
-        hyps: &mut Exprs,
+        hyps: &mut Hyps,
         hyp: &Stated<'a>,
     ) -> Result<(), Halt>
         requires small { EndsSmall (stated_lem hyp.now).math }
@@ -168,32 +140,31 @@ impl<'a> State<'a> {
             × (hyps.new ≡ followed_by hyps.old (copies (stated_lem hyp.now).times e))) }
     {
         let expr = self.formula(alloc, scope, hyp.math, Wanted::Provable)?;
-        push_times(alloc, hyps, expr, hyp.times)?;
+        hyps.push(expr, hyp.times)?;
         Ok(())
     }
 
     /// The hypotheses that formulas make.
-    pub fn hyps_of(
-        &self,
-        alloc: Global,
-        scope: &Scope,
-        stated: &[Stated<'a>],
-    ) -> Result<Exprs, Halt>
+    pub fn hyps_of(&self, alloc: Global, scope: &Scope, stated: &[Stated<'a>]) -> Result<Hyps, Halt>
         requires small { Every (λ h. EndsSmall h.math) (map stated_lem stated.now) }
         ensures judged { (vs : List Variable) → scope.now ≡ scope_of (state self.now) vs
             → (tokens : List (List Piece)) → AreTokens (state self.now) (map stated_claim (map stated_lem stated.now)) tokens
             → JudgesOrMem result (strings_checks (state self.now) vs (map stated_claim (map stated_lem stated.now)) tokens) }
         ensures meant { IfOk result (λ hyps. (vs : List Variable) → scope.now ≡ scope_of (state self.now) vs → AreHyps (state self.now) vs (map stated_lem stated.now) hyps) }
     {
-        let mut hyps = Exprs::new(alloc);
+        let mut hyps = Hyps::new(alloc);
         for hyp in stated {
             self.push_hyp(alloc, scope, &mut hyps, hyp)?;
         }
         Ok(hyps)
     }
 
-    /// Whether the result depends on each free variable of the body.
-    pub fn has_free_variables(
+    /// Whether the result's dependencies admit the free variables of the body: it depends on each of them.
+    ///
+    /// # Errors
+    ///
+    /// Where there is no memory.
+    pub fn admits_free_variables(
         &self,
         alloc: Global,
         scope: &Scope,
@@ -203,8 +174,6 @@ impl<'a> State<'a> {
         requires sorted { (s : ℕ) × HasSort (signatures self.now.env) scope.now.binders (tree body.now) s }
         ensures { IfOk result (λ has. IsTrue has ↔ ((x : ℕ) → InFV (signatures self.now.env) scope.now.binders x (tree body.now) → Contains deps.now x)) }
     {
-        let mut covered = Covered::of(alloc, deps)?;
-        let binders = scope.binders().as_slice();
-        covers(&self.env, binders, body, &mut covered)
+        free_vars_are_among(alloc, &self.env, &Context::of(scope.binders()), body, deps)
     }
 }

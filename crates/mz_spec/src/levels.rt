@@ -4,7 +4,7 @@ ghost use Rattle.std.specs.List.{list_all};
 ghost use Rattle.std.specs.Str.Parse.{digits_value};
 ghost use Rattle.mz_checks.specs.Checks.{Judges, each_in_order};
 ghost use Rattle.mz_grammar.specs.Code.{level as level_lem, tail as tail_lem};
-ghost use Rattle.mz_lex.specs.Kinds.{is_digit};
+ghost use Rattle.mz_names.specs.Identifiers.{is_digit};
 ghost use Rattle.mz_spec.specs.Forms.{highest_level, level_of as level_of_lem, tail_of as tail_of_lem};
 ghost use Rattle.mz_spec.specs.Noting.{IsNumeral};
 ghost use Rattle.mz_variables.specs.Dependencies.{Every};

@@ -1,11 +1,11 @@
 // The literals of a general notation.
-ghost use Rattle.std.specs.Prelude.{◌≡◌, ◌++◌, ◌∷◌, [], List, ℕ, IfErr, IfOk, OnOk, length, map, ◌+◌};
+ghost use Rattle.std.specs.Prelude.{◌≡◌, ◌<◌, ◌^◌, ◌++◌, ◌∷◌, [], List, ℕ, IfOk, OnOk, length, map, ◌+◌};
 ghost use Rattle.mz_checks.specs.Checks.{each_in_order};
 ghost use Rattle.mz_grammar.specs.Code.{literal as literal_lem};
 ghost use Rattle.mz_grammar.specs.Statement.{LiteralText as LiteralLem};
 ghost use Rattle.mz_spec.specs.Answers.{JudgesOrMem};
 ghost use Rattle.mz_spec.specs.Forms.{AreLiterals, IsLiteral};
-ghost use Rattle.mz_spec.specs.Noting.{IsNumeral};
+ghost use Rattle.mz_spec.specs.Noting.{IsNumeral, literal_size, literals_size};
 ghost use Rattle.mz_variables.specs.Dependencies.{Every};
 ghost use Rattle.mz_spec.specs.Rules.{is_level};
 ghost use Rattle.mz_variables.specs.View.{literal_levels};
@@ -14,7 +14,7 @@ use crate::formulas::inner;
 use crate::levels::level_of;
 use mz_grammar::{Halt, LiteralText};
 use mz_math::Literal;
-use std::alloc::Global;
+use std::alloc::{AllocError, Global};
 
 /// Literals as spans of a text, which holds a copy of each.
 #[derive(Drop)]
@@ -34,7 +34,8 @@ impl Literals {
         literals: &[LiteralText<'_>],
         last: LiteralText<'_>,
     ) -> Result<Literals, Halt>
-        requires { Every IsNumeral (literal_levels (map literal_lem literals.now ++ literal_lem last ∷ [])) }
+        requires numerals { Every IsNumeral (literal_levels (map literal_lem literals.now ++ literal_lem last ∷ [])) }
+        requires small { literals_size (map literal_lem literals.now ++ literal_lem last ∷ []) < 2 ^ 32 }
         ensures judged { JudgesOrMem result (each_in_order is_level (literal_levels (map literal_lem literals.now ++ literal_lem last.entry ∷ []))) }
         ensures literals { IfOk result (λ ls. AreLiterals ls.text.items (map literal_lem literals.now ++ literal_lem last.entry ∷ []) ls.spans.items) }
     {
@@ -51,9 +52,11 @@ impl Literals {
 
     /// Adds a literal.
     fn push(&mut self, literal: LiteralText<'_>) -> Result<(), Halt>
-        requires { Every IsNumeral (literal_levels (literal_lem literal ∷ [])) }
+        requires numerals { Every IsNumeral (literal_levels (literal_lem literal ∷ [])) }
+        requires small { length self.old.text.items + literal_size (literal_lem literal) < 2 ^ 32 }
         ensures judged { JudgesOrMem result (each_in_order is_level (literal_levels (literal_lem literal.entry ∷ []))) }
         ensures literals { OnOk result ((ls : List LiteralLem) → AreLiterals self.old.text.items ls self.old.spans.items → AreLiterals self.new.text.items (ls ++ literal_lem literal.entry ∷ []) self.new.spans.items) }
+        ensures size { OnOk result (length self.new.text.items ≡ length self.old.text.items + literal_size (literal_lem literal.entry)) }
     {
         let span = span_of(&mut self.text, literal)?;
         self.spans.push(span)?;
@@ -63,10 +66,12 @@ impl Literals {
 
 /// A literal as a span of the text, to whose end it is added.
 fn span_of(text: &mut Vec<u8>, literal: LiteralText<'_>) -> Result<Literal, Halt>
-    requires { Every IsNumeral (literal_levels (literal_lem literal ∷ [])) }
+    requires numerals { Every IsNumeral (literal_levels (literal_lem literal ∷ [])) }
+    requires small { length text.old.items + literal_size (literal_lem literal) < 2 ^ 32 }
     ensures judged { JudgesOrMem result (each_in_order is_level (literal_levels (literal_lem literal.entry ∷ []))) }
     ensures span { IfOk result (λ k. IsLiteral text.new.items (literal_lem literal.entry) k) }
     ensures text { OnOk result ((more : List ℕ) × (text.new.items ≡ text.old.items ++ more)) }
+    ensures size { OnOk result (length text.new.items ≡ length text.old.items + literal_size (literal_lem literal.entry)) }
 {
     match literal {
         LiteralText::Constant(constant, level) => {
@@ -81,19 +86,13 @@ fn span_of(text: &mut Vec<u8>, literal: LiteralText<'_>) -> Result<Literal, Halt
     }
 }
 
-/// Adds bytes to a text, and says where they stand. A text that has no places left for them counts as
-/// want of memory.
-fn push_bytes(text: &mut Vec<u8>, bytes: &[u8]) -> Result<(u32, u32), Halt>
-    ensures mem { IfErr result (λ halt. halt ≡ Halt.Mem) }
+/// Adds bytes to a text, and says where they stand.
+fn push_bytes(text: &mut Vec<u8>, bytes: &[u8]) -> Result<(u32, u32), AllocError>
+    requires { length text.old.items + length bytes.now < 2 ^ 32 }
     ensures text { OnOk result (text.new.items ≡ text.old.items ++ bytes.now) }
     ensures span { IfOk result (λ span. (span.0 ≡ length text.old.items) × (span.1 ≡ length text.old.items + length bytes.now)) }
 {
-    let Ok(from) = u32::try_from(text.len()) else {
-        return Err(Halt::Mem);
-    };
+    let from = text.len() as u32;
     text.extend_from_slice(bytes)?;
-    let Ok(to) = u32::try_from(text.len()) else {
-        return Err(Halt::Mem);
-    };
-    Ok((from, to))
+    Ok((from, text.len() as u32))
 }

@@ -66,7 +66,7 @@ impl<'a> State<'a> {
         ensures after { OnOk result (After (state self.old) place (operator_lem operator.entry) (state self.new)) }
     {
         let level = level_of(operator.level)?;
-        check_known(&self.term_names, operator.name)?;
+        self.check_known_term(operator.name)?;
         match self.note_operator(operator, level) {
             Ok(()) => Ok(()),
             Err(fault) => Err(halt_of(place, fault)),
@@ -82,7 +82,7 @@ impl<'a> State<'a> {
         ensures judged { JudgesStatement result (state self.old) place (coercion_lem coercion.entry) }
         ensures after { OnOk result (After (state self.old) place (coercion_lem coercion.entry) (state self.new)) }
     {
-        check_known(&self.term_names, coercion.name)?;
+        self.check_known_term(coercion.name)?;
         check_known(&self.sort_names, coercion.from)?;
         check_known(&self.sort_names, coercion.to)?;
         let term = self.term_number(coercion.name);
@@ -124,7 +124,7 @@ impl<'a> State<'a> {
         ensures { JudgesOrMem result (named_rules (state self.now) (lexeme name.entry) (map variable variables.now) (map (λ t. type_text t.ty.now) types.now)) }
     {
         let names = distinct_names(alloc, variables)?;
-        check_known(&self.term_names, name)?;
+        self.check_known_term(name)?;
         self.check_types(&names, types)?;
         Ok(())
     }

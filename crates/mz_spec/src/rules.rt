@@ -73,6 +73,32 @@ pub fn distinct_names<'a>(alloc: Global, variables: &[Variable<'_, 'a>]) -> Resu
 }
 
 impl<'a> State<'a> {
+    /// The name is none of a term.
+    pub fn check_new_term(&self, name: Lexeme<'a>) -> Result<(), Fault>
+        ensures { Judges result (new_name (state self.now).term_names (lexeme name.entry)) }
+    {
+        if self.notations.names_term(name.bytes) {
+            return Err(Fault {
+                at: name.from,
+                rule: S::NameTwice,
+            });
+        }
+        Ok(())
+    }
+
+    /// The name is one of a term.
+    pub fn check_known_term(&self, name: Lexeme<'a>) -> Result<(), Fault>
+        ensures { Judges result (is_known (state self.now).term_names (lexeme name.entry)) }
+    {
+        if !self.notations.names_term(name.bytes) {
+            return Err(Fault {
+                at: name.from,
+                rule: S::UnknownName,
+            });
+        }
+        Ok(())
+    }
+
     /// The sort of the type, and the variables on which it depends, are known.
     fn check_type(&self, names: &Names<'a>, ty: &TypeText<'a>) -> Result<(), Fault>
         ensures { Judges result (type_checks (state self.now) names.now (type_text ty.now)) }

@@ -6,6 +6,7 @@ ghost use Rattle.mz_notation.specs.Kept.{AreVariables};
 ghost use Rattle.mz_variables.specs.Code.{AreParts, variable as variable_lem};
 ghost use Rattle.mz_spec.specs.Entries.{state};
 ghost use Rattle.mz_variables.specs.Index.{IsIndexOf};
+ghost use Rattle.mz_spec.specs.Kept.{IsKept};
 ghost use Rattle.mz_spec.specs.State.{binder_of as binder_of_lem, bytes_of as bytes_of_lem, result_of, scope_of as scope_of_lem, sort_number as sort_number_lem, term_number as term_number_lem, variable_bytes};
 ghost use Rattle.mz_variables.specs.View.{Variable as VariableLem, alone};
 
@@ -30,11 +31,11 @@ impl<'a> State<'a> {
 
     /// The number of the term of this name; 0 where there is none.
     pub fn term_number(&self, name: Lexeme<'a>) -> u32
-        requires few { length (state self.now).term_names < 2 ^ 32 }
+        requires { IsKept (state self.now) }
         ensures { result ≡ term_number_lem (state self.now) (lexeme name.entry) }
     {
-        match self.term_names.number_of(name.bytes) {
-            Some(number) => number as u32,
+        match self.notations.named(name.bytes) {
+            Some(number) => number,
             None => 0,
         }
     }

@@ -14,12 +14,11 @@ use mz_math::Notations;
 use mz_variables::Names;
 use std::alloc::Global;
 
-/// The names of each space, the declarations, the mark of each, and what has been declared for math
-/// strings.
+/// The names of sorts and of axioms and theorems, the declarations, the mark of each, and what has been
+/// declared for math strings, where terms have their names.
 #[derive(Drop)]
 pub struct State<'a> {
     pub sort_names: Names<'a>,
-    pub term_names: Names<'a>,
     pub assertion_names: Names<'a>,
     pub env: Env,
     pub marks: Vec<Mark>,
@@ -33,7 +32,6 @@ impl<'a> State<'a> {
     {
         State {
             sort_names: Names::new(alloc),
-            term_names: Names::new(alloc),
             assertion_names: Names::new(alloc),
             env: Env::new(alloc),
             marks: Vec::new(alloc),

@@ -1,5 +1,5 @@
 -- Phrases by their numbers.
-use Rattle.std.specs.Prelude.{ℕ, ◌≡◌, ◌<◌, All, List, [], ◌∷◌, get_or}
+use Rattle.std.specs.Prelude.{ℕ, ◌≡◌, ◌<◌, All, List, [], ◌∷◌, ◌++◌, get_or}
 use Rattle.mz_phrasing.specs.Phrases.{Phrase, Phrases, a_word, a_list, no_phrases, one_more}
 use Rattle.mz_stating.specs.declared.phrases.Shape.{Shape}
 use Rattle.mz_stating.specs.declared.phrases.Shape.TheVariants.{Word, Parts}
@@ -17,3 +17,7 @@ phrases_at ps (n ∷ ns) = one_more (phrase_at ps n) (phrases_at ps ns)
 abbrev pub IsShape : List Phrase → ℕ → Shape → Type 0
 IsShape ps n (Word w) = phrase_at ps n ≡ a_word w.now
 IsShape ps n (Parts ns) = All (λ m. m < n) ns.now × (phrase_at ps n ≡ a_list (phrases_at ps ns.now))
+
+-- the second are the first, and others behind them
+abbrev pub Grows : List Phrase → List Phrase → Type 0
+Grows ps qs = (others : List Phrase) × (qs ≡ ps ++ others)

@@ -1,44 +1,29 @@
 -- The variables of all operands, gathered one operand after another.
-use Rattle.std.proofs.Common.{ℕ, zero, suc, ◌≡◌, ◌<◌, ◌≤◌, ◌⊎◌, List, [], ◌∷◌, length, drop, get_or, refl, ap, sym, ◌∙◌, subst, inl, inr, arith, bit_or}
-use Rattle.mz_logic.specs.Tree.{Tree, more}
-use Rattle.mz_logic.specs.Signature.{Signature}
+use Rattle.std.proofs.Common.{ℕ, suc, ◌≡◌, ◌<◌, ◌≤◌, ◌⊎◌, List, ap, sym, ◌∙◌, subst, inl, inr, bit_or}
+use Rattle.mz_logic.specs.Tree.{Trees, more, operand}
 use Rattle.mz_logic.specs.Variables.{InV, InSomeV}
+use Rattle.mz_logic.specs.declared.binder.Binder.{Binder}
 use Rattle.mz_store.specs.Bits.{Tells, bound_vars}
-use Rattle.mz_store.specs.Sharing.{Sharing, tree_of, trees_of, IsTold}
-use Rattle.mz_store.specs.declared.item.DepsMode.TheVariants as of
-use Rattle.mz_store.specs.declared.item.Id.{Id}
 use Rattle.mz_store.proofs.Gathering.{Gathers, gather-step, gather-end}
-use Rattle.mz_store.proofs.Params.{nothing, next-id}
+use Rattle.mz_store.proofs.Params.{many}
+use Rattle.mz_store.proofs.Operands.{rest_of, next-operand, none-left}
 
-pub drop-past : {A : Type 0} (xs : List A) (j : ℕ) → length xs ≤ j → drop j xs ≡ []
-drop-past [] zero h = refl
-drop-past [] (suc j) h = refl
-drop-past (x ∷ xs) zero h = absurd (omega arith)
-drop-past (x ∷ xs) (suc j) h = drop-past xs j (omega arith)
-
-pub all-step : (s : Sharing) → s.mode ≡ of.All → (sigs : List Signature) (is : List Id) (i j word part : ℕ) → i < length is → j ≡ suc i → (P : ℕ → Type 0)
-    → Gathers (bound_vars s.context) word P (λ x. InSomeV s.context x (trees_of s (drop i is)))
-    → Tells (bound_vars s.context) part (IsTold s.mode sigs s.context (tree_of s (get_or is i nothing).0))
-    → Gathers (bound_vars s.context) (bit_or word part) P (λ x. InSomeV s.context x (trees_of s (drop j is)))
-all-step s all sigs is i j word part less next P so-far tells =
-    gather-step (bound_vars s.context) word part P (λ x. InSomeV s.context x (trees_of s (drop i is))) (λ x. InSomeV s.context x (trees_of s (drop j is)))
-    (λ x. InV s.context x e) so-far split (λ x v. join x (inl v)) (λ x v. join x (inr v))
-    (subst (λ m. Tells (bound_vars s.context) part (IsTold m sigs s.context e)) all tells)
+pub all-step : (ctx : List Binder) (es : Trees) (i j word part : ℕ) → i < many es → j ≡ suc i → (P : ℕ → Type 0)
+    → Gathers (bound_vars ctx) word P (λ x. InSomeV ctx x (rest_of i es)) → Tells (bound_vars ctx) part (λ x. InV ctx x (operand es i))
+    → Gathers (bound_vars ctx) (bit_or word part) P (λ x. InSomeV ctx x (rest_of j es))
+all-step ctx es i j word part less next P so-far tells =
+    gather-step (bound_vars ctx) word part P (λ x. InSomeV ctx x (rest_of i es)) (λ x. InSomeV ctx x (rest_of j es)) (λ x. InV ctx x (operand es i))
+    so-far split (λ x v. join x (inl v)) (λ x v. join x (inr v)) tells
   where
-    e : Tree
-    e = tree_of s (get_or is i nothing).0
+    parts : rest_of i es ≡ more (operand es i) (rest_of j es)
+    parts = next-operand es i less ∙ ap (λ k. more (operand es i) (rest_of k es)) (sym next)
 
-    parts : trees_of s (drop i is) ≡ more e (trees_of s (drop j is))
-    parts = ap (trees_of s) (next-id is i less) ∙ ap (λ k. more e (trees_of s (drop k is))) (sym next)
+    split : (x : ℕ) → InSomeV ctx x (rest_of i es) → InV ctx x (operand es i) ⊎ InSomeV ctx x (rest_of j es)
+    split x h = subst (InSomeV ctx x) parts h
 
-    split : (x : ℕ) → InSomeV s.context x (trees_of s (drop i is)) → InV s.context x e ⊎ InSomeV s.context x (trees_of s (drop j is))
-    split x h = subst (InSomeV s.context x) parts h
+    join : (x : ℕ) → InV ctx x (operand es i) ⊎ InSomeV ctx x (rest_of j es) → InSomeV ctx x (rest_of i es)
+    join x h = subst (InSomeV ctx x) (sym parts) h
 
-    join : (x : ℕ) → InV s.context x e ⊎ InSomeV s.context x (trees_of s (drop j is)) → InSomeV s.context x (trees_of s (drop i is))
-    join x h = subst (InSomeV s.context x) (sym parts) h
-
-pub all-end : (s : Sharing) (is : List Id) (i word : ℕ) → length is ≤ i → (P : ℕ → Type 0)
-    → Gathers (bound_vars s.context) word P (λ x. InSomeV s.context x (trees_of s (drop i is))) → Tells (bound_vars s.context) word P
-all-end s is i word past P so-far =
-    gather-end (bound_vars s.context) word P (λ x. InSomeV s.context x (trees_of s (drop i is))) so-far
-    (λ x h. subst (λ (js : List Id). InSomeV s.context x (trees_of s js)) (drop-past is i past) h)
+pub all-end : (ctx : List Binder) (es : Trees) (i word : ℕ) → many es ≤ i → (P : ℕ → Type 0)
+    → Gathers (bound_vars ctx) word P (λ x. InSomeV ctx x (rest_of i es)) → Tells (bound_vars ctx) word P
+all-end ctx es i word past P so-far = gather-end (bound_vars ctx) word P (λ x. InSomeV ctx x (rest_of i es)) so-far (λ x h. subst (InSomeV ctx x) (none-left es i past) h)

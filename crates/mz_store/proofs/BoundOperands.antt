@@ -13,15 +13,16 @@ use Rattle.mz_logic.specs.declared.word.Word.{Word}
 use Rattle.mz_logic.specs.declared.binder.Binder.{Binder}
 use Rattle.mz_logic.proofs.Offered.{contains_cases, one_at, none_some}
 use Rattle.mz_store.specs.Bits.{Tells, bound_vars}
-use Rattle.mz_store.specs.Sharing.{Sharing, tree_of, trees_of, IsTold}
-use Rattle.mz_store.specs.declared.item.Id.{Id}
+use Rattle.mz_store.specs.Sharing.{IsTold}
+use Rattle.mz_store.specs.declared.item.DepsMode.{DepsMode}
 use Rattle.mz_store.proofs.Gathering.{Gathers, gather-step, gather-end, tells-same}
-use Rattle.mz_store.proofs.Params.{nothing, fits-many, binder-at, bound-at, operand-at, operand-none, operand-zero, operand-split, operand-here, operand-later, tells-bound}
+use Rattle.mz_store.proofs.Params.{many, binder-at, operand-none, operand-zero, operand-split, operand-here, operand-later, tells-bound}
+use Rattle.mz_store.proofs.Operands.{fits-many, bound-at}
 use Rattle.mz_store.proofs.Places.{none-in}
 
 -- the operands at those of the places whose bits are set
-abbrev pub At : Sharing → List Id → List Binder → ℕ → List ℕ → ℕ → Type 0
-At s is params bits places x = IsOperandAt params (trees_of s is) (places_set bits places) x
+abbrev pub At : Trees → List Binder → ℕ → List ℕ → ℕ → Type 0
+At es params bits places x = IsOperandAt params es (places_set bits places) x
 
 pub set-split : (params : List Binder) (es : Trees) (i : ℕ) (rs : List ℕ) (x : ℕ) (v : Bool) → IsOperandAt params es (if v then i ∷ rs else rs) x
     → ((v ≡ true) × (IsBoundAt params i × (operand es i ≡ var x))) ⊎ IsOperandAt params es rs x
@@ -46,45 +47,45 @@ tells-chosen places word part false S is tells k = (
 )
 
 -- one place more, of a bound parameter
-pub take-place : (s : Sharing) (is : List Id) (sigs : List Signature) (params : List Binder) → Fits sigs s.context (trees_of s is) params
-    → (i : ℕ) (places rest : List ℕ) (left half word kept part : ℕ) → IsBoundAt params i → i < length is → places ≡ i ∷ rest → half ≡ left / 2
-    → Tells (bound_vars s.context) kept (IsTold s.mode sigs s.context (tree_of s (get_or is i nothing).0))
+pub take-place : (ctx : List Binder) (es : Trees) (mode : DepsMode) (sigs : List Signature) (params : List Binder) → Fits sigs ctx es params
+    → (i : ℕ) (places rest : List ℕ) (left half word kept part : ℕ) → IsBoundAt params i → places ≡ i ∷ rest → half ≡ left / 2
+    → Tells (bound_vars ctx) kept (IsTold mode sigs ctx (operand es i))
     → part ≡ (if left % 2 == 1 then kept else 0)
-    → (P : ℕ → Type 0) → Gathers (bound_vars s.context) word P (At s is params left places)
-    → Gathers (bound_vars s.context) (bit_or word part) P (At s is params half rest)
-take-place s is sigs params fits i places rest left half word kept part (b, at, bd) inside places-are halved tells part-is P so-far =
-    gather-step (bound_vars s.context) word part P (At s is params left places) (At s is params half rest) S so-far
-    (λ x h. back x (set-split params (trees_of s is) i rs x (left % 2 == 1) (subst (λ ps. IsOperandAt params (trees_of s is) ps x) same h)))
-    (λ x h. subst (λ ps. IsOperandAt params (trees_of s is) ps x) (sym same) (set-here params (trees_of s is) i rs x (left % 2 == 1) h))
-    (λ x h. subst (λ ps. IsOperandAt params (trees_of s is) ps x) (sym same) (set-later params (trees_of s is) i rs x (left % 2 == 1) (subst (λ n. IsOperandAt params (trees_of s is) (places_set n rest) x) halved h)))
-    (tells-chosen (bound_vars s.context) kept part (left % 2 == 1) (λ x. IsBoundAt params i × (operand (trees_of s is) i ≡ var x)) part-is
-    (tells-bound s.mode sigs s.context params (bound_vars s.context) kept (trees_of s is) i (tree_of s (get_or is i nothing).0)
-    (b, at, bd) (operand-at s is i inside) (bound-at sigs s.context s is params fits i b at bd) tells))
+    → (P : ℕ → Type 0) → Gathers (bound_vars ctx) word P (At es params left places)
+    → Gathers (bound_vars ctx) (bit_or word part) P (At es params half rest)
+take-place ctx es mode sigs params fits i places rest left half word kept part (b, at, bd) places-are halved tells part-is P so-far =
+    gather-step (bound_vars ctx) word part P (At es params left places) (At es params half rest) S so-far
+    (λ x h. back x (set-split params es i rs x (left % 2 == 1) (subst (λ ps. IsOperandAt params es ps x) same h)))
+    (λ x h. subst (λ ps. IsOperandAt params es ps x) (sym same) (set-here params es i rs x (left % 2 == 1) h))
+    (λ x h. subst (λ ps. IsOperandAt params es ps x) (sym same) (set-later params es i rs x (left % 2 == 1) (subst (λ n. IsOperandAt params es (places_set n rest) x) halved h)))
+    (tells-chosen (bound_vars ctx) kept part (left % 2 == 1) (λ x. IsBoundAt params i × (operand es i ≡ var x)) part-is
+    (tells-bound mode sigs ctx params (bound_vars ctx) kept es i (operand es i)
+    (b, at, bd) refl (bound-at sigs ctx es params fits i b at bd) tells))
   where
     rs : List ℕ
     rs = places_set (left / 2) rest
 
     S : ℕ → Type 0
-    S x = ((left % 2 == 1) ≡ true) × (IsBoundAt params i × (operand (trees_of s is) i ≡ var x))
+    S x = ((left % 2 == 1) ≡ true) × (IsBoundAt params i × (operand es i ≡ var x))
 
     same : places_set left places ≡ (if left % 2 == 1 then i ∷ rs else rs)
     same = ap (places_set left) places-are
 
-    back : (x : ℕ) → S x ⊎ IsOperandAt params (trees_of s is) rs x → S x ⊎ At s is params half rest x
+    back : (x : ℕ) → S x ⊎ IsOperandAt params es rs x → S x ⊎ At es params half rest x
     back x (inl h) = inl h
-    back x (inr h) = inr (subst (λ n. IsOperandAt params (trees_of s is) (places_set n rest) x) (sym halved) h)
+    back x (inr h) = inr (subst (λ n. IsOperandAt params es (places_set n rest) x) (sym halved) h)
 
-pub bits-over : (s : Sharing) (is : List Id) (params : List Binder) (places : List ℕ) (left word : ℕ) → left ≡ 0 → (P : ℕ → Type 0)
-    → Gathers (bound_vars s.context) word P (At s is params left places) → Tells (bound_vars s.context) word P
-bits-over s is params places left word none-left P so-far =
-    gather-end (bound_vars s.context) word P (At s is params left places) so-far
-    (λ x h. operand-zero params (trees_of s is) places x (subst (λ n. At s is params n places x) none-left h))
+pub bits-over : (ctx : List Binder) (es : Trees) (params : List Binder) (places : List ℕ) (left word : ℕ) → left ≡ 0 → (P : ℕ → Type 0)
+    → Gathers (bound_vars ctx) word P (At es params left places) → Tells (bound_vars ctx) word P
+bits-over ctx es params places left word none-left P so-far =
+    gather-end (bound_vars ctx) word P (At es params left places) so-far
+    (λ x h. operand-zero params es places x (subst (λ n. At es params n places x) none-left h))
 
-pub places-over : (s : Sharing) (is : List Id) (params : List Binder) (places : List ℕ) (left word : ℕ) → places ≡ [] → (P : ℕ → Type 0)
-    → Gathers (bound_vars s.context) word P (At s is params left places) → Tells (bound_vars s.context) word P
-places-over s is params places left word none-left P so-far =
-    gather-end (bound_vars s.context) word P (At s is params left places) so-far
-    (λ x h. operand-none params (trees_of s is) x (subst (λ ps. At s is params left ps x) none-left h))
+pub places-over : (ctx : List Binder) (es : Trees) (params : List Binder) (places : List ℕ) (left word : ℕ) → places ≡ [] → (P : ℕ → Type 0)
+    → Gathers (bound_vars ctx) word P (At es params left places) → Tells (bound_vars ctx) word P
+places-over ctx es params places left word none-left P so-far =
+    gather-end (bound_vars ctx) word P (At es params left places) so-far
+    (λ x h. operand-none params es x (subst (λ ps. At es params left ps x) none-left h))
 
 -- ---- the places of bound parameters, one parameter after another
 
@@ -136,16 +137,16 @@ places-are-bound ws (suc i) within j has =
     (subst (λ ps. Contains ps j) (places-more 0 ws i w (word_bound w) at refl) has)
 
 -- and an operand too
-pub places-within : (sigs : List Signature) (s : Sharing) (is : List Id) (ws : List Word) → Fits sigs s.context (trees_of s is) (binders_of ws) → (i : ℕ) → i ≤ length ws
-    → (places : List ℕ) → places ≡ bound_places 0 (take i ws) → (j : ℕ) → Contains places j → j < length is
-places-within sigs s is ws fits i within places are j has =
+pub places-within : (sigs : List Signature) (ctx : List Binder) (es : Trees) (ws : List Word) → Fits sigs ctx es (binders_of ws) → (i : ℕ) → i ≤ length ws
+    → (places : List ℕ) → places ≡ bound_places 0 (take i ws) → (j : ℕ) → Contains places j → j < many es
+places-within sigs ctx es ws fits i within places are j has =
     let bound = places-are-bound ws i within j (subst (λ ps. Contains ps j) are has) in
     let below : j < length (binders_of ws) = slice_get_within (binders_of ws) j bound.0 bound.1 in
-    let many : length is ≡ length (binders_of ws) = fits-many sigs s.context s is (binders_of ws) fits in
+    let same : many es ≡ length (binders_of ws) = fits-many sigs ctx es (binders_of ws) fits in
     omega arith
 
 -- what such places name among operands is told by the word that their bits choose
-pub names-told : (s : Sharing) (is : List Id) (ws : List Word) (places old : List ℕ) (bits bits' word : ℕ) → places ≡ old → bits ≡ bits'
-    → Tells (bound_vars s.context) word (At s is (binders_of ws) bits places) → Tells (bound_vars s.context) word (At s is (binders_of ws) bits' old)
-names-told s is ws places old bits bits' word same equal tells =
-    subst (λ n. Tells (bound_vars s.context) word (At s is (binders_of ws) n old)) equal (subst (λ ps. Tells (bound_vars s.context) word (At s is (binders_of ws) bits ps)) same tells)
+pub names-told : (ctx : List Binder) (es : Trees) (ws : List Word) (places old : List ℕ) (bits bits' word : ℕ) → places ≡ old → bits ≡ bits'
+    → Tells (bound_vars ctx) word (At es (binders_of ws) bits places) → Tells (bound_vars ctx) word (At es (binders_of ws) bits' old)
+names-told ctx es ws places old bits bits' word same equal tells =
+    subst (λ n. Tells (bound_vars ctx) word (At es (binders_of ws) n old)) equal (subst (λ ps. Tells (bound_vars ctx) word (At es (binders_of ws) bits ps)) same tells)

@@ -12,6 +12,7 @@ mod OverTerms
 mod Placing
 mod Gathering
 pub mod Params
+mod Operands
 mod AllVariables
 mod BoundOperands
 mod FreeVariables

@@ -2,9 +2,9 @@
 use Rattle.std.proofs.Common.{ℕ, zero, suc, ◌≡◌, ◌<◌, ◌≤◌, ◌⊎◌, Bool, true, false, List, [], ◌∷◌, ◌++◌, length, take, drop, get_or, slice_get, Some, refl, ap, sym, ◌∙◌, subst, inl, inr, arith, append-nil, append_assoc, if◌then◌else◌}
 use Rattle.std.specs.Int.{bit_at}
 use Rattle.std.proofs.lemmas.Nat.Bits.{bit_at-zero}
-use Rattle.mz_logic.specs.Tree.{Tree, Trees, var, operand}
+use Rattle.mz_logic.specs.Tree.{Tree, Trees, var, none, more, operand}
 use Rattle.mz_logic.specs.Signature.{Signature}
-use Rattle.mz_logic.specs.Sorts.{Fits, IsBoundVar}
+use Rattle.mz_logic.specs.Sorts.{IsBoundVar}
 use Rattle.mz_logic.specs.Variables.{IsBoundAt, IsOperandAt}
 use Rattle.mz_logic.specs.Words.{word_bound, bound_places, places_set, binder_of, binders_from, binders_of}
 use Rattle.mz_logic.specs.declared.word.Word.{Word}
@@ -20,6 +20,10 @@ use Rattle.mz_store.proofs.Gathering.{tells-same}
 
 -- ---- operands
 
+abbrev pub many : Trees → ℕ
+many none = 0
+many (more e es) = suc (many es)
+
 abbrev pub nothing : Id
 nothing = record { 0 = 0 }
 
@@ -27,6 +31,12 @@ pub next-id : (is : List Id) (i : ℕ) → i < length is → drop i is ≡ get_o
 next-id [] i less = absurd (omega arith)
 next-id (j ∷ is) zero less = refl
 next-id (j ∷ is) (suc i) less = next-id is i (omega arith)
+
+pub drop-past : {A : Type 0} (xs : List A) (j : ℕ) → length xs ≤ j → drop j xs ≡ []
+drop-past [] zero h = refl
+drop-past [] (suc j) h = refl
+drop-past (x ∷ xs) zero h = absurd (omega arith)
+drop-past (x ∷ xs) (suc j) h = drop-past xs j (omega arith)
 
 pub in-at : (s : Sharing) (is : List Id) (i : ℕ) → AreIn s is → i < length is → IsIn s (get_or is i nothing).0
 in-at s [] i inside less = absurd (omega arith)
@@ -38,28 +48,15 @@ operand-at s [] i less = absurd (omega arith)
 operand-at s (j ∷ is) zero less = refl
 operand-at s (j ∷ is) (suc i) less = operand-at s is i (omega arith)
 
-pub fits-many : (sigs : List Signature) (ctx : List Binder) (s : Sharing) (is : List Id) (ps : List Binder) → Fits sigs ctx (trees_of s is) ps → length is ≡ length ps
-fits-many sigs ctx s [] [] fits = refl
-fits-many sigs ctx s [] (p ∷ ps) fits = absurd fits
-fits-many sigs ctx s (i ∷ is) [] fits = absurd fits
-fits-many sigs ctx s (i ∷ is) (p ∷ ps) fits = ap suc (fits-many sigs ctx s is ps fits.2)
-
-pub bound-at : (sigs : List Signature) (ctx : List Binder) (s : Sharing) (is : List Id) (ps : List Binder) → Fits sigs ctx (trees_of s is) ps
-    → (i : ℕ) (p : Binder) → slice_get ps i ≡ Some p → p.bound ≡ true → IsBoundVar ctx (tree_of s (get_or is i nothing).0)
-bound-at sigs ctx s [] [] fits i p at bd = absurd (none_some at)
-bound-at sigs ctx s [] (q ∷ ps) fits i p at bd = absurd fits
-bound-at sigs ctx s (j ∷ is) [] fits i p at bd = absurd fits
-bound-at sigs ctx s (j ∷ is) (q ∷ ps) fits zero p at bd = fits.1 (ap (λ (b : Binder). b.bound) (one_at refl at) ∙ bd)
-bound-at sigs ctx s (j ∷ is) (q ∷ ps) fits (suc i) p at bd = bound-at sigs ctx s is ps fits.2 i p at bd
+pub many-operands : (s : Sharing) (is : List Id) → many (trees_of s is) ≡ length is
+many-operands s [] = refl
+many-operands s (i ∷ is) = ap suc (many-operands s is)
 
 -- ---- words and binders
 
 pub binders-many : (j : ℕ) (places : List ℕ) (ws : List Word) → length (binders_from j places ws) ≡ length ws
 binders-many j places [] = refl
 binders-many j places (w ∷ ws) = ap suc (binders-many (suc j) (if word_bound w then places ++ j ∷ [] else places) ws)
-
-pub args-many : (sigs : List Signature) (ctx : List Binder) (s : Sharing) (is : List Id) (ws : List Word) → Fits sigs ctx (trees_of s is) (binders_of ws) → length is ≡ length ws
-args-many sigs ctx s is ws fits = fits-many sigs ctx s is (binders_of ws) fits ∙ binders-many 0 [] ws
 
 -- the binder of the i-th word: its bits are those of the bound words before it
 next-binder-from : (j : ℕ) (places : List ℕ) (ws : List Word) (i : ℕ) (w : Word) → slice_get ws i ≡ Some w

@@ -7,8 +7,7 @@ use Rattle.mz_logic.specs.declared.word.Word.{Word}
 use Rattle.mz_logic.specs.declared.binder.Binder.{Binder}
 use Rattle.mz_store.specs.Sharing.{Sharing, tree_of, trees_of, IsIn, AreIn, IsOver, IsEmpty}
 use Rattle.mz_store.specs.declared.item.Id.{Id}
-use Rattle.mz_store.proofs.AllVariables.{drop-past}
-use Rattle.mz_store.proofs.Params.{nothing, next-id, next-binder, binders-many}
+use Rattle.mz_store.proofs.Params.{nothing, next-id, drop-past, next-binder, binders-many}
 
 pub in-next : (s : Sharing) (is : List Id) (i j : ℕ) → i < length is → j ≡ suc i → (AreIn s (drop i is) → AreIn s is) → IsIn s (get_or is i nothing).0 → AreIn s (drop j is) → AreIn s is
 in-next s is i j less next whole here rest =

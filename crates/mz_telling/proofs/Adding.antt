@@ -3,8 +3,8 @@ use Rattle.std.proofs.Common.{◌≡◌, ◌∙◌, ◌<◌, ℕ, zero, suc, All
 use Rattle.std.proofs.lemmas.List.{append-nil, get_or_append_left, get_or_at}
 use Rattle.mz_phrasing.specs.Phrases.{Phrase, Phrases, a_word, a_list, no_phrases, one_more}
 use Rattle.mz_phrasing.specs.Phrasing.{of_parts, list_of, followed_by}
-use Rattle.mz_stating.specs.ByNumber.{phrase_at, phrases_at}
-use Rattle.mz_unspell.specs.Rows.{Grows, IsPhrase}
+use Rattle.mz_stating.specs.ByNumber.{phrase_at, phrases_at, Grows}
+use Rattle.mz_unspell.specs.Rows.{IsPhrase}
 use Rattle.mz_telling.specs.Adding.{ArePhrases, Adds, AreAdded}
 
 -- ---- what was there stays

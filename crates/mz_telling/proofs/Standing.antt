@@ -14,9 +14,11 @@ use Rattle.mz_unification.specs.Spells.{SpellsTerm, SpellsThm}
 use Rattle.mz_soundness.specs.FileRows.{term_of_file, thm_of_file}
 use Rattle.mz_layout.specs.declared.head.Head.{Head}
 use Rattle.mz_layout.specs.declared.taken.Rows.{Rows}
-use Rattle.mz_binary.specs.Spelling.{IsKindOf, SpellsRow}
+use Rattle.mz_binary.specs.Progress.{IsTermKind}
+use Rattle.mz_files.specs.Spelling.{IsKindOf, SpellsRow}
 use Rattle.mz_walk.proofs.Offered.{one-code}
-use Rattle.mz_forms.specs.Proof.{Proof, Statement}
+use Rattle.mz_forms.specs.Proof.{Proof}
+use Rattle.mz_statements.specs.Statements.{Statement}
 use Rattle.mz_type.specs.Weight.{declaration_weight, stated_weight}
 use Rattle.mz_phrasing.specs.Phrases.{Phrase}
 use Rattle.mz_phrasing.specs.Phrasing.{Vocabulary, declared_parts, assertion_parts}
@@ -28,9 +30,6 @@ use Rattle.mz_telling.specs.Naming.{next_name}
 use Rattle.mz_telling.specs.Telling.{Counts, HasProof, MakesProof, MakesSome, Stands, SpellsSomeTerm, SpellsSomeThm, IsTerm, IsAxiom, IsTheorem, AreParts}
 
 -- ---- the kind of what is declared, by the code
-
-abbrev pub IsTermCode : StatementCode → Type 0
-IsTermCode k = (k ≡ codes.Term) ⊎ (k ≡ codes.LocalDefinition)
 
 abbrev pub IsTheoremCode : StatementCode → Type 0
 IsTheoremCode k = (k ≡ codes.Theorem) ⊎ (k ≡ codes.LocalTheorem)
@@ -68,7 +67,7 @@ module _ (k : StatementCode) where
   in-sorts : (d : Declaration) → IsKindOf (statement_byte k) d → k ≡ codes.Sort → 0 ≡ table_by d
   in-sorts d kind is = sym (ap table_of is) ∙ same-table k d kind
 
-  in-terms : (d : Declaration) → IsKindOf (statement_byte k) d → IsTermCode k → 1 ≡ table_by d
+  in-terms : (d : Declaration) → IsKindOf (statement_byte k) d → IsTermKind k → 1 ≡ table_by d
   in-terms d kind (inl is) = sym (ap table_of is) ∙ same-table k d kind
   in-terms d kind (inr is) = sym (ap table_of is) ∙ same-table k d kind
 
@@ -116,7 +115,7 @@ module _ (file : List ℕ) (names : Naming) (before : Rows) (env : List Declarat
     sort-told (term_decl d) is kind named row nothing adds weight = absurd (let e : 0 ≡ 1 = in-sorts k (term_decl d) kind is in omega (arith, e))
     sort-told (assertion_decl t) is kind named row nothing adds weight = absurd (let e : 0 ≡ 2 = in-sorts k (assertion_decl t) kind is in omega (arith, e))
 
-    term-told : (d : Declaration) → IsTermCode k → IsKindOf (statement_byte k) d → name ≡ next_name v env d → SpellsRow file env d
+    term-told : (d : Declaration) → IsTermKind k → IsKindOf (statement_byte k) d → name ≡ next_name v env d → SpellsRow file env d
         → HasProof file before env body next d dummies p → AreArities file (signatures env)
         → ((sigs : List Signature) (t : Term) → AreArities file sigs → SpellsTerm sigs (term_of_file file before.terms) t → IsTerm v a b l m w (v.term before.terms) t) → Told d
     term-told (term_decl t) is kind named row nothing arities told =
@@ -179,7 +178,7 @@ module _ (file : List ℕ) (names : Naming) (before : Rows) (env : List Declarat
       to-parts (sort-told file names before env stands.counts head.code head.body head.next a b l m w t.name t.dummies t.proof t.decl is stands.kind stands.named stands.row
       stands.proof adds weight)
 
-  pub term-parts : IsTermCode head.code
+  pub term-parts : IsTermKind head.code
       → ((sigs : List Signature) (d : Term) → AreArities file sigs → SpellsTerm sigs (term_of_file file before.terms) d → IsTerm names-of a b l m w (names-of.term before.terms) d)
       → AreParts names-of env a b l m w t
   term-parts is told =
@@ -217,14 +216,14 @@ module _ (file : List ℕ) (names : Naming) (before : Rows) (env : List Declarat
   pub sort-row : head.code ≡ codes.Sort → before.sorts < length (tables_of file).sorts
   sort-row is = sort-by t.decl stands.kind stands.row is
 
-  term-by : (d : Declaration) → Kind d → SpellsRow file env d → IsTermCode head.code → (before.terms < term_count file) × SpellsSomeTerm file before.terms
+  term-by : (d : Declaration) → Kind d → SpellsRow file env d → IsTermKind head.code → (before.terms < term_count file) × SpellsSomeTerm file before.terms
   term-by (sort_decl m) kind row is = absurd (let e : 1 ≡ 0 = in-terms head.code (sort_decl m) kind is in omega (arith, e))
   term-by (term_decl d) kind row is =
       let x = stands.counts.terms_are in let there = row.0 in
       (omega (arith, x, there), (signatures env, stands.arities, (d, subst (λ (i : ℕ). SpellsTerm (signatures env) (term_of_file file i) d) (sym x) row.1)))
   term-by (assertion_decl a) kind row is = absurd (let e : 1 ≡ 2 = in-terms head.code (assertion_decl a) kind is in omega (arith, e))
 
-  pub term-there : IsTermCode head.code → (before.terms < term_count file) × SpellsSomeTerm file before.terms
+  pub term-there : IsTermKind head.code → (before.terms < term_count file) × SpellsSomeTerm file before.terms
   term-there is = term-by t.decl stands.kind stands.row is
 
   thm-by : (d : Declaration) → Kind d → SpellsRow file env d → HasProof file before env head.body head.next d t.dummies t.proof → (head.code ≡ codes.Axiom) ⊎ IsTheoremCode head.code

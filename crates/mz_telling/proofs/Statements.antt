@@ -10,14 +10,14 @@ use Rattle.mz_logic.specs.Words.{binders_of, result_of}
 use Rattle.mz_layout.specs.Tables.{term_row, thm_row}
 use Rattle.mz_unification.specs.Spells.{SpellsTerm, SpellsThm, SpellsForm, dummy_of}
 use Rattle.mz_soundness.specs.FileRows.{term_of_file, thm_of_file}
-use Rattle.mz_match.proofs.Offered.{length-binders}
+use Rattle.mz_verdicts.proofs.Offered.{length-binders}
 use Rattle.mz_forms.specs.Proof.{Proof}
 use Rattle.mz_type.specs.Weight.{proof_weight, stated_weight}
 use Rattle.mz_phrasing.specs.Phrases.{Phrase, Phrases, a_word, a_list, one_more}
 use Rattle.mz_phrasing.specs.Phrasing.{Vocabulary, list_of, expression, expressions, binders, result, term_parts, assertion_parts, named_hypotheses, proof as statement-proof-by}
-use Rattle.mz_stating.specs.ByNumber.{phrase_at, phrases_at}
+use Rattle.mz_stating.specs.ByNumber.{phrase_at, phrases_at, Grows}
 use Rattle.mz_stating.specs.Measures.{capped, word_count, words_of_all}
-use Rattle.mz_unspell.specs.Rows.{Grows, IsSaid, IsDefined}
+use Rattle.mz_unspell.specs.Rows.{IsSaid, IsDefined}
 use Rattle.mz_unspell.specs.declared.row.Said.{Said}
 use Rattle.mz_unspell.specs.declared.row.Defined.{Defined}
 use Rattle.mz_telling.specs.Adding.{Adds}

@@ -2,7 +2,8 @@
 use Rattle.std.specs.Prelude.{◌≡◌, ⊤, ℕ, List, [], ◌∷◌, ◌++◌}
 use Rattle.mz_phrasing.specs.Phrases.{Phrase, Phrases}
 use Rattle.mz_phrasing.specs.Phrasing.{followed_by}
-use Rattle.mz_unspell.specs.Rows.{Grows, IsPhrase}
+use Rattle.mz_stating.specs.ByNumber.{Grows}
+use Rattle.mz_unspell.specs.Rows.{IsPhrase}
 
 -- these have these numbers
 abbrev pub ArePhrases : List Phrase → List ℕ → List Phrase → Type 0

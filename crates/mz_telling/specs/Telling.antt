@@ -14,8 +14,9 @@ use Rattle.mz_earlier.specs.OwnRow.{MayRun, heading_of}
 use Rattle.mz_earlier.specs.Before.{tables_before}
 use Rattle.mz_layout.specs.declared.head.Head.{Head}
 use Rattle.mz_layout.specs.declared.taken.Rows.{Rows}
-use Rattle.mz_binary.specs.Spelling.{IsKindOf, is_local_code, SpellsRow}
-use Rattle.mz_forms.specs.Proof.{Proof, Statement}
+use Rattle.mz_files.specs.Spelling.{IsKindOf, is_local_code, SpellsRow}
+use Rattle.mz_forms.specs.Proof.{Proof}
+use Rattle.mz_statements.specs.Statements.{Statement}
 use Rattle.mz_type.specs.Weight.{statement_weight, declaration_weight, proof_weight, stated_weight}
 use Rattle.mz_tracing.specs.Traces.{Made, under_lets}
 use Rattle.mz_phrasing.specs.Phrases.{Phrase}

@@ -4,7 +4,7 @@ ghost use Rattle.mz_logic.specs.Declaration.{Declaration};
 ghost use Rattle.mz_logic.specs.declared.binder.Binder.{Binder};
 ghost use Rattle.mz_forms.specs.Proof.{Proof};
 ghost use Rattle.mz_phrasing.specs.Naming.{vocabulary_by};
-ghost use Rattle.mz_unspell.specs.Rows.{Grows};
+ghost use Rattle.mz_stating.specs.ByNumber.{Grows};
 ghost use Rattle.mz_telling.specs.Telling.{IsProved, MakesProof, MakesSome};
 ghost use Rattle.mz_trace.specs.Runs.{ClaimsIn, IsTraced};
 ghost use Rattle.mz_layout.specs.Heads.{body_bytes};

@@ -1,7 +1,7 @@
 //! A statement, whatever its kind.
 ghost use Rattle.std.specs.Prelude.{IfOk, List};
 ghost use Rattle.mz_logic.specs.Declaration.{Declaration};
-ghost use Rattle.mz_forms.specs.Proof.{Statement};
+ghost use Rattle.mz_statements.specs.Statements.{Statement};
 ghost use Rattle.mz_phrasing.specs.Naming.{vocabulary_by};
 ghost use Rattle.mz_telling.specs.Telling.{AreParts, IsTold, SomeStands, Stands};
 

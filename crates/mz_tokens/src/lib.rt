@@ -3,14 +3,12 @@
 #![tactic(auto)]
 
 mod bytes;
-mod identifier;
 mod pieces;
 mod places;
 mod set;
 mod variables;
 
 pub use bytes::Bytes;
-pub use identifier::is_identifier;
 pub use pieces::{Delimiters, Piece, Tokens, is_parenthesis};
 pub use places::Places;
 pub use set::ByteSet;

@@ -6,6 +6,7 @@ ghost use Rattle.mz_tokens.specs.Answers.{EndsAt, IsNext};
 ghost use Rattle.mz_tokens.specs.declared.pieces.Piece.{Piece};
 
 use crate::set::ByteSet;
+use mz_lex::is_space;
 use std::alloc::{AllocError, Global};
 use std::marker::Model;
 
@@ -21,12 +22,6 @@ pub struct Delimiters {
 pub struct Piece {
     pub from: usize,
     pub to: usize,
-}
-
-fn is_space(byte: u8) -> bool
-    ensures { result ≡ space byte }
-{
-    matches!(byte, b' ' | b'\n')
 }
 
 /// Where the whitespace from a place on ends.

@@ -5,7 +5,7 @@ use Rattle.mz_wording.specs.Wording.{longest, local_in, long_in, too_long, local
 use Rattle.mz_prefix.specs.declared.spec_text.SpecText.{SpecText}
 use Rattle.mz_prefix.specs.declared.spec_text.SpecText.TheVariants as answers
 use Rattle.mz_prefix.specs.SpecTexts.{IsWording, IsDecided}
-use Rattle.mz_match.specs.Verdict.{Accepts}
+use Rattle.mz_verdicts.specs.Verdict.{Accepts}
 use Rattle.mz_emit.specs.Compiling.{CompilesTo}
 use Rattle.mz_agreeing.specs.Laws.{DeclaresText}
 use Rattle.mz_tool.specs.Run.{IsSpecifiedTo, IsNotSpecified, AreItsSpecifications}

@@ -12,7 +12,7 @@ use Rattle.mz_unification.specs.Spells.{variables_from}
 use Rattle.mz_unification.proofs.Offered.{some_is, distinct, in-some, operand-trees_of}
 use Rattle.mz_steps.specs.Sameness.{own}
 use Rattle.mz_steps.proofs.Offered.{operand-front, operand-behind, operand-variables}
-use Rattle.mz_match.specs.Trees.{SameOver, AllSameOver, Pairs, IsPaired, SameBody}
+use Rattle.mz_verdicts.specs.Trees.{SameOver, AllSameOver, Pairs, IsPaired, SameBody}
 
 -- ---- parameters
 

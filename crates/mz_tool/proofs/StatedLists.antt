@@ -7,7 +7,7 @@ use Rattle.mz_logic.specs.Signature.{Signature}
 use Rattle.mz_logic.specs.declared.binder.Binder.{Binder}
 use Rattle.mz_steps.specs.Sameness.{IsSameForm}
 use Rattle.mz_steps.specs.SameLists.{IsSameDeclaration, IsSameStatement, IsSameList}
-use Rattle.mz_match.specs.Match.{term_row_of, term_rows, partner_of, publics, publics_after, kind_of_form, form_checks, match_checks, Agrees}
+use Rattle.mz_verdicts.specs.Match.{term_row_of, term_rows, partner_of, publics, publics_after, kind_of_form, form_checks, match_checks, Agrees}
 use Rattle.mz_tool.proofs.StatedBodies.{same-body-after}
 
 -- ---- rows

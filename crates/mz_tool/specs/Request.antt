@@ -2,6 +2,7 @@
 use Rattle.std.specs.Prelude.{◌≡◌, ◌≤◌, ℕ, ⊤, Bool, true, false, List, [], ◌∷◌, length, Option, Some, None, codes, decimal, Any}
 use Rattle.mz_io.specs.Read.{IsLonger}
 use Rattle.mz_io.specs.Outside.{SameFiles, SameOthers}
+use Rattle.mz_wording.specs.Wording.{longest}
 
 -- a command of the program, with the names of its files; or with how many definitions a sample has. A text is compiled
 -- with gaps let through, as a draft, or without
@@ -79,10 +80,6 @@ name_put (sample n) = None
 -- what stands under each name
 abbrev pub Files : Type 0
 Files = List ℕ → Option (List ℕ)
-
--- the bytes of the longest file that is read
-abbrev pub longest : ℕ
-longest = 4294967295
 
 -- a file of this name is there, and no longer than any that is read
 abbrev pub IsReadable : Files → List ℕ → Type 0

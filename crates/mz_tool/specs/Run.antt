@@ -1,15 +1,15 @@
 -- How the program answers (this project's own).
 use Rattle.std.specs.Prelude.{◌≡◌, ◌⊎◌, ◌++◌, ℕ, Bool, false, List, [], ◌∷◌, length, Option, Some, None}
 use Rattle.mz_cmd.specs.declared.rule.Refusal.{Refusal}
-use Rattle.mz_match.specs.declared.verdict.Counts.{Counts}
-use Rattle.mz_match.specs.declared.verdict.Verdict.{Verdict}
-use Rattle.mz_match.specs.declared.verdict.Verdict.TheVariants as verdicts
-use Rattle.mz_binary.specs.declared.standard.Standard.{Standard}
-use Rattle.mz_binary.specs.declared.standard.Standard.TheVariants.{Portable}
-use Rattle.mz_binary.specs.Standards.{strict_standard, draft_standard}
-use Rattle.mz_match.specs.Verdict.{Accepts, AcceptsWithBy, FirstRefusalBy, IsSound, line_of}
+use Rattle.mz_verdicts.specs.declared.verdict.Counts.{Counts}
+use Rattle.mz_verdicts.specs.declared.verdict.Verdict.{Verdict}
+use Rattle.mz_verdicts.specs.declared.verdict.Verdict.TheVariants as verdicts
+use Rattle.mz_files.specs.declared.standard.Standard.{Standard}
+use Rattle.mz_files.specs.declared.standard.Standard.TheVariants.{Portable}
+use Rattle.mz_files.specs.Standards.{strict_standard, draft_standard}
+use Rattle.mz_verdicts.specs.Verdict.{Accepts, AcceptsWithBy, FirstRefusalBy, IsSound, line_of}
 use Rattle.mz_match.specs.Drafts.{DraftAccepts, IsDraftSound}
-use Rattle.mz_binary.specs.RefusalLine.{refusal_line}
+use Rattle.mz_files.specs.RefusalLine.{refusal_line}
 use Rattle.mz_show.specs.Listing.{IsListing, IsListedUpTo, IsListed}
 use Rattle.mz_sexpr.specs.declared.rule.TextRefusal.{TextRefusal}
 use Rattle.mz_type.specs.TextOf.{TextFault}

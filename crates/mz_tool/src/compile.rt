@@ -1,7 +1,7 @@
 // The commands `compile` and `compile_draft`.
 ghost use Rattle.std.specs.Prelude.{◌≡◌, ◌≤◌, ◌<◌, ◌^◌, ℕ, List, Option, Some, length};
 ghost use Rattle.mz_mode.specs.Gaps.{gaps_of};
-ghost use Rattle.mz_tool.specs.Request.{longest};
+ghost use Rattle.mz_wording.specs.Wording.{longest};
 ghost use Rattle.mz_tool.specs.Run.{IsCompiledTo, IsNotCompiled};
 ghost use Rattle.mz_tool.specs.Outcomes.{IfYes, IfNo, OnYes, OnNo};
 

@@ -1,11 +1,10 @@
 // The command `draft`.
 ghost use Rattle.std.specs.Prelude.{◌≡◌, ◌<◌, ◌⊎◌, ◌^◌, ℕ, List, None, length};
-ghost use Rattle.mz_binary.specs.Standards.{draft_standard};
-ghost use Rattle.mz_match.specs.declared.verdict.Verdict.{Verdict as TheVerdict};
-ghost use Rattle.mz_match.specs.declared.verdict.Verdict.TheVariants as verdicts;
+ghost use Rattle.mz_files.specs.Standards.{draft_standard};
+ghost use Rattle.mz_verdicts.specs.declared.verdict.Verdict.{Verdict as TheVerdict};
+ghost use Rattle.mz_verdicts.specs.declared.verdict.Verdict.TheVariants as verdicts;
 ghost use Rattle.mz_match.specs.Drafts.{IsDraft, IsDraftSound, IsDraftSoundIfAccepted, verdict_of};
-ghost use Rattle.mz_binary.specs.Standards.{draft_standard};
-ghost use Rattle.mz_match.specs.Verdict.{AcceptsWithBy, FirstRefusalBy};
+ghost use Rattle.mz_verdicts.specs.Verdict.{AcceptsWithBy, FirstRefusalBy};
 ghost use Rattle.mz_tool.specs.Run.{IsDraftTold, IsRefutedBy};
 ghost use Rattle.mz_tool.specs.Outcomes.{IfYes, IfNo, OnYes, OnNo};
 
@@ -13,8 +12,9 @@ use crate::outcome::Outcome;
 use crate::output::Put;
 use mz_axioms::gaps_text;
 use mz_cmd::Steps;
-use mz_match::{Counts, Draft, Verdict, draft_bytes, verdict_line};
+use mz_match::{Draft, draft_bytes, verdict_line};
 use mz_store::Seed;
+use mz_verdicts::{Counts, Verdict};
 use std::alloc::Global;
 use std::marker::Brand;
 use std::sync::ledger::{Blank, Ledger};
@@ -30,7 +30,7 @@ pub fn draft(alloc: Global, seed: Seed, spec: &[u8], bin: &[u8]) -> Outcome
     ensures only_yes { (text : List ℕ) → IsDraftTold spec.now bin.now text → OnNo result ⊥ }
     ensures only_no { (text : List ℕ) → IsRefutedBy draft_standard spec.now bin.now text → OnYes result ⊥ }
 {
-    match judge::<Brand>(alloc, seed, Blank::new(1), spec, bin) {
+    match counted_draft::<Brand>(alloc, seed, Blank::new(1), spec, bin) {
         Draft::Accepted(counts, gaps) => {
             match gaps_text(alloc, spec, counts.theorems, gaps.places()) {
                 Ok(text) => Outcome::Yes {
@@ -70,7 +70,13 @@ fn verdict_of(draft: &Draft) -> Verdict
 }
 
 /// What is said, the steps of the check counted in a ledger of their own.
-fn judge<L: Ledger>(alloc: Global, seed: Seed, blank: Blank, spec: &[u8], bin: &[u8]) -> Draft
+fn counted_draft<L: Ledger>(
+    alloc: Global,
+    seed: Seed,
+    blank: Blank,
+    spec: &[u8],
+    bin: &[u8],
+) -> Draft
     requires name { blank.name ≡ L.name }
     requires parts { blank.parts ≡ L.parts }
     requires some { 0 < blank.parts }

@@ -1,7 +1,8 @@
 // The file that a command puts.
 ghost use Rattle.std.specs.Prelude.{◌≡◌, ◌≤◌, ℕ, List, Some, None, length, OnOk};
 ghost use Rattle.mz_io.specs.Outside.{HasCause, HasRoom};
-ghost use Rattle.mz_tool.specs.Request.{IsPut, SameButPut, longest};
+ghost use Rattle.mz_wording.specs.Wording.{longest};
+ghost use Rattle.mz_tool.specs.Request.{IsPut, SameButPut};
 ghost use Rattle.mz_tool.specs.Inputs.{name_of, bytes_of};
 
 use mz_io::{Failed, Folder};

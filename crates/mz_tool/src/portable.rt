@@ -1,7 +1,7 @@
 // The command `portable`.
 ghost use Rattle.std.specs.Prelude.{◌≡◌, ◌<◌, ◌⊎◌, ◌^◌, ℕ, List, None, length};
-ghost use Rattle.mz_binary.specs.declared.standard.Standard.TheVariants.{Portable};
-ghost use Rattle.mz_match.specs.Verdict.{Accepts, IsSoundIfAccepted, IsSound};
+ghost use Rattle.mz_files.specs.declared.standard.Standard.TheVariants.{Portable};
+ghost use Rattle.mz_verdicts.specs.Verdict.{Accepts, IsSoundIfAccepted, IsSound};
 ghost use Rattle.mz_portable.specs.Portable.{FirstPortableRefusal, IsAcceptedByTable, IsPortableVerdict, PortablyAccepts};
 ghost use Rattle.mz_tool.specs.Run.{IsVerifiedBy, IsRefutedBy};
 ghost use Rattle.mz_tool.specs.Outcomes.{IfYes, IfNo, OnYes, OnNo};
@@ -9,9 +9,9 @@ ghost use Rattle.mz_tool.specs.Outcomes.{IfYes, IfNo, OnYes, OnNo};
 use crate::outcome::Outcome;
 use crate::verdict::answered_by;
 use mz_cmd::Steps;
-use mz_match::{Counts, Verdict};
 use mz_portable::portable_bytes;
 use mz_store::Seed;
+use mz_verdicts::{Counts, Verdict};
 use std::alloc::Global;
 use std::marker::Brand;
 use std::sync::ledger::{Blank, Ledger};
@@ -26,12 +26,18 @@ pub fn portable(alloc: Global, seed: Seed, spec: &[u8], bin: &[u8]) -> Outcome
     ensures only_yes { (text : List ℕ) → IsVerifiedBy Portable spec.now bin.now text → OnNo result ⊥ }
     ensures only_no { (text : List ℕ) → IsRefutedBy Portable spec.now bin.now text → OnYes result ⊥ }
 {
-    let verdict = judge::<Brand>(alloc, seed, Blank::new(1), spec, bin);
+    let verdict = counted_verdict::<Brand>(alloc, seed, Blank::new(1), spec, bin);
     answered_by(alloc, &verdict)
 }
 
 /// The verdict, its steps counted in a ledger of their own.
-fn judge<L: Ledger>(alloc: Global, seed: Seed, blank: Blank, spec: &[u8], bin: &[u8]) -> Verdict
+fn counted_verdict<L: Ledger>(
+    alloc: Global,
+    seed: Seed,
+    blank: Blank,
+    spec: &[u8],
+    bin: &[u8],
+) -> Verdict
     requires name { blank.name ≡ L.name }
     requires parts { blank.parts ≡ L.parts }
     requires some { 0 < blank.parts }

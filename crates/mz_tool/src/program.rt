@@ -1,7 +1,8 @@
 // The program, over any folder and sink.
 ghost use Rattle.std.specs.Prelude.{◌≡◌, ◌≤◌, ◌<◌, ◌^◌, ◌++◌, ◌⊎◌, ℕ, List, [], Option, Some, None, length, map, string_bytes};
 ghost use Rattle.mz_io.specs.Outside.{Rose, HasRoom, SameFiles, AppendsPrefix};
-ghost use Rattle.mz_tool.specs.Request.{Request, Asks, names_read, name_put, IsPut, SameButPut, AreReadable, AreThere, BeginsLonger, HasLong, HasLonger, longest};
+ghost use Rattle.mz_wording.specs.Wording.{longest};
+ghost use Rattle.mz_tool.specs.Request.{Request, Asks, names_read, name_put, IsPut, SameButPut, AreReadable, AreThere, BeginsLonger, HasLong, HasLonger};
 ghost use Rattle.mz_tool.specs.Run.{IsYes, IsNo, IsAnswer, IsListedFor, IsProved, IsQuiet, IsShow, MayPut};
 ghost use Rattle.mz_tool.specs.Asked.{request};
 

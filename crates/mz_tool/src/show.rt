@@ -1,8 +1,9 @@
 // The command `show`.
 ghost use Rattle.std.specs.Prelude.{◌≡◌, ◌≤◌, ◌<◌, ◌++◌, ◌⊎◌, ◌^◌, ℕ, List, Option, Some, None, length, IfOk};
 ghost use Rattle.mz_io.specs.Outside.{Rose, HasRoom, SameFiles, AppendsPrefix};
-ghost use Rattle.mz_binary.specs.RefusalLine.{refusal_line as refusal_text};
-ghost use Rattle.mz_tool.specs.Request.{show as show_file, AreThere, BeginsLonger, HasLonger, names_read, name_put, IsPut, SameButPut, longest};
+ghost use Rattle.mz_files.specs.RefusalLine.{refusal_line as refusal_text};
+ghost use Rattle.mz_wording.specs.Wording.{longest};
+ghost use Rattle.mz_tool.specs.Request.{show as show_file, AreThere, BeginsLonger, HasLonger, names_read, name_put, IsPut, SameButPut};
 ghost use Rattle.mz_tool.specs.Run.{IsYes, IsNo, IsAnswer, IsListedFor, IsProved, IsQuiet, MayPut};
 ghost use Rattle.mz_tool.specs.Reported.{IsReported};
 

@@ -1,6 +1,6 @@
 // The command `spec`.
 ghost use Rattle.std.specs.Prelude.{◌≡◌, ◌≤◌, ◌<◌, ◌^◌, IfOk, ℕ, List, Option, Some, length};
-ghost use Rattle.mz_tool.specs.Request.{longest};
+ghost use Rattle.mz_wording.specs.Wording.{longest};
 ghost use Rattle.mz_tool.specs.Run.{AreItsSpecifications, IsNotSpecified, IsSpecifiedTo};
 ghost use Rattle.mz_tool.specs.Outcomes.{IfYes, IfNo, OnYes, OnNo};
 ghost use Rattle.mz_tool.specs.Specified;

@@ -1,14 +1,15 @@
 // The command `verify`.
 ghost use Rattle.std.specs.Prelude.{◌≡◌, ◌<◌, ◌⊎◌, ◌^◌, ℕ, List, None, length};
-ghost use Rattle.mz_match.specs.Verdict.{IsVerdict, IsSoundIfAccepted, IsSound, AcceptsWith, FirstRefusal};
+ghost use Rattle.mz_verdicts.specs.Verdict.{IsVerdict, IsSoundIfAccepted, IsSound, AcceptsWith, FirstRefusal};
 ghost use Rattle.mz_tool.specs.Run.{IsVerified, IsRefuted};
 ghost use Rattle.mz_tool.specs.Outcomes.{IfYes, IfNo, OnYes, OnNo};
 
 use crate::outcome::Outcome;
 use crate::verdict::answered_by;
 use mz_cmd::Steps;
-use mz_match::{Counts, Verdict, verify_bytes};
+use mz_match::verify_bytes;
 use mz_store::Seed;
+use mz_verdicts::{Counts, Verdict};
 use std::alloc::Global;
 use std::marker::Brand;
 use std::sync::ledger::{Blank, Ledger};
@@ -23,12 +24,18 @@ pub fn verify(alloc: Global, seed: Seed, spec: &[u8], bin: &[u8]) -> Outcome
     ensures only_yes { (text : List ℕ) → IsVerified spec.now bin.now text → OnNo result ⊥ }
     ensures only_no { (text : List ℕ) → IsRefuted spec.now bin.now text → OnYes result ⊥ }
 {
-    let verdict = judge::<Brand>(alloc, seed, Blank::new(1), spec, bin);
+    let verdict = counted_verdict::<Brand>(alloc, seed, Blank::new(1), spec, bin);
     answered_by(alloc, &verdict)
 }
 
 /// The verdict, its steps counted in a ledger of their own.
-fn judge<L: Ledger>(alloc: Global, seed: Seed, blank: Blank, spec: &[u8], bin: &[u8]) -> Verdict
+fn counted_verdict<L: Ledger>(
+    alloc: Global,
+    seed: Seed,
+    blank: Blank,
+    spec: &[u8],
+    bin: &[u8],
+) -> Verdict
     requires name { blank.name ≡ L.name }
     requires parts { blank.parts ≡ L.parts }
     requires some { 0 < blank.parts }

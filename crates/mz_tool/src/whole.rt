@@ -1,7 +1,8 @@
 // Commands that answer at once, over the whole contents of their files.
 ghost use Rattle.std.specs.Prelude.{◌≡◌, ◌≤◌, ◌<◌, ◌++◌, ◌^◌, ◌≢◌, ℕ, List, [], Option, Some, None, length};
 ghost use Rattle.mz_io.specs.Outside.{Rose, HasRoom, SameFiles, AppendsPrefix};
-ghost use Rattle.mz_tool.specs.Request.{AreThere, BeginsLonger, HasLonger, names_read, name_put, IsPut, SameButPut, longest};
+ghost use Rattle.mz_wording.specs.Wording.{longest};
+ghost use Rattle.mz_tool.specs.Request.{AreThere, BeginsLonger, HasLonger, names_read, name_put, IsPut, SameButPut};
 ghost use Rattle.mz_tool.specs.Run.{IsYes, IsNo, IsAnswer, IsProved, IsQuiet, IsShow, MayPut};
 ghost use Rattle.mz_tool.specs.Asked.{request};
 

@@ -2,8 +2,9 @@
 
 ghost use Rattle.std.specs.Prelude.{◌≡◌, ◌<◌, ◌^◌, length};
 
-use mz_binary::{Checked, Checker, Next, Rows, Standard, Statement, check_all, refusal_line};
+use mz_binary::{Checked, Checker, Next, Rows, Statement, check_all, refusal_line};
 use mz_cmd::{K, Mem, Refusal, Steps};
+use mz_files::Standard;
 use mz_layout::Mmb;
 use mz_mode::Mode;
 use mz_store::Seed;

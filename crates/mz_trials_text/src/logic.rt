@@ -3,7 +3,7 @@ ghost use Rattle.mz_logic.specs.Words.{term_at};
 
 use mz_copies::copy_of;
 use mz_logic::{
-    Binder, Binders, Decl, DeclFault, Deps, Env, Expr, Exprs, ResultType, SortMods, TermDecl,
+    Binder, Binders, Decl, DeclFault, Deps, Env, Expr, Exprs, Hyps, ResultType, SortMods, TermDecl,
     TermForm, Terms, ThmDecl, ThmForm, Word, check_decl, same_expr,
 };
 use std::alloc::{AllocError, Global};
@@ -162,7 +162,7 @@ fn axiom(alloc: Global, params: &[Param], conclusion: Shape) -> Result<Decl, All
     Ok(Decl::Thm(ThmDecl {
         form: ThmForm::Axiom,
         params,
-        hyps: Exprs::new(alloc),
+        hyps: Hyps::new(alloc),
         conclusion,
     }))
 }

@@ -1,7 +1,7 @@
 ghost use Rattle.std.specs.Prelude.{◌<◌, ◌^◌, length};
 
 use mz_forms::{Conv, Convs, Proof, Proofs};
-use mz_logic::{Binder, Decl, Expr, Exprs, TermForm};
+use mz_logic::{Binder, Decl, Expr, Exprs, Hyps, TermForm};
 use mz_mmu::{Text, TextRead, read_text};
 use mz_mode::Mode;
 use std::alloc::{AllocError, Global};
@@ -48,6 +48,14 @@ impl Page {
         self.word(b"(")?;
         for e in exprs.as_slice() {
             self.expr(e, limit - 1)?;
+        }
+        self.word(b")")
+    }
+
+    fn hyps(&mut self, hyps: &Hyps) -> Result<(), AllocError> {
+        self.word(b"(")?;
+        for i in 0..hyps.len() {
+            self.expr(hyps.at(i), 99)?;
         }
         self.word(b")")
     }
@@ -187,7 +195,7 @@ impl Page {
             Decl::Thm(thm) => {
                 self.word(b" thm ")?;
                 self.binders(thm.params.as_slice())?;
-                self.exprs(&thm.hyps, 100)?;
+                self.hyps(&thm.hyps)?;
                 self.expr(&thm.conclusion, 100)
             }
         }

@@ -2,11 +2,11 @@
 use Rattle.std.proofs.Common.{ℕ, zero, suc, ◌≡◌, Bool, true, false, true≢false, List, sym}
 use Rattle.mz_logic.specs.Conversions.{Conversion, Conversions, refl_conv, sym_conv, cong_conv, unfold_conv, gap_conv, no_convs, more_convs, GapsOnly, AllGapsOnly}
 use Rattle.mz_logic.specs.Declaration.{Declaration}
-use Rattle.mz_logic.specs.Derivations.{Derivation, Derivations, no_derivs, more_derivs, AllCiteOnly, without_gaps, IsGapFree}
+use Rattle.mz_logic.specs.Derivations.{Derivation, Derivations, no_derivs, more_derivs, AllCiteOnly, without_gaps, IsGapFree, derivation_at}
 use Rattle.mz_logic.specs.LegalLists.{allowed_with}
 use Rattle.mz_forms.specs.Gaps.{LeavesOnly, AllLeaveOnly}
 use Rattle.mz_forms.specs.Proof.{Proof, Proofs, by_hyp, by_name, by_citation, by_conv, by_let, by_gap, no_proofs, more_proofs}
-use Rattle.mz_type.specs.Meaning.{derivation_at, then_deriv, derivation, derivations}
+use Rattle.mz_type.specs.Meaning.{then_deriv, derivation, derivations}
 
 abbrev AllFree : Derivations → Type 0
 AllFree ds = AllCiteOnly (without_gaps (λ T. Unit {0})) ds

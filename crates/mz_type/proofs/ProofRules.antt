@@ -9,7 +9,7 @@ use Rattle.mz_logic.specs.Tree.{Tree, Trees, none, more, listed, operand, instan
 use Rattle.mz_logic.specs.Declaration.{Declaration, assertions, signatures}
 use Rattle.mz_logic.specs.Conversions.{Between}
 use Rattle.mz_logic.specs.Sorts.{HasProvable}
-use Rattle.mz_logic.specs.Derivations.{Derivation, Derivations, hypothesis, cite, convert, gap, no_derivs, more_derivs, Derives, AllDerive}
+use Rattle.mz_logic.specs.Derivations.{Derivation, Derivations, hypothesis, cite, convert, gap, no_derivs, more_derivs, Derives, AllDerive, derivation_at}
 use Rattle.mz_logic.specs.declared.binder.Binder.{Binder}
 use Rattle.mz_logic.proofs.Offered.{one_at, many_of_fits}
 use Rattle.mz_forms.specs.Proof.{Proof, Proofs, by_hyp, by_name, by_citation, by_conv, by_let, by_gap, no_proofs, more_proofs}
@@ -18,7 +18,7 @@ use Rattle.mz_typing.specs.Sides.{right, assertion_at, with_fact, proved, all_pr
 use Rattle.mz_typing.specs.Rules.{expr_rules, exprs_rules, operand_rules, conv_rules, proof_rules, proofs_rules, citation_rules, subproof_rules}
 use Rattle.mz_typing.specs.Names.{ProofThere, ProofsThere}
 use Rattle.mz_typing.proofs.Offered.{checks_by_fits, checks_by_sort, claim_from, claim_to, fits_by_checks, operands_by_fits}
-use Rattle.mz_type.specs.Meaning.{derivation_at, then_deriv, derivation, derivations, LetsDerive, AllLetsDerive}
+use Rattle.mz_type.specs.Meaning.{then_deriv, derivation, derivations, LetsDerive, AllLetsDerive}
 use Rattle.mz_type.proofs.ConvRules.{between_by_checks, checks_by_between, sides_are, sorted_sides}
 
 listed_operand : (es : Trees) (i : ℕ) → i < length (listed es) → slice_get (listed es) i ≡ Some (operand es i)

@@ -16,8 +16,9 @@ use Rattle.mz_logic.specs.Legality.{signature_at, sort_of, AreParams, IsDummy}
 use Rattle.mz_logic.specs.Conversions.{Conversion, Conversions, refl_conv, sym_conv, cong_conv, unfold_conv, gap_conv, no_convs, more_convs}
 use Rattle.mz_logic.specs.declared.binder.Binder.{Binder}
 use Rattle.mz_logic.proofs.Offered.{split_at, each_from_all, range_of_sort, DepsInside}
-use Rattle.mz_forms.specs.Order.{in_statement}
-use Rattle.mz_forms.specs.Proof.{Proof, Proofs, by_hyp, by_name, by_citation, by_conv, by_let, by_gap, no_proofs, more_proofs, Statement}
+use Rattle.mz_statements.specs.Order.{in_statement}
+use Rattle.mz_forms.specs.Proof.{Proof, Proofs, by_hyp, by_name, by_citation, by_conv, by_let, by_gap, no_proofs, more_proofs}
+use Rattle.mz_statements.specs.Statements.{Statement}
 use Rattle.mz_typing.specs.Parts.{is_list, after, part, declared_parts}
 use Rattle.mz_typing.specs.Sides.{left, right, assertion_at, term_at, with_fact, proved, all_proved}
 use Rattle.mz_typing.specs.Rules.{operand_rules, expr_rules, exprs_rules, conv_count, side_rules, variable_rules, refl_node, unfold_rules, conv_rules, convs_rules, subproof_rules, citation_rules, proof_rules, proofs_rules, param_rules, dummy_rules, claim_rules, hyp_node, claims_rules, body_rules, assertion_rules, theorem_rules, decl_rules, statement_rules}

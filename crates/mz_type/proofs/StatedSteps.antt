@@ -6,8 +6,8 @@ use Rattle.mz_checks.proofs.Offered.{Decides, decides-whole}
 use Rattle.mz_sexpr.specs.Node.{Nodes}
 use Rattle.mz_sexpr.specs.Number.{first, rest, node_count}
 use Rattle.mz_logic.specs.Declaration.{Declaration}
-use Rattle.mz_forms.specs.Proof.{Statement}
-use Rattle.mz_forms.specs.Statements.{no_names, AreStatements}
+use Rattle.mz_statements.specs.Statements.{Statement, AreStatements}
+use Rattle.mz_forms.specs.Name.{no_names}
 use Rattle.mz_typing.specs.Names.{StatementsThere}
 use Rattle.mz_typing.specs.Rules.{statement_rules}
 use Rattle.mz_type.specs.Meaning.{LegalAsStated}

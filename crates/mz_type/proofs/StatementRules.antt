@@ -15,8 +15,9 @@ use Rattle.mz_logic.specs.LegalLists.{AreDummies}
 use Rattle.mz_logic.specs.Derivations.{Derives, no_derivs}
 use Rattle.mz_logic.specs.declared.binder.Binder.{Binder}
 use Rattle.mz_logic.proofs.Offered.{one_at, none_some, sort_is, each_from_all, all_from_each, legal_by_rules, terms_are_sorted, assertions_are_sorted}
-use Rattle.mz_forms.specs.Gaps.{SomeLeavesOnly, HasGapsOnly}
-use Rattle.mz_forms.specs.Proof.{Proof, Statement}
+use Rattle.mz_forms.specs.Gaps.{SomeLeavesOnly}
+use Rattle.mz_statements.specs.Statements.{HasGapsOnly, Statement}
+use Rattle.mz_forms.specs.Proof.{Proof}
 use Rattle.mz_typing.specs.Parts.{part, declared_parts}
 use Rattle.mz_typing.specs.Rules.{expr_rules, param_rules, dummy_rules, claim_rules, claims_rules, hyp_node, body_rules, assertion_rules, theorem_rules, decl_rules, proof_rules, statement_rules}
 use Rattle.mz_typing.specs.Names.{ExprsThere, DummiesThere, StatedProofThere, DeclThere, StatementThere}

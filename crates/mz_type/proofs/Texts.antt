@@ -9,10 +9,10 @@ use Rattle.mz_logic.specs.Declaration.{Declaration, sort_decl, term_decl, assert
 use Rattle.mz_logic.specs.Derivations.{no_derivs}
 use Rattle.mz_logic.specs.LegalLists.{LegalAfter, IsProvedIfTheorem, allowed_with}
 use Rattle.mz_logic.specs.declared.binder.Binder.{Binder}
-use Rattle.mz_forms.specs.Gaps.{HasGapsOnly}
-use Rattle.mz_forms.specs.Order.{in_statement}
-use Rattle.mz_forms.specs.Proof.{Proof, Statement}
-use Rattle.mz_forms.specs.Statements.{no_names}
+use Rattle.mz_statements.specs.Statements.{HasGapsOnly, Statement}
+use Rattle.mz_statements.specs.Order.{in_statement}
+use Rattle.mz_forms.specs.Proof.{Proof}
+use Rattle.mz_forms.specs.Name.{no_names}
 use Rattle.mz_mmu.proofs.Offered.{only_drafts}
 use Rattle.mz_typing.specs.Rules.{statement_rules}
 use Rattle.mz_typing.specs.Names.{StatementsThere}

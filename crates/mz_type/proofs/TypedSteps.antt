@@ -7,10 +7,9 @@ use Rattle.mz_sexpr.specs.Node.{Node, Nodes, atom, list, no_nodes, node, parts}
 use Rattle.mz_sexpr.specs.Number.{first, rest}
 use Rattle.mz_sexpr.specs.declared.rule.TextRefusal.{TextRefusal}
 use Rattle.mz_logic.specs.Declaration.{Declaration}
-use Rattle.mz_forms.specs.Name.{Names}
-use Rattle.mz_forms.specs.Order.{in_statement}
-use Rattle.mz_forms.specs.Proof.{Statement}
-use Rattle.mz_forms.specs.Statements.{is_local_word, names_with, IsMarked, IsStatement, AreStatements}
+use Rattle.mz_forms.specs.Name.{Names, names_with}
+use Rattle.mz_statements.specs.Order.{in_statement}
+use Rattle.mz_statements.specs.Statements.{Statement, is_local_word, IsMarked, IsStatement, AreStatements}
 use Rattle.mz_forms.specs.Stops.{Stops}
 use Rattle.mz_forms.specs.declared.fault.Stop.{Stop}
 use Rattle.mz_forms.specs.declared.fault.Stop.TheVariants as stop

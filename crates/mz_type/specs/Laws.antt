@@ -4,9 +4,8 @@ use Rattle.mz_checks.specs.Checks.{AllHold, FailsFirst}
 use Rattle.mz_sexpr.specs.declared.rule.TextRefusal.{TextRefusal}
 use Rattle.mz_sexpr.specs.Node.{Nodes}
 use Rattle.mz_logic.specs.LegalLists.{LegalBy, allowed_with}
-use Rattle.mz_forms.specs.Gaps.{HasGapsOnly}
-use Rattle.mz_forms.specs.Proof.{Statement}
-use Rattle.mz_forms.specs.Statements.{no_names, AreStatements}
+use Rattle.mz_statements.specs.Statements.{HasGapsOnly, Statement, AreStatements}
+use Rattle.mz_forms.specs.Name.{no_names}
 use Rattle.mz_type.specs.TextRules.{text_rules}
 use Rattle.mz_type.specs.TextOf.{TextOf, TextFault}
 use Rattle.mz_type.specs.Weight.{Passed, Passes, IsWithinLimits}

@@ -1,19 +1,14 @@
 -- What a stated proof means: a derivation (Carneiro, the rules of derivation), in which each let's name stands for
 -- the let's first part.
-use Rattle.std.specs.Prelude.{ℕ, zero, suc, ◌≡◌, ⊤, Bool, true, false, List, [], ◌∷◌, ◌++◌, Option, Some, map}
+use Rattle.std.specs.Prelude.{◌≡◌, ⊤, Bool, true, false, List, [], ◌∷◌, ◌++◌, Option, Some, map}
 use Rattle.mz_logic.specs.Tree.{Tree, Trees}
 use Rattle.mz_logic.specs.Declaration.{Assertion, Declaration, sort_decl, term_decl, assertion_decl, sorts}
 use Rattle.mz_logic.specs.Legality.{IsLegalDecl}
-use Rattle.mz_logic.specs.Derivations.{Derivation, Derivations, hypothesis, cite, convert, gap, no_derivs, more_derivs, Derives}
+use Rattle.mz_logic.specs.Derivations.{Derivation, Derivations, hypothesis, cite, convert, gap, no_derivs, more_derivs, Derives, derivation_at}
 use Rattle.mz_logic.specs.LegalLists.{Statement as Marked, MayBeLocal, AreDummies, allowed_with}
 use Rattle.mz_logic.specs.declared.binder.Binder.{Binder}
-use Rattle.mz_forms.specs.Proof.{Proof, Proofs, by_hyp, by_name, by_citation, by_conv, by_let, by_gap, no_proofs, more_proofs, Statement}
-
--- the i-th derivation; past the end, where no rule looks, a hypothesis
-abbrev pub derivation_at : Derivations → ℕ → Derivation
-derivation_at no_derivs i = hypothesis 0
-derivation_at (more_derivs d ds) zero = d
-derivation_at (more_derivs d ds) (suc i) = derivation_at ds i
+use Rattle.mz_forms.specs.Proof.{Proof, Proofs, by_hyp, by_name, by_citation, by_conv, by_let, by_gap, no_proofs, more_proofs}
+use Rattle.mz_statements.specs.Statements.{Statement}
 
 abbrev pub then_deriv : Derivations → Derivation → Derivations
 then_deriv no_derivs d = more_derivs d no_derivs

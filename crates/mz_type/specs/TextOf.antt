@@ -3,9 +3,8 @@ use Rattle.std.specs.Prelude.{ℕ, Bool, List, ◌⊎◌}
 use Rattle.mz_checks.specs.Checks.{FailsFirst}
 use Rattle.mz_sexpr.specs.declared.rule.TextRefusal.{TextRefusal}
 use Rattle.mz_sexpr.specs.Node.{Nodes}
-use Rattle.mz_forms.specs.Proof.{Statement}
-use Rattle.mz_forms.specs.Order.{Refuses as IsMisread}
-use Rattle.mz_forms.specs.Statements.{Reads}
+use Rattle.mz_statements.specs.Statements.{Statement, Reads}
+use Rattle.mz_statements.specs.Order.{Refuses as IsMisread}
 use Rattle.mz_type.specs.TextRules.{text_rules}
 use Rattle.mz_type.specs.Meaning.{LegalAsStated}
 

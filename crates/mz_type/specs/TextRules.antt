@@ -5,8 +5,8 @@ use Rattle.mz_sexpr.specs.declared.rule.TextRefusal.{TextRefusal}
 use Rattle.mz_sexpr.specs.Node.{Nodes}
 use Rattle.mz_sexpr.specs.Number.{first, rest}
 use Rattle.mz_logic.specs.Declaration.{Declaration}
-use Rattle.mz_forms.specs.Order.{in_statement}
-use Rattle.mz_forms.specs.Proof.{Statement}
+use Rattle.mz_statements.specs.Order.{in_statement}
+use Rattle.mz_statements.specs.Statements.{Statement}
 use Rattle.mz_typing.specs.Rules.{statement_rules}
 
 -- the k-th statement and those behind it, over what was declared before

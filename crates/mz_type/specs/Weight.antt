@@ -6,7 +6,8 @@ use Rattle.mz_logic.specs.Tree.{instance, followed_by, variables, size, trees_si
 use Rattle.mz_logic.specs.Declaration.{Declaration, sort_decl, term_decl, assertion_decl, dummies_of, body_of, sorts, body_tree}
 use Rattle.mz_logic.specs.Conversions.{Conversion, Conversions, refl_conv, sym_conv, cong_conv, unfold_conv, gap_conv, no_convs, more_convs}
 use Rattle.mz_logic.specs.declared.binder.Binder.{Binder}
-use Rattle.mz_forms.specs.Proof.{Proof, Proofs, by_hyp, by_name, by_citation, by_conv, by_let, by_gap, no_proofs, more_proofs, Statement}
+use Rattle.mz_forms.specs.Proof.{Proof, Proofs, by_hyp, by_name, by_citation, by_conv, by_let, by_gap, no_proofs, more_proofs}
+use Rattle.mz_statements.specs.Statements.{Statement}
 use Rattle.mz_typing.specs.Sides.{assertion_at, term_at}
 
 -- ---- the weight: what is written, and of each citation and unfolding the instance that it stands for

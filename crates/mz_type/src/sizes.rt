@@ -3,7 +3,7 @@ ghost use Rattle.std.specs.Prelude.{◌≡◌, ◌<◌, ◌^◌, ◌+◌};
 ghost use Rattle.mz_logic.specs.Tree.{size, trees_size};
 ghost use Rattle.mz_logic.specs.View.{tree};
 
-use mz_logic::{Expr, Exprs};
+use mz_logic::{Expr, Exprs, Hyps};
 
 /// How many variables and terms stand in the expression.
 #[cycle(size_of)]
@@ -26,6 +26,18 @@ pub(crate) fn sizes_of(es: &Exprs) -> u128
     let mut total: u128 = 0;
     for e in es.as_slice() {
         total += size_of(e);
+    }
+    total
+}
+
+/// How many stand in the hypotheses.
+pub(crate) fn sizes_of_hyps(hyps: &Hyps) -> u128
+    requires { trees_size hyps.now < 2 ^ 128 }
+    ensures { result ≡ trees_size hyps.now }
+{
+    let mut total: u128 = 0;
+    for i in 0..hyps.len() {
+        total += size_of(hyps.at(i));
     }
     total
 }

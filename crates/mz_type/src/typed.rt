@@ -3,8 +3,8 @@ ghost use Rattle.std.specs.Prelude.{◌≡◌, ◌<◌, ◌^◌, ◌∷◌, [], 
 ghost use Rattle.mz_sexpr.specs.Node.{parts};
 ghost use Rattle.mz_sexpr.specs.Number.{first};
 ghost use Rattle.mz_mode.specs.Gaps.{gaps_of};
-ghost use Rattle.mz_forms.specs.StatementView.{option_proof};
-ghost use Rattle.mz_forms.specs.Statements.{is_local_word, Reads};
+ghost use Rattle.mz_statements.specs.StatementView.{option_proof};
+ghost use Rattle.mz_statements.specs.Statements.{is_local_word, Reads};
 ghost use Rattle.mz_mmu.specs.EntryView.{entry as statement, IsRooted};
 ghost use Rattle.mz_typing.specs.Answers.{Judged, stated};
 ghost use Rattle.mz_typing.specs.Names.{StatementThere};

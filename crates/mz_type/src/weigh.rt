@@ -12,7 +12,7 @@ ghost use Rattle.mz_type.specs.Weight;
 ghost use Rattle.mz_type.specs.Weight.{weight_of};
 
 use crate::shapes::Shaped;
-use crate::sizes::{size_of, sizes_of};
+use crate::sizes::{size_of, sizes_of_hyps};
 use crate::typed::Typed;
 use mz_forms::{Conv, Convs, Proof, Proofs};
 use mz_logic::{Decl, TermDecl, ThmDecl};
@@ -102,7 +102,7 @@ fn thm_weight(thm: &ThmDecl) -> u128
     requires { Weight.declaration_weight (assertion_of thm.now) < 2 ^ 128 }
     ensures { result ≡ Weight.declaration_weight (assertion_of thm.now) }
 {
-    thm.params.len() as u128 + sizes_of(&thm.hyps) + size_of(&thm.conclusion)
+    thm.params.len() as u128 + sizes_of_hyps(&thm.hyps) + size_of(&thm.conclusion)
 }
 
 /// The binders of a declaration, and what stands in its expressions.

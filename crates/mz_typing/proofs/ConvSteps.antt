@@ -8,10 +8,9 @@ use Rattle.mz_sexpr.specs.Number.{first, rest}
 use Rattle.mz_logic.specs.Tree.{Tree, Trees, none, more, listed, instance, followed_by, variables}
 use Rattle.mz_logic.specs.Signature.{Signature}
 use Rattle.mz_logic.specs.Declaration.{Form, plain_form, abstract_form, defined, Term, Declaration, dummies_of, body_of, terms, signatures, is_defined, body_tree}
-use Rattle.mz_logic.specs.Legality.{signature_at, AllInRange}
+use Rattle.mz_logic.specs.Legality.{signature_at}
 use Rattle.mz_logic.specs.Conversions.{Conversion, Conversions, unfold_conv}
 use Rattle.mz_logic.specs.declared.binder.Binder.{Binder}
-use Rattle.mz_logic.proofs.Offered.{ranges_of_fits}
 use Rattle.mz_forms.specs.Order.{fault}
 use Rattle.mz_forms.specs.Stops.{Stops}
 use Rattle.mz_forms.specs.declared.fault.Fault.{Fault}
@@ -19,13 +18,13 @@ use Rattle.mz_forms.specs.declared.fault.Stop.{Stop}
 use Rattle.mz_forms.specs.ConvView.{conversion, conversions}
 use Rattle.mz_forms.specs.declared.conv.Conv.{Conv}
 use Rattle.mz_typing.specs.Answers.{Judged}
-use Rattle.mz_typing.specs.Names.{ConvsThere, ExprsThere}
+use Rattle.mz_typing.specs.Names.{ConvsThere}
 use Rattle.mz_typing.specs.Parts.{part}
 use Rattle.mz_typing.specs.Rules.{operand_rules, exprs_rules, variable_rules, unfold_rules, conv_rules, convs_rules, side_rules, conv_count, AreNew}
 use Rattle.mz_typing.specs.Sides.{left, term_at}
-use Rattle.mz_typing.proofs.ExprRules.{fits_by_checks}
 use Rattle.mz_typing.proofs.Judging.{stopped_before, stopped_after, stopped_asked, judged_after}
-use Rattle.mz_typing.proofs.Steps.{none_read, convs_cut}
+use Rattle.mz_logic.proofs.Offered.{none_read}
+use Rattle.mz_typing.proofs.Steps.{convs_cut}
 
 pub defined_by : (F : Form) (e : Tree) → body_of F ≡ more e none → IsTrue (is_defined F)
 defined_by plain_form e is = absurd cc
@@ -70,11 +69,6 @@ module _ (sigs : List Signature) (ctx : List Binder) (d : Term) (es : Trees) (ys
 
     pub unfold_holds : AllHold of_operands → AllHold of_variables → AreNew ctx es ys → l ≡ instance (followed_by es (variables ys)) (body_tree d.form) → AllHold of_unfold
     unfold_holds ops vars new is = (is_def, (many, all_hold-both of_operands _ ops (all_hold-both of_variables _ vars (new, (is, tt)))))
-
-    pub operands_in_range : ExprsThere (length sigs) (length ctx) es → AllHold (exprs_rules sigs ctx es (parts (part (parts n) 2))) → AllHold of_operands → AllInRange sigs (length ctx) es
-    operands_in_range there sorted ops =
-        ranges_of_fits sigs ctx es d.signature.params
-        (fits_by_checks sigs ctx es (parts (part (parts n) 2)) (parts (part (parts n) 2)) d.signature.params there sorted many.0 ops)
 
 -- ---- the rules of an unfolding
 

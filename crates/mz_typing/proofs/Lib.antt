@@ -3,6 +3,7 @@ pub mod ParamRules
 pub mod Judging
 pub mod Steps
 pub mod Building
+mod Differing
 pub mod Claims
 pub mod ConvSteps
 pub mod ProofSteps

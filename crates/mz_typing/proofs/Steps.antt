@@ -1,6 +1,6 @@
 -- Steps of the checks of expressions.
-use Rattle.std.proofs.Common.{ℕ, zero, suc, ◌≡◌, ◌<◌, ◌≤◌, ◌+◌, ◌-◌, Contains, List, [], ◌∷◌, length, get_or, drop, slice_get, Some, None, refl, sym, ap, ◌∙◌, subst, arith}
-use Rattle.std.proofs.lemmas.List.{drop_more, drop_all, get_or-drop, length-drop}
+use Rattle.std.proofs.Common.{ℕ, zero, suc, ◌≡◌, ◌<◌, ◌≤◌, ◌+◌, List, [], ◌∷◌, length, get_or, drop, refl, sym, ap, ◌∙◌, subst, arith}
+use Rattle.std.proofs.lemmas.List.{drop_more, drop_all}
 use Rattle.mz_checks.specs.Checks.{Checks, AllHold, demand, ◌>>◌}
 use Rattle.mz_checks.proofs.Offered.{Decides, decides-after}
 use Rattle.mz_sexpr.specs.Node.{Nodes}
@@ -25,11 +25,6 @@ app_rules sigs ctx t es at ns =
     exprs_rules sigs ctx es ns
     >> demand (fault at U.Arity) (length (listed es) ≡ length (signature_at sigs t).params)
     >> operand_rules sigs ctx es ns (signature_at sigs t).params
-
-pub none_read : {A : Type 0} (xs : List A) (i : ℕ) (d : A) → None ≡ slice_get xs i → get_or xs i d ≡ d
-none_read [] i d h = refl
-none_read (x ∷ xs) zero d h = absurd (let e : None ≡ Some x = h in cc)
-none_read (x ∷ xs) (suc i) d h = none_read xs i d h
 
 -- one expression more of a list
 module _ (xs : List Expr) (i : ℕ) (e : Expr) (below : i < length xs) (is : e ≡ get_or xs i e) where
@@ -99,24 +94,6 @@ no_dummies_left ctx ys ns bs i end = subst (λ qs. AllHold (variable_rules ctx y
     go : (ys : List ℕ) → AllHold (variable_rules ctx ys ns [])
     go [] = tt
     go (y ∷ ys) = tt
-
--- ---- places that stand again
-
-get_or_any : (xs : List ℕ) (i d e : ℕ) → i < length xs → get_or xs i d ≡ get_or xs i e
-get_or_any [] i d e below = absurd (omega (arith, below))
-get_or_any (x ∷ xs) zero d e below = refl
-get_or_any (x ∷ xs) (suc i) d e below = get_or_any xs i d e (omega (arith, below))
-
-pub stands_from : (ys : List ℕ) (i j : ℕ) → i < j → j < length ys → get_or ys j 0 ≡ get_or ys i 0 → Contains (drop (i + 1) ys) (get_or ys i 0)
-stands_from ys i j later below is =
-    let k = j - (i + 1) in
-    let within : k < length (drop (i + 1) ys) = omega (arith, length-drop (i + 1) ys) in
-    let at : (i + 1) + k ≡ j = omega arith in
-    (k, within, get_or_any (drop (i + 1) ys) k (get_or ys i 0) 0 within ∙ get_or-drop (i + 1) ys k 0 ∙ ap (λ m. get_or ys m 0) at ∙ is)
-
-pub stands_nowhere : (ys : List ℕ) (i n : ℕ) → length ys ≤ n → ((k : ℕ) → i < k → k < n → get_or ys k 0 ≡ get_or ys i 0 → ⊥) → Contains (drop (i + 1) ys) (get_or ys i 0) → ⊥
-stands_nowhere ys i n end out (k, within, is) =
-    out ((i + 1) + k) (omega arith) (omega (arith, length-drop (i + 1) ys)) (sym (get_or-drop (i + 1) ys k 0) ∙ get_or_any (drop (i + 1) ys) k 0 (get_or ys i 0) within ∙ is)
 
 pub operand_read : (xs : List Expr) (i : ℕ) (e : Expr) → i < length xs → operand (trees xs) i ≡ tree (get_or xs i e)
 operand_read [] i e below = absurd (omega (arith, below))

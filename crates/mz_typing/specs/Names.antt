@@ -7,7 +7,8 @@ use Rattle.mz_logic.specs.LegalLists.{MayBeLocal}
 use Rattle.mz_logic.specs.Laws.{SortsThere}
 use Rattle.mz_logic.specs.declared.binder.Binder.{Binder}
 use Rattle.mz_logic.specs.Conversions.{Conversion, Conversions, refl_conv, sym_conv, cong_conv, unfold_conv, gap_conv, no_convs, more_convs}
-use Rattle.mz_forms.specs.Proof.{Proof, Proofs, by_hyp, by_name, by_citation, by_conv, by_let, by_gap, no_proofs, more_proofs, Statement}
+use Rattle.mz_forms.specs.Proof.{Proof, Proofs, by_hyp, by_name, by_citation, by_conv, by_let, by_gap, no_proofs, more_proofs}
+use Rattle.mz_statements.specs.Statements.{Statement}
 
 -- of `ts` terms and `n` variables
 abbrev mutual

@@ -2,7 +2,7 @@
 use Rattle.std.specs.Prelude.{ℕ, zero, suc, Bool, true, false, if◌then◌else◌}
 use Rattle.mz_sexpr.specs.Node.{Node, Nodes, atom, list, parts}
 use Rattle.mz_sexpr.specs.Number.{first, rest}
-use Rattle.mz_forms.specs.Statements.{is_local_word}
+use Rattle.mz_statements.specs.Statements.{is_local_word}
 
 abbrev pub is_list : Node → Bool
 is_list (atom _ _) = false

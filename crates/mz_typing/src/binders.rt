@@ -3,44 +3,13 @@ ghost use Rattle.std.specs.Prelude.{◌≡◌, ◌↔◌, ◌<◌, IsTrue, All, 
 ghost use Rattle.mz_checks.specs.Checks.{Judges};
 ghost use Rattle.mz_logic.specs.Declaration.{sorts};
 ghost use Rattle.mz_logic.specs.Legality.{IsParam};
-ghost use Rattle.mz_logic.specs.Modifiers.{MayBeBoundSort, MayBeDummySort, MayBeResultSort};
 ghost use Rattle.mz_logic.specs.Variables.{IsBoundAt};
 ghost use Rattle.mz_typing.specs.Rules.{param_rules, dummy_rules};
 
 use crate::cursor::Cursor;
 use mz_forms::Fault;
-use mz_logic::{Binder, Deps, Env, are_bound_before};
+use mz_logic::{Binder, Deps, Env, are_bound_before, may_be_bound_sort, may_be_dummy_sort};
 use mz_sexpr::U;
-
-/// May a bound variable have this sort?
-fn may_be_bound_sort(env: &Env, sort: u32) -> bool
-    ensures { IsTrue result ↔ MayBeBoundSort (sorts env.now) sort }
-{
-    match env.mods(sort) {
-        None => false,
-        Some(mods) => !mods.is_strict(),
-    }
-}
-
-/// May a dummy have this sort?
-fn may_be_dummy_sort(env: &Env, sort: u32) -> bool
-    ensures { IsTrue result ↔ MayBeDummySort (sorts env.now) sort }
-{
-    match env.mods(sort) {
-        None => false,
-        Some(mods) => !mods.is_strict() && !mods.is_free(),
-    }
-}
-
-/// May a result have this sort?
-pub(crate) fn may_be_result_sort(env: &Env, sort: u32) -> bool
-    ensures { IsTrue result ↔ MayBeResultSort (sorts env.now) sort }
-{
-    match env.mods(sort) {
-        None => false,
-        Some(mods) => !mods.is_pure(),
-    }
-}
 
 /// Whether all places are those of bound parameters.
 pub(crate) fn are_bound(params: &[Binder], places: &Deps) -> bool

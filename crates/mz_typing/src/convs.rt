@@ -1,5 +1,5 @@
 //! What is asked of conversions.
-ghost use Rattle.std.specs.Prelude.{◌≡◌, ◌↔◌, ⊤, Bool, true, false, IsTrue, ◌+◌, ◌<◌, drop, get_or, length, ℕ, Contains};
+ghost use Rattle.std.specs.Prelude.{◌≡◌, ◌↔◌, ⊤, Bool, true, false, IfOk, IsTrue, length};
 ghost use Rattle.mz_checks.specs.Checks.{Judges, AllHold};
 ghost use Rattle.mz_sexpr.specs.Number.{first, rest};
 ghost use Rattle.mz_sexpr.specs.Node.{parts};
@@ -7,14 +7,12 @@ ghost use Rattle.mz_logic.specs.Conversions.{refl_conv, sym_conv, cong_conv, unf
 ghost use Rattle.mz_logic.specs.Declaration.{signatures};
 ghost use Rattle.mz_logic.specs.DeclView.{term_view};
 ghost use Rattle.mz_logic.specs.Legality;
-ghost use Rattle.mz_logic.specs.Legality.{AllInRange};
 ghost use Rattle.mz_logic.specs.Sorts.{IsBoundVar};
 ghost use Rattle.mz_logic.specs.Tree.{instance, followed_by, variables};
-ghost use Rattle.mz_logic.specs.Variables.{InSomeV};
 ghost use Rattle.mz_logic.specs.View.{tree};
 ghost use Rattle.mz_forms.specs.ConvView.{conversion};
 ghost use Rattle.mz_typing.specs.Answers.{Judged, told};
-ghost use Rattle.mz_typing.specs.Names.{ConvThere, ConvsThere, ExprsThere};
+ghost use Rattle.mz_typing.specs.Names.{ConvThere, ConvsThere};
 ghost use Rattle.mz_typing.specs.Parts.{part, is_list};
 ghost use Rattle.mz_typing.specs.Rules;
 ghost use Rattle.mz_typing.specs.Rules.{conv_rules, convs_rules, side_rules, own_side_rules, variable_rules, unfold_rules, exprs_rules, sorted_rules, AreNew};
@@ -22,10 +20,14 @@ ghost use Rattle.mz_typing.specs.Sides.{side, left};
 
 use crate::claim::{Claim, is_side};
 use crate::cursor::Cursor;
-use crate::exprs::{check_expr, check_exprs, check_operands, params_of, sort_of, sort_of_term};
+use crate::exprs::{check_expr, check_exprs, check_operands, params_of};
 use mz_forms::{Conv, Convs, Fault, Stop, Vars};
-use mz_logic::{Binder, Context, Env, Expr, Exprs, TermDecl, in_tree, is_bound_var};
+use mz_free::{Covered, some_name_any};
+use mz_logic::{
+    Binder, Context, Env, Expr, Exprs, Hyps, TermDecl, is_bound_var, sort_of, sort_of_term,
+};
 use mz_sexpr::U;
+use std::alloc::{AllocError, Global};
 
 /// A refusal as a cause to stop.
 pub(crate) fn refuse(checked: Result<(), Fault>) -> Result<(), Stop>
@@ -157,44 +159,18 @@ fn check_variables(
     Ok(())
 }
 
-/// Whether the variable is in V of one of the expressions.
-fn is_in_some(env: &Env, ctx: &Context, es: &Exprs, place: u32) -> bool
-    requires { AllInRange (signatures env.now) (length ctx.now) es.now }
-    ensures { IsTrue result ↔ InSomeV ctx.now place es.now }
-{
-    for e in es.as_slice() {
-        if in_tree(env, ctx, e, place as usize) {
-            return true;
-        }
-    }
-    false
-}
-
-/// Whether the i-th place stands again behind itself.
-fn stands_again(places: &[u32], i: usize) -> bool
-    requires { i < length places.now }
-    ensures { IsTrue result ↔ Contains (drop (i + 1) places.now) (get_or places.now i 0) }
-{
-    for j in i + 1..places.len() {
-        if places[j] == places[i] {
-            return true;
-        }
-    }
-    false
-}
-
 /// Whether the variables differ, and none is in V of an operand.
-fn are_new(env: &Env, ctx: &Context, es: &Exprs, vars: &Vars) -> bool
-    requires { AllInRange (signatures env.now) (length ctx.now) es.now }
-    ensures { IsTrue result ↔ AreNew ctx.now es.now vars.now }
+fn are_new(alloc: Global, ctx: &Context, es: &Exprs, vars: &Vars) -> Result<bool, AllocError>
+    ensures { IfOk result (λ new. IsTrue new ↔ AreNew ctx.now es.now vars.now) }
 {
-    let places = vars.as_slice();
-    for i in 0..places.len() {
-        if is_in_some(env, ctx, es, places[i]) || stands_again(places, i) {
-            return false;
+    let mut seen = Covered::new(alloc);
+    for place in vars.as_slice() {
+        if seen.has(*place) {
+            return Ok(false);
         }
+        seen.add(*place)?;
     }
-    true
+    Ok(!some_name_any(alloc, ctx, es, &seen))
 }
 
 /// Whether a conversion goes from the body with the operands and variables put in.
@@ -250,12 +226,14 @@ fn check_gap_sides(
 /// What the type rules of conversions and proofs are tried over.
 #[derive(Clone, Copy)]
 pub(crate) struct Checker<'t, 'c> {
+    /// Where sets of variables are kept.
+    pub(crate) alloc: Global,
     /// The statements before.
     pub(crate) env: &'t Env,
     /// The variables.
     pub(crate) ctx: &'t Context<'c>,
     /// The theorem's hypotheses.
-    pub(crate) hyps: &'t Exprs,
+    pub(crate) hyps: &'t Hyps,
 }
 
 // Conversions and proofs stand deep in one another, and what calls itself through them takes stack
@@ -364,8 +342,7 @@ impl<'t, 'c> Checker<'t, 'c> {
         conv: &Conv,
         nodes: &Cursor,
     ) -> Result<(), Stop>
-        requires operands { ExprsThere (length (signatures self.now.env.now)) (length self.now.ctx.now) es.now }
-        requires part { ConvThere (length (signatures self.now.env.now)) (length self.now.ctx.now) (conversion conv.now) }
+        requires { ConvThere (length (signatures self.now.env.now)) (length self.now.ctx.now) (conversion conv.now) }
         ensures { Judged result (conv_rules self.now.env.now self.now.ctx.now (unfold_conv term es.now vars.now (conversion conv.now)) (first nodes.now)) }
     {
         self.check_part_exprs(es, 2, nodes)?;
@@ -383,7 +360,6 @@ impl<'t, 'c> Checker<'t, 'c> {
         conv: &Conv,
         nodes: &Cursor,
     ) -> Result<(), Stop>
-        requires there { ExprsThere (length (signatures self.now.env.now)) (length self.now.ctx.now) es.now }
         requires sorted { AllHold (exprs_rules (signatures self.now.env.now) self.now.ctx.now es.now (parts (part (parts (first nodes.now)) 2))) }
         requires held { AllHold (conv_rules self.now.env.now self.now.ctx.now (conversion conv.now) (part (parts (first nodes.now)) 4)) }
         ensures { Judged result (conv_rules self.now.env.now self.now.ctx.now (unfold_conv term es.now vars.now (conversion conv.now)) (first nodes.now)) }
@@ -403,8 +379,6 @@ impl<'t, 'c> Checker<'t, 'c> {
         conv: &Conv,
         nodes: &Cursor,
     ) -> Result<(), Stop>
-        requires there { ExprsThere (length (signatures self.now.env.now)) (length self.now.ctx.now) es.now }
-        requires sorted { AllHold (exprs_rules (signatures self.now.env.now) self.now.ctx.now es.now (parts (part (parts (first nodes.now)) 2))) }
         ensures { Judged result (unfold_rules (signatures self.now.env.now) self.now.ctx.now (term_view term.now) es.now vars.now (left (conversion conv.now)) (first nodes.now)) }
     {
         let Some(body) = term.form.body() else {
@@ -417,7 +391,8 @@ impl<'t, 'c> Checker<'t, 'c> {
         }
         refuse(check_operands(self.env, self.ctx, es, &nodes.parts_of(2), params))?;
         refuse(check_variables(self.ctx, vars, &nodes.parts_of(3), dummies))?;
-        if !are_new(self.env, self.ctx, es, vars) {
+        let fresh = are_new(self.alloc, self.ctx, es, vars)?;
+        if !fresh {
             return Err(Stop::Refused(nodes.fault(U::Disjoint)));
         }
         if goes_from_body(body, es, vars, conv) {

@@ -1,48 +1,18 @@
 //! What is asked of expressions.
-ghost use Rattle.std.specs.Prelude.{◌≡◌, ◌↔◌, IsTrue, drop};
+ghost use Rattle.std.specs.Prelude.{◌≡◌, drop};
 ghost use Rattle.mz_checks.specs.Checks.{Judges, AllHold};
 ghost use Rattle.mz_sexpr.specs.Node.{parts};
 ghost use Rattle.mz_sexpr.specs.Number.{first, rest};
 ghost use Rattle.mz_logic.specs.Declaration.{signatures};
-ghost use Rattle.mz_logic.specs.Legality;
-ghost use Rattle.mz_logic.specs.Legality.{signature_at, binder_at, IsClaim};
+ghost use Rattle.mz_logic.specs.Legality.{signature_at};
 ghost use Rattle.mz_logic.specs.Tree.{app};
 ghost use Rattle.mz_logic.specs.View.{tree};
 ghost use Rattle.mz_typing.specs.Rules.{expr_rules, exprs_rules, operand_rules, own_operand_rules, claim_rules};
 
 use crate::cursor::Cursor;
 use mz_forms::Fault;
-use mz_logic::{Binder, Context, Env, Expr, Exprs, is_bound_var};
+use mz_logic::{Binder, Context, Env, Expr, Exprs, is_bound_var, is_claim, sort_of};
 use mz_sexpr::U;
-
-fn sort_of_variable(ctx: &Context, place: u32) -> u32
-    ensures { result ≡ (binder_at ctx.now place).sort }
-{
-    match ctx.get(place) {
-        None => 0,
-        Some(binder) => binder.sort,
-    }
-}
-
-/// The sort of a term's applications, 0 where the term isn't there.
-pub(crate) fn sort_of_term(env: &Env, term: u32) -> u32
-    ensures { result ≡ (signature_at (signatures env.now) term).result.sort }
-{
-    match env.term(term) {
-        None => 0,
-        Some(term) => term.result.sort,
-    }
-}
-
-/// The sort of an expression, 0 where its name isn't there.
-pub(crate) fn sort_of(env: &Env, ctx: &Context, expr: &Expr) -> u32
-    ensures { result ≡ Legality.sort_of (signatures env.now) ctx.now (tree expr.now) }
-{
-    match expr {
-        Expr::Var(x) => sort_of_variable(ctx, *x),
-        Expr::App(t, _) => sort_of_term(env, *t),
-    }
-}
 
 /// The parameters of a term, none where it isn't there.
 pub(crate) fn params_of<'e>(env: &'e Env, term: u32) -> &'e [Binder]
@@ -145,16 +115,6 @@ fn check_operand(
         return Err(nodes.fault(U::Bound));
     }
     Ok(())
-}
-
-/// Is the sort of the expression provable?
-fn is_claim(env: &Env, ctx: &Context, expr: &Expr) -> bool
-    ensures { IsTrue result ↔ IsClaim env.now ctx.now (tree expr.now) }
-{
-    match env.mods(sort_of(env, ctx, expr)) {
-        None => false,
-        Some(mods) => mods.is_provable(),
-    }
 }
 
 /// The rules of an expression whose sort is provable, at the first node.

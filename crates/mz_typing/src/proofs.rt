@@ -22,7 +22,8 @@ use crate::convs::{Checker, refuse};
 use crate::cursor::Cursor;
 use crate::exprs::{check_claim, check_expr, check_operands};
 use mz_forms::{Conv, Proof, Proofs, Stop};
-use mz_logic::{Expr, Exprs, ThmDecl, are_apart};
+use mz_free::are_apart;
+use mz_logic::{Expr, Exprs, Hyps, ThmDecl};
 use mz_sexpr::U;
 
 /// Whether the conversion goes from the expression to the claim at the place.
@@ -103,16 +104,15 @@ impl<'t, 'c> Checker<'t, 'c> {
         &self,
         claims: &[Claim],
         es: &Exprs,
-        hyps: &Exprs,
+        hyps: &Hyps,
         nodes: &Cursor,
     ) -> Result<(), Stop>
         requires { length claims.now ≡ length (listed hyps.now) }
         ensures { Judged result (subproof_rules (claim_trees claims.now) nodes.now (instances es.now hyps.now)) }
     {
-        let wanted = hyps.as_slice();
         let mut left = nodes.after(0);
         for i in 0..claims.len() {
-            if !same_claim(claims[i], Claim::instance(&wanted[i], es)) {
+            if !same_claim(claims[i], Claim::instance(hyps.at(i), es)) {
                 return Err(Stop::Refused(left.fault(U::Hypothesis)));
             }
             left = left.rest();
@@ -137,7 +137,8 @@ impl<'t, 'c> Checker<'t, 'c> {
             return Err(Stop::Refused(nodes.fault(U::Arity)));
         }
         refuse(check_operands(self.env, self.ctx, es, &nodes.parts_of(1), params))?;
-        if !are_apart(self.env, self.ctx, es, params) {
+        let apart = are_apart(self.alloc, self.env, self.ctx, es, params)?;
+        if !apart {
             return Err(Stop::Refused(nodes.fault(U::Disjoint)));
         }
         self.check_claims(claims, es, &thm.hyps, &nodes.parts_after(2))?;

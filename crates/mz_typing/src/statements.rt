@@ -5,30 +5,32 @@ ghost use Rattle.mz_sexpr.specs.Node.{parts};
 ghost use Rattle.mz_sexpr.specs.Number.{first};
 ghost use Rattle.mz_logic.specs.Declaration.{signatures, sorts, defined};
 ghost use Rattle.mz_logic.specs.DeclView.{declaration, form, signature, term_view, term_of, assertion_view};
-ghost use Rattle.mz_logic.specs.Legality.{AreParams, IsDummy};
 ghost use Rattle.mz_logic.specs.Modifiers.{MayBeResultSort};
 ghost use Rattle.mz_logic.specs.Variables.{IsBoundAt};
 ghost use Rattle.mz_logic.specs.View.{tree};
 ghost use Rattle.mz_forms.specs.ProofView.{proof_view};
-ghost use Rattle.mz_forms.specs.StatementView.{option_proof, stated as statement};
-ghost use Rattle.mz_forms.specs.Statements.{is_local_word};
+ghost use Rattle.mz_statements.specs.StatementView.{option_proof, stated as statement};
+ghost use Rattle.mz_statements.specs.Statements.{is_local_word};
 ghost use Rattle.mz_typing.specs.Answers.{Judged, stated};
 ghost use Rattle.mz_typing.specs.Names.{ExprThere, DeclThere, StatementThere, StatedProofThere, TermThere};
 ghost use Rattle.mz_typing.specs.Parts;
 ghost use Rattle.mz_typing.specs.Rules;
 ghost use Rattle.mz_typing.specs.Rules.{claim_rules, claims_rules, body_rules, assertion_rules, theorem_rules, decl_rules, statement_rules};
 
-use crate::binders::{are_bound, check_dummies, check_params, may_be_result_sort};
+use crate::binders::{are_bound, check_dummies, check_params};
 use crate::claim::{Claim, same_claim};
 use crate::convs::{Checker, refuse};
 use crate::cursor::Cursor;
-use crate::exprs::{check_claim, check_expr, sort_of as sort_of_expr};
+use crate::exprs::{check_claim, check_expr};
 use crate::proofs::claim_at;
-use mz_forms::{Declared, Fault, Proof, ProofBox, Stop};
+use mz_forms::{Fault, Proof, ProofBox, Stop};
+use mz_free::free_vars_are_among;
 use mz_logic::{
-    Binder, Context, Decl, Env, Expr, Exprs, TermDecl, TermForm, ThmDecl, ThmForm, free_vars_are_in,
+    Binder, Context, Decl, Env, Expr, Hyps, TermDecl, TermForm, ThmDecl, ThmForm,
+    may_be_result_sort, sort_of as sort_of_expr,
 };
 use mz_sexpr::U;
+use mz_statements::Declared;
 use std::alloc::Global;
 
 /// The node of a hypothesis: in a theorem a name stands before it.
@@ -47,14 +49,14 @@ fn check_hyps(
     env: &Env,
     ctx: &Context,
     is_axiom: bool,
-    hyps: &Exprs,
+    hyps: &Hyps,
     nodes: &Cursor,
 ) -> Result<(), Fault>
     ensures { Judges result (claims_rules env.now ctx.now is_axiom hyps.now nodes.now) }
 {
     let mut left = nodes.after(0);
-    for hyp in hyps.as_slice() {
-        check_claim(env, ctx, hyp, &hyp_node(is_axiom, &left))?;
+    for i in 0..hyps.len() {
+        check_claim(env, ctx, hyps.at(i), &hyp_node(is_axiom, &left))?;
         left = left.rest();
     }
     Ok(())
@@ -63,41 +65,40 @@ fn check_hyps(
 /// The rules of a definition's dummies and body. The parts are the statement's, from the word of its
 /// kind on.
 fn check_body(
+    alloc: Global,
     env: &Env,
     term: &TermDecl,
     dummies: &[Binder],
     body: &Expr,
     parts: &Cursor,
-) -> Result<(), Fault>
-    requires there { ExprThere (length (signatures env.now)) (length (term.now.params ++ dummies.now)) (tree body.now) }
-    requires dummies { All IsDummy dummies.now }
-    requires params { AreParams (sorts env.now) term.now.params }
-    ensures { Judges result (body_rules env.now (signature term.now) (defined dummies.now (tree body.now)) parts.now) }
+) -> Result<(), Stop>
+    requires { ExprThere (length (signatures env.now)) (length (term.now.params ++ dummies.now)) (tree body.now) }
+    ensures { Judged result (body_rules env.now (signature term.now) (defined dummies.now (tree body.now)) parts.now) }
 {
-    check_dummies(env, dummies, &parts.after(4).parts())?;
+    refuse(check_dummies(env, dummies, &parts.after(4).parts()))?;
     let ctx = Context::new(term.params.as_slice(), dummies);
     let node = parts.after(5);
-    check_expr(env, &ctx, body, &node)?;
-    if !free_vars_are_in(env, &ctx, body, &term.result.deps) {
-        return Err(node.fault(U::Declaration));
+    refuse(check_expr(env, &ctx, body, &node))?;
+    let right = free_vars_are_among(alloc, env, &ctx, body, &term.result.deps)?;
+    if !right {
+        return Err(Stop::Refused(node.fault(U::Declaration)));
     }
     if sort_of_expr(env, &ctx, body) != term.result.sort {
-        return Err(node.fault(U::Sort));
+        return Err(Stop::Refused(node.fault(U::Sort)));
     }
     Ok(())
 }
 
 /// The rules of a definition's dummies and body; a term without a body has none.
-fn check_form(env: &Env, term: &TermDecl, parts: &Cursor) -> Result<(), Fault>
-    requires there { TermThere env.now (term_view term.now) }
-    requires params { AreParams (sorts env.now) term.now.params }
-    ensures { Judges result (body_rules env.now (signature term.now) (form term.now.form) parts.now) }
+fn check_form(alloc: Global, env: &Env, term: &TermDecl, parts: &Cursor) -> Result<(), Stop>
+    requires { TermThere env.now (term_view term.now) }
+    ensures { Judged result (body_rules env.now (signature term.now) (form term.now.form) parts.now) }
 {
     match &term.form {
         TermForm::Plain => Ok(()),
         TermForm::Abstract => Ok(()),
         TermForm::Body { dummies, body } => {
-            check_body(env, term, dummies.as_slice(), body, parts)
+            check_body(alloc, env, term, dummies.as_slice(), body, parts)
         }
     }
 }
@@ -111,15 +112,15 @@ fn is_result_right(env: &Env, term: &TermDecl) -> bool
 }
 
 /// The rules of a term or a definition.
-fn check_term(env: &Env, term: &TermDecl, parts: &Cursor) -> Result<(), Fault>
+fn check_term(alloc: Global, env: &Env, term: &TermDecl, parts: &Cursor) -> Result<(), Stop>
     requires { TermThere env.now (term_view term.now) }
-    ensures { Judges result (decl_rules env.now (term_of term.now) [] None parts.now) }
+    ensures { Judged result (decl_rules env.now (term_of term.now) [] None parts.now) }
 {
-    check_params(env, term.params.as_slice(), &parts.after(2).parts())?;
+    refuse(check_params(env, term.params.as_slice(), &parts.after(2).parts()))?;
     if !is_result_right(env, term) {
-        return Err(parts.after(3).fault(U::Declaration));
+        return Err(Stop::Refused(parts.after(3).fault(U::Declaration)));
     }
-    check_form(env, term, parts)
+    check_form(alloc, env, term, parts)
 }
 
 /// The rules of a theorem's dummies, its proof and its conclusion.
@@ -137,6 +138,7 @@ fn check_stated_proof(
     refuse(check_dummies(env, dummies, &parts.after(5).parts()))?;
     let ctx = Context::new(thm.params.as_slice(), dummies);
     let checker = Checker {
+        alloc,
         env,
         ctx: &ctx,
         hyps: &thm.hyps,
@@ -185,7 +187,7 @@ fn check_decl(
 {
     match decl {
         Decl::Sort(_) => Ok(()),
-        Decl::Term(term) => refuse(check_term(env, term, parts)),
+        Decl::Term(term) => check_term(alloc, env, term, parts),
         Decl::Thm(thm) => {
             refuse(check_assertion_parts(env, thm, parts))?;
             match proof {

@@ -11,7 +11,7 @@ use Rattle.mz_unification.specs.Streams.{UnifyCommand}
 use Rattle.mz_unification.specs.Spells.{Marks, trees_of, variables_from}
 use Rattle.mz_phrasing.specs.Phrases.{Phrase}
 use Rattle.mz_phrasing.specs.Phrasing.{Vocabulary, expression}
-use Rattle.mz_unspell.specs.Rows.{Grows}
+use Rattle.mz_stating.specs.ByNumber.{Grows}
 use Rattle.mz_unspell.specs.Frames.{Frame, Target, AreMarked, AreOwn, Behind, IsMarked, IsOpenMark, IsOwn, join, parts_of, whole}
 use Rattle.mz_unspell.specs.Numbers.{AreVariables}
 use Rattle.mz_unspell.specs.Reading.{IsSet}

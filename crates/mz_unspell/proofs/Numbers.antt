@@ -11,8 +11,8 @@ use Rattle.mz_logic.specs.declared.binder.Binder.{Binder}
 use Rattle.mz_unification.specs.Spells.{trees_of, variables_from}
 use Rattle.mz_phrasing.specs.Phrases.{Phrase, Phrases, a_list, a_word, one_more}
 use Rattle.mz_phrasing.specs.Phrasing.{Vocabulary, expression, expressions}
-use Rattle.mz_stating.specs.ByNumber.{phrases_at}
-use Rattle.mz_unspell.specs.Rows.{Grows, IsPhrase}
+use Rattle.mz_stating.specs.ByNumber.{phrases_at, Grows}
+use Rattle.mz_unspell.specs.Rows.{IsPhrase}
 use Rattle.mz_unspell.specs.Numbers.{AreAt, AreVariables}
 
 -- ---- places of a list

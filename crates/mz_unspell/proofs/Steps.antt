@@ -11,7 +11,7 @@ use Rattle.mz_unification.specs.Streams.{StreamKind, UnifyCommand, StreamIs, com
 use Rattle.mz_unification.specs.Spells.{HasOperands, Marks, Spells, SpellsAll, SpellsHyps, dummy_of, marked, trees_of, with_dummy}
 use Rattle.mz_phrasing.specs.Phrases.{Phrase, a_word}
 use Rattle.mz_phrasing.specs.Phrasing.{Vocabulary, expression}
-use Rattle.mz_unspell.specs.Rows.{Grows}
+use Rattle.mz_stating.specs.ByNumber.{Grows}
 use Rattle.mz_unspell.specs.Numbers.{AreAt}
 use Rattle.mz_unspell.specs.Frames.{Frame, Target, AreMarked, Behind, IsOpenMark, IsOwn, Within, join, open_at, opens_of, parts, parts_of, whole, with_read}
 use Rattle.mz_unspell.specs.Reading.{AreRead, IsAtHyp, IsBetween, IsComplete, IsGoing, IsNext, IsOpened, IsSame, IsSet, Over, Stands, held}

@@ -1,5 +1,5 @@
 -- What is asked of the signatures over which a file's rows spell, and what phrases of a row are (this project's own).
-use Rattle.std.specs.Prelude.{◌≡◌, ◌<◌, ℕ, List, ◌++◌, length, map, All, Some, slice_get}
+use Rattle.std.specs.Prelude.{◌≡◌, ◌<◌, ℕ, List, length, map, All, Some, slice_get}
 use Rattle.mz_logic.specs.Signature.{Signature}
 use Rattle.mz_logic.specs.Declaration.{Assertion}
 use Rattle.mz_logic.specs.Tree.{Tree}
@@ -15,10 +15,6 @@ use Rattle.mz_unspell.specs.declared.row.Defined.{Defined}
 -- each term has a row in the file, with as many parameters
 abbrev pub AreArities : List ℕ → List Signature → Type 0
 AreArities file sigs = (t : ℕ) (d : Signature) → slice_get sigs t ≡ Some d → (t < term_count file) × (length d.params ≡ length (term_row file t).words.params)
-
--- the second are the first, and others behind them
-abbrev pub Grows : List Phrase → List Phrase → Type 0
-Grows ps qs = (others : List Phrase) × (qs ≡ ps ++ others)
 
 -- the phrase with the number is there, and is this one
 abbrev pub IsPhrase : List Phrase → ℕ → Phrase → Type 0

@@ -5,7 +5,7 @@ ghost use Rattle.mz_unification.specs.Spells.{trees_of};
 ghost use Rattle.mz_phrasing.specs.Phrases.{a_word};
 ghost use Rattle.mz_phrasing.specs.Phrasing.{Vocabulary, expression};
 ghost use Rattle.mz_phrasing.specs.Naming.{vocabulary_by};
-ghost use Rattle.mz_unspell.specs.Rows.{Grows};
+ghost use Rattle.mz_stating.specs.ByNumber.{Grows};
 ghost use Rattle.mz_unspell.specs.Numbers.{AreAt};
 
 use mz_cmd::Mem;

@@ -7,7 +7,7 @@ ghost use Rattle.mz_unification.specs.Streams.{UnifyCommand, StreamIs, StreamKin
 ghost use Rattle.mz_phrasing.specs.Naming.{vocabulary_by};
 ghost use Rattle.mz_phrasing.specs.Phrasing.{Vocabulary, expression};
 ghost use Rattle.mz_phrasing.specs.Phrases.{Phrase};
-ghost use Rattle.mz_unspell.specs.Rows.{Grows};
+ghost use Rattle.mz_stating.specs.ByNumber.{Grows};
 ghost use Rattle.mz_unspell.specs.Numbers.{AreAt, AreVariables};
 ghost use Rattle.mz_unspell.specs.Frames.{Target};
 ghost use Rattle.mz_unspell.specs.Reading.{IsAtHyp, IsBetween, IsComplete, IsGoing, IsNext, IsOpened, IsSame, IsSet, Over};

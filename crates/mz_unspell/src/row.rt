@@ -8,7 +8,8 @@ ghost use Rattle.mz_layout.specs.Tables.{term_count, term_row, thm_count};
 ghost use Rattle.mz_unification.specs.Spells.{SpellsTerm, SpellsThm};
 ghost use Rattle.mz_soundness.specs.FileRows.{term_of_file, thm_of_file};
 ghost use Rattle.mz_phrasing.specs.Naming.{vocabulary_by};
-ghost use Rattle.mz_unspell.specs.Rows.{AreArities, Grows, IsDefined, IsSaid};
+ghost use Rattle.mz_stating.specs.ByNumber.{Grows};
+ghost use Rattle.mz_unspell.specs.Rows.{AreArities, IsDefined, IsSaid};
 
 use crate::reading::Reading;
 use mz_cmd::Mem;

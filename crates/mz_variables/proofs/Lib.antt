@@ -1,4 +1,3 @@
-pub mod Walking
 pub mod Keyed
 pub mod Places
 pub mod Indexed

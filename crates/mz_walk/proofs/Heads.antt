@@ -9,7 +9,7 @@ use Rattle.mz_cmd.specs.Codes.{statement_byte, statement_code}
 use Rattle.mz_cmd.specs.StatementList.{statement_at}
 use Rattle.mz_layout.specs.Heads.{IsHeadAt, IsNextHead}
 use Rattle.mz_layout.specs.declared.head.Head.{Head}
-use Rattle.mz_binary.specs.Spelling.{is_local_code}
+use Rattle.mz_files.specs.Spelling.{is_local_code}
 use Rattle.mz_walk.specs.Walk.{GoesOn, IsPlaced, passed_with, past_public}
 use Rattle.mz_walk.specs.declared.passed.Passed.{Passed}
 

@@ -15,12 +15,12 @@ use Rattle.mz_layout.specs.Tables.{list_at}
 use Rattle.mz_layout.specs.declared.head.Head.{Head}
 use Rattle.mz_layout.specs.declared.taken.Rows.{Rows}
 use Rattle.mz_soundness.specs.FileRows.{taken_by}
-use Rattle.mz_binary.specs.Chains.{GoodTo, IsGoodStatement, IsListEnd}
-use Rattle.mz_binary.specs.Checking.{counts, list_checks, rest_checks}
-use Rattle.mz_binary.specs.Good.{Good}
-use Rattle.mz_binary.specs.Spelling.{HasKind, IsKindOf}
-use Rattle.mz_binary.specs.Standards.{strict_standard}
-use Rattle.mz_binary.proofs.Offered.{assertions-many, chain-more, sorts-many, terms-many}
+use Rattle.mz_files.specs.Chains.{GoodTo, IsGoodStatement, IsListEnd}
+use Rattle.mz_files.specs.Checking.{counts, list_checks, rest_checks}
+use Rattle.mz_files.specs.Good.{Good}
+use Rattle.mz_files.specs.Spelling.{HasKind, IsKindOf}
+use Rattle.mz_files.specs.Standards.{strict_standard}
+use Rattle.mz_files.proofs.Offered.{assertions-many, chain-more, sorts-many, terms-many}
 use Rattle.mz_walk.specs.Walk.{nothing_passed, passed_with}
 use Rattle.mz_walk.specs.declared.passed.Passed.{Passed}
 use Rattle.mz_walk.proofs.Heads.{head-here, one-code}

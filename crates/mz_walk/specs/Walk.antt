@@ -4,7 +4,7 @@ use Rattle.mz_cmd.specs.Codes.{statement_byte}
 use Rattle.mz_layout.specs.Heads.{IsNextHead, rows_after}
 use Rattle.mz_layout.specs.Tables.{list_at}
 use Rattle.mz_layout.specs.declared.head.Head.{Head}
-use Rattle.mz_binary.specs.Spelling.{is_local_code}
+use Rattle.mz_files.specs.Spelling.{is_local_code}
 use Rattle.mz_walk.specs.declared.passed.Passed.{Passed}
 
 -- one more, if the statement is public

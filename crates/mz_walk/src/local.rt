@@ -1,7 +1,7 @@
 // Which statements are local.
 ghost use Rattle.std.specs.Prelude.{◌≡◌};
 ghost use Rattle.mz_cmd.specs.Codes.{statement_byte};
-ghost use Rattle.mz_binary.specs.Spelling.{is_local_code};
+ghost use Rattle.mz_files.specs.Spelling.{is_local_code};
 
 use mz_cmd::StatementCode;
 

@@ -2,7 +2,7 @@
 ghost use Rattle.std.specs.Prelude.{◌≡◌, ◌<◌, ◌+◌, ◌^◌, IfNone, IfSome};
 ghost use Rattle.mz_checks.specs.Checks.{AllHold};
 ghost use Rattle.mz_layout.specs.Heads.{head_checks, next_row};
-ghost use Rattle.mz_binary.specs.Chains.{IsListEnd};
+ghost use Rattle.mz_files.specs.Chains.{IsListEnd};
 ghost use Rattle.mz_walk.specs.Walk.{GoesOn, IsPlaced, nothing_passed, passed_with, past_public};
 
 use crate::local::is_local;

@@ -9,7 +9,7 @@ use Rattle.mz_math.specs.Formula.{most}
 use Rattle.mz_printing.specs.Prefix.{IsShort}
 use Rattle.mz_printing.specs.Lines.{Line, lines_text}
 use Rattle.mz_readback.specs.Declared.{Named, Vocabulary, formula_of, AreShort, lines_of}
-use Rattle.mz_forms.specs.Proof.{Statement}
+use Rattle.mz_statements.specs.Statements.{Statement}
 use Rattle.mz_type.specs.Meaning.{marked}
 use Rattle.mz_type.specs.TextOf.{TextOf}
 
@@ -114,7 +114,7 @@ wording_checks limit ss =
     >> long_checks (vocabulary_of ss) 1 ss
     >> demand (too_long (length (prefix_text ss))) (length (prefix_text ss) ≤ limit)
 
--- the bytes of the longest specification
+-- the bytes of the longest file that is read or written
 abbrev pub longest : ℕ
 longest = 4294967295
 

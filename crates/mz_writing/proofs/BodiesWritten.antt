@@ -11,8 +11,8 @@ use Rattle.mz_layout.specs.Standing.{AreListed, next_place}
 use Rattle.mz_layout.specs.Tables.{list_at}
 use Rattle.mz_layout.proofs.Offered.{all-listed, counts-said}
 use Rattle.mz_soundness.specs.Lists.{kind_of}
-use Rattle.mz_machine.specs.BodyAnswers.{HasGap}
-use Rattle.mz_binary.specs.Gapped.{AssertionBody, body_there, place_after, body_of, bodies_from, IsGapped, leaves_gap, rests_on}
+use Rattle.mz_soundness.specs.Sound.{HasGap}
+use Rattle.mz_files.specs.Gapped.{AssertionBody, body_there, place_after, body_of, bodies_from, IsGapped, leaves_gap, rests_on}
 use Rattle.mz_writing.specs.Gaps.{body_written, bodies_written, BodiesAreWritten, BodiesSayWhatIsGapped, OnlyDraftsAreGapped}
 use Rattle.mz_writing.specs.Writing.{IsWrittenDeclaration, AreWritten}
 use Rattle.mz_writing.proofs.Gaps.{only-drafts-leave-gaps}

@@ -23,8 +23,8 @@ use Rattle.mz_unification.specs.Streams.{StreamKind, of_assertion, of_definition
 use Rattle.mz_unification.specs.Spells.{Marks, with_dummy, at_first, dummy_of}
 use Rattle.mz_unification.specs.Profile.{expr, proof}
 use Rattle.mz_soundness.specs.MachineState.{is_axiom, is_theorem, is_definition}
-use Rattle.mz_machine.specs.BodyAnswers.{HasGap}
-use Rattle.mz_binary.specs.Gapped.{leaves_gap}
+use Rattle.mz_soundness.specs.Sound.{HasGap}
+use Rattle.mz_files.specs.Gapped.{leaves_gap}
 use Rattle.mz_steps.specs.Steps.{Step}
 use Rattle.mz_steps.specs.Works.{Work, work_start}
 use Rattle.mz_logic.specs.Sorts.{HasSort}

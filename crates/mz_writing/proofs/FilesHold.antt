@@ -6,8 +6,8 @@ use Rattle.mz_layout.specs.Standing.{AreListed}
 use Rattle.mz_layout.specs.Tables.{list_at}
 use Rattle.mz_layout.proofs.Offered.{layout-holds, all-listed, counts-said}
 use Rattle.mz_steps.proofs.Offered.{same-at-first}
-use Rattle.mz_binary.specs.Standards.{by_table}
-use Rattle.mz_binary.proofs.Offered.{lets-with, good-legal, good-spelled}
+use Rattle.mz_files.specs.Standards.{by_table}
+use Rattle.mz_files.proofs.Offered.{lets-with, good-legal, good-spelled}
 use Rattle.mz_writing.specs.Laws.{WrittenFilesAreGood, WrittenFilesSpell, WrittenListsAreLegal}
 use Rattle.mz_writing.proofs.ListsHold.{rest-good}
 

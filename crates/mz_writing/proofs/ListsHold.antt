@@ -21,16 +21,16 @@ use Rattle.mz_layout.specs.Heads.{AllTaken, body_bytes}
 use Rattle.mz_soundness.specs.FileRows.{taken_by, rows_taken}
 use Rattle.mz_soundness.specs.MachineState.{Declares}
 use Rattle.mz_soundness.proofs.Offered.{pairs-long}
-use Rattle.mz_binary.specs.Chains.{IsGoodStatement, GoodTo, EndsAt}
-use Rattle.mz_binary.specs.Checking.{counts, kind_checks, checks_of}
-use Rattle.mz_binary.specs.Spelling.{IsKindOf, is_local_code}
-use Rattle.mz_binary.proofs.Offered.{well-chain}
+use Rattle.mz_files.specs.Chains.{IsGoodStatement, GoodTo, EndsAt}
+use Rattle.mz_files.specs.Checking.{counts, kind_checks, checks_of}
+use Rattle.mz_files.specs.Spelling.{IsKindOf, is_local_code}
+use Rattle.mz_files.proofs.Offered.{well-chain}
 use Rattle.mz_steps.specs.Sameness.{IsSameTerm, IsSameEnv}
 use Rattle.mz_steps.proofs.Offered.{same-with-sort, same-with-term, same-with-assertion}
 use Rattle.mz_writing.specs.Writing.{SaySignature, IsWrittenForm, IsWrittenDeclaration, IsWrittenStatement, HaveNoMore, AreWritten}
 use Rattle.mz_writing.proofs.RowsHold.{IsGoodRow, term_code, assertion_code, sort-good, plain-good, definition-good, assertion-good}
-use Rattle.mz_binary.specs.Standards.{by_table}
-use Rattle.mz_binary.specs.declared.standard.Standard.{Standard}
+use Rattle.mz_files.specs.Standards.{by_table}
+use Rattle.mz_files.specs.declared.standard.Standard.{Standard}
 
 pub body-is : (file : List ℕ) (at : ℕ) (w : Written) → Stands file (body_place at w) w.body → body_bytes file (body_place at w) (next_place at w) ≡ w.body
 body-is file at w stands =

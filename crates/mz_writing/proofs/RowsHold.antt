@@ -31,16 +31,16 @@ use Rattle.mz_words.specs.RowWords.{IsResultWord, param_checks, word_checks}
 use Rattle.mz_soundness.specs.MachineState.{RowsBefore, Heading, is_definition, Declares}
 use Rattle.mz_soundness.proofs.Offered.{pairs-long, bodies-checked}
 use Rattle.mz_words.proofs.Offered.{params-hold, words-hold}
-use Rattle.mz_binary.specs.Checking.{term_body_checks, term_checks, thm_checks, kind_checks}
-use Rattle.mz_binary.specs.Spelling.{SpellsRow}
+use Rattle.mz_files.specs.Checking.{term_body_checks, term_checks, thm_checks, kind_checks}
+use Rattle.mz_files.specs.Spelling.{SpellsRow}
 use Rattle.mz_steps.specs.Sameness.{IsSameTerm, IsSameForm, IsSameEnv}
 use Rattle.mz_steps.proofs.Offered.{same-signatures}
 use Rattle.mz_steps.specs.Bodies.{IsBody}
 use Rattle.mz_streams.specs.SpellsBefore.{SpellsBefore}
 use Rattle.mz_writing.specs.Writing.{SayParams, SaySignature, IsWrittenAssertion}
 use Rattle.mz_writing.proofs.BodiesRun.{assertion-runs, definition-runs}
-use Rattle.mz_binary.proofs.Offered.{runs-with}
-use Rattle.mz_binary.specs.Standards.{profile_of, by_table}
+use Rattle.mz_files.proofs.Offered.{runs-with}
+use Rattle.mz_files.specs.Standards.{profile_of, by_table}
 
 -- the code of a term's statement, and of an assertion's
 abbrev pub term_code : (is_local : Bool) → StatementCode

@@ -10,9 +10,8 @@ use Rattle.mz_logic.specs.declared.binder.Binder.{Binder}
 use Rattle.mz_layout.specs.Normal.{Written, Parts, file_of}
 use Rattle.mz_layout.specs.Standing.{Fit}
 use Rattle.mz_soundness.specs.MachineState.{Kind, is_theorem}
-use Rattle.mz_soundness.specs.Sound.{CitesWithin}
-use Rattle.mz_machine.specs.BodyAnswers.{HasGap}
-use Rattle.mz_binary.specs.Gapped.{AssertionBody, bodies_of, IsGapped, GappedIn}
+use Rattle.mz_soundness.specs.Sound.{CitesWithin, HasGap}
+use Rattle.mz_files.specs.Gapped.{AssertionBody, bodies_of, IsGapped, GappedIn}
 use Rattle.mz_steps.specs.Bodies.{IsBody}
 use Rattle.mz_writing.specs.Writing.{IsWrittenAs}
 

@@ -3,11 +3,11 @@ use Rattle.std.specs.Prelude.{Bool, List}
 use Rattle.mz_logic.specs.LegalLists.{Statement, LegalBy, allowed_with}
 use Rattle.mz_layout.specs.Normal.{Parts, file_of}
 use Rattle.mz_layout.specs.Standing.{Fit}
-use Rattle.mz_binary.specs.Chains.{Statements}
-use Rattle.mz_binary.specs.Good.{Good}
+use Rattle.mz_files.specs.Chains.{Statements}
+use Rattle.mz_files.specs.Good.{Good}
 use Rattle.mz_steps.specs.SameLists.{IsSameList}
 use Rattle.mz_writing.specs.Writing.{IsWrittenAs}
-use Rattle.mz_binary.specs.Standards.{by_table}
+use Rattle.mz_files.specs.Standards.{by_table}
 
 -- a legal text, written within the format's bounds, is a good binary of the made statements; both with gaps, or both
 -- without

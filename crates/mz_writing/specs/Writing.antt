@@ -19,7 +19,7 @@ use Rattle.mz_soundness.specs.MachineState.{is_definition}
 use Rattle.mz_steps.specs.Sameness.{IsSameTerm}
 use Rattle.mz_steps.specs.SharedBodies.{IsSharedBody}
 use Rattle.mz_streams.specs.SharedTexts.{IsSharedText}
-use Rattle.mz_binary.specs.Spelling.{HasKind}
+use Rattle.mz_files.specs.Spelling.{HasKind}
 
 -- ---- rows
 

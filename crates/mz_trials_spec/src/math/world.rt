@@ -6,9 +6,8 @@ use mz_logic::{
     Binder, Binders, Decl, Deps, Env, Expr, Exprs, ResultType, SortMods, TermDecl, TermForm,
     check_decl,
 };
-use mz_math::{
-    Bytes, Literal, Notations, NoteFault, Parsed, Scope, Tail, Wanted, is_identifier, parse_formula,
-};
+use mz_math::{Bytes, Literal, Notations, NoteFault, Parsed, Scope, Tail, Wanted, parse_formula};
+use mz_names::is_identifier;
 use std::alloc::{AllocError, Global};
 use std::process::Abort;
 

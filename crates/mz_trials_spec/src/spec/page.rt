@@ -99,8 +99,8 @@ impl Page {
         }
         self.binders(assertion.params.as_slice())?;
         self.word(b": ")?;
-        for hyp in assertion.hyps.as_slice() {
-            self.expr(hyp, 100)?;
+        for i in 0..assertion.hyps.len() {
+            self.expr(assertion.hyps.at(i), 100)?;
             self.word(b" > ")?;
         }
         self.expr(&assertion.conclusion, 100)

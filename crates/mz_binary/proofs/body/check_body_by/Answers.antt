@@ -2,14 +2,14 @@ use Rattle.std.proofs.Common.{◌≡◌, ◌+◌, ℕ, List, sym, subst}
 use Rattle.mz_soundness.specs.Bodies.{body_run, body_steps}
 use Rattle.mz_layout.specs.Heads.{body_bytes}
 use Rattle.mz_soundness.specs.MachineState.{Heading}
-use Rattle.mz_earlier.specs.OwnRow.{heading_of}
+use Rattle.mz_earlier.specs.OwnRow.{byte_of, heading_of}
 use Rattle.mz_earlier.specs.Before.{tables_before}
 use Rattle.mz_machine.specs.BodyAnswers.{UnlessMem}
 use Rattle.mz_machine.specs.declared.body.BodyChecked.{BodyChecked}
 use Rattle.mz_layout.specs.declared.taken.Rows.{Rows}
-use Rattle.mz_binary.specs.declared.standard.Standard.{Standard}
+use Rattle.mz_files.specs.declared.standard.Standard.{Standard}
 use Rattle.mz_binary.specs.Judging.{IsBodyRun}
-use Rattle.mz_binary.specs.Standards.{profile_of}
+use Rattle.mz_files.specs.Standards.{profile_of}
 use Rattle.mz_binary.proofs.Answering.{by-trees, by-address}
 use Rattle.mz_binary.proofs.body.check_body_by.Goals as goal
 
@@ -23,21 +23,21 @@ StepsBy file before h from to answer old new standard = UnlessMem answer (new �
 pub returns-in-Published-clause-run : goal.returns-in-Published-clause-run
 returns-in-Published-clause-run g c =
     let file = c.args.mmb.now in
-    let h : Heading = heading_of file c.args.kind c.args.row in
+    let h : Heading = heading_of file (byte_of c.args.kind) c.args.row in
     subst (RunBy file c.args.before h c.args.body.0 c.args.body.1 c.check_body_in.result) (sym c.in-Published.is) (by-trees c.in-Published.mode h (body_bytes file c.args.body.0 c.args.body.1) _ c.check_body_in.result c.check_body_in.ensures.run)
 
 pub returns-in-Published-clause-steps : goal.returns-in-Published-clause-steps
 returns-in-Published-clause-steps g c =
     let file = c.args.mmb.now in
-    subst (StepsBy file c.args.before (heading_of file c.args.kind c.args.row) c.args.body.0 c.args.body.1 c.check_body_in.result c.args.steps.now c.check_body_in.new.steps) (sym c.in-Published.is) c.check_body_in.ensures.steps
+    subst (StepsBy file c.args.before (heading_of file (byte_of c.args.kind) c.args.row) c.args.body.0 c.args.body.1 c.check_body_in.result c.args.steps.now c.check_body_in.new.steps) (sym c.in-Published.is) c.check_body_in.ensures.steps
 
 pub returns-in-Portable-clause-run : goal.returns-in-Portable-clause-run
 returns-in-Portable-clause-run g c =
     let file = c.args.mmb.now in
-    let h : Heading = heading_of file c.args.kind c.args.row in
+    let h : Heading = heading_of file (byte_of c.args.kind) c.args.row in
     subst (RunBy file c.args.before h c.args.body.0 c.args.body.1 c.check_portable_in.result) (sym c.in-Portable.is) (by-address h (body_bytes file c.args.body.0 c.args.body.1) _ c.check_portable_in.result c.check_portable_in.ensures.run)
 
 pub returns-in-Portable-clause-steps : goal.returns-in-Portable-clause-steps
 returns-in-Portable-clause-steps g c =
     let file = c.args.mmb.now in
-    subst (StepsBy file c.args.before (heading_of file c.args.kind c.args.row) c.args.body.0 c.args.body.1 c.check_portable_in.result c.args.steps.now c.check_portable_in.new.steps) (sym c.in-Portable.is) c.check_portable_in.ensures.steps
+    subst (StepsBy file c.args.before (heading_of file (byte_of c.args.kind) c.args.row) c.args.body.0 c.args.body.1 c.check_portable_in.result c.args.steps.now c.check_portable_in.new.steps) (sym c.in-Portable.is) c.check_portable_in.ensures.steps

@@ -1,5 +1,5 @@
 use Rattle.std.proofs.Common.{◌-◌, List, length}
-use Rattle.mz_forms.specs.Proof.{Statement}
+use Rattle.mz_statements.specs.Statements.{Statement}
 use Rattle.mz_phrasing.specs.Naming.{vocabulary_by}
 use Rattle.mz_walk.specs.Walk.{IsPlaced}
 use Rattle.mz_decompile.specs.Standing.{AreAll}

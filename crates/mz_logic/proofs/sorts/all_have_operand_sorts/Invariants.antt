@@ -7,4 +7,4 @@ use Rattle.mz_logic.proofs.sorts.all_have_operand_sorts.Given as goal
 abbrev pub invariant-loop-e : goal.invariant-loop-e
 invariant-loop-e l =
     AllInRange (signatures l.env) (length l.ctx) (trees (drop l.e-index l.e-items))
-    × (EachTree (HasOperandSorts (signatures l.env) l.ctx) (trees (drop l.e-index l.e-items)) ↔ EachTree (HasOperandSorts (signatures l.env) l.ctx) l.es)
+    × (EachTree (HasOperandSorts (signatures l.env) l.ctx) (trees (drop l.e-index l.e-items)) ↔ EachTree (HasOperandSorts (signatures l.env) l.ctx) l.hyps)

@@ -1,7 +1,7 @@
 use Rattle.std.specs.Prelude.{◌↔◌}
 use Rattle.std.proofs.Common.{◌≡◌, ◌≤◌, ◌⊎◌, ◌+◌, ◌*◌, ◌-◌, true, length, drop}
 use Rattle.mz_mode.specs.Gaps.{gaps_of}
-use Rattle.mz_machine.specs.BodyAnswers.{HasGap}
+use Rattle.mz_soundness.specs.Sound.{HasGap}
 use Rattle.mz_machine.specs.Steps.{tables_for, heading_for}
 use Rattle.mz_machine.specs.Running.{IsRunning, machine_of}
 use Rattle.mz_machine.proofs.BodyUnderway.{IsUnderway}

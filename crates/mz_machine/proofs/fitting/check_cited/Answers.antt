@@ -35,10 +35,12 @@ operands-preserved c =
       elim c.if-bound.branch [
         | then-bound+in_ok-push r ↦
             ap (λ b. b.items ++ rest) r.places-is ∙ ap (λ (ps : List ℕ). ps ++ rest) r.in_ok-push.ensures.ok
-            ∙ rw (add-one c.operands.j) (places-take ws c.operands.j c.word_of-word.result c.word_of-word.ensures c.operands.places.items (bound_places 0 ws) c.operands.invariant.1 (sym c.bound.ensures ∙ r.if-bound.true))
+            ∙ rw (add-one c.operands.j)
+            (places-take ws c.operands.j c.word_of-word.result c.word_of-word.ensures c.operands.places.items (bound_places 0 ws) c.operands.invariant.1 (sym c.bound.ensures ∙ r.if-bound.true))
         | else-bound r ↦
             ap (λ b. b.items ++ rest) r.places-is
-            ∙ rw (add-one c.operands.j) (places-skip ws c.operands.j c.word_of-word.result c.word_of-word.ensures c.operands.places.items (bound_places 0 ws) c.operands.invariant.1 (sym c.bound.ensures ∙ r.if-bound.false))
+            ∙ rw (add-one c.operands.j)
+            (places-skip ws c.operands.j c.word_of-word.result c.word_of-word.ensures c.operands.places.items (bound_places 0 ws) c.operands.invariant.1 (sym c.bound.ensures ∙ r.if-bound.false))
       ],
     )
 

@@ -1,12 +1,11 @@
-use Rattle.std.proofs.Common.{◌≡◌, ℕ, ◌-◌, ◌++◌, length, take, drop, Err, Ok, sym, ap, subst, ◌∙◌, arith}
+use Rattle.std.proofs.Common.{◌≡◌, ℕ, ◌-◌, ◌++◌, length, take, drop, Err, Ok, sym, subst, ◌∙◌, arith}
 use Rattle.std.proofs.lemmas.List.{take-append-drop, length-drop}
 use Rattle.std.proofs.lemmas.Result.{err_from_is_err_and}
 use Rattle.mz_unify.specs.Stored.{items_at, AreItemsIn}
 use Rattle.mz_unify.proofs.Offered.{items-in-left, items-in-right}
 use Rattle.mz_soundness.specs.Premises.{pop_operands}
-use Rattle.mz_machine.specs.OverStore.{exprs_of}
 use Rattle.mz_machine.proofs.Stopping.{stops-as}
-use Rattle.mz_machine.proofs.ReadExprs.{exprs-in, exprs-many, operands-read, rest-of}
+use Rattle.mz_machine.proofs.ReadExprs.{exprs-in, exprs-many, operands-read, read-of}
 use Rattle.mz_machine.proofs.fitting.pop_operands.Goals as goal
 
 pub returns-in_err-read_exprs-clause-taken : goal.returns-in_err-read_exprs-clause-taken
@@ -19,7 +18,8 @@ returns-in_err-read_exprs-clause-taken c =
     let many : c.args.count ≡ length top = omega (arith, length-drop below stack, c.len.ensures, c.len-2.ensures, c.args.stack.now.ok.0, c.if-len-count.false) in
     let p = err_from_is_err_and c.from_residual.result c.from_residual.ensures.1 in
     rw (p.1, p.2) (stops-as c.in_err-read_exprs.field-0.0 _ (λ k. pop_operands c.args.count (items_at s stack) ≡ Err k)
-    (λ k h. operands-read s stack (take below stack) top c.args.count (Err k) split many (ap exprs_of (sym (rest-of c.deref.result.now stack below c.deref.ensures.value)) ∙ h)) c.in_err-read_exprs.ensures)
+    (λ k h. operands-read s stack (take below stack) top c.args.count (Err k) split many
+    (read-of c.deref.result.now stack below (Err k) c.deref.ensures.value h)) c.in_err-read_exprs.ensures)
 
 pub returns-clause-ids : goal.returns-clause-ids
 returns-clause-ids c =
@@ -27,9 +27,11 @@ returns-clause-ids c =
     let stack = c.args.stack.now.items in
     let below : ℕ = c.len-2.result - c.args.count in
     let top = drop below stack in
+    let ids = c.read_exprs.new.ids.items in
     let split : stack ≡ take below stack ++ top = sym (take-append-drop below stack) in
     let inside = subst (AreItemsIn s) split c.requires in (
-      exprs-in s top c.read_exprs.new.ids.items (ap exprs_of (sym (rest-of c.deref.result.now stack below c.deref.ensures.value)) ∙ c.in_ok-read_exprs.ensures) (items-in-right s (take below stack) top inside),
+      exprs-in s top ids
+          (read-of c.deref.result.now stack below (Ok ids) c.deref.ensures.value c.in_ok-read_exprs.ensures) (items-in-right s (take below stack) top inside),
       rw c.truncate.ensures.items (items-in-left s (take below stack) top inside),
     )
 
@@ -38,8 +40,10 @@ returns-clause-many c =
     let stack = c.args.stack.now.items in
     let below : ℕ = c.len-2.result - c.args.count in
     let top = drop below stack in
+    let ids = c.read_exprs.new.ids.items in
     let many : c.args.count ≡ length top = omega (arith, length-drop below stack, c.len.ensures, c.len-2.ensures, c.args.stack.now.ok.0, c.if-len-count.false) in
-    exprs-many top c.read_exprs.new.ids.items (ap exprs_of (sym (rest-of c.deref.result.now stack below c.deref.ensures.value)) ∙ c.in_ok-read_exprs.ensures) ∙ sym many
+    exprs-many top ids
+    (read-of c.deref.result.now stack below (Ok ids) c.deref.ensures.value c.in_ok-read_exprs.ensures) ∙ sym many
 
 pub returns-clause-taken : goal.returns-clause-taken
 returns-clause-taken c =
@@ -47,7 +51,9 @@ returns-clause-taken c =
     let stack = c.args.stack.now.items in
     let below : ℕ = c.len-2.result - c.args.count in
     let top = drop below stack in
+    let ids = c.read_exprs.new.ids.items in
     let split : stack ≡ take below stack ++ top = sym (take-append-drop below stack) in
     let many : c.args.count ≡ length top = omega (arith, length-drop below stack, c.len.ensures, c.len-2.ensures, c.args.stack.now.ok.0, c.if-len-count.false) in
     rw c.truncate.ensures.items
-    (operands-read s stack (take below stack) top c.args.count (Ok c.read_exprs.new.ids.items) split many (ap exprs_of (sym (rest-of c.deref.result.now stack below c.deref.ensures.value)) ∙ c.in_ok-read_exprs.ensures))
+    (operands-read s stack (take below stack) top c.args.count (Ok ids) split many
+    (read-of c.deref.result.now stack below (Ok ids) c.deref.ensures.value c.in_ok-read_exprs.ensures))

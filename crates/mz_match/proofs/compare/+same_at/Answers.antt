@@ -8,7 +8,7 @@ use Rattle.std.proofs.lemmas.List.{drop_all}
 use Rattle.std.proofs.lemmas.Bool.{false≢true}
 use Rattle.mz_match.specs.Streams.{step_at, AreSaid, IsMade}
 use Rattle.mz_match.specs.Marks.{AreKept}
-use Rattle.mz_match.specs.Comparing.{compared, all_compared}
+use Rattle.mz_verdicts.specs.Comparing.{compared, all_compared}
 use Rattle.mz_match.specs.Beside.{beside}
 use Rattle.mz_match.proofs.Compared.{cursor-is, said-within, made-within, said-no, made-no, said-made, said-mark, mark-made, mark-param, made-term, compared-param, found-place, differs-app, marked, answered, next-of, all-next, all-stopped, all-goes-on, all-done}
 use Rattle.mz_match.proofs.compare.+same_at.Goals as goal
@@ -30,6 +30,7 @@ same_at-same_made-requires t c =
     let stands = ap (λ (xs : List ℕ). step_at xs c.args.from.at) (sym c.file.ensures.file) ∙ sym c.in-Some.ensures in (
       omega (arith, c.decreases),
       (
+        stands,
         m,
         f,
         to,
@@ -91,53 +92,61 @@ same_mark-returns-in_default t c = λ m f stream at.
     let found = c.place_of_mark.ensures made.many made.place made.found in
     absurd (c.in_default.not-Some made.place found)
 
+pub same_mark-step_at-requires-clause-within : goal.same_mark-step_at-requires-clause-within
+same_mark-step_at-requires-clause-within t c =
+    let (m, f, stream, at) = c.requires in
+    let made = mark-made c.args.sides.now.mmb.now c.args.sides.now.params m c.args.sides.now.start c.args.mark f stream.marks c.if-mark-sides.false at in
+    let found = c.place_of_mark.ensures made.many made.place made.found in
+    let same : made.place ≡ c.in-Some.place = found-place made.place c.in-Some.place (sym found ∙ c.in-Some.is) in
+    let here = subst (λ (p : Cursor). IsMade c.args.sides.now.mmb.now c.args.sides.now.params m p.at p.dummies f made.end.at made.end.dummies) same made.made in
+    subst (λ (xs : List ℕ). c.in-Some.place.at ≤ length xs) (sym c.file.ensures.file) (made-within c.args.sides.now.mmb.now c.args.sides.now.params m c.in-Some.place.at c.in-Some.place.dummies f made.end.at made.end.dummies here)
+
+pub same_mark-returns-in_default-step_at : goal.same_mark-returns-in_default-step_at
+same_mark-returns-in_default-step_at t c = λ m f stream at.
+    let made = mark-made c.args.sides.now.mmb.now c.args.sides.now.params m c.args.sides.now.start c.args.mark f stream.marks c.if-mark-sides.false at in
+    let found = c.place_of_mark.ensures made.many made.place made.found in
+    let same : made.place ≡ c.in-Some.place = found-place made.place c.in-Some.place (sym found ∙ c.in-Some.is) in
+    let here = subst (λ (p : Cursor). IsMade c.args.sides.now.mmb.now c.args.sides.now.params m p.at p.dummies f made.end.at made.end.dummies) same made.made in
+    absurd (made-no c.args.sides.now.mmb.now c.args.sides.now.params m c.in-Some.place.at c.in-Some.place.dummies f made.end.at made.end.dummies (ap (λ (xs : List ℕ). step_at xs c.in-Some.place.at) (sym c.file.ensures.file) ∙ sym c.in_default-step_at.ensures) here)
+
 pub same_mark-same_made-requires : goal.same_mark-same_made-requires
 same_mark-same_made-requires t c =
     let (m, f, stream, at) = c.requires in
     let made = mark-made c.args.sides.now.mmb.now c.args.sides.now.params m c.args.sides.now.start c.args.mark f stream.marks c.if-mark-sides.false at in
     let found = c.place_of_mark.ensures made.many made.place made.found in
     let same : made.place ≡ c.in-Some.place = found-place made.place c.in-Some.place (sym found ∙ c.in-Some.is) in
-    (omega (arith, c.decreases), (m, f, made.end, stream, subst (λ (p : Cursor). IsMade c.args.sides.now.mmb.now c.args.sides.now.params m p.at p.dummies f made.end.at made.end.dummies) same made.made))
+    let here = subst (λ (p : Cursor). IsMade c.args.sides.now.mmb.now c.args.sides.now.params m p.at p.dummies f made.end.at made.end.dummies) same made.made in
+    let stands = ap (λ (xs : List ℕ). step_at xs c.in-Some.place.at) (sym c.file.ensures.file) ∙ sym c.in-Some-step_at.ensures in
+    (omega (arith, c.decreases), (stands, m, f, made.end, stream, here))
 
 pub same_mark-returns : goal.same_mark-returns
 same_mark-returns t c = λ m f stream at.
     let made = mark-made c.args.sides.now.mmb.now c.args.sides.now.params m c.args.sides.now.start c.args.mark f stream.marks c.if-mark-sides.false at in
     let found = c.place_of_mark.ensures made.many made.place made.found in
     let same : made.place ≡ c.in-Some.place = found-place made.place c.in-Some.place (sym found ∙ c.in-Some.is) in
+    let here = subst (λ (p : Cursor). IsMade c.args.sides.now.mmb.now c.args.sides.now.params m p.at p.dummies f made.end.at made.end.dummies) same made.made in
     answered c.same_made.result c.same_made.new.pairs (compared (beside c.args.sides.now m) c.args.pairs.now (tree c.args.expr.now) f) made.end c.is_some.result c.is_some.ensures
-    (c.same_made.ensures m f made.end stream (subst (λ (p : Cursor). IsMade c.args.sides.now.mmb.now c.args.sides.now.params m p.at p.dummies f made.end.at made.end.dummies) same made.made))
+    (c.same_made.ensures m f made.end stream here)
 
 -- ---- same_made
 
-pub same_made-step_at-requires-clause-within : goal.same_made-step_at-requires-clause-within
-same_made-step_at-requires-clause-within t c =
-    let (m, f, to, stream, made) = c.requires in
-    subst (λ (xs : List ℕ). c.args.from.at ≤ length xs) (sym c.file.ensures.file) (made-within c.args.sides.now.mmb.now c.args.sides.now.params m c.args.from.at c.args.from.dummies f to.at to.dummies made)
-
-pub same_made-returns-in_default : goal.same_made-returns-in_default
-same_made-returns-in_default t c = λ m f to stream made.
-    absurd (made-no c.args.sides.now.mmb.now c.args.sides.now.params m c.args.from.at c.args.from.dummies f to.at to.dummies (ap (λ (xs : List ℕ). step_at xs c.args.from.at) (sym c.file.ensures.file) ∙ sym c.in_default.ensures) made)
-
 pub same_made-is_term-requires : goal.same_made-is_term-requires
 same_made-is_term-requires t c = λ is.
-    let (m, f, to, stream, made) = c.requires in
-    let stands = ap (λ (xs : List ℕ). step_at xs c.args.from.at) (sym c.file.ensures.file) ∙ sym c.in-Some.ensures in
-    let (fs, f-is, arity, all) = made-term c.args.sides.now.mmb.now c.args.sides.now.params m c.args.from.at c.args.from.dummies f to.at to.dummies c.in-Some.step stands is made in
+    let (stands, m, f, to, stream, made) = c.requires in
+    let (fs, f-is, arity, all) = made-term c.args.sides.now.mmb.now c.args.sides.now.params m c.args.from.at c.args.from.dummies f to.at to.dummies c.args.step stands is made in
     arity.0
 
 pub same_made-returns-then-not-is_term : goal.same_made-returns-then-not-is_term
 same_made-returns-then-not-is_term t c = λ m f to stream made.
-    let stands = ap (λ (xs : List ℕ). step_at xs c.args.from.at) (sym c.file.ensures.file) ∙ sym c.in-Some.ensures in
     subst (λ (e : Tree). compared (beside c.args.sides.now m) c.args.pairs.now e f ≡ None) (sym (ap tree c.in-App.is))
-    (differs-app c.args.sides.now.mmb.now c.args.sides.now.params m (beside c.args.sides.now m) c.args.pairs.now c.in-App.k c.in-App.es c.args.from.at c.args.from.dummies f to.at to.dummies c.in-Some.step stands made
+    (differs-app c.args.sides.now.mmb.now c.args.sides.now.params m (beside c.args.sides.now m) c.args.pairs.now c.in-App.k c.in-App.es c.args.from.at c.args.from.dummies f to.at to.dummies c.args.step c.requires.0 made
     (λ is. false≢true (sym c.if-not-is_term.true ∙ c.is_term.ensures.1 is)))
 
 pub same_made-same_all-requires : goal.same_made-same_all-requires
 same_made-same_all-requires t c =
-    let (m, f, to, stream, made) = c.requires in
-    let stands = ap (λ (xs : List ℕ). step_at xs c.args.from.at) (sym c.file.ensures.file) ∙ sym c.in-Some.ensures in
+    let (stands, m, f, to, stream, made) = c.requires in
     let is = c.is_term.ensures.0 c.if-not-is_term.false in
-    let (fs, f-is, arity, all) = made-term c.args.sides.now.mmb.now c.args.sides.now.params m c.args.from.at c.args.from.dummies f to.at to.dummies c.in-Some.step stands is.0 made in
+    let (fs, f-is, arity, all) = made-term c.args.sides.now.mmb.now c.args.sides.now.params m c.args.from.at c.args.from.dummies f to.at to.dummies c.args.step stands is.0 made in
     let sizes = ap (λ (e : Expr). size (tree e)) c.in-App.is in
     (omega (arith, sizes, c.decreases), (m, fs, to, stream, all, is.2 ∙ sym arity.1))
 

@@ -2,8 +2,9 @@ use Rattle.std.proofs.Common.{◌≤◌, ℕ, List, length, take, reverse}
 use Rattle.std.specs.Prelude.{◌↔◌}
 use Rattle.mz_logic.specs.Tree.{Tree}
 use Rattle.mz_logic.specs.View.{trees}
+use Rattle.mz_logic.proofs.Offered.{exprs_of}
 use Rattle.mz_unification.specs.Spells.{Marks, trees_of}
-use Rattle.mz_match.specs.Trees.{SameTrees}
+use Rattle.mz_verdicts.specs.Trees.{SameTrees}
 use Rattle.mz_match.specs.Streams.{Passes, HypsAreSaid}
 use Rattle.mz_match.specs.Beside.{HypsSaidAt, IsPlainStream}
 use Rattle.mz_match.proofs.compare.same_hyps.Given as goal
@@ -11,10 +12,10 @@ use Rattle.mz_match.proofs.compare.same_hyps.Given as goal
 abbrev pub invariant-hyps : goal.invariant-hyps
 invariant-hyps l = record {
   within : l.at ≤ length l.sides.mmb.now;
-  few : l.left ≤ length l.items;
+  few : l.left ≤ length (exprs_of l.fn.hyps);
   goes_on : (m : Marks) (hs : List Tree) → IsPlainStream l.sides m → HypsSaidAt l.sides m hs
       → (rest : List Tree) × (n : ℕ) × (q : ℕ) × Passes l.sides.mmb.now n l.at q × HypsAreSaid l.sides.mmb.now l.sides.params m q rest
-      × (SameTrees l.sides.publics.now l.fn.hyps (trees_of (reverse hs)) ↔ SameTrees l.sides.publics.now (trees (take l.left l.items)) (trees_of (reverse rest)));
+      × (SameTrees l.sides.publics.now l.fn.hyps (trees_of (reverse hs)) ↔ SameTrees l.sides.publics.now (trees (take l.left (exprs_of l.fn.hyps))) (trees_of (reverse rest)));
 }
 
 abbrev pub decreases-hyps : goal.decreases-hyps

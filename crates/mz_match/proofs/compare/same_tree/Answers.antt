@@ -2,7 +2,7 @@ use Rattle.std.proofs.Common.{ap, arith}
 use Rattle.mz_logic.specs.View.{tree}
 use Rattle.mz_match.specs.declared.stream.Cursor.{Cursor}
 use Rattle.mz_match.specs.Beside.{beside}
-use Rattle.mz_match.proofs.Renaming.{says-nothing}
+use Rattle.mz_verdicts.proofs.Offered.{says-nothing}
 use Rattle.mz_match.proofs.PlainTrees.{said-below, plain-same, plain-differ}
 use Rattle.mz_match.proofs.compare.same_tree.Goals as goal
 

@@ -3,15 +3,15 @@ use Rattle.std.specs.Prelude.{IsTrue, ◌↔◌, MatchBool}
 use Rattle.std.proofs.lemmas.Bool.{true≢false}
 use Rattle.mz_checks.specs.Checks.{AllHold, FailsFirst}
 use Rattle.mz_logic.specs.declared.binder.Binder.{Binder}
-use Rattle.mz_match.specs.declared.rule.M.TheVariants as rules
-use Rattle.mz_match.specs.Match.{form_checks}
-use Rattle.mz_match.specs.Trees.{SameBody}
+use Rattle.mz_verdicts.specs.declared.rule.M.TheVariants as rules
+use Rattle.mz_verdicts.specs.Match.{form_checks}
+use Rattle.mz_verdicts.specs.Trees.{SameBody}
 use Rattle.mz_logic.specs.View.{tree}
 use Rattle.mz_logic.specs.DeclView.{form}
 use Rattle.mz_logic.specs.declared.decl.TermForm.{TermForm}
+use Rattle.mz_logic.specs.Declaration.{is_defined}
 use Rattle.mz_layout.specs.Tables.{term_row}
 use Rattle.mz_layout.proofs.Offered.{length-term_words}
-use Rattle.mz_binary.specs.Laws.{is_defined}
 use Rattle.mz_match.proofs.BesideRows.{not-body, body-there, first-stream, body-judged, exact-for}
 use Rattle.mz_match.proofs.pair.match_body.Goals as goal
 

@@ -1,6 +1,6 @@
-use Rattle.std.proofs.Common.{◌≡◌, ◌<◌, ℕ, length, get_or, Some}
+use Rattle.std.proofs.Common.{◌≡◌, ◌<◌, ℕ, List, get_or, Some}
 use Rattle.mz_coercions.specs.declared.coercion.Coercion.{Coercion}
-use Rattle.mz_coercions.specs.Coercions.{Reaches}
+use Rattle.mz_coercions.specs.Coercions.{IsPath}
 use Rattle.std.specs.Prelude.{IfSome}
 use Rattle.mz_logic.specs.Modifiers.{MayBeClaimSort}
 use Rattle.mz_logic.specs.Declaration.{sorts}
@@ -8,6 +8,6 @@ use Rattle.mz_math.proofs.formula.goal_of.Given as goal
 
 abbrev pub invariant-coercions : goal.invariant-coercions
 invariant-coercions l =
-    ((j : ℕ) (d : Coercion) → j < l.i → MayBeClaimSort (sorts l.env) (get_or l.items j d).to → Reaches l.coercions (length l.coercions) l.sort (get_or l.items j d).to
+    ((j : ℕ) (d : Coercion) → j < l.i → MayBeClaimSort (sorts l.env) (get_or l.items j d).to → (path : List ℕ) → IsPath l.coercions l.sort path (get_or l.items j d).to
     → l.found ≡ Some (get_or l.items j d).to)
-    × IfSome l.found (λ g. MayBeClaimSort (sorts l.env) g × Reaches l.coercions (length l.coercions) l.sort g)
+    × IfSome l.found (λ g. MayBeClaimSort (sorts l.env) g × (path : List ℕ) × IsPath l.coercions l.sort path g)

@@ -4,10 +4,11 @@ use Rattle.mz_sexpr.specs.Number.{node_at, nodes_after}
 use Rattle.mz_mode.specs.Gaps.{gaps_of}
 use Rattle.mz_forms.specs.Cursor.{nodes_from, IsThere, nodes_size}
 use Rattle.mz_mmu.specs.EntryView.{entry, root, AreNumbers}
-use Rattle.mz_forms.specs.Statements.{no_names, AreStatements}
-use Rattle.mz_forms.specs.Order.{statements_asked}
+use Rattle.mz_forms.specs.Name.{no_names}
+use Rattle.mz_statements.specs.Statements.{AreStatements}
+use Rattle.mz_statements.specs.Order.{statements_asked}
 use Rattle.mz_forms.specs.ScopeView.{names}
-use Rattle.mz_forms.specs.StatementView.{stated}
+use Rattle.mz_statements.specs.StatementView.{stated}
 use Rattle.mz_forms.proofs.Offered.{length-more, node_size_positive, stands_from, stands_there, stepped}
 use Rattle.mz_mmu.proofs.Declared.{Agrees, statement_says}
 use Rattle.std.proofs.lemmas.List.{map-append}

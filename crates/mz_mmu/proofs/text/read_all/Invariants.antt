@@ -4,9 +4,9 @@ use Rattle.mz_mode.specs.Gaps.{gaps_of}
 use Rattle.mz_forms.specs.Cursor.{nodes_from, IsThere, nodes_size}
 use Rattle.mz_mmu.specs.EntryView.{entry, root, AreNumbers}
 use Rattle.mz_forms.specs.NamesMore.{AreFew}
-use Rattle.mz_forms.specs.Proof.{Statement}
-use Rattle.mz_forms.specs.Statements.{no_names, AreStatements}
-use Rattle.mz_forms.specs.Order.{statements_asked}
+use Rattle.mz_statements.specs.Statements.{Statement, AreStatements}
+use Rattle.mz_forms.specs.Name.{no_names}
+use Rattle.mz_statements.specs.Order.{statements_asked}
 use Rattle.mz_forms.specs.ScopeView.{names}
 use Rattle.mz_mmu.proofs.Declared.{Agrees}
 use Rattle.mz_mmu.proofs.text.read_all.Given as goal

@@ -1,10 +1,15 @@
-use Rattle.std.proofs.Common.{◌≡◌, ◌∙◌, true, false, refl, sym, subst}
+use Rattle.std.proofs.Common.{◌≡◌, ◌↔◌, ◌∙◌, true, false, refl, sym, subst}
 use Rattle.std.proofs.lemmas.List.{drop_all}
 use Rattle.mz_logic.specs.View.{tree, trees}
 use Rattle.mz_readback.specs.Declared.{AreShort}
 use Rattle.mz_typing.proofs.Offered.{trees_cut}
 use Rattle.mz_prefix.proofs.Measuring.{short-is, is-short}
+use Rattle.mz_prefix.proofs.Shared.{short_repeated}
 use Rattle.mz_prefix.proofs.hidden.are_short.Goals as goal
+
+pub loop-e-init : goal.loop-e-init
+loop-e-init c = λ v.
+    subst (λ es. AreShort v es ↔ AreShort v c.args.hyps.now) (sym c.as_slice-e-items.ensures.items) (short_repeated v c.formulas.result.now c.args.hyps.now c.formulas.ensures)
 
 pub returns-then-not-is_short : goal.returns-then-not-is_short
 returns-then-not-is_short c = λ v.

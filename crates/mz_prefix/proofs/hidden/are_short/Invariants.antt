@@ -4,4 +4,4 @@ use Rattle.mz_readback.specs.Declared.{Vocabulary, AreShort}
 use Rattle.mz_prefix.proofs.hidden.are_short.Given as goal
 
 abbrev pub invariant-loop-e : goal.invariant-loop-e
-invariant-loop-e l = (v : Vocabulary) → AreShort v (trees (drop l.e-index l.e-items)) ↔ AreShort v l.es
+invariant-loop-e l = (v : Vocabulary) → AreShort v (trees (drop l.e-index l.e-items)) ↔ AreShort v l.hyps

@@ -1,5 +1,5 @@
 use Rattle.mz_spec.proofs.Offered.{one-reading}
-use Rattle.mz_binary.proofs.Offered.{one-list, good-spelled}
+use Rattle.mz_files.proofs.Offered.{one-list, good-spelled}
 use Rattle.mz_restating.proofs.Restating.{accepted-restated}
 use Rattle.mz_restating.proofs.Alike.{restated-alike}
 use Rattle.mz_restating.proofs.laws.accepted_are_restated.Goals as goal

@@ -1,5 +1,5 @@
 use Rattle.mz_spec.proofs.Offered.{one-reading}
-use Rattle.mz_binary.proofs.Offered.{good-spelled}
+use Rattle.mz_files.proofs.Offered.{good-spelled}
 use Rattle.mz_restating.proofs.Texts.{plain-texts}
 use Rattle.mz_restating.proofs.laws.plain_texts_are_texts.Goals as goal
 

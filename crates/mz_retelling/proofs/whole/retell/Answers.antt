@@ -1,7 +1,7 @@
 use Rattle.std.proofs.Common.{◌<◌, All, [], IfOk, length, sym, subst}
 use Rattle.std.proofs.lemmas.Result.{IfOk-weaker}
 use Rattle.mz_phrasing.specs.Naming.{vocabulary_by}
-use Rattle.mz_retelling.specs.Growing.{Grows}
+use Rattle.mz_stating.specs.ByNumber.{Grows}
 use Rattle.mz_retelling.specs.Telling.{AreLowerAfter}
 use Rattle.mz_retelling.specs.Gathering.{AreGathered, IsBehind}
 use Rattle.mz_retelling.specs.Retelling.{IsRetold, IsWeighed}

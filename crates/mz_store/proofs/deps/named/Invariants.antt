@@ -13,4 +13,4 @@ use Rattle.mz_store.proofs.deps.named.Given as goal
 abbrev pub invariant-loop-place : goal.invariant-loop-place
 invariant-loop-place l = (sigs : List Signature) (params : List Binder) → IsOver sigs (shared_by l.store) → Fits sigs (shared_by l.store).context (trees_of (shared_by l.store) l.args) params
     → ((j : ℕ) → Contains l.places j → IsBoundAt params j)
-    → Gathers (bound_vars (shared_by l.store).context) l.word (At (shared_by l.store) l.args params l.bits l.places) (At (shared_by l.store) l.args params l.left (drop l.place-index l.places))
+    → Gathers (bound_vars (shared_by l.store).context) l.word (At (trees_of (shared_by l.store) l.args) params l.bits l.places) (At (trees_of (shared_by l.store) l.args) params l.left (drop l.place-index l.places))

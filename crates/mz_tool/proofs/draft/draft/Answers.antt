@@ -1,7 +1,7 @@
 use Rattle.std.proofs.Common.{◌∙◌, subst, sym, ap, refl}
 use Rattle.mz_match.specs.declared.draft.Draft.TheVariants as drafts
 use Rattle.mz_match.specs.Drafts.{DraftAccepts}
-use Rattle.mz_match.specs.Verdict.{line_of}
+use Rattle.mz_verdicts.specs.Verdict.{line_of}
 use Rattle.mz_tool.proofs.Drafted.{draft-refuted, draft-not_told, draft-not_refuted}
 use Rattle.mz_tool.proofs.draft.draft.Goals as goal
 
@@ -19,8 +19,8 @@ returns-in-Ok-clause-only_no c =
 pub returns-in-Ok-verdict_line : goal.returns-in-Ok-verdict_line
 returns-in-Ok-verdict_line c = record {
   yes = tt;
-  no = draft-refuted c.args.spec.now c.args.bin.now c.judge.result c.in-Ok-verdict_line.text.items c.judge.ensures.draft c.in_default.not-Accepted c.in_default.not-Mem (c.in-Ok-verdict_line.ensures ∙ ap line_of c.verdict_of.ensures);
+  no = draft-refuted c.args.spec.now c.args.bin.now c.counted_draft.result c.in-Ok-verdict_line.text.items c.counted_draft.ensures.draft c.in_default.not-Accepted c.in_default.not-Mem (c.in-Ok-verdict_line.ensures ∙ ap line_of c.verdict_of.ensures);
   sound = tt;
-  only_yes = draft-not_told c.args.spec.now c.args.bin.now c.judge.result c.in_default.not-Accepted c.in_default.not-Mem c.judge.ensures.accepted;
+  only_yes = draft-not_told c.args.spec.now c.args.bin.now c.counted_draft.result c.in_default.not-Accepted c.in_default.not-Mem c.counted_draft.ensures.accepted;
   only_no = λ text is. tt;
 }

@@ -1,6 +1,6 @@
 use Rattle.std.proofs.Common.{inl, inr, ◌≡◌, ◌∙◌, ◌≤◌, ◌++◌, ◌+◌, ap, refl, length, append_assoc, arith, [], ◌∷◌, None}
 use Rattle.std.proofs.lemmas.List.{length-append}
-use Rattle.mz_binary.specs.RefusalLine.{refusal_line as refusal_text}
+use Rattle.mz_files.specs.RefusalLine.{refusal_line as refusal_text}
 use Rattle.mz_tool.proofs.Listed.{listing-is_yes, listed-is_no, listed-is_listed, prefix-of_answer, room-of_listed, prefix-further, rose-later, whole-prefix, listing-of_yes, listed-of_no}
 use Rattle.mz_tool.proofs.show.show.Goals as goal
 

@@ -1,12 +1,12 @@
-use Rattle.mz_binary.specs.Standards.{strict_standard}
+use Rattle.mz_files.specs.Standards.{strict_standard}
 use Rattle.mz_tool.proofs.Judged.{judged-yes, judged-no, judged-sound, judged-only_yes, judged-only_no}
 use Rattle.mz_tool.proofs.verify.verify.Goals as goal
 
 pub returns : goal.returns
 returns c = record {
-  yes = judged-yes strict_standard c.args.spec.now c.args.bin.now c.judge-verdict.result c.answered_by.result c.judge-verdict.ensures.verdict c.answered_by.ensures.yes;
-  no = judged-no strict_standard c.args.spec.now c.args.bin.now c.judge-verdict.result c.answered_by.result c.judge-verdict.ensures.verdict c.answered_by.ensures.no;
-  sound = judged-sound c.args.spec.now c.args.bin.now c.judge-verdict.result c.answered_by.result c.judge-verdict.ensures.sound c.answered_by.ensures.yes;
-  only_yes = judged-only_yes strict_standard c.args.spec.now c.args.bin.now c.judge-verdict.result c.answered_by.result c.judge-verdict.ensures.accepted c.answered_by.ensures.no;
-  only_no = judged-only_no strict_standard c.args.spec.now c.args.bin.now c.judge-verdict.result c.answered_by.result c.judge-verdict.ensures.refused c.answered_by.ensures.yes;
+  yes = judged-yes strict_standard c.args.spec.now c.args.bin.now c.counted_verdict-verdict.result c.answered_by.result c.counted_verdict-verdict.ensures.verdict c.answered_by.ensures.yes;
+  no = judged-no strict_standard c.args.spec.now c.args.bin.now c.counted_verdict-verdict.result c.answered_by.result c.counted_verdict-verdict.ensures.verdict c.answered_by.ensures.no;
+  sound = judged-sound c.args.spec.now c.args.bin.now c.counted_verdict-verdict.result c.answered_by.result c.counted_verdict-verdict.ensures.sound c.answered_by.ensures.yes;
+  only_yes = judged-only_yes strict_standard c.args.spec.now c.args.bin.now c.counted_verdict-verdict.result c.answered_by.result c.counted_verdict-verdict.ensures.accepted c.answered_by.ensures.no;
+  only_no = judged-only_no strict_standard c.args.spec.now c.args.bin.now c.counted_verdict-verdict.result c.answered_by.result c.counted_verdict-verdict.ensures.refused c.answered_by.ensures.yes;
 }

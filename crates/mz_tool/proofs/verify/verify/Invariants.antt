@@ -1,4 +1,4 @@
 use Rattle.mz_tool.proofs.verify.verify.Given as goal
 
-abbrev pub ghosts-judge : goal.ghosts-judge
-ghosts-judge a = record { name = a.blank.name; parts = a.blank.parts }
+abbrev pub ghosts-counted_verdict : goal.ghosts-counted_verdict
+ghosts-counted_verdict a = record { name = a.blank.name; parts = a.blank.parts }

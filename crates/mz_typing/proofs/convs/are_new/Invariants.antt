@@ -1,6 +1,7 @@
 use Rattle.std.proofs.Common.{◌↔◌, drop}
 use Rattle.mz_typing.specs.Rules.{AreNew}
+use Rattle.mz_typing.proofs.Differing.{AreNewTo}
 use Rattle.mz_typing.proofs.convs.are_new.Given as goal
 
-abbrev pub invariant-loop-i : goal.invariant-loop-i
-invariant-loop-i l = AreNew l.ctx l.es (drop l.i l.places) ↔ AreNew l.ctx l.es l.vars
+abbrev pub invariant-loop-place : goal.invariant-loop-place
+invariant-loop-place l = AreNewTo l.ctx l.es l.seen (drop l.place-index l.place-items) ↔ AreNew l.ctx l.es l.vars

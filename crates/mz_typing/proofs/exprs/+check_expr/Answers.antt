@@ -1,12 +1,12 @@
-use Rattle.std.proofs.Common.{◌+◌, drop, sym, ap, ◌∙◌, subst, length, inl}
-use Rattle.mz_checks.specs.Checks.{AllHold, FailsFirst, Judges}
-use Rattle.mz_checks.proofs.Offered.{fails-before, fails-after, judges-after, Decides}
+use Rattle.std.proofs.Common.{◌+◌, drop, sym, subst}
+use Rattle.mz_checks.specs.Checks.{AllHold, Judges}
+use Rattle.mz_checks.proofs.Offered.{fails-before, Decides}
 use Rattle.mz_sexpr.specs.Node.{place}
 use Rattle.mz_sexpr.specs.Number.{first}
 use Rattle.mz_logic.specs.Declaration.{signatures}
 use Rattle.mz_logic.specs.View.{tree, trees}
-use Rattle.mz_typing.specs.Rules.{expr_rules, exprs_rules, operand_rules}
-use Rattle.mz_typing.proofs.Judging.{handed_before, handed_within, judges_asked}
+use Rattle.mz_typing.specs.Rules.{expr_rules, exprs_rules}
+use Rattle.mz_typing.proofs.Judging.{handed_before, handed_within}
 use Rattle.mz_typing.proofs.Steps.{app_rules, exprs_left, exprs_step, size_step}
 use Rattle.mz_typing.proofs.exprs.+check_expr.Goals as goal
 

@@ -1,6 +1,6 @@
 use Rattle.mz_phrasing.specs.Naming.{vocabulary_by}
 use Rattle.mz_unspell.specs.Numbers.{AreVariables}
-use Rattle.mz_unspell.specs.Rows.{Grows}
+use Rattle.mz_stating.specs.ByNumber.{Grows}
 use Rattle.mz_unspell.proofs.reading.push_params.Given as goal
 
 abbrev pub invariant-loop-i : goal.invariant-loop-i

@@ -5,18 +5,23 @@ use Rattle.mz_cmd.specs.StatementList.{statement_at}
 use Rattle.mz_layout.specs.Heads.{IsHead, body_bytes, next_row}
 use Rattle.mz_layout.specs.declared.head.Head.{Head}
 use Rattle.mz_soundness.specs.FileRows.{Taken}
-use Rattle.mz_earlier.specs.OwnRow.{MayRun, heading_of}
+use Rattle.mz_earlier.specs.OwnRow.{MayRun, byte_of, heading_of, kind_at}
 use Rattle.mz_earlier.specs.Before.{taken_before}
+use Rattle.mz_earlier.proofs.Offered.{byte-kind, kind-byte}
 use Rattle.mz_binary.specs.declared.place.Found.TheVariants as seen
-use Rattle.mz_binary.specs.FileRun.{after_kind, find_at}
+use Rattle.mz_files.specs.FileRun.{after_kind, find_at}
 use Rattle.mz_binary.specs.Judging.{IsLeft, IsMost, IsNext}
-use Rattle.mz_binary.specs.Progress.{HasPassed, Progress, IsReached, found_of, kind_byte, most_left}
-use Rattle.mz_binary.proofs.Heads.{code-of, head-at}
+use Rattle.mz_binary.specs.Progress.{HasPassed, Progress, IsReached, found_of, kind_byte, most_left, next_steps}
+use Rattle.mz_files.proofs.Offered.{code-of, head-at}
 use Rattle.mz_binary.proofs.Finding.{find-head}
-use Rattle.mz_binary.proofs.Passing.{body-here, body-runs, body-stops}
-use Rattle.mz_binary.proofs.Counting.{most-here}
+use Rattle.mz_binary.proofs.Passing.{body-counts, body-here, body-runs, body-stops}
+use Rattle.mz_binary.proofs.Counting.{if-told, most-here}
 use Rattle.mz_binary.proofs.Running.{may-run}
 use Rattle.mz_binary.proofs.checker.Checker.past_body.Goals as goal
+
+-- what stands at the place
+abbrev IsFound : Head → Progress → Type 0
+IsFound head q = find_at q.file (taken_before q.file q.rows) q.at ≡ Ok (found_of q.file q.rows (seen.WithBody head))
 
 pub check_body_by-requires-clause-may_run : goal.check_body_by-requires-clause-may_run
 check_body_by-requires-clause-may_run g c =
@@ -30,7 +35,8 @@ check_body_by-requires-clause-may_run g c =
     may-run p head.code head.body head.next (after_kind p.file taken head.code) (heading_of p.file (kind_byte head.code) (next_row p.rows head.code)) head.body (body_bytes p.file head.body head.next)
     (subst IsReached c.self.view_is c.self.invariant) there_is in
     let inside = subst (λ (q : Progress). MayRun q.file (kind_byte head.code) (next_row q.rows head.code) q.rows) (sym c.self.view_is) may in
-    subst (λ (k : ℕ). MayRun c.self.inside.mmb.now k c.next-row.result c.self.inside.rows) (sym c.kind_of-kind.ensures)
+    let byte = byte-kind (kind_byte head.code) c.body_kind-kind.result may.kinds c.body_kind-kind.ensures in
+    subst (λ (k : ℕ). MayRun c.self.inside.mmb.now k c.next-row.result c.self.inside.rows) (sym byte)
     (subst (λ (row : ℕ). MayRun c.self.inside.mmb.now (kind_byte head.code) row c.self.inside.rows) (sym c.next-row.ensures) inside)
 
 pub check_body_by-requires-clause-order : goal.check_body_by-requires-clause-order
@@ -63,6 +69,25 @@ returns-in-Good-clause-most g c =
     subst (λ (q : Progress). IsMost q c.args.steps.now c.check_body_by.new.steps c.past.result) c.self.view_is
     (c.past.ensures.most c.args.steps.now c.check_body_by.new.steps c.check_body_by.ensures.most)
 
+-- what the body executes is what is executed at the place
+pub returns-in-Good-clause-steps : goal.returns-in-Good-clause-steps
+returns-in-Good-clause-steps g c =
+    let head = c.args.head in
+    let s = c.self.inside in
+    let counted = body-counts s.standard s.mmb.now s.rows s.at head (subst (IsFound head) (sym c.self.view_is) c.requires.body)
+    (kind_at (byte_of c.body_kind-kind.result)) c.next-row.result (kind-byte c.body_kind-kind.result ∙ c.body_kind-kind.ensures) c.next-row.ensures
+    c.args.steps.now c.check_body_by.new.steps c.in-Good.ensures.steps in
+    if-told c.past.result _ (subst (λ (q : Progress). c.check_body_by.new.steps ≡ c.args.steps.now + next_steps q) c.self.view_is counted)
+
+pub returns-in-Refused-clause-steps : goal.returns-in-Refused-clause-steps
+returns-in-Refused-clause-steps g c =
+    let head = c.args.head in
+    let s = c.self.inside in
+    let counted = body-counts s.standard s.mmb.now s.rows s.at head (subst (IsFound head) (sym c.self.view_is) c.requires.body)
+    (kind_at (byte_of c.body_kind-kind.result)) c.next-row.result (kind-byte c.body_kind-kind.result ∙ c.body_kind-kind.ensures) c.next-row.ensures
+    c.args.steps.now c.check_body_by.new.steps c.in-Refused.ensures.steps in
+    if-told c.refused.result _ (subst (λ (q : Progress). c.check_body_by.new.steps ≡ c.args.steps.now + next_steps q) c.self.view_is counted)
+
 pub returns-in-Refused-clause-next : goal.returns-in-Refused-clause-next
 returns-in-Refused-clause-next g c = λ ss env before.
     subst (λ (q : Progress). IsNext q ss env c.refused.result) c.self.view_is (c.refused.ensures.next ss env (subst (λ (q : Progress). HasPassed q ss env) (sym c.self.view_is) before))
@@ -88,9 +113,6 @@ returns-clause-most g c =
     most-here (length p.file) p.at head.body head.next c.args.steps.now c.check_body_by.new.steps (omega (arith, at-head.before, c.requires.at)) at-head.order at-head.within
     (subst (λ (q : Progress). c.check_body_by.new.steps ≤ c.args.steps.now + (head.next - head.body) * (length q.file + 1)) c.self.view_is c.check_body_by.ensures.most)
 
-abbrev IsFound : Head → Progress → Type 0
-IsFound head q = find_at q.file (taken_before q.file q.rows) q.at ≡ Ok (found_of q.file q.rows (seen.WithBody head))
-
 pub rests_on_gap-gap-requires-clause-head : goal.rests_on_gap-gap-requires-clause-head
 rests_on_gap-gap-requires-clause-head g c = subst (λ (q : Progress). IsHead q.file c.args.head) (sym c.self.view_is) c.requires.head
 
@@ -108,11 +130,13 @@ past-requires-clause-runs g c =
     let head = c.args.head in
     let s = c.self.inside in
     let (last, ran, _) = c.in-Good.ensures.run in
-    body-runs s.standard s.mmb.now s.rows s.at head (subst (IsFound head) (sym c.self.view_is) c.requires.body) c.kind_of-kind.result c.next-row.result c.kind_of-kind.ensures c.next-row.ensures last ran
+    body-runs s.standard s.mmb.now s.rows s.at head (subst (IsFound head) (sym c.self.view_is) c.requires.body)
+    (kind_at (byte_of c.body_kind-kind.result)) c.next-row.result (kind-byte c.body_kind-kind.result ∙ c.body_kind-kind.ensures) c.next-row.ensures last ran
 
 pub refused-requires : goal.refused-requires
 refused-requires g c =
     let head = c.args.head in
     let s = c.self.inside in
-    body-stops s.standard s.mmb.now s.rows s.at head (subst (IsFound head) (sym c.self.view_is) c.requires.body) c.kind_of-kind.result c.next-row.result c.kind_of-kind.ensures c.next-row.ensures
+    body-stops s.standard s.mmb.now s.rows s.at head (subst (IsFound head) (sym c.self.view_is) c.requires.body)
+    (kind_at (byte_of c.body_kind-kind.result)) c.next-row.result (kind-byte c.body_kind-kind.result ∙ c.body_kind-kind.ensures) c.next-row.ensures
     (c.in-Refused.at, c.in-Refused.rule) c.in-Refused.ensures.run

@@ -40,8 +40,8 @@ id-requires-clause-sorted c =
     subst (λ (sigs : List Signature). Sorted sigs c.in_ok-shared.shared.store.context (tree c.args.thm.now.conclusion)) (sym c.requires.table)
     (subst (λ ctx. Sorted (signatures c.args.self.now.env) ctx (tree c.args.thm.now.conclusion)) (sym is) sorted)
 
-pub ids-requires-clause-sorted : goal.ids-requires-clause-sorted
-ids-requires-clause-sorted c =
+pub hyp_ids-requires-clause-sorted : goal.hyp_ids-requires-clause-sorted
+hyp_ids-requires-clause-sorted c =
     let is = c.in_ok-conclusion.ensures.grows.0 ∙ c.in_ok-shared.ensures.context ∙ ap (λ (ws : List Word). binders_of ws ++ c.args.dummies.now) c.deref.ensures.value ∙ ap (λ ps. ps ++ c.args.dummies.now) c.requires.params in
     let sorted = hyps_sorted c.args.self.now.env (assertion_view c.args.thm.now) c.args.dummies.now c.requires.can in
     subst (λ (sigs : List Signature). AreSorted sigs c.id.new.self.store.context c.args.thm.now.hyps) (sym c.requires.table)
@@ -51,52 +51,52 @@ pub assertion_stream-requires-clause-params : goal.assertion_stream-requires-cla
 assertion_stream-requires-clause-params c =
     let is = c.in_ok-hyps.ensures.grows.0 ∙ c.in_ok-conclusion.ensures.grows.0 ∙ c.in_ok-shared.ensures.context ∙ ap (λ (ws : List Word). binders_of ws ++ c.args.dummies.now) c.deref.ensures.value ∙ ap (λ ps. ps ++ c.args.dummies.now) c.requires.params in
     let many = sym (ap length c.requires.params) ∙ binders_many c.args.words.now.params.items ∙ ap length (sym c.as_slice.ensures.value) in
-    has_params c.args.self.now.env (assertion_view c.args.thm.now).params c.args.dummies.now c.requires.can.ready c.ids.new.self.store.context (length c.as_slice.result.now) is many
+    has_params c.args.self.now.env (assertion_view c.args.thm.now).params c.args.dummies.now c.requires.can.ready c.hyp_ids.new.self.store.context (length c.as_slice.result.now) is many
 
 pub assertion_stream-requires-clause-conclusion_reach : goal.assertion_stream-requires-clause-conclusion_reach
 assertion_stream-requires-clause-conclusion_reach c =
     let many = sym (ap length c.requires.params) ∙ binders_many c.args.words.now.params.items ∙ ap length (sym c.as_slice.ensures.value) in
-    let conclusion = held_after c.id.new.self.store c.ids.new.self.store c.in_ok-conclusion.conclusion.0 (tree c.args.thm.now.conclusion) c.in_ok-hyps.ensures.grows c.in_ok-conclusion.ensures.holds in
-    conclusion_reach c.args.self.now.env (assertion_view c.args.thm.now) c.args.dummies.now c.requires.can (tree_of c.ids.new.self.store c.in_ok-conclusion.conclusion.0) (length c.as_slice.result.now) conclusion many
+    let conclusion = held_after c.id.new.self.store c.hyp_ids.new.self.store c.in_ok-conclusion.conclusion.0 (tree c.args.thm.now.conclusion) c.in_ok-hyps.ensures.grows c.in_ok-conclusion.ensures.holds in
+    conclusion_reach c.args.self.now.env (assertion_view c.args.thm.now) c.args.dummies.now c.requires.can (tree_of c.hyp_ids.new.self.store c.in_ok-conclusion.conclusion.0) (length c.as_slice.result.now) conclusion many
 
 pub assertion_stream-requires-clause-hyps_reach : goal.assertion_stream-requires-clause-hyps_reach
 assertion_stream-requires-clause-hyps_reach c =
     let many = sym (ap length c.requires.params) ∙ binders_many c.args.words.now.params.items ∙ ap length (sym c.as_slice.ensures.value) in
-    let hyps = ap (trees_of c.ids.new.self.store) c.deref-2.ensures.value ∙ c.in_ok-hyps.ensures.trees in
-    hyps_reach c.args.self.now.env (assertion_view c.args.thm.now) c.args.dummies.now c.requires.can (trees_of c.ids.new.self.store c.deref-2.result.now) (length c.as_slice.result.now) hyps many
+    let hyps = ap (trees_of c.hyp_ids.new.self.store) c.deref-2.ensures.value ∙ c.in_ok-hyps.ensures.trees in
+    hyps_reach c.args.self.now.env (assertion_view c.args.thm.now) c.args.dummies.now c.requires.can (trees_of c.hyp_ids.new.self.store c.deref-2.result.now) (length c.as_slice.result.now) hyps many
 
 pub assertion_body-requires-clause-behind : goal.assertion_body-requires-clause-behind
 assertion_body-requires-clause-behind c =
     let is = c.in_ok-hyps.ensures.grows.0 ∙ c.in_ok-conclusion.ensures.grows.0 ∙ c.in_ok-shared.ensures.context ∙ ap (λ (ws : List Word). binders_of ws ++ c.args.dummies.now) c.deref.ensures.value ∙ ap (λ ps. ps ++ c.args.dummies.now) c.requires.params in
     let many = sym (ap length c.requires.params) ∙ binders_many c.args.words.now.params.items ∙ ap length (sym c.as_slice.ensures.value) in
-    let shared = subst (λ sigs. IsShared sigs c.ids.new.self.store c.ids.new.self.variables.items) c.requires.table c.in_ok-hyps.ensures.shared in
-    dummies_behind c.args.self.now.env (assertion_view c.args.thm.now).params c.args.dummies.now c.requires.can.ready c.ids.new.self.store c.ids.new.self.variables.items (length c.as_slice.result.now) is many shared
+    let shared = subst (λ sigs. IsShared sigs c.hyp_ids.new.self.store c.hyp_ids.new.self.variables.items) c.requires.table c.in_ok-hyps.ensures.shared in
+    dummies_behind c.args.self.now.env (assertion_view c.args.thm.now).params c.args.dummies.now c.requires.can.ready c.hyp_ids.new.self.store c.hyp_ids.new.self.variables.items (length c.as_slice.result.now) is many shared
 
 pub assertion_body-requires-clause-provable : goal.assertion_body-requires-clause-provable
 assertion_body-requires-clause-provable c =
     let is = c.in_ok-hyps.ensures.grows.0 ∙ c.in_ok-conclusion.ensures.grows.0 ∙ c.in_ok-shared.ensures.context ∙ ap (λ (ws : List Word). binders_of ws ++ c.args.dummies.now) c.deref.ensures.value ∙ ap (λ ps. ps ++ c.args.dummies.now) c.requires.params in
-    let hyps = ap (trees_of c.ids.new.self.store) c.deref-3.ensures.value ∙ c.in_ok-hyps.ensures.trees in
-    hyps_provable c.args.self.now.env (assertion_view c.args.thm.now) c.args.dummies.now c.requires.can c.ids.new.self.store.context (trees_of c.ids.new.self.store c.deref-3.result.now) is hyps
+    let hyps = ap (trees_of c.hyp_ids.new.self.store) c.deref-3.ensures.value ∙ c.in_ok-hyps.ensures.trees in
+    hyps_provable c.args.self.now.env (assertion_view c.args.thm.now) c.args.dummies.now c.requires.can c.hyp_ids.new.self.store.context (trees_of c.hyp_ids.new.self.store c.deref-3.result.now) is hyps
 
 pub assertion_body-requires-clause-sound : goal.assertion_body-requires-clause-sound
 assertion_body-requires-clause-sound c =
     let is = c.in_ok-hyps.ensures.grows.0 ∙ c.in_ok-conclusion.ensures.grows.0 ∙ c.in_ok-shared.ensures.context ∙ ap (λ (ws : List Word). binders_of ws ++ c.args.dummies.now) c.deref.ensures.value ∙ ap (λ ps. ps ++ c.args.dummies.now) c.requires.params in
-    let hyps = ap (trees_of c.ids.new.self.store) c.deref-3.ensures.value ∙ c.in_ok-hyps.ensures.trees in
-    (c.requires.proved.0, sound_there c.args.self.now.env (assertion_view c.args.thm.now) c.args.dummies.now c.requires.can c.requires.proved.0 (stated c.args.proof) c.ids.new.self.store.context (trees_of c.ids.new.self.store c.deref-3.result.now) is hyps c.requires.proved.1)
+    let hyps = ap (trees_of c.hyp_ids.new.self.store) c.deref-3.ensures.value ∙ c.in_ok-hyps.ensures.trees in
+    (c.requires.proved.0, sound_there c.args.self.now.env (assertion_view c.args.thm.now) c.args.dummies.now c.requires.can c.requires.proved.0 (stated c.args.proof) c.hyp_ids.new.self.store.context (trees_of c.hyp_ids.new.self.store c.deref-3.result.now) is hyps c.requires.proved.1)
 
 pub returns : goal.returns
 returns c = λ gaps by.
     let is = c.in_ok-hyps.ensures.grows.0 ∙ c.in_ok-conclusion.ensures.grows.0 ∙ c.in_ok-shared.ensures.context ∙ ap (λ (ws : List Word). binders_of ws ++ c.args.dummies.now) c.deref.ensures.value ∙ ap (λ ps. ps ++ c.args.dummies.now) c.requires.params in
     let many = sym (ap length c.requires.params) ∙ binders_many c.args.words.now.params.items ∙ ap length (sym c.as_slice.ensures.value) in
-    let conclusion = held_after c.id.new.self.store c.ids.new.self.store c.in_ok-conclusion.conclusion.0 (tree c.args.thm.now.conclusion) c.in_ok-hyps.ensures.grows c.in_ok-conclusion.ensures.holds in
-    let hyps2 = ap (trees_of c.ids.new.self.store) c.deref-2.ensures.value ∙ c.in_ok-hyps.ensures.trees in
+    let conclusion = held_after c.id.new.self.store c.hyp_ids.new.self.store c.in_ok-conclusion.conclusion.0 (tree c.args.thm.now.conclusion) c.in_ok-hyps.ensures.grows c.in_ok-conclusion.ensures.holds in
+    let hyps2 = ap (trees_of c.hyp_ids.new.self.store) c.deref-2.ensures.value ∙ c.in_ok-hyps.ensures.trees in
     let same : c.deref-3.result.now ≡ c.deref-2.result.now = c.deref-3.ensures.value ∙ sym c.deref-2.ensures.value in
     let stream = c.in_ok-stream.ensures (assertion_view c.args.thm.now).params c.args.dummies.now is many in
-    let hyps3 = ap (trees_of c.ids.new.self.store) c.deref-3.ensures.value ∙ c.in_ok-hyps.ensures.trees in
-    let sound = sound_there c.args.self.now.env (assertion_view c.args.thm.now) c.args.dummies.now c.requires.can gaps (stated c.args.proof) c.ids.new.self.store.context (trees_of c.ids.new.self.store c.deref-3.result.now) is hyps3 by in
+    let hyps3 = ap (trees_of c.hyp_ids.new.self.store) c.deref-3.ensures.value ∙ c.in_ok-hyps.ensures.trees in
+    let sound = sound_there c.args.self.now.env (assertion_view c.args.thm.now) c.args.dummies.now c.requires.can gaps (stated c.args.proof) c.hyp_ids.new.self.store.context (trees_of c.hyp_ids.new.self.store c.deref-3.result.now) is hyps3 by in
     let body = c.in_ok-body.ensures.body gaps sound (assertion_view c.args.thm.now).params c.args.dummies.now is many in
-    assertion_says c.args.self.now.env (assertion_view c.args.thm.now) c.args.dummies.now c.requires.can gaps (stated c.args.proof) (tree_of c.ids.new.self.store c.in_ok-conclusion.conclusion.0) (trees_of c.ids.new.self.store c.deref-2.result.now)
+    assertion_says c.args.self.now.env (assertion_view c.args.thm.now) c.args.dummies.now c.requires.can gaps (stated c.args.proof) (tree_of c.hyp_ids.new.self.store c.in_ok-conclusion.conclusion.0) (trees_of c.hyp_ids.new.self.store c.deref-2.result.now)
     c.in_ok-stream.stream.items c.in_ok-body.body.items by conclusion hyps2 stream
-    (subst (λ (ids : List Id). MakesBody gaps c.args.self.now.env (stated c.args.proof) (assertion_view c.args.thm.now).params c.args.dummies.now (tree_of c.ids.new.self.store c.in_ok-conclusion.conclusion.0) (listed (trees_of c.ids.new.self.store ids)) c.in_ok-body.body.items) same body)
+    (subst (λ (ids : List Id). MakesBody gaps c.args.self.now.env (stated c.args.proof) (assertion_view c.args.thm.now).params c.args.dummies.now (tree_of c.hyp_ids.new.self.store c.in_ok-conclusion.conclusion.0) (listed (trees_of c.hyp_ids.new.self.store ids)) c.in_ok-body.body.items) same body)
     (subst (λ (ids : List Id). length c.in_ok-body.body.items
-    ≤ 6 * (trees_size (trees_of c.ids.new.self.store ids) + size (tree_of c.ids.new.self.store c.in_ok-conclusion.conclusion.0) + body_weight c.args.self.now.env (stated c.args.proof)) + 1) same c.in_ok-body.ensures.short)
+    ≤ 6 * (trees_size (trees_of c.hyp_ids.new.self.store ids) + size (tree_of c.hyp_ids.new.self.store c.in_ok-conclusion.conclusion.0) + body_weight c.args.self.now.env (stated c.args.proof)) + 1) same c.in_ok-body.ensures.short)

@@ -3,49 +3,49 @@ use Rattle.mz_mode.specs.Gaps.{gaps_of}
 use Rattle.mz_logic.specs.Words.{binders_of, BitsRight}
 use Rattle.mz_store.specs.Bits.{bound_vars}
 use Rattle.mz_soundness.specs.MachineState.{signatures_in}
-use Rattle.mz_earlier.specs.OwnRow.{kind_at, heading_of, mode_for, first_items}
+use Rattle.mz_earlier.specs.OwnRow.{byte_of, kind_at, heading_of, mode_for, first_items}
 use Rattle.mz_earlier.specs.Before.{tables_before}
 use Rattle.mz_machine.proofs.GapRows.{start-plain}
-use Rattle.mz_earlier.proofs.Offered.{byte-kind, own-bits, words-are}
+use Rattle.mz_earlier.proofs.Offered.{kind-byte, own-bits, words-are}
 use Rattle.mz_machine.proofs.Beginning.{params-are, params-many, is-begun, state-begun, AreVars}
 use Rattle.mz_machine.proofs.machine.Setting.begin.Goals as goal
 
 pub read_words-requires : goal.read_words-requires
-read_words-requires c = rw (c.new-earlier.ensures.file, c.new-earlier.ensures.rows, c.kind_by-kind.ensures) c.requires.next
+read_words-requires c = rw (c.new-earlier.ensures.file, c.new-earlier.ensures.rows, sym (kind-byte c.args.kind)) c.requires.next
 
 pub begin-requires : goal.begin-requires
 begin-requires c =
-    let words = words-are _ c.new-earlier.result.file c.args.mmb.now c.args.row _ (kind_at c.args.kind) c.in_ok-read_words.ensures c.new-earlier.ensures.file c.kind_by-kind.ensures in
-    subst BitsRight (sym (c.as_slice.ensures.value ∙ words)) (own-bits c.args.mmb.now c.args.before c.args.row (kind_at c.args.kind) c.requires.next)
+    let words = words-are _ c.new-earlier.result.file c.args.mmb.now c.args.row _ (kind_at (byte_of c.args.kind)) c.in_ok-read_words.ensures c.new-earlier.ensures.file (sym (kind-byte c.args.kind)) in
+    subst BitsRight (sym (c.as_slice.ensures.value ∙ words)) (own-bits c.args.mmb.now c.args.before c.args.row (kind_at (byte_of c.args.kind)) c.requires.next)
 
 pub returns-clause-running : goal.returns-clause-running
 returns-clause-running c =
     let s = c.begin.new.self in
     let ws = c.read_words.new.words.items in
-    let words = words-are _ c.new-earlier.result.file c.args.mmb.now c.args.row _ (kind_at c.args.kind) c.in_ok-read_words.ensures c.new-earlier.ensures.file c.kind_by-kind.ensures in
+    let words = words-are _ c.new-earlier.result.file c.args.mmb.now c.args.row _ (kind_at (byte_of c.args.kind)) c.in_ok-read_words.ensures c.new-earlier.ensures.file (sym (kind-byte c.args.kind)) in
     let ctx = c.in_ok-begin.ensures.context ∙ ap binders_of c.as_slice.ensures.value in
     let many = c.in_ok-begin.ensures.many ∙ ap length c.as_slice.ensures.value in
     let trees = subst (AreVars s) c.as_slice.ensures.value c.in_ok-begin.ensures.trees in
-    let mode = c.in_ok-begin.ensures.mode ∙ c.deps_mode.ensures ∙ ap mode_for c.kind_by-kind.ensures in
-    let begun = is-begun c.args.mmb.now c.args.kind c.args.row c.args.before s ws c.requires words ctx many trees (c.in_ok-begin.ensures.over (signatures_in (tables_before c.args.mmb.now c.args.before))) mode in
-    let bound = c.bound_count-bound_params.ensures.many ∙ ap (λ ps. length (bound_vars ps)) (ctx ∙ sym (params-are c.args.mmb.now c.args.kind c.args.row c.args.before s ws c.requires words ctx many trees)) in
-    rw (byte-kind c.args.kind c.kind_by-kind.result c.requires.kinds c.kind_by-kind.ensures, c.new-earlier.ensures.file, c.new-earlier.ensures.rows, c.in_ok-first_items.ensures ∙ ap first_items (c.len.ensures ∙ c.read_words.new.words.ok.0), c.clear.ensures.items, c.clear-2.ensures.items) (begun, bound)
+    let mode = c.in_ok-begin.ensures.mode ∙ c.deps_mode.ensures ∙ ap mode_for (sym (kind-byte c.args.kind)) in
+    let begun = is-begun c.args.mmb.now (byte_of c.args.kind) c.args.row c.args.before s ws c.requires words ctx many trees (c.in_ok-begin.ensures.over (signatures_in (tables_before c.args.mmb.now c.args.before))) mode in
+    let bound = c.bound_count-bound_params.ensures.many ∙ ap (λ ps. length (bound_vars ps)) (ctx ∙ sym (params-are c.args.mmb.now (byte_of c.args.kind) c.args.row c.args.before s ws c.requires words ctx many trees)) in
+    rw (c.new-earlier.ensures.file, c.new-earlier.ensures.rows, c.in_ok-first_items.ensures ∙ ap first_items (c.len.ensures ∙ c.read_words.new.words.ok.0), c.clear.ensures.items, c.clear-2.ensures.items) (begun, bound)
 
 pub returns-clause-begun : goal.returns-clause-begun
 returns-clause-begun c =
     let s = c.begin.new.self in
     let ws = c.read_words.new.words.items in
-    let words = words-are _ c.new-earlier.result.file c.args.mmb.now c.args.row _ (kind_at c.args.kind) c.in_ok-read_words.ensures c.new-earlier.ensures.file c.kind_by-kind.ensures in
+    let words = words-are _ c.new-earlier.result.file c.args.mmb.now c.args.row _ (kind_at (byte_of c.args.kind)) c.in_ok-read_words.ensures c.new-earlier.ensures.file (sym (kind-byte c.args.kind)) in
     let ctx = c.in_ok-begin.ensures.context ∙ ap binders_of c.as_slice.ensures.value in
     let many = c.in_ok-begin.ensures.many ∙ ap length c.as_slice.ensures.value in
     let trees = subst (AreVars s) c.as_slice.ensures.value c.in_ok-begin.ensures.trees in
     record {
       gaps_are = refl;
       file_is = c.new-earlier.ensures.file;
-      kind_is = byte-kind c.args.kind c.kind_by-kind.result c.requires.kinds c.kind_by-kind.ensures;
+      kind_is = refl;
       row_is = refl;
       before_is = c.new-earlier.ensures.rows;
-      state = rw (c.in_ok-first_items.ensures ∙ ap first_items (c.len.ensures ∙ c.read_words.new.words.ok.0), c.clear.ensures.items, c.clear-2.ensures.items) (state-begun c.args.mmb.now c.args.kind c.args.row c.args.before s ws c.requires words ctx many trees ∙ sym (start-plain (gaps_of c.args.mode) (heading_of c.args.mmb.now c.args.kind c.args.row)));
+      state = rw (c.in_ok-first_items.ensures ∙ ap first_items (c.len.ensures ∙ c.read_words.new.words.ok.0), c.clear.ensures.items, c.clear-2.ensures.items) (state-begun c.args.mmb.now (byte_of c.args.kind) c.args.row c.args.before s ws c.requires words ctx many trees ∙ sym (start-plain (gaps_of c.args.mode) (heading_of c.args.mmb.now (byte_of c.args.kind) c.args.row)));
       no_gap = refl;
-      nodes = many ∙ sym (params-many c.args.mmb.now c.args.kind c.args.row c.args.before s ws c.requires words ctx many trees);
+      nodes = many ∙ sym (params-many c.args.mmb.now (byte_of c.args.kind) c.args.row c.args.before s ws c.requires words ctx many trees);
     }

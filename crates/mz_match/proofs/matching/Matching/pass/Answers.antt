@@ -2,15 +2,16 @@ use Rattle.std.proofs.Common.{◌<◌, ◌+◌, ◌++◌, ◌∷◌, [], ◌∙�
 use Rattle.mz_checks.specs.Checks.{FailsFirst}
 use Rattle.mz_spec.specs.State.{env_of}
 use Rattle.mz_match.specs.declared.matching.Matching.{Matching}
-use Rattle.mz_match.specs.declared.verdict.Verdict.TheVariants as verdicts
-use Rattle.mz_match.specs.Match.{partner_checks, partner_of}
+use Rattle.mz_verdicts.specs.declared.verdict.Verdict.TheVariants as verdicts
+use Rattle.mz_verdicts.specs.Match.{partner_checks, partner_of}
 use Rattle.mz_match.specs.Told.{IsTold}
-use Rattle.mz_match.specs.Verdict.{IsVerdictBy}
+use Rattle.mz_verdicts.specs.Verdict.{IsVerdictBy}
 use Rattle.mz_logic.specs.Declaration.{terms}
-use Rattle.mz_match.proofs.Lists.{append-nil}
+use Rattle.mz_match.proofs.BesideRows.{exact-no}
+use Rattle.mz_verdicts.proofs.Offered.{append-nil}
 use Rattle.mz_match.proofs.Pairing.{told-next, done-fewer, differs-here, matched-local, matched-public, term-row, no-term-row}
 use Rattle.mz_match.proofs.matching.Matching.pass.Goals as goal
-use Rattle.mz_match.proofs.matching.Matching.pass.Goals.{then-not-told+in_default+then-told-eq-TERM+in-Ok, then-not-told+in_default+else-told-eq-TERM, else-not-told}
+use Rattle.mz_match.proofs.matching.Matching.pass.Goals.{then-not-told+in_default+then-has_kind+in-Ok, then-not-told+in_default+else-has_kind, else-not-told}
 
 pub overflow_add-result : goal.overflow_add-result
 overflow_add-result c =
@@ -45,17 +46,17 @@ returns-clause-passed c = λ p after ss env same matched passes.
     let here : IsTold p.standard c.args.mmb.now self.publics told ss env passes.statement after.at =
     subst (λ f. IsTold p.standard f self.publics told ss env passes.statement after.at) same (told-next p ds self ss env after told matched passes) in
     elim c.if-not-told.branch [
-      | then-not-told+in_default+then-told-eq-TERM+in-Ok w ↦ (
+      | then-not-told+in_default+then-has_kind+in-Ok w ↦ (
           matched-public p ds self ss env after told matched passes later refl (sym passes.tells.mark ∙ w.if-not-told.true) (w.in_default.ensures p.standard ss env passes.statement after.at here)
           (ap (λ (x : Matching). x.done) w.self-is)
           (ap (λ (x : Matching). x.publics) w.self-is ∙ w.in-Ok.ensures.ok ∙ ap (λ xs. self.publics ++ xs)
-          (ap (λ n. n ∷ []) passes.tells.row ∙ sym (term-row env passes.statement.decl (sym passes.tells.kind ∙ w.if-told-eq-TERM.true))))
+          (ap (λ n. n ∷ []) passes.tells.row ∙ sym (term-row env passes.statement.decl (sym passes.tells.kind ∙ w.has_kind.ensures.0 w.if-has_kind.true))))
           )
-      | then-not-told+in_default+else-told-eq-TERM w ↦ (
+      | then-not-told+in_default+else-has_kind w ↦ (
           matched-public p ds self ss env after told matched passes later refl (sym passes.tells.mark ∙ w.if-not-told.true) (w.in_default.ensures p.standard ss env passes.statement after.at here)
           (ap (λ (x : Matching). x.done) w.self-is)
           (ap (λ (x : Matching). x.publics) w.self-is ∙ sym (append-nil self.publics) ∙ ap (λ xs. self.publics ++ xs)
-          (sym (no-term-row (length (terms env)) passes.statement.decl (λ is. w.if-told-eq-TERM.false (passes.tells.kind ∙ is)))))
+          (sym (no-term-row (length (terms env)) passes.statement.decl (λ is. exact-no w.has_kind.result _ w.has_kind.ensures w.if-has_kind.false (passes.tells.kind ∙ is)))))
           )
       | else-not-told w ↦ (
           matched-local p ds self ss env after told matched passes later refl (sym passes.tells.mark ∙ w.if-not-told.false)

@@ -1,7 +1,7 @@
 use Rattle.std.proofs.Common.{◌∙◌, ℕ, List, sym, subst}
 use Rattle.std.specs.Prelude.{OnOk}
 use Rattle.mz_cmd.specs.Codes.{statement_byte}
-use Rattle.mz_binary.specs.Spelling.{is_local_code}
+use Rattle.mz_files.specs.Spelling.{is_local_code}
 use Rattle.mz_naming.specs.Adding.{IsAdded}
 use Rattle.mz_naming.proofs.Walking.{public-name}
 use Rattle.mz_naming.proofs.names.Names.add_next.Goals as goal

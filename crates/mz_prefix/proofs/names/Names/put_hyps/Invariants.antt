@@ -1,7 +1,8 @@
 use Rattle.std.proofs.Common.{◌≡◌, ◌++◌, drop}
+use Rattle.mz_logic.proofs.Offered.{exprs_of}
 use Rattle.mz_prefix.specs.Names.{spoken}
 use Rattle.mz_prefix.proofs.Parts.{hyps_text}
 use Rattle.mz_prefix.proofs.names.Names.put_hyps.Given as goal
 
-abbrev pub invariant-loop-hyp : goal.invariant-loop-hyp
-invariant-loop-hyp l = l.out.items ++ hyps_text (spoken l.self) l.hyp-index (drop l.hyp-index l.hyp-items) ≡ l.initial.out.items ++ hyps_text (spoken l.self) 0 l.hyp-items
+abbrev pub invariant-loop-i : goal.invariant-loop-i
+invariant-loop-i l = l.out.items ++ hyps_text (spoken l.self) l.i (drop l.i (exprs_of l.hyps)) ≡ l.initial.out.items ++ hyps_text (spoken l.self) 0 (exprs_of l.hyps)

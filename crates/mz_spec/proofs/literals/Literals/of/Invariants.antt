@@ -1,9 +1,9 @@
-use Rattle.std.proofs.Common.{◌≡◌, ◌++◌, ◌∷◌, [], List, map, drop}
+use Rattle.std.proofs.Common.{◌≡◌, ◌+◌, ◌++◌, ◌∷◌, [], List, length, map, drop}
 use Rattle.mz_checks.proofs.Offered.{Decides}
 use Rattle.mz_grammar.specs.Code.{literal}
 use Rattle.mz_grammar.specs.Statement.{LiteralText}
 use Rattle.mz_spec.specs.Forms.{AreLiterals}
-use Rattle.mz_spec.specs.Noting.{IsNumeral}
+use Rattle.mz_spec.specs.Noting.{IsNumeral, literals_size}
 use Rattle.mz_variables.specs.Dependencies.{Every}
 use Rattle.mz_variables.specs.View.{literal_levels}
 use Rattle.mz_spec.proofs.Spans.{levels_in}
@@ -13,5 +13,6 @@ abbrev pub invariant-loop-literal : goal.invariant-loop-literal
 invariant-loop-literal l = record {
   spans : (ls : List LiteralText) × AreLiterals l.all.text.items ls l.all.spans.items × (ls ++ map literal (drop l.literal-index l.literals) ≡ map literal l.literals);
   numerals : Every IsNumeral (literal_levels (map literal (drop l.literal-index l.literals) ++ literal l.last ∷ []));
+  size : length l.all.text.items + literals_size (map literal (drop l.literal-index l.literals) ++ literal l.last ∷ []) ≡ literals_size (map literal l.literals ++ literal l.last ∷ []);
   left : Decides (levels_in (map literal (drop l.literal-index l.literals) ++ literal l.last ∷ [])) (levels_in (map literal l.literals ++ literal l.last ∷ []));
 }

@@ -1,4 +1,4 @@
-use Rattle.std.proofs.Common.{◌∙◌, ◌++◌, ◌∷◌, [], ℕ, map, Err, ap, subst, sym}
+use Rattle.std.proofs.Common.{◌∙◌, ◌<◌, ◌^◌, ◌++◌, ◌∷◌, [], ℕ, map, Err, ap, subst, sym}
 use Rattle.std.specs.Prelude.{option_map}
 use Rattle.std.proofs.lemmas.Result.{err_from_is_err_and}
 use Rattle.mz_checks.specs.Checks.{AllHold, FailsFirst, each_in_order}
@@ -6,16 +6,23 @@ use Rattle.mz_grammar.specs.Code.{head, literal, notation, tail, type_text}
 use Rattle.mz_grammar.specs.Reading.{OnFault}
 use Rattle.mz_spec.specs.Answers.{JudgesStatement}
 use Rattle.mz_spec.specs.Entries.{state}
-use Rattle.mz_spec.specs.Noting.{IsNumeral}
+use Rattle.mz_spec.specs.Noting.{IsNumeral, literals_size}
 use Rattle.mz_variables.specs.Dependencies.{Every}
 use Rattle.mz_spec.specs.Rules.{is_level}
 use Rattle.mz_variables.specs.View.{literal_levels}
 use Rattle.mz_spec.proofs.Numerals.{notation-numerals}
+use Rattle.mz_spec.proofs.Sizes.{notation-size}
 use Rattle.mz_spec.proofs.Noted.{general-literals, general-tail}
 use Rattle.mz_spec.proofs.state.State.add_notation.Goals as goal
 
-pub of-requires : goal.of-requires
-of-requires c =
+pub of-requires-clause-small : goal.of-requires-clause-small
+of-requires-clause-small c =
+    let n = c.args.notation.now in
+    subst (λ xs. literals_size (map literal xs ++ literal n.last ∷ []) < 2 ^ 32) (sym c.deref.ensures.value)
+    (notation-size (head n.head) (type_text n.result) (map literal n.literals.items) (literal n.last) (option_map tail n.tail) c.requires.spelled)
+
+pub of-requires-clause-numerals : goal.of-requires-clause-numerals
+of-requires-clause-numerals c =
     let n = c.args.notation.now in
     subst (λ xs. Every IsNumeral (literal_levels (map literal xs ++ literal n.last ∷ []))) (sym c.deref.ensures.value)
     (notation-numerals (head n.head) (type_text n.result) (map literal n.literals.items) (literal n.last) (option_map tail n.tail) c.requires.spelled).0

@@ -39,8 +39,8 @@ returns-in_err-body-clause-judged c = λ vs ts t parts same tokens are.
     (λ ps cut. subst (λ x. OnFault halt (FailsFirst (retold (told l) (formula_checks (reads x) (of_sort (sort_number σ t)) (inner l) ps)))) scope
     (subst (λ s. OnFault halt (FailsFirst (retold (told l) (formula_checks (reads c.in_ok-scope.scope) (of_sort s) (inner l) ps)))) sort (c.in_err-body.ensures.judged ps cut))))
 
-pub has_free_variables-requires : goal.has_free_variables-requires
-has_free_variables-requires c =
+pub admits_free_variables-requires : goal.admits_free_variables-requires
+admits_free_variables-requires c =
     let r : Reader = record { env = c.args.self.now.env; table = c.args.self.now.notations; scope = c.in_ok-scope.scope } in
     record { sorted = (c.args.result_type.now.sort, body-sorted r c.requires.kept.coercions c.args.result_type.now.sort (inner (lexeme c.args.math)) (tree c.in_ok-body.body) c.in_ok-body.ensures.meant) }
 

@@ -23,17 +23,17 @@ returns-in_err-names c =
     subst (λ r. JudgesOrMem r (named_rules σ n vs ts)) (sym (p.1 ∙ ap Err p.2))
     (mem-before (are_others [] vs) (is_known σ.term_names n >> each_in_order (type_checks σ (names_of vs)) ts) halt c.in_err-names.ensures.judged)
 
-pub returns-in_err-check_known : goal.returns-in_err-check_known
-returns-in_err-check_known c =
+pub returns-in_err-check_known_term : goal.returns-in_err-check_known_term
+returns-in_err-check_known_term c =
     let σ = state c.args.self.now in
     let n = lexeme c.args.name in
     let vs = map variable c.args.variables.now in
     let ts = map (λ t. type_text t.ty.now) c.args.types.now in
-    let f = c.in_err-check_known.field-0.0 in
-    let p = err_from_is_err_and c.from_residual-in_err-check_known.result c.from_residual-in_err-check_known.ensures.1 in
+    let f = c.in_err-check_known_term.field-0.0 in
+    let p = err_from_is_err_and c.from_residual-in_err-check_known_term.result c.from_residual-in_err-check_known_term.ensures.1 in
     subst (λ r. JudgesOrMem r (named_rules σ n vs ts)) (sym (p.1 ∙ ap Err p.2))
     (fails-after (are_others [] vs) (is_known σ.term_names n >> each_in_order (type_checks σ (names_of vs)) ts) f c.in_ok-names.ensures.judged
-    (fails-before (is_known σ.term_names n) (each_in_order (type_checks σ (names_of vs)) ts) f c.in_err-check_known.ensures))
+    (fails-before (is_known σ.term_names n) (each_in_order (type_checks σ (names_of vs)) ts) f c.in_err-check_known_term.ensures))
 
 pub returns-in_err-check_types : goal.returns-in_err-check_types
 returns-in_err-check_types c =
@@ -45,7 +45,7 @@ returns-in_err-check_types c =
     let p = err_from_is_err_and c.from_residual-in_err-check_types.result c.from_residual-in_err-check_types.ensures.1 in
     subst (λ r. JudgesOrMem r (named_rules σ n vs ts)) (sym (p.1 ∙ ap Err p.2))
     (fails-after (are_others [] vs) (is_known σ.term_names n >> each_in_order (type_checks σ (names_of vs)) ts) f c.in_ok-names.ensures.judged
-    (fails-after (is_known σ.term_names n) (each_in_order (type_checks σ (names_of vs)) ts) f c.in_ok-check_known.ensures
+    (fails-after (is_known σ.term_names n) (each_in_order (type_checks σ (names_of vs)) ts) f c.in_ok-check_known_term.ensures
     (subst (λ ns. FailsFirst (each_in_order (type_checks σ ns) ts) f) c.in_ok-names.ensures.names c.in_err-check_types.ensures)))
 
 pub returns : goal.returns
@@ -55,5 +55,5 @@ returns c =
     let vs = map variable c.args.variables.now in
     let ts = map (λ t. type_text t.ty.now) c.args.types.now in
     all_hold-both (are_others [] vs) (is_known σ.term_names n >> each_in_order (type_checks σ (names_of vs)) ts) c.in_ok-names.ensures.judged
-    (all_hold-both (is_known σ.term_names n) (each_in_order (type_checks σ (names_of vs)) ts) c.in_ok-check_known.ensures
+    (all_hold-both (is_known σ.term_names n) (each_in_order (type_checks σ (names_of vs)) ts) c.in_ok-check_known_term.ensures
     (subst (λ ns. AllHold (each_in_order (type_checks σ ns) ts)) c.in_ok-names.ensures.names c.in_ok-check_types.ensures))

@@ -24,7 +24,7 @@ returns-in_err-check_parts-clause-judged c = λ tokens cut.
     let v = view (definition c.args.definition.now) in
     let p = err_from_is_err_and c.from_residual-in_err-check_parts.result c.from_residual-in_err-check_parts.ensures.1 in
     subst (λ r. JudgesOrMem r (statement_checks σ c.args.place (definition c.args.definition.now) tokens)) (sym (p.1 ∙ ap Err p.2))
-    (parts-halt σ c.args.place v.variables v.types v.result (new_name c.args.self.now.term_names (lexeme c.args.definition.now.head.name)) (body_rules σ c.args.place v.variables v.formulas tokens >> nothing)
+    (parts-halt σ c.args.place v.variables v.types v.result (new_name (state c.args.self.now).term_names (lexeme c.args.definition.now.head.name)) (body_rules σ c.args.place v.variables v.formulas tokens >> nothing)
     c.in_err-check_parts.field-0.0 c.requires.new (c.in_err-check_parts.ensures v.variables v.types v.result c.requires.parts))
 
 pub binders_of-requires-clause-few : goal.binders_of-requires-clause-few
@@ -68,7 +68,7 @@ returns-in_err-form-clause-judged c = λ tokens cut.
     let same = c.in_ok-result_type.ensures v.variables v.types v.result c.requires.parts in
     let p = err_from_is_err_and c.from_residual-in_err-form.result c.from_residual-in_err-form.ensures.1 in
     subst (λ r. JudgesOrMem r (statement_checks σ c.args.place (definition c.args.definition.now) tokens)) (sym (p.1 ∙ ap Err p.2))
-    (rest-halt σ c.args.place v.variables v.types v.result (new_name c.args.self.now.term_names (lexeme c.args.definition.now.head.name)) (body_rules σ c.args.place v.variables v.formulas tokens >> nothing)
+    (rest-halt σ c.args.place v.variables v.types v.result (new_name (state c.args.self.now).term_names (lexeme c.args.definition.now.head.name)) (body_rules σ c.args.place v.variables v.formulas tokens >> nothing)
     halt c.requires.new (c.in_ok-check_parts.ensures v.variables v.types v.result c.requires.parts)
     (mem-before (body_rules σ c.args.place v.variables v.formulas tokens) nothing halt
     (c.in_err-form.ensures.judged v.variables v.types (type_text c.args.definition.now.result) c.requires.parts same tokens cut)))
@@ -78,7 +78,7 @@ returns-clause-judged c = λ tokens cut.
     let σ = state c.args.self.now in
     let v = view (definition c.args.definition.now) in
     let same = c.in_ok-result_type.ensures v.variables v.types v.result c.requires.parts in
-    parts-hold σ c.args.place v.variables v.types v.result (new_name c.args.self.now.term_names (lexeme c.args.definition.now.head.name)) (body_rules σ c.args.place v.variables v.formulas tokens >> nothing)
+    parts-hold σ c.args.place v.variables v.types v.result (new_name (state c.args.self.now).term_names (lexeme c.args.definition.now.head.name)) (body_rules σ c.args.place v.variables v.formulas tokens >> nothing)
     c.requires.new (c.in_ok-check_parts.ensures v.variables v.types v.result c.requires.parts)
     (all_hold-both (body_rules σ c.args.place v.variables v.formulas tokens) nothing
     (c.in_ok-form.ensures.judged v.variables v.types (type_text c.args.definition.now.result) c.requires.parts same tokens cut) tt)

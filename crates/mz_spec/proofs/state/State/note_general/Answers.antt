@@ -1,11 +1,11 @@
-use Rattle.std.proofs.Common.{arith, ◌++◌, ◌∷◌, [], map, ap, subst, sym}
+use Rattle.std.proofs.Common.{arith, ◌++◌, ◌∷◌, [], map, ap, refl, subst, sym}
 use Rattle.std.specs.Prelude.{option_map}
 use Rattle.mz_notation.specs.Forms.{General}
 use Rattle.mz_grammar.specs.Code.{head, literal, notation, tail, type_text}
 use Rattle.mz_spec.specs.Entries.{state}
 use Rattle.mz_spec.specs.Forms.{AreLiterals}
 use Rattle.mz_variables.specs.View.{view}
-use Rattle.mz_spec.proofs.Judged.{few-sorts, few-terms, few-params}
+use Rattle.mz_spec.proofs.Judged.{few-sorts, few-params}
 use Rattle.mz_spec.proofs.Naming.{variables-named}
 use Rattle.mz_spec.proofs.Noted.{parts-variables, general-answer, general-after}
 use Rattle.mz_spec.proofs.state.State.note_general.Goals as goal
@@ -28,9 +28,6 @@ pub result_of-requires-clause-small : goal.result_of-requires-clause-small
 result_of-requires-clause-small c =
     let few = few-params (notation c.args.notation.now) c.args.parts.now c.requires.spelled c.requires.parts in
     omega (arith, few)
-
-pub term_number-term-requires : goal.term_number-term-requires
-term_number-term-requires c = record { few = few-terms (state c.args.self.now) c.requires.kept c.requires.few }
 
 pub returns-clause-answer : goal.returns-clause-answer
 returns-clause-answer c =
@@ -58,4 +55,4 @@ returns-clause-after c =
     let are : AreLiterals c.deref.result.now all c.deref-2.result.now =
     subst (λ x. AreLiterals x all c.deref-2.result.now) (sym c.deref.ensures.value) (subst (λ y. AreLiterals c.args.literals.now.text.items all y) (sym c.deref-2.ensures.value) c.requires.literals) in
     general-after σ (head n.head) (type_text n.result) (map literal n.literals.items) (literal n.last) (option_map tail n.tail) g
-    (c.term_number-term.ensures, ap (λ x. x.names) scope, ap (λ x. x.binders) scope, result_type, are, c.requires.tail) c.add_general.result c.add_general.new.self c.add_general.ensures.ok
+    (c.term_number-term.ensures, ap (λ x. x.names) scope, ap (λ x. x.binders) scope, result_type, are, c.requires.tail) c.add_general.result c.add_general.new.self refl c.add_general.ensures.ok

@@ -1,13 +1,24 @@
-use Rattle.std.proofs.Common.{arith, subst}
-use Rattle.std.specs.Prelude.{Contains}
+use Rattle.std.proofs.Common.{◌∙◌, ◌++◌, ◌∷◌, [], length, ap, sym, refl, arith}
+use Rattle.mz_grammar.specs.Code.{lexeme}
+use Rattle.mz_logic.specs.DeclView.{term_of}
 use Rattle.mz_spec.specs.Entries.{state}
 use Rattle.mz_spec.proofs.Judged.{few-terms}
-use Rattle.mz_spec.proofs.Keeping.{numbered-new}
+use Rattle.mz_spec.proofs.NamesAlone.{names-many, new-apart, term-pushed}
 use Rattle.mz_spec.proofs.state.State.push_term.Goals as goal
 
 pub overflow_cast-number : goal.overflow_cast-number
-overflow_cast-number c = let few = few-terms (state c.args.self.now) c.requires.kept c.requires.few in let same = c.len-number.ensures in omega (arith, few, same)
+overflow_cast-number c =
+    let few = few-terms (state c.args.self.now) c.requires.kept c.requires.few in
+    let many = names-many c.args.self.now.notations.names in
+    let all = ap length c.names.ensures in
+    omega (arith, few, many, all)
 
 pub add_term_name-requires-clause-other : goal.add_term_name-requires-clause-other
-add_term_name-requires-clause-other c = λ n has same.
-    numbered-new 0 c.args.self.now.term_names c.args.name.bytes.now c.requires.new n (subst (λ ns. Contains ns n) c.requires.kept.names has) same
+add_term_name-requires-clause-other c = λ n has same. new-apart c.args.self.now.notations.names c.args.name.bytes.now c.requires.new n has same
+
+pub returns-clause-with : goal.returns-clause-with
+returns-clause-with c =
+    let σ = state c.args.self.now in
+    term-pushed σ c.args.place (lexeme c.args.name) (term_of c.args.term) (length c.names.result.now) c.add_term_name.new.self c.push_decl.new.self c.push.new.self.items
+    refl (ap length c.names.ensures ∙ sym (names-many σ.table.names)) c.in-Ok.ensures.ok c.in_ok-push_decl.ensures.ok
+    (c.in_ok-push.ensures.items ∙ ap (λ m. σ.marks ++ m ∷ []) c.mark_of.ensures)

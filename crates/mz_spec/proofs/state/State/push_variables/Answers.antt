@@ -1,7 +1,7 @@
 use Rattle.std.proofs.Common.{◌≡◌, ◌≢◌, ◌⊎◌, ◌∙◌, ◌++◌, ◌∷◌, ◌+◌, [], length, map, drop, ap, sym, subst, arith, length-append, Contains}
 use Rattle.std.proofs.lemmas.List.{length-map}
 use Rattle.std.specs.Prelude.{IsTrue}
-use Rattle.mz_lex.specs.Kinds.{is_name}
+use Rattle.mz_names.specs.Identifiers.{is_name}
 use Rattle.mz_notation.specs.Kept.{AreVariables}
 use Rattle.mz_variables.specs.Code.{variable}
 use Rattle.mz_spec.specs.State.{variable_bytes}

@@ -15,7 +15,7 @@ returns-in_err-check_parts-clause-judged c = λ tokens cut.
     let v = view (term c.args.term.now) in
     let p = err_from_is_err_and c.from_residual-in_err-check_parts.result c.from_residual-in_err-check_parts.ensures.1 in
     subst (λ r. JudgesOrMem r (statement_checks σ c.args.place (term c.args.term.now) tokens)) (sym (p.1 ∙ ap Err p.2))
-    (parts-halt σ c.args.place v.variables v.types v.result (new_name c.args.self.now.term_names (lexeme c.args.term.now.head.name)) nothing c.in_err-check_parts.field-0.0 c.requires.new
+    (parts-halt σ c.args.place v.variables v.types v.result (new_name (state c.args.self.now).term_names (lexeme c.args.term.now.head.name)) nothing c.in_err-check_parts.field-0.0 c.requires.new
     (c.in_err-check_parts.ensures v.variables v.types v.result c.requires.parts))
 
 pub binders_of-requires-clause-few : goal.binders_of-requires-clause-few
@@ -37,5 +37,5 @@ pub returns-clause-judged : goal.returns-clause-judged
 returns-clause-judged c = λ tokens cut.
     let σ = state c.args.self.now in
     let v = view (term c.args.term.now) in
-    parts-hold σ c.args.place v.variables v.types v.result (new_name c.args.self.now.term_names (lexeme c.args.term.now.head.name)) nothing c.requires.new
+    parts-hold σ c.args.place v.variables v.types v.result (new_name (state c.args.self.now).term_names (lexeme c.args.term.now.head.name)) nothing c.requires.new
     (c.in_ok-check_parts.ensures v.variables v.types v.result c.requires.parts) tt

@@ -1,4 +1,4 @@
-use Rattle.std.proofs.Common.{true≢false, refl, sym, ap, ◌∙◌, subst, length, inl}
+use Rattle.std.proofs.Common.{true≢false, sym, ap, ◌∙◌, subst, length, inl}
 use Rattle.mz_checks.specs.Checks.{Judges, AllHold}
 use Rattle.mz_sexpr.specs.Number.{first}
 use Rattle.mz_sexpr.specs.Node.{parts}
@@ -9,6 +9,7 @@ use Rattle.mz_logic.specs.Sorts.{Fits}
 use Rattle.mz_logic.specs.Variables.{Apart}
 use Rattle.mz_logic.specs.View.{tree}
 use Rattle.mz_forms.specs.Stops.{Stops}
+use Rattle.mz_forms.specs.declared.fault.Stop.TheVariants.{Mem}
 use Rattle.mz_typing.specs.Claims.{claim_trees}
 use Rattle.mz_typing.specs.Parts.{part}
 use Rattle.mz_typing.specs.Rules.{operand_rules, citation_rules, subproof_rules}
@@ -58,19 +59,24 @@ are_apart-requires c =
     (subst (λ ps. Judges c.check_operands.result (operand_rules sigs ctx es (parts (part (parts n) 1)) ps)) c.as_slice-params.ensures
     (subst (λ ns. Judges c.check_operands.result (operand_rules sigs ctx es ns c.as_slice-params.result.now)) c.parts_of.ensures c.check_operands.ensures))))
 
-pub returns-then-not-are_apart : goal.returns-then-not-are_apart
-returns-then-not-are_apart c =
+pub returns-in_err-apart : goal.returns-in_err-apart
+returns-in_err-apart c =
+    stop_proved (citation_rules (signatures c.args.self.now.env.now) c.args.self.now.ctx.now (assertion_view c.args.thm.now) c.args.es.now (claim_trees c.args.claims.now) (first c.args.nodes.now)) (instance c.args.es.now (tree c.args.thm.now.conclusion))
+    c.from_residual-in_err-apart.result Mem c.from_residual-in_err-apart.ensures.1 tt
+
+pub returns-then-not-apart : goal.returns-then-not-apart
+returns-then-not-apart c =
     let sigs = signatures c.args.self.now.env.now in
     let ctx = c.args.self.now.ctx.now in
     let a = assertion_view c.args.thm.now in
     let es = c.args.es.now in
     let n = first c.args.nodes.now in
     step.apart_fails sigs ctx a es (claim_trees c.args.claims.now) n
-    (sym c.len.ensures ∙ c.if-len-params.false ∙ ap length c.as_slice-params.ensures, length-claims c.args.claims.now ∙ c.if-claims-len.false ∙ c.len-else-len-params.ensures) c.fault-then-not-are_apart.result
+    (sym c.len.ensures ∙ c.if-len-params.false ∙ ap length c.as_slice-params.ensures, length-claims c.args.claims.now ∙ c.if-claims-len.false ∙ c.len-else-len-params.ensures) c.fault-then-not-apart.result
     (told_holds (operand_rules sigs ctx es (parts (part (parts n) 1)) a.params) c.check_operands.result c.refuse.result c.in_ok-refuse.field-0 c.refuse.ensures c.in_ok-refuse.was
     (subst (λ ps. Judges c.check_operands.result (operand_rules sigs ctx es (parts (part (parts n) 1)) ps)) c.as_slice-params.ensures
     (subst (λ ns. Judges c.check_operands.result (operand_rules sigs ctx es ns c.as_slice-params.result.now)) c.parts_of.ensures c.check_operands.ensures)))
-    c.fault-then-not-are_apart.ensures (λ apart. true≢false (sym (c.if-not-are_apart.ensures.1 (subst (λ ps. Apart ctx es ps) (sym c.as_slice-params.ensures) apart))))
+    c.fault-then-not-apart.ensures (λ apart. true≢false (sym (c.in_ok-apart.ensures.1 (subst (λ ps. Apart ctx es ps) (sym c.as_slice-params.ensures) apart)) ∙ c.if-not-apart.true))
 
 pub returns-in_err-check_claims : goal.returns-in_err-check_claims
 returns-in_err-check_claims c =
@@ -86,7 +92,7 @@ returns-in_err-check_claims c =
     (told_holds (operand_rules sigs ctx es (parts (part (parts n) 1)) a.params) c.check_operands.result c.refuse.result c.in_ok-refuse.field-0 c.refuse.ensures c.in_ok-refuse.was
     (subst (λ ps. Judges c.check_operands.result (operand_rules sigs ctx es (parts (part (parts n) 1)) ps)) c.as_slice-params.ensures
     (subst (λ ns. Judges c.check_operands.result (operand_rules sigs ctx es ns c.as_slice-params.result.now)) c.parts_of.ensures c.check_operands.ensures)))
-    (subst (λ ps. Apart ctx es ps) c.as_slice-params.ensures (c.if-not-are_apart.ensures.0 refl))
+    (subst (λ ps. Apart ctx es ps) c.as_slice-params.ensures (c.in_ok-apart.ensures.0 c.if-not-apart.false))
     (subst (λ ns. Stops s (subproof_rules (claim_trees c.args.claims.now) ns (instances es a.hyps))) c.parts_after.ensures c.in_err-check_claims.ensures))
 
 pub returns : goal.returns
@@ -101,7 +107,7 @@ returns c =
           (told_holds (operand_rules sigs ctx es (parts (part (parts n) 1)) a.params) c.check_operands.result c.refuse.result c.in_ok-refuse.field-0 c.refuse.ensures c.in_ok-refuse.was
           (subst (λ ps. Judges c.check_operands.result (operand_rules sigs ctx es (parts (part (parts n) 1)) ps)) c.as_slice-params.ensures
           (subst (λ ns. Judges c.check_operands.result (operand_rules sigs ctx es ns c.as_slice-params.result.now)) c.parts_of.ensures c.check_operands.ensures)))
-          (subst (λ ps. Apart ctx es ps) c.as_slice-params.ensures (c.if-not-are_apart.ensures.0 refl))
+          (subst (λ ps. Apart ctx es ps) c.as_slice-params.ensures (c.in_ok-apart.ensures.0 c.if-not-apart.false))
           (subst (λ ns. AllHold (subproof_rules (claim_trees c.args.claims.now) ns (instances es a.hyps))) c.parts_after.ensures c.in_ok-check_claims.ensures),
       c.instance.ensures,
     )

@@ -1,13 +1,12 @@
-use Rattle.std.proofs.Common.{◌≡◌, drop, length}
+use Rattle.std.proofs.Common.{drop}
 use Rattle.mz_checks.proofs.Offered.{Decides}
 use Rattle.mz_logic.specs.Tree.{instances}
 use Rattle.mz_logic.specs.View.{trees}
+use Rattle.mz_logic.proofs.Offered.{exprs_of}
 use Rattle.mz_typing.specs.Claims.{claim_trees}
 use Rattle.mz_typing.specs.Rules.{subproof_rules}
 use Rattle.mz_typing.proofs.convs.Checker.check_claims.Given as goal
 
 abbrev pub invariant-loop-i : goal.invariant-loop-i
-invariant-loop-i l = record {
-  decides : Decides (subproof_rules (claim_trees (drop l.i l.claims)) l.left (instances l.es (trees (drop l.i l.wanted)))) (subproof_rules (claim_trees l.claims) l.nodes (instances l.es l.hyps));
-  many : length l.claims ≡ length l.wanted;
-}
+invariant-loop-i l =
+    Decides (subproof_rules (claim_trees (drop l.i l.claims)) l.left (instances l.es (trees (drop l.i (exprs_of l.hyps))))) (subproof_rules (claim_trees l.claims) l.nodes (instances l.es l.hyps))

@@ -6,6 +6,7 @@ use Rattle.mz_logic.specs.Tree.{instance, followed_by, variables}
 use Rattle.mz_logic.specs.Declaration.{signatures, dummies_of}
 use Rattle.mz_logic.specs.DeclView.{term_view}
 use Rattle.mz_forms.specs.ConvView.{conversion}
+use Rattle.mz_forms.specs.declared.fault.Stop.TheVariants.{Mem}
 use Rattle.mz_typing.specs.Parts.{part}
 use Rattle.mz_typing.specs.Rules.{operand_rules, variable_rules, unfold_rules}
 use Rattle.mz_typing.specs.Sides.{left}
@@ -48,23 +49,13 @@ returns-in_err-refuse-2 c =
     (subst (λ ps. Judges c.check_variables.result (variable_rules ctx c.args.vars.now (parts (part (parts n) 3)) ps)) c.dummies-dummies.ensures
     (subst (λ ns. Judges c.check_variables.result (variable_rules ctx c.args.vars.now ns c.dummies-dummies.result.now)) c.parts_of-2.ensures c.check_variables.ensures))))
 
-pub are_new-requires : goal.are_new-requires
-are_new-requires c =
-    let sigs = signatures c.args.self.now.env.now in
-    let ctx = c.args.self.now.ctx.now in
-    let d = term_view c.args.term.now in
-    let es = c.args.es.now in
-    let n = first c.args.nodes.now in
-    step.operands_in_range sigs ctx d es c.args.vars.now (left (conversion c.args.conv.now)) n
-    (step.defined_by d.form _ c.in-Some.ensures)
-    (sym c.len.ensures ∙ c.if-len-params.false ∙ ap length c.as_slice-params.ensures, ap length (sym c.as_slice.ensures) ∙ c.if-as_slice-dummies.false ∙ ap length c.dummies-dummies.ensures)
-    c.requires.there c.requires.sorted
-    (told_holds (operand_rules sigs ctx es (parts (part (parts n) 2)) d.signature.params) c.check_operands.result c.refuse.result c.in_ok-refuse.field-0 c.refuse.ensures c.in_ok-refuse.was
-    (subst (λ ps. Judges c.check_operands.result (operand_rules sigs ctx es (parts (part (parts n) 2)) ps)) c.as_slice-params.ensures
-    (subst (λ ns. Judges c.check_operands.result (operand_rules sigs ctx es ns c.as_slice-params.result.now)) c.parts_of.ensures c.check_operands.ensures)))
+pub returns-in_err-fresh : goal.returns-in_err-fresh
+returns-in_err-fresh c =
+    stop_handed_on (unfold_rules (signatures c.args.self.now.env.now) c.args.self.now.ctx.now (term_view c.args.term.now) c.args.es.now c.args.vars.now (left (conversion c.args.conv.now)) (first c.args.nodes.now))
+    c.from_residual-in_err-fresh.result Mem c.from_residual-in_err-fresh.ensures.1 tt
 
-pub returns-then-not-are_new : goal.returns-then-not-are_new
-returns-then-not-are_new c =
+pub returns-then-not-fresh : goal.returns-then-not-fresh
+returns-then-not-fresh c =
     let sigs = signatures c.args.self.now.env.now in
     let ctx = c.args.self.now.ctx.now in
     let d = term_view c.args.term.now in
@@ -73,14 +64,14 @@ returns-then-not-are_new c =
     step.disjoint_fails sigs ctx d es c.args.vars.now (left (conversion c.args.conv.now)) n
     (step.defined_by d.form _ c.in-Some.ensures)
     (sym c.len.ensures ∙ c.if-len-params.false ∙ ap length c.as_slice-params.ensures, ap length (sym c.as_slice.ensures) ∙ c.if-as_slice-dummies.false ∙ ap length c.dummies-dummies.ensures)
-    c.fault-then-not-are_new.result
+    c.fault-then-not-fresh.result
     (told_holds (operand_rules sigs ctx es (parts (part (parts n) 2)) d.signature.params) c.check_operands.result c.refuse.result c.in_ok-refuse.field-0 c.refuse.ensures c.in_ok-refuse.was
     (subst (λ ps. Judges c.check_operands.result (operand_rules sigs ctx es (parts (part (parts n) 2)) ps)) c.as_slice-params.ensures
     (subst (λ ns. Judges c.check_operands.result (operand_rules sigs ctx es ns c.as_slice-params.result.now)) c.parts_of.ensures c.check_operands.ensures)))
     (told_holds (variable_rules ctx c.args.vars.now (parts (part (parts n) 3)) (dummies_of d.form)) c.check_variables.result c.refuse-2.result c.in_ok-refuse-2.field-0 c.refuse-2.ensures c.in_ok-refuse-2.was
     (subst (λ ps. Judges c.check_variables.result (variable_rules ctx c.args.vars.now (parts (part (parts n) 3)) ps)) c.dummies-dummies.ensures
     (subst (λ ns. Judges c.check_variables.result (variable_rules ctx c.args.vars.now ns c.dummies-dummies.result.now)) c.parts_of-2.ensures c.check_variables.ensures)))
-    c.fault-then-not-are_new.ensures (λ new. true≢false (sym (c.if-not-are_new.ensures.1 new)))
+    c.fault-then-not-fresh.ensures (λ new. true≢false (sym (c.in_ok-fresh.ensures.1 new) ∙ c.if-not-fresh.true))
 
 pub returns-then-goes_from_body : goal.returns-then-goes_from_body
 returns-then-goes_from_body c =
@@ -98,7 +89,7 @@ returns-then-goes_from_body c =
     (told_holds (variable_rules ctx c.args.vars.now (parts (part (parts n) 3)) (dummies_of d.form)) c.check_variables.result c.refuse-2.result c.in_ok-refuse-2.field-0 c.refuse-2.ensures c.in_ok-refuse-2.was
     (subst (λ ps. Judges c.check_variables.result (variable_rules ctx c.args.vars.now (parts (part (parts n) 3)) ps)) c.dummies-dummies.ensures
     (subst (λ ns. Judges c.check_variables.result (variable_rules ctx c.args.vars.now ns c.dummies-dummies.result.now)) c.parts_of-2.ensures c.check_variables.ensures)))
-    (c.if-not-are_new.ensures.0 refl) (c.if-goes_from_body.ensures.0 refl ∙ ap (instance (followed_by es (variables c.args.vars.now))) (sym (step.body_by d.form _ c.in-Some.ensures)))
+    (c.in_ok-fresh.ensures.0 c.if-not-fresh.false) (c.if-goes_from_body.ensures.0 refl ∙ ap (instance (followed_by es (variables c.args.vars.now))) (sym (step.body_by d.form _ c.in-Some.ensures)))
 
 pub returns-else-goes_from_body : goal.returns-else-goes_from_body
 returns-else-goes_from_body c =
@@ -117,5 +108,5 @@ returns-else-goes_from_body c =
     (told_holds (variable_rules ctx c.args.vars.now (parts (part (parts n) 3)) (dummies_of d.form)) c.check_variables.result c.refuse-2.result c.in_ok-refuse-2.field-0 c.refuse-2.ensures c.in_ok-refuse-2.was
     (subst (λ ps. Judges c.check_variables.result (variable_rules ctx c.args.vars.now (parts (part (parts n) 3)) ps)) c.dummies-dummies.ensures
     (subst (λ ns. Judges c.check_variables.result (variable_rules ctx c.args.vars.now ns c.dummies-dummies.result.now)) c.parts_of-2.ensures c.check_variables.ensures)))
-    (c.if-not-are_new.ensures.0 refl) c.fault-else-goes_from_body.ensures
+    (c.in_ok-fresh.ensures.0 c.if-not-fresh.false) c.fault-else-goes_from_body.ensures
     (λ is. true≢false (sym (c.if-goes_from_body.ensures.1 (is ∙ ap (instance (followed_by es (variables c.args.vars.now))) (step.body_by d.form _ c.in-Some.ensures)))))

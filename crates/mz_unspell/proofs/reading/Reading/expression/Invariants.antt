@@ -2,7 +2,7 @@ use Rattle.std.proofs.Common.{◌≤◌, ◌+◌, ◌*◌, length}
 use Rattle.mz_phrasing.specs.Naming.{vocabulary_by}
 use Rattle.mz_unspell.specs.Frames.{Target}
 use Rattle.mz_unspell.specs.Reading.{IsGoing, Over}
-use Rattle.mz_unspell.specs.Rows.{Grows}
+use Rattle.mz_stating.specs.ByNumber.{Grows}
 use Rattle.mz_unspell.proofs.reading.Reading.expression.Given as goal
 
 abbrev pub invariant-pending : goal.invariant-pending

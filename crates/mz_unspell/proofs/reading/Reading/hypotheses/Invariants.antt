@@ -4,7 +4,7 @@ use Rattle.mz_phrasing.specs.Naming.{vocabulary_by}
 use Rattle.mz_unification.specs.Spells.{Marks, SpellsHyps}
 use Rattle.mz_unification.specs.Streams.{UnifyCommand}
 use Rattle.mz_unspell.specs.Reading.{AreRead, IsBetween, Over}
-use Rattle.mz_unspell.specs.Rows.{Grows}
+use Rattle.mz_stating.specs.ByNumber.{Grows}
 use Rattle.mz_unspell.proofs.reading.Reading.hypotheses.Given as goal
 
 abbrev pub invariant-hyps : goal.invariant-hyps

@@ -1,0 +1,12 @@
+pub mod Standards
+pub mod Spelling
+pub mod Checking
+pub mod Chains
+pub mod Good
+pub mod FileRun
+pub mod Gapped
+pub mod Laws
+pub mod WholeLaws
+pub mod Files
+pub mod WholeExamples
+pub mod RefusalLine

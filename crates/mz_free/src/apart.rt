@@ -1,0 +1,134 @@
+// Whether operands are apart, in one walk over each of them.
+ghost use Rattle.std.specs.Prelude.{◌≡◌, ◌↔◌, ◌⊎◌, ◌<◌, [], ℕ, IsTrue, IfOk, OnOk, All, Contains, Some, slice_get, true, length};
+ghost use Rattle.mz_logic.specs.Declaration.{signatures};
+ghost use Rattle.mz_logic.specs.Sorts.{Fits};
+ghost use Rattle.mz_logic.specs.Tree.{operand, var};
+ghost use Rattle.mz_logic.specs.Variables.{Apart, InV, IsBoundAt, IsOperandAt};
+ghost use Rattle.mz_logic.specs.declared.binder.Binder.{Binder as Param};
+
+use crate::covered::Covered;
+use crate::free::{cover_operands_at, variable_at};
+use crate::named::names_other;
+use mz_logic::{Binder, Context, Env, Exprs, are_apart as are_apart_by_pairs};
+use std::alloc::{AllocError, Global};
+
+/// Whether operands that fit the parameters are apart: where the operand of a bound parameter is in
+/// V of another operand, the other one's parameter depends on it.
+///
+/// # Errors
+///
+/// Where there is no memory.
+pub fn are_apart(
+    alloc: Global,
+    env: &Env,
+    ctx: &Context,
+    es: &Exprs,
+    params: &[Binder],
+) -> Result<bool, AllocError>
+    requires { Fits (signatures env.now) ctx.now es.now params.now }
+    ensures { IfOk result (λ apart. IsTrue apart ↔ Apart ctx.now es.now params.now) }
+{
+    let mut owned = Covered::new(alloc);
+    let single = own_all(params, es, &mut owned)?;
+    if single {
+        return all_name_own(alloc, ctx, es, params, &owned);
+    }
+    if stand_alone(params) {
+        return Ok(false);
+    }
+    Ok(are_apart_by_pairs(env, ctx, es, params))
+}
+
+/// Gathers the operands of the bound parameters. Whether no two of these have the same one.
+fn own_all(params: &[Binder], es: &Exprs, owned: &mut Covered) -> Result<bool, AllocError>
+    requires { owned.old ≡ [] }
+    ensures has { IfOk result (λ single. single ≡ true → (x : ℕ) → Contains owned.new x ↔ ((j : ℕ) × IsBoundAt params.now j × (operand es.now j ≡ var x))) }
+    ensures single { IfOk result (λ single. IsTrue single ↔ ((j k x : ℕ) → IsBoundAt params.now j → operand es.now j ≡ var x → IsBoundAt params.now k → operand es.now k ≡ var x → j ≡ k)) }
+{
+    for j in 0..params.len() {
+        let fresh = own(params, es, j, owned)?;
+        if !fresh {
+            return Ok(false);
+        }
+    }
+    Ok(true)
+}
+
+/// Adds the operand of the j-th parameter, if this one is bound. Whether it wasn't there.
+fn own(params: &[Binder], es: &Exprs, j: usize, owned: &mut Covered) -> Result<bool, AllocError>
+    requires { j < length params.now }
+    ensures has { OnOk result ((x : ℕ) → Contains owned.new x ↔ (Contains owned.old x ⊎ (IsBoundAt params.now j × (operand es.now j ≡ var x)))) }
+    ensures fresh { IfOk result (λ fresh. IsTrue fresh ↔ ((x : ℕ) → IsBoundAt params.now j → operand es.now j ≡ var x → Contains owned.old x → ⊥)) }
+{
+    if !params[j].bound {
+        return Ok(true);
+    }
+    match variable_at(es, j) {
+        None => Ok(true),
+        Some(x) => {
+            let fresh = !owned.has(x);
+            owned.add(x)?;
+            Ok(fresh)
+        }
+    }
+}
+
+/// Whether no bound parameter depends on others, as in each legal statement.
+fn stand_alone(params: &[Binder]) -> bool
+    ensures { IsTrue result ↔ All (λ (p : Param). p.bound ≡ true → p.deps ≡ []) params.now }
+{
+    for param in params {
+        if !stands_alone(param) {
+            return false;
+        }
+    }
+    true
+}
+
+/// The same of one parameter.
+fn stands_alone(param: &Binder) -> bool
+    ensures { IsTrue result ↔ (param.now.bound ≡ true → param.now.deps ≡ []) }
+{
+    !param.bound || param.deps.as_slice().is_empty()
+}
+
+/// Whether each operand names, of the variables that bound parameters have as operands, its own
+/// alone: what it is itself, and the operands of those on which its parameter depends.
+fn all_name_own(
+    alloc: Global,
+    ctx: &Context,
+    es: &Exprs,
+    params: &[Binder],
+    owned: &Covered,
+) -> Result<bool, AllocError>
+    ensures { IfOk result (λ own. IsTrue own ↔ ((i x : ℕ) (p : Param) → slice_get params.now i ≡ Some p → InV ctx.now x (operand es.now i) → Contains owned.now x → IsOperandAt params.now es.now p.deps x ⊎ (IsBoundAt params.now i × (operand es.now i ≡ var x)))) }
+{
+    for i in 0..params.len() {
+        let alone = names_own(alloc, ctx, es, params, i, owned)?;
+        if !alone {
+            return Ok(false);
+        }
+    }
+    Ok(true)
+}
+
+/// The same of the i-th operand.
+fn names_own(
+    alloc: Global,
+    ctx: &Context,
+    es: &Exprs,
+    params: &[Binder],
+    i: usize,
+    owned: &Covered,
+) -> Result<bool, AllocError>
+    requires { i < length params.now }
+    ensures { IfOk result (λ own. IsTrue own ↔ ((x : ℕ) (p : Param) → slice_get params.now i ≡ Some p → InV ctx.now x (operand es.now i) → Contains owned.now x → IsOperandAt params.now es.now p.deps x ⊎ (IsBoundAt params.now i × (operand es.now i ≡ var x)))) }
+{
+    let mut its = Covered::new(alloc);
+    cover_operands_at(params, es, &params[i].deps, &mut its)?;
+    own(params, es, i, &mut its)?;
+    match es.get(i) {
+        None => Ok(true),
+        Some(e) => Ok(!names_other(ctx, e, owned, &its)),
+    }
+}

@@ -1,0 +1,81 @@
+// Whether expressions name one of many variables, in one walk over them.
+ghost use Rattle.std.specs.Prelude.{◌≡◌, ◌↔◌, ◌⊎◌, ℕ, IsTrue, Contains, true, false};
+ghost use Rattle.mz_logic.specs.Tree.{var};
+ghost use Rattle.mz_logic.specs.Variables.{InV, InSomeV};
+ghost use Rattle.mz_logic.specs.View.{tree};
+
+use crate::covered::Covered;
+use mz_logic::{Binder, Context, Deps, Expr, Exprs};
+use std::alloc::Global;
+
+/// Whether one of the variables is in V of one of the expressions.
+pub fn some_name_any(alloc: Global, ctx: &Context, es: &Exprs, variables: &Covered) -> bool
+    ensures { IsTrue result ↔ ((x : ℕ) × Contains variables.now x × InSomeV ctx.now x es.now) }
+{
+    let own = Covered::new(alloc);
+    some_name_other(ctx, es, variables, &own)
+}
+
+/// Whether one of the variables, but for those that are `own`, is in V of one of the expressions.
+#[cycle(names_other)]
+fn some_name_other(ctx: &Context, es: &Exprs, variables: &Covered, own: &Covered) -> bool
+    ensures { IsTrue result ↔ ((x : ℕ) × (Contains variables.now x × (Contains own.now x → ⊥)) × InSomeV ctx.now x es.now) }
+{
+    for e in es.as_slice() {
+        if names_other(ctx, e, variables, own) {
+            return true;
+        }
+    }
+    false
+}
+
+/// The same of one expression.
+#[cycle(names_other)]
+pub(crate) fn names_other(ctx: &Context, expr: &Expr, variables: &Covered, own: &Covered) -> bool
+    ensures { IsTrue result ↔ ((x : ℕ) × (Contains variables.now x × (Contains own.now x → ⊥)) × InV ctx.now x (tree expr.now)) }
+{
+    match expr {
+        Expr::Var(y) => variable_names_other(ctx, *y, variables, own),
+        Expr::App(_, es) => some_name_other(ctx, es, variables, own),
+    }
+}
+
+/// The same of the variable `y`.
+fn variable_names_other(ctx: &Context, y: u32, variables: &Covered, own: &Covered) -> bool
+    ensures { IsTrue result ↔ ((x : ℕ) × (Contains variables.now x × (Contains own.now x → ⊥)) × InV ctx.now x (var y)) }
+{
+    match ctx.get(y) {
+        None => false,
+        Some(binder) => binder_names_other(binder, y, variables, own),
+    }
+}
+
+/// The same of the variable `y` with this binder.
+fn binder_names_other(binder: &Binder, y: u32, variables: &Covered, own: &Covered) -> bool
+    ensures { IsTrue result ↔ ((x : ℕ) × (Contains variables.now x × (Contains own.now x → ⊥)) × (((binder.now.bound ≡ true) × (x ≡ y)) ⊎ ((binder.now.bound ≡ false) × Contains binder.now.deps x))) }
+{
+    if binder.bound {
+        is_other(y, variables, own)
+    } else {
+        has_other(&binder.deps, variables, own)
+    }
+}
+
+/// Whether one of the variables, but for those that are `own`, is at one of the places.
+fn has_other(places: &Deps, variables: &Covered, own: &Covered) -> bool
+    ensures { IsTrue result ↔ ((x : ℕ) × (Contains variables.now x × (Contains own.now x → ⊥)) × Contains places.now x) }
+{
+    for place in places.as_slice() {
+        if is_other(*place, variables, own) {
+            return true;
+        }
+    }
+    false
+}
+
+/// Whether this is one of the variables, and none that is `own`.
+fn is_other(x: u32, variables: &Covered, own: &Covered) -> bool
+    ensures { IsTrue result ↔ (Contains variables.now x × (Contains own.now x → ⊥)) }
+{
+    variables.has(x) && !own.has(x)
+}

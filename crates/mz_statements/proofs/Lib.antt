@@ -1,0 +1,4 @@
+pub mod HoldStatements
+pub mod HypLists
+pub mod StatementDispatch
+pub mod Offered

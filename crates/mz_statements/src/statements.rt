@@ -1,0 +1,465 @@
+//! Reading a statement.
+ghost use Rattle.std.specs.Prelude.{◌≡◌, ◌<◌, ◌^◌, [], Bool, IfOk, IfErr};
+ghost use Rattle.mz_logic.specs.View.{tree};
+ghost use Rattle.mz_sexpr.specs.Node.{place};
+ghost use Rattle.mz_sexpr.specs.Number.{node_count, node_at};
+ghost use Rattle.mz_forms.specs.Expressions.{IsExpr};
+ghost use Rattle.mz_forms.specs.Proofs.{IsProof};
+ghost use Rattle.mz_forms.specs.Cursor.{nodes_from, IsThere, node_size, nodes_size};
+ghost use Rattle.mz_forms.specs.Name.{scope_of};
+ghost use Rattle.mz_statements.specs.Statements.{no_modifiers, AreModifiers, IsHyp, AreNamedHyps, IsDeclared, IsLocal, IsStatement, sort_kind, term_kind, axiom_kind, def_kind, theorem_kind};
+ghost use Rattle.mz_forms.specs.Order.{expr_asked, proof_asked};
+ghost use Rattle.mz_statements.specs.Order.{modifiers_asked, hyp_asked, hyps_asked, declared_asked, local_asked, statement_asked};
+ghost use Rattle.mz_forms.specs.ScopeView.{names as names_view, scope};
+ghost use Rattle.mz_statements.specs.StatementView.{modifiers as modifiers_view, stated};
+ghost use Rattle.mz_forms.specs.Stops.{Stops};
+
+use crate::kind::Kind;
+use crate::modifiers::Modifiers;
+use mz_forms::{Names, ProofBox, Reader, Scope, Space, Stop, is};
+use mz_logic::{Binders, Decl, Expr, Hyps, TermDecl, TermForm, ThmDecl, ThmForm};
+use mz_sexpr::U;
+
+/// What a statement declares, with its name.
+#[derive(Drop)]
+pub struct Declared<'a> {
+    /// The name, as it stands in the text.
+    pub name: &'a [u8],
+    /// The declaration.
+    pub decl: Decl,
+    /// A theorem's dummies; a definition's stand in its declaration.
+    pub dummies: Binders,
+    /// A theorem's proof; nothing else has one.
+    pub proof: Option<ProofBox>,
+}
+
+/// A sort's modifiers, from the first on.
+fn modifiers(reader: &Reader<'_, '_>, first: Option<u32>) -> Result<Modifiers, Stop>
+    requires { IsThere reader.now.nodes.now first }
+    ensures read { IfOk result (λ m. AreModifiers no_modifiers (nodes_from reader.now.nodes.now first) (modifiers_view m)) }
+    ensures stops { IfErr result (λ stop. Stops stop (modifiers_asked no_modifiers (nodes_from reader.now.nodes.now first))) }
+{
+    let mut modifiers = Modifiers::NONE;
+    let mut left = first;
+    while let Some(n) = left {
+        let Some(next) = modifiers.with(reader.word(n)) else {
+            return Err(reader.wrong(n, U::Form));
+        };
+        modifiers = next;
+        left = reader.nodes.next(n);
+    }
+    Ok(modifiers)
+}
+
+/// A hypothesis of a theorem, with its name.
+fn hyp<'a>(
+    reader: &Reader<'_, 'a>,
+    sc: &Scope<'_, 'a>,
+    labels: &Space<'a>,
+    n: u32,
+) -> Result<(&'a [u8], Expr), Stop>
+    requires { n < node_count reader.now.nodes.now }
+    ensures read { IfOk result (λ p. IsHyp (scope sc.now) labels.now (node_at reader.now.nodes.now n) p.0.now (tree p.1)) }
+    ensures stops { IfErr result (λ stop. Stops stop (hyp_asked (scope sc.now) labels.now (node_at reader.now.nodes.now n))) }
+{
+    let Some((name, expr)) = reader.two(reader.nodes.first(n)) else {
+        return Err(reader.wrong(n, U::Form));
+    };
+    let name = reader.new_name(labels, name)?;
+    let expr = reader.expr(sc, expr)?;
+    Ok((name, expr))
+}
+
+/// The hypotheses of a theorem; their names are put into the space, which is empty.
+fn hyps<'a>(
+    reader: &Reader<'_, 'a>,
+    sc: &Scope<'_, 'a>,
+    labels: &mut Space<'a>,
+    n: u32,
+) -> Result<Hyps, Stop>
+    requires within { n < node_count reader.now.nodes.now }
+    requires none { labels.old ≡ [] }
+    requires few { node_size (node_at reader.now.nodes.now n) < 2 ^ 32 }
+    ensures read { IfOk result (λ es. AreNamedHyps (scope sc.now) (node_at reader.now.nodes.now n) es labels.new) }
+    ensures stops { IfErr result (λ stop. Stops stop (hyps_asked (scope sc.now) (node_at reader.now.nodes.now n))) }
+{
+    let mut hyps = Hyps::new(reader.alloc);
+    let mut left = reader.list(n)?;
+    while let Some(m) = left {
+        let (name, expr) = hyp(reader, sc, labels, m)?;
+        labels.push(name)?;
+        hyps.push(expr, 1)?;
+        left = reader.nodes.next(m);
+    }
+    Ok(hyps)
+}
+
+/// What is left of `(sort N mod ..)`.
+fn sort<'a>(
+    reader: &Reader<'_, 'a>,
+    names: &Names<'a>,
+    n: u32,
+    rest: Option<u32>,
+) -> Result<Declared<'a>, Stop>
+    requires within { n < node_count reader.now.nodes.now }
+    requires there { IsThere reader.now.nodes.now rest }
+    requires few { nodes_size (nodes_from reader.now.nodes.now rest) < 2 ^ 32 }
+    ensures read { IfOk result (λ d. (mark : Bool) → IsDeclared (names_view names.now) sort_kind (nodes_from reader.now.nodes.now rest) (stated mark d)) }
+    ensures stops { IfErr result (λ stop. Stops stop (declared_asked sort_kind (place (node_at reader.now.nodes.now n)) (names_view names.now) (nodes_from reader.now.nodes.now rest))) }
+{
+    let Some(name) = rest else {
+        return Err(reader.wrong(n, U::Form));
+    };
+    let word = reader.new_name(&names.sorts, name)?;
+    let modifiers = modifiers(reader, reader.nodes.next(name))?;
+    Ok(Declared {
+        name: word,
+        decl: Decl::Sort(modifiers.mods()),
+        dummies: Binders::new(reader.alloc),
+        proof: None,
+    })
+}
+
+/// The same, with room for the names of its variables.
+fn term_in<'a>(
+    reader: &Reader<'_, 'a>,
+    names: &Names<'a>,
+    vars: &mut Space<'a>,
+    n: u32,
+    rest: Option<u32>,
+) -> Result<Declared<'a>, Stop>
+    requires no_variables { vars.old ≡ [] }
+    requires within { n < node_count reader.now.nodes.now }
+    requires there { IsThere reader.now.nodes.now rest }
+    requires few { nodes_size (nodes_from reader.now.nodes.now rest) < 2 ^ 32 }
+    ensures read { IfOk result (λ d. (mark : Bool) → IsDeclared (names_view names.now) term_kind (nodes_from reader.now.nodes.now rest) (stated mark d)) }
+    ensures stops { IfErr result (λ stop. Stops stop (declared_asked term_kind (place (node_at reader.now.nodes.now n)) (names_view names.now) (nodes_from reader.now.nodes.now rest))) }
+{
+    let Some((name, params, result)) = reader.three(rest) else {
+        return Err(reader.wrong(n, U::Form));
+    };
+    let name = reader.new_name(&names.terms, name)?;
+    let params = reader.params(names, vars, params)?;
+    let result = reader.result(names, vars, result)?;
+    let form = TermForm::Plain;
+    Ok(Declared {
+        name,
+        decl: Decl::Term(TermDecl {
+            params,
+            result,
+            form,
+        }),
+        dummies: Binders::new(reader.alloc),
+        proof: None,
+    })
+}
+
+/// What is left of `(term N (binder ..) (s (dep ..)))`.
+fn term<'a>(
+    reader: &Reader<'_, 'a>,
+    names: &Names<'a>,
+    n: u32,
+    rest: Option<u32>,
+) -> Result<Declared<'a>, Stop>
+    requires within { n < node_count reader.now.nodes.now }
+    requires there { IsThere reader.now.nodes.now rest }
+    requires few { nodes_size (nodes_from reader.now.nodes.now rest) < 2 ^ 32 }
+    ensures read { IfOk result (λ d. (mark : Bool) → IsDeclared (names_view names.now) term_kind (nodes_from reader.now.nodes.now rest) (stated mark d)) }
+    ensures stops { IfErr result (λ stop. Stops stop (declared_asked term_kind (place (node_at reader.now.nodes.now n)) (names_view names.now) (nodes_from reader.now.nodes.now rest))) }
+{
+    term_in(reader, names, &mut Space::new(reader.alloc), n, rest)
+}
+
+/// The same, with room for the names of its variables.
+fn axiom_in<'a>(
+    reader: &Reader<'_, 'a>,
+    names: &Names<'a>,
+    vars: &mut Space<'a>,
+    n: u32,
+    rest: Option<u32>,
+) -> Result<Declared<'a>, Stop>
+    requires no_variables { vars.old ≡ [] }
+    requires within { n < node_count reader.now.nodes.now }
+    requires there { IsThere reader.now.nodes.now rest }
+    requires few { nodes_size (nodes_from reader.now.nodes.now rest) < 2 ^ 32 }
+    ensures read { IfOk result (λ d. (mark : Bool) → IsDeclared (names_view names.now) axiom_kind (nodes_from reader.now.nodes.now rest) (stated mark d)) }
+    ensures stops { IfErr result (λ stop. Stops stop (declared_asked axiom_kind (place (node_at reader.now.nodes.now n)) (names_view names.now) (nodes_from reader.now.nodes.now rest))) }
+{
+    let Some((name, params, hyps, conclusion)) = reader.four(rest) else {
+        return Err(reader.wrong(n, U::Form));
+    };
+    let name = reader.new_name(&names.assertions, name)?;
+    let params = reader.params(names, vars, params)?;
+    let sc = Scope { names, vars };
+    let hyps = reader.expr_list(&sc, hyps)?;
+    let conclusion = reader.expr(&sc, conclusion)?;
+    let form = ThmForm::Axiom;
+    Ok(Declared {
+        name,
+        decl: Decl::Thm(ThmDecl {
+            form,
+            params,
+            hyps: Hyps::of_each(reader.alloc, hyps)?,
+            conclusion,
+        }),
+        dummies: Binders::new(reader.alloc),
+        proof: None,
+    })
+}
+
+/// What is left of `(axiom N (binder ..) (expr ..) expr)`.
+fn axiom<'a>(
+    reader: &Reader<'_, 'a>,
+    names: &Names<'a>,
+    n: u32,
+    rest: Option<u32>,
+) -> Result<Declared<'a>, Stop>
+    requires within { n < node_count reader.now.nodes.now }
+    requires there { IsThere reader.now.nodes.now rest }
+    requires few { nodes_size (nodes_from reader.now.nodes.now rest) < 2 ^ 32 }
+    ensures read { IfOk result (λ d. (mark : Bool) → IsDeclared (names_view names.now) axiom_kind (nodes_from reader.now.nodes.now rest) (stated mark d)) }
+    ensures stops { IfErr result (λ stop. Stops stop (declared_asked axiom_kind (place (node_at reader.now.nodes.now n)) (names_view names.now) (nodes_from reader.now.nodes.now rest))) }
+{
+    axiom_in(reader, names, &mut Space::new(reader.alloc), n, rest)
+}
+
+/// The same, with room for the names of its variables.
+fn def_in<'a>(
+    reader: &Reader<'_, 'a>,
+    names: &Names<'a>,
+    vars: &mut Space<'a>,
+    n: u32,
+    rest: Option<u32>,
+) -> Result<Declared<'a>, Stop>
+    requires no_variables { vars.old ≡ [] }
+    requires within { n < node_count reader.now.nodes.now }
+    requires there { IsThere reader.now.nodes.now rest }
+    requires few { nodes_size (nodes_from reader.now.nodes.now rest) < 2 ^ 32 }
+    ensures read { IfOk result (λ d. (mark : Bool) → IsDeclared (names_view names.now) def_kind (nodes_from reader.now.nodes.now rest) (stated mark d)) }
+    ensures stops { IfErr result (λ stop. Stops stop (declared_asked def_kind (place (node_at reader.now.nodes.now n)) (names_view names.now) (nodes_from reader.now.nodes.now rest))) }
+{
+    let Some((name, params, result, dummies, body)) = reader.five(rest) else {
+        return Err(reader.wrong(n, U::Form));
+    };
+    let name = reader.new_name(&names.terms, name)?;
+    let params = reader.params(names, vars, params)?;
+    let result = reader.result(names, vars, result)?;
+    let dummies = reader.dummies(names, vars, dummies)?;
+    let body = reader.expr(&Scope { names, vars }, body)?;
+    let form = TermForm::Body { dummies, body };
+    Ok(Declared {
+        name,
+        decl: Decl::Term(TermDecl {
+            params,
+            result,
+            form,
+        }),
+        dummies: Binders::new(reader.alloc),
+        proof: None,
+    })
+}
+
+/// What is left of `(def N (binder ..) (s (dep ..)) (dummy ..) expr)`.
+fn def<'a>(
+    reader: &Reader<'_, 'a>,
+    names: &Names<'a>,
+    n: u32,
+    rest: Option<u32>,
+) -> Result<Declared<'a>, Stop>
+    requires within { n < node_count reader.now.nodes.now }
+    requires there { IsThere reader.now.nodes.now rest }
+    requires few { nodes_size (nodes_from reader.now.nodes.now rest) < 2 ^ 32 }
+    ensures read { IfOk result (λ d. (mark : Bool) → IsDeclared (names_view names.now) def_kind (nodes_from reader.now.nodes.now rest) (stated mark d)) }
+    ensures stops { IfErr result (λ stop. Stops stop (declared_asked def_kind (place (node_at reader.now.nodes.now n)) (names_view names.now) (nodes_from reader.now.nodes.now rest))) }
+{
+    def_in(reader, names, &mut Space::new(reader.alloc), n, rest)
+}
+
+/// The hypotheses of a theorem that sees these variables.
+fn hyps_over<'a>(
+    reader: &Reader<'_, 'a>,
+    names: &Names<'a>,
+    vars: &Space<'a>,
+    labels: &mut Space<'a>,
+    n: u32,
+) -> Result<Hyps, Stop>
+    requires within { n < node_count reader.now.nodes.now }
+    requires none { labels.old ≡ [] }
+    requires few { node_size (node_at reader.now.nodes.now n) < 2 ^ 32 }
+    ensures read { IfOk result (λ es. AreNamedHyps (scope_of (names_view names.now) vars.now) (node_at reader.now.nodes.now n) es labels.new) }
+    ensures stops { IfErr result (λ stop. Stops stop (hyps_asked (scope_of (names_view names.now) vars.now) (node_at reader.now.nodes.now n))) }
+{
+    hyps(reader, &Scope { names, vars }, labels, n)
+}
+
+/// An expression that sees these variables.
+fn expr_over<'a>(
+    reader: &Reader<'_, 'a>,
+    names: &Names<'a>,
+    vars: &Space<'a>,
+    n: u32,
+) -> Result<Expr, Stop>
+    requires { n < node_count reader.now.nodes.now }
+    ensures read { IfOk result (λ e. IsExpr (scope_of (names_view names.now) vars.now) (node_at reader.now.nodes.now n) (tree e)) }
+    ensures stops { IfErr result (λ stop. Stops stop (expr_asked (scope_of (names_view names.now) vars.now) (node_at reader.now.nodes.now n))) }
+{
+    reader.expr(&Scope { names, vars }, n)
+}
+
+/// A proof that sees these variables and hypotheses, and no let yet.
+fn proof_over<'a>(
+    reader: &Reader<'_, 'a>,
+    names: &Names<'a>,
+    vars: &Space<'a>,
+    labels: &Space<'a>,
+    n: u32,
+) -> Result<ProofBox, Stop>
+    requires within { n < node_count reader.now.nodes.now }
+    requires few { node_size (node_at reader.now.nodes.now n) < 2 ^ 32 }
+    ensures read { IfOk result (IsProof (scope_of (names_view names.now) vars.now) labels.now [] (node_at reader.now.nodes.now n)) }
+    ensures stops { IfErr result (λ stop. Stops stop (proof_asked (scope_of (names_view names.now) vars.now) labels.now [] (node_at reader.now.nodes.now n))) }
+{
+    let mut lets = Space::new(reader.alloc);
+    reader.boxed_proof(&Scope { names, vars }, labels, &mut lets, n)
+}
+
+/// The same, with room for the names of its variables and of its hypotheses.
+fn theorem_in<'a>(
+    reader: &Reader<'_, 'a>,
+    names: &Names<'a>,
+    vars: &mut Space<'a>,
+    labels: &mut Space<'a>,
+    n: u32,
+    rest: Option<u32>,
+) -> Result<Declared<'a>, Stop>
+    requires no_variables { vars.old ≡ [] }
+    requires no_labels { labels.old ≡ [] }
+    requires within { n < node_count reader.now.nodes.now }
+    requires there { IsThere reader.now.nodes.now rest }
+    requires few { nodes_size (nodes_from reader.now.nodes.now rest) < 2 ^ 32 }
+    ensures read { IfOk result (λ d. (mark : Bool) → IsDeclared (names_view names.now) theorem_kind (nodes_from reader.now.nodes.now rest) (stated mark d)) }
+    ensures stops { IfErr result (λ stop. Stops stop (declared_asked theorem_kind (place (node_at reader.now.nodes.now n)) (names_view names.now) (nodes_from reader.now.nodes.now rest))) }
+{
+    let Some((name, params, hyps, conclusion, dummies, proof)) = reader.six(rest) else {
+        return Err(reader.wrong(n, U::Form));
+    };
+    let name = reader.new_name(&names.assertions, name)?;
+    let params = reader.params(names, vars, params)?;
+    let hyps = hyps_over(reader, names, vars, labels, hyps)?;
+    let conclusion = expr_over(reader, names, vars, conclusion)?;
+    let dummies = reader.dummies(names, vars, dummies)?;
+    let proof = proof_over(reader, names, vars, labels, proof)?;
+    let form = ThmForm::Theorem;
+    Ok(Declared {
+        name,
+        decl: Decl::Thm(ThmDecl {
+            form,
+            params,
+            hyps,
+            conclusion,
+        }),
+        dummies,
+        proof: Some(proof),
+    })
+}
+
+/// What is left of `(theorem N (binder ..) ((h expr) ..) expr (dummy ..) proof)`.
+fn theorem<'a>(
+    reader: &Reader<'_, 'a>,
+    names: &Names<'a>,
+    n: u32,
+    rest: Option<u32>,
+) -> Result<Declared<'a>, Stop>
+    requires within { n < node_count reader.now.nodes.now }
+    requires there { IsThere reader.now.nodes.now rest }
+    requires few { nodes_size (nodes_from reader.now.nodes.now rest) < 2 ^ 32 }
+    ensures read { IfOk result (λ d. (mark : Bool) → IsDeclared (names_view names.now) theorem_kind (nodes_from reader.now.nodes.now rest) (stated mark d)) }
+    ensures stops { IfErr result (λ stop. Stops stop (declared_asked theorem_kind (place (node_at reader.now.nodes.now n)) (names_view names.now) (nodes_from reader.now.nodes.now rest))) }
+{
+    let mut vars = Space::new(reader.alloc);
+    let mut labels = Space::new(reader.alloc);
+    theorem_in(reader, names, &mut vars, &mut labels, n, rest)
+}
+
+/// What is left of a statement of this kind.
+fn of_kind<'a>(
+    reader: &Reader<'_, 'a>,
+    names: &Names<'a>,
+    kind: Kind,
+    n: u32,
+    rest: Option<u32>,
+) -> Result<Declared<'a>, Stop>
+    requires within { n < node_count reader.now.nodes.now }
+    requires there { IsThere reader.now.nodes.now rest }
+    requires few { nodes_size (nodes_from reader.now.nodes.now rest) < 2 ^ 32 }
+    ensures read { IfOk result (λ d. (mark : Bool) → IsDeclared (names_view names.now) kind (nodes_from reader.now.nodes.now rest) (stated mark d)) }
+    ensures stops { IfErr result (λ stop. Stops stop (declared_asked kind (place (node_at reader.now.nodes.now n)) (names_view names.now) (nodes_from reader.now.nodes.now rest))) }
+{
+    match kind {
+        Kind::Sort => sort(reader, names, n, rest),
+        Kind::Term => term(reader, names, n, rest),
+        Kind::Axiom => axiom(reader, names, n, rest),
+        Kind::Def => def(reader, names, n, rest),
+        Kind::Theorem => theorem(reader, names, n, rest),
+        Kind::Other => Err(reader.wrong(n, U::Form)),
+    }
+}
+
+/// What is left of a local statement of this kind.
+fn local<'a>(
+    reader: &Reader<'_, 'a>,
+    names: &Names<'a>,
+    kind: Kind,
+    n: u32,
+    rest: Option<u32>,
+) -> Result<Declared<'a>, Stop>
+    requires within { n < node_count reader.now.nodes.now }
+    requires there { IsThere reader.now.nodes.now rest }
+    requires few { nodes_size (nodes_from reader.now.nodes.now rest) < 2 ^ 32 }
+    ensures read { IfOk result (λ d. (mark : Bool) → IsLocal (names_view names.now) kind (nodes_from reader.now.nodes.now rest) (stated mark d)) }
+    ensures stops { IfErr result (λ stop. Stops stop (local_asked kind (place (node_at reader.now.nodes.now n)) (names_view names.now) (nodes_from reader.now.nodes.now rest))) }
+{
+    match kind {
+        Kind::Def => def(reader, names, n, rest),
+        Kind::Theorem => theorem(reader, names, n, rest),
+        _ => Err(reader.wrong(n, U::Form)),
+    }
+}
+
+/// The statement that the node is, and whether it's marked as local.
+///
+/// # Errors
+///
+/// The first of the rules on forms, gaps and names that the node breaks, at its place; or where
+/// there is no memory.
+pub fn statement<'a>(
+    reader: &Reader<'_, 'a>,
+    names: &Names<'a>,
+    n: u32,
+) -> Result<(bool, Declared<'a>), Stop>
+    requires within { n < node_count reader.now.nodes.now }
+    requires few { node_size (node_at reader.now.nodes.now n) < 2 ^ 32 }
+    ensures read { IfOk result (λ s. IsStatement (names_view names.now) (node_at reader.now.nodes.now n) (stated s.0 s.1)) }
+    ensures stops { IfErr result (λ stop. Stops stop (statement_asked (names_view names.now) (node_at reader.now.nodes.now n))) }
+{
+    let Some(head) = reader.nodes.first(n) else {
+        return Err(reader.wrong(n, U::Form));
+    };
+    let rest = reader.nodes.next(head);
+    let word = reader.word(head);
+    if !is(word, b"local") {
+        let declared = of_kind(reader, names, Kind::of(word), n, rest)?;
+        return Ok((false, declared));
+    }
+    let Some(kind) = rest else {
+        return Err(reader.wrong(n, U::Form));
+    };
+    let declared = local(
+        reader,
+        names,
+        Kind::of(reader.word(kind)),
+        n,
+        reader.nodes.next(kind),
+    )?;
+    Ok((true, declared))
+}

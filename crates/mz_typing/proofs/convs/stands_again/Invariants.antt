@@ -1,5 +1,0 @@
-use Rattle.std.proofs.Common.{ℕ, ◌≡◌, ◌<◌, get_or}
-use Rattle.mz_typing.proofs.convs.stands_again.Given as goal
-
-abbrev pub invariant-loop-j : goal.invariant-loop-j
-invariant-loop-j l = (k : ℕ) → l.i < k → k < l.j → get_or l.places k 0 ≡ get_or l.places l.i 0 → ⊥

@@ -1,0 +1,10 @@
+pub mod Renaming
+pub mod SameDecided
+pub mod OwnBodies
+pub mod Lists
+pub mod Spelled
+pub mod OneVerdict
+pub mod ProvingTheorems
+pub mod AcceptedSound
+pub mod SomeVerdict
+pub mod Offered
