@@ -37,7 +37,7 @@ terms-of-same (assertion_decl a) (sort_decl m') h = absurd h
 terms-of-same (assertion_decl a) (term_decl e) h = absurd h
 terms-of-same (assertion_decl a) (assertion_decl b) h = refl
 
-same-rows : (n : ℕ) (ss ss' : List Statement) → IsSameList ss ss' → term_rows n ss ≡ term_rows n ss'
+pub same-rows : (n : ℕ) (ss ss' : List Statement) → IsSameList ss ss' → term_rows n ss ≡ term_rows n ss'
 same-rows n [] [] h = refl
 same-rows n [] (s' ∷ ss') h = absurd h
 same-rows n (s ∷ ss) [] h = absurd h
@@ -47,7 +47,7 @@ same-rows n (s ∷ ss) (s' ∷ ss') ((mark, decl), h) =
     ∙ ap (λ (k : ℕ). (if s'.is_local then [] else term_row_of n s'.decl) ++ term_rows (n + k) ss) (terms-of-same s.decl s'.decl decl)
     ∙ ap (λ (xs : List ℕ). (if s'.is_local then [] else term_row_of n s'.decl) ++ xs) (same-rows (n + length (terms (s'.decl ∷ []))) ss ss' h)
 
-same-longer : (ss ss' : List Statement) (s s' : Statement) → IsSameList ss ss' → IsSameStatement s s' → IsSameList (ss ++ s ∷ []) (ss' ++ s' ∷ [])
+pub same-longer : (ss ss' : List Statement) (s s' : Statement) → IsSameList ss ss' → IsSameStatement s s' → IsSameList (ss ++ s ∷ []) (ss' ++ s' ∷ [])
 same-longer [] [] s s' h one = (one, tt)
 same-longer [] (t' ∷ ss') s s' h one = absurd h
 same-longer (t ∷ ss) [] s s' h one = absurd h
@@ -55,7 +55,7 @@ same-longer (t ∷ ss) (t' ∷ ss') s s' (first, h) one = (first, same-longer ss
 
 -- ---- a declaration and its partner
 
-form-kind : (params : List Binder) (f f' : Form) → IsSameForm params f f' → kind_of_form f ≡ kind_of_form f'
+pub form-kind : (params : List Binder) (f f' : Form) → IsSameForm params f f' → kind_of_form f ≡ kind_of_form f'
 form-kind params plain_form plain_form h = refl
 form-kind params plain_form abstract_form h = absurd h
 form-kind params plain_form (defined ds b) h = absurd h

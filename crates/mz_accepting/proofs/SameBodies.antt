@@ -21,16 +21,16 @@ own-at j [] i lt = absurd (omega arith)
 own-at j (p ∷ ps) zero lt = ap (λ (z : ℕ). Some (var z)) (omega arith)
 own-at j (p ∷ ps) (suc i) lt = own-at (suc j) ps i (omega arith) ∙ ap (λ (z : ℕ). Some (var z)) (omega arith)
 
-own-of : (ps : List Binder) (i : ℕ) → i < length ps → slice_get (variables_from 0 ps) i ≡ Some (var i)
+pub own-of : (ps : List Binder) (i : ℕ) → i < length ps → slice_get (variables_from 0 ps) i ≡ Some (var i)
 own-of ps i lt = own-at 0 ps i lt ∙ ap (λ (z : ℕ). Some (var z)) (omega arith)
 
-own-length : (j : ℕ) (ps : List Binder) → length (variables_from j ps) ≡ length ps
+pub own-length : (j : ℕ) (ps : List Binder) → length (variables_from j ps) ≡ length ps
 own-length j [] = refl
 own-length j (p ∷ ps) = ap suc (own-length (suc j) ps)
 
 -- ---- fresh variables
 
-fresh-back : (ctx : List Binder) (es : Trees) (ys : List ℕ) (bs : List Binder) → AreFresh ctx es ys bs → (k y : ℕ) → slice_get ys k ≡ Some y
+pub fresh-back : (ctx : List Binder) (es : Trees) (ys : List ℕ) (bs : List Binder) → AreFresh ctx es ys bs → (k y : ℕ) → slice_get ys k ≡ Some y
     → (b : Binder) × (slice_get bs k ≡ Some b) × IsBoundOf ctx y b.sort × (InSomeV ctx y es → ⊥)
 fresh-back ctx es [] bs h k y at = absurd cc
 fresh-back ctx es (z ∷ ys) [] h k y at = absurd h

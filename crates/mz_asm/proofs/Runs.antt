@@ -1,34 +1,18 @@
 -- The commands that stand in a file, up to an END, are its longest run.
-use Rattle.std.proofs.Common.{◌≡◌, ◌<◌, ◌+◌, ◌^◌, ℕ, Bool, true, false, cond, List, [], ◌∷◌, ◌++◌, length, map, take, drop, Result, Ok, refl, sym, ap, subst, ◌∙◌, arith, append_assoc, append-nil, length-append, length-take}
-use Rattle.std.specs.Prelude.{IsTrue, nat_lt, ◌==◌, ⊤}
-use Rattle.std.proofs.lemmas.Bool.{eqb-true, ltb-true}
+use Rattle.std.proofs.Common.{◌≡◌, ◌<◌, ◌+◌, ◌^◌, ℕ, false, List, [], ◌∷◌, ◌++◌, length, map, take, drop, Result, Ok, refl, sym, ap, subst, ◌∙◌, arith, append_assoc, append-nil, length-append, length-take}
+use Rattle.std.specs.Prelude.{IsTrue, ⊤}
 use Rattle.std.proofs.lemmas.List.{drop-take}
 use Rattle.mz_cmd.specs.declared.command.Cmd.{Cmd}
 use Rattle.mz_cmd.specs.declared.command.CmdFault.{CmdFault}
 use Rattle.mz_cmd.specs.Codes.{is_known}
 use Rattle.mz_cmd.specs.Reading.{first_command, command_at}
-use Rattle.mz_cmd.specs.Spelling.{Spells, operand_len, shortest_size, shortest}
-use Rattle.mz_cmd.proofs.Offered.{Spells-again}
+use Rattle.mz_cmd.specs.Spelling.{Spells, shortest}
+use Rattle.mz_cmd.proofs.Offered.{Spells-again, shortest-spells}
 use Rattle.mz_layout.specs.Standing.{Stands}
 use Rattle.mz_layout.proofs.Offered.{stands-first, stands-second, stands-is, stands-bytes}
 use Rattle.mz_show.specs.declared.stream.Stream.{Stream}
 use Rattle.mz_show.specs.Streams.{belongs, Follow, Run, IsLongest, EndStands, LeadsTo}
 use Rattle.mz_asm.specs.Statements.{command_bytes}
-
-pub shortest-spells : (code v : ℕ) → IsTrue (is_known code) → v < 2 ^ 32 → Spells (shortest code v) code v
-shortest-spells code v known lt = record { size = shortest_size v; size_fits = small (v == 0) (nat_lt v 256) (nat_lt v 65536); known = known; value_fits = holds (v == 0) refl (nat_lt v 256) refl (nat_lt v 65536) refl; bytes_are = refl }
-  where
-    small : (a b d : Bool) → cond a 0 (cond b 1 (cond d 2 3)) < 4
-    small true b d = omega arith
-    small false true d = omega arith
-    small false false true = omega arith
-    small false false false = omega arith
-
-    holds : (a : Bool) → (v == 0) ≡ a → (b : Bool) → nat_lt v 256 ≡ b → (d : Bool) → nat_lt v 65536 ≡ d → v < 256 ^ operand_len (cond a 0 (cond b 1 (cond d 2 3)))
-    holds true a-is b b-is d d-is = let is : v ≡ 0 = eqb-true _ _ a-is in omega arith
-    holds false a-is true b-is d d-is = let lt : v < 256 = ltb-true _ _ b-is in lt
-    holds false a-is false b-is true d-is = let lt : v < 65536 = ltb-true _ _ d-is in lt
-    holds false a-is false b-is false d-is = lt
 
 abbrev pub cmd_of : {C : Type 0} → (C → ℕ) → C × ℕ → Cmd
 cmd_of byte c = record { code = byte c.0; value = c.1; len = length (shortest (byte c.0) c.1) }

@@ -3,18 +3,25 @@ ghost use Rattle.std.specs.Prelude.{◌≡◌, ◌<◌, ◌++◌, ◌^◌, lengt
 ghost use Rattle.mz_axioms.specs.Gaps.{AreGapsOf, IsGapsTextOf, count_line, gap_line, gap_lines};
 
 use mz_cmd::Mem;
-use mz_spec::Spec;
+use mz_spec::{Hashing, Spec};
 use mz_spec_names::{declared_by, put_name};
+use mz_store::Seed;
 use std::alloc::Global;
 
 /// How many of a specification's `theorems` rest on a gap, and a line with the name of each. They are
 /// given by the places of their declarations.
-pub fn gaps_text(alloc: Global, spec: &[u8], theorems: u32, places: &[u32]) -> Result<Vec<u8>, Mem>
+pub fn gaps_text(
+    alloc: Global,
+    seed: Seed,
+    spec: &[u8],
+    theorems: u32,
+    places: &[u32],
+) -> Result<Vec<u8>, Mem>
     requires small { length spec.now < 2 ^ 32 }
     requires gaps { AreGapsOf spec.now places.now }
     ensures { IfOk result (λ text. IsGapsTextOf spec.now theorems places.now text.items) }
 {
-    let declared = declared_by(alloc, spec)?;
+    let declared = declared_by(alloc, Hashing::seeded(seed.0), spec)?;
     let mut text = count_line(alloc, places.len(), theorems)?;
     put_gaps(&mut text, spec, &declared, places)?;
     Ok(text)

@@ -4,18 +4,19 @@ ghost use Rattle.mz_axioms.specs.Text.{AreOfSome, IsNamed, IsTextOf, axiom_names
 
 use crate::lists::{Lists, Support};
 use mz_cmd::Mem;
-use mz_spec::Spec;
+use mz_spec::{Hashing, Spec};
 use mz_spec_names::{declared_by, put_name};
+use mz_store::Seed;
 use std::alloc::Global;
 
 /// A line for each theorem of the specification: its name, a colon, and for each axiom on which it
 /// rests a space and the axiom's name.
-pub fn axioms_text(alloc: Global, spec: &[u8], lists: &Lists) -> Result<Vec<u8>, Mem>
+pub fn axioms_text(alloc: Global, seed: Seed, spec: &[u8], lists: &Lists) -> Result<Vec<u8>, Mem>
     requires small { length spec.now < 2 ^ 32 }
     requires supports { AreOfSome spec.now lists.now }
     ensures { IfOk result (λ text. IsTextOf spec.now lists.now text.items) }
 {
-    let declared = declared_by(alloc, spec)?;
+    let declared = declared_by(alloc, Hashing::seeded(seed.0), spec)?;
     lines(alloc, spec, &declared, lists)
 }
 

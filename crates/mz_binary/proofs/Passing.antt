@@ -32,7 +32,7 @@ use Rattle.mz_files.specs.Good.{Good, FailsAfter}
 use Rattle.mz_binary.specs.Progress.{Progress, HasPassed, found_of, CountsRows, IsReached, RestsOnGap, marks_past, kind_byte, is_local_kind, kind_code, row_after}
 use Rattle.mz_files.specs.Gapped.{AreMarks}
 use Rattle.mz_binary.specs.Judging.{Passes}
-use Rattle.mz_files.proofs.Offered.{code-of, head-at, IsHeadAt, chain-more, place-judged, ends-there, FollowedBy, followed, well-chain, at-head}
+use Rattle.mz_files.proofs.Offered.{code-of, head-at, IsHeadAt, chain-more, place-judged, ends-there, FollowedBy, followed, well-chain, at-head, no-assertion}
 use Rattle.mz_binary.proofs.GapMarks.{kind-tells, NewMark, new-mark}
 use Rattle.mz_binary.proofs.TakenSoFar.{taken}
 use Rattle.mz_files.specs.declared.standard.Standard.{Standard}
@@ -52,17 +52,6 @@ mark-of codes.LocalTheorem = refl
 pub record IsTold (rows : Rows) (env : List Declaration) (k : StatementCode) (d : Declaration) : Type 0 where
   pub kind : kind_byte k ≡ kind_code d
   pub row : next_row rows k ≡ row_after env d
-
-no-assertion : (code : ℕ) (b : Bool) → (code ≡ 0x04) ⊎ ((code ≡ 0x05) ⊎ (code ≡ 0x0D)) → MatchBool b (code ≡ 0x02) ((code ≡ 0x06) ⊎ (code ≡ 0x0E)) → ⊥
-no-assertion code true (inl e) h = omega arith
-no-assertion code true (inr (inl e)) h = omega arith
-no-assertion code true (inr (inr e)) h = omega arith
-no-assertion code false (inl e) (inl h) = omega arith
-no-assertion code false (inl e) (inr h) = omega arith
-no-assertion code false (inr (inl e)) (inl h) = omega arith
-no-assertion code false (inr (inl e)) (inr h) = omega arith
-no-assertion code false (inr (inr e)) (inl h) = omega arith
-no-assertion code false (inr (inr e)) (inr h) = omega arith
 
 axiom-told : (code : ℕ) (b : Bool) → code ≡ 0x02 → MatchBool b (code ≡ 0x02) ((code ≡ 0x06) ⊎ (code ≡ 0x0E)) → kind_byte codes.Axiom ≡ (if b then 0x02 else 0x06)
 axiom-told code true e h = refl

@@ -6,7 +6,7 @@ use Rattle.mz_cmd.specs.declared.code.ProofCode.{ProofCode}
 use Rattle.mz_cmd.specs.declared.code.ProofCode.TheVariants as code
 use Rattle.mz_cmd.specs.Codes.{proof_byte, is_known}
 use Rattle.mz_cmd.specs.Reading.{first_command}
-use Rattle.mz_cmd.proofs.Offered.{Spells-again}
+use Rattle.mz_cmd.proofs.Offered.{Spells-again, shortest-spells}
 use Rattle.mz_unification.specs.Steps.{◌>>=◌, at_place, Turn, over, goes_on, follow}
 use Rattle.mz_unification.specs.Profile.{Profile, strict}
 use Rattle.mz_unification.proofs.Offered.{from_bind, taken, taken-is}
@@ -16,7 +16,7 @@ use Rattle.mz_soundness.specs.Bodies.{stands_in, proves, if_allowed, body_comman
 use Rattle.mz_steps.specs.Steps.{command_bytes, run_commands}
 use Rattle.mz_steps.specs.Endings.{spelled_body, MayStand}
 use Rattle.mz_steps.specs.SharedBodies.{IsPlain, ArePlain}
-use Rattle.mz_steps.proofs.Offered.{shortest-spells, drop-front}
+use Rattle.mz_steps.proofs.Offered.{drop-front}
 use Rattle.mz_numbered.specs.Making.{portable_trees, row_makes, first_makes}
 
 -- ---- the code of a command is read again

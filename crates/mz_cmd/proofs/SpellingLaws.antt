@@ -1,7 +1,7 @@
 -- What is spelled is read again, whatever follows it, and no spelling begins another.
-use Rattle.std.proofs.Common.{◌≡◌, ℕ, ◌+◌, ◌*◌, ◌^◌, ◌<◌, ◌/◌, ◌%◌, false, ltb, List, ◌++◌, length, take, Result, Ok, refl, sym, ap, ◌∙◌, arith}
-use Rattle.std.specs.Prelude.{IsTrue}
-use Rattle.std.proofs.lemmas.Bool.{le-ltb}
+use Rattle.std.proofs.Common.{◌≡◌, ℕ, ◌+◌, ◌*◌, ◌^◌, ◌<◌, ◌/◌, ◌%◌, Bool, true, false, cond, ltb, List, ◌++◌, length, take, Result, Ok, refl, sym, ap, ◌∙◌, arith}
+use Rattle.std.specs.Prelude.{IsTrue, nat_lt, ◌==◌}
+use Rattle.std.proofs.lemmas.Bool.{eqb-true, le-ltb, ltb-true}
 use Rattle.std.proofs.lemmas.Bool.Decides.{nat_tests}
 use Rattle.std.proofs.lemmas.List.{take_at, length-append}
 use Rattle.byteorder.specs.Endian.{little_bytes}
@@ -9,7 +9,7 @@ use Rattle.byteorder.specs.Numbers.{little_number-reads_back, length-bytes_low_f
 use Rattle.mz_cmd.specs.declared.command.Cmd.{Cmd}
 use Rattle.mz_cmd.specs.declared.command.CmdFault.{CmdFault}
 use Rattle.mz_cmd.specs.Codes.{is_known}
-use Rattle.mz_cmd.specs.Spelling.{operand_len, spelling, Spells}
+use Rattle.mz_cmd.specs.Spelling.{operand_len, shortest_size, shortest, spelling, Spells}
 use Rattle.mz_cmd.specs.Reading.{first_command}
 
 known-lt : (c : ℕ) → IsTrue (is_known c) → c < 64
@@ -51,3 +51,19 @@ Spells-one a b x y code value code' value' s t e =
     let one = found-is _ _ same in
     let front : a ≡ b = sym (take_at a x (length a) refl) ∙ ap (λ (z : List ℕ). take (length a) z) e ∙ take_at b y (length a) (sym (ap (λ (c : Cmd). c.len) one)) in
     (front, ap (λ (c : Cmd). c.code) one, ap (λ (c : Cmd). c.value) one)
+
+-- the shortest spelling of a command spells it
+pub shortest-spells : (c v : ℕ) → IsTrue (is_known c) → v < 2 ^ 32 → Spells (shortest c v) c v
+shortest-spells c v known lt = record { size = shortest_size v; size_fits = small (v == 0) (nat_lt v 256) (nat_lt v 65536); known = known; value_fits = holds (v == 0) refl (nat_lt v 256) refl (nat_lt v 65536) refl; bytes_are = refl }
+  where
+    small : (a b d : Bool) → cond a 0 (cond b 1 (cond d 2 3)) < 4
+    small true b d = omega arith
+    small false true d = omega arith
+    small false false true = omega arith
+    small false false false = omega arith
+
+    holds : (a : Bool) → (v == 0) ≡ a → (b : Bool) → nat_lt v 256 ≡ b → (d : Bool) → nat_lt v 65536 ≡ d → v < 256 ^ operand_len (cond a 0 (cond b 1 (cond d 2 3)))
+    holds true a-is b b-is d d-is = let is : v ≡ 0 = eqb-true _ _ a-is in omega arith
+    holds false a-is true b-is d d-is = let lt : v < 256 = ltb-true _ _ b-is in lt
+    holds false a-is false b-is true d-is = let lt : v < 65536 = ltb-true _ _ d-is in lt
+    holds false a-is false b-is false d-is = lt

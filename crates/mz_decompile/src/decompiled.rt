@@ -10,6 +10,7 @@ use mz_layout::Mmb;
 use mz_match::verify_bytes;
 use mz_naming::Names;
 use mz_restating::{accepted_are_restated, plain_texts_are_texts};
+use mz_spec::Hashing;
 use mz_store::Seed;
 use mz_tracing::bodies_make_proofs;
 use mz_type::typed_or_faulty;
@@ -52,7 +53,7 @@ pub fn decompile_bytes<L: Ledger>(
     ensures bound { steps.new ≤ steps.old + (length bin.now * length bin.now + length bin.now) }
 {
     match verify_bytes(alloc, seed, spec, bin, steps) {
-        Verdict::Accepted(_) => match of_accepted(alloc, spec, bin) {
+        Verdict::Accepted(_) => match of_accepted(alloc, seed, spec, bin) {
             Ok(answer) => answer,
             Err(_) => Decompiled::Mem,
         },
@@ -62,7 +63,7 @@ pub fn decompile_bytes<L: Ledger>(
 }
 
 /// The text of a pair that is accepted, or what stands first against it.
-fn of_accepted(alloc: Global, spec: &[u8], bin: &[u8]) -> Result<Decompiled, Mem>
+fn of_accepted(alloc: Global, seed: Seed, spec: &[u8], bin: &[u8]) -> Result<Decompiled, Mem>
     requires spec { length spec.now < 2 ^ 32 }
     requires bin { length bin.now < 2 ^ 32 }
     requires accepted { Accepts spec.now bin.now }
@@ -77,6 +78,6 @@ fn of_accepted(alloc: Global, spec: &[u8], bin: &[u8]) -> Result<Decompiled, Mem
     let Ok(mmb) = Mmb::read(bin) else {
         unreachable!();
     };
-    let names = Names::of(alloc, spec, &mmb)?;
+    let names = Names::of(alloc, Hashing::seeded(seed.0), spec, &mmb)?;
     answer(alloc, &mmb, &names)
 }

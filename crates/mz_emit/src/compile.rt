@@ -13,6 +13,7 @@ use crate::compiled::Compiled;
 use crate::emitter::Emitter;
 use crate::limit::{Passed, limit_of};
 use mz_cmd::Mem;
+use mz_forms::Hashing;
 use mz_logic::Env;
 use mz_mmu::{TextRead, read_text};
 use mz_mode::Mode;
@@ -72,19 +73,19 @@ fn compile_typed(alloc: Global, typed: Typed) -> Compiled
     }
 }
 
-/// Compiles a text of at most 4,294,967,295 bytes: the binary where the text is well typed and
+/// Compiles a text of at most 4,294,967,295 bytes, whose names are hashed like this: the binary where the text is well typed and
 /// within the limits, else its first fault, or the first limit that it passes. A draft may have gaps; one that is
 /// finished is compiled as a finished text.
 ///
 /// The binary's bodies build no application twice, and its streams none once all its dummies are met. So that of a
 /// finished text is accepted by verifiers that compare addresses, too.
-pub fn compile_bytes(alloc: Global, text: &[u8], mode: Mode) -> Compiled
+pub fn compile_bytes(alloc: Global, hashing: Hashing, text: &[u8], mode: Mode) -> Compiled
     requires { length text.now < 2 ^ 32 }
     ensures answer { IsCompilation (gaps_of mode) text.now result }
     ensures finished { (ss : List Statement) → TextOf false text.now ss → IsCompilation false text.now result }
 {
     typed_or_faulty();
-    let text = match read_text(alloc, text, mode) {
+    let text = match read_text(alloc, hashing, text, mode) {
         TextRead::Text(text) => text,
         TextRead::Refused(refusal) => return Compiled::Refused(refusal),
         TextRead::Mem => return Compiled::Mem,

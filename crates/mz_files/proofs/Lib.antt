@@ -1,5 +1,6 @@
 pub mod Heads
 pub mod RowLaws
+pub mod FreshCounts
 pub mod Declared
 pub mod ChainLaws
 pub mod SpellingLaws

@@ -5,6 +5,7 @@ pub use Rattle.mz_files.proofs.Declared.{assertions-many, sorts-many, terms-many
 pub use Rattle.mz_files.proofs.Entries.{body_of, entry-good}
 pub use Rattle.mz_files.proofs.FileSteps.{add-times, times-grow}
 pub use Rattle.mz_files.proofs.Following.{FollowedBy, followed, rows-after, same-taken}
+pub use Rattle.mz_files.proofs.FreshCounts.{Among, fresh-fewer, last-expr, vars-long, words-bound}
 pub use Rattle.mz_files.proofs.GapFree.{ungapped-free}
 pub use Rattle.mz_files.proofs.GappedBodies.{bodies-many, bodies-more, gapped-back, gapped-on, gapped-within, marks-with, new-gapped, no-marks}
 pub use Rattle.mz_files.proofs.Heads.{IsHeadAt, code-of, head-at}
@@ -12,7 +13,7 @@ pub use Rattle.mz_files.proofs.Inverting.{ends-there, found-is, then-ok}
 pub use Rattle.mz_files.proofs.LegalChains.{cite-as-bodies, good-legal, well-chain}
 pub use Rattle.mz_files.proofs.ListBounds.{bound-never-ends}
 pub use Rattle.mz_files.proofs.PlacesJudged.{empty-decides, judges-test, layout-judged, params-judged, place-judged, row-judged, taken-decides, words-judged}
-pub use Rattle.mz_files.proofs.RowLaws.{HasRightRow, good-rows, right-row}
+pub use Rattle.mz_files.proofs.RowLaws.{HasRightRow, good-rows, no-assertion, right-row}
 pub use Rattle.mz_files.proofs.SortsSoFar.{HasSorts, chain-sorts, sorts-more}
 pub use Rattle.mz_files.proofs.SpellingLaws.{one-good}
 pub use Rattle.mz_files.proofs.WholeFiles.{at-head, good-excludes, good-or-fault, good-spelled, one-list}

@@ -45,7 +45,7 @@ spelled-form sigs params false stream plain_form h = refl
 spelled-form sigs params false stream abstract_form h = absurd h
 spelled-form sigs params false stream (defined ds b) h = absurd h
 
-no-assertion : (code : ℕ) (b : Bool) → (code ≡ 0x04) ⊎ ((code ≡ 0x05) ⊎ (code ≡ 0x0D)) → MatchBool b (code ≡ 0x02) ((code ≡ 0x06) ⊎ (code ≡ 0x0E)) → ⊥
+pub no-assertion : (code : ℕ) (b : Bool) → (code ≡ 0x04) ⊎ ((code ≡ 0x05) ⊎ (code ≡ 0x0D)) → MatchBool b (code ≡ 0x02) ((code ≡ 0x06) ⊎ (code ≡ 0x0E)) → ⊥
 no-assertion code true (inl e) h = omega arith
 no-assertion code true (inr (inl e)) h = omega arith
 no-assertion code true (inr (inr e)) h = omega arith

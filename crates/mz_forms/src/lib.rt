@@ -18,6 +18,7 @@ mod space;
 pub use conv::{Conv, ConvBox, Convs, Vars};
 pub use fault::{Fault, Stop};
 pub use keyword::is;
+pub use mz_names::Hashing;
 pub use proof::{Proof, ProofBox, Proofs};
 pub use reader::Reader;
 pub use scope::{Names, Scope};

@@ -10,13 +10,16 @@ ghost use Rattle.mz_forms.specs.ScopeView.{names};
 use crate::space::Space;
 use mz_logic::Decl;
 use mz_mode::Mode;
+use mz_names::Hashing;
 use std::alloc::{AllocError, Global};
 
-/// The names of the statements so far, and the mode in which the text is read.
+/// The names of the statements so far, how names are hashed, and the mode in which the text is read.
 #[derive(Drop)]
 pub struct Names<'a> {
     /// Whether proofs may have gaps.
     pub mode: Mode,
+    /// How these names are hashed, and those in a statement.
+    pub hashing: Hashing,
     /// The sorts.
     pub sorts: Space<'a>,
     /// The terms and definitions.
@@ -29,16 +32,17 @@ pub struct Names<'a> {
 
 impl<'a> Names<'a> {
     /// No names.
-    pub fn new(alloc: Global, mode: Mode) -> Names<'a>
+    pub fn new(alloc: Global, hashing: Hashing, mode: Mode) -> Names<'a>
         ensures none { names result ≡ no_names (gaps_of mode) }
         ensures mode { result.mode ≡ mode }
     {
         Names {
             mode,
-            sorts: Space::new(alloc),
-            terms: Space::new(alloc),
-            constants: Space::new(alloc),
-            assertions: Space::new(alloc),
+            hashing,
+            sorts: Space::new(alloc, hashing),
+            terms: Space::new(alloc, hashing),
+            constants: Space::new(alloc, hashing),
+            assertions: Space::new(alloc, hashing),
         }
     }
 

@@ -6,6 +6,7 @@ ghost use Rattle.mz_forms.specs.Name.{hidden, IsName};
 
 use crate::name::HIDDEN;
 use indexmap::IndexSet;
+use mz_names::Hashing;
 use std::alloc::{AllocError, Global};
 use std::marker::Model;
 
@@ -14,7 +15,7 @@ use std::marker::Model;
 #[derive(Drop)]
 pub struct Space<'a> {
     // a name beside 0, and another word beside its place and 1, since it may come again
-    keys: IndexSet<(&'a [u8], u32)>,
+    keys: IndexSet<(&'a [u8], u32), Hashing>,
 }
 
 impl<'a> Model for Space<'a> {
@@ -30,11 +31,11 @@ impl<'a> Model for Space<'a> {
 
 impl<'a> Space<'a> {
     /// No names.
-    pub fn new(alloc: Global) -> Space<'a>
+    pub fn new(alloc: Global, hashing: Hashing) -> Space<'a>
         ensures { result ≡ [] }
     {
         Space {
-            keys: IndexSet::new(alloc),
+            keys: IndexSet::with_hasher(alloc, hashing),
         }
     }
 

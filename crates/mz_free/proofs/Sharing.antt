@@ -24,6 +24,10 @@ HasAny P ps = (x : ℕ) × P x × Contains ps x
 abbrev pub IsOther : List ℕ → List ℕ → ℕ → Type 0
 IsOther xs own x = Contains xs x × (Contains own x → ⊥)
 
+-- where there are none, none is in them
+pub none-has : (xs : List ℕ) (x : ℕ) → length xs ≡ 0 → Contains xs x → ⊥
+none-has xs x empty (k, below, _) = absurd (let e : k < length xs = below in omega (arith, e, empty))
+
 -- ---- expressions one after another
 
 module _ (ctx : List Binder) (P : ℕ → Type 0) (es fs : Trees) (e : Tree) (cut : es ≡ more e fs) (W : Type 0) (left : SomeName ctx P es ↔ W) where

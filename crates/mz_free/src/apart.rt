@@ -6,9 +6,9 @@ ghost use Rattle.mz_logic.specs.Tree.{operand, var};
 ghost use Rattle.mz_logic.specs.Variables.{Apart, InV, IsBoundAt, IsOperandAt};
 ghost use Rattle.mz_logic.specs.declared.binder.Binder.{Binder as Param};
 
-use crate::covered::Covered;
-use crate::free::{cover_operands_at, variable_at};
+use crate::free::{add_operands_at, variable_at};
 use crate::named::names_other;
+use crate::variables::VariableSet;
 use mz_logic::{Binder, Context, Env, Exprs, are_apart as are_apart_by_pairs};
 use std::alloc::{AllocError, Global};
 
@@ -28,7 +28,7 @@ pub fn are_apart(
     requires { Fits (signatures env.now) ctx.now es.now params.now }
     ensures { IfOk result (λ apart. IsTrue apart ↔ Apart ctx.now es.now params.now) }
 {
-    let mut owned = Covered::new(alloc);
+    let mut owned = VariableSet::new(alloc);
     let single = own_all(params, es, &mut owned)?;
     if single {
         return all_name_own(alloc, ctx, es, params, &owned);
@@ -40,10 +40,11 @@ pub fn are_apart(
 }
 
 /// Gathers the operands of the bound parameters. Whether no two of these have the same one.
-fn own_all(params: &[Binder], es: &Exprs, owned: &mut Covered) -> Result<bool, AllocError>
+fn own_all(params: &[Binder], es: &Exprs, owned: &mut VariableSet) -> Result<bool, AllocError>
     requires { owned.old ≡ [] }
     ensures has { IfOk result (λ single. single ≡ true → (x : ℕ) → Contains owned.new x ↔ ((j : ℕ) × IsBoundAt params.now j × (operand es.now j ≡ var x))) }
-    ensures single { IfOk result (λ single. IsTrue single ↔ ((j k x : ℕ) → IsBoundAt params.now j → operand es.now j ≡ var x → IsBoundAt params.now k → operand es.now k ≡ var x → j ≡ k)) }
+    ensures single { IfOk result (λ single. IsTrue single
+        ↔ ((j k x : ℕ) → IsBoundAt params.now j → operand es.now j ≡ var x → IsBoundAt params.now k → operand es.now k ≡ var x → j ≡ k)) }
 {
     for j in 0..params.len() {
         let fresh = own(params, es, j, owned)?;
@@ -55,7 +56,7 @@ fn own_all(params: &[Binder], es: &Exprs, owned: &mut Covered) -> Result<bool, A
 }
 
 /// Adds the operand of the j-th parameter, if this one is bound. Whether it wasn't there.
-fn own(params: &[Binder], es: &Exprs, j: usize, owned: &mut Covered) -> Result<bool, AllocError>
+fn own(params: &[Binder], es: &Exprs, j: usize, owned: &mut VariableSet) -> Result<bool, AllocError>
     requires { j < length params.now }
     ensures has { OnOk result ((x : ℕ) → Contains owned.new x ↔ (Contains owned.old x ⊎ (IsBoundAt params.now j × (operand es.now j ≡ var x)))) }
     ensures fresh { IfOk result (λ fresh. IsTrue fresh ↔ ((x : ℕ) → IsBoundAt params.now j → operand es.now j ≡ var x → Contains owned.old x → ⊥)) }
@@ -99,10 +100,15 @@ fn all_name_own(
     ctx: &Context,
     es: &Exprs,
     params: &[Binder],
-    owned: &Covered,
+    owned: &VariableSet,
 ) -> Result<bool, AllocError>
-    ensures { IfOk result (λ own. IsTrue own ↔ ((i x : ℕ) (p : Param) → slice_get params.now i ≡ Some p → InV ctx.now x (operand es.now i) → Contains owned.now x → IsOperandAt params.now es.now p.deps x ⊎ (IsBoundAt params.now i × (operand es.now i ≡ var x)))) }
+    ensures { IfOk result (λ own. IsTrue own
+        ↔ ((i x : ℕ) (p : Param) → slice_get params.now i ≡ Some p → InV ctx.now x (operand es.now i) → Contains owned.now x
+        → IsOperandAt params.now es.now p.deps x ⊎ (IsBoundAt params.now i × (operand es.now i ≡ var x)))) }
 {
+    if owned.is_empty() {
+        return Ok(true);
+    }
     for i in 0..params.len() {
         let alone = names_own(alloc, ctx, es, params, i, owned)?;
         if !alone {
@@ -119,13 +125,15 @@ fn names_own(
     es: &Exprs,
     params: &[Binder],
     i: usize,
-    owned: &Covered,
+    owned: &VariableSet,
 ) -> Result<bool, AllocError>
     requires { i < length params.now }
-    ensures { IfOk result (λ own. IsTrue own ↔ ((x : ℕ) (p : Param) → slice_get params.now i ≡ Some p → InV ctx.now x (operand es.now i) → Contains owned.now x → IsOperandAt params.now es.now p.deps x ⊎ (IsBoundAt params.now i × (operand es.now i ≡ var x)))) }
+    ensures { IfOk result (λ own. IsTrue own
+        ↔ ((x : ℕ) (p : Param) → slice_get params.now i ≡ Some p → InV ctx.now x (operand es.now i) → Contains owned.now x
+        → IsOperandAt params.now es.now p.deps x ⊎ (IsBoundAt params.now i × (operand es.now i ≡ var x)))) }
 {
-    let mut its = Covered::new(alloc);
-    cover_operands_at(params, es, &params[i].deps, &mut its)?;
+    let mut its = VariableSet::new(alloc);
+    add_operands_at(params, es, &params[i].deps, &mut its)?;
     own(params, es, i, &mut its)?;
     match es.get(i) {
         None => Ok(true),

@@ -7,7 +7,7 @@ ghost use Rattle.mz_logic.specs.Tree.{listed, operand, var};
 ghost use Rattle.mz_logic.specs.Variables.{InV, InFV, InSomeFV, IsBoundAt, IsFreeOperand, IsOperandAt};
 ghost use Rattle.mz_logic.specs.View.{tree};
 
-use crate::covered::Covered;
+use crate::variables::VariableSet;
 use mz_logic::{Binder, Context, Deps, Env, Expr, Exprs, is_bound_at};
 use std::alloc::{AllocError, Global};
 
@@ -26,14 +26,19 @@ pub fn free_vars_are_among(
     requires { (s : ℕ) × HasSort (signatures env.now) ctx.now (tree expr.now) s }
     ensures { IfOk result (λ are. IsTrue are ↔ ((x : ℕ) → InFV (signatures env.now) ctx.now x (tree expr.now) → Contains places.now x)) }
 {
-    let mut covered = Covered::of(alloc, places)?;
+    let mut covered = VariableSet::of(alloc, places)?;
     covers(env, ctx, expr, &mut covered)
 }
 
 /// Whether all free variables of the expression are covered. Where they are, the same ones are covered
 /// afterwards.
 #[cycle(covers)]
-fn covers(env: &Env, ctx: &Context, expr: &Expr, covered: &mut Covered) -> Result<bool, AllocError>
+fn covers(
+    env: &Env,
+    ctx: &Context,
+    expr: &Expr,
+    covered: &mut VariableSet,
+) -> Result<bool, AllocError>
     requires { InRange (signatures env.now) (length ctx.now) (tree expr.now) }
     ensures answer { IfOk result (λ b. IsTrue b ↔ ((x : ℕ) → InFV (signatures env.now) ctx.now x (tree expr.now) → Contains covered.old x)) }
     ensures same { IfOk result (λ b. b ≡ true → covered.new ≡ covered.old) }
@@ -60,7 +65,7 @@ fn covers_operands(
     ctx: &Context,
     es: &Exprs,
     params: &[Binder],
-    covered: &mut Covered,
+    covered: &mut VariableSet,
 ) -> Result<bool, AllocError>
     requires there { AllInRange (signatures env.now) (length ctx.now) es.now }
     requires many { length (listed es.now) ≡ length params.now }
@@ -86,7 +91,7 @@ fn covers_operand(
     params: &[Binder],
     param: &Binder,
     operand: &Expr,
-    covered: &mut Covered,
+    covered: &mut VariableSet,
 ) -> Result<bool, AllocError>
     requires { InRange (signatures env.now) (length ctx.now) (tree operand.now) }
     ensures answer { IfOk result (λ b. IsTrue b ↔ ((x : ℕ) → IsFreeOperand (signatures env.now) ctx.now x params.now es.now param.now (tree operand.now) → Contains covered.old x)) }
@@ -96,7 +101,7 @@ fn covers_operand(
         return Ok(true);
     }
     let before = covered.len();
-    cover_operands_at(params, es, &param.deps, covered)?;
+    add_operands_at(params, es, &param.deps, covered)?;
     let holds = covers(env, ctx, operand, covered)?;
     if !holds {
         return Ok(false);
@@ -106,7 +111,7 @@ fn covers_operand(
 }
 
 /// Whether the variable is covered, or all that it depends on, where it is a regular one.
-fn covers_variable(ctx: &Context, y: u32, covered: &Covered) -> bool
+fn covers_variable(ctx: &Context, y: u32, covered: &VariableSet) -> bool
     requires { y < length ctx.now }
     ensures { IsTrue result ↔ ((x : ℕ) → InV ctx.now x (var y) → Contains covered.now x) }
 {
@@ -117,7 +122,7 @@ fn covers_variable(ctx: &Context, y: u32, covered: &Covered) -> bool
 }
 
 /// The same of a variable with this binder.
-fn covers_binder(binder: &Binder, y: u32, covered: &Covered) -> bool
+fn covers_binder(binder: &Binder, y: u32, covered: &VariableSet) -> bool
     ensures { IsTrue result ↔ ((x : ℕ) → (((binder.now.bound ≡ true) × (x ≡ y)) ⊎ ((binder.now.bound ≡ false) × Contains binder.now.deps x)) → Contains covered.now x) }
 {
     if binder.bound {
@@ -128,7 +133,7 @@ fn covers_binder(binder: &Binder, y: u32, covered: &Covered) -> bool
 }
 
 /// Whether the variables at these places are covered.
-fn covers_all(places: &Deps, covered: &Covered) -> bool
+fn covers_all(places: &Deps, covered: &VariableSet) -> bool
     ensures { IsTrue result ↔ All (Contains covered.now) places.now }
 {
     for place in places.as_slice() {
@@ -140,7 +145,7 @@ fn covers_all(places: &Deps, covered: &Covered) -> bool
 }
 
 /// Whether the operands of the bound parameters at these places are covered.
-fn covers_operands_at(params: &[Binder], es: &Exprs, places: &Deps, covered: &Covered) -> bool
+fn covers_operands_at(params: &[Binder], es: &Exprs, places: &Deps, covered: &VariableSet) -> bool
     ensures { IsTrue result ↔ All (λ j. (x : ℕ) → IsBoundAt params.now j → operand es.now j ≡ var x → Contains covered.now x) places.now }
 {
     for place in places.as_slice() {
@@ -152,7 +157,7 @@ fn covers_operands_at(params: &[Binder], es: &Exprs, places: &Deps, covered: &Co
 }
 
 /// The same at one place.
-fn covers_operand_at(params: &[Binder], es: &Exprs, place: u32, covered: &Covered) -> bool
+fn covers_operand_at(params: &[Binder], es: &Exprs, place: u32, covered: &VariableSet) -> bool
     ensures { IsTrue result ↔ ((x : ℕ) → IsBoundAt params.now place → operand es.now place ≡ var x → Contains covered.now x) }
 {
     match bound_operand(params, es, place) {
@@ -161,12 +166,12 @@ fn covers_operand_at(params: &[Binder], es: &Exprs, place: u32, covered: &Covere
     }
 }
 
-/// Covers the operands of the bound parameters at these places.
-pub(crate) fn cover_operands_at(
+/// Adds the operands of the bound parameters at these places.
+pub(crate) fn add_operands_at(
     params: &[Binder],
     es: &Exprs,
     places: &Deps,
-    covered: &mut Covered,
+    covered: &mut VariableSet,
 ) -> Result<(), AllocError>
     ensures grows { OnOk result ((more : List ℕ) × (covered.new ≡ covered.old ++ more)) }
     ensures has { OnOk result ((x : ℕ) → Contains covered.new x ↔ (Contains covered.old x ⊎ IsOperandAt params.now es.now places.now x)) }

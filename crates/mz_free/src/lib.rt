@@ -4,11 +4,11 @@
 #![tactic(auto)]
 
 mod apart;
-mod covered;
 mod free;
 mod named;
+mod variables;
 
 pub use apart::are_apart;
-pub use covered::Covered;
 pub use free::free_vars_are_among;
 pub use named::some_name_any;
+pub use variables::VariableSet;

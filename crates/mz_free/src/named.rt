@@ -4,21 +4,24 @@ ghost use Rattle.mz_logic.specs.Tree.{var};
 ghost use Rattle.mz_logic.specs.Variables.{InV, InSomeV};
 ghost use Rattle.mz_logic.specs.View.{tree};
 
-use crate::covered::Covered;
+use crate::variables::VariableSet;
 use mz_logic::{Binder, Context, Deps, Expr, Exprs};
 use std::alloc::Global;
 
 /// Whether one of the variables is in V of one of the expressions.
-pub fn some_name_any(alloc: Global, ctx: &Context, es: &Exprs, variables: &Covered) -> bool
+pub fn some_name_any(alloc: Global, ctx: &Context, es: &Exprs, variables: &VariableSet) -> bool
     ensures { IsTrue result ↔ ((x : ℕ) × Contains variables.now x × InSomeV ctx.now x es.now) }
 {
-    let own = Covered::new(alloc);
+    if variables.is_empty() {
+        return false;
+    }
+    let own = VariableSet::new(alloc);
     some_name_other(ctx, es, variables, &own)
 }
 
 /// Whether one of the variables, but for those that are `own`, is in V of one of the expressions.
 #[cycle(names_other)]
-fn some_name_other(ctx: &Context, es: &Exprs, variables: &Covered, own: &Covered) -> bool
+fn some_name_other(ctx: &Context, es: &Exprs, variables: &VariableSet, own: &VariableSet) -> bool
     ensures { IsTrue result ↔ ((x : ℕ) × (Contains variables.now x × (Contains own.now x → ⊥)) × InSomeV ctx.now x es.now) }
 {
     for e in es.as_slice() {
@@ -31,7 +34,12 @@ fn some_name_other(ctx: &Context, es: &Exprs, variables: &Covered, own: &Covered
 
 /// The same of one expression.
 #[cycle(names_other)]
-pub(crate) fn names_other(ctx: &Context, expr: &Expr, variables: &Covered, own: &Covered) -> bool
+pub(crate) fn names_other(
+    ctx: &Context,
+    expr: &Expr,
+    variables: &VariableSet,
+    own: &VariableSet,
+) -> bool
     ensures { IsTrue result ↔ ((x : ℕ) × (Contains variables.now x × (Contains own.now x → ⊥)) × InV ctx.now x (tree expr.now)) }
 {
     match expr {
@@ -41,7 +49,7 @@ pub(crate) fn names_other(ctx: &Context, expr: &Expr, variables: &Covered, own: 
 }
 
 /// The same of the variable `y`.
-fn variable_names_other(ctx: &Context, y: u32, variables: &Covered, own: &Covered) -> bool
+fn variable_names_other(ctx: &Context, y: u32, variables: &VariableSet, own: &VariableSet) -> bool
     ensures { IsTrue result ↔ ((x : ℕ) × (Contains variables.now x × (Contains own.now x → ⊥)) × InV ctx.now x (var y)) }
 {
     match ctx.get(y) {
@@ -51,8 +59,9 @@ fn variable_names_other(ctx: &Context, y: u32, variables: &Covered, own: &Covere
 }
 
 /// The same of the variable `y` with this binder.
-fn binder_names_other(binder: &Binder, y: u32, variables: &Covered, own: &Covered) -> bool
-    ensures { IsTrue result ↔ ((x : ℕ) × (Contains variables.now x × (Contains own.now x → ⊥)) × (((binder.now.bound ≡ true) × (x ≡ y)) ⊎ ((binder.now.bound ≡ false) × Contains binder.now.deps x))) }
+fn binder_names_other(binder: &Binder, y: u32, variables: &VariableSet, own: &VariableSet) -> bool
+    ensures { IsTrue result
+        ↔ ((x : ℕ) × (Contains variables.now x × (Contains own.now x → ⊥)) × (((binder.now.bound ≡ true) × (x ≡ y)) ⊎ ((binder.now.bound ≡ false) × Contains binder.now.deps x))) }
 {
     if binder.bound {
         is_other(y, variables, own)
@@ -62,7 +71,7 @@ fn binder_names_other(binder: &Binder, y: u32, variables: &Covered, own: &Covere
 }
 
 /// Whether one of the variables, but for those that are `own`, is at one of the places.
-fn has_other(places: &Deps, variables: &Covered, own: &Covered) -> bool
+fn has_other(places: &Deps, variables: &VariableSet, own: &VariableSet) -> bool
     ensures { IsTrue result ↔ ((x : ℕ) × (Contains variables.now x × (Contains own.now x → ⊥)) × Contains places.now x) }
 {
     for place in places.as_slice() {
@@ -74,7 +83,7 @@ fn has_other(places: &Deps, variables: &Covered, own: &Covered) -> bool
 }
 
 /// Whether this is one of the variables, and none that is `own`.
-fn is_other(x: u32, variables: &Covered, own: &Covered) -> bool
+fn is_other(x: u32, variables: &VariableSet, own: &VariableSet) -> bool
     ensures { IsTrue result ↔ (Contains variables.now x × (Contains own.now x → ⊥)) }
 {
     variables.has(x) && !own.has(x)

@@ -1,5 +1,5 @@
 -- Trees as a list of the code's expressions.
-use Rattle.std.proofs.Common.{ℕ, zero, suc, ◌≡◌, ◌∙◌, List, [], ◌∷◌, length, get_or, slice_get, Some, ap, ap₂, refl, sym}
+use Rattle.std.proofs.Common.{ℕ, zero, suc, ◌≡◌, ◌<◌, ◌∙◌, List, [], ◌∷◌, length, get_or, slice_get, Some, ap, ap₂, refl, sym, le_of_suc-le-suc, not-suc-le-zero}
 use Rattle.mz_logic.specs.Tree.{Tree, Trees, var, app, none, more, listed}
 use Rattle.mz_logic.specs.View.{tree, trees}
 use Rattle.mz_logic.specs.declared.expr.Expr.{Expr}
@@ -35,3 +35,9 @@ pub expr-read : (es : Trees) (i : ℕ) (e : Expr) → slice_get (listed es) i �
 expr-read none i e at = absurd (none_some at)
 expr-read (more d es) zero e at = sym (ap expr_of (one_at refl at) ∙ expr-tree e)
 expr-read (more d es) (suc i) e at = expr-read es i e at
+
+-- what stands in the list is read of the trees
+pub expr-at : (es : Trees) (i : ℕ) → i < length (exprs_of es) → (e : Expr) × (slice_get (listed es) i ≡ Some (tree e)) × (e ≡ get_or (exprs_of es) i e)
+expr-at none i below = absurd (not-suc-le-zero below)
+expr-at (more d es) zero below = (expr_of d, ap Some (sym (tree-expr d)), refl)
+expr-at (more d es) (suc i) below = expr-at es i (le_of_suc-le-suc below)

@@ -1,6 +1,6 @@
 -- Formulas with their ends, and the hypotheses that they make.
-use Rattle.std.proofs.Common.{ℕ, zero, suc, ◌≡◌, ◌<◌, ◌≤◌, ◌+◌, ◌-◌, ◌∙◌, List, [], ◌∷◌, ◌++◌, length, get_or, slice_get, option_map, Option, Some, None, MatchOption, Bor, ap, refl, sym, subst, arith, le_of_suc-le-suc, not-suc-le-zero}
-use Rattle.std.specs.List.Sorted.{IsNonDecreasingBy}
+use Rattle.std.proofs.Common.{ℕ, zero, suc, true, false, leb, leb-true, leb-false, ◌≡◌, ◌<◌, ◌≤◌, ◌+◌, ◌-◌, ◌∙◌, List, [], ◌∷◌, ◌++◌, length, get_or, slice_get, option_map, Option, Some, None, MatchOption, Bor, ap, refl, sym, subst, arith, le_of_suc-le-suc, not-suc-le-zero}
+use Rattle.std.specs.List.Sorted.{IsNonDecreasingBy, IsPartitionPoint}
 use Rattle.mz_logic.specs.Tree.{Tree, Trees, app, none, more, listed, operand, followed_by, copies}
 use Rattle.mz_logic.specs.Groups.{up_to, Rise, AreEnds, Repeats}
 use Rattle.mz_logic.specs.View.{tree}
@@ -149,6 +149,14 @@ never_fall from (x ∷ xs) (first, rise) zero zero d order below = omega arith
 never_fall from (x ∷ xs) (first, rise) zero (suc j) d order below = let later = above_first x xs rise j d (le_of_suc-le-suc below) in omega (arith, later)
 never_fall from (x ∷ xs) (first, rise) (suc i) zero d order below = absurd (omega (arith, order))
 never_fall from (x ∷ xs) (first, rise) (suc i) (suc j) d order below = never_fall x xs rise i j d (le_of_suc-le-suc order) (le_of_suc-le-suc below)
+
+-- the same where a search over the ends found g
+pub formula_found : (es hs : Trees) (ends xs : List ℕ) (i g : ℕ) → up_to 0 es ends ≡ hs → AreEnds es ends → xs ≡ ends
+    → IsPartitionPoint (λ y. leb y i ≡ true) (λ y. leb y i ≡ false) xs g → slice_get (listed hs) i ≡ slice_get (listed es) g
+formula_found es hs ends xs i g is (many, rise) same point =
+    let (low, high) = subst (λ ys. IsPartitionPoint (λ y. leb y i ≡ true) (λ y. leb y i ≡ false) ys g) same point in
+    ap (λ fs. slice_get (listed fs) i) (sym is)
+    ∙ formula_at 0 es ends g i i many rise (omega arith) (λ k d below. leb-true _ _ (low k d (omega arith) below)) (λ k d from within. leb-false _ _ (high k d from within))
 
 -- ---- an operand is what is at its place
 

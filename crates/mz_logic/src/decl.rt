@@ -1,7 +1,6 @@
-ghost use Rattle.std.specs.Prelude.{◌≡◌, ◌↔◌, IsTrue, MatchOption};
+ghost use Rattle.std.specs.Prelude.{◌≡◌, MatchOption};
 ghost use Rattle.mz_logic.specs.Declaration.{body_of, context_of, dummies_of};
-ghost use Rattle.mz_logic.specs.DeclView.{declaration, form, term_view};
-ghost use Rattle.mz_logic.specs.LegalLists.{MayBeLocal};
+ghost use Rattle.mz_logic.specs.DeclView.{form, term_view};
 ghost use Rattle.mz_logic.specs.Tree.{more, none};
 ghost use Rattle.mz_logic.specs.View.{tree};
 
@@ -84,19 +83,6 @@ pub enum Decl {
     Sort(SortMods),
     Term(TermDecl),
     Thm(ThmDecl),
-}
-
-impl Decl {
-    /// Whether the declaration may be marked local: only definitions with a body and theorems may.
-    pub fn may_be_local(&self) -> bool
-        ensures { IsTrue result ↔ MayBeLocal (declaration self.now) }
-    {
-        match self {
-            Decl::Sort(_) => false,
-            Decl::Term(term) => term.form.body().is_some(),
-            Decl::Thm(thm) => matches!(thm.form, ThmForm::Theorem),
-        }
-    }
 }
 
 /// What a declaration fails in, in the order in which it is looked for.

@@ -92,6 +92,13 @@ impl Exprs {
         Exprs { items }
     }
 
+    /// The expressions in order, given away.
+    pub fn into_vec(self) -> Vec<Expr>
+        ensures { trees result.items ≡ self }
+    {
+        self.items
+    }
+
     /// Appends an expression.
     ///
     /// # Errors

@@ -1,4 +1,4 @@
-ghost use Rattle.std.specs.Prelude.{◌≡◌, ◌<◌, length, option_map, slice_get, MatchOption, Some, IfOk, OnOk, OnErr};
+ghost use Rattle.std.specs.Prelude.{◌≡◌, ◌<◌, ◌-◌, IsTrue, length, option_map, slice_get, MatchOption, Some, IfOk, OnOk, OnErr};
 ghost use Rattle.mz_logic.specs.Tree.{listed, operand, app, none, followed_by, copies};
 ghost use Rattle.mz_logic.specs.Groups.{up_to, AreEnds, Repeats};
 ghost use Rattle.mz_logic.specs.View.{tree};
@@ -12,7 +12,7 @@ use std::marker::Model;
 #[derive(Drop)]
 pub struct Hyps {
     formulas: Exprs,
-    // before which hypothesis each formula's end
+    // one past each formula's last hypothesis
     ends: Vec<usize>,
 }
 
@@ -118,6 +118,18 @@ impl Hyps {
             None => unreachable!(),
             Some(hyp) => hyp,
         }
+    }
+
+    /// Whether the i-th hypothesis and the one before it are of one formula, kept once for both.
+    pub fn shares_with_previous(&self, i: usize) -> bool
+        requires { 0 < i }
+        ensures { IsTrue result → slice_get (listed self.now) (i - 1) ≡ slice_get (listed self.now) i }
+    {
+        let ends = self.ends.as_slice();
+        let before = i - 1;
+        let first = ends.partition_point(|end| *end <= before);
+        let second = ends.partition_point(|end| *end <= i);
+        first == second
     }
 
     /// The formulas in order, each of which is one hypothesis or more.

@@ -16,7 +16,7 @@ use Rattle.mz_machine.specs.OverStore.{heap_at, state_at, AreFirst, IsUnderway}
 use Rattle.mz_layout.specs.declared.taken.Rows.{Rows}
 use Rattle.mz_earlier.proofs.Offered.{binders_many, own-binders}
 use Rattle.mz_machine.proofs.Dummies.{no-dummies}
-use Rattle.mz_machine.proofs.Ending.{own-are}
+use Rattle.mz_machine.proofs.EndRows.{own-are}
 
 -- ---- the first ids
 
@@ -73,7 +73,7 @@ module _ (file : List ℕ) (kind row : ℕ) (before : Rows) (s : Sharing) (ws : 
       rw (
         ctx ∙ sym params-are,
         first-trees s (length ws) firsts,
-        own-are 0 (heading_of file kind row).params,
+        own-are strict 0 (heading_of file kind row).params,
         params-many,
       )
       refl

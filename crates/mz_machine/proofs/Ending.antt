@@ -1,32 +1,23 @@
 -- The END of a body over a store: the row's own stream, and what it is run on.
-use Rattle.std.proofs.Common.{◌≡◌, ◌≤◌, ◌<◌, ◌+◌, ℕ, zero, suc, List, [], ◌∷◌, ◌++◌, length, map, Result, Ok, Err, refl, sym, ap, ◌∙◌, arith}
+use Rattle.std.proofs.Common.{◌≡◌, ◌≤◌, ◌<◌, ◌+◌, ℕ, zero, suc, List, [], ◌∷◌, length, map, refl, sym, ap, ◌∙◌, arith}
 use Rattle.std.specs.Prelude.{reverse}
 use Rattle.std.specs.List.{range_with_len}
-use Rattle.std.proofs.lemmas.List.{map-append, reverse-append}
-use Rattle.mz_cmd.specs.declared.rule.K.{K}
 use Rattle.mz_logic.specs.Tree.{Tree, var}
-use Rattle.mz_logic.specs.declared.binder.Binder.{Binder}
 use Rattle.mz_store.specs.Sharing.{Sharing, tree_of, IsIn, AreIn}
 use Rattle.mz_store.specs.declared.item.Id.{Id}
 use Rattle.mz_store.specs.declared.item.Item.{Item as Kept}
 use Rattle.mz_store.specs.declared.item.Item.TheVariants.{Proof}
 use Rattle.mz_unification.specs.Profile.{strict, Item, proof}
-use Rattle.mz_unification.specs.UnifyMachine.{Matching, unify, unify_steps}
 use Rattle.mz_unify.specs.Stored.{item_at, items_at, trees_at, matching_at, AreVariables, AreItemsIn}
-use Rattle.mz_unify.proofs.Offered.{trees-append}
-use Rattle.mz_soundness.specs.MachineState.{RowsBefore, State, Kind, is_axiom, is_theorem, is_definition, Heading, signatures_in}
-use Rattle.mz_soundness.specs.ProofMachine.{last_item, as_proofs, own_variables, ending, ends_with, proof_end}
-use Rattle.mz_soundness.specs.Bodies.{match_steps}
+use Rattle.mz_unification.proofs.Offered.{map-reverse}
+use Rattle.mz_soundness.specs.MachineState.{State, Kind, is_axiom, is_theorem, is_definition, Heading}
+use Rattle.mz_soundness.specs.ProofMachine.{as_proofs}
 use Rattle.mz_earlier.specs.OwnRow.{id_at, first_ids, own_proofs}
-use Rattle.mz_machine.specs.OverStore.{Gives, AreFirst}
-use Rattle.mz_machine.specs.Endings.{mode_at, items_of, ended, IsOwnRun}
-use Rattle.mz_unify.specs.declared.stop.Stop.{Stop}
-use Rattle.mz_unify.specs.declared.stop.Stop.TheVariants.{Rule, Mem}
+use Rattle.mz_machine.specs.OverStore.{AreFirst}
+use Rattle.mz_machine.specs.Endings.{mode_at, items_of, ended}
+use Rattle.mz_machine.proofs.EndRows.{own-are}
 
 -- ---- the first variables
-
-next-is : (i : ℕ) → suc i ≡ i + 1
-next-is i = omega arith
 
 trees-from : (s : Sharing) (i n : ℕ) → ((j : ℕ) → i ≤ j → j < i + n → IsIn s j × (tree_of s j ≡ var j)) → trees_at s (map id_at (range_with_len i n)) ≡ map var (range_with_len i n)
 trees-from s i zero first = refl
@@ -52,30 +43,14 @@ first-in s n first = in-from s 0 n (λ j le below. first j (omega (arith, below)
 pub first-variables : (s : Sharing) (n : ℕ) → AreFirst s n → AreVariables s (first_ids n)
 first-variables s n first = variables-from s 0 n (λ j le below. first j (omega (arith, below)))
 
-pub own-are : (i : ℕ) (ps : List Binder) → own_variables strict i ps ≡ map var (range_with_len i (length ps))
-own-are i [] = refl
-own-are i (p ∷ ps) = ap (λ (ts : List Tree). var i ∷ ts) (own-are (suc i) ps ∙ ap (λ (j : ℕ). map var (range_with_len j (length ps))) (next-is i))
-
 -- ---- hypotheses as proofs
-
-kept-reverse : (hyps : List Id) → reverse (map Proof hyps) ≡ map Proof (reverse hyps)
-kept-reverse [] = refl
-kept-reverse (h ∷ hs) =
-    reverse-append (Proof h ∷ []) (map Proof hs) ∙ (ap (λ (xs : List Kept). xs ++ Proof h ∷ []) (kept-reverse hs)
-    ∙ sym (ap (map Proof) (reverse-append (h ∷ []) hs) ∙ map-append Proof (reverse hs) (h ∷ [])))
-
-trees-reverse : (s : Sharing) (hyps : List Id) → reverse (trees_at s hyps) ≡ trees_at s (reverse hyps)
-trees-reverse s [] = refl
-trees-reverse s (h ∷ hs) =
-    reverse-append (tree_of s h.0 ∷ []) (trees_at s hs) ∙ (ap (λ (xs : List Tree). xs ++ tree_of s h.0 ∷ []) (trees-reverse s hs)
-    ∙ sym (ap (trees_at s) (reverse-append (h ∷ []) hs) ∙ trees-append s (reverse hs) (h ∷ [])))
 
 items-are : (s : Sharing) (ids : List Id) → map (item_at s) (map Proof ids) ≡ map proof (trees_at s ids)
 items-are s [] = refl
 items-are s (i ∷ is) = ap (λ (xs : List (Item Tree)). proof (tree_of s i.0) ∷ xs) (items-are s is)
 
 proofs-are : (s : Sharing) (hyps : List Id) → items_at s (map Proof hyps) ≡ as_proofs (trees_at s hyps)
-proofs-are s hyps = ap (map (item_at s)) (kept-reverse hyps) ∙ (items-are s (reverse hyps) ∙ ap (map proof) (sym (trees-reverse s hyps)))
+proofs-are s hyps = ap (map (item_at s)) (sym (map-reverse Proof hyps)) ∙ (items-are s (reverse hyps) ∙ ap (map proof) (map-reverse (λ (i : Id). tree_of s i.0) hyps))
 
 pub own-items : (s : Sharing) (kind : Kind) (hyps : List Id) → items_at s (own_proofs kind hyps) ≡ items_of kind (trees_at s hyps)
 own-items s is_axiom hyps = proofs-are s hyps
@@ -96,36 +71,6 @@ own-items-in s is_definition hyps inside = tt
 pub own-matching : (h : Heading) (st : State Tree) (kind : Kind) (s : Sharing) (stream : List ℕ) (operands : List Id) (target : Id) (proofs : List Kept)
     → stream ≡ h.stream → trees_at s operands ≡ map var (range_with_len 0 (length h.params)) → items_at s proofs ≡ items_of kind st.hyps
     → matching_at s (mode_at kind) stream operands target proofs ≡ ended h st kind (tree_of s target.0)
-own-matching h st is_axiom s stream operands target proofs a b c = rw (a, b, c, own-are 0 h.params) refl
-own-matching h st is_theorem s stream operands target proofs a b c = rw (a, b, c, own-are 0 h.params) refl
-own-matching h st is_definition s stream operands target proofs a b c = rw (a, b, c, own-are 0 h.params) refl
-
-module _ (tables : RowsBefore) (h : Heading) (st : State Tree) where
-  pub no-last-item : (d : K) → last_item h.kind st.stack ≡ Err d → ends_with strict tables h st ≡ Err d
-  unfolding ends_with
-  no-last-item d e = rw e refl
-
-  pub not-ending : (e : Tree) (d : K) → last_item h.kind st.stack ≡ Ok e → ending strict tables h st h.kind e ≡ Err d → ends_with strict tables h st ≡ Err d
-  unfolding ends_with
-  not-ending e d is stopped = rw (is, stopped) refl
-
-  pub is-ending : (e : Tree) (m : Matching Tree) → last_item h.kind st.stack ≡ Ok e → ending strict tables h st h.kind e ≡ Ok m → ends_with strict tables h st ≡ Ok m
-  unfolding ends_with
-  is-ending e m is ends = rw (is, ends) refl
-
-  pub stopped-end : (d : K) → ends_with strict tables h st ≡ Err d → proof_end strict tables h st ≡ Err d
-  unfolding proof_end
-  stopped-end d e = rw e refl
-
-  pub no-end-steps : (d : K) → ends_with strict tables h st ≡ Err d → match_steps strict tables st (ends_with strict tables h st) ≡ 0
-  no-end-steps d e = rw e refl
-
-  pub end-steps : (m : Matching Tree) → ends_with strict tables h st ≡ Ok m → match_steps strict tables st (ends_with strict tables h st) ≡ unify_steps strict (signatures_in tables) st.ctx m
-  end-steps m e = rw e refl
-
-  pub own-end : {A : Type 0} (m : Matching Tree) (result : Result A Stop) → ends_with strict tables h st ≡ Ok m → IsOwnRun (unify strict (signatures_in tables) st.ctx m) result
-      → Gives (proof_end strict tables h st) result (λ _. st)
-  unfolding proof_end
-  own-end m (Ok x) e (u, is) = rw (e, is) refl
-  own-end m (Err (Rule d)) e (at, is) = rw (e, is) refl
-  own-end m (Err Mem) e run = tt
+own-matching h st is_axiom s stream operands target proofs a b c = rw (a, b, c, own-are strict 0 h.params) refl
+own-matching h st is_theorem s stream operands target proofs a b c = rw (a, b, c, own-are strict 0 h.params) refl
+own-matching h st is_definition s stream operands target proofs a b c = rw (a, b, c, own-are strict 0 h.params) refl

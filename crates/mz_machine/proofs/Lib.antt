@@ -1,19 +1,22 @@
 pub mod GapRows
 pub mod GapWalk
 pub mod Popping
+pub mod ConversionRows
 pub mod Converting
 pub mod Unfoldings
+mod CitationRows
 mod Citing
 pub mod RowResults
 pub mod TakenOperands
 pub mod ReadExprs
 pub mod FittingOperands
 mod Apartness
+mod TermRows
 pub mod TermResults
 pub mod Stopping
+mod EndRows
 mod Ending
 mod Advancing
-pub mod BodyUnderway
 pub mod BodyRunning
 pub mod Dummies
 pub mod Machines

@@ -1,105 +1,95 @@
--- What the rows of the proof machine give, case by case: those over the heap.
-use Rattle.std.proofs.Common.{◌≡◌, ℕ, suc, Bool, true, false, List, [], ◌∷◌, ◌++◌, Some, None, Ok, Err, length, refl, ap, ◌∙◌}
+-- What the rows of the proof machine give in any machine, case by case: those over the heap.
+use Rattle.std.proofs.Common.{◌≡◌, ℕ, suc, Bool, true, false, List, [], ◌∷◌, ◌++◌, Option, Some, None, Ok, Err, length, refl, ap, ◌∙◌}
 use Rattle.std.specs.Prelude.{slice_get, nat_lt, if◌then◌else◌}
 use Rattle.mz_cmd.specs.declared.rule.K.{K}
 use Rattle.mz_cmd.specs.declared.rule.K.TheVariants as k
 use Rattle.mz_cmd.specs.declared.code.ProofCode.TheVariants as code
-use Rattle.mz_logic.specs.Tree.{Tree, var}
 use Rattle.mz_logic.specs.Sorts.{HasSort}
 use Rattle.mz_logic.specs.declared.binder.Binder.{Binder}
 use Rattle.mz_logic.proofs.Offered.{sort_is}
 use Rattle.mz_store.specs.Bits.{bound_from, bound_vars}
 use Rattle.mz_unification.specs.Spells.{dummy_of}
-use Rattle.mz_unification.specs.Profile.{strict, Item, expr, proof, obligation, conversion}
-use Rattle.mz_unification.specs.Tests.{same_tree}
-use Rattle.mz_unification.proofs.Offered.{same_tree-true, same_tree-refl}
+use Rattle.mz_unification.specs.Profile.{Profile, Item, expr, proof, obligation, conversion}
+use Rattle.mz_unify.proofs.Offered.{Parts, differ}
 use Rattle.mz_soundness.specs.MachineState.{RowsBefore, State}
 use Rattle.mz_soundness.specs.Premises.{pop_expr, pop_obligation, is_conversion, is_obligation, may_be_dummy_sort, is_provable_sort, bound_count}
 use Rattle.mz_soundness.specs.ProofMachine.{proof_row, referred, has_provable_sort}
 use Rattle.mz_earlier.specs.Before.{Before, tables_of, signatures_of}
-use Rattle.mz_machine.specs.OverStore.{with_stack}
-
-pub not-same : (e f : Tree) → (e ≡ f → ⊥) → same_tree e f ≡ false
-not-same e f h = go (same_tree e f) refl
-  where
-    go : (b : Bool) → same_tree e f ≡ b → same_tree e f ≡ false
-    go true is = absurd (h (same_tree-true e f is))
-    go false is = is
 
 -- ---- an item of the heap
 
 -- another item is pushed
-pub push-row : (st : State Tree) (x : Item Tree) → is_conversion x ≡ false → referred strict x st ≡ Ok (with_stack st (x ∷ st.stack))
-push-row st (expr e) h = refl
-push-row st (proof e) h = refl
-push-row st (obligation l r) h = refl
-push-row st (conversion l r) h = absurd cc
+pub push-row : (P : Profile) (st : State P.T) (x : Item P.T) → is_conversion x ≡ false → referred P x st ≡ Ok (record st { stack = x ∷ st.stack })
+push-row P st (expr e) h = refl
+push-row P st (proof e) h = refl
+push-row P st (obligation l r) h = refl
+push-row P st (conversion l r) h = absurd cc
 
-module _ (st : State Tree) (l r : Tree) where
-  pub pay-err : (rule : K) → pop_obligation st.stack ≡ Err rule → referred strict (conversion l r) st ≡ Err rule
+module _ {P : Profile} {head : P.T → Option ℕ} {operands : P.T → List P.T} (parts : Parts P head operands) (st : State P.T) (l r : P.T) where
+  pub pay-err : (rule : K) → pop_obligation st.stack ≡ Err rule → referred P (conversion l r) st ≡ Err rule
   pay-err rule h = rw h refl
 
-  pub pay-left : (a b : Tree) (rest : List (Item Tree)) → pop_obligation st.stack ≡ Ok (a, b, rest) → (l ≡ a → ⊥) → referred strict (conversion l r) st ≡ Err k.ConversionReference
-  pay-left a b rest h other = rw (h, not-same l a other) refl
+  pub pay-left : (a b : P.T) (rest : List (Item P.T)) → pop_obligation st.stack ≡ Ok (a, b, rest) → (l ≡ a → ⊥) → referred P (conversion l r) st ≡ Err k.ConversionReference
+  pay-left a b rest h other = rw (h, differ parts l a other) refl
 
-  pub pay-right : (a b : Tree) (rest : List (Item Tree)) → pop_obligation st.stack ≡ Ok (a, b, rest) → l ≡ a → (r ≡ b → ⊥) → referred strict (conversion l r) st ≡ Err k.ConversionReference
-  pay-right a b rest h same other = rw (h, same, same_tree-refl a, not-same r b other) refl
+  pub pay-right : (a b : P.T) (rest : List (Item P.T)) → pop_obligation st.stack ≡ Ok (a, b, rest) → l ≡ a → (r ≡ b → ⊥) → referred P (conversion l r) st ≡ Err k.ConversionReference
+  pay-right a b rest h same other = rw (h, same, parts.itself a, differ parts r b other) refl
 
-  pub pay-row : (a b : Tree) (rest : List (Item Tree)) → pop_obligation st.stack ≡ Ok (a, b, rest) → l ≡ a → r ≡ b → referred strict (conversion l r) st ≡ Ok (with_stack st rest)
-  pay-row a b rest h left right = rw (h, left, right, same_tree-refl a, same_tree-refl b) refl
+  pub pay-row : (a b : P.T) (rest : List (Item P.T)) → pop_obligation st.stack ≡ Ok (a, b, rest) → l ≡ a → r ≡ b → referred P (conversion l r) st ≡ Ok (record st { stack = rest })
+  pay-row a b rest h left right = rw (h, left, right, parts.itself a, parts.itself b) refl
 
-module _ (tables : RowsBefore) (at n : ℕ) (st : State Tree) where
+module _ (P : Profile) (tables : RowsBefore) (at n : ℕ) (st : State P.T) where
   -- ---- Ref and ConvRef
 
-  pub ref-none : slice_get st.heap n ≡ None → proof_row strict tables at code.Ref n st ≡ Err k.HeapIndex
+  pub ref-none : slice_get st.heap n ≡ None → proof_row P tables at code.Ref n st ≡ Err k.HeapIndex
   unfolding proof_row
   ref-none h = rw h refl
 
-  pub ref-row : (x : Item Tree) → slice_get st.heap n ≡ Some x → proof_row strict tables at code.Ref n st ≡ referred strict x st
+  pub ref-row : (x : Item P.T) → slice_get st.heap n ≡ Some x → proof_row P tables at code.Ref n st ≡ referred P x st
   unfolding proof_row
   ref-row x h = rw h refl
 
-  pub conv-ref-none : slice_get st.heap n ≡ None → proof_row strict tables at code.ConvRef n st ≡ Err k.HeapIndex
+  pub conv-ref-none : slice_get st.heap n ≡ None → proof_row P tables at code.ConvRef n st ≡ Err k.HeapIndex
   unfolding proof_row
   conv-ref-none h = rw h refl
 
-  pub conv-ref-other : (x : Item Tree) → slice_get st.heap n ≡ Some x → is_conversion x ≡ false → proof_row strict tables at code.ConvRef n st ≡ Err k.Kind
+  pub conv-ref-other : (x : Item P.T) → slice_get st.heap n ≡ Some x → is_conversion x ≡ false → proof_row P tables at code.ConvRef n st ≡ Err k.Kind
   unfolding proof_row
   conv-ref-other x h other = rw (h, other) refl
 
-  pub conv-ref-row : (x : Item Tree) → slice_get st.heap n ≡ Some x → is_conversion x ≡ true → proof_row strict tables at code.ConvRef n st ≡ referred strict x st
+  pub conv-ref-row : (x : Item P.T) → slice_get st.heap n ≡ Some x → is_conversion x ≡ true → proof_row P tables at code.ConvRef n st ≡ referred P x st
   unfolding proof_row
   conv-ref-row x h is = rw (h, is) refl
 
   -- ---- Save
 
-  pub save-none : st.stack ≡ [] → proof_row strict tables at code.Save n st ≡ Err k.Underflow
+  pub save-none : st.stack ≡ [] → proof_row P tables at code.Save n st ≡ Err k.Underflow
   unfolding proof_row
   save-none h = rw h refl
 
-  pub save-other : (x : Item Tree) (rest : List (Item Tree)) → st.stack ≡ x ∷ rest → is_obligation x ≡ true → proof_row strict tables at code.Save n st ≡ Err k.SaveKind
+  pub save-other : (x : Item P.T) (rest : List (Item P.T)) → st.stack ≡ x ∷ rest → is_obligation x ≡ true → proof_row P tables at code.Save n st ≡ Err k.SaveKind
   unfolding proof_row
   save-other x rest h is = rw (h, is) refl
 
-  pub save-row : (x : Item Tree) (rest : List (Item Tree)) → st.stack ≡ x ∷ rest → is_obligation x ≡ false → proof_row strict tables at code.Save n st ≡ Ok (record st { heap = st.heap ++ x ∷ [] })
+  pub save-row : (x : Item P.T) (rest : List (Item P.T)) → st.stack ≡ x ∷ rest → is_obligation x ≡ false → proof_row P tables at code.Save n st ≡ Ok (record st { heap = st.heap ++ x ∷ [] })
   unfolding proof_row
   save-row x rest h is = rw (h, is) refl
 
   -- ---- Dummy
 
-  pub dummy-sort-fails : may_be_dummy_sort (slice_get tables.sorts n) ≡ false → proof_row strict tables at code.Dummy n st ≡ Err k.DummySort
+  pub dummy-sort-fails : may_be_dummy_sort (slice_get tables.sorts n) ≡ false → proof_row P tables at code.Dummy n st ≡ Err k.DummySort
   unfolding proof_row
   dummy-sort-fails h = rw h refl
 
-  pub dummy-many : may_be_dummy_sort (slice_get tables.sorts n) ≡ true → nat_lt (bound_count st.ctx) 55 ≡ false → proof_row strict tables at code.Dummy n st ≡ Err k.DummyCount
+  pub dummy-many : may_be_dummy_sort (slice_get tables.sorts n) ≡ true → nat_lt (bound_count st.ctx) 55 ≡ false → proof_row P tables at code.Dummy n st ≡ Err k.DummyCount
   unfolding proof_row
   dummy-many h many = rw (h, many) refl
 
   pub dummy-row : may_be_dummy_sort (slice_get tables.sorts n) ≡ true → nat_lt (bound_count st.ctx) 55 ≡ true
-      → proof_row strict tables at code.Dummy n st ≡ Ok (record {
+      → proof_row P tables at code.Dummy n st ≡ Ok (record {
         ctx = st.ctx ++ dummy_of n ∷ [];
-        heap = st.heap ++ expr (var (length st.ctx)) ∷ [];
-        stack = expr (var (length st.ctx)) ∷ st.stack;
+        heap = st.heap ++ expr (P.variable (length st.ctx)) ∷ [];
+        stack = expr (P.variable (length st.ctx)) ∷ st.stack;
         hyps = st.hyps;
       })
   unfolding proof_row
@@ -107,32 +97,32 @@ module _ (tables : RowsBefore) (at n : ℕ) (st : State Tree) where
 
   -- ---- Sorry
 
-  pub sorry-row : proof_row strict tables at code.Sorry n st ≡ Err k.Sorry
+  pub sorry-row : P.gaps ≡ false → proof_row P tables at code.Sorry n st ≡ Err k.Sorry
   unfolding proof_row
-  sorry-row = refl
+  sorry-row none = rw none refl
 
   -- ---- Hyp
 
-  pub hyp-err : (rule : K) → pop_expr st.stack ≡ Err rule → proof_row strict tables at code.Hyp n st ≡ Err rule
+  pub hyp-err : (rule : K) → pop_expr st.stack ≡ Err rule → proof_row P tables at code.Hyp n st ≡ Err rule
   unfolding proof_row
   hyp-err rule h = rw h refl
 
-  pub hyp-other : (e : Tree) (rest : List (Item Tree)) → pop_expr st.stack ≡ Ok (e, rest) → has_provable_sort strict tables st.ctx e ≡ false
-      → proof_row strict tables at code.Hyp n st ≡ Err k.NotProvable
+  pub hyp-other : (e : P.T) (rest : List (Item P.T)) → pop_expr st.stack ≡ Ok (e, rest) → has_provable_sort P tables st.ctx e ≡ false
+      → proof_row P tables at code.Hyp n st ≡ Err k.NotProvable
   unfolding proof_row
   hyp-other e rest h other = rw (h, other) refl
 
-  pub hyp-row : (e : Tree) (rest : List (Item Tree)) → pop_expr st.stack ≡ Ok (e, rest) → has_provable_sort strict tables st.ctx e ≡ true
-      → proof_row strict tables at code.Hyp n st ≡ Ok (record { ctx = st.ctx; heap = st.heap ++ proof e ∷ []; stack = rest; hyps = st.hyps ++ e ∷ [] })
+  pub hyp-row : (e : P.T) (rest : List (Item P.T)) → pop_expr st.stack ≡ Ok (e, rest) → has_provable_sort P tables st.ctx e ≡ true
+      → proof_row P tables at code.Hyp n st ≡ Ok (record { ctx = st.ctx; heap = st.heap ++ proof e ∷ []; stack = rest; hyps = st.hyps ++ e ∷ [] })
   unfolding proof_row
   hyp-row e rest h is = rw (h, is) refl
 
 -- ---- what the tests mean
 
 -- a sort that is kept with an expression decides whether claims may have it
-pub provable : (b : Before) (ctx : List Binder) (e : Tree) (n : ℕ) (v : Bool) → HasSort (signatures_of b) ctx e n → is_provable_sort (slice_get (tables_of b).sorts n) ≡ v
-    → has_provable_sort strict (tables_of b) ctx e ≡ v
-provable b ctx e n v sorted is = ap (λ s. is_provable_sort (slice_get (tables_of b).sorts s)) (sort_is (signatures_of b) ctx e n sorted) ∙ is
+pub provable : (P : Profile) (b : Before) (ctx : List Binder) (e : P.T) (n : ℕ) (v : Bool) → HasSort (signatures_of b) ctx (P.tree e) n → is_provable_sort (slice_get (tables_of b).sorts n) ≡ v
+    → has_provable_sort P (tables_of b) ctx e ≡ v
+provable P b ctx e n v sorted is = ap (λ s. is_provable_sort (slice_get (tables_of b).sorts s)) (sort_is (signatures_of b) ctx (P.tree e) n sorted) ∙ is
 
 count-from : (i : ℕ) (bs : List Binder) → bound_count bs ≡ length (bound_from i bs)
 count-from i [] = refl

@@ -1,7 +1,6 @@
 -- A machine that takes commands one by one.
-use Rattle.std.specs.Prelude.{ℕ, ⊤, suc, Bool, true, false, List, Option, Some, None, Result, Err, slice_get, IsTrue}
+use Rattle.std.specs.Prelude.{ℕ, ⊤, suc, Bool, true, false, List, Option, Some, None, Result, slice_get, IsTrue}
 use Rattle.mz_cmd.specs.declared.rule.K.{K}
-use Rattle.mz_cmd.specs.declared.rule.K.TheVariants as k
 use Rattle.mz_cmd.specs.declared.command.Cmd.{Cmd}
 use Rattle.mz_cmd.specs.declared.code.ProofCode.{ProofCode}
 use Rattle.mz_cmd.specs.declared.code.ProofCode.TheVariants as code
@@ -9,10 +8,11 @@ use Rattle.mz_logic.specs.Tree.{Tree}
 use Rattle.mz_unification.specs.Profile.{plain, Item}
 use Rattle.mz_soundness.specs.MachineState.{RowsBefore, State, Heading}
 use Rattle.mz_soundness.specs.Premises.{is_conversion}
-use Rattle.mz_soundness.specs.ProofMachine.{proof_row, ends_with}
-use Rattle.mz_soundness.specs.Bodies.{BodyCommand, ends, proves, body_command, row_steps, match_steps}
+use Rattle.mz_soundness.specs.ProofMachine.{ends_with}
+use Rattle.mz_soundness.specs.Bodies.{BodyCommand, ends, proves, body_command, match_steps}
 use Rattle.mz_earlier.specs.OwnRow.{heading_of}
 use Rattle.mz_earlier.specs.Before.{tables_before}
+use Rattle.mz_earlier.specs.OneCommand.{row_in, steps_in}
 use Rattle.mz_layout.specs.declared.taken.Rows.{Rows}
 
 -- a machine between two commands: whether gaps are let through, the file, the statement whose body runs with the rows
@@ -37,9 +37,7 @@ heading_for u = heading_of u.file u.kind u.row
 
 -- the row of a command other than END; one that is not of this body has none
 abbrev pub row_by : Bool → RowsBefore → ℕ → State Tree → Option BodyCommand → Result (State Tree) K
-row_by gaps tables at st None = Err k.Command
-row_by gaps tables at st (Some ends) = Err k.Command
-row_by gaps tables at st (Some (proves c value)) = proof_row (plain gaps) tables at c value st
+row_by gaps tables at st u = row_in (plain gaps) tables at st u
 
 abbrev pub row_of : Bool → RowsBefore → Heading → ℕ → State Tree → Cmd → Result (State Tree) K
 row_of gaps tables h at st c = row_by gaps tables at st (body_command (plain gaps) h.kind c.code c.value)
@@ -52,9 +50,7 @@ is_sorry (Some c) = false
 
 -- it and the unify commands that it executes
 abbrev pub steps_by : Bool → RowsBefore → State Tree → Option BodyCommand → ℕ
-steps_by gaps tables st None = 1
-steps_by gaps tables st (Some ends) = 1
-steps_by gaps tables st (Some (proves c value)) = suc (row_steps (plain gaps) tables c value st)
+steps_by gaps tables st u = steps_in (plain gaps) tables st u
 
 abbrev pub steps_for : Bool → RowsBefore → Heading → State Tree → Cmd → ℕ
 steps_for gaps tables h st c = steps_by gaps tables st (body_command (plain gaps) h.kind c.code c.value)

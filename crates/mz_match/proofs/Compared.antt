@@ -66,6 +66,10 @@ module _ (file : List ℕ) (n : ℕ) (m : Marks) where
   said-made at d (app t es) to d' s stands other (inl (i, says, _, _)) = absurd (other (says-step file at codes.Ref i to s stands says).0)
   said-made at d (app t es) to d' s stands other (inr made) = made
 
+  pub made-said : (at d : ℕ) (f : Tree) (to d' : ℕ) → IsMade file n m at d f to d' → IsSaid file n m at d f to d'
+  made-said at d (var x) to d' made = inr made
+  made-said at d (app t es) to d' made = inr made
+
   -- where one stands, it is the mark's
   pub said-mark : (at d : ℕ) (f : Tree) (to d' : ℕ) (s : Step) → step_at file at ≡ Some s → s.code ≡ codes.Ref → IsSaid file n m at d f to d'
       → (slice_get m.trees s.value ≡ Some f) × (s.next ≡ to) × (d' ≡ d)

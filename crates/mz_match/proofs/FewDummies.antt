@@ -1,7 +1,6 @@
 -- A definition has at most 55 dummies: its body finds them among the bound variables of its context.
-use Rattle.std.proofs.Common.{◌≡◌, ◌≤◌, ◌+◌, ◌⊎◌, ◌∙◌, ℕ, zero, suc, Bool, true, false, not, cond, ltb, eqb, List, [], ◌∷◌, ◌++◌, length, drop, Option, Some, None, Result, Ok, Err, slice_get, refl, sym, ap, subst, inl, inr, arith}
-use Rattle.std.specs.Prelude.{if◌then◌else◌, Contains, ◌&&◌, ◌==◌}
-use Rattle.std.specs.List.{filter}
+use Rattle.std.proofs.Common.{◌≡◌, ◌≤◌, ◌+◌, ◌∙◌, ℕ, zero, suc, Bool, true, false, not, cond, ltb, eqb, List, [], ◌∷◌, ◌++◌, length, drop, Option, Some, None, Result, Ok, Err, slice_get, refl, sym, ap, subst, inl, inr, arith}
+use Rattle.std.specs.Prelude.{if◌then◌else◌, ◌&&◌, ◌==◌}
 use Rattle.std.proofs.lemmas.Bool.{false≢true, ltb-true}
 use Rattle.mz_checks.specs.Checks.{AllHold}
 use Rattle.mz_checks.proofs.Offered.{all_hold-rest}
@@ -18,22 +17,20 @@ use Rattle.mz_logic.specs.Tree.{Tree, none}
 use Rattle.mz_logic.specs.Declaration.{Declaration, term_decl, Term, defined, sorts, terms, signatures}
 use Rattle.mz_logic.specs.LegalLists.{Statement}
 use Rattle.mz_logic.specs.Conversions.{AreFresh}
-use Rattle.mz_logic.specs.Words.{binders_from, binders_of, word_bound}
+use Rattle.mz_logic.specs.Words.{binders_of}
 use Rattle.mz_logic.specs.declared.binder.Binder.{Binder}
-use Rattle.mz_logic.specs.declared.word.Word.{Word}
 use Rattle.mz_layout.specs.Tables.{list_at, term_row}
 use Rattle.mz_unification.specs.Steps.{◌>>◌, need, at_place, Turn, over, goes_on, follow}
 use Rattle.mz_unification.specs.Streams.{of_definition}
 use Rattle.mz_unification.specs.Spells.{trees_of, dummy_of, variables_from, SpellsForm}
 use Rattle.mz_unification.specs.Profile.{plain, strict, Item, expr, proof, obligation, conversion}
-use Rattle.mz_unification.specs.Sorted.{Sorted, ItemsSorted}
 use Rattle.mz_unification.specs.UnifyMachine.{in_definition, is_empty}
 use Rattle.mz_unification.proofs.Offered.{from_bind, from_need, from_want, taken, taken-is, place-ok, place_from, renamed, definition-spelled, unfolding-is, one-text}
 use Rattle.mz_soundness.specs.MachineState.{RowsBefore, signatures_in, State, Kind, is_definition, Heading, Declares}
 use Rattle.mz_logic.specs.Legality.{sort_of}
 use Rattle.mz_soundness.specs.FreeVars.{free_within}
 use Rattle.mz_soundness.specs.Premises.{bound_count, pop, pop_obligation, is_obligation, may_be_dummy_sort}
-use Rattle.mz_words.specs.RowWords.{bound_count as bound_words, word_checks}
+use Rattle.mz_words.specs.RowWords.{word_checks}
 use Rattle.mz_soundness.specs.Lists.{definition_of}
 use Rattle.mz_layout.specs.Heads.{body_bytes}
 use Rattle.mz_soundness.specs.FileRows.{taken_by, rows_taken, term_of_file}
@@ -45,7 +42,7 @@ use Rattle.mz_files.specs.Chains.{IsGoodStatement, GoodTo}
 use Rattle.mz_files.specs.Checking.{checks_of, kind_checks, term_checks, term_body_checks}
 use Rattle.mz_files.specs.Laws.{HasRow}
 use Rattle.mz_files.specs.Spelling.{IsKindOf, SpellsRow}
-use Rattle.mz_files.proofs.Offered.{well-chain, good-rows, runs-by-table}
+use Rattle.mz_files.proofs.Offered.{well-chain, good-rows, runs-by-table, Among, fresh-fewer, words-bound, vars-long, last-expr}
 use Rattle.mz_files.specs.Standards.{lets_gaps, profile_of}
 use Rattle.mz_files.specs.declared.standard.Standard.{Standard}
 
@@ -158,22 +155,6 @@ module _ (gaps : Bool) where
 
 -- ---- distinct bound variables of a context are no more than it has
 
-abbrev Among : ℕ → List ℕ → Type 0
-Among y [] = ⊥
-Among y (z ∷ zs) = (y ≡ z) ⊎ Among y zs
-
-among-contains : (y : ℕ) (zs : List ℕ) → Among y zs → Contains zs y
-among-contains y [] h = absurd h
-among-contains y (z ∷ zs) (inl is) = (0, omega arith, sym is)
-among-contains y (z ∷ zs) (inr later) = let (i, below, is) = among-contains y zs later in (suc i, omega (arith, below), is)
-
-without : (y : ℕ) (zs : List ℕ) → Among y zs → (rest : List ℕ) × (length zs ≡ suc (length rest)) × ((x : ℕ) → Among x zs → (x ≡ y → ⊥) → Among x rest)
-without y [] h = absurd h
-without y (z ∷ zs) (inl is) = (zs, refl, λ x h other. elim h [ inl same ↦ absurd (other (same ∙ sym is)) | inr later ↦ later ])
-without y (z ∷ zs) (inr later) =
-    let (rest, many, keep) = without y zs later in
-    (z ∷ rest, ap suc many, λ x h other. elim h [ inl same ↦ inl same | inr there ↦ inr (keep x there other) ])
-
 abbrev bounds : ℕ → List Binder → List ℕ
 bounds i [] = []
 bounds i (b ∷ bs) = if b.bound then i ∷ bounds (suc i) bs else bounds (suc i) bs
@@ -198,15 +179,6 @@ bound-among i (c ∷ bs) (suc y) b at is = go c.bound (subst (λ (z : ℕ). Amon
     go true h = inr h
     go false h = h
 
-fresh-fewer : (ctx : List Binder) (es : List Tree) (ys : List ℕ) (ds : List Binder) (zs : List ℕ) → AreFresh ctx (trees_of es) ys ds → ((y : ℕ) → Among y ys → Among y zs) → length ds ≤ length zs
-fresh-fewer ctx es [] [] zs fresh all = omega arith
-fresh-fewer ctx es [] (d ∷ ds) zs fresh all = absurd fresh
-fresh-fewer ctx es (y ∷ ys) [] zs fresh all = absurd fresh
-fresh-fewer ctx es (y ∷ ys) (d ∷ ds) zs (bound, free, once, later) all =
-    let (rest, many, keep) = without y zs (all y (inl refl)) in
-    let fewer = fresh-fewer ctx es ys ds rest later (λ x h. keep x (all x (inr h)) (λ same. once (among-contains y ys (subst (λ (z : ℕ). Among z ys) same h)))) in
-    omega (arith, fewer, many)
-
 fresh-among : (ctx : List Binder) (es : List Tree) (ys : List ℕ) (ds : List Binder) → AreFresh ctx (trees_of es) ys ds → (y : ℕ) → Among y ys → Among y (bounds 0 ctx)
 fresh-among ctx es [] ds fresh y h = absurd h
 fresh-among ctx es (x ∷ ys) [] fresh y h = absurd fresh
@@ -218,25 +190,6 @@ fresh-few : (ctx : List Binder) (es : List Tree) (ys : List ℕ) (ds : List Bind
 fresh-few ctx es ys ds fresh = let few = fresh-fewer ctx es ys ds (bounds 0 ctx) fresh (fresh-among ctx es ys ds fresh) in omega (arith, few, bounds-many 0 ctx)
 
 -- ---- a definition's row
-
-words-bound : (i : ℕ) (places : List ℕ) (ws : List Word) → bound_count (binders_from i places ws) ≡ bound_words ws
-words-bound i places [] = refl
-words-bound i places (w ∷ ws) = go (word_bound w) (words-bound (suc i) (if word_bound w then places ++ i ∷ [] else places) ws)
-  where
-    rest : List Binder
-    rest = binders_from (suc i) (if word_bound w then places ++ i ∷ [] else places) ws
-
-    go : (b : Bool) → bound_count rest ≡ bound_words ws → cond b (suc (bound_count rest)) (bound_count rest) ≡ length (cond b (w ∷ filter word_bound ws) (filter word_bound ws))
-    go true e = ap suc e
-    go false e = e
-
-vars-long : (i : ℕ) (ps : List Binder) → length (variables_from i ps) ≡ length ps
-vars-long i [] = refl
-vars-long i (p ∷ ps) = ap suc (vars-long (suc i) ps)
-
-last-expr : (sigs : List _) (ctx : List Binder) (xs : List (Item Tree)) (e : Tree) → last_item is_definition xs ≡ Ok e → ItemsSorted sigs ctx xs → Sorted sigs ctx e
-last-expr sigs ctx (expr x ∷ []) e is (s, _) = subst (Sorted sigs ctx) (taken-is x e is) s
-last-expr sigs ctx _ e is h = absurd cc
 
 run-few : (gaps : Bool) (tables : RowsBefore) (env : List Declaration) → Declares tables env → (h : Heading) (at : ℕ) (bytes : List ℕ) → h.kind ≡ is_definition → bound_count h.params ≤ 55 → Runs (plain gaps) tables h at bytes
     → (ds : List Binder) (body : Tree) → SpellsForm (signatures env) h.params (Some h.stream) (defined ds body) → length ds ≤ 55

@@ -1,6 +1,6 @@
 -- The expressions of an assertion: over parameters alone, where the same trees have the same variables.
 use Rattle.std.proofs.Common.{◌≡◌, ◌≤◌, ◌<◌, ◌+◌, ◌-◌, ◌⊎◌, ℕ, zero, suc, Bool, true, false, ltb, eqb, List, [], ◌∷◌, ◌++◌, length, take, reverse, get_or, Option, Some, None, slice_get, refl, ap, sym, ◌∙◌, subst, arith, inl, inr}
-use Rattle.std.specs.Prelude.{IsTrue, ◌↔◌, MatchOption, ⊤, is_some}
+use Rattle.std.specs.Prelude.{IsTrue, ◌↔◌, ⊤, is_some}
 use Rattle.std.proofs.lemmas.List.{reverse-append, length-take-le, take_all}
 use Rattle.std.proofs.lemmas.Bool.{false≢true, ltb-true, ltb-false, eqb-true}
 use Rattle.mz_cmd.specs.declared.code.UnifyCode.{UnifyCode}
@@ -13,7 +13,7 @@ use Rattle.mz_match.specs.declared.stream.Cursor.{Cursor}
 use Rattle.mz_match.specs.Streams.{step_at, Says, Passes, IsSaid, AreSaid, IsMade, AreMarks, HypsAreSaid}
 use Rattle.mz_verdicts.specs.Trees.{SameOver, AllSameOver, SameTree, SameTrees, Pairs, IsPaired}
 use Rattle.mz_verdicts.specs.Comparing.{Beside, compared}
-use Rattle.mz_match.proofs.Steps.{step-takes}
+use Rattle.mz_match.specs.Comparison.{Answers}
 use Rattle.mz_verdicts.proofs.Offered.{SaysNothing, weaker, no-pairs, no-dummy, sound, complete}
 
 -- ---- over parameters alone
@@ -82,17 +82,25 @@ mutual
   all-same-paired rows n qs (more e es) (more f fs) low same = (same-paired rows n qs e f low.0 same.0, all-same-paired rows n qs es fs low.1 same.1)
 
 -- what a comparison without dummies says
-pub plain-same : (b : Beside) (ps qs : List (Option ℕ)) (e f : Tree) (to c : Cursor) → b.ds ≡ [] → SaysNothing ps → compared b ps e f ≡ Some qs → SameTree b.rows e f
-plain-same b ps qs e f to c none-beside nothing is =
+plain-same : (b : Beside) (ps qs : List (Option ℕ)) (e f : Tree) → b.ds ≡ [] → SaysNothing ps → compared b ps e f ≡ Some qs → SameTree b.rows e f
+plain-same b ps qs e f none-beside nothing is =
     let (good, up, same) = sound b ps qs e f (no-pairs b.ds b.es ps nothing) is in
     let says-none : SaysNothing qs = no-dummy b.es qs (subst (λ ds. Pairs ds b.es qs) none-beside good) in
     weaker (IsPaired b.params qs) (λ x y. x ≡ y) b.rows (paired-same b.params qs says-none) e f same
 
-pub plain-differ : (b : Beside) (ps : List (Option ℕ)) (e f : Tree) → SaysNothing ps → length b.es ≤ length ps → Below b.params f → compared b ps e f ≡ None → SameTree b.rows e f → ⊥
+plain-differ : (b : Beside) (ps : List (Option ℕ)) (e f : Tree) → SaysNothing ps → length b.es ≤ length ps → Below b.params f → compared b ps e f ≡ None → SameTree b.rows e f → ⊥
 plain-differ b ps e f nothing room low differ same =
     let (ts, is, up, many) = complete b ps (no-pairs b.ds b.es ps nothing) ps e f room (λ k p at. at) (same-paired b.rows b.params ps e f low same) in
     let both : None ≡ Some ts = sym differ ∙ is in
     absurd cc
+
+pub plain-answer : (b : Beside) (ps qs : List (Option ℕ)) (e f : Tree) (o : Option Cursor) (to : Cursor) (r : Bool)
+    → b.ds ≡ [] → SaysNothing ps → length b.es ≤ length ps → Below b.params f → r ≡ is_some o → Answers o qs (compared b ps e f) to → IsTrue r ↔ SameTree b.rows e f
+plain-answer b ps qs e f (Some c) to r none-beside nothing room low r-is (is, place) = ((λ _. plain-same b ps qs e f none-beside nothing is), λ _. r-is)
+plain-answer b ps qs e f None to r none-beside nothing room low r-is differ = (
+  (λ yes-is. absurd (false≢true (sym r-is ∙ yes-is))),
+  λ same. absurd (plain-differ b ps e f nothing room low differ same),
+)
 
 -- ---- what a conclusion leads past
 
@@ -121,22 +129,6 @@ module _ (file : List ℕ) (n : ℕ) (m : Marks) where
         let (l, rest) = all-passes mid d1 fs to d' all in
         passes-append file k l at mid to first rest
 
-  says-end : (at : ℕ) (c : UnifyCode) (v next : ℕ) → Says file at c v next → next ≤ length file
-  says-end at c v next says = (step-takes file at (record { code = c; value = v; next = next }) says).1
-
-  -- it ends within the file
-  mutual
-    pub said-ends : (at d : ℕ) (f : Tree) (to d' : ℕ) → IsSaid file n m at d f to d' → to ≤ length file
-    said-ends at d (var x) to d' (inl (i, says, at-i, same)) = says-end at codes.Ref i to says
-    said-ends at d (var x) to d' (inr (s, says, x-is, there, next)) = says-end at codes.Dummy s to says
-    said-ends at d (app t es) to d' (inl (i, says, at-i, same)) = says-end at codes.Ref i to says
-    said-ends at d (app t es) to d' (inr (mid, inl says, arity, all)) = all-end mid d es to d' (says-end at codes.Term t mid says) all
-    said-ends at d (app t es) to d' (inr (mid, inr says, arity, all)) = all-end mid d es to d' (says-end at codes.TermSave t mid says) all
-
-    all-end : (at d : ℕ) (fs : Trees) (to d' : ℕ) → at ≤ length file → AreSaid file n m at d fs to d' → to ≤ length file
-    all-end at d none to d' within (same, _) = subst (λ z. z ≤ length file) (sym same) within
-    all-end at d (more f fs) to d' within (mid, d1, said, all) = all-end mid d1 fs to d' (said-ends at d f mid d1 said) all
-
 -- ---- lists, from the end
 
 -- one more at the end of both
@@ -151,20 +143,12 @@ last-same rows (x ∷ xs) e (g ∷ hs) h =
     let rest = last-same rows xs e hs h in
     ((λ s. let t = rest.0 s.1 in ((s.0, t.0), t.1)), λ s. (s.0.0, rest.1 (s.0.1, s.1)))
 
-pub plain-answer : (o : Option ℕ) (rows : List ℕ) (e f : Tree) (to : ℕ) (b : Bool) → b ≡ is_some o → MatchOption o (SameTree rows e f → ⊥) (λ behind. SameTree rows e f × (behind ≡ to)) → IsTrue b ↔ SameTree rows e f
-plain-answer None rows e f to b is differ = ((λ t. absurd (false≢true (sym is ∙ t))), λ same. absurd (differ same))
-plain-answer (Some q) rows e f to b is (same, _) = ((λ _. same), λ _. is)
-
 -- ---- hypotheses, of which so many of the first are left
 
 pub take-last : (xs : List Expr) (k : ℕ) (e : Expr) → k < length xs → e ≡ get_or xs k e → take (suc k) xs ≡ take k xs ++ e ∷ []
 take-last [] k e below read = absurd (omega arith)
 take-last (x ∷ xs) zero e below read = ap (λ (y : Expr). y ∷ []) (sym read)
 take-last (x ∷ xs) (suc k) e below read = ap (λ ys. x ∷ ys) (take-last xs k e (omega arith) read)
-
--- where as many are left
-pub none-left-same : (rows : List ℕ) (es : Trees) (rest : List Tree) → rest ≡ [] → SameTrees rows none (trees_of (reverse rest))
-none-left-same rows es rest is = subst (λ gs. SameTrees rows none (trees_of (reverse gs))) (sym is) tt
 
 more-same : (rows : List ℕ) (hs : List Tree) (h : Tree) → SameTrees rows none (trees_of (hs ++ h ∷ [])) → ⊥
 more-same rows [] h same = same
@@ -214,9 +198,20 @@ module _ (file : List ℕ) (n : ℕ) (m : Marks) where
   hyp-left rows xs q (h ∷ rest) hyps stands same = none-beside-more rows xs h rest same
 
   -- the next hypothesis is there
-  pub hyp-there : (q : ℕ) (rest : List Tree) → HypsAreSaid file n m q rest → (step_at file q ≡ None → ⊥) → (next : ℕ) → ((v next' : ℕ) → Says file q codes.Hyp v next' → next ≡ next')
+  hyp-there : (q : ℕ) (rest : List Tree) → HypsAreSaid file n m q rest → (step_at file q ≡ None → ⊥) → (next : ℕ) → ((v next' : ℕ) → Says file q codes.Hyp v next' → next ≡ next')
       → (h : Tree) × (later : List Tree) × (v : ℕ) × (to : ℕ) × (rest ≡ h ∷ later) × Says file q codes.Hyp v next × IsSaid file n m next 0 h to 0 × HypsAreSaid file n m to later
   hyp-there q [] ends stands next is = absurd (stands ends)
   hyp-there q (h ∷ later) (v, next', to, says, said, hyps) stands next is =
       let same : next' ≡ next = sym (is v next' says) in
       (h, later, v, to, refl, subst (λ (z : ℕ). Says file q codes.Hyp v z) same says, subst (λ (z : ℕ). IsSaid file n m z 0 h to 0) same said, hyps)
+
+  -- the same, where a search for a command of a hypothesis ended behind it
+  pub hyp-found : (xs : List ℕ) (k at q : ℕ) (rest : List Tree) (next : ℕ) → xs ≡ file → Passes file k at q → HypsAreSaid file n m q rest
+      → ((k' at' : ℕ) → Passes xs k' at at' → step_at xs at' ≡ None → Some next ≡ None)
+      → ((k' at' v next' : ℕ) → Passes xs k' at at' → Says xs at' codes.Hyp v next' → Some next ≡ Some next')
+      → (h : Tree) × (later : List Tree) × (v : ℕ) × (to : ℕ) × (rest ≡ h ∷ later) × Says file q codes.Hyp v next × IsSaid file n m next 0 h to 0 × HypsAreSaid file n m to later
+  hyp-found xs k at q rest next is passes hyps end hyp =
+      let passes' : Passes xs k at q = subst (λ (ys : List ℕ). Passes ys k at q) (sym is) passes in
+      hyp-there q rest hyps
+      (λ stops. let found = end k q passes' (ap (λ (ys : List ℕ). step_at ys q) is ∙ stops) in absurd cc) next
+      (λ v next' says. let found = hyp k q v next' passes' (subst (λ (ys : List ℕ). Says ys q codes.Hyp v next') (sym is) says) in cc)

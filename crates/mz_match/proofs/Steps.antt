@@ -1,41 +1,20 @@
 -- Commands take bytes, and what follows of places.
-use Rattle.std.proofs.Common.{◌≡◌, ◌≤◌, ◌<◌, ◌+◌, ◌-◌, ◌/◌, ◌%◌, ℕ, zero, suc, Bool, true, false, cond, ltb, List, [], ◌∷◌, length, drop, Result, Ok, Err, Option, Some, None, refl, ap, sym, ◌∙◌, subst, arith, length-drop}
-use Rattle.std.proofs.lemmas.Bool.{ltb-false}
-use Rattle.byteorder.specs.Endian.{little_number}
+use Rattle.std.proofs.Common.{◌≡◌, ◌≤◌, ◌<◌, ◌+◌, ◌-◌, ℕ, zero, suc, Bool, true, false, List, length, drop, Result, Ok, Err, Option, Some, None, refl, ap, sym, ◌∙◌, subst, arith, length-drop}
 use Rattle.mz_cmd.specs.declared.command.Cmd.{Cmd}
 use Rattle.mz_cmd.specs.declared.command.CmdFault.{CmdFault}
-use Rattle.mz_cmd.specs.declared.command.CmdFault.TheVariants.{Cut, Unknown}
 use Rattle.mz_cmd.specs.declared.code.UnifyCode.{UnifyCode}
 use Rattle.mz_cmd.specs.declared.code.UnifyCode.TheVariants as codes
-use Rattle.mz_cmd.specs.Codes.{is_known, unify_code}
-use Rattle.mz_cmd.specs.Spelling.{operand_len}
-use Rattle.mz_cmd.specs.Reading.{first_command, command_at}
+use Rattle.mz_cmd.specs.Codes.{unify_code}
+use Rattle.mz_cmd.specs.Reading.{command_at}
+use Rattle.mz_unification.proofs.Offered.{command-long}
 use Rattle.mz_match.specs.declared.stream.Step.{Step}
 use Rattle.mz_match.specs.declared.stream.Cursor.{Cursor}
 use Rattle.mz_match.specs.Streams.{step_of, step_by, step_at, makes_mark, dummies_in, mark_by, mark_here, mark_from, Passes, Says}
 
-first-takes : (bytes : List ℕ) (c : Cmd) → first_command bytes ≡ Ok c → (1 ≤ c.len) × (c.len ≤ length bytes)
-first-takes [] c e = absurd cc
-first-takes (head ∷ rest) c e = go (ltb (length rest) n) (is_known (head % 64)) refl e
-  where
-    n : ℕ
-    n = operand_len (head / 64)
-
-    made : Cmd
-    made = record { code = head % 64; value = little_number n rest; len = n + 1 }
-
-    go : (cut known : Bool) → ltb (length rest) n ≡ cut → cond cut (Err Cut) (cond known (Ok made) (Err Unknown)) ≡ Ok c → (1 ≤ c.len) × (c.len ≤ length (head ∷ rest))
-    go true known f is = absurd cc
-    go false false f is = absurd cc
-    go false true f is =
-        let same : made ≡ c = cc in
-        let room : n ≤ length rest = ltb-false _ _ f in
-        subst (λ (d : Cmd). (1 ≤ d.len) × (d.len ≤ length (head ∷ rest))) same (omega arith, omega arith)
-
 -- a command takes a byte or more, all of them there
 pub command-takes : (bytes : List ℕ) (at : ℕ) (c : Cmd) → command_at bytes at ≡ Ok c → (1 ≤ c.len) × (c.len ≤ length bytes - at)
 command-takes bytes at c e =
-    let t = first-takes (drop at bytes) c e in
+    let t = command-long (drop at bytes) c e in
     (t.0, subst (λ (n : ℕ). c.len ≤ n) (length-drop at bytes) t.1)
 
 pub step-takes : (file : List ℕ) (at : ℕ) (s : Step) → step_at file at ≡ Some s → (at < s.next) × (s.next ≤ length file)

@@ -1,12 +1,13 @@
 -- A unify stream of a binary beside expressions of a specification.
-use Rattle.std.specs.Prelude.{◌≡◌, ◌≤◌, List, [], length}
-use Rattle.mz_logic.specs.Tree.{Tree, Trees}
+use Rattle.std.specs.Prelude.{◌≡◌, ◌≤◌, ℕ, List, [], length, Some, slice_get}
+use Rattle.mz_logic.specs.Tree.{Tree, Trees, listed}
 use Rattle.mz_unification.specs.Spells.{Marks}
 use Rattle.mz_match.specs.declared.compare.Sides.{Sides}
 use Rattle.mz_match.specs.declared.stream.Cursor.{Cursor}
 use Rattle.mz_match.specs.Marks.{AreKept}
 use Rattle.mz_match.specs.Streams.{IsSaid, AreSaid, IsMade, AreMarks, HypsAreSaid}
 use Rattle.mz_verdicts.specs.Comparing.{Beside}
+use Rattle.mz_verdicts.specs.Trees.{SameTree}
 
 -- what is compared, where the stream has these marks
 abbrev pub beside : Sides → Marks → Beside
@@ -40,3 +41,7 @@ pub record IsPlainStream (s : Sides) (m : Marks) : Type 0 where
 -- behind a conclusion it says these hypotheses, in the order of the stream
 abbrev pub HypsSaidAt : Sides → Marks → List Tree → Type 0
 HypsSaidAt s m hs = (conclusion : Tree) × (to : Cursor) × SaidAt s m (at_start s) conclusion to × HypsAreSaid s.mmb.now s.params m to.at hs
+
+-- whatever it says from a place on is the i-th of these, if there are so many
+abbrev pub IsHypAt : Sides → Trees → ℕ → Cursor → Type 0
+IsHypAt s hyps i from = (e : Tree) (m : Marks) (f : Tree) (to : Cursor) → slice_get (listed hyps) i ≡ Some e → IsPlainStream s m → SaidAt s m from f to → SameTree s.publics.now e f

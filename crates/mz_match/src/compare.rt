@@ -1,6 +1,6 @@
 // An expression of a specification beside what a unify stream of a binary says. The recursion is on
 // the specification's expression: the binary's may be far too large to be written out.
-ghost use Rattle.std.specs.Prelude.{◌≡◌, ◌≤◌, ◌<◌, ◌^◌, ◌↔◌, ℕ, Bool, true, false, IsTrue, MatchBool, MatchOption, reverse, List, Some, None, length, slice_get};
+ghost use Rattle.std.specs.Prelude.{◌≡◌, ◌≤◌, ◌<◌, ◌-◌, ◌^◌, ◌↔◌, ℕ, Bool, true, false, IsTrue, MatchBool, reverse, List, Some, None, length, slice_get};
 ghost use Rattle.mz_logic.specs.Tree.{Tree, Trees, listed, var};
 ghost use Rattle.mz_logic.specs.View.{tree};
 ghost use Rattle.mz_layout.specs.Tables.{term_count, term_row};
@@ -9,7 +9,7 @@ ghost use Rattle.mz_match.specs.Streams.{step_at as step_lem};
 ghost use Rattle.mz_verdicts.specs.Trees.{SameBody, SameTree, SameTrees};
 ghost use Rattle.mz_verdicts.specs.Comparing.{all_none, all_compared, compared, dummy_compared, has_sort as sort_lem, is_taken as taken_lem, is_number as number_lem, makes_term as term_lem, paired};
 ghost use Rattle.mz_match.specs.Comparison.{Answers};
-ghost use Rattle.mz_match.specs.Beside.{AllSaidAt, at_start, HypsSaidAt, IsPlainStream, IsStream, MadeAt, SaidAt, beside};
+ghost use Rattle.mz_match.specs.Beside.{AllSaidAt, at_start, HypsSaidAt, IsHypAt, IsPlainStream, IsStream, MadeAt, SaidAt, beside};
 
 use crate::marks::place_of_mark;
 use crate::publics::Publics;
@@ -52,7 +52,11 @@ pub fn same_first(sides: &Sides, expr: &Expr) -> bool
     ensures { (m : Marks) (f : Tree) (to : Cursor) → IsPlainStream sides.now m → SaidAt sides.now m (at_start sides.now) f to
         → (IsTrue result ↔ SameTree sides.now.publics.now (tree expr.now) f) }
 {
-    same_tree(sides, expr, sides.start).is_some()
+    let start = Cursor {
+        at: sides.start,
+        dummies: 0,
+    };
+    same_tree(sides, expr, start)
 }
 
 /// Whether the stream says these hypotheses: behind the conclusion, from the last to the first.
@@ -63,6 +67,7 @@ pub fn same_hyps(sides: &Sides, hyps: &Hyps) -> bool
 {
     let mut left = hyps.len();
     let mut at = sides.start;
+    let mut known = Cursor { at, dummies: 0 };
     'hyps: loop {
         let Some(next) = next_hyp(sides.mmb.file(), at) else {
             return left == 0;
@@ -70,27 +75,74 @@ pub fn same_hyps(sides: &Sides, hyps: &Hyps) -> bool
         if left == 0 {
             return false;
         }
-        left -= 1;
-        let Some(behind) = same_tree(sides, hyps.at(left), next) else {
+        let made = made_at(sides, next);
+        if !same_hyp(sides, hyps, left, known, made) {
             return false;
-        };
-        at = behind;
+        }
+        left -= 1;
+        known = made;
+        at = next;
     }
 }
 
-/// Compares an expression of an assertion with what the stream says from a place on.
+/// Where what the stream says from a place on is made: there, or where it makes the mark to which
+/// the place refers.
+fn made_at(sides: &Sides, at: u32) -> Cursor
+    requires { (m : Marks) × (f : Tree) × (to : Cursor) × IsStream sides.now m × SaidAt sides.now m (record { at = at; dummies = 0 }) f to }
+    ensures { (m : Marks) (f : Tree) (to : Cursor) → IsStream sides.now m → SaidAt sides.now m (record { at = at; dummies = 0 }) f to
+        → (end : Cursor) × SaidAt sides.now m result f end }
+{
+    let here = Cursor { at, dummies: 0 };
+    let Some(step) = step_at(sides.mmb.file(), at) else {
+        return here;
+    };
+    if !is_ref(step.code) {
+        return here;
+    }
+    if step.value < sides.params {
+        return here;
+    }
+    let places = sides.places.as_slice();
+    let mark = step.value - sides.params;
+    let Some(place) = place_of_mark(sides.mmb, sides.start, places, mark) else {
+        return here;
+    };
+    place
+}
+
+/// Whether the hypothesis before the i-th one is what the stream says from `made` on.
 ///
-/// Where they are the same, gives the place behind.
-fn same_tree(sides: &Sides, expr: &Expr, at: u32) -> Option<u32>
-    requires { (m : Marks) × (f : Tree) × (to : Cursor) × IsPlainStream sides.now m × SaidAt sides.now m (record { at = at; dummies = 0 }) f to }
-    ensures { (m : Marks) (f : Tree) (to : Cursor) → IsPlainStream sides.now m → SaidAt sides.now m (record { at = at; dummies = 0 }) f to
-        → MatchOption result (SameTree sides.now.publics.now (tree expr.now) f → ⊥) (λ behind. SameTree sides.now.publics.now (tree expr.now) f × (behind ≡ to.at)) }
+/// The i-th one is what it says from `known` on: a formula that both share is compared once.
+fn same_hyp(sides: &Sides, hyps: &Hyps, i: usize, known: Cursor, made: Cursor) -> bool
+    requires some { 0 < i }
+    requires there { i ≤ length (listed hyps.now) }
+    requires known { IsHypAt sides.now hyps.now i known }
+    requires said { (m : Marks) × (f : Tree) × (to : Cursor) × IsPlainStream sides.now m × SaidAt sides.now m made f to }
+    ensures { (e : Tree) (m : Marks) (f : Tree) (to : Cursor) → slice_get (listed hyps.now) (i - 1) ≡ Some e → IsPlainStream sides.now m → SaidAt sides.now m made f to
+        → (IsTrue result ↔ SameTree sides.now.publics.now e f) }
+{
+    if is_known(hyps, i, known, made) {
+        return true;
+    }
+    same_tree(sides, hyps.at(i - 1), made)
+}
+
+/// Whether the places are the same one, and the i-th hypothesis has the formula of the one before.
+fn is_known(hyps: &Hyps, i: usize, known: Cursor, made: Cursor) -> bool
+    requires { 0 < i }
+    ensures { IsTrue result → (known ≡ made) × (slice_get (listed hyps.now) (i - 1) ≡ slice_get (listed hyps.now) i) }
+{
+    known == made && hyps.shares_with_previous(i)
+}
+
+/// Whether an expression of an assertion is the one that the stream says from a place on.
+fn same_tree(sides: &Sides, expr: &Expr, from: Cursor) -> bool
+    requires { (m : Marks) × (f : Tree) × (to : Cursor) × IsPlainStream sides.now m × SaidAt sides.now m from f to }
+    ensures { (m : Marks) (f : Tree) (to : Cursor) → IsPlainStream sides.now m → SaidAt sides.now m from f to
+        → (IsTrue result ↔ SameTree sides.now.publics.now (tree expr.now) f) }
 {
     let mut pairs = no_pairs();
-    match same_at(sides, expr, Cursor { at, dummies: 0 }, &mut pairs) {
-        None => None,
-        Some(behind) => Some(behind.at),
-    }
+    same_at(sides, expr, from, &mut pairs).is_some()
 }
 
 fn no_pairs() -> [Option<u32>; 55]

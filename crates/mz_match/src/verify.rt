@@ -11,7 +11,7 @@ use mz_cmd::{Mem, Steps};
 use mz_files::Standard;
 use mz_layout::Mmb;
 use mz_mode::Mode;
-use mz_spec::{Spec, SpecRead, read_spec};
+use mz_spec::{Hashing, Spec, SpecRead, read_spec};
 use mz_store::Seed;
 use mz_verdicts::{Counts, Verdict};
 use std::alloc::Global;
@@ -83,7 +83,7 @@ pub(crate) fn judge<L: Ledger>(
     ensures steps { TicksBy standard bin.now steps.old steps.new result }
     ensures bound { steps.new ≤ steps.old + (length bin.now * length bin.now + length bin.now) }
 {
-    let declared = match read_spec(alloc, spec) {
+    let declared = match read_spec(alloc, Hashing::seeded(seed.0), spec) {
         SpecRead::Spec(declared) => declared,
         SpecRead::Refused(refusal) => return Verdict::Spec(refusal),
         SpecRead::Mem => return Verdict::Mem,

@@ -4,11 +4,10 @@ use Rattle.std.specs.Prelude.{codes}
 use Rattle.mz_checks.proofs.Offered.{at_most-decided, both-decided, bytes-decided}
 use Rattle.mz_logic.specs.Tree.{Tree, Trees, var, app, none, more, followed_by}
 use Rattle.mz_logic.specs.Signature.{Signature}
-use Rattle.mz_notation.specs.Notation.{max_level, above}
+use Rattle.mz_notation.specs.Notation.{max_level, above, TermName}
 use Rattle.mz_notation.specs.declared.notation.Element.{Element}
 use Rattle.mz_notation.specs.declared.notation.Element.TheVariants.{Fixed as fixed, Slot as slot}
 use Rattle.mz_notation.specs.declared.notation.Notation.{Notation}
-use Rattle.mz_notation.specs.declared.table.TermName.{TermName}
 use Rattle.mz_notation.specs.Clear.{LedBy, JoinedBy}
 use Rattle.mz_math.specs.Lookups.{NoVariable, NoLeading, NoTermName}
 use Rattle.mz_math.specs.Answers.{MayLead}

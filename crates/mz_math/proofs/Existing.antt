@@ -13,7 +13,7 @@ use Rattle.mz_tokens.specs.declared.pieces.Piece.{Piece}
 use Rattle.mz_notation.specs.declared.notation.Element.{Element}
 use Rattle.mz_notation.specs.declared.notation.Element.TheVariants.{Fixed as fixed, Slot as slot}
 use Rattle.mz_notation.specs.declared.notation.Notation.{Notation}
-use Rattle.mz_notation.specs.declared.table.TermName.{TermName}
+use Rattle.mz_notation.specs.Notation.{TermName}
 use Rattle.mz_notation.specs.Clear.{HasConstant}
 use Rattle.mz_math.specs.Grammar.{Words, Exp, IsVariable, IsNamed, IsSomeConstant, IsKnown}
 use Rattle.mz_notation.specs.Kept.{IsTable, AreVariables}

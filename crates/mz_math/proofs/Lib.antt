@@ -1,6 +1,7 @@
 pub mod TreeLists
 pub mod Readable
 pub mod Arranging
+pub mod Picking
 pub mod Chains
 pub mod Unique
 pub mod Readings

@@ -7,9 +7,8 @@ use Rattle.mz_logic.specs.Signature.{Signature}
 use Rattle.mz_tokens.specs.Pieces.{Pieces}
 use Rattle.mz_tokens.specs.declared.pieces.Delimiters.{Delimiters}
 use Rattle.mz_tokens.specs.declared.pieces.Piece.{Piece}
-use Rattle.mz_notation.specs.Notation.{Table, empty_table, with_notation, with_name, with_coercion, with_delimiters}
+use Rattle.mz_notation.specs.Notation.{Table, empty_table, with_notation, with_name, with_coercion, with_delimiters, TermName}
 use Rattle.mz_notation.specs.declared.notation.Notation.{Notation}
-use Rattle.mz_notation.specs.declared.table.TermName.{TermName}
 use Rattle.mz_coercions.specs.declared.coercion.Coercion.{Coercion}
 use Rattle.mz_notation.specs.Clear.{IsClear}
 use Rattle.mz_coercions.specs.Coercions.{OnePath}

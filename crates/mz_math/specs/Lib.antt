@@ -6,4 +6,5 @@ pub mod Reading
 pub mod Lookups
 pub mod Answers
 pub mod Steps
+pub mod Arrange
 pub mod Laws

@@ -1,13 +1,12 @@
 // Forms: what they ask for, and the expressions that they make of their operands.
 ghost use Rattle.std.specs.Prelude.{◌≡◌, ◌↔◌, ◌≤◌, ◌<◌, ◌+◌, ◌∷◌, [], IsTrue, MatchOption, IfSome, length, drop};
-ghost use Rattle.mz_logic.specs.Tree.{app, none};
-ghost use Rattle.mz_logic.specs.View.{tree, trees};
+ghost use Rattle.mz_logic.specs.View.{tree};
 ghost use Rattle.mz_notation.specs.Notation.{above, places, slots as in_places};
-ghost use Rattle.mz_math.specs.Grammar.{items, level_before, last_level, notated_tree, head_level, applied, operand_for, arranged as in_order};
+ghost use Rattle.mz_math.specs.Grammar.{items, level_before, last_level, notated_tree, head_level, applied};
 ghost use Rattle.mz_math.specs.Answers.{MayLead};
 ghost use Rattle.mz_math.specs.Steps.{IsNextPart, asked, tree_made, level_made, is_left_made};
 
-use mz_copies::copy_of;
+use crate::arrange::arranged;
 use mz_logic::{Expr, Exprs};
 use mz_notation::{Element, MAX, Notation};
 use mz_tokens::Bytes;
@@ -162,7 +161,7 @@ fn notated(alloc: Global, notation: &Notation, operands: Exprs) -> Option<Expr>
         }
     }
     let many = slots(elements);
-    let all = arranged(alloc, elements, operands.as_slice(), many)?;
+    let all = arranged(alloc, elements, operands, many)?;
     Some(Expr::App(notation.term, all))
 }
 
@@ -197,63 +196,4 @@ fn slots(elements: &[Element]) -> usize
         }
     }
     many
-}
-
-/// The operands of so many parameters, in their order.
-fn arranged(alloc: Global, elements: &[Element], operands: &[Expr], many: usize) -> Option<Exprs>
-    ensures { IfSome result (λ es. es ≡ in_order (places elements.now) (trees operands.now) 0 many) }
-{
-    let mut all = Exprs::new(alloc);
-    for place in 0..many {
-        let operand = operand_of(alloc, elements, operands, place)?;
-        let Ok(()) = all.push(operand) else {
-            return None;
-        };
-    }
-    Some(all)
-}
-
-/// A copy of the operand of a parameter.
-fn operand_of(alloc: Global, elements: &[Element], operands: &[Expr], place: usize) -> Option<Expr>
-    ensures { IfSome result (λ e. tree e ≡ operand_for (places elements.now) (trees operands.now) place) }
-{
-    let mut next = 0;
-    for element in elements {
-        match element {
-            Element::Fixed(_, _) => {}
-            Element::Slot(slot) => {
-                let Some(operand) = expr_at(operands, next) else {
-                    return Some(absent(alloc));
-                };
-                if *slot == place {
-                    return copied(alloc, operand);
-                }
-                next += 1;
-            }
-        }
-    }
-    Some(absent(alloc))
-}
-
-/// What stands for an operand that isn't there.
-fn absent(alloc: Global) -> Expr
-    ensures { tree result ≡ app 0 none }
-{
-    Expr::App(0, Exprs::new(alloc))
-}
-
-fn copied(alloc: Global, expr: &Expr) -> Option<Expr>
-    ensures { IfSome result (λ e. tree e ≡ tree expr.now) }
-{
-    match copy_of(alloc, expr) {
-        Ok(copy) => Some(copy),
-        Err(_) => None,
-    }
-}
-
-fn expr_at(operands: &[Expr], at: usize) -> Option<&Expr>
-    ensures expr { MatchOption result (drop at operands.now ≡ []) (λ e. drop at operands.now ≡ e.now ∷ drop (at + 1) operands.now) }
-    ensures within { MatchOption result (length operands.now ≤ at) (λ e. at < length operands.now) }
-{
-    operands.get(at)
 }

@@ -5,6 +5,7 @@
 //! stand in `mz_tokens`, what the statements on notations declare in `mz_notation`.
 #![tactic(auto)]
 
+mod arrange;
 mod form;
 mod formula;
 mod height;
@@ -19,6 +20,6 @@ pub use laws::{
     statements_are_judged, statements_keep_tables,
 };
 pub use mz_notation::{
-    Coercion, Element, Elements, Literal, Notation, Notations, NoteFault, Scope, Tail, TermName,
+    Coercion, Element, Elements, Literal, Notation, Notations, NoteFault, Scope, Tail,
 };
 pub use mz_tokens::{Bytes, Delimiters, Piece};

@@ -11,7 +11,7 @@ ghost use Rattle.mz_mmu.specs.TextRead.{IsReading};
 ghost use Rattle.mz_mmu.specs.TextStops.{IsStopped, TextStops, IsRefusal};
 ghost use Rattle.mz_forms.specs.Cursor.{nodes_size};
 
-use mz_forms::{Fault, Names, Proof, Reader, Stop};
+use mz_forms::{Fault, Hashing, Names, Proof, Reader, Stop};
 use mz_logic::{Binders, Decl};
 use mz_mode::Mode;
 use mz_sexpr::{SexprRead, Sexprs, TextRefusal, read_sexprs};
@@ -157,6 +157,7 @@ fn read_named<'a>(
 /// The statements of a text's nodes.
 fn read_entries<'a>(
     alloc: Global,
+    hashing: Hashing,
     nodes: &Sexprs<'a>,
     mode: Mode,
 ) -> Result<Vec<Entry<'a>>, TextStop>
@@ -164,7 +165,7 @@ fn read_entries<'a>(
     ensures read { IfOk result (λ entries. IsRooted (gaps_of mode) nodes.now entries.items) }
     ensures stops { IfErr result (λ stop. TextStops stop (statements_asked 1 (no_names (gaps_of mode)) nodes.now)) }
 {
-    read_named(alloc, nodes, &mut Names::new(alloc, mode))
+    read_named(alloc, nodes, &mut Names::new(alloc, hashing, mode))
 }
 
 /// The answer where a text has no statements.
@@ -178,13 +179,14 @@ fn refused<'a>(stop: TextStop) -> TextRead<'a>
 }
 
 /// Reads a text: its statements, or the first of its bytes, parentheses, forms and names that is
-/// wrong. The text has at most 4,294,967,295 bytes. Only in a draft may its proofs have gaps.
-pub fn read_text<'a>(alloc: Global, text: &'a [u8], mode: Mode) -> TextRead<'a>
+/// wrong. The text has at most 4,294,967,295 bytes. Only in a draft may its proofs have gaps. Its names
+/// are hashed like this.
+pub fn read_text<'a>(alloc: Global, hashing: Hashing, text: &'a [u8], mode: Mode) -> TextRead<'a>
     requires { length text.now < 2 ^ 32 }
     ensures { IsReading (gaps_of mode) text.now result }
 {
     match read_sexprs(alloc, text) {
-        SexprRead::Nodes(nodes) => match read_entries(alloc, &nodes, mode) {
+        SexprRead::Nodes(nodes) => match read_entries(alloc, hashing, &nodes, mode) {
             Ok(entries) => TextRead::Text(Text {
                 mode,
                 nodes,

@@ -3,7 +3,7 @@ use Rattle.std.proofs.Common.{◌≡◌, ◌∙◌, ◌≤◌, ◌-◌, ◌++◌
 use Rattle.std.proofs.lemmas.List.{take-append-le, drop-append-le, length-drop, map-append}
 use Rattle.std.proofs.lemmas.Bool.{cases_lt}
 use Rattle.std.proofs.Math.Seq.{take-length, drop-append_seam}
-use Rattle.mz_layout.specs.Heads.{body_bytes as bytes_between}
+use Rattle.std.specs.Prelude.{slice_range}
 use Rattle.mz_naming.specs.declared.list.Span.{Span}
 use Rattle.mz_naming.specs.Spans.{name_at, names_at, AreWithin}
 
@@ -16,10 +16,10 @@ within-last n [] span le are = (le, are)
 within-last n (s ∷ ss) span le (here, are) = (here, within-last n ss span le are)
 
 -- bytes up to a place that is within
-between-on : (bytes more : List ℕ) (from to : ℕ) → to ≤ length bytes → bytes_between (bytes ++ more) from to ≡ bytes_between bytes from to
+between-on : (bytes more : List ℕ) (from to : ℕ) → to ≤ length bytes → slice_range (bytes ++ more) from to ≡ slice_range bytes from to
 between-on bytes more from to le = by (cases_lt from to)
   where
-    by : (from < to) ⊎ (to ≤ from) → bytes_between (bytes ++ more) from to ≡ bytes_between bytes from to
+    by : (from < to) ⊎ (to ≤ from) → slice_range (bytes ++ more) from to ≡ slice_range bytes from to
     by (inl low) =
         ap (take (to - from)) (drop-append-le from bytes more (omega (arith, low, le)))
         ∙ take-append-le (to - from) (drop from bytes) more (let e = length-drop from bytes in omega (arith, e, le))
@@ -32,7 +32,7 @@ names-on bytes more [] are = refl
 names-on bytes more (s ∷ ss) (here, are) =
     ap (λ (n : List ℕ). n ∷ names_at (bytes ++ more) ss) (between-on bytes more s.from s.to here) ∙ ap (λ (ns : List (List ℕ)). name_at bytes s ∷ ns) (names-on bytes more ss are)
 
-name-last : (bytes name : List ℕ) → bytes_between (bytes ++ name) (length bytes) (length (bytes ++ name)) ≡ name
+name-last : (bytes name : List ℕ) → slice_range (bytes ++ name) (length bytes) (length (bytes ++ name)) ≡ name
 name-last bytes name =
     let many : length (bytes ++ name) - length bytes ≡ length name = (let e = length-append bytes name in omega (arith, e)) in
     ap (λ (n : ℕ). take n (drop (length bytes) (bytes ++ name))) many ∙ ap (take (length name)) (drop-append_seam bytes name) ∙ take-length name
@@ -46,7 +46,7 @@ module _ (bytes name : List ℕ) (spans : List Span) (span : Span) (from : span.
   pub one-name-more : names_at (bytes ++ name) (spans ++ span ∷ []) ≡ names_at bytes spans ++ name ∷ []
   one-name-more =
       let last-is : name_at (bytes ++ name) span ≡ name =
-      ap (λ (k : ℕ). bytes_between (bytes ++ name) k span.to) from ∙ ap (bytes_between (bytes ++ name) (length bytes)) to ∙ name-last bytes name in
+      ap (λ (k : ℕ). slice_range (bytes ++ name) k span.to) from ∙ ap (slice_range (bytes ++ name) (length bytes)) to ∙ name-last bytes name in
       map-append (name_at (bytes ++ name)) spans (span ∷ [])
       ∙ ap (λ (ns : List (List ℕ)). ns ++ name_at (bytes ++ name) span ∷ []) (names-on bytes name spans are)
       ∙ ap (λ (n : List ℕ). names_at bytes spans ++ n ∷ []) last-is

@@ -1,10 +1,9 @@
 -- Names that stand in one run of bytes.
-use Rattle.std.specs.Prelude.{◌≤◌, ⊤, ℕ, List, [], ◌∷◌, map}
-use Rattle.mz_layout.specs.Heads.{body_bytes as bytes_between}
+use Rattle.std.specs.Prelude.{◌≤◌, ⊤, ℕ, List, [], ◌∷◌, map, slice_range}
 use Rattle.mz_naming.specs.declared.list.Span.{Span}
 
 abbrev pub name_at : List ℕ → Span → List ℕ
-name_at bytes span = bytes_between bytes span.from span.to
+name_at bytes span = slice_range bytes span.from span.to
 
 abbrev pub names_at : List ℕ → List Span → List (List ℕ)
 names_at bytes spans = map (name_at bytes) spans

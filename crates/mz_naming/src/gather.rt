@@ -13,19 +13,19 @@ use crate::names::{Names, put_numbered};
 use crate::source::prefix_beside;
 use mz_cmd::{Mem, StatementCode};
 use mz_layout::Mmb;
-use mz_spec::Spec;
+use mz_spec::{Hashing, Spec};
 use mz_spec_names::{declared_by, declared_name};
 use mz_walk::{Passed, is_local};
 use std::alloc::Global;
 
 impl Names {
     /// The names of the statements of a binary that is accepted against a specification.
-    pub fn of(alloc: Global, spec: &[u8], mmb: &Mmb) -> Result<Names, Mem>
+    pub fn of(alloc: Global, hashing: Hashing, spec: &[u8], mmb: &Mmb) -> Result<Names, Mem>
         requires small { length spec.now < 2 ^ 32 }
         requires accepted { Accepts spec.now mmb.now }
         ensures { IfOk result (λ names. IsNamingOf spec.now mmb.now names) }
     {
-        let declared = declared_by(alloc, spec)?;
+        let declared = declared_by(alloc, hashing, spec)?;
         Names::gathered(alloc, spec, &declared, mmb)
     }
 

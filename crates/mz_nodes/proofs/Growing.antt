@@ -1,12 +1,13 @@
 -- Expressions with one more node.
-use Rattle.std.proofs.Common.{ℕ, zero, suc, ◌≡◌, ◌≤◌, ◌+◌, ◌⊎◌, List, [], ◌∷◌, ◌++◌, length, get_or, slice_get, Some, refl, ap, sym, ◌∙◌, subst, inl, inr, arith}
+use Rattle.std.proofs.Common.{ℕ, suc, ◌≡◌, ◌≤◌, ◌+◌, ◌⊎◌, List, [], ◌∷◌, ◌++◌, length, get_or, slice_get, Some, refl, ap, sym, ◌∙◌, subst, inl, inr, arith}
 use Rattle.std.proofs.lemmas.List.{get_or_append_left, length-append}
 use Rattle.std.proofs.lemmas.Option.{slice_get_within}
 use Rattle.std.proofs.Math.Seq.{get_or-append_seam}
 use Rattle.mz_logic.specs.declared.binder.Binder.{Binder}
-use Rattle.mz_logic.proofs.Offered.{one_at, none_some, extends_append, split_at, DepsInside}
+use Rattle.mz_logic.proofs.Offered.{none_some, extends_append, split_at, DepsInside}
 use Rattle.mz_store.specs.Bits.{bound_vars}
 use Rattle.mz_store.specs.Nodes.{binder_after}
+use Rattle.mz_store.proofs.Offered.{one-longer, only-last}
 use Rattle.mz_store.specs.declared.item.Id.{Id}
 use Rattle.mz_numbered.specs.Numbered.{Numbered, a_variable, an_application, one_more}
 use Rattle.mz_nodes.specs.Numbering.{Entry, Numbering, entry_of, expr_of, exprs_of, IsIn, AreIn, IsMadeBefore}
@@ -81,14 +82,6 @@ shows-kept s n i inside m shows = record {
   deps = ap (λ (e : Entry). e.deps) (entry-kept s (entered s n) (entered-begins s n) i inside) ∙ shows.deps;
   form = forms-kept s n i inside m.form shows.form;
 }
-
-one-longer : {A : Type 0} (xs : List A) (x : A) → length (xs ++ x ∷ []) ≡ suc (length xs)
-one-longer [] x = refl
-one-longer (y ∷ xs) x = ap suc (one-longer xs x)
-
-only-last : {A : Type 0} (x y : A) (j : ℕ) → slice_get (x ∷ []) j ≡ Some y → (j ≡ 0) × (x ≡ y)
-only-last x y zero at = (refl, one_at refl at)
-only-last x y (suc j) at = absurd (none_some at)
 
 -- ---- numbers
 

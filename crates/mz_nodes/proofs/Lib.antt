@@ -4,5 +4,4 @@ mod Adding
 mod Beginning
 mod OverTerms
 pub mod Params
-pub mod Meeting
 pub mod Offered

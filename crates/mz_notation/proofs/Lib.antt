@@ -5,4 +5,6 @@ pub mod Clearing
 pub mod Literals
 pub mod Tables
 pub mod Naming
+pub mod Noting
+pub mod Marking
 pub mod Offered

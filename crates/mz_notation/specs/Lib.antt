@@ -4,4 +4,6 @@ pub mod Kept
 pub mod Forms
 pub mod Names
 pub mod Headed
+pub mod Once
+pub mod Levels
 pub mod Answers

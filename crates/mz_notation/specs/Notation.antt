@@ -6,7 +6,6 @@ use Rattle.mz_tokens.specs.declared.pieces.Delimiters.{Delimiters}
 pub use Rattle.mz_notation.specs.declared.notation.Element.{Element}
 pub use Rattle.mz_notation.specs.declared.notation.Element.TheVariants.{Fixed as fixed, Slot as slot}
 pub use Rattle.mz_notation.specs.declared.notation.Notation.{Notation}
-pub use Rattle.mz_notation.specs.declared.table.TermName.{TermName}
 pub use Rattle.mz_coercions.specs.declared.coercion.Coercion.{Coercion}
 
 -- ---- levels
@@ -46,6 +45,11 @@ abbrev pub infixed : ℕ → List ℕ → ℕ → Bool → Notation
 infixed t w level is_right = record { term = t; level = level; is_right = is_right; elements = slot 0 ∷ fixed w level ∷ slot 1 ∷ [] }
 
 -- ---- what has been declared
+
+-- the name of a term
+pub record TermName : Type 0 where
+  pub name : List ℕ
+  pub term : ℕ
 
 -- notations that begin with a constant are leading, those that begin with a parameter are infix
 pub record Table : Type 0 where

@@ -1,24 +1,17 @@
 // Whether a notation can be mistaken for another one.
-ghost use Rattle.std.specs.Prelude.{◌≡◌, ◌↔◌, ◌<◌, ◌++◌, ◌∷◌, [], ℕ, List, IsTrue, Contains};
+ghost use Rattle.std.specs.Prelude.{◌≡◌, ◌↔◌, ◌<◌, ◌++◌, ◌∷◌, [], ℕ, List, IfOk, IsTrue};
 ghost use Rattle.mz_notation.specs.Clear.{HasConstant, IsClear};
+ghost use Rattle.mz_notation.specs.Levels.{IsLevelNoted};
 ghost use Rattle.mz_notation.specs.Notation.{fixed, max_level};
 ghost use Rattle.mz_notation.specs.declared.notation.Notation.{Notation};
 ghost use Rattle.mz_notation.specs.Answers.{GroupAlike, GroupsWith, HaveOneLevel, KeepsLevels, KeepsOwnLevels, NoOtherJoined, NoOtherLed};
 
 use crate::notation::{Element, MAX, Notation};
 use crate::notations::NotationList;
+use mz_tokens::Places;
+use std::alloc::{AllocError, Global};
 
 impl Element {
-    /// Whether it isn't this constant with another level.
-    fn has_level(&self, word: &[u8], level: u32) -> bool
-        ensures { IsTrue result ↔ ((q : ℕ) → self.now ≡ fixed word.now q → q ≡ level) }
-    {
-        match self {
-            Element::Fixed(constant, other) => *other == level || !constant.is(word),
-            Element::Slot(_) => true,
-        }
-    }
-
     /// Whether it is no constant, or has its level in the notations, too.
     fn keeps_level(&self, notations: &NotationList) -> bool
         requires { HaveOneLevel notations.now }
@@ -30,13 +23,15 @@ impl Element {
         }
     }
 
-    /// Whether it is no constant, or has its level among the elements, too.
-    fn keeps_level_beside(&self, elements: &[Element]) -> bool
-        ensures { IsTrue result ↔ ((w : List ℕ) (q p : ℕ) → self.now ≡ fixed w q → Contains elements.now (fixed w p) → p ≡ q) }
+    /// Notes the level of a constant; whether it is no constant, or has had no other level.
+    fn note_level(&self, alloc: Global, levels: &mut Places<u32>) -> Result<bool, AllocError>
+        ensures { IfOk result (λ is. IsLevelNoted is levels.old self.now levels.new) }
     {
         match self {
-            Element::Fixed(constant, level) => has_level(elements, constant.as_slice(), *level),
-            Element::Slot(_) => true,
+            Element::Fixed(constant, level) => {
+                note_level(alloc, levels, constant.as_slice(), *level)
+            }
+            Element::Slot(_) => Ok(true),
         }
     }
 }
@@ -50,16 +45,22 @@ impl Notation {
     }
 }
 
-/// Whether the constant has this level wherever it stands among the elements.
-fn has_level(elements: &[Element], word: &[u8], level: u32) -> bool
-    ensures { IsTrue result ↔ ((q : ℕ) → Contains elements.now (fixed word.now q) → q ≡ level) }
+/// Notes the level of a constant that has none; whether it has had no other.
+fn note_level(
+    alloc: Global,
+    levels: &mut Places<u32>,
+    word: &[u8],
+    level: u32,
+) -> Result<bool, AllocError>
+    ensures { IfOk result (λ is. IsLevelNoted is levels.old (fixed word.now level) levels.new) }
 {
-    for element in elements {
-        if !element.has_level(word, level) {
-            return false;
+    match levels.get(word) {
+        Some(other) => Ok(other == level),
+        None => {
+            levels.insert(alloc, word, level)?;
+            Ok(true)
         }
     }
-    true
 }
 
 /// Whether the constant has this level in each of the notations.
@@ -87,15 +88,17 @@ fn keeps_levels(elements: &[Element], notations: &NotationList) -> bool
 }
 
 /// Whether each constant among the elements has one level.
-fn keeps_own_levels(elements: &[Element]) -> bool
-    ensures { IsTrue result ↔ KeepsOwnLevels elements.now }
+fn keeps_own_levels(alloc: Global, elements: &[Element]) -> Result<bool, AllocError>
+    ensures { IfOk result (λ keeps. IsTrue keeps ↔ KeepsOwnLevels elements.now) }
 {
+    let mut levels: Places<u32> = Places::new(alloc);
     for element in elements {
-        if !element.keeps_level_beside(elements) {
-            return false;
+        let is_noted = element.note_level(alloc, &mut levels)?;
+        if !is_noted {
+            return Ok(false);
         }
     }
-    true
+    Ok(true)
 }
 
 /// Whether the infix notations of its level group as it does.
@@ -136,52 +139,70 @@ fn none_is_joined(infixes: &NotationList, notation: &Notation) -> bool
 }
 
 /// Whether the constants of the notation have one level each, also beside those of all notations.
-fn levels_are_kept(leading: &NotationList, infixes: &NotationList, notation: &Notation) -> bool
+fn levels_are_kept(
+    alloc: Global,
+    leading: &NotationList,
+    infixes: &NotationList,
+    notation: &Notation,
+) -> Result<bool, AllocError>
     requires { IsClear leading.now infixes.now }
-    ensures { IsTrue result ↔ (KeepsOwnLevels notation.now.elements × KeepsLevels notation.now.elements leading.now × KeepsLevels notation.now.elements infixes.now) }
+    ensures { IfOk result (λ are_kept. IsTrue are_kept ↔ (KeepsOwnLevels notation.now.elements × KeepsLevels notation.now.elements leading.now × KeepsLevels notation.now.elements infixes.now)) }
 {
     let elements = notation.elements.as_slice();
-    if !keeps_own_levels(elements) {
-        return false;
+    let keeps_own = keeps_own_levels(alloc, elements)?;
+    if !keeps_own {
+        return Ok(false);
     }
     if !keeps_levels(elements, leading) {
-        return false;
+        return Ok(false);
     }
-    keeps_levels(elements, infixes)
+    Ok(keeps_levels(elements, infixes))
 }
 
 /// Whether the notations stay clear with one more that begins with a constant.
+///
+/// # Errors
+///
+/// Where there is no memory.
 pub fn is_clear_with_leading(
+    alloc: Global,
     leading: &NotationList,
     infixes: &NotationList,
     notation: &Notation,
-) -> bool
+) -> Result<bool, AllocError>
     requires { IsClear leading.now infixes.now }
-    ensures { IsTrue result ↔ IsClear (leading.now ++ notation.now ∷ []) infixes.now }
+    ensures { IfOk result (λ is_clear. IsTrue is_clear ↔ IsClear (leading.now ++ notation.now ∷ []) infixes.now) }
 {
-    if !levels_are_kept(leading, infixes, notation) {
-        return false;
+    let are_kept = levels_are_kept(alloc, leading, infixes, notation)?;
+    if !are_kept {
+        return Ok(false);
     }
-    none_is_led(leading, notation)
+    Ok(none_is_led(leading, notation))
 }
 
 /// Whether the notations stay clear with one more that begins with a parameter.
+///
+/// # Errors
+///
+/// Where there is no memory.
 pub fn is_clear_with_infix(
+    alloc: Global,
     leading: &NotationList,
     infixes: &NotationList,
     notation: &Notation,
-) -> bool
+) -> Result<bool, AllocError>
     requires { IsClear leading.now infixes.now }
-    ensures { IsTrue result ↔ IsClear leading.now (infixes.now ++ notation.now ∷ []) }
+    ensures { IfOk result (λ is_clear. IsTrue is_clear ↔ IsClear leading.now (infixes.now ++ notation.now ∷ [])) }
 {
     if notation.level == MAX {
-        return false;
+        return Ok(false);
     }
-    if !levels_are_kept(leading, infixes, notation) {
-        return false;
+    let are_kept = levels_are_kept(alloc, leading, infixes, notation)?;
+    if !are_kept {
+        return Ok(false);
     }
     if !all_group_with(infixes, notation) {
-        return false;
+        return Ok(false);
     }
-    none_is_joined(infixes, notation)
+    Ok(none_is_joined(infixes, notation))
 }

@@ -1,13 +1,13 @@
 // The notation that a statement makes, where it is of its form.
-ghost use Rattle.std.specs.Prelude.{◌≡◌, ◌≤◌, ◌<◌, ◌+◌, ◌↔◌, ◌==◌, ◌∷◌, [], ℕ, Bool, IfOk, IsTrue, MatchOption, drop, length, slice_range};
-ghost use Rattle.std.specs.List.{count_by};
+ghost use Rattle.std.specs.Prelude.{◌≡◌, ◌≤◌, ◌<◌, ◌+◌, ◌↔◌, ◌∷◌, [], ℕ, Bool, IfOk, IsTrue, MatchOption, drop, length, slice_range};
 ghost use Rattle.mz_logic.specs.Declaration.{signatures};
 ghost use Rattle.mz_notation.specs.Answers.{IsMade, IsNotationOf, general};
-ghost use Rattle.mz_notation.specs.Forms.{AreElements, Begins, EachOnce, IsCoercion, IsElement, IsGeneral, IsInfix, IsPrefix, IsSpan};
+ghost use Rattle.mz_notation.specs.Forms.{AreElements, Begins, IsCoercion, IsElement, IsGeneral, IsInfix, IsPrefix, IsSpan};
 ghost use Rattle.mz_notation.specs.Kept.{AreVariables};
-ghost use Rattle.mz_notation.specs.Notation.{fixed, places, slot, slots};
+ghost use Rattle.mz_notation.specs.Notation.{fixed, slot, slots};
 
 use crate::notation::{Element, Elements, Notation, level_number};
+use crate::once::each_once;
 use crate::scope::Scope;
 use crate::table::NoteFault;
 use mz_coercions::Coercion;
@@ -218,40 +218,6 @@ fn elements_of(
     Ok(Elements::from_vec(elements))
 }
 
-/// How often the place of a parameter stands among the elements.
-fn times(elements: &[Element], place: usize) -> usize
-    ensures { result ≡ count_by (λ i. i == place) (places elements.now) }
-{
-    let mut times = 0;
-    for element in elements {
-        if let Element::Slot(slot) = element {
-            if *slot == place {
-                times += 1;
-            }
-        }
-    }
-    times
-}
-
-/// Whether the place of a parameter stands once among the elements.
-fn is_once(elements: &[Element], place: usize) -> bool
-    ensures { IsTrue result ↔ (count_by (λ i. i == place) (places elements.now) ≡ 1) }
-{
-    times(elements, place) == 1
-}
-
-/// Whether each of so many parameters is named exactly once.
-fn each_once(many: usize, elements: &[Element]) -> bool
-    ensures { IsTrue result ↔ EachOnce many elements.now }
-{
-    for place in 0..many {
-        if !is_once(elements, place) {
-            return false;
-        }
-    }
-    true
-}
-
 /// The level of a notation, and whether it groups to the right, by how it begins and by its tail.
 fn head_of(elements: &[Element], tail: Option<Tail>) -> Option<(u32, bool)>
     ensures { MatchOption result ((level : ℕ) (right : Bool) → Begins elements.now tail level right → ⊥) (λ head. Begins elements.now tail head.0 head.1) }
@@ -328,15 +294,23 @@ pub fn general_of(
         statement.literals,
     ) {
         Err(fault) => Err(fault),
-        Ok(elements) => notation_of(statement, elements),
+        Ok(elements) => notation_of(alloc, statement, elements),
     }
 }
 
 /// The notation of these elements, where each parameter is named once and they begin as the tail asks.
-fn notation_of(statement: Statement<'_>, elements: Elements) -> Result<Notation, NoteFault>
+fn notation_of(
+    alloc: Global,
+    statement: Statement<'_>,
+    elements: Elements,
+) -> Result<Notation, NoteFault>
     ensures { IsMade result (IsNotationOf (general statement.entry) elements) }
 {
-    if !each_once(statement.params.binders().len(), elements.as_slice()) {
+    let many = statement.params.binders().len();
+    let Ok(once) = each_once(alloc, many, elements.as_slice()) else {
+        return Err(NoteFault::Mem);
+    };
+    if !once {
         return Err(NoteFault::Form);
     }
     match head_of(elements.as_slice(), statement.tail) {

@@ -11,6 +11,7 @@ mod form;
 mod names;
 mod notation;
 mod notations;
+mod once;
 mod scope;
 mod table;
 
@@ -18,4 +19,4 @@ pub use form::{Literal, Tail};
 pub use mz_coercions::{Coercion, Coercions};
 pub use notation::{Element, Elements, MAX, Notation};
 pub use scope::Scope;
-pub use table::{Notations, NoteFault, TermName};
+pub use table::{Notations, NoteFault};

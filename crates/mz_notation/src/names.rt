@@ -1,63 +1,53 @@
 // The names of terms, found by their bytes.
-ghost use Rattle.std.specs.Prelude.{◌≡◌, ◌↔◌, ◌++◌, ◌∷◌, [], IsTrue, MatchOption, OnOk, OnErr, Contains};
+ghost use Rattle.std.specs.Prelude.{◌≡◌, ◌++◌, ◌∷◌, [], MatchOption, OnOk, OnErr, Contains, length};
 ghost use Rattle.mz_notation.specs.Names.{IsFoundAs};
-ghost use Rattle.mz_notation.specs.declared.table.TermName.{TermName};
+ghost use Rattle.mz_notation.specs.Notation.{TermName};
 
-use crate::table::TermName;
-use mz_tokens::{Bytes, Places};
+use indexmap::IndexMap;
+use mz_names::Hashing;
 use std::alloc::{AllocError, Global};
 use std::marker::Model;
 
-/// The names of terms in the order in which they were declared.
+/// The names of terms in the order in which they were given, each kept once, beside its term.
 #[derive(Drop)]
 pub struct TermNames {
-    items: Vec<TermName>,
-    // where each name stands
-    places: Places<usize>,
+    terms: IndexMap<Vec<u8>, u32, Hashing>,
 }
 
 impl Model for TermNames {
     ghost use Rattle.std.specs.Prelude.{List};
-    ghost use Rattle.mz_notation.specs.declared.table.TermName.{TermName};
-    ghost use Rattle.mz_notation.specs.Names.{HasName};
-    ghost use Rattle.mz_tokens.specs.Places.{LeadsTo};
+    ghost use Rattle.mz_notation.specs.Notation.{TermName};
+    ghost use Rattle.mz_notation.specs.Names.{AreOnce, all_named};
 
     ghost Value = { List TermName };
 
-    ghost view = { λ a. a.items.items };
+    ghost view = { λ a. all_named (λ k. k.items) a.terms.entries };
 
-    ghost invariant = { λ a. LeadsTo HasName a.places a.items.items };
+    ghost invariant = { λ a. AreOnce (all_named (λ k. k.items) a.terms.entries) };
 }
 
 impl TermNames {
     /// No names.
-    pub fn new(alloc: Global) -> TermNames
+    pub fn new(alloc: Global, hashing: Hashing) -> TermNames
         ensures { result ≡ [] }
     {
         TermNames {
-            items: Vec::new(alloc),
-            places: Places::new(alloc),
+            terms: IndexMap::with_hasher(alloc, hashing),
         }
     }
 
-    /// The names in order.
-    pub fn as_slice(&self) -> &[TermName]
-        ensures { result.now ≡ self.now }
+    /// How many there are.
+    pub fn len(&self) -> usize
+        ensures { result ≡ length self.now }
     {
-        &self.items
+        self.terms.len()
     }
 
-    /// What has this name, if it is there.
-    pub fn get(&self, name: &[u8]) -> Option<&TermName>
-        ensures { MatchOption result ((n : TermName) → Contains self.now n → n.name ≡ name.now → ⊥) (λ n. IsFoundAs self.now name.now n.now) }
+    /// The term of this name, if there is one.
+    pub fn get(&self, name: &[u8]) -> Option<u32>
+        ensures { MatchOption result ((n : TermName) → Contains self.now n → n.name ≡ name.now → ⊥) (λ t. (n : TermName) × IsFoundAs self.now name.now n × (n.term ≡ t)) }
     {
-        let place = self.places.get(name)?;
-        let entry = self.items.get(place)?;
-        if entry.name.is(name) {
-            Some(entry)
-        } else {
-            None
-        }
+        self.terms.get(name).copied()
     }
 
     /// Adds the name of a term, which isn't there.
@@ -70,9 +60,8 @@ impl TermNames {
         ensures ok { OnOk result (self.new ≡ self.old ++ record { name = name.now; term = term } ∷ []) }
         ensures err { OnErr result (self.new ≡ self.old) }
     {
-        let copy = Bytes::copy_of(alloc, name)?;
-        self.places.insert(alloc, name, self.items.len())?;
-        self.items.push(TermName { name: copy, term })?;
+        let name = name.to_vec(alloc)?;
+        self.terms.insert(name, term)?;
         Ok(())
     }
 }

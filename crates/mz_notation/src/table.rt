@@ -20,7 +20,8 @@ use crate::notations::NotationList;
 use crate::scope::Scope;
 use mz_coercions::{Coercion, Coercions};
 use mz_logic::{Env, ResultType};
-use mz_tokens::{Bytes, Delimiters};
+use mz_names::Hashing;
+use mz_tokens::Delimiters;
 use std::alloc::{AllocError, AllocFailed, Global};
 use std::marker::Model;
 use thiserror::Error;
@@ -58,13 +59,6 @@ impl<T: Drop> From<AllocFailed<T>> for NoteFault {
     }
 }
 
-/// The name of a term.
-#[derive(Drop)]
-pub struct TermName {
-    pub name: Bytes,
-    pub term: u32,
-}
-
 /// The delimiters, notations, names of terms and coercions that have been declared.
 #[derive(Drop)]
 pub struct Notations {
@@ -89,8 +83,15 @@ impl Model for Notations {
 }
 
 impl Notations {
-    /// Nothing is declared.
+    /// Nothing is declared, for those who draw no seed.
     pub fn new(alloc: Global) -> Notations
+        ensures { result ≡ empty_table }
+    {
+        Notations::with_hashing(alloc, Hashing::fixed())
+    }
+
+    /// Nothing is declared; the names of terms will be hashed like this.
+    pub fn with_hashing(alloc: Global, hashing: Hashing) -> Notations
         ensures { result ≡ empty_table }
     {
         Notations {
@@ -98,7 +99,7 @@ impl Notations {
             delimiters: Delimiters::new(alloc),
             leading: NotationList::new(alloc),
             infixes: NotationList::new(alloc),
-            names: TermNames::new(alloc),
+            names: TermNames::new(alloc, hashing),
             coercions: Coercions::new(alloc),
         }
     }
@@ -138,11 +139,11 @@ impl Notations {
         }
     }
 
-    /// The names of terms.
-    pub fn names(&self) -> &[TermName]
-        ensures { result.now ≡ self.now.names }
+    /// How many terms have names.
+    pub fn name_count(&self) -> usize
+        ensures { result ≡ length self.now.names }
     {
-        self.names.as_slice()
+        self.names.len()
     }
 
     /// Whether a term has this name.
@@ -156,10 +157,7 @@ impl Notations {
     pub fn named(&self, name: &[u8]) -> Option<u32>
         ensures { MatchOption result ((n : TermName) → Contains self.now.names n → n.name ≡ name.now → ⊥) (λ t. (n : TermName) × IsFoundAs self.now.names name.now n × (n.term ≡ t)) }
     {
-        match self.names.get(name) {
-            Some(entry) => Some(entry.term),
-            None => None,
-        }
+        self.names.get(name)
     }
 
     /// The coercions.
@@ -310,7 +308,15 @@ impl Notations {
         requires plain { IsPlain notation }
         ensures { IsAdded result self.old (with_infix self.old notation) self.new }
     {
-        if !is_clear_with_infix(&self.leading, &self.infixes, &notation) {
+        let Ok(stays_clear) = is_clear_with_infix(
+            self.alloc,
+            &self.leading,
+            &self.infixes,
+            &notation,
+        ) else {
+            return Err(NoteFault::Mem);
+        };
+        if !stays_clear {
             return Err(NoteFault::Clash);
         }
         let Ok(()) = self.infixes.push(self.alloc, notation) else {
@@ -324,7 +330,15 @@ impl Notations {
         requires plain { IsPlain notation }
         ensures { IsAdded result self.old (with_leading self.old notation) self.new }
     {
-        if !is_clear_with_leading(&self.leading, &self.infixes, &notation) {
+        let Ok(is_clear) = is_clear_with_leading(
+            self.alloc,
+            &self.leading,
+            &self.infixes,
+            &notation,
+        ) else {
+            return Err(NoteFault::Mem);
+        };
+        if !is_clear {
             return Err(NoteFault::Clash);
         }
         let Ok(()) = self.leading.push(self.alloc, notation) else {

@@ -11,12 +11,11 @@ use Rattle.mz_earlier.specs.OwnRow.{kind_at, heading_of, MayRun, mode_for, own_w
 use Rattle.mz_earlier.specs.Before.{tables_before}
 use Rattle.mz_layout.specs.declared.taken.Rows.{Rows}
 use Rattle.mz_earlier.proofs.Offered.{binders_many, own-binders}
-use Rattle.mz_machine.proofs.Offered.{no-dummies}
+use Rattle.mz_machine.proofs.Offered.{no-dummies, own-are}
 use Rattle.mz_numbered.specs.Numbered.{Numbered, a_variable, portable}
 use Rattle.mz_nodes.specs.Numbering.{Numbering, expr_of, IsIn, IsOver}
 use Rattle.mz_punify.specs.Stored.{AreItemsIn}
 use Rattle.mz_pmachine.specs.OverNodes.{heap_at, state_at, AreFirst, IsUnderway}
-use Rattle.mz_pmachine.proofs.Ending.{own-are}
 
 -- ---- the first ids
 
@@ -73,7 +72,7 @@ module _ (file : List ℕ) (kind row : ℕ) (before : Rows) (s : Numbering) (ws 
       rw (
         ctx ∙ sym params-are,
         first-exprs s (length ws) firsts,
-        own-are 0 (heading_of file kind row).params,
+        own-are portable 0 (heading_of file kind row).params,
         params-many,
       )
       refl

@@ -1,34 +1,24 @@
 -- The END of a body over nodes: the row's own stream, and what it is run on.
-use Rattle.std.proofs.Common.{◌≡◌, ◌≤◌, ◌<◌, ◌+◌, ℕ, zero, suc, List, [], ◌∷◌, ◌++◌, length, map, Result, Ok, Err, refl, sym, ap, ◌∙◌, arith}
+use Rattle.std.proofs.Common.{◌≡◌, ◌≤◌, ◌<◌, ◌+◌, ℕ, zero, suc, List, [], ◌∷◌, length, map, refl, sym, ap, ◌∙◌, arith}
 use Rattle.std.specs.Prelude.{reverse}
 use Rattle.std.specs.List.{range_with_len}
-use Rattle.std.proofs.lemmas.List.{map-append, reverse-append}
-use Rattle.mz_cmd.specs.declared.rule.K.{K}
-use Rattle.mz_logic.specs.declared.binder.Binder.{Binder}
 use Rattle.mz_nodes.specs.Numbering.{Numbering, expr_of, IsIn, AreIn}
 use Rattle.mz_store.specs.declared.item.Id.{Id}
 use Rattle.mz_store.specs.declared.item.Item.{Item as Kept}
 use Rattle.mz_store.specs.declared.item.Item.TheVariants.{Proof}
 use Rattle.mz_numbered.specs.Numbered.{Numbered, a_variable, portable}
 use Rattle.mz_unification.specs.Profile.{Item, proof}
-use Rattle.mz_unification.specs.UnifyMachine.{Matching, unify, unify_steps}
 use Rattle.mz_punify.specs.Stored.{item_at, items_at, exprs_at, matching_at, AreItemsIn}
-use Rattle.mz_punify.proofs.Offered.{exprs-append}
-use Rattle.mz_soundness.specs.MachineState.{RowsBefore, State, Kind, is_axiom, is_theorem, is_definition, Heading, signatures_in}
-use Rattle.mz_soundness.specs.ProofMachine.{last_item, as_proofs, own_variables, ending, ends_with, proof_end}
-use Rattle.mz_soundness.specs.Bodies.{match_steps}
+use Rattle.mz_unification.proofs.Offered.{map-reverse}
+use Rattle.mz_soundness.specs.MachineState.{State, Kind, is_axiom, is_theorem, is_definition, Heading}
+use Rattle.mz_soundness.specs.ProofMachine.{as_proofs}
 use Rattle.mz_earlier.specs.OwnRow.{id_at, first_ids, own_proofs}
-use Rattle.mz_machine.specs.OverStore.{Gives}
 use Rattle.mz_pmachine.specs.OverNodes.{AreFirst}
-use Rattle.mz_machine.specs.Endings.{mode_at, items_of, IsOwnRun}
+use Rattle.mz_machine.specs.Endings.{mode_at, items_of}
 use Rattle.mz_pmachine.specs.Endings.{ended}
-use Rattle.mz_unify.specs.declared.stop.Stop.{Stop}
-use Rattle.mz_unify.specs.declared.stop.Stop.TheVariants.{Rule, Mem}
+use Rattle.mz_machine.proofs.Offered.{own-are}
 
 -- ---- the first variables
-
-next-is : (i : ℕ) → suc i ≡ i + 1
-next-is i = omega arith
 
 exprs-from : (s : Numbering) (i n : ℕ) → ((j : ℕ) → i ≤ j → j < i + n → IsIn s j × (expr_of s j ≡ a_variable j)) → exprs_at s (map id_at (range_with_len i n)) ≡ map a_variable (range_with_len i n)
 exprs-from s i zero first = refl
@@ -46,30 +36,14 @@ first-exprs s n first = exprs-from s 0 n (λ j le below. first j (omega (arith, 
 pub first-in : (s : Numbering) (n : ℕ) → AreFirst s n → AreIn s (first_ids n)
 first-in s n first = in-from s 0 n (λ j le below. first j (omega (arith, below)))
 
-pub own-are : (i : ℕ) (ps : List Binder) → own_variables portable i ps ≡ map a_variable (range_with_len i (length ps))
-own-are i [] = refl
-own-are i (p ∷ ps) = ap (λ (ts : List Numbered). a_variable i ∷ ts) (own-are (suc i) ps ∙ ap (λ (j : ℕ). map a_variable (range_with_len j (length ps))) (next-is i))
-
 -- ---- hypotheses as proofs
-
-kept-reverse : (hyps : List Id) → reverse (map Proof hyps) ≡ map Proof (reverse hyps)
-kept-reverse [] = refl
-kept-reverse (h ∷ hs) =
-    reverse-append (Proof h ∷ []) (map Proof hs) ∙ (ap (λ (xs : List Kept). xs ++ Proof h ∷ []) (kept-reverse hs)
-    ∙ sym (ap (map Proof) (reverse-append (h ∷ []) hs) ∙ map-append Proof (reverse hs) (h ∷ [])))
-
-trees-reverse : (s : Numbering) (hyps : List Id) → reverse (exprs_at s hyps) ≡ exprs_at s (reverse hyps)
-trees-reverse s [] = refl
-trees-reverse s (h ∷ hs) =
-    reverse-append (expr_of s h.0 ∷ []) (exprs_at s hs) ∙ (ap (λ (xs : List Numbered). xs ++ expr_of s h.0 ∷ []) (trees-reverse s hs)
-    ∙ sym (ap (exprs_at s) (reverse-append (h ∷ []) hs) ∙ exprs-append s (reverse hs) (h ∷ [])))
 
 items-are : (s : Numbering) (ids : List Id) → map (item_at s) (map Proof ids) ≡ map proof (exprs_at s ids)
 items-are s [] = refl
 items-are s (i ∷ is) = ap (λ (xs : List (Item Numbered)). proof (expr_of s i.0) ∷ xs) (items-are s is)
 
 proofs-are : (s : Numbering) (hyps : List Id) → items_at s (map Proof hyps) ≡ as_proofs (exprs_at s hyps)
-proofs-are s hyps = ap (map (item_at s)) (kept-reverse hyps) ∙ (items-are s (reverse hyps) ∙ ap (map proof) (sym (trees-reverse s hyps)))
+proofs-are s hyps = ap (map (item_at s)) (sym (map-reverse Proof hyps)) ∙ (items-are s (reverse hyps) ∙ ap (map proof) (map-reverse (λ (i : Id). expr_of s i.0) hyps))
 
 pub own-items : (s : Numbering) (kind : Kind) (hyps : List Id) → items_at s (own_proofs kind hyps) ≡ items_of kind (exprs_at s hyps)
 own-items s is_axiom hyps = proofs-are s hyps
@@ -90,36 +64,6 @@ own-items-in s is_definition hyps inside = tt
 pub own-matching : (h : Heading) (st : State Numbered) (kind : Kind) (s : Numbering) (stream : List ℕ) (operands : List Id) (target : Id) (proofs : List Kept)
     → stream ≡ h.stream → exprs_at s operands ≡ map a_variable (range_with_len 0 (length h.params)) → items_at s proofs ≡ items_of kind st.hyps
     → matching_at s (mode_at kind) stream operands target proofs ≡ ended h st kind (expr_of s target.0)
-own-matching h st is_axiom s stream operands target proofs a b c = rw (a, b, c, own-are 0 h.params) refl
-own-matching h st is_theorem s stream operands target proofs a b c = rw (a, b, c, own-are 0 h.params) refl
-own-matching h st is_definition s stream operands target proofs a b c = rw (a, b, c, own-are 0 h.params) refl
-
-module _ (tables : RowsBefore) (h : Heading) (st : State Numbered) where
-  pub no-last-item : (d : K) → last_item h.kind st.stack ≡ Err d → ends_with portable tables h st ≡ Err d
-  unfolding ends_with
-  no-last-item d e = rw e refl
-
-  pub not-ending : (e : Numbered) (d : K) → last_item h.kind st.stack ≡ Ok e → ending portable tables h st h.kind e ≡ Err d → ends_with portable tables h st ≡ Err d
-  unfolding ends_with
-  not-ending e d is stopped = rw (is, stopped) refl
-
-  pub is-ending : (e : Numbered) (m : Matching Numbered) → last_item h.kind st.stack ≡ Ok e → ending portable tables h st h.kind e ≡ Ok m → ends_with portable tables h st ≡ Ok m
-  unfolding ends_with
-  is-ending e m is ends = rw (is, ends) refl
-
-  pub stopped-end : (d : K) → ends_with portable tables h st ≡ Err d → proof_end portable tables h st ≡ Err d
-  unfolding proof_end
-  stopped-end d e = rw e refl
-
-  pub no-end-steps : (d : K) → ends_with portable tables h st ≡ Err d → match_steps portable tables st (ends_with portable tables h st) ≡ 0
-  no-end-steps d e = rw e refl
-
-  pub end-steps : (m : Matching Numbered) → ends_with portable tables h st ≡ Ok m → match_steps portable tables st (ends_with portable tables h st) ≡ unify_steps portable (signatures_in tables) st.ctx m
-  end-steps m e = rw e refl
-
-  pub own-end : {A : Type 0} (m : Matching Numbered) (result : Result A Stop) → ends_with portable tables h st ≡ Ok m → IsOwnRun (unify portable (signatures_in tables) st.ctx m) result
-      → Gives (proof_end portable tables h st) result (λ _. st)
-  unfolding proof_end
-  own-end m (Ok x) e (u, is) = rw (e, is) refl
-  own-end m (Err (Rule d)) e (at, is) = rw (e, is) refl
-  own-end m (Err Mem) e run = tt
+own-matching h st is_axiom s stream operands target proofs a b c = rw (a, b, c, own-are portable 0 h.params) refl
+own-matching h st is_theorem s stream operands target proofs a b c = rw (a, b, c, own-are portable 0 h.params) refl
+own-matching h st is_definition s stream operands target proofs a b c = rw (a, b, c, own-are portable 0 h.params) refl

@@ -3,14 +3,11 @@ mod Popping
 mod Converting
 mod Unfoldings
 mod Citing
-mod RowResults
 mod TakenOperands
 mod FittingOperands
-mod Apartness
 mod TermResults
 mod Ending
 mod Advancing
-mod BodyUnderway
 mod BodyRunning
 mod Machines
 mod Beginning

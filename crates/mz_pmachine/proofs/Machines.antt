@@ -1,5 +1,5 @@
 -- A machine between two commands.
-use Rattle.std.proofs.Common.{◌<◌, ◌+◌, ◌^◌, ◌∙◌, ℕ, List, ◌++◌, length, ap, append_assoc}
+use Rattle.std.proofs.Common.{◌<◌, ◌^◌, ◌∙◌, ℕ, List, ◌++◌, length, ap, append_assoc}
 use Rattle.std.proofs.lemmas.List.Elements.{All-append}
 use Rattle.mz_logic.specs.Legality.{IsDummy}
 use Rattle.mz_store.specs.declared.item.Id.{Id}

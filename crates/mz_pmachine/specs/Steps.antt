@@ -1,13 +1,13 @@
 -- A machine that takes commands one by one.
-use Rattle.std.specs.Prelude.{ℕ, suc, List, Option, Some, None, Result, Err}
+use Rattle.std.specs.Prelude.{ℕ, suc, List, Option, Result}
 use Rattle.mz_cmd.specs.declared.rule.K.{K}
-use Rattle.mz_cmd.specs.declared.rule.K.TheVariants as k
 use Rattle.mz_cmd.specs.declared.command.Cmd.{Cmd}
 use Rattle.mz_soundness.specs.MachineState.{RowsBefore, State, Heading}
-use Rattle.mz_soundness.specs.ProofMachine.{proof_row, ends_with}
-use Rattle.mz_soundness.specs.Bodies.{BodyCommand, ends, proves, body_command, row_steps, match_steps}
+use Rattle.mz_soundness.specs.ProofMachine.{ends_with}
+use Rattle.mz_soundness.specs.Bodies.{BodyCommand, body_command, match_steps}
 use Rattle.mz_earlier.specs.OwnRow.{heading_of}
 use Rattle.mz_earlier.specs.Before.{tables_before}
+use Rattle.mz_earlier.specs.OneCommand.{row_in, steps_in}
 use Rattle.mz_layout.specs.declared.taken.Rows.{Rows}
 use Rattle.mz_numbered.specs.Numbered.{Numbered, portable}
 
@@ -31,18 +31,14 @@ heading_for u = heading_of u.file u.kind u.row
 
 -- the row of a command other than END; one that is not of this body has none
 abbrev pub row_by : RowsBefore → ℕ → State Numbered → Option BodyCommand → Result (State Numbered) K
-row_by tables at st None = Err k.Command
-row_by tables at st (Some ends) = Err k.Command
-row_by tables at st (Some (proves c value)) = proof_row portable tables at c value st
+row_by tables at st u = row_in portable tables at st u
 
 abbrev pub row_of : RowsBefore → Heading → ℕ → State Numbered → Cmd → Result (State Numbered) K
 row_of tables h at st c = row_by tables at st (body_command portable h.kind c.code c.value)
 
 -- it and the unify commands that it executes
 abbrev pub steps_by : RowsBefore → State Numbered → Option BodyCommand → ℕ
-steps_by tables st None = 1
-steps_by tables st (Some ends) = 1
-steps_by tables st (Some (proves c value)) = suc (row_steps portable tables c value st)
+steps_by tables st u = steps_in portable tables st u
 
 abbrev pub steps_for : RowsBefore → Heading → State Numbered → Cmd → ℕ
 steps_for tables h st c = steps_by tables st (body_command portable h.kind c.code c.value)

@@ -11,6 +11,7 @@ ghost use Rattle.mz_prefix.specs.Writing.{statement_text};
 use crate::first::first_long;
 use crate::names::Names;
 use mz_agreeing::specifications_of_texts_declare;
+use mz_forms::Hashing;
 use mz_mmu::{TextRead, read_text};
 use mz_mode::Mode;
 use mz_sexpr::TextRefusal;
@@ -96,11 +97,11 @@ fn answer(alloc: Global, text: &Typed, most: u128) -> SpecText
 }
 
 /// The specification of a text of at most 4,294,967,295 bytes, of at most so many.
-fn spec_within(alloc: Global, text: &[u8], most: u128) -> SpecText
+fn spec_within(alloc: Global, hashing: Hashing, text: &[u8], most: u128) -> SpecText
     requires { length text.now < 2 ^ 32 }
     ensures { IsWording most text.now result }
 {
-    let text = match read_text(alloc, text, Mode::Strict) {
+    let text = match read_text(alloc, hashing, text, Mode::Strict) {
         TextRead::Text(text) => text,
         TextRead::Refused(refusal) => return SpecText::Refused(refusal),
         TextRead::Mem => return SpecText::Mem,
@@ -112,16 +113,17 @@ fn spec_within(alloc: Global, text: &[u8], most: u128) -> SpecText
     }
 }
 
-/// Makes a specification of a text of at most 4,294,967,295 bytes: its public statements in prefix
-/// form, one a line, where the text is well typed; else its first fault, or what stands first
-/// against a specification. What it declares agrees with the text's public statements.
-pub fn spec_of(alloc: Global, text: &[u8]) -> SpecText
+/// Makes a specification of a text of at most 4,294,967,295 bytes, whose names are hashed like this:
+/// its public statements in prefix form, one a line, where the text is well typed; else its first
+/// fault, or what stands first against a specification. What it declares agrees with the text's
+/// public statements.
+pub fn spec_of(alloc: Global, hashing: Hashing, text: &[u8]) -> SpecText
     requires { length text.now < 2 ^ 32 }
     ensures answer { IsWording longest text.now result }
     ensures declares { DeclaresItsText text.now result }
 {
     specifications_of_texts_declare();
-    spec_within(alloc, text, LONGEST)
+    spec_within(alloc, hashing, text, LONGEST)
 }
 
 /// Each text has a specification, or exactly one first fault, or exactly one thing that stands first

@@ -4,7 +4,7 @@ use Rattle.std.specs.Prelude.{◌≡◌, ◌≢◌, ◌<◌, ◌≤◌, ◌++◌
 use Rattle.mz_logic.specs.Tree.{Tree, Trees, var, app, none, more}
 use Rattle.mz_logic.specs.Declaration.{sorts}
 use Rattle.mz_logic.specs.Modifiers.{MayBeClaimSort}
-use Rattle.mz_notation.specs.declared.table.TermName.{TermName}
+use Rattle.mz_notation.specs.Notation.{TermName}
 use Rattle.mz_tokens.specs.Pieces.{no_delimiters}
 use Rattle.mz_math.specs.Grammar.{Words, IsVariable}
 use Rattle.mz_math.specs.declared.formula.Wanted.{Wanted}

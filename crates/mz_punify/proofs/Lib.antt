@@ -1,6 +1,4 @@
 pub mod StoredIds
 mod VariableWords
-pub mod RowValues
-mod UnifyTurns
-mod Underway
+pub mod Parts
 pub mod Offered

@@ -6,7 +6,7 @@ use Rattle.std.specs.Option.{option_map}
 use Rattle.std.specs.Prelude.{reverse, slice_get, ◌==◌, IfSome, option_to_list}
 use Rattle.std.proofs.lemmas.List.{reverse-append, map-append, reverse-reverse, length-map, length-reverse}
 use Rattle.mz_numbered.specs.Numbered.{Numbered, operand_list, operand_trees, operands_from, tree_of}
-use Rattle.mz_nodes.specs.Numbering.{Numbering, expr_of, IsIn, AreIn, KeepsIds, exprs_of}
+use Rattle.mz_nodes.specs.Numbering.{Numbering, expr_of, IsIn, AreIn, KeepsIds, exprs_of, operands_of}
 use Rattle.mz_store.specs.declared.item.Id.{Id}
 use Rattle.mz_store.specs.declared.item.Item.{Item as Kept}
 use Rattle.mz_store.specs.declared.item.Item.TheVariants.{Proof}
@@ -69,6 +69,10 @@ module _ (s : Numbering) where
   pub stack-operands : (xs args : List Id) → stack_at s (xs ++ reverse args) ≡ exprs_at s args ++ stack_at s xs
   stack-operands xs args =
       ap (exprs_at s) (reverse-append xs (reverse args) ∙ ap (λ (ys : List Id). ys ++ reverse xs) (reverse-reverse args)) ∙ exprs-append args (reverse xs)
+
+  -- the operands of an application, put there
+  pub put-there : (e : Numbered) (left args : List Id) → exprs_of s args ≡ operands_of e → operand_list (operands_of e) ++ stack_at s left ≡ stack_at s (left ++ reverse args)
+  put-there e left args are = ap (λ (es : List Numbered). es ++ stack_at s left) (ap operand_list (sym are) ∙ listed-exprs args) ∙ sym (stack-operands left args)
 
   pub items-push : (xs : List Kept) (x : Kept) → items_at s (xs ++ x ∷ []) ≡ item_at s x ∷ items_at s xs
   items-push xs x = ap (map (item_at s)) (reverse-append xs (x ∷ []))

@@ -1,15 +1,13 @@
 -- The unify machine over nodes: expressions are ids, and a run is that of the expressions, numbers and all.
-use Rattle.std.specs.Prelude.{◌≡◌, ℕ, ⊤, List, [], ◌∷◌, map, reverse, Result, Ok, Err}
-use Rattle.mz_cmd.specs.declared.rule.K.{K}
+use Rattle.std.specs.Prelude.{ℕ, ⊤, List, [], ◌∷◌, map, reverse}
 use Rattle.mz_logic.specs.Tree.{Tree}
 use Rattle.mz_store.specs.declared.item.Id.{Id}
 use Rattle.mz_store.specs.declared.item.Item.{Item as Kept}
 use Rattle.mz_store.specs.declared.item.Item.TheVariants.{Expr, Proof, Obligation, Conversion}
 use Rattle.mz_unification.specs.Profile.{Item, expr, proof, obligation, conversion}
-use Rattle.mz_unification.specs.UnifyMachine.{Matching, UnifyState}
-use Rattle.mz_unify.specs.Stored.{mode_of, Says}
+use Rattle.mz_unification.specs.UnifyMachine.{Matching}
+use Rattle.mz_unify.specs.Stored.{mode_of}
 use Rattle.mz_unify.specs.declared.unified.UnifyMode.{UnifyMode}
-use Rattle.mz_unify.specs.declared.unified.Unified.{Unified}
 use Rattle.mz_numbered.specs.Numbered.{Numbered, tree_of}
 use Rattle.mz_nodes.specs.Numbering.{Numbering, expr_of, IsIn}
 
@@ -50,11 +48,3 @@ AreItemsIn s (x ∷ xs) = IsItemIn s x × AreItemsIn s xs
 -- a stream that is run on the expressions of nodes
 abbrev pub matching_at : Numbering → UnifyMode → List ℕ → List Id → Id → List Kept → Matching Numbered
 matching_at s mode stream heap target hyps = record { mode = mode_of mode; stream = stream; operands = exprs_at s heap; target = expr_of s target.0; items = items_at s hyps }
-
--- the run ends with this heap and these items left
-abbrev pub EndsWith : Result (UnifyState Numbered) (ℕ × K) → List Numbered → List (Item Numbered) → Type 0
-EndsWith r heap items = (u : UnifyState Numbered) × (r ≡ Ok u) × (u.heap ≡ heap) × (u.items ≡ items)
-
--- what is said is what the run comes to
-abbrev pub IsRun : Result (UnifyState Numbered) (ℕ × K) → Unified → List Numbered → List (Item Numbered) → Type 0
-IsRun r said heap items = Says said (λ _. EndsWith r heap items) (λ at rule. r ≡ Err (at, rule))

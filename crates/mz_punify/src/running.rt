@@ -5,8 +5,8 @@ ghost use Rattle.mz_logic.specs.Signature.{Signature};
 ghost use Rattle.mz_nodes.specs.Numbering.{IsIn, AreIn, IsOver};
 ghost use Rattle.mz_numbered.specs.Numbered.{portable};
 ghost use Rattle.mz_unification.specs.UnifyMachine.{unify, unify_from, unify_steps, unify_steps_from};
-ghost use Rattle.mz_unify.specs.Stored.{mode_of, OnDone, UnlessMem, AreLeft};
-ghost use Rattle.mz_punify.specs.Stored.{exprs_at, items_at, AreItemsIn, matching_at, IsRun};
+ghost use Rattle.mz_unify.specs.Stored.{mode_of, OnDone, UnlessMem, IsRun, AreLeft};
+ghost use Rattle.mz_punify.specs.Stored.{exprs_at, items_at, AreItemsIn, matching_at};
 ghost use Rattle.mz_punify.specs.Rows.{state_at};
 
 use crate::rows::{step, variables};

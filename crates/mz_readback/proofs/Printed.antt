@@ -15,7 +15,7 @@ use Rattle.mz_logic.specs.Legality.{AreBindersThere, IsBinderThere, IsDummy, IsC
 use Rattle.mz_logic.specs.declared.binder.Binder.{Binder}
 use Rattle.mz_logic.specs.declared.binder.SortMods.{SortMods}
 use Rattle.mz_logic.proofs.Offered.{sorts-append}
-use Rattle.mz_notation.specs.declared.table.TermName.{TermName}
+use Rattle.mz_notation.specs.Notation.{TermName}
 use Rattle.mz_grammar.specs.declared.kind.AssertKind.{AssertKind}
 use Rattle.mz_grammar.specs.declared.kind.Kind.TheVariants.{Term as TermKind, Assert, Definition}
 use Rattle.mz_grammar.specs.Statement.{TypeText, Statement, sort_statement, term_statement, assert_statement, definition_statement}

@@ -1,7 +1,6 @@
 -- The bound parameters of a statement and its dummies are at most 55 together: the machine makes no more.
-use Rattle.std.proofs.Common.{◌≡◌, ◌≤◌, ◌<◌, ◌+◌, ◌⊎◌, ◌∙◌, ℕ, zero, suc, Bool, true, false, cond, ltb, List, [], ◌∷◌, ◌++◌, length, drop, Option, Some, None, Result, Ok, Err, slice_get, refl, sym, ap, subst, inl, inr, arith, leb, length-append}
-use Rattle.std.specs.Prelude.{if◌then◌else◌, Contains, ◌&&◌, ◌==◌, not}
-use Rattle.std.specs.List.{filter}
+use Rattle.std.proofs.Common.{◌≡◌, ◌≤◌, ◌<◌, ◌+◌, ◌∙◌, ℕ, zero, suc, Bool, true, false, cond, ltb, List, [], ◌∷◌, ◌++◌, length, drop, Option, Some, None, Result, Ok, Err, slice_get, refl, sym, ap, subst, inl, inr, arith, leb, length-append}
+use Rattle.std.specs.Prelude.{if◌then◌else◌, ◌&&◌, ◌==◌, not}
 use Rattle.std.proofs.lemmas.Bool.{ltb-true, leb-true, leb-false}
 use Rattle.std.proofs.lemmas.Option.{slice_get_within}
 use Rattle.mz_cmd.specs.declared.rule.K.TheVariants as k
@@ -11,33 +10,29 @@ use Rattle.mz_cmd.specs.declared.code.ProofCode.{ProofCode}
 use Rattle.mz_cmd.specs.declared.code.ProofCode.TheVariants as code
 use Rattle.mz_cmd.specs.Reading.{first_command}
 use Rattle.mz_logic.specs.Tree.{Tree, none}
-use Rattle.mz_logic.specs.Signature.{Signature}
 use Rattle.mz_logic.specs.Declaration.{Declaration, defined, sorts, signatures}
 use Rattle.mz_logic.specs.Variables.{InSomeV}
 use Rattle.mz_logic.specs.Conversions.{AreFresh}
 use Rattle.mz_logic.specs.Legality.{sort_of}
 use Rattle.mz_logic.specs.LegalLists.{AreDummies}
-use Rattle.mz_logic.specs.Words.{binders_from, word_bound}
 use Rattle.mz_logic.specs.declared.binder.Binder.{Binder}
 use Rattle.mz_logic.specs.declared.binder.SortMods.{SortMods}
-use Rattle.mz_logic.specs.declared.word.Word.{Word}
 use Rattle.mz_forms.specs.Proof.{Proof}
 use Rattle.mz_unification.specs.Steps.{◌>>◌, need, at_place, Turn, over, goes_on}
 use Rattle.mz_unification.specs.Streams.{of_definition}
 use Rattle.mz_unification.specs.Spells.{trees_of, dummy_of, variables_from, SpellsForm}
 use Rattle.mz_unification.specs.Profile.{strict, tree_parts, Item, expr, proof, obligation, conversion}
-use Rattle.mz_unification.specs.Sorted.{Sorted, ItemsSorted}
 use Rattle.mz_unification.specs.UnifyMachine.{in_definition, is_empty}
 use Rattle.mz_unification.proofs.Offered.{from_bind, from_need, from_want, taken, taken-is, place-ok, place_from, renamed, definition-spelled, unfolding-is, one-text}
 use Rattle.mz_soundness.specs.MachineState.{RowsBefore, signatures_in, State, Kind, is_definition, Heading, Declares}
 use Rattle.mz_soundness.specs.FreeVars.{free_within}
 use Rattle.mz_soundness.specs.Premises.{bound_count, pop, pop_expr, pop_proof, pop_obligation, pop_conversion, is_conversion, is_obligation, may_be_dummy_sort}
-use Rattle.mz_words.specs.RowWords.{bound_count as bound_words}
 use Rattle.mz_soundness.specs.ProofMachine.{ends_with, matched_by, built, cited, referred, same_term, unfolding_of, has_provable_sort, proof_row, proof_end, last_item, ending, own_stream}
 use Rattle.mz_soundness.specs.Bodies.{BodyCommand, ends, proves, body_command, body_turn, body_turn_by, body_from, body_start, Runs}
 use Rattle.mz_soundness.proofs.Offered.{body-fact, end-ran, own-run}
 use Rattle.mz_tracing.specs.Traces.{Trace, traced, trace_turn, trace_command, trace_from, trace_start, Made}
 use Rattle.mz_tracing.proofs.Offered.{from_follow}
+use Rattle.mz_files.proofs.Offered.{Among, fresh-fewer, vars-long, last-expr}
 
 -- ---- a command adds at most one bound variable, where there are fewer than 55
 
@@ -179,32 +174,6 @@ theorem-few tables h bytes ss dummies lets root made are few =
 
 -- ---- distinct variables behind the parameters are no more than there are
 
-abbrev Among : ℕ → List ℕ → Type 0
-Among y [] = ⊥
-Among y (z ∷ zs) = (y ≡ z) ⊎ Among y zs
-
-among-contains : (y : ℕ) (zs : List ℕ) → Among y zs → Contains zs y
-among-contains y [] h = absurd h
-among-contains y (z ∷ zs) (inl is) = (0, omega arith, sym is)
-among-contains y (z ∷ zs) (inr later) = let (i, below, is) = among-contains y zs later in (suc i, omega (arith, below), is)
-
-without : (y : ℕ) (zs : List ℕ) → Among y zs → (rest : List ℕ) × (length zs ≡ suc (length rest)) × ((x : ℕ) → Among x zs → (x ≡ y → ⊥) → Among x rest)
-without y [] h = absurd h
-without y (z ∷ zs) (inl is) = (zs, refl, λ x h other. elim h [ inl same ↦ absurd (other (same ∙ sym is)) | inr later ↦ later ])
-without y (z ∷ zs) (inr later) =
-    let (rest, many, keep) = without y zs later in
-    (z ∷ rest, ap suc many, λ x h other. elim h [ inl same ↦ inl same | inr there ↦ inr (keep x there other) ])
-
-fresh-fewer : (ctx : List Binder) (es : List Tree) (ys : List ℕ) (ds : List Binder) (zs : List ℕ) → AreFresh ctx (trees_of es) ys ds
-    → ((y : ℕ) → Among y ys → Among y zs) → length ds ≤ length zs
-fresh-fewer ctx es [] [] zs fresh all = omega arith
-fresh-fewer ctx es [] (d ∷ ds) zs fresh all = absurd fresh
-fresh-fewer ctx es (y ∷ ys) [] zs fresh all = absurd fresh
-fresh-fewer ctx es (y ∷ ys) (d ∷ ds) zs (bound, free, once, later) all =
-    let (rest, many, keep) = without y zs (all y (inl refl)) in
-    let fewer = fresh-fewer ctx es ys ds rest later (λ x h. keep x (all x (inr h)) (λ same. once (among-contains y ys (subst (λ (z : ℕ). Among z ys) same h)))) in
-    omega (arith, fewer, many)
-
 -- n numbers from a first one on
 abbrev numbers : ℕ → ℕ → List ℕ
 numbers i zero = []
@@ -252,25 +221,6 @@ fresh-behind ctx params n many (x ∷ ys) (d ∷ ds) ((b, at, bound, sort), free
         absurd (free (subst (λ z. InSomeV ctx z (trees_of (variables_from 0 params))) zero_more there))
 
 -- ---- a definition's row
-
-pub words-bound : (i : ℕ) (places : List ℕ) (ws : List Word) → bound_count (binders_from i places ws) ≡ bound_words ws
-words-bound i places [] = refl
-words-bound i places (w ∷ ws) = go (word_bound w) (words-bound (suc i) (if word_bound w then places ++ i ∷ [] else places) ws)
-  where
-    rest : List Binder
-    rest = binders_from (suc i) (if word_bound w then places ++ i ∷ [] else places) ws
-
-    go : (b : Bool) → bound_count rest ≡ bound_words ws → cond b (suc (bound_count rest)) (bound_count rest) ≡ length (cond b (w ∷ filter word_bound ws) (filter word_bound ws))
-    go true e = ap suc e
-    go false e = e
-
-vars-long : (i : ℕ) (ps : List Binder) → length (variables_from i ps) ≡ length ps
-vars-long i [] = refl
-vars-long i (p ∷ ps) = ap suc (vars-long (suc i) ps)
-
-last-expr : (sigs : List Signature) (ctx : List Binder) (xs : List (Item Tree)) (e : Tree) → last_item is_definition xs ≡ Ok e → ItemsSorted sigs ctx xs → Sorted sigs ctx e
-last-expr sigs ctx (expr x ∷ []) e is (s, _) = subst (Sorted sigs ctx) (taken-is x e is) s
-last-expr sigs ctx _ e is h = absurd cc
 
 pub definition-few : (tables : RowsBefore) (env : List Declaration) → Declares tables env → (h : Heading) (at : ℕ) (bytes : List ℕ) → h.kind ≡ is_definition
     → bound_count h.params ≤ 55 → Runs strict tables h at bytes

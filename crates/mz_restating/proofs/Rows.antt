@@ -32,11 +32,11 @@ use Rattle.mz_files.specs.Chains.{IsGoodStatement}
 use Rattle.mz_files.specs.Laws.{HasRow}
 use Rattle.mz_files.specs.Spelling.{IsKindOf, SpellsRow}
 use Rattle.mz_files.specs.Standards.{strict_standard}
-use Rattle.mz_files.proofs.Offered.{body_of, entry-good, good-rows}
+use Rattle.mz_files.proofs.Offered.{body_of, entry-good, good-rows, words-bound}
 use Rattle.mz_phrasing.specs.Phrasable.{HasForm}
 use Rattle.mz_restating.specs.Laws.{AreBytes}
 use Rattle.mz_restating.proofs.Ascending.{params-ascend, result-ascends}
-use Rattle.mz_restating.proofs.FewBound.{words-bound, definition-few}
+use Rattle.mz_restating.proofs.FewBound.{definition-few}
 use Rattle.mz_restating.proofs.Hypotheses.{hyps-few}
 
 -- a sort has four bits; there are few parameters, few of them bound, in order; a term has a form, and an assertion at

@@ -1,6 +1,6 @@
 -- The names of a specification's declarations are identifiers, each another than those before it in its space.
 use Rattle.std.proofs.Common.{◌≡◌, ◌⊎◌, ◌∙◌, ℕ, zero, suc, List, [], ◌∷◌, ◌++◌, map, drop, Option, Some, None, inl, inr, refl, sym, ap, subst, append_assoc, append-nil}
-use Rattle.std.specs.Prelude.{⊤, IsTrue, slice_get, codes}
+use Rattle.std.specs.Prelude.{⊤, IsTrue, slice_get, codes, slice_range}
 use Rattle.mz_names.specs.Identifiers.{is_name}
 use Rattle.mz_lex.specs.Kinds.{is_of_kind}
 use Rattle.mz_lex.specs.Lexemes.{Lexeme, IsNext, LexesFrom}
@@ -17,8 +17,7 @@ use Rattle.mz_spec.specs.State.{State, Entry, nothing, mark_at, env_of, with_tab
 use Rattle.mz_spec.specs.Declaring.{After}
 use Rattle.mz_spec.specs.Spec.{IsGood, Stand, SpecMakes}
 use Rattle.mz_spec.proofs.Offered.{IsOfKind, every-front, good-new, entries-decls, entries-marks, kept-nothing, lexes-kinds, stand-kept}
-use Rattle.mz_layout.specs.Heads.{body_bytes as bytes_between}
-use Rattle.mz_spec_names.specs.Names.{name_at}
+use Rattle.mz_spec_names.specs.Names.{name_in}
 use Rattle.mz_naming.specs.Names.{names_from, declared_names}
 use Rattle.mz_restating.proofs.Seen.{Seen, none_seen, seen_in, seen_with, IsOther, AreNew}
 
@@ -30,7 +29,7 @@ module _ (text : List ℕ) where
   -- ---- lexemes, and the signs that they are
 
   abbrev IsHere : Lexeme → Type 0
-  IsHere l = IsOfKind l × (l.text ≡ bytes_between text l.from l.to)
+  IsHere l = IsOfKind l × (l.text ≡ slice_range text l.from l.to)
 
   next-here : (from : ℕ) (l : Lexeme) → IsNext text from l → IsHere l
   next-here from l is = (subst (λ t. IsOfKind (record l { text = t })) (sym is.spelled) is.kind, is.spelled)
@@ -41,7 +40,7 @@ module _ (text : List ℕ) where
 
   -- an identifier, with its bytes
   abbrev IsNameHere : Lexeme → Type 0
-  IsNameHere u = IsTrue (is_name u.text) × (u.text ≡ bytes_between text u.from u.to)
+  IsNameHere u = IsTrue (is_name u.text) × (u.text ≡ slice_range text u.from u.to)
 
   abbrev SignHere : Sign → Type 0
   SignHere (name u) = IsNameHere u
@@ -76,7 +75,7 @@ module _ (text : List ℕ) where
   seen σ = record { sorts = σ.sort_names; terms = σ.term_names; assertions = σ.assertion_names }
 
   abbrev mark_name : Mark → List ℕ
-  mark_name m = bytes_between text m.from m.to
+  mark_name m = slice_range text m.from m.to
 
   -- one declaration more, under a new name
   record Adds (σ ρ : State) : Type 0 where
@@ -188,20 +187,20 @@ module _ (text : List ℕ) where
   get-drop (x ∷ xs) zero y ys is = let same : x ≡ y = cc in let rest : xs ≡ ys = cc in (ap Some same, rest)
   get-drop (x ∷ xs) (suc k) y ys is = get-drop xs k y ys is
 
-  names-mapped : (all : List Entry) (k : ℕ) (es : List Entry) → drop k all ≡ es → names_from text all k es ≡ map (λ e. bytes_between text e.from e.to) es
+  names-mapped : (all : List Entry) (k : ℕ) (es : List Entry) → drop k all ≡ es → names_from text all k es ≡ map (λ e. slice_range text e.from e.to) es
   names-mapped all k [] is = refl
   names-mapped all k (e ∷ es) is =
       let parts = get-drop all k e es is in
-      ap (λ (o : Option Entry). Rattle.mz_spec_names.specs.Names.name_in text o ∷ names_from text all (suc k) es) parts.0
-      ∙ ap (λ (ws : List (List ℕ)). bytes_between text e.from e.to ∷ ws) (names-mapped all (suc k) es parts.1)
+      ap (λ (o : Option Entry). name_in text o ∷ names_from text all (suc k) es) parts.0
+      ∙ ap (λ (ws : List (List ℕ)). slice_range text e.from e.to ∷ ws) (names-mapped all (suc k) es parts.1)
 
   pub spec-names : (entries : List Entry) → SpecMakes text entries → AreNew none_seen (env_of entries) (declared_names text entries)
   spec-names entries (ls, ss, σ, lexes, stand, is) =
       let further = stand-further nothing σ ss ls [] (lexes-here 0 ls None lexes) stand in
       let kept = stand-kept nothing σ ss ls [] kept-nothing (lexes-kinds text 0 ls None lexes) stand in
       let names : declared_names text entries ≡ map mark_name σ.marks =
-      names-mapped entries 0 entries refl ∙ ap (map (λ (e : Entry). bytes_between text e.from e.to)) is
-      ∙ entries-marks (λ e. bytes_between text e.from e.to) mark_name (λ d m. refl) σ.env σ.marks kept.marks in
+      names-mapped entries 0 entries refl ∙ ap (map (λ (e : Entry). slice_range text e.from e.to)) is
+      ∙ entries-marks (λ e. slice_range text e.from e.to) mark_name (λ d m. refl) σ.env σ.marks kept.marks in
       let decls : env_of entries ≡ σ.env = ap env_of is ∙ entries-decls σ.env σ.marks kept.marks in
       subst (λ (ds : List Declaration). AreNew none_seen ds (declared_names text entries)) (sym (decls ∙ further.env_is))
       (subst (AreNew none_seen further.decls) (sym (names ∙ ap (map mark_name) further.marks_are)) further.new)

@@ -7,7 +7,7 @@ pub use Rattle.mz_soundness.proofs.Lists.{follows}
 pub use Rattle.mz_soundness.proofs.Operands.{apart-from-test, fits-from, or-not}
 pub use Rattle.mz_soundness.proofs.Outcomes.{bodies-checked, one-outcome}
 pub use Rattle.mz_soundness.proofs.PlainRows.{citation-plain, end-plain, ends-plain, own-plain, row-plain, unfolding-plain}
-pub use Rattle.mz_soundness.proofs.RowsKeep.{keeps}
+pub use Rattle.mz_soundness.proofs.RowsKeep.{definition-of, keeps, stream-row}
 pub use Rattle.mz_soundness.proofs.Stacks.{expr-top, operands-top, sides-top}
 pub use Rattle.mz_soundness.proofs.StrictRuns.{command-plain}
 pub use Rattle.mz_soundness.proofs.WholeBody.{body-fact, start-fact}

@@ -73,15 +73,15 @@ same-sides l r es e =
     let r-is : r ≡ app a.0 (trees_of b.1) = parts-are r b b-is ∙ ap (λ (t : ℕ). app t (trees_of b.1)) (sym same) in
     subst (λ (z : List Tree × List Tree). (t : ℕ) × (l ≡ app t (trees_of z.0)) × (r ≡ app t (trees_of z.1))) es-are (a.0, l-is, r-is)
 
-stream-row : (o : Option SpelledTerm) (stream : List ℕ) → stream_of o ≡ Some stream → (row : SpelledTerm) × (o ≡ Some row) × (row.stream ≡ Some stream)
+pub stream-row : (o : Option SpelledTerm) (stream : List ℕ) → stream_of o ≡ Some stream → (row : SpelledTerm) × (o ≡ Some row) × (row.stream ≡ Some stream)
 stream-row None stream e = absurd cc
 stream-row (Some row) stream e = (row, refl, e)
 
 -- the row of a definition spells its body
-abbrev Defines : List Signature → List Binder → List ℕ → Form → Type 0
+abbrev pub Defines : List Signature → List Binder → List ℕ → Form → Type 0
 Defines sigs params stream form = (dummies : List Binder) × (body : Tree) × (form ≡ defined dummies body) × Text of_definition sigs params stream none body dummies
 
-definition-of : (sigs : List Signature) (params : List Binder) (o : Option (List ℕ)) (stream : List ℕ) (form : Form) → o ≡ Some stream → SpellsForm sigs params o form → Defines sigs params stream form
+pub definition-of : (sigs : List Signature) (params : List Binder) (o : Option (List ℕ)) (stream : List ℕ) (form : Form) → o ≡ Some stream → SpellsForm sigs params o form → Defines sigs params stream form
 definition-of sigs params None stream form is s = absurd cc
 definition-of sigs params (Some other) stream plain_form is s = absurd s
 definition-of sigs params (Some other) stream abstract_form is s = absurd s

@@ -10,11 +10,10 @@ use Rattle.mz_tokens.specs.declared.pieces.Delimiters.{Delimiters}
 use Rattle.mz_notation.specs.declared.notation.Element.{Element}
 use Rattle.mz_notation.specs.declared.notation.Notation.{Notation}
 use Rattle.mz_coercions.specs.declared.coercion.Coercion.{Coercion}
-use Rattle.mz_notation.specs.declared.table.TermName.{TermName}
 use Rattle.mz_notation.specs.declared.form.Literal.{Literal}
 use Rattle.mz_notation.specs.declared.form.Literal.TheVariants.{Constant as constant, Name as name}
 use Rattle.mz_notation.specs.declared.notation.Element.TheVariants.{Fixed as fixed}
-use Rattle.mz_notation.specs.Notation.{Table, level_of as math_level, begins_with_slot, with_notation, with_coercion, with_delimiters}
+use Rattle.mz_notation.specs.Notation.{Table, level_of as math_level, begins_with_slot, with_notation, with_coercion, with_delimiters, TermName}
 use Rattle.mz_notation.specs.Clear.{IsClear}
 use Rattle.mz_coercions.specs.Coercions.{OnePath}
 use Rattle.mz_notation.specs.Forms.{IsGeneral, General, IsElement, AreElements, IsCoercion, EachOnce, Begins}

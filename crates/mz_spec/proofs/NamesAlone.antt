@@ -9,10 +9,9 @@ use Rattle.mz_logic.specs.Declaration.{Declaration}
 use Rattle.mz_names.specs.Names.{number_of, IsNew, IsKnown}
 use Rattle.mz_names.proofs.Offered.{all-others, known-first, known-later, new-both}
 use Rattle.mz_notation.specs.declared.notation.Notation.{Notation}
-use Rattle.mz_notation.specs.declared.table.TermName.{TermName}
 use Rattle.mz_notation.specs.Forms.{AddsNotation, AddsDelimiters}
 use Rattle.mz_notation.specs.Names.{IsFoundAs}
-use Rattle.mz_notation.specs.Notation.{Table, begins_with_slot, with_infix, with_leading, with_name}
+use Rattle.mz_notation.specs.Notation.{Table, begins_with_slot, with_infix, with_leading, with_name, TermName}
 use Rattle.mz_spec.specs.Entries.{names_alone}
 use Rattle.mz_spec.specs.Kept.{numbered}
 use Rattle.mz_spec.specs.State.{State, mark_at, with_table, with_term}

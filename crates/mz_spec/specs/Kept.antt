@@ -5,7 +5,7 @@ use Rattle.mz_lex.specs.Lexemes.{Lexeme}
 use Rattle.mz_logic.specs.Declaration.{sorts, signatures}
 use Rattle.mz_logic.specs.Legality.{IsLegalEnv}
 use Rattle.mz_coercions.specs.declared.coercion.Coercion.{Coercion}
-use Rattle.mz_notation.specs.declared.table.TermName.{TermName}
+use Rattle.mz_notation.specs.Notation.{TermName}
 use Rattle.mz_notation.specs.Forms.{IsCoercion}
 use Rattle.mz_notation.specs.Kept.{IsTable}
 use Rattle.mz_grammar.specs.Statement.{Statement, Spells}

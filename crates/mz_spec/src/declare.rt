@@ -109,7 +109,7 @@ impl<'a> State<'a> {
         ensures mem { IfErr result (λ halt. halt ≡ Halt.Mem) }
         ensures with { OnOk result (state self.new ≡ with_term (state self.old) place (lexeme name.entry) (term_of term)) }
     {
-        let number = self.notations.names().len() as u32;
+        let number = self.notations.name_count() as u32;
         let Ok(()) = self.notations.add_term_name(&self.env, name.bytes, number) else {
             return Err(Halt::Mem);
         };
@@ -144,7 +144,7 @@ impl<'a> State<'a> {
     ) -> Result<(), Halt>
         ensures { JudgesOrMem result (variable_rules (state self.now) (map variable variables.now) (map (λ t. type_text t.ty.now) types.now)) }
     {
-        let names = distinct_names(alloc, variables)?;
+        let names = distinct_names(alloc, self.hashing, variables)?;
         self.check_types(&names, types)?;
         Ok(())
     }
@@ -178,7 +178,7 @@ impl<'a> State<'a> {
         ensures judged { JudgesStatement result (state self.now) place (term_lem term.now) }
         ensures declares { IfOk result (λ d. Declares (state self.now) (term_lem term.now) (term_of d)) }
     {
-        let index = index_of(alloc, parts)?;
+        let index = index_of(alloc, self.hashing, parts)?;
         self.check_parts(alloc, &index, place, parts)?;
         Ok(TermDecl {
             params: self.binders_of(alloc, &index, &parts.params, &parts.params)?,
@@ -301,7 +301,7 @@ impl<'a> State<'a> {
         ensures judged { JudgesStatement result (state self.now) place (definition_lem definition.now) }
         ensures declares { IfOk result (λ d. Declares (state self.now) (definition_lem definition.now) (term_of d)) }
     {
-        let index = index_of(alloc, parts)?;
+        let index = index_of(alloc, self.hashing, parts)?;
         self.check_parts(alloc, &index, place, parts)?;
         let params = self.binders_of(alloc, &index, &parts.params, &parts.params)?;
         let result_type = self.result_of(alloc, &index, parts, &definition.result)?;
@@ -414,7 +414,7 @@ impl<'a> State<'a> {
         ensures judged { JudgesStatement result (state self.now) place (assertion_lem assertion.now) }
         ensures declares { IfOk result (λ d. Declares (state self.now) (assertion_lem assertion.now) (assertion_of d)) }
     {
-        let index = index_of(alloc, parts)?;
+        let index = index_of(alloc, self.hashing, parts)?;
         self.check_parts(alloc, &index, place, parts)?;
         let (hyps, conclusion) = self.claims_of(alloc, &index, parts, assertion)?;
         let params = self.binders_of(alloc, &index, &parts.params, &parts.params)?;

@@ -20,6 +20,7 @@ mod spec;
 mod state;
 
 pub use laws::{readings_are_one, specifications_are_legal};
+pub use mz_names::Hashing;
 pub use reader::{SpecRead, read_spec};
 pub use refusal::SpecRefusal;
 pub use spec::Spec;

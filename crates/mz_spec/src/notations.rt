@@ -123,7 +123,7 @@ impl<'a> State<'a> {
     ) -> Result<(), Halt>
         ensures { JudgesOrMem result (named_rules (state self.now) (lexeme name.entry) (map variable variables.now) (map (λ t. type_text t.ty.now) types.now)) }
     {
-        let names = distinct_names(alloc, variables)?;
+        let names = distinct_names(alloc, self.hashing, variables)?;
         self.check_known_term(name)?;
         self.check_types(&names, types)?;
         Ok(())
@@ -227,7 +227,7 @@ impl<'a> State<'a> {
         ensures judged { JudgesStatement result (state self.old) place (notation_lem notation.now) }
         ensures after { OnOk result (After (state self.old) place (notation_lem notation.now) (state self.new)) }
     {
-        let index = index_of(alloc, parts)?;
+        let index = index_of(alloc, self.hashing, parts)?;
         self.check_notation(alloc, &index, place, notation.head.name, parts)?;
         match self.note_general(alloc, &index, notation, parts, literals, tail) {
             Ok(()) => Ok(()),

@@ -10,6 +10,7 @@ use crate::refusal::SpecRefusal;
 use crate::spec::Spec;
 use crate::state::State;
 use mz_grammar::{Halt, read_statement};
+use mz_names::Hashing;
 use std::alloc::Global;
 
 /// What reading a specification comes to.
@@ -23,12 +24,12 @@ pub enum SpecRead {
     Mem,
 }
 
-/// Reads a specification.
-pub fn read_spec(alloc: Global, text: &[u8]) -> SpecRead
+/// Reads a specification, whose names are hashed like this.
+pub fn read_spec(alloc: Global, hashing: Hashing, text: &[u8]) -> SpecRead
     requires { length text.now < 2 ^ 32 }
     ensures { IsAnswer text.now result }
 {
-    let mut state = State::new(alloc);
+    let mut state = State::new(alloc, hashing);
     match read_into(alloc, text, &mut state) {
         Ok(()) => SpecRead::Spec(state.into_spec()),
         Err((statement, halt)) => halted(statement, halt),

@@ -17,6 +17,7 @@ use crate::state::State;
 use mz_grammar::{Fault, Halt, Lexeme, TypeText};
 use mz_lex::S;
 use mz_logic::SortMods;
+use mz_names::Hashing;
 use mz_variables::{NameIndex, Names, Parts, TypeAt, Variable, are_bound_before, places_of};
 use std::alloc::{AllocError, Global};
 
@@ -56,11 +57,15 @@ fn check_all_known<'a>(names: &Names<'a>, found: &[Lexeme<'a>]) -> Result<(), Fa
 }
 
 /// The names of the variables, where no two share one.
-pub fn distinct_names<'a>(alloc: Global, variables: &[Variable<'_, 'a>]) -> Result<Names<'a>, Halt>
+pub fn distinct_names<'a>(
+    alloc: Global,
+    hashing: Hashing,
+    variables: &[Variable<'_, 'a>],
+) -> Result<Names<'a>, Halt>
     ensures judged { JudgesOrMem result (are_others [] (map variable_lem variables.now)) }
     ensures names { IfOk result (λ names. names ≡ names_of (map variable_lem variables.now)) }
 {
-    let mut names = Names::new(alloc);
+    let mut names = Names::new(alloc, hashing);
     for variable in variables {
         if let Some(name) = variable.name {
             if let Err(fault) = check_new(&names, name) {
@@ -287,11 +292,12 @@ fn depends_on_bound<'a>(
 /// The places of the parameters by their names, where one of them or the result has dependencies.
 pub fn index_of<'a>(
     alloc: Global,
+    hashing: Hashing,
     parts: &Parts<'_, 'a>,
 ) -> Result<Option<NameIndex<'a>>, AllocError>
     ensures { IfOk result (λ index. MatchOption index ⊤ (IsIndexOf (map variable_lem parts.now.params.items))) }
 {
-    places_of(alloc, &parts.params, have_deps(parts))
+    places_of(alloc, hashing, &parts.params, have_deps(parts))
 }
 
 /// Whether a parameter or the result has dependencies.

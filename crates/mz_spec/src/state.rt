@@ -11,13 +11,16 @@ use crate::spec::{Mark, Spec};
 use mz_grammar::{Halt, Statement};
 use mz_logic::Env;
 use mz_math::Notations;
+use mz_names::Hashing;
 use mz_variables::Names;
 use std::alloc::Global;
 
 /// The names of sorts and of axioms and theorems, the declarations, the mark of each, and what has been
-/// declared for math strings, where terms have their names.
+/// declared for math strings, where terms have their names; and how all of these names, and those of a
+/// statement's variables, are hashed.
 #[derive(Drop)]
 pub struct State<'a> {
+    pub hashing: Hashing,
     pub sort_names: Names<'a>,
     pub assertion_names: Names<'a>,
     pub env: Env,
@@ -27,15 +30,16 @@ pub struct State<'a> {
 
 impl<'a> State<'a> {
     /// Nothing is declared.
-    pub fn new(alloc: Global) -> State<'a>
+    pub fn new(alloc: Global, hashing: Hashing) -> State<'a>
         ensures { state result ≡ nothing }
     {
         State {
-            sort_names: Names::new(alloc),
-            assertion_names: Names::new(alloc),
+            hashing,
+            sort_names: Names::new(alloc, hashing),
+            assertion_names: Names::new(alloc, hashing),
             env: Env::new(alloc),
             marks: Vec::new(alloc),
-            notations: Notations::new(alloc),
+            notations: Notations::with_hashing(alloc, hashing),
         }
     }
 

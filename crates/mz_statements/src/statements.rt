@@ -167,7 +167,13 @@ fn term<'a>(
     ensures read { IfOk result (λ d. (mark : Bool) → IsDeclared (names_view names.now) term_kind (nodes_from reader.now.nodes.now rest) (stated mark d)) }
     ensures stops { IfErr result (λ stop. Stops stop (declared_asked term_kind (place (node_at reader.now.nodes.now n)) (names_view names.now) (nodes_from reader.now.nodes.now rest))) }
 {
-    term_in(reader, names, &mut Space::new(reader.alloc), n, rest)
+    term_in(
+        reader,
+        names,
+        &mut Space::new(reader.alloc, names.hashing),
+        n,
+        rest,
+    )
 }
 
 /// The same, with room for the names of its variables.
@@ -220,7 +226,13 @@ fn axiom<'a>(
     ensures read { IfOk result (λ d. (mark : Bool) → IsDeclared (names_view names.now) axiom_kind (nodes_from reader.now.nodes.now rest) (stated mark d)) }
     ensures stops { IfErr result (λ stop. Stops stop (declared_asked axiom_kind (place (node_at reader.now.nodes.now n)) (names_view names.now) (nodes_from reader.now.nodes.now rest))) }
 {
-    axiom_in(reader, names, &mut Space::new(reader.alloc), n, rest)
+    axiom_in(
+        reader,
+        names,
+        &mut Space::new(reader.alloc, names.hashing),
+        n,
+        rest,
+    )
 }
 
 /// The same, with room for the names of its variables.
@@ -272,7 +284,13 @@ fn def<'a>(
     ensures read { IfOk result (λ d. (mark : Bool) → IsDeclared (names_view names.now) def_kind (nodes_from reader.now.nodes.now rest) (stated mark d)) }
     ensures stops { IfErr result (λ stop. Stops stop (declared_asked def_kind (place (node_at reader.now.nodes.now n)) (names_view names.now) (nodes_from reader.now.nodes.now rest))) }
 {
-    def_in(reader, names, &mut Space::new(reader.alloc), n, rest)
+    def_in(
+        reader,
+        names,
+        &mut Space::new(reader.alloc, names.hashing),
+        n,
+        rest,
+    )
 }
 
 /// The hypotheses of a theorem that sees these variables.
@@ -319,7 +337,7 @@ fn proof_over<'a>(
     ensures read { IfOk result (IsProof (scope_of (names_view names.now) vars.now) labels.now [] (node_at reader.now.nodes.now n)) }
     ensures stops { IfErr result (λ stop. Stops stop (proof_asked (scope_of (names_view names.now) vars.now) labels.now [] (node_at reader.now.nodes.now n))) }
 {
-    let mut lets = Space::new(reader.alloc);
+    let mut lets = Space::new(reader.alloc, names.hashing);
     reader.boxed_proof(&Scope { names, vars }, labels, &mut lets, n)
 }
 
@@ -376,8 +394,8 @@ fn theorem<'a>(
     ensures read { IfOk result (λ d. (mark : Bool) → IsDeclared (names_view names.now) theorem_kind (nodes_from reader.now.nodes.now rest) (stated mark d)) }
     ensures stops { IfErr result (λ stop. Stops stop (declared_asked theorem_kind (place (node_at reader.now.nodes.now n)) (names_view names.now) (nodes_from reader.now.nodes.now rest))) }
 {
-    let mut vars = Space::new(reader.alloc);
-    let mut labels = Space::new(reader.alloc);
+    let mut vars = Space::new(reader.alloc, names.hashing);
+    let mut labels = Space::new(reader.alloc, names.hashing);
     theorem_in(reader, names, &mut vars, &mut labels, n, rest)
 }
 

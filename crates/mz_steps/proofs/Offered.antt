@@ -1,5 +1,5 @@
 -- What crates above may use of these proofs; all else is this crate's own, and may change.
-pub use Rattle.mz_steps.proofs.Bytes.{body-from-run, drop-front, shortest-spells}
+pub use Rattle.mz_steps.proofs.Bytes.{body-from-run, drop-front}
 pub use Rattle.mz_steps.proofs.Joining.{contexts-depend, same-at-first, same-with-assertion, same-with-sort, same-with-term}
 pub use Rattle.mz_steps.proofs.Naming.{deps-kept, once-more, one-name, place-at, place-new, renamed-trees}
 pub use Rattle.mz_steps.proofs.Rightness.{sorted-forward, trees-alike, trees-more}

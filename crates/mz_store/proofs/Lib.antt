@@ -7,6 +7,7 @@ mod Longer
 mod Growing
 mod Entering
 mod Adding
+mod ParamWords
 mod Beginning
 mod OverTerms
 mod Placing

@@ -4,7 +4,7 @@ use Rattle.std.specs.Int.{bit_at}
 use Rattle.std.proofs.lemmas.Bool.Decides.{eqb_tells}
 use Rattle.std.proofs.lemmas.Nat.Bits.{bit_at-pow_same, bit_at-pow_other, and_pow, same_from_bits}
 use Rattle.std.proofs.lemmas.Nat.{pow_pos}
-use Rattle.mz_logic.specs.Tree.{var}
+use Rattle.mz_logic.specs.Tree.{Tree, var}
 use Rattle.mz_logic.specs.Signature.{Signature}
 use Rattle.mz_logic.specs.Variables.{IsBoundAt}
 use Rattle.mz_logic.specs.declared.binder.Binder.{Binder}
@@ -67,28 +67,32 @@ own-bit mode sigs ctx word x k bd at-k tells = same_from_bits word (2 ^ k) each
               apart (bound-once 0 ctx m k x (at-y ∙ ap Some (told-is mode sigs ctx x y bd told)) at-k))
         ]
 
-pub words-meet : WordsMeet
-words-meet sigs s over i j x in-i in-j is bd = (let (b, at, bound) = bd in let (k, at-k) = bound-has 0 s.context x b at bound in go k (at-k ∙ ap Some (omega arith)))
+-- a bound variable's word meets an expression's exactly where the variable is among those that words tell of the expression
+pub bits-meet : (mode : DepsMode) (sigs : List Signature) (ctx : List Binder) (e : Tree) (v w x : ℕ) → IsBoundAt ctx x → Tells (bound_vars ctx) v (IsTold mode sigs ctx (var x)) → Tells (bound_vars ctx) w (IsTold mode sigs ctx e)
+    → (bit_and w v ≡ 0 → ⊥) ↔ IsTold mode sigs ctx e x
+bits-meet mode sigs ctx e v w x bd own all = (let (b, at, bound) = bd in let (k, at-k) = bound-has 0 ctx x b at bound in go k (at-k ∙ ap Some (omega arith)))
   where
-    go : (k : ℕ) → slice_get (bound_vars s.context) k ≡ Some x → (bit_and (deps_of s j) (deps_of s i) ≡ 0 → ⊥) ↔ IsTold s.mode sigs s.context (tree_of s j) x
+    go : (k : ℕ) → slice_get (bound_vars ctx) k ≡ Some x → (bit_and w v ≡ 0 → ⊥) ↔ IsTold mode sigs ctx e x
     go k at-k = (to, from)
       where
-        word : deps_of s i ≡ 2 ^ k
-        word = own-bit s.mode sigs s.context (deps_of s i) x k bd at-k (subst (λ e. Tells (bound_vars s.context) (deps_of s i) (IsTold s.mode sigs s.context e)) is (over i in-i).1)
+        both : bit_and w v ≡ bit_at w k * 2 ^ k
+        both = ap (bit_and w) (own-bit mode sigs ctx v x k bd at-k own) ∙ and_pow w k
 
-        both : bit_and (deps_of s j) (deps_of s i) ≡ bit_at (deps_of s j) k * 2 ^ k
-        both = ap (bit_and (deps_of s j)) word ∙ and_pow (deps_of s j) k
-
-        to : (bit_and (deps_of s j) (deps_of s i) ≡ 0 → ⊥) → IsTold s.mode sigs s.context (tree_of s j) x
-        to some = elim (zero-or-one (deps_of s j) k) [
+        to : (bit_and w v ≡ 0 → ⊥) → IsTold mode sigs ctx e x
+        to some = elim (zero-or-one w k) [
           | inl off ↦ absurd (some (both ∙ ap (λ n. n * 2 ^ k) off ∙ omega arith))
-          | inr on ↦ (let (y, at-y, told) = ((over j in-j).1 k).0 on in subst (IsTold s.mode sigs s.context (tree_of s j)) (one_at at-y at-k) told)
+          | inr on ↦ (let (y, at-y, told) = (all k).0 on in subst (IsTold mode sigs ctx e) (one_at at-y at-k) told)
         ]
 
-        from : IsTold s.mode sigs s.context (tree_of s j) x → bit_and (deps_of s j) (deps_of s i) ≡ 0 → ⊥
+        from : IsTold mode sigs ctx e x → bit_and w v ≡ 0 → ⊥
         from told nothing-shared = (
-            let on : bit_at (deps_of s j) k ≡ 1 = ((over j in-j).1 k).1 (x, at-k, told) in
-            let power : bit_at (deps_of s j) k * 2 ^ k ≡ 2 ^ k = ap (λ n. n * 2 ^ k) on ∙ omega arith in
+            let on : bit_at w k ≡ 1 = (all k).1 (x, at-k, told) in
+            let power : bit_at w k * 2 ^ k ≡ 2 ^ k = ap (λ n. n * 2 ^ k) on ∙ omega arith in
             let none : 2 ^ k ≡ 0 = sym power ∙ sym both ∙ nothing-shared in
             omega (arith, pow_pos k)
             )
+
+pub words-meet : WordsMeet
+words-meet sigs s over i j x in-i in-j is bd =
+    bits-meet s.mode sigs s.context (tree_of s j) (deps_of s i) (deps_of s j) x bd
+    (subst (λ e. Tells (bound_vars s.context) (deps_of s i) (IsTold s.mode sigs s.context e)) is (over i in-i).1) (over j in-j).1

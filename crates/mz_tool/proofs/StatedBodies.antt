@@ -4,40 +4,17 @@ use Rattle.std.proofs.Common.{◌≡◌, ◌<◌, ◌+◌, ℕ, zero, suc, Bool,
 use Rattle.std.proofs.lemmas.Bool.{eqb-true, eq-eqb, ne_eqb}
 use Rattle.std.proofs.lemmas.Option.{slice_get_within}
 use Rattle.mz_logic.specs.Tree.{Tree, Trees, var, app, none, more, operand, instance, instances, followed_by, variables}
-use Rattle.mz_logic.specs.Variables.{InSomeV}
-use Rattle.mz_logic.specs.Conversions.{IsBoundOf, AreFresh}
+use Rattle.mz_logic.specs.Conversions.{AreFresh}
 use Rattle.mz_logic.specs.declared.binder.Binder.{Binder}
 use Rattle.mz_logic.proofs.Offered.{split_at}
 use Rattle.mz_unification.specs.Spells.{variables_from}
 use Rattle.mz_unification.proofs.Offered.{some_is, distinct, in-some, operand-trees_of}
 use Rattle.mz_steps.specs.Sameness.{own}
 use Rattle.mz_steps.proofs.Offered.{operand-front, operand-behind, operand-variables}
+use Rattle.mz_accepting.proofs.Offered.{fresh-back, own-length, own-of}
 use Rattle.mz_verdicts.specs.Trees.{SameOver, AllSameOver, Pairs, IsPaired, SameBody}
 
--- ---- parameters
-
-own-at : (j : ℕ) (ps : List Binder) (i : ℕ) → i < length ps → slice_get (variables_from j ps) i ≡ Some (var (j + i))
-own-at j [] i lt = absurd (omega arith)
-own-at j (p ∷ ps) zero lt = ap (λ (z : ℕ). Some (var z)) (omega arith)
-own-at j (p ∷ ps) (suc i) lt = own-at (suc j) ps i (omega arith) ∙ ap (λ (z : ℕ). Some (var z)) (omega arith)
-
-own-of : (ps : List Binder) (i : ℕ) → i < length ps → slice_get (variables_from 0 ps) i ≡ Some (var i)
-own-of ps i lt = own-at 0 ps i lt ∙ ap (λ (z : ℕ). Some (var z)) (omega arith)
-
-own-length : (j : ℕ) (ps : List Binder) → length (variables_from j ps) ≡ length ps
-own-length j [] = refl
-own-length j (p ∷ ps) = ap suc (own-length (suc j) ps)
-
 -- ---- fresh variables
-
-fresh-back : (ctx : List Binder) (es : Trees) (ys : List ℕ) (bs : List Binder) → AreFresh ctx es ys bs → (k y : ℕ) → slice_get ys k ≡ Some y
-    → (b : Binder) × (slice_get bs k ≡ Some b) × IsBoundOf ctx y b.sort × (InSomeV ctx y es → ⊥)
-fresh-back ctx es [] bs h k y at = absurd cc
-fresh-back ctx es (z ∷ ys) [] h k y at = absurd h
-fresh-back ctx es (z ∷ ys) (b ∷ bs) (bound, out, _, h) zero y at =
-    let is : z ≡ y = cc in
-    (b, refl, subst (λ (v : ℕ). IsBoundOf ctx v b.sort) is bound, subst (λ (v : ℕ). InSomeV ctx v es → ⊥) is out)
-fresh-back ctx es (z ∷ ys) (b ∷ bs) (_, _, _, h) (suc k) y at = fresh-back ctx es ys bs h k y at
 
 -- each dummy has its variable
 fresh-there : (ctx : List Binder) (es : Trees) (ys : List ℕ) (bs : List Binder) → AreFresh ctx es ys bs → (k : ℕ) (b : Binder) → slice_get bs k ≡ Some b

@@ -1,67 +1,17 @@
 -- A specification that agrees with the statements of a binary agrees with those of the text, of which they are the same.
-use Rattle.std.proofs.Common.{◌≡◌, ℕ, ◌+◌, Bool, true, false, List, [], ◌∷◌, ◌++◌, length, refl, ap, sym, ◌∙◌, subst, if◌then◌else◌}
+use Rattle.std.proofs.Common.{◌≡◌, ℕ, Bool, true, false, List, [], ◌∷◌, ◌++◌, length, ap, sym, ◌∙◌, subst, if◌then◌else◌}
 use Rattle.mz_checks.specs.Checks.{AllHold}
-use Rattle.mz_logic.specs.Declaration.{Form, plain_form, abstract_form, defined, Declaration, sort_decl, term_decl, assertion_decl, terms}
+use Rattle.mz_logic.specs.Declaration.{Form, plain_form, abstract_form, defined, Declaration, sort_decl, term_decl, assertion_decl}
 use Rattle.mz_logic.specs.LegalLists.{Statement}
 use Rattle.mz_logic.specs.Signature.{Signature}
 use Rattle.mz_logic.specs.declared.binder.Binder.{Binder}
 use Rattle.mz_steps.specs.Sameness.{IsSameForm}
-use Rattle.mz_steps.specs.SameLists.{IsSameDeclaration, IsSameStatement, IsSameList}
-use Rattle.mz_verdicts.specs.Match.{term_row_of, term_rows, partner_of, publics, publics_after, kind_of_form, form_checks, match_checks, Agrees}
+use Rattle.mz_steps.specs.SameLists.{IsSameDeclaration, IsSameList}
+use Rattle.mz_verdicts.specs.Match.{term_rows, partner_of, publics, publics_after, form_checks, match_checks, Agrees}
+use Rattle.mz_accepting.proofs.Offered.{form-kind, same-longer, same-rows}
 use Rattle.mz_tool.proofs.StatedBodies.{same-body-after}
 
--- ---- rows
-
-rows-of-same : (n : ℕ) (d d' : Declaration) → IsSameDeclaration d d' → term_row_of n d ≡ term_row_of n d'
-rows-of-same n (sort_decl m) (sort_decl m') h = refl
-rows-of-same n (sort_decl m) (term_decl e) h = absurd h
-rows-of-same n (sort_decl m) (assertion_decl b) h = absurd h
-rows-of-same n (term_decl d) (sort_decl m') h = absurd h
-rows-of-same n (term_decl d) (term_decl e) h = refl
-rows-of-same n (term_decl d) (assertion_decl b) h = absurd h
-rows-of-same n (assertion_decl a) (sort_decl m') h = absurd h
-rows-of-same n (assertion_decl a) (term_decl e) h = absurd h
-rows-of-same n (assertion_decl a) (assertion_decl b) h = refl
-
-terms-of-same : (d d' : Declaration) → IsSameDeclaration d d' → length (terms (d ∷ [])) ≡ length (terms (d' ∷ []))
-terms-of-same (sort_decl m) (sort_decl m') h = refl
-terms-of-same (sort_decl m) (term_decl e) h = absurd h
-terms-of-same (sort_decl m) (assertion_decl b) h = absurd h
-terms-of-same (term_decl d) (sort_decl m') h = absurd h
-terms-of-same (term_decl d) (term_decl e) h = refl
-terms-of-same (term_decl d) (assertion_decl b) h = absurd h
-terms-of-same (assertion_decl a) (sort_decl m') h = absurd h
-terms-of-same (assertion_decl a) (term_decl e) h = absurd h
-terms-of-same (assertion_decl a) (assertion_decl b) h = refl
-
-same-rows : (n : ℕ) (ss ss' : List Statement) → IsSameList ss ss' → term_rows n ss ≡ term_rows n ss'
-same-rows n [] [] h = refl
-same-rows n [] (s' ∷ ss') h = absurd h
-same-rows n (s ∷ ss) [] h = absurd h
-same-rows n (s ∷ ss) (s' ∷ ss') ((mark, decl), h) =
-    ap (λ (b : Bool). (if b then [] else term_row_of n s.decl) ++ term_rows (n + length (terms (s.decl ∷ []))) ss) mark
-    ∙ ap (λ (xs : List ℕ). (if s'.is_local then [] else xs) ++ term_rows (n + length (terms (s.decl ∷ []))) ss) (rows-of-same n s.decl s'.decl decl)
-    ∙ ap (λ (k : ℕ). (if s'.is_local then [] else term_row_of n s'.decl) ++ term_rows (n + k) ss) (terms-of-same s.decl s'.decl decl)
-    ∙ ap (λ (xs : List ℕ). (if s'.is_local then [] else term_row_of n s'.decl) ++ xs) (same-rows (n + length (terms (s'.decl ∷ []))) ss ss' h)
-
-same-longer : (ss ss' : List Statement) (s s' : Statement) → IsSameList ss ss' → IsSameStatement s s' → IsSameList (ss ++ s ∷ []) (ss' ++ s' ∷ [])
-same-longer [] [] s s' h one = (one, tt)
-same-longer [] (t' ∷ ss') s s' h one = absurd h
-same-longer (t ∷ ss) [] s s' h one = absurd h
-same-longer (t ∷ ss) (t' ∷ ss') s s' (first, h) one = (first, same-longer ss ss' s s' h one)
-
 -- ---- a declaration and its partner
-
-form-kind : (params : List Binder) (f f' : Form) → IsSameForm params f f' → kind_of_form f ≡ kind_of_form f'
-form-kind params plain_form plain_form h = refl
-form-kind params plain_form abstract_form h = absurd h
-form-kind params plain_form (defined ds b) h = absurd h
-form-kind params abstract_form plain_form h = absurd h
-form-kind params abstract_form abstract_form h = refl
-form-kind params abstract_form (defined ds b) h = absurd h
-form-kind params (defined ds b) plain_form h = absurd h
-form-kind params (defined ds b) abstract_form h = absurd h
-form-kind params (defined ds b) (defined ds' b') h = refl
 
 form-agrees : (rows : List ℕ) (params : List Binder) (g f f' : Form) → IsSameForm params f f' → AllHold (form_checks rows (length params) g f') → AllHold (form_checks rows (length params) g f)
 form-agrees rows params plain_form f f' same h = tt

@@ -29,7 +29,7 @@ pub fn axioms(alloc: Global, seed: Seed, spec: &[u8], bin: &[u8]) -> Outcome
     each_pair_has_one_verdict();
     accepted_pairs_are_sound();
     match rests::<Brand>(alloc, seed, Blank::new(1), spec, bin) {
-        AxiomsRead::Lists(lists) => match axioms_text(alloc, spec, &lists) {
+        AxiomsRead::Lists(lists) => match axioms_text(alloc, seed, spec, &lists) {
             Ok(text) => Outcome::Yes {
                 put: Put::Nothing,
                 text,

@@ -8,11 +8,13 @@ ghost use Rattle.mz_tool.specs.Outcomes.{IfYes, IfNo, OnYes, OnNo};
 use crate::outcome::Outcome;
 use crate::output::Put;
 use mz_emit::{Compiled, compilation_is_decided, compile_bytes, compiled_line};
+use mz_forms::Hashing;
 use mz_mode::Mode;
+use mz_store::Seed;
 use std::alloc::Global;
 
 /// Compiles a proof text, finished or as a draft. The line is built before anything is put.
-pub fn compile(alloc: Global, text: &[u8], mode: Mode) -> Outcome
+pub fn compile(alloc: Global, seed: Seed, text: &[u8], mode: Mode) -> Outcome
     requires text { length text.now < 2 ^ 32 }
     ensures yes { IfYes result (λ put line. IsCompiledTo (gaps_of mode) text.now put line) }
     ensures short { IfYes result (λ put line. (bytes : List ℕ) → put ≡ Some bytes → length bytes ≤ longest) }
@@ -21,7 +23,7 @@ pub fn compile(alloc: Global, text: &[u8], mode: Mode) -> Outcome
     ensures only_no { (line : List ℕ) → IsNotCompiled (gaps_of mode) text.now line → OnYes result ⊥ }
 {
     compilation_is_decided();
-    let compiled = compile_bytes(alloc, text, mode);
+    let compiled = compile_bytes(alloc, Hashing::seeded(seed.0), text, mode);
     if let Compiled::Mem = compiled {
         return Outcome::Mem;
     }

@@ -32,7 +32,7 @@ pub fn draft(alloc: Global, seed: Seed, spec: &[u8], bin: &[u8]) -> Outcome
 {
     match counted_draft::<Brand>(alloc, seed, Blank::new(1), spec, bin) {
         Draft::Accepted(counts, gaps) => {
-            match gaps_text(alloc, spec, counts.theorems, gaps.places()) {
+            match gaps_text(alloc, seed, spec, counts.theorems, gaps.places()) {
                 Ok(text) => Outcome::Yes {
                     put: Put::Nothing,
                     text,

@@ -33,7 +33,8 @@ pub enum Outcome {
     Mem,
 }
 
-/// What a command other than `show` answers. A binary's terms are numbered with the seed.
+/// What a command other than `show` answers. A binary's terms are numbered, and names hashed,
+/// with the seed.
 pub fn outcome_of(alloc: Global, seed: Seed, command: Command, contents: &Contents) -> Outcome
     requires whole { IsShow (request command) → ⊥ }
     requires files { length (contents_of contents.now) ≡ length (names_read (request command)) }
@@ -47,7 +48,7 @@ pub fn outcome_of(alloc: Global, seed: Seed, command: Command, contents: &Conten
 {
     match (command, contents) {
         (Command::Verify { .. }, Contents::Two(spec, bin)) => verify(alloc, seed, spec, bin),
-        (Command::Compile { mode, .. }, Contents::One(text)) => compile(alloc, text, mode),
+        (Command::Compile { mode, .. }, Contents::One(text)) => compile(alloc, seed, text, mode),
         (Command::Assemble { .. }, Contents::One(listing)) => assemble(alloc, listing),
         (Command::Axioms { .. }, Contents::Two(spec, bin)) => axioms(
             alloc,
@@ -64,7 +65,7 @@ pub fn outcome_of(alloc: Global, seed: Seed, command: Command, contents: &Conten
         (Command::Portable { .. }, Contents::Two(spec, bin)) => {
             portable(alloc, seed, spec.as_slice(), bin)
         }
-        (Command::Specify { .. }, Contents::One(text)) => specify(alloc, text),
+        (Command::Specify { .. }, Contents::One(text)) => specify(alloc, seed, text),
         (Command::Decompile { .. }, Contents::Two(spec, bin)) => {
             decompile(alloc, seed, spec.as_slice(), bin)
         }

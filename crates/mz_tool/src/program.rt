@@ -16,8 +16,8 @@ use std::alloc::Global;
 
 /// Does what the words ask for, with the folder's files, and writes the answer to `out`.
 ///
-/// Want of memory may come in place of any answer but `Usage`. The terms of a binary's bodies are numbered with the seed,
-/// on which no answer depends.
+/// Want of memory may come in place of any answer but `Usage`. The terms of a binary's bodies are numbered, and names are
+/// hashed, with the seed, on which no answer depends.
 pub fn run<F: Folder, O: Sink>(
     alloc: Global,
     seed: Seed,

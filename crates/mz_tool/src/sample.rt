@@ -49,7 +49,7 @@ fn upheld(alloc: Global, specification: &[u8], text: &[u8]) -> Outcome
 {
     compilation_is_decided();
     typed_or_faulty();
-    match compile(alloc, text, Mode::Strict) {
+    match compile(alloc, Seed::FIXED, text, Mode::Strict) {
         Outcome::Yes { put, .. } => match put {
             Put::File(bin) => verify(alloc, Seed::FIXED, specification, &bin),
             Put::Nothing => unreachable!(),

@@ -9,9 +9,11 @@ use crate::outcome::Outcome;
 use crate::output::Put;
 use mz_cmd::Mem;
 use mz_emit::{Compiled, L, compiled_line};
+use mz_forms::Hashing;
 use mz_prefix::{
     SpecText, local_line, long_line, spec_of, specification_is_decided, specified_line,
 };
+use mz_store::Seed;
 use std::alloc::Global;
 
 /// The line that tells an answer other than want of memory.
@@ -37,7 +39,7 @@ fn spec_line(alloc: Global, made: &SpecText) -> Result<Vec<u8>, Mem>
 }
 
 /// Makes a specification for a proof text. The line is built before anything is put.
-pub fn specify(alloc: Global, text: &[u8]) -> Outcome
+pub fn specify(alloc: Global, seed: Seed, text: &[u8]) -> Outcome
     requires text { length text.now < 2 ^ 32 }
     ensures yes { IfYes result (λ put line. IsSpecifiedTo text.now put line) }
     ensures short { IfYes result (λ put line. (bytes : List ℕ) → put ≡ Some bytes → length bytes ≤ longest) }
@@ -47,7 +49,7 @@ pub fn specify(alloc: Global, text: &[u8]) -> Outcome
     ensures only_no { (line : List ℕ) → IsNotSpecified text.now line → OnYes result ⊥ }
 {
     specification_is_decided();
-    let made = spec_of(alloc, text);
+    let made = spec_of(alloc, Hashing::seeded(seed.0), text);
     if let SpecText::Mem = made {
         return Outcome::Mem;
     }

@@ -55,11 +55,11 @@ no-end kind value code u_hyp is end = end
 
 module _ (sigs : List Signature) (ctx : List Binder) (mode : UnifyMode) where
   abbrev pub Left : ℕ → List ℕ → UnifyState Tree → UnifyState Tree → Type 0
-  Left at bytes st u = run_left sigs ctx mode at bytes st ≡ Ok u
+  Left at bytes st u = run_left strict sigs ctx mode at bytes st ≡ Ok u
 
   -- a command stands there
   pub is-read : (at : ℕ) (bytes : List ℕ) (st u : UnifyState Tree) (f : CmdFault) → first_command bytes ≡ Err f → Left at bytes st u → ⊥
-  is-read at bytes st u f read ran = let no = sym (cut-run sigs ctx mode at bytes st f read) ∙ ran in cc
+  is-read at bytes st u f read ran = let no = sym (cut-run strict sigs ctx mode at bytes st f read) ∙ ran in cc
 
   end-row : (st s : UnifyState Tree) → unify_row strict sigs ctx mode u_end st ≡ Ok s → st ≡ s
   unfolding unify_row
@@ -75,10 +75,10 @@ module _ (sigs : List Signature) (ctx : List Binder) (mode : UnifyMode) where
       where
         by-row : (v : UnifyCommand) → unify_command (kind_of mode) c.code c.value ≡ Some v → (r : Result (UnifyState Tree) K) → unify_row strict sigs ctx mode v st ≡ r → Goes
         by-row v is (Ok s) row = (v, s, is, row)
-        by-row v is (Err rule) row = absurd (let no = sym (stopped-run sigs ctx mode bytes st c read v is at rule row) ∙ ran in cc)
+        by-row v is (Err rule) row = absurd (let no = sym (stopped-run strict sigs ctx mode bytes st c read v is at rule row) ∙ ran in cc)
 
         by-command : (o : Option UnifyCommand) → unify_command (kind_of mode) c.code c.value ≡ o → Goes
-        by-command None is = absurd (let no = sym (other-run sigs ctx mode bytes st c read at is) ∙ ran in cc)
+        by-command None is = absurd (let no = sym (other-run strict sigs ctx mode bytes st c read at is) ∙ ran in cc)
         by-command (Some v) is = by-row v is (unify_row strict sigs ctx mode v st) refl
 
     -- with no code it is the END, where the state is the last one
@@ -88,7 +88,7 @@ module _ (sigs : List Signature) (ctx : List Binder) (mode : UnifyMode) where
         let end : v ≡ u_end = no-code c.code c.value (kind_of mode) v none is in
         let last : unify_row strict sigs ctx mode u_end st ≡ Ok s = subst (λ w. unify_row strict sigs ctx mode w st ≡ Ok s) end row in
         let over : unify_command (kind_of mode) c.code c.value ≡ Some u_end = is ∙ ap (λ w. Some w) end in
-        let whole : Ok s ≡ Ok u = sym (ended-run sigs ctx mode bytes st c read u_end over at s tt last) ∙ ran in
+        let whole : Ok s ≡ Ok u = sym (ended-run strict sigs ctx mode bytes st c read u_end over at s tt last) ∙ ran in
         let same : s ≡ u = cc in
         end-row st s last ∙ same
 
@@ -101,7 +101,7 @@ module _ (sigs : List Signature) (ctx : List Binder) (mode : UnifyMode) where
     goes-on code is-code =
         let (v, s, is, row) = goes in
         let in-kind : command_in (kind_of mode) c.value (Some code) ≡ Some v = sym (code-not-zero c.code c.value (kind_of mode) code is-code) ∙ is in
-        (v, s, in-kind, row, sym (went-run sigs ctx mode bytes st c read v is at s (no-end (kind_of mode) c.value code v in-kind) row) ∙ ran)
+        (v, s, in-kind, row, sym (went-run strict sigs ctx mode bytes st c read v is at s (no-end (kind_of mode) c.value code v in-kind) row) ∙ ran)
 
   -- the same in place
   pub goes-on-at : (at : ℕ) (stream : List ℕ) (st u : UnifyState Tree) (c : Cmd) (read : first_command (drop at stream) ≡ Ok c)

@@ -1,11 +1,11 @@
 -- What is made beside a body derives: each proof what the machine has proved, each conversion what it has converted.
-use Rattle.std.proofs.Common.{◌≡◌, ℕ, false, List, [], ◌∷◌, length, map, drop, Option, Some, None, Ok, refl, sym, ap, subst, ◌∙◌}
+use Rattle.std.proofs.Common.{◌≡◌, ℕ, false, List, [], ◌∷◌, length, map, drop, Ok, refl, sym, ap, subst, ◌∙◌}
 use Rattle.std.specs.Prelude.{slice_get, ⊤}
 use Rattle.std.proofs.lemmas.List.{drop_at}
 use Rattle.mz_cmd.specs.declared.code.ProofCode.{ProofCode}
-use Rattle.mz_logic.specs.Tree.{Tree, var, app, none}
+use Rattle.mz_logic.specs.Tree.{Tree, var, app}
 use Rattle.mz_logic.specs.Signature.{Signature}
-use Rattle.mz_logic.specs.Declaration.{Form, plain_form, abstract_form, defined, Declaration, terms, signatures, assertions}
+use Rattle.mz_logic.specs.Declaration.{Declaration, terms, signatures, assertions}
 use Rattle.mz_logic.specs.Sorts.{Fits}
 use Rattle.mz_logic.specs.Variables.{Apart}
 use Rattle.mz_logic.specs.Conversions.{Conversions, unfold_conv, no_convs, more_convs, Between, AllBetween, GapsOnly, AllGapsOnly, AreFresh}
@@ -14,8 +14,7 @@ use Rattle.mz_logic.specs.declared.binder.Binder.{Binder}
 use Rattle.mz_logic.proofs.Offered.{extends_itself, sort_extends, fits_extends, apart_extends, fresh_extends}
 use Rattle.mz_forms.specs.Proof.{Proof, Proofs, no_proofs, more_proofs}
 use Rattle.mz_type.specs.Meaning.{derivations}
-use Rattle.mz_unification.specs.Streams.{of_definition}
-use Rattle.mz_unification.specs.Spells.{trees_of, Text, SpelledTerm, SpellsForm, SpellsTerm, SpellsThm}
+use Rattle.mz_unification.specs.Spells.{trees_of, SpellsTerm, SpellsThm}
 use Rattle.mz_unification.specs.Profile.{strict, Item, expr}
 use Rattle.mz_unification.specs.Sorted.{Sorted, AllSorted, ItemsSorted}
 use Rattle.mz_unification.specs.Laws.{citing, unfolding_by}
@@ -23,9 +22,9 @@ use Rattle.mz_unification.specs.UnifyMachine.{unify}
 use Rattle.mz_unification.proofs.Offered.{some_is, parts-are, operands-sorted, citation-is, unfolding-is}
 use Rattle.mz_soundness.specs.MachineState.{RowsBefore, State, Declares}
 use Rattle.mz_soundness.specs.Premises.{operands_fit}
-use Rattle.mz_soundness.specs.ProofMachine.{stream_of, proof_row}
+use Rattle.mz_soundness.specs.ProofMachine.{proof_row}
 use Rattle.mz_soundness.specs.Facts.{IsFront, Fact}
-use Rattle.mz_soundness.proofs.Offered.{pair-at, signatures-are, signature-at, fits-from, apart-from-test, expr-top, sides-top, operands-top, keeps}
+use Rattle.mz_soundness.proofs.Offered.{pair-at, signatures-are, signature-at, fits-from, apart-from-test, expr-top, sides-top, operands-top, keeps, stream-row, definition-of}
 use Rattle.mz_tracing.specs.Traces.{Trace, variables_in, traced}
 use Rattle.mz_tracing.proofs.Standing.{Asked, EachIs, EachFrom, EachProves}
 use Rattle.mz_tracing.proofs.RowsStand.{Closed, Standing, Unfolds, Cites, goes}
@@ -38,22 +37,6 @@ anything = record { cites = λ T. ⊤; gaps = ⊤ }
 variables-are : (ys : List ℕ) → variables_in (map var ys) ≡ ys
 variables-are [] = refl
 variables-are (y ∷ ys) = ap (λ (z : List ℕ). y ∷ z) (variables-are ys)
-
--- the row of a definition spells its body
-stream-row : (o : Option SpelledTerm) (stream : List ℕ) → stream_of o ≡ Some stream → (row : SpelledTerm) × (o ≡ Some row) × (row.stream ≡ Some stream)
-stream-row None stream e = absurd cc
-stream-row (Some row) stream e = (row, refl, e)
-
-abbrev Defines : List Signature → List Binder → List ℕ → Form → Type 0
-Defines sigs params stream form = (dummies : List Binder) × (body : Tree) × (form ≡ defined dummies body) × Text of_definition sigs params stream none body dummies
-
-definition-of : (sigs : List Signature) (params : List Binder) (o : Option (List ℕ)) (stream : List ℕ) (form : Form) → o ≡ Some stream → SpellsForm sigs params o form → Defines sigs params stream form
-definition-of sigs params None stream form is s = absurd cc
-definition-of sigs params (Some other) stream plain_form is s = absurd s
-definition-of sigs params (Some other) stream abstract_form is s = absurd s
-definition-of sigs params (Some other) stream (defined dummies body) is s =
-    let same : other ≡ stream = cc in
-    (dummies, body, refl, subst (λ (z : List ℕ). Text of_definition sigs params z none body dummies) same s)
 
 -- an expression has a sort, a conversion goes from the one to the other, and a proof derives; N says where gaps may stand
 abbrev pub deriving_from : Type 0 → List Declaration → List Binder → Asked

@@ -1,6 +1,6 @@
 ghost use Rattle.std.specs.Prelude.{◌<◌, ◌^◌, length};
 
-use mz_forms::{Conv, Convs, Proof, Proofs};
+use mz_forms::{Conv, Convs, Hashing, Proof, Proofs};
 use mz_logic::{Binder, Decl, Expr, Exprs, Hyps, TermForm};
 use mz_mmu::{Text, TextRead, read_text};
 use mz_mode::Mode;
@@ -224,7 +224,7 @@ impl Page {
 fn description(alloc: Global, text: &[u8], mode: Mode) -> Result<Vec<u8>, AllocError>
     requires { length text.now < 2 ^ 32 }
 {
-    match read_text(alloc, text, mode) {
+    match read_text(alloc, Hashing::fixed(), text, mode) {
         TextRead::Text(text) => {
             let mut page = Page {
                 alloc,

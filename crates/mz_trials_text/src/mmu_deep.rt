@@ -1,3 +1,4 @@
+use mz_forms::Hashing;
 use mz_mmu::{TextRead, read_text};
 use mz_mode::Mode;
 use std::alloc::{AllocError, Global};
@@ -168,7 +169,7 @@ fn answer(alloc: Global, nest: &Nest, count: u32) -> Result<Vec<u8>, AllocError>
     if text.len() >= 100000 {
         return Err(AllocError);
     }
-    let line = match read_text(alloc, &text, Mode::Strict) {
+    let line = match read_text(alloc, Hashing::fixed(), &text, Mode::Strict) {
         TextRead::Text(text) => format!(in alloc; "{} statements", text.len())?,
         TextRead::Refused(r) => {
             format!(in alloc; "statement {} at byte {}: {}", r.statement, r.at, r.rule)?

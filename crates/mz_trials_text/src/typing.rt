@@ -1,5 +1,6 @@
 ghost use Rattle.std.specs.Prelude.{◌<◌, ◌^◌, length};
 
+use mz_forms::Hashing;
 use mz_mmu::{Text, TextRead, read_text};
 use mz_mode::Mode;
 use mz_sexpr::TextRefusal;
@@ -28,7 +29,7 @@ fn typed_answer(alloc: Global, text: Text) -> Result<Vec<u8>, AllocError> {
 fn answer(alloc: Global, text: &[u8], mode: Mode) -> Result<Vec<u8>, AllocError>
     requires { length text.now < 2 ^ 32 }
 {
-    match read_text(alloc, text, mode) {
+    match read_text(alloc, Hashing::fixed(), text, mode) {
         TextRead::Text(text) => typed_answer(alloc, text),
         TextRead::Refused(r) => refusal(alloc, r),
         TextRead::Mem => Err(AllocError),

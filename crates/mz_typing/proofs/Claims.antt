@@ -1,5 +1,5 @@
 -- Claims: what stands in place of a variable, and lists compared from the front.
-use Rattle.std.proofs.Common.{ℕ, zero, suc, ◌≡◌, ◌<◌, ◌≤◌, ◌+◌, Bool, true, false, List, [], ◌∷◌, ◌++◌, length, get_or, drop, slice_get, Some, None, refl, sym, ap, ◌∙◌, arith}
+use Rattle.std.proofs.Common.{ℕ, zero, suc, ◌≡◌, ◌↔◌, ◌<◌, ◌≤◌, ◌+◌, ◌*◌, Bool, true, false, List, [], ◌∷◌, ◌++◌, length, get_or, drop, slice_get, Some, None, refl, sym, ap, ◌∙◌, subst, arith}
 use Rattle.std.proofs.lemmas.List.{drop_more}
 use Rattle.mz_logic.specs.Tree.{Trees, var, app, none, more, listed, operand, instances, followed_by, variables}
 use Rattle.mz_logic.specs.View.{trees}
@@ -7,9 +7,10 @@ use Rattle.mz_logic.specs.declared.expr.Expr.{Expr}
 use Rattle.mz_logic.proofs.Offered.{length-trees}
 use Rattle.mz_forms.specs.ConvView.{conversions}
 use Rattle.mz_forms.specs.declared.conv.Conv.{Conv}
-use Rattle.mz_typing.specs.Claims.{all_put_in, claim_tree, claim_trees}
+use Rattle.mz_typing.specs.Claims.{all_put_in, claim_tree, claim_trees, AreSame, AllSame, lists_size, turns}
 use Rattle.mz_typing.specs.Sides.{sides}
 use Rattle.mz_typing.specs.declared.claim.Claim.{Claim}
+use Rattle.mz_typing.specs.declared.claim.Lists.{Lists}
 use Rattle.mz_typing.specs.declared.claim.Put.{Put}
 use Rattle.mz_typing.specs.declared.claim.Put.TheVariants.{Nothing, Operands}
 
@@ -80,3 +81,23 @@ claims_append (x ∷ xs) c = ap (more (claim_tree x)) (claims_append xs c)
 pub length-claims : (xs : List Claim) → length (listed (claim_trees xs)) ≡ length xs
 length-claims [] = refl
 length-claims (x ∷ xs) = ap suc (length-claims xs)
+
+-- ---- lists that wait to be compared
+
+pub same_more : (ls new : List Lists) (l : Lists) → new ≡ ls ++ l ∷ [] → AllSame new ↔ (AllSame ls × AreSame l)
+same_more ls new l is = (λ h. split ls (subst AllSame is h), λ h. subst AllSame (sym is) (join ls h))
+  where
+    split : (ls : List Lists) → AllSame (ls ++ l ∷ []) → AllSame ls × AreSame l
+    split [] h = (tt, h.0)
+    split (m ∷ ms) h = let r = split ms h.1 in ((h.0, r.0), r.1)
+
+    join : (ls : List Lists) → AllSame ls × AreSame l → AllSame (ls ++ l ∷ [])
+    join [] h = (h.1, tt)
+    join (m ∷ ms) h = (h.0.0, join ms (h.0.1, h.1))
+
+turns_append : (ls : List Lists) (l : Lists) → turns (ls ++ l ∷ []) ≡ turns ls + suc (2 * lists_size l)
+turns_append [] l = omega arith
+turns_append (m ∷ ms) l = let e = turns_append ms l in omega (arith, e)
+
+pub turns_more : (ls new : List Lists) (l : Lists) → new ≡ ls ++ l ∷ [] → turns new ≡ turns ls + suc (2 * lists_size l)
+turns_more ls new l is = ap turns is ∙ turns_append ls l

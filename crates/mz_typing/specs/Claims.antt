@@ -1,6 +1,6 @@
 -- What the code's claims stand for, and its sides of conversions: what they are is not written out.
-use Rattle.std.specs.Prelude.{ℕ, zero, suc, List, [], ◌∷◌}
-use Rattle.mz_logic.specs.Tree.{Tree, Trees, var, app, none, more, instance, instances, followed_by, variables}
+use Rattle.std.specs.Prelude.{◌≡◌, ⊤, ℕ, zero, suc, ◌+◌, ◌*◌, List, [], ◌∷◌}
+use Rattle.mz_logic.specs.Tree.{Tree, Trees, var, app, none, more, instance, instances, followed_by, variables, trees_size}
 use Rattle.mz_logic.specs.View.{tree, trees}
 use Rattle.mz_forms.specs.ConvCode.{convs_steps}
 use Rattle.mz_typing.specs.Sides.{sides}
@@ -8,6 +8,7 @@ use Rattle.mz_typing.specs.declared.claim.Put.{Put}
 use Rattle.mz_typing.specs.declared.claim.Put.TheVariants.{Nothing, Operands}
 use Rattle.mz_typing.specs.declared.claim.Claim.{Claim}
 use Rattle.mz_typing.specs.declared.claim.Claim.TheVariants.{Var, App}
+use Rattle.mz_typing.specs.declared.claim.Lists.{Lists}
 use Rattle.mz_typing.specs.declared.claim.Side.{Side}
 use Rattle.mz_typing.specs.declared.claim.Side.TheVariants.{Own, Term, Under}
 
@@ -27,6 +28,22 @@ claim_tree (App t es put) = app t (all_put_in put (trees es.now))
 abbrev pub claim_trees : List Claim → Trees
 claim_trees [] = none
 claim_trees (c ∷ cs) = more (claim_tree c) (claim_trees cs)
+
+-- lists that are left to compare
+abbrev pub AreSame : Lists → Type 0
+AreSame l = all_put_in l.p (trees l.es.now) ≡ all_put_in l.q (trees l.fs.now)
+
+abbrev pub AllSame : List Lists → Type 0
+AllSame [] = ⊤
+AllSame (l ∷ ls) = AreSame l × AllSame ls
+
+abbrev pub lists_size : Lists → ℕ
+lists_size l = trees_size (all_put_in l.p (trees l.es.now))
+
+-- the turns that comparing them takes at most
+abbrev pub turns : List Lists → ℕ
+turns [] = zero
+turns (l ∷ ls) = suc (2 * lists_size l) + turns ls
 
 abbrev pub side_tree : Side → Tree
 side_tree (Own e) = tree e.now

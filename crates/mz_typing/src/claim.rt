@@ -1,14 +1,15 @@
 //! What proofs prove, and the sides of conversions, compared without being written out.
-ghost use Rattle.std.specs.Prelude.{◌≡◌, ◌↔◌, ◌≤◌, Bool, true, false, IsTrue, drop, length};
-ghost use Rattle.mz_logic.specs.Tree.{var, operand, instance, followed_by, variables};
+ghost use Rattle.std.specs.Prelude.{◌≡◌, ◌↔◌, ◌<◌, ◌≤◌, ◌+◌, ◌*◌, Bool, true, false, suc, IfOk, IsTrue, OnOk};
+ghost use Rattle.mz_logic.specs.Tree.{var, operand, instance, followed_by, size, variables};
 ghost use Rattle.mz_logic.specs.View.{tree, trees};
 ghost use Rattle.mz_forms.specs.ConvCode.{conv_steps};
 ghost use Rattle.mz_forms.specs.ConvView.{conversion, conversions};
-ghost use Rattle.mz_typing.specs.Claims.{put_in, all_put_in, claim_tree, side_tree, side_steps};
+ghost use Rattle.mz_typing.specs.Claims.{put_in, all_put_in, claim_tree, side_tree, side_steps, AreSame, AllSame, lists_size, turns};
 ghost use Rattle.mz_typing.specs.Sides.{side, sides};
 
 use mz_forms::{Conv, Convs};
 use mz_logic::{Expr, Exprs};
+use std::alloc::{AllocError, Global};
 
 /// What stands in place of variables.
 #[derive(Clone, Copy)]
@@ -86,56 +87,79 @@ impl<'t> Claim<'t> {
     }
 }
 
-/// Whether two claims are the same expression.
-#[cycle(same_claim)]
-pub(crate) fn same_claim(a: Claim, b: Claim) -> bool
-    ensures { IsTrue result ↔ (claim_tree a.entry ≡ claim_tree b.entry) }
+/// Lists of expressions with something put in, which are left to compare.
+#[derive(Drop)]
+struct Lists<'t> {
+    es: &'t [Expr],
+    p: Put<'t>,
+    fs: &'t [Expr],
+    q: Put<'t>,
+}
+
+/// Lets lists wait to be compared.
+fn wait<'t>(waiting: &mut Vec<Lists<'t>>, lists: Lists<'t>) -> Result<(), AllocError>
+    ensures same { OnOk result (AllSame waiting.new.items ↔ (AllSame waiting.old.items × AreSame lists.entry)) }
+    ensures small { OnOk result (turns waiting.new.items ≤ turns waiting.old.items + suc (2 * lists_size lists.entry)) }
+{
+    if lists.es.is_empty() && lists.fs.is_empty() {
+        return Ok(());
+    }
+    waiting.push(lists)?;
+    Ok(())
+}
+
+/// Whether two claims are the same, if their operands are, which wait to be compared.
+fn compare<'t>(waiting: &mut Vec<Lists<'t>>, a: Claim<'t>, b: Claim<'t>) -> Result<bool, AllocError>
+    ensures same { IfOk result (λ same. (IsTrue same × AllSame waiting.new.items) ↔ (AllSame waiting.old.items × (claim_tree a.entry ≡ claim_tree b.entry))) }
+    ensures less { OnOk result (turns waiting.new.items < turns waiting.old.items + 2 * size (claim_tree a.entry)) }
 {
     match (a, b) {
-        (Claim::Var(x), Claim::Var(y)) => x == y,
-        (Claim::App(t, es, p), Claim::App(u, fs, q)) => t == u && same_claims(es, &p, fs, &q),
-        _ => false,
-    }
-}
-
-/// The same of lists of expressions with something put in.
-#[cycle(same_claim)]
-fn same_claims(es: &[Expr], p: &Put, fs: &[Expr], q: &Put) -> bool
-    ensures { IsTrue result ↔ (all_put_in p.now (trees es.now) ≡ all_put_in q.now (trees fs.now)) }
-{
-    if es.len() != fs.len() {
-        return false;
-    }
-    for i in 0..es.len() {
-        if !same_with(&es[i], p, &fs[i], q) {
-            return false;
+        (Claim::Var(x), Claim::Var(y)) => Ok(x == y),
+        (Claim::App(t, es, p), Claim::App(u, fs, q)) => {
+            if t != u {
+                return Ok(false);
+            }
+            wait(waiting, Lists { es, p, fs, q })?;
+            Ok(true)
         }
+        _ => Ok(false),
     }
-    true
 }
 
-/// The same of two expressions with something put in. Of two terms no claims are made, which would
-/// stand on the stack once a level.
-#[cycle(same_claim)]
-fn same_with(a: &Expr, p: &Put, b: &Expr, q: &Put) -> bool
-    ensures { IsTrue result ↔ (put_in p.now (tree a.now) ≡ put_in q.now (tree b.now)) }
+/// The same of the first expressions of two lists; those behind them wait too.
+fn compare_first<'t>(waiting: &mut Vec<Lists<'t>>, lists: Lists<'t>) -> Result<bool, AllocError>
+    ensures same { IfOk result (λ same. (IsTrue same × AllSame waiting.new.items) ↔ (AllSame waiting.old.items × AreSame lists.entry)) }
+    ensures less { OnOk result (turns waiting.new.items < turns waiting.old.items + suc (2 * lists_size lists.entry)) }
 {
-    match (a, b) {
-        (Expr::App(t, es), Expr::App(u, fs)) => {
-            *t == *u && same_claims(es.as_slice(), p, fs.as_slice(), q)
+    match (lists.es.split_first(), lists.fs.split_first()) {
+        (Some((e, es)), Some((f, fs))) => {
+            let Lists { p, q, .. } = lists;
+            wait(waiting, Lists { es, p, fs, q })?;
+            compare(waiting, Claim::with(e, p), Claim::with(f, q))
         }
-        _ => same_read(a, p, b, q),
+        (None, None) => Ok(true),
+        _ => Ok(false),
     }
 }
 
-/// The same where one of them is a variable, in whose place something may stand. It isn't inlined:
-/// its claims would stand on the stack once a level.
-#[cycle(same_claim)]
+/// Whether two claims are the same expression. What is left to compare is kept in a list: both may
+/// be deep, and so are proofs, so that there is no stack for both.
 #[inline(never)]
-fn same_read(a: &Expr, p: &Put, b: &Expr, q: &Put) -> bool
-    ensures { IsTrue result ↔ (put_in p.now (tree a.now) ≡ put_in q.now (tree b.now)) }
+pub(crate) fn same_claim<'t>(alloc: Global, a: Claim<'t>, b: Claim<'t>) -> Result<bool, AllocError>
+    ensures { IfOk result (λ same. IsTrue same ↔ (claim_tree a.entry ≡ claim_tree b.entry)) }
 {
-    same_claim(Claim::with(a, *p), Claim::with(b, *q))
+    let mut waiting: Vec<Lists> = Vec::new(alloc);
+    let begun = compare(&mut waiting, a, b)?;
+    if !begun {
+        return Ok(false);
+    }
+    'comparing: while let Some(lists) = waiting.pop() {
+        let same = compare_first(&mut waiting, lists)?;
+        if !same {
+            return Ok(false);
+        }
+    }
+    Ok(true)
 }
 
 /// A side of a conversion, below the turnings and unfoldings that stand over it.
@@ -175,46 +199,74 @@ fn side_of<'c>(conv: &'c Conv, right: bool) -> Side<'c>
 
 /// Whether a side of the conversion, the right one or the left one, is the claim.
 #[cycle(is_side)]
-pub(crate) fn is_side(conv: &Conv, right: bool, claim: Claim) -> bool
-    ensures { IsTrue result ↔ (side right (conversion conv.now) ≡ claim_tree claim.entry) }
+pub(crate) fn is_side(
+    alloc: Global,
+    conv: &Conv,
+    right: bool,
+    claim: Claim,
+) -> Result<bool, AllocError>
+    ensures { IfOk result (λ is. IsTrue is ↔ (side right (conversion conv.now) ≡ claim_tree claim.entry)) }
 {
     match side_of(conv, right) {
-        Side::Own(e) => same_claim(Claim::of(e), claim),
-        Side::Term(t, es) => same_claim(Claim::App(t, es.as_slice(), Put::Nothing), claim),
+        Side::Own(e) => same_claim(alloc, Claim::of(e), claim),
+        Side::Term(t, es) => {
+            same_claim(alloc, Claim::App(t, es.as_slice(), Put::Nothing), claim)
+        }
         Side::Under(t, parts, right) => match claim {
-            Claim::Var(_) => false,
-            Claim::App(u, es, put) => t == u && are_sides(parts.as_slice(), right, es, &put),
+            Claim::Var(_) => Ok(false),
+            Claim::App(u, es, put) => {
+                if t != u {
+                    return Ok(false);
+                }
+                are_sides(alloc, parts.as_slice(), right, es, &put)
+            }
         },
     }
 }
 
 /// Whether the sides of the conversions are the expressions with something put in.
 #[cycle(is_side)]
-fn are_sides(convs: &[Conv], right: bool, es: &[Expr], put: &Put) -> bool
-    ensures { IsTrue result ↔ (sides right (conversions convs.now) ≡ all_put_in put.now (trees es.now)) }
+fn are_sides(
+    alloc: Global,
+    convs: &[Conv],
+    right: bool,
+    es: &[Expr],
+    put: &Put,
+) -> Result<bool, AllocError>
+    ensures { IfOk result (λ are. IsTrue are ↔ (sides right (conversions convs.now) ≡ all_put_in put.now (trees es.now))) }
 {
     if convs.len() != es.len() {
-        return false;
+        return Ok(false);
     }
     for i in 0..convs.len() {
-        if !is_side_with(&convs[i], right, &es[i], put) {
-            return false;
+        let is = is_side_with(alloc, &convs[i], right, &es[i], put)?;
+        if !is {
+            return Ok(false);
         }
     }
-    true
+    Ok(true)
 }
 
 /// Whether a side of the conversion is the expression with something put in. Where both are terms
 /// over more no claim is made, which would stand on the stack once a level.
 #[cycle(is_side)]
-fn is_side_with(conv: &Conv, right: bool, expr: &Expr, put: &Put) -> bool
-    ensures { IsTrue result ↔ (side right (conversion conv.now) ≡ put_in put.now (tree expr.now)) }
+fn is_side_with(
+    alloc: Global,
+    conv: &Conv,
+    right: bool,
+    expr: &Expr,
+    put: &Put,
+) -> Result<bool, AllocError>
+    ensures { IfOk result (λ is. IsTrue is ↔ (side right (conversion conv.now) ≡ put_in put.now (tree expr.now))) }
 {
     match (side_of(conv, right), expr) {
         (Side::Under(t, parts, right), Expr::App(u, es)) => {
-            t == *u && are_sides(parts.as_slice(), right, es.as_slice(), put)
+            if t != *u {
+                return Ok(false);
+            }
+            are_sides(alloc, parts.as_slice(), right, es.as_slice(), put)
         }
-        _ => is_side_read(conv, right, expr, put),
+        _ => is_side_read(alloc, conv, right, expr, put),
     }
 }
 
@@ -222,8 +274,14 @@ fn is_side_with(conv: &Conv, right: bool, expr: &Expr, put: &Put) -> bool
 /// the stack once a level.
 #[cycle(is_side)]
 #[inline(never)]
-fn is_side_read(conv: &Conv, right: bool, expr: &Expr, put: &Put) -> bool
-    ensures { IsTrue result ↔ (side right (conversion conv.now) ≡ put_in put.now (tree expr.now)) }
+fn is_side_read(
+    alloc: Global,
+    conv: &Conv,
+    right: bool,
+    expr: &Expr,
+    put: &Put,
+) -> Result<bool, AllocError>
+    ensures { IfOk result (λ is. IsTrue is ↔ (side right (conversion conv.now) ≡ put_in put.now (tree expr.now))) }
 {
-    is_side(conv, right, Claim::with(expr, *put))
+    is_side(alloc, conv, right, Claim::with(expr, *put))
 }

@@ -22,7 +22,7 @@ use crate::claim::{Claim, is_side};
 use crate::cursor::Cursor;
 use crate::exprs::{check_expr, check_exprs, check_operands, params_of};
 use mz_forms::{Conv, Convs, Fault, Stop, Vars};
-use mz_free::{Covered, some_name_any};
+use mz_free::{VariableSet, some_name_any};
 use mz_logic::{
     Binder, Context, Env, Expr, Exprs, Hyps, TermDecl, is_bound_var, sort_of, sort_of_term,
 };
@@ -163,7 +163,7 @@ fn check_variables(
 fn are_new(alloc: Global, ctx: &Context, es: &Exprs, vars: &Vars) -> Result<bool, AllocError>
     ensures { IfOk result (λ new. IsTrue new ↔ AreNew ctx.now es.now vars.now) }
 {
-    let mut seen = Covered::new(alloc);
+    let mut seen = VariableSet::new(alloc);
     for place in vars.as_slice() {
         if seen.has(*place) {
             return Ok(false);
@@ -174,10 +174,21 @@ fn are_new(alloc: Global, ctx: &Context, es: &Exprs, vars: &Vars) -> Result<bool
 }
 
 /// Whether a conversion goes from the body with the operands and variables put in.
-fn goes_from_body(body: &Expr, es: &Exprs, vars: &Vars, conv: &Conv) -> bool
-    ensures { IsTrue result ↔ (left (conversion conv.now) ≡ instance (followed_by es.now (variables vars.now)) (tree body.now)) }
+fn goes_from_body(
+    alloc: Global,
+    body: &Expr,
+    es: &Exprs,
+    vars: &Vars,
+    conv: &Conv,
+) -> Result<bool, AllocError>
+    ensures { IfOk result (λ goes. IsTrue goes ↔ (left (conversion conv.now) ≡ instance (followed_by es.now (variables vars.now)) (tree body.now))) }
 {
-    is_side(conv, false, Claim::unfolded(body, es, vars.as_slice()))
+    is_side(
+        alloc,
+        conv,
+        false,
+        Claim::unfolded(body, es, vars.as_slice()),
+    )
 }
 
 /// The node of a reflexivity's expression, which may stand alone.
@@ -395,7 +406,8 @@ impl<'t, 'c> Checker<'t, 'c> {
         if !fresh {
             return Err(Stop::Refused(nodes.fault(U::Disjoint)));
         }
-        if goes_from_body(body, es, vars, conv) {
+        let goes = goes_from_body(self.alloc, body, es, vars, conv)?;
+        if goes {
             Ok(())
         } else {
             Err(Stop::Refused(nodes.fault(U::Conversion)))

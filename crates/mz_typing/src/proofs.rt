@@ -1,5 +1,5 @@
 //! What is asked of proofs.
-ghost use Rattle.std.specs.Prelude.{◌≡◌, ◌↔◌, ◌<◌, ◌≤◌, ◌+◌, IsTrue, OnOk, drop, take, length};
+ghost use Rattle.std.specs.Prelude.{◌≡◌, ◌↔◌, ◌<◌, ◌≤◌, ◌+◌, IfOk, IsTrue, OnOk, drop, take, length};
 ghost use Rattle.mz_checks.specs.Checks.{AllHold, nothing};
 ghost use Rattle.mz_sexpr.specs.Node.{parts};
 ghost use Rattle.mz_sexpr.specs.Number.{first};
@@ -25,14 +25,25 @@ use mz_forms::{Conv, Proof, Proofs, Stop};
 use mz_free::are_apart;
 use mz_logic::{Expr, Exprs, Hyps, ThmDecl};
 use mz_sexpr::U;
+use std::alloc::{AllocError, Global};
 
 /// Whether the conversion goes from the expression to the claim at the place.
 #[inline(never)]
-fn goes_between(conv: &Conv, from: &Expr, claims: &[Claim], to: usize) -> bool
+fn goes_between(
+    alloc: Global,
+    conv: &Conv,
+    from: &Expr,
+    claims: &[Claim],
+    to: usize,
+) -> Result<bool, AllocError>
     requires { to < length claims.now }
-    ensures { IsTrue result ↔ ((left (conversion conv.now) ≡ tree from.now) × (right (conversion conv.now) ≡ operand (claim_trees claims.now) to)) }
+    ensures { IfOk result (λ goes. IsTrue goes ↔ ((left (conversion conv.now) ≡ tree from.now) × (right (conversion conv.now) ≡ operand (claim_trees claims.now) to))) }
 {
-    is_side(conv, false, Claim::of(from)) && is_side(conv, true, claim_at(claims, to))
+    let leaves = is_side(alloc, conv, false, Claim::of(from))?;
+    if !leaves {
+        return Ok(false);
+    }
+    is_side(alloc, conv, true, claim_at(claims, to))
 }
 
 /// The claim at the place.
@@ -112,7 +123,8 @@ impl<'t, 'c> Checker<'t, 'c> {
     {
         let mut left = nodes.after(0);
         for i in 0..claims.len() {
-            if !same_claim(claims[i], Claim::instance(hyps.at(i), es)) {
+            let same = same_claim(self.alloc, claims[i], Claim::instance(hyps.at(i), es))?;
+            if !same {
                 return Err(Stop::Refused(left.fault(U::Hypothesis)));
             }
             left = left.rest();
@@ -308,7 +320,8 @@ impl<'t, 'c> Checker<'t, 'c> {
         let from = claims.len();
         self.check_converted(e, conv, nodes)?;
         self.check_proof(lets, claims, proof, &nodes.part(3))?;
-        if !goes_between(conv, e, claims, from) {
+        let goes = goes_between(self.alloc, conv, e, claims, from)?;
+        if !goes {
             return Err(Stop::Refused(nodes.fault(U::Conversion)));
         }
         claim_instead(claims, from, e)

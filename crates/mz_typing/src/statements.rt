@@ -146,7 +146,8 @@ fn check_stated_proof(
     let mut lets: Vec<Claim> = Vec::new(alloc);
     let mut claims: Vec<Claim> = Vec::new(alloc);
     checker.check_proof(&mut lets, &mut claims, proof, &parts.after(6))?;
-    if same_claim(claim_at(&claims, 0), Claim::of(&thm.conclusion)) {
+    let same = same_claim(alloc, claim_at(&claims, 0), Claim::of(&thm.conclusion))?;
+    if same {
         Ok(())
     } else {
         Err(Stop::Refused(parts.after(4).fault(U::Conclusion)))

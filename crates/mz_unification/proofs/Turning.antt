@@ -33,6 +33,12 @@ command-long (head ∷ rest) c e = go (nat_lt (length rest) (operand_len (head /
         let len-is : made.len ≡ c.len = ap (λ (x : Cmd). x.len) (cmd-is made c h) in
         (omega arith, omega (arith, ltb-false (length rest) (operand_len (head / 64)) is))
 
+-- and lies within the stream
+pub further : (stream : List ℕ) (at : ℕ) (c : Cmd) → first_command (drop at stream) ≡ Ok c → at ≤ length stream → (1 ≤ c.len) × (at + c.len ≤ length stream)
+further stream at c read le =
+    let (one, within) = command-long (drop at stream) c read in
+    (one, omega (arith, within, length-drop at stream))
+
 -- what follows a turn is the same where the rests agree on what it goes on to
 pub follow-same : {S : Type 0} (at : ℕ) (r : Result (Turn S) K) (f g : ℕ → S → Result S (ℕ × K))
     → ((len : ℕ) (s : S) → r ≡ Ok (goes_on len s) → f len s ≡ g len s) → follow (at_place at r) f ≡ follow (at_place at r) g

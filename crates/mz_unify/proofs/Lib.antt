@@ -1,5 +1,6 @@
 pub mod StoredIds
 pub mod VariableWords
+pub mod Parts
 pub mod RowValues
 pub mod UnifyTurns
 pub mod Underway

@@ -1,134 +1,121 @@
--- What the row of a command gives, case by case.
+-- What the row of a command gives in any machine, case by case.
 use Rattle.std.proofs.Common.{◌≡◌, ℕ, Bool, true, false, eqb, List, [], ◌∷◌, ◌++◌, Option, Some, None, Ok, Err, refl, sym, ap, ◌∙◌, eq-eqb}
-use Rattle.std.specs.Prelude.{reverse, slice_get, if◌then◌else◌, ◌==◌, not}
+use Rattle.std.specs.Prelude.{slice_get, if◌then◌else◌, ◌==◌, not}
 use Rattle.std.specs.Option.{option_eq}
 use Rattle.std.proofs.lemmas.Bool.{eqb-true}
 use Rattle.mz_cmd.specs.declared.rule.K.{K}
 use Rattle.mz_cmd.specs.declared.rule.K.TheVariants as k
-use Rattle.mz_logic.specs.Tree.{Tree, var, app, listed}
 use Rattle.mz_logic.specs.Signature.{Signature}
 use Rattle.mz_logic.specs.declared.binder.Binder.{Binder}
-use Rattle.mz_store.specs.Sharing.{Sharing, trees_of, head_of}
-use Rattle.mz_store.specs.Sharing.{operands_of as store_operands}
-use Rattle.mz_store.specs.declared.item.Id.{Id}
 use Rattle.mz_unification.specs.Streams.{u_term, u_term_save, u_ref, u_dummy, u_hyp, u_end}
-use Rattle.mz_unification.specs.Profile.{strict, Item, tree_parts}
-use Rattle.mz_unification.specs.Tests.{same_tree}
+use Rattle.mz_unification.specs.Profile.{Profile, Item}
 use Rattle.mz_unification.specs.UnifyMachine.{UnifyMode, UnifyState, is_empty, operands_of, is_fresh, nothing_left, next_hypothesis, unify_row}
-use Rattle.mz_unify.specs.Stored.{stack_at}
 use Rattle.mz_unify.specs.Rows.{with_targets}
-use Rattle.mz_unify.proofs.StoredIds.{listed-trees, stack-operands}
-use Rattle.mz_unification.proofs.Offered.{same_tree-true, same_tree-refl}
+use Rattle.mz_unify.proofs.Parts.{Parts, differ}
 
-module _ (sigs : List Signature) (ctx : List Binder) (mode : UnifyMode) (st : UnifyState Tree) where
+module _ (P : Profile) (sigs : List Signature) (ctx : List Binder) (mode : UnifyMode) (st : UnifyState P.T) where
   -- ---- UTerm and UTermSave
 
-  pub term-none : (t : ℕ) → st.targets ≡ [] → unify_row strict sigs ctx mode (u_term t) st ≡ Err k.UnifyRest
+  pub term-none : (t : ℕ) → st.targets ≡ [] → unify_row P sigs ctx mode (u_term t) st ≡ Err k.UnifyRest
   unfolding unify_row
   term-none t e = rw e refl
 
-  pub save-none : (t : ℕ) → st.targets ≡ [] → unify_row strict sigs ctx mode (u_term_save t) st ≡ Err k.UnifyRest
+  pub save-none : (t : ℕ) → st.targets ≡ [] → unify_row P sigs ctx mode (u_term_save t) st ≡ Err k.UnifyRest
   unfolding unify_row
   save-none t e = rw e refl
 
-  no-operands : (t : ℕ) (e : Tree) → (head_of e ≡ Some t → ⊥) → operands_of t (tree_parts e) ≡ None
-  no-operands t (var x) h = refl
-  no-operands t (app u es) h = go (u == t) refl
-    where
-      go : (b : Bool) → (u == t) ≡ b → (if b then Some (listed es) else None) ≡ None
-      go true is = absurd (h (ap (λ (n : ℕ). Some n) (eqb-true _ _ is)))
-      go false is = refl
+  module _ {head : P.T → Option ℕ} {operands : P.T → List P.T} (parts : Parts P head operands) where
+    no-operands : (t : ℕ) (e : P.T) → (head e ≡ Some t → ⊥) → operands_of t (P.parts e) ≡ None
+    no-operands t e h = by (head e) refl
+      where
+        by : (o : Option ℕ) → head e ≡ o → operands_of t (P.parts e) ≡ None
+        by None at = ap (operands_of t) (parts.of_none e at)
+        by (Some u) at = ap (operands_of t) (parts.of_some u e at) ∙ go (u == t) refl
+          where
+            go : (b : Bool) → (u == t) ≡ b → (if b then Some (operands e) else None) ≡ None
+            go true is = absurd (h (at ∙ ap (λ (n : ℕ). Some n) (eqb-true _ _ is)))
+            go false is = refl
 
-  pub term-other : (t : ℕ) (e : Tree) (rest : List Tree) → st.targets ≡ e ∷ rest → (head_of e ≡ Some t → ⊥) → unify_row strict sigs ctx mode (u_term t) st ≡ Err k.UnifyTerm
-  unfolding unify_row
-  term-other t e rest is h = rw (is, no-operands t e h) refl
+    pub term-other : (t : ℕ) (e : P.T) (rest : List P.T) → st.targets ≡ e ∷ rest → (head e ≡ Some t → ⊥) → unify_row P sigs ctx mode (u_term t) st ≡ Err k.UnifyTerm
+    unfolding unify_row
+    term-other t e rest is h = rw (is, no-operands t e h) refl
 
-  pub save-other : (t : ℕ) (e : Tree) (rest : List Tree) → st.targets ≡ e ∷ rest → (head_of e ≡ Some t → ⊥) → unify_row strict sigs ctx mode (u_term_save t) st ≡ Err k.UnifyTerm
-  unfolding unify_row
-  save-other t e rest is h = rw (is, no-operands t e h) refl
+    pub save-other : (t : ℕ) (e : P.T) (rest : List P.T) → st.targets ≡ e ∷ rest → (head e ≡ Some t → ⊥) → unify_row P sigs ctx mode (u_term_save t) st ≡ Err k.UnifyTerm
+    unfolding unify_row
+    save-other t e rest is h = rw (is, no-operands t e h) refl
 
-  its-operands : (t : ℕ) (e : Tree) → head_of e ≡ Some t → operands_of t (tree_parts e) ≡ Some (listed (store_operands e))
-  its-operands t (var x) h = absurd cc
-  its-operands t (app u es) h = let same : u ≡ t = cc in rw (eq-eqb u t same) refl
+    its-operands : (t : ℕ) (e : P.T) → head e ≡ Some t → operands_of t (P.parts e) ≡ Some (operands e)
+    its-operands t e h = ap (operands_of t) (parts.of_some t e h) ∙ rw (eq-eqb t t refl) refl
 
-  put-there : (s : Sharing) (e : Tree) (left args : List Id) → trees_of s args ≡ store_operands e → listed (store_operands e) ++ stack_at s left ≡ stack_at s (left ++ reverse args)
-  put-there s e left args are = ap (λ (es : List Tree). es ++ stack_at s left) (ap listed (sym are) ∙ listed-trees s args) ∙ sym (stack-operands s left args)
+    pub term-row : (t : ℕ) (e : P.T) (below targets : List P.T) → st.targets ≡ e ∷ below → head e ≡ Some t → operands e ++ below ≡ targets
+        → unify_row P sigs ctx mode (u_term t) st ≡ Ok (with_targets st targets)
+    unfolding unify_row
+    term-row t e below targets is h put = rw (is, its-operands t e h, put) refl
 
-  pub term-row : (s : Sharing) (t : ℕ) (e : Tree) (left args : List Id) → st.targets ≡ e ∷ stack_at s left → head_of e ≡ Some t → trees_of s args ≡ store_operands e
-      → unify_row strict sigs ctx mode (u_term t) st ≡ Ok (with_targets st (stack_at s (left ++ reverse args)))
-  unfolding unify_row
-  term-row s t e left args is h are = rw (is, its-operands t e h, put-there s e left args are) refl
-
-  pub save-row : (s : Sharing) (t : ℕ) (e : Tree) (left args : List Id) → st.targets ≡ e ∷ stack_at s left → head_of e ≡ Some t → trees_of s args ≡ store_operands e
-      → unify_row strict sigs ctx mode (u_term_save t) st ≡ Ok (record (with_targets st (stack_at s (left ++ reverse args))) { heap = st.heap ++ e ∷ [] })
-  unfolding unify_row
-  save-row s t e left args is h are = rw (is, its-operands t e h, put-there s e left args are) refl
+    pub save-row : (t : ℕ) (e : P.T) (below targets : List P.T) → st.targets ≡ e ∷ below → head e ≡ Some t → operands e ++ below ≡ targets
+        → unify_row P sigs ctx mode (u_term_save t) st ≡ Ok (record (with_targets st targets) { heap = st.heap ++ e ∷ []; apart = if P.portable then st.apart ++ e ∷ [] else st.apart })
+    unfolding unify_row
+    save-row t e below targets is h put = rw (is, its-operands t e h, put) refl
 
   -- ---- URef
 
-  pub ref-no-target : (i : ℕ) → st.targets ≡ [] → unify_row strict sigs ctx mode (u_ref i) st ≡ Err k.UnifyRest
+  pub ref-no-target : (i : ℕ) → st.targets ≡ [] → unify_row P sigs ctx mode (u_ref i) st ≡ Err k.UnifyRest
   unfolding unify_row
   ref-no-target i e = rw e refl
 
-  pub ref-no-place : (i : ℕ) (e : Tree) (rest : List Tree) → st.targets ≡ e ∷ rest → slice_get st.heap i ≡ None → unify_row strict sigs ctx mode (u_ref i) st ≡ Err k.UnifyReference
+  pub ref-no-place : (i : ℕ) (e : P.T) (rest : List P.T) → st.targets ≡ e ∷ rest → slice_get st.heap i ≡ None → unify_row P sigs ctx mode (u_ref i) st ≡ Err k.UnifyReference
   unfolding unify_row
   ref-no-place i e rest is at = rw (is, at) refl
 
-  differ : (e f : Tree) → (f ≡ e → ⊥) → same_tree f e ≡ false
-  differ e f h = go (same_tree f e) refl
-    where
-      go : (b : Bool) → same_tree f e ≡ b → same_tree f e ≡ false
-      go true is = absurd (h (same_tree-true f e is))
-      go false is = is
+  module _ {head : P.T → Option ℕ} {operands : P.T → List P.T} (parts : Parts P head operands) (i : ℕ) (e f : P.T) (rest : List P.T) (is : st.targets ≡ e ∷ rest) (at : slice_get st.heap i ≡ Some f) where
+    pub ref-other : (f ≡ e → ⊥) → unify_row P sigs ctx mode (u_ref i) st ≡ Err k.UnifyReference
+    unfolding unify_row
+    ref-other h = rw (is, at, differ parts f e h) refl
 
-  pub ref-other : (i : ℕ) (e f : Tree) (rest : List Tree) → st.targets ≡ e ∷ rest → slice_get st.heap i ≡ Some f → (f ≡ e → ⊥) → unify_row strict sigs ctx mode (u_ref i) st ≡ Err k.UnifyReference
-  unfolding unify_row
-  ref-other i e f rest is at h = rw (is, at, differ e f h) refl
-
-  pub ref-row : (i : ℕ) (e f : Tree) (rest : List Tree) → st.targets ≡ e ∷ rest → slice_get st.heap i ≡ Some f → f ≡ e → unify_row strict sigs ctx mode (u_ref i) st ≡ Ok (with_targets st rest)
-  unfolding unify_row
-  ref-row i e f rest is at same = rw (is, at, same, same_tree-refl e) refl
+    pub ref-row : f ≡ e → unify_row P sigs ctx mode (u_ref i) st ≡ Ok (with_targets st rest)
+    unfolding unify_row
+    ref-row same = rw (is, at, same, parts.itself e) refl
 
   -- ---- UDummy
 
-  pub dummy-no-target : (s : ℕ) → st.targets ≡ [] → unify_row strict sigs ctx mode (u_dummy s) st ≡ Err k.UnifyRest
+  pub dummy-no-target : (s : ℕ) → st.targets ≡ [] → unify_row P sigs ctx mode (u_dummy s) st ≡ Err k.UnifyRest
   unfolding unify_row
   dummy-no-target s e = rw e refl
 
-  pub dummy-other : (s : ℕ) (e : Tree) (rest : List Tree) → st.targets ≡ e ∷ rest → is_fresh strict sigs ctx s e st.apart ≡ false → unify_row strict sigs ctx mode (u_dummy s) st ≡ Err k.UnifyDummy
+  pub dummy-other : (s : ℕ) (e : P.T) (rest : List P.T) → st.targets ≡ e ∷ rest → is_fresh P sigs ctx s e st.apart ≡ false → unify_row P sigs ctx mode (u_dummy s) st ≡ Err k.UnifyDummy
   unfolding unify_row
   dummy-other s e rest is h = rw (is, h) refl
 
-  pub dummy-row : (s : ℕ) (e : Tree) (rest : List Tree) → st.targets ≡ e ∷ rest → is_fresh strict sigs ctx s e st.apart ≡ true
-      → unify_row strict sigs ctx mode (u_dummy s) st ≡ Ok (record (with_targets st rest) { heap = st.heap ++ e ∷ []; apart = st.apart ++ e ∷ [] })
+  pub dummy-row : (s : ℕ) (e : P.T) (rest : List P.T) → st.targets ≡ e ∷ rest → is_fresh P sigs ctx s e st.apart ≡ true
+      → unify_row P sigs ctx mode (u_dummy s) st ≡ Ok (record (with_targets st rest) { heap = st.heap ++ e ∷ []; apart = st.apart ++ e ∷ [] })
   unfolding unify_row
   dummy-row s e rest is h = rw (is, h) refl
 
   -- ---- UHyp
 
-  pub hyp-target : is_empty st.targets ≡ false → unify_row strict sigs ctx mode u_hyp st ≡ Err k.UnifyRest
+  pub hyp-target : is_empty st.targets ≡ false → unify_row P sigs ctx mode u_hyp st ≡ Err k.UnifyRest
   unfolding unify_row
   hyp-target h = rw h refl
 
-  pub hyp-stop : (rule : K) → is_empty st.targets ≡ true → next_hypothesis mode st.items ≡ Err rule → unify_row strict sigs ctx mode u_hyp st ≡ Err rule
+  pub hyp-stop : (rule : K) → is_empty st.targets ≡ true → next_hypothesis mode st.items ≡ Err rule → unify_row P sigs ctx mode u_hyp st ≡ Err rule
   unfolding unify_row
   hyp-stop rule h is = rw (h, is) refl
 
-  pub hyp-row : (e : Tree) (rest : List (Item Tree)) → is_empty st.targets ≡ true → next_hypothesis mode st.items ≡ Ok (e, rest) → unify_row strict sigs ctx mode u_hyp st ≡ Ok (record (with_targets st (e ∷ [])) { items = rest })
+  pub hyp-row : (e : P.T) (rest : List (Item P.T)) → is_empty st.targets ≡ true → next_hypothesis mode st.items ≡ Ok (e, rest) → unify_row P sigs ctx mode u_hyp st ≡ Ok (record (with_targets st (e ∷ [])) { items = rest })
   unfolding unify_row
   hyp-row e rest h is = rw (h, is) refl
 
   -- ---- END
 
-  pub end-target : is_empty st.targets ≡ false → unify_row strict sigs ctx mode u_end st ≡ Err k.UnifyRest
+  pub end-target : is_empty st.targets ≡ false → unify_row P sigs ctx mode u_end st ≡ Err k.UnifyRest
   unfolding unify_row
   end-target h = rw h refl
 
-  pub end-left : is_empty st.targets ≡ true → nothing_left mode st.items ≡ false → unify_row strict sigs ctx mode u_end st ≡ Err k.UnifyRest
+  pub end-left : is_empty st.targets ≡ true → nothing_left mode st.items ≡ false → unify_row P sigs ctx mode u_end st ≡ Err k.UnifyRest
   unfolding unify_row
   end-left h l = rw (h, l) refl
 
-  pub end-row : is_empty st.targets ≡ true → nothing_left mode st.items ≡ true → unify_row strict sigs ctx mode u_end st ≡ Ok st
+  pub end-row : is_empty st.targets ≡ true → nothing_left mode st.items ≡ true → unify_row P sigs ctx mode u_end st ≡ Ok st
   unfolding unify_row
   end-row h l = rw (h, l) refl
 

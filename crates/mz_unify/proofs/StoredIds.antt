@@ -6,7 +6,7 @@ use Rattle.std.specs.Option.{option_map}
 use Rattle.std.specs.Prelude.{reverse, slice_get, ◌==◌, IfSome, option_to_list}
 use Rattle.std.proofs.lemmas.List.{reverse-append, map-append, reverse-reverse, length-map, length-reverse}
 use Rattle.mz_logic.specs.Tree.{Tree, listed}
-use Rattle.mz_store.specs.Sharing.{Sharing, tree_of, IsIn, AreIn, KeepsIds, trees_of}
+use Rattle.mz_store.specs.Sharing.{Sharing, tree_of, IsIn, AreIn, KeepsIds, trees_of, operands_of}
 use Rattle.mz_store.specs.declared.item.Id.{Id}
 use Rattle.mz_store.specs.declared.item.Item.{Item as Kept}
 use Rattle.mz_store.specs.declared.item.Item.TheVariants.{Proof}
@@ -64,6 +64,10 @@ module _ (s : Sharing) where
   pub stack-operands : (xs args : List Id) → stack_at s (xs ++ reverse args) ≡ trees_at s args ++ stack_at s xs
   stack-operands xs args =
       ap (trees_at s) (reverse-append xs (reverse args) ∙ ap (λ (ys : List Id). ys ++ reverse xs) (reverse-reverse args)) ∙ trees-append args (reverse xs)
+
+  -- the operands of an application, put there
+  pub put-there : (e : Tree) (left args : List Id) → trees_of s args ≡ operands_of e → listed (operands_of e) ++ stack_at s left ≡ stack_at s (left ++ reverse args)
+  put-there e left args are = ap (λ (es : List Tree). es ++ stack_at s left) (ap listed (sym are) ∙ listed-trees args) ∙ sym (stack-operands left args)
 
   pub items-push : (xs : List Kept) (x : Kept) → items_at s (xs ++ x ∷ []) ≡ item_at s x ∷ items_at s xs
   items-push xs x = ap (map (item_at s)) (reverse-append xs (x ∷ []))

@@ -80,11 +80,11 @@ abbrev pub UnlessMem : Unified → Type 0 → Type 0
 UnlessMem said P = Says said (λ _. P) (λ _ _. P)
 
 -- the run ends with this heap and these items left
-abbrev pub EndsWith : Result (UnifyState Tree) (ℕ × K) → List Tree → List (Item Tree) → Type 0
-EndsWith r heap items = (u : UnifyState Tree) × (r ≡ Ok u) × (u.heap ≡ heap) × (u.items ≡ items)
+abbrev pub EndsWith : {T : Type 0} → Result (UnifyState T) (ℕ × K) → List T → List (Item T) → Type 0
+EndsWith {T} r heap items = (u : UnifyState T) × (r ≡ Ok u) × (u.heap ≡ heap) × (u.items ≡ items)
 
 -- what is said is what the run comes to
-abbrev pub IsRun : Result (UnifyState Tree) (ℕ × K) → Unified → List Tree → List (Item Tree) → Type 0
+abbrev pub IsRun : {T : Type 0} → Result (UnifyState T) (ℕ × K) → Unified → List T → List (Item T) → Type 0
 IsRun r said heap items = Says said (λ _. EndsWith r heap items) (λ at rule. r ≡ Err (at, rule))
 
 -- of the stack xs so many are taken, the top ones, and ys are left

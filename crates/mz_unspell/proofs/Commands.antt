@@ -1,40 +1,19 @@
 -- Commands of a stream, and what an expression is that they begin.
-use Rattle.std.proofs.Common.{ℕ, ◌≡◌, ◌≤◌, ◌<◌, ◌+◌, ◌/◌, ◌%◌, Bool, true, false, cond, eqb, ltb, List, [], ◌∷◌, length, drop, slice_get, Some, None, Ok, Err, refl, ap, sym, ◌∙◌, subst, inl, inr, arith, length-drop}
-use Rattle.std.proofs.lemmas.Bool.{eqb-true, ltb-false}
-use Rattle.byteorder.specs.Endian.{little_number}
+use Rattle.std.proofs.Common.{ℕ, ◌≡◌, ◌≤◌, ◌<◌, ◌+◌, Bool, true, false, cond, eqb, List, [], ◌∷◌, length, drop, slice_get, Some, None, Ok, Err, refl, ap, sym, ◌∙◌, subst, inl, inr, arith, length-drop}
+use Rattle.std.proofs.lemmas.Bool.{eqb-true}
 use Rattle.mz_cmd.specs.declared.command.Cmd.{Cmd}
 use Rattle.mz_cmd.specs.declared.command.CmdFault.{CmdFault}
-use Rattle.mz_cmd.specs.declared.command.CmdFault.TheVariants.{Cut, Unknown}
 use Rattle.mz_cmd.specs.declared.code.UnifyCode.{UnifyCode}
 use Rattle.mz_cmd.specs.declared.code.UnifyCode.TheVariants as codes
-use Rattle.mz_cmd.specs.Codes.{is_known, unify_code}
-use Rattle.mz_cmd.specs.Spelling.{operand_len}
+use Rattle.mz_cmd.specs.Codes.{unify_code}
 use Rattle.mz_cmd.specs.Reading.{first_command}
 use Rattle.mz_logic.specs.Tree.{Tree, Trees, var, app}
 use Rattle.mz_logic.specs.Signature.{Signature}
 use Rattle.mz_unification.specs.Streams.{StreamKind, of_assertion, of_definition, UnifyCommand, u_term, u_term_save, u_ref, u_dummy, u_hyp, u_end, unify_command, command_in, IsEnd, StreamIs}
+use Rattle.mz_unification.proofs.Offered.{command-long}
 use Rattle.mz_unification.specs.Spells.{Marks, marked, with_dummy, HasOperands, Spells, SpellsAll}
 
 -- ---- bytes
-
--- a command takes a byte or more, all of them there
-first_takes : (bytes : List ℕ) (c : Cmd) → first_command bytes ≡ Ok c → (1 ≤ c.len) × (c.len ≤ length bytes)
-first_takes [] c e = absurd cc
-first_takes (head ∷ rest) c e = go (ltb (length rest) n) (is_known (head % 64)) refl e
-  where
-    n : ℕ
-    n = operand_len (head / 64)
-
-    made : Cmd
-    made = record { code = head % 64; value = little_number n rest; len = n + 1 }
-
-    go : (cut known : Bool) → ltb (length rest) n ≡ cut → cond cut (Err Cut) (cond known (Ok made) (Err Unknown)) ≡ Ok c → (1 ≤ c.len) × (c.len ≤ length (head ∷ rest))
-    go true known f is = absurd cc
-    go false false f is = absurd cc
-    go false true f is =
-        let same : made ≡ c = cc in
-        let room : n ≤ length rest = ltb-false _ _ f in
-        subst (λ (d : Cmd). (1 ≤ d.len) × (d.len ≤ length (head ∷ rest))) same (omega arith, omega arith)
 
 cmd_is : (bytes : List ℕ) (c d : Cmd) → first_command bytes ≡ Ok c → first_command bytes ≡ Ok d → c ≡ d
 cmd_is bytes c d p q = cc
@@ -83,7 +62,7 @@ one_more kind bytes us c k read code h = by us h
     by [] (d, read', is) = absurd (never kind k (plain u_end (subst (λ (x : Cmd). unify_command kind x.code x.value ≡ Some u_end) (cmd_is bytes d c read' read) is)))
     by (u ∷ rest) (d, read', is, going, others) =
         let same : d ≡ c = cmd_is bytes d c read' read in
-        let takes = first_takes bytes c read in (
+        let takes = command-long bytes c read in (
           u,
           rest,
           refl,
@@ -94,7 +73,7 @@ one_more kind bytes us c k read code h = by us h
 
 -- all of it is there
 pub within : (bytes : List ℕ) (c : Cmd) → first_command bytes ≡ Ok c → c.len ≤ length bytes
-within bytes c read = (let takes = first_takes bytes c read in takes.1)
+within bytes c read = (let takes = command-long bytes c read in takes.1)
 
 -- ---- which command a code is
 

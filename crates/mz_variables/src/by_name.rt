@@ -11,6 +11,7 @@ use crate::index::NameIndex;
 use crate::variables::{Variable, dep_places, is_bound};
 use mz_grammar::Lexeme;
 use mz_logic::Deps;
+use mz_names::Hashing;
 use std::alloc::{AllocError, Global};
 
 /// Fewer variables than this are gone through faster than an index of them is made.
@@ -24,6 +25,7 @@ const FEW: usize = 16;
 /// Where there is no memory.
 pub fn places_of<'a>(
     alloc: Global,
+    hashing: Hashing,
     variables: &[Variable<'_, 'a>],
     are_asked: bool,
 ) -> Result<Option<NameIndex<'a>>, AllocError>
@@ -32,7 +34,7 @@ pub fn places_of<'a>(
     if !are_asked || variables.len() < FEW {
         return Ok(None);
     }
-    let mut places = NameIndex::new(alloc);
+    let mut places = NameIndex::new(alloc, hashing);
     for (i, variable) in variables.iter().enumerate() {
         let is_new = add_place(&mut places, i, variable)?;
         if !is_new {

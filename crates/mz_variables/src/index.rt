@@ -3,13 +3,14 @@ ghost use Rattle.std.specs.Prelude.{◌≡◌, List, ℕ, None, Some, [], IfOk, 
 ghost use Rattle.mz_tokens.specs.Places.{place_of};
 
 use indexmap::IndexMap;
+use mz_names::Hashing;
 use std::alloc::{AllocError, Global};
 use std::marker::Model;
 
 /// Names of variables, borrowed from the text, with a place each.
 #[derive(Drop)]
 pub struct NameIndex<'a> {
-    places: IndexMap<&'a [u8], u32>,
+    places: IndexMap<&'a [u8], u32, Hashing>,
 }
 
 impl<'a> Model for NameIndex<'a> {
@@ -22,11 +23,11 @@ impl<'a> Model for NameIndex<'a> {
 
 impl<'a> NameIndex<'a> {
     /// No names.
-    pub fn new(alloc: Global) -> NameIndex<'a>
+    pub fn new(alloc: Global, hashing: Hashing) -> NameIndex<'a>
         ensures { result ≡ [] }
     {
         NameIndex {
-            places: IndexMap::new(alloc),
+            places: IndexMap::with_hasher(alloc, hashing),
         }
     }
 

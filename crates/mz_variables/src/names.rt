@@ -3,6 +3,7 @@ ghost use Rattle.std.specs.Prelude.{◌≡◌, ◌<◌, ◌++◌, ◌∷◌, [],
 ghost use Rattle.mz_names.specs.Names.{IsNew, number_of as number_lem};
 
 use indexmap::IndexSet;
+use mz_names::Hashing;
 use std::alloc::{AllocError, Global};
 use std::marker::Model;
 
@@ -15,7 +16,7 @@ pub struct Names<'a> {
     // the first ones
     first: Vec<&'a [u8]>,
     // those behind them
-    others: IndexSet<&'a [u8]>,
+    others: IndexSet<&'a [u8], Hashing>,
 }
 
 impl<'a> Model for Names<'a> {
@@ -28,12 +29,12 @@ impl<'a> Model for Names<'a> {
 
 impl<'a> Names<'a> {
     /// No names.
-    pub fn new(alloc: Global) -> Names<'a>
+    pub fn new(alloc: Global, hashing: Hashing) -> Names<'a>
         ensures { result ≡ [] }
     {
         Names {
             first: Vec::new(alloc),
-            others: IndexSet::new(alloc),
+            others: IndexSet::with_hasher(alloc, hashing),
         }
     }
 

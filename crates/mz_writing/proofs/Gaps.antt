@@ -6,7 +6,7 @@ use Rattle.mz_cmd.specs.declared.code.ProofCode.TheVariants as code
 use Rattle.mz_cmd.specs.declared.command.Cmd.{Cmd}
 use Rattle.mz_cmd.specs.Codes.{proof_byte, proof_code, is_known}
 use Rattle.mz_cmd.specs.Reading.{first_command}
-use Rattle.mz_cmd.proofs.Offered.{Spells-again}
+use Rattle.mz_cmd.proofs.Offered.{Spells-again, shortest-spells}
 use Rattle.mz_logic.specs.Declaration.{Declaration}
 use Rattle.mz_logic.specs.declared.binder.Binder.{Binder}
 use Rattle.mz_unification.specs.Profile.{plain}
@@ -16,7 +16,7 @@ use Rattle.mz_soundness.specs.MachineState.{Kind, is_axiom, is_theorem, is_defin
 use Rattle.mz_steps.specs.Endings.{spelled_body, MayStand}
 use Rattle.mz_steps.specs.Steps.{Step, Steps, command_bytes}
 use Rattle.mz_steps.specs.Works.{Work, work_start}
-use Rattle.mz_steps.proofs.Offered.{shortest-spells, drop-front}
+use Rattle.mz_steps.proofs.Offered.{drop-front}
 use Rattle.mz_writing.specs.Gaps.{LeaveGap, Cite, SaysItsGaps, BodiesSayTheirGaps, OnlyDraftsLeaveGaps}
 
 -- ---- members of a list of commands

@@ -52,6 +52,8 @@ pub struct World {
     env: Env,
     notations: Notations,
     scope: Scope,
+    // the names of the terms, by their numbers
+    terms: Vec<Bytes>,
     variables: Vec<Bytes>,
     page: Vec<u8>,
 }
@@ -118,6 +120,7 @@ impl World {
             env: Env::new(alloc),
             notations: Notations::new(alloc),
             scope: Scope::new(alloc),
+            terms: Vec::new(alloc),
             variables: Vec::new(alloc),
             page: Vec::new(alloc),
         }
@@ -149,12 +152,14 @@ impl World {
             },
             form: TermForm::Plain,
         };
-        let number = self.notations.names().len();
+        let number = self.notations.name_count();
         self.declare(Decl::Term(decl))?;
         let name = name.as_bytes();
         if number > 1000 || !is_identifier(name) || self.notations.names_term(name) {
             return Err(AllocError);
         }
+        let copy = Bytes::copy_of(self.alloc, name)?;
+        self.terms.push(copy)?;
         match self.notations.add_term_name(&self.env, name, number as u32) {
             Ok(()) => Ok(()),
             Err(_) => Err(AllocError),
@@ -245,9 +250,9 @@ impl World {
     }
 
     fn term_name(&mut self, t: u32) -> Result<(), AllocError> {
-        match self.notations.names().get(t as usize) {
+        match self.terms.get(t as usize) {
             None => Err(AllocError),
-            Some(entry) => self.page.extend_from_slice(entry.name.as_slice()),
+            Some(name) => self.page.extend_from_slice(name.as_slice()),
         }
     }
 

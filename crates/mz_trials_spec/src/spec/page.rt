@@ -1,7 +1,7 @@
 // What a text is read as, written out.
 use mz_lex::S;
 use mz_logic::{Binder, Decl, Deps, Expr, Exprs, TermDecl, TermForm, ThmDecl, ThmForm};
-use mz_spec::{Spec, SpecRead, SpecRefusal, read_spec};
+use mz_spec::{Hashing, Spec, SpecRead, SpecRefusal, read_spec};
 use std::alloc::{AllocError, Global};
 use std::process::Abort;
 
@@ -164,7 +164,7 @@ fn told(alloc: Global, ground: u32, text: &[u8]) -> Result<Vec<u8>, AllocError> 
         alloc,
         bytes: Vec::new(alloc),
     };
-    match read_spec(alloc, text) {
+    match read_spec(alloc, Hashing::fixed(), text) {
         SpecRead::Spec(spec) => page.spec(text, &spec, ground)?,
         SpecRead::Refused(refusal) => page.refusal(refusal, ground)?,
         SpecRead::Mem => return Err(AllocError),
@@ -216,7 +216,7 @@ fn fault_of(alloc: Global, long: Long) -> Result<(u32, u32, u32), AllocError> {
     if text.len() > 100_000 {
         return Err(AllocError);
     }
-    match read_spec(alloc, &text) {
+    match read_spec(alloc, Hashing::fixed(), &text) {
         SpecRead::Spec(_) => Ok((0, 0, 0)),
         SpecRead::Refused(refusal) => {
             Ok((rule_number(refusal.rule), refusal.statement, refusal.at))

@@ -1,6 +1,10 @@
 use Rattle.std.proofs.Common.{◌∙◌, ◌<◌, sym, refl, true≢false, arith}
 use Rattle.mz_free.proofs.Owning.{own-more, own-all}
+use Rattle.mz_free.proofs.Sharing.{none-has}
 use Rattle.mz_free.proofs.apart.all_name_own.Goals as goal
+
+pub returns-then-is_empty : goal.returns-then-is_empty
+returns-then-is_empty c = (λ _ i x p at named has. absurd (none-has c.args.owned.now x (c.is_empty.ensures.0 c.if-is_empty.true) has), λ _. refl)
 
 pub loop-i-init : goal.loop-i-init
 loop-i-init c = λ k below. absurd (let e : k < 0 = below in omega (arith, e))

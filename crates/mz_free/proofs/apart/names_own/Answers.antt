@@ -9,6 +9,6 @@ pub returns : goal.returns
 returns c =
     let p = get_or c.args.params.now c.args.i c.index-params-i.result in
     own-by c.args.params.now c.args.es.now c.args.ctx.now c.args.owned.now c.args.i p
-    (slice_get-get_or c.args.params.now c.args.i c.index-params-i.result c.requires) c.cover_operands_at.new.covered c.own.new.owned
-    (subst (λ (ys : List ℕ). (x : ℕ) → Contains c.cover_operands_at.new.covered x ↔ (Contains ys x ⊎ IsOperandAt c.args.params.now c.args.es.now p.deps x)) c.new-its.ensures c.in_ok-cover_operands_at.ensures.has)
+    (slice_get-get_or c.args.params.now c.args.i c.index-params-i.result c.requires) c.add_operands_at.new.covered c.own.new.owned
+    (subst (λ (ys : List ℕ). (x : ℕ) → Contains c.add_operands_at.new.covered x ↔ (Contains ys x ⊎ IsOperandAt c.args.params.now c.args.es.now p.deps x)) c.new-its.ensures c.in_ok-add_operands_at.ensures.has)
     c.in_ok-own.ensures.has (tree c.in-Some.e.now) c.in-Some.ensures.operand c.names_other.result c.names_other.ensures

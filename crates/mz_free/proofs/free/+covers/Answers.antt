@@ -53,12 +53,12 @@ covers-returns-else-not-covers_operands_at-clause-answer t c =
 pub covers_operand-returns-then-not-holds-clause-answer : goal.covers_operand-returns-then-not-holds-clause-answer
 covers_operand-returns-then-not-holds-clause-answer t c =
     subst (λ b. IsTrue b ↔ ((x : ℕ) → IsFreeOperand (signatures c.args.env.now) c.args.ctx.now x c.args.params.now c.args.es.now c.args.param.now (tree c.args.operand.now) → Contains c.args.covered.now x)) c.if-not-holds.true
-    (operand-in (signatures c.args.env.now) c.args.ctx.now c.args.params.now c.args.es.now c.args.param.now (tree c.args.operand.now) c.args.covered.now _ c.in_ok-cover_operands_at.ensures.has c.if-param.false c.in_ok-holds.holds c.in_ok-holds.ensures.answer)
+    (operand-in (signatures c.args.env.now) c.args.ctx.now c.args.params.now c.args.es.now c.args.param.now (tree c.args.operand.now) c.args.covered.now _ c.in_ok-add_operands_at.ensures.has c.if-param.false c.in_ok-holds.holds c.in_ok-holds.ensures.answer)
 
 pub covers_operand-returns-clause-answer : goal.covers_operand-returns-clause-answer
 covers_operand-returns-clause-answer t c =
     subst (λ b. IsTrue b ↔ ((x : ℕ) → IsFreeOperand (signatures c.args.env.now) c.args.ctx.now x c.args.params.now c.args.es.now c.args.param.now (tree c.args.operand.now) → Contains c.args.covered.now x)) c.if-not-holds.false
-    (operand-in (signatures c.args.env.now) c.args.ctx.now c.args.params.now c.args.es.now c.args.param.now (tree c.args.operand.now) c.args.covered.now _ c.in_ok-cover_operands_at.ensures.has c.if-param.false c.in_ok-holds.holds c.in_ok-holds.ensures.answer)
+    (operand-in (signatures c.args.env.now) c.args.ctx.now c.args.params.now c.args.es.now c.args.param.now (tree c.args.operand.now) c.args.covered.now _ c.in_ok-add_operands_at.ensures.has c.if-param.false c.in_ok-holds.holds c.in_ok-holds.ensures.answer)
 
 pub covers_operands-returns-then-not-holds-clause-answer : goal.covers_operands-returns-then-not-holds-clause-answer
 covers_operands-returns-then-not-holds-clause-answer t c = (

@@ -4,15 +4,15 @@ use Rattle.std.proofs.lemmas.List.{length-map}
 use Rattle.std.proofs.lemmas.Option.{slice_get-get_or}
 use Rattle.mz_logic.specs.Words.{word_bound, word_deps}
 use Rattle.mz_logic.specs.declared.word.Word.{Word}
-use Rattle.mz_store.specs.Sharing.{tree_of}
+use Rattle.mz_store.specs.Sharing.{tree_of, deps_of}
 use Rattle.mz_store.specs.declared.item.Id.{Id}
 use Rattle.mz_unify.specs.Stored.{trees_at}
 use Rattle.mz_unify.proofs.Offered.{is-in-at, tree-at}
 use Rattle.mz_unification.proofs.Offered.{some_is}
 use Rattle.mz_earlier.specs.Before.{signatures_of}
 use Rattle.mz_layout.specs.Rows.{params_of}
-use Rattle.mz_earlier.proofs.Offered.{is-there, place-below, place-fits, decides-first, decides-end, decides-not, decides-next, row-asked}
-use Rattle.mz_machine.proofs.Apartness.{apart-at-once}
+use Rattle.mz_earlier.proofs.Offered.{apart-at-once, is-there, place-below, place-fits, decides-first, decides-end, decides-not, decides-next, row-asked}
+use Rattle.mz_machine.proofs.Apartness.{tells-v}
 use Rattle.mz_machine.proofs.apart.is_apart.Goals as goal
 
 pub deps-requires : goal.deps-requires
@@ -29,8 +29,11 @@ returns-then-deps-all-eq0 c e p eat pat =
     let at = slice_get-get_or c.args.operands.now c.args.i _ there in
     let (w, wat) = is-there ws c.args.i c.requires.place in
     let none = ap (λ (n : ℕ). bit_and n c.args.all) (sym c.deps.ensures.kept) ∙ c.if-deps-all-eq0.true in
-    sym (apart-at-once (signatures_of c.args.earlier.now) s c.args.operands.now ws c.requires.over c.requires.mode c.requires.ids c.requires.many c.requires.fit c.args.bound.now c.requires.bound c.args.all c.requires.all
-    c.args.i _ w at wat none)
+    let sigs = signatures_of c.args.earlier.now in
+    let many : length es ≡ length ws = length-map c.args.operands.now (λ (i : Id). tree_of s i.0) ∙ c.requires.many in
+    sym (apart-at-once sigs s.context c.args.operands.now es (λ id. tree_of s id.0) (λ id. deps_of s id.0) (tree-at s c.args.operands.now)
+    (λ k id kat. tells-v sigs s id.0 c.requires.over c.requires.mode (is-in-at s c.args.operands.now k id c.requires.ids kat))
+    ws c.requires.many many c.requires.fit c.args.bound.now c.requires.bound c.args.all c.requires.all c.args.i _ w at wat none)
     ∙ row-asked s.context es ws c.args.i w _ e p wat (tree-at s c.args.operands.now c.args.i _ at) eat pat
 
 pub places-init : goal.places-init

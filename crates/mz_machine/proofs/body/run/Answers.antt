@@ -1,7 +1,9 @@
 use Rattle.std.proofs.Common.{◌+◌, ◌∙◌, length, sym, ap, arith}
 use Rattle.mz_machine.specs.Running.{machine_of}
 use Rattle.mz_machine.specs.Steps.{tables_for, heading_for}
-use Rattle.mz_machine.proofs.BodyUnderway.{at-first, cut-whole, long-whole, end-whole, end-refused, end-many, refused-whole, refused-many, goes-on, further, ends-there, goes-further}
+use Rattle.mz_unification.specs.Profile.{plain}
+use Rattle.mz_unification.proofs.Offered.{further}
+use Rattle.mz_earlier.proofs.Offered.{at-first, cut-whole, long-whole, end-whole, end-refused, end-many, refused-whole, refused-many, goes-on, ends-there, goes-further}
 use Rattle.mz_machine.proofs.BodyRunning.{itself, goes, row-over, steps-over, most-over, end-answer, end-counts, stop-answer, stop-counts, more-steps, within-steps}
 use Rattle.mz_machine.proofs.GapWalk.{gap-at-first, gap-ends, gap-goes-on}
 use Rattle.mz_machine.proofs.body.run.Goals as goal
@@ -14,54 +16,38 @@ commands-init g c =
       in_range = omega arith;
       running = c.requires.running;
       same = itself v;
-      underway = at-first v.gaps (tables_for v) (heading_for v) c.args.from bytes v.state c.args.steps.now;
+      underway = at-first (plain v.gaps) (tables_for v) (heading_for v) c.args.from bytes v.state c.args.steps.now;
       gap = gap-at-first bytes v.sorry c.requires.fresh;
       most = omega arith;
     }
 
 pub returns-in_default-clause-run : goal.returns-in_default-clause-run
 returns-in_default-clause-run g c =
-    let u = machine_of c.args.setting.now c.args.parts.now in
-    let v = machine_of c.args.setting.now c.commands.parts in
-    let same = c.commands.invariant.same in
     let on = c.commands.invariant.underway in
-    let place = c.args.from + c.commands.at in
-    (cut-whole u.gaps (tables_for u) (heading_for u) c.args.from c.args.bytes.now u.state c.args.steps.now c.commands.at v.state c.commands.steps on c.in_default.field-0 (sym c.in_default.ensures.computed)).0
+    (cut-whole on c.in_default.field-0 (sym c.in_default.ensures.computed)).0
 
 pub returns-in_default-clause-steps : goal.returns-in_default-clause-steps
 returns-in_default-clause-steps g c =
-    let u = machine_of c.args.setting.now c.args.parts.now in
-    let v = machine_of c.args.setting.now c.commands.parts in
-    let same = c.commands.invariant.same in
     let on = c.commands.invariant.underway in
-    let place = c.args.from + c.commands.at in
-    (cut-whole u.gaps (tables_for u) (heading_for u) c.args.from c.args.bytes.now u.state c.args.steps.now c.commands.at v.state c.commands.steps on c.in_default.field-0 (sym c.in_default.ensures.computed)).1
+    (cut-whole on c.in_default.field-0 (sym c.in_default.ensures.computed)).1
 
 pub returns-then-next-bytes-clause-run : goal.returns-then-next-bytes-clause-run
 returns-then-next-bytes-clause-run g c =
-    let u = machine_of c.args.setting.now c.args.parts.now in
-    let v = machine_of c.args.setting.now c.commands.parts in
-    let same = c.commands.invariant.same in
     let on = c.commands.invariant.underway in
-    let place = c.args.from + c.commands.at in
     let cmd = c.in-Ok.cmd in
     let read = sym c.in-Ok.ensures.computed in
     let ahead = further c.args.bytes.now c.commands.at cmd read c.commands.invariant.in_range in
     let more = goes-further c.args.bytes.now c.commands.at cmd.len (λ whole. c.if-next-bytes.true (ap (λ n. c.commands.at + n) c.from.ensures ∙ sym whole)) ahead.1 in
-    (long-whole u.gaps (tables_for u) (heading_for u) c.args.from c.args.bytes.now u.state c.args.steps.now c.commands.at v.state c.commands.steps on cmd read c.if-cmd-eq-END.true more).0
+    (long-whole on cmd read c.if-cmd-eq-END.true more).0
 
 pub returns-then-next-bytes-clause-steps : goal.returns-then-next-bytes-clause-steps
 returns-then-next-bytes-clause-steps g c =
-    let u = machine_of c.args.setting.now c.args.parts.now in
-    let v = machine_of c.args.setting.now c.commands.parts in
-    let same = c.commands.invariant.same in
     let on = c.commands.invariant.underway in
-    let place = c.args.from + c.commands.at in
     let cmd = c.in-Ok.cmd in
     let read = sym c.in-Ok.ensures.computed in
     let ahead = further c.args.bytes.now c.commands.at cmd read c.commands.invariant.in_range in
     let more = goes-further c.args.bytes.now c.commands.at cmd.len (λ whole. c.if-next-bytes.true (ap (λ n. c.commands.at + n) c.from.ensures ∙ sym whole)) ahead.1 in
-    (long-whole u.gaps (tables_for u) (heading_for u) c.args.from c.args.bytes.now u.state c.args.steps.now c.commands.at v.state c.commands.steps on cmd read c.if-cmd-eq-END.true more).1
+    (long-whole on cmd read c.if-cmd-eq-END.true more).1
 
 pub returns-then-cmd-eq-END-clause-run : goal.returns-then-cmd-eq-END-clause-run
 returns-then-cmd-eq-END-clause-run g c =
@@ -72,13 +58,12 @@ returns-then-cmd-eq-END-clause-run g c =
     let place = c.args.from + c.commands.at in
     let cmd = c.in-Ok.cmd in
     let read = sym c.in-Ok.ensures.computed in
-    let ahead = further c.args.bytes.now c.commands.at cmd read c.commands.invariant.in_range in
     let none = ends-there c.args.bytes.now c.commands.at cmd.len (sym c.if-next-bytes.false ∙ ap (λ n. c.commands.at + n) c.from.ensures) in
     rw c.ended.ensures
     (end-answer u v c.args.bytes.now _ place c.finish.result same
     (gap-ends c.args.bytes.now c.commands.at cmd v.sorry read c.if-cmd-eq-END.true none c.commands.invariant.gap)
-    (λ last done. end-whole u.gaps (tables_for u) (heading_for u) c.args.from c.args.bytes.now u.state c.args.steps.now c.commands.at v.state c.commands.steps on cmd read last c.if-cmd-eq-END.true none done)
-    (λ d done. end-refused u.gaps (tables_for u) (heading_for u) c.args.from c.args.bytes.now u.state c.args.steps.now c.commands.at v.state c.commands.steps on cmd read d c.if-cmd-eq-END.true none done) c.finish.ensures.run)
+    (λ last done. end-whole on cmd read last c.if-cmd-eq-END.true none done)
+    (λ d done. end-refused on cmd read d c.if-cmd-eq-END.true none done) c.finish.ensures.run)
 
 pub returns-then-cmd-eq-END-clause-steps : goal.returns-then-cmd-eq-END-clause-steps
 returns-then-cmd-eq-END-clause-steps g c =
@@ -89,19 +74,16 @@ returns-then-cmd-eq-END-clause-steps g c =
     let place = c.args.from + c.commands.at in
     let cmd = c.in-Ok.cmd in
     let read = sym c.in-Ok.ensures.computed in
-    let ahead = further c.args.bytes.now c.commands.at cmd read c.commands.invariant.in_range in
     let none = ends-there c.args.bytes.now c.commands.at cmd.len (sym c.if-next-bytes.false ∙ ap (λ n. c.commands.at + n) c.from.ensures) in
     rw c.ended.ensures
     (end-counts u v place c.finish.new.steps c.commands.steps _ c.finish.result same c.finish.ensures.steps
-    (λ is. end-many u.gaps (tables_for u) (heading_for u) c.args.from c.args.bytes.now u.state c.args.steps.now c.commands.at v.state c.commands.steps on cmd read c.finish.new.steps c.if-cmd-eq-END.true none is))
+    (λ is. end-many on cmd read c.finish.new.steps c.if-cmd-eq-END.true none is))
 
 pub returns-then-cmd-eq-END-clause-most : goal.returns-then-cmd-eq-END-clause-most
 returns-then-cmd-eq-END-clause-most g c =
     let u = machine_of c.args.setting.now c.args.parts.now in
     let v = machine_of c.args.setting.now c.commands.parts in
     let same = c.commands.invariant.same in
-    let on = c.commands.invariant.underway in
-    let place = c.args.from + c.commands.at in
     let cmd = c.in-Ok.cmd in
     let read = sym c.in-Ok.ensures.computed in
     let ahead = further c.args.bytes.now c.commands.at cmd read c.commands.invariant.in_range in
@@ -119,7 +101,7 @@ returns-in-Err-clause-run g c =
     let read = sym c.in-Ok.ensures.computed in
     rw c.stopped.ensures
     (stop-answer u v c.args.bytes.now _ place cmd (machine_of c.args.setting.now c.advance.new.parts) c.in-Err.stop same
-    (λ d row. refused-whole u.gaps (tables_for u) (heading_for u) c.args.from c.args.bytes.now u.state c.args.steps.now c.commands.at v.state c.commands.steps on cmd read c.if-cmd-eq-END.false d row) (c.in-Err.ensures.row place))
+    (λ d row. refused-whole on cmd read c.if-cmd-eq-END.false d row) (c.in-Err.ensures.row place))
 
 pub returns-in-Err-clause-steps : goal.returns-in-Err-clause-steps
 returns-in-Err-clause-steps g c =
@@ -132,15 +114,13 @@ returns-in-Err-clause-steps g c =
     let read = sym c.in-Ok.ensures.computed in
     rw c.stopped.ensures
     (stop-counts u v place c.advance.new.steps c.commands.steps _ cmd (machine_of c.args.setting.now c.advance.new.parts) c.in-Err.stop same (c.in-Err.ensures.row place) c.in-Err.ensures.steps
-    (λ d row many. refused-many u.gaps (tables_for u) (heading_for u) c.args.from c.args.bytes.now u.state c.args.steps.now c.commands.at v.state c.commands.steps on cmd read c.if-cmd-eq-END.false d c.advance.new.steps row many))
+    (λ d row many. refused-many on cmd read c.if-cmd-eq-END.false d c.advance.new.steps row many))
 
 pub returns-in-Err-clause-most : goal.returns-in-Err-clause-most
 returns-in-Err-clause-most g c =
     let u = machine_of c.args.setting.now c.args.parts.now in
     let v = machine_of c.args.setting.now c.commands.parts in
     let same = c.commands.invariant.same in
-    let on = c.commands.invariant.underway in
-    let place = c.args.from + c.commands.at in
     let cmd = c.in-Ok.cmd in
     let read = sym c.in-Ok.ensures.computed in
     let ahead = further c.args.bytes.now c.commands.at cmd read c.commands.invariant.in_range in
@@ -169,7 +149,7 @@ commands-preserved g c =
       in_range = rw c.from.ensures ahead.1;
       running = c.in-Ok-advance.ensures.running;
       same = goes u v after cmd same (c.in-Ok-advance.ensures.row place).1;
-      underway = rw c.from.ensures (goes-on u.gaps (tables_for u) (heading_for u) c.args.from c.args.bytes.now u.state c.args.steps.now c.commands.at v.state c.commands.steps on cmd read c.if-cmd-eq-END.false after.state c.advance.new.steps (row-over u v place v.state cmd _ same (c.in-Ok-advance.ensures.row place).0) (steps-over u v v.state cmd c.advance.new.steps c.commands.steps same c.in-Ok-advance.ensures.steps));
+      underway = rw c.from.ensures (goes-on on cmd read c.if-cmd-eq-END.false after.state c.advance.new.steps (row-over u v place v.state cmd _ same (c.in-Ok-advance.ensures.row place).0) (steps-over u v v.state cmd c.advance.new.steps c.commands.steps same c.in-Ok-advance.ensures.steps));
       gap = rw c.from.ensures (gap-goes-on c.args.bytes.now c.commands.at cmd v.sorry after.sorry read (c.in-Ok-advance.ensures.row place).1.sorry c.commands.invariant.gap);
       most = rw c.from.ensures (more-steps c.args.steps.now c.commands.steps c.advance.new.steps c.commands.at cmd.len (length u.file) c.commands.invariant.most (most-over u v c.advance.new.steps c.commands.steps same c.in-Ok-advance.ensures.most) ahead.0);
     }

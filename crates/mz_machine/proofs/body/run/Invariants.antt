@@ -1,10 +1,11 @@
 use Rattle.std.specs.Prelude.{◌↔◌}
 use Rattle.std.proofs.Common.{◌≡◌, ◌≤◌, ◌⊎◌, ◌+◌, ◌*◌, ◌-◌, true, length, drop}
 use Rattle.mz_mode.specs.Gaps.{gaps_of}
+use Rattle.mz_unification.specs.Profile.{plain}
 use Rattle.mz_soundness.specs.Sound.{HasGap}
 use Rattle.mz_machine.specs.Steps.{tables_for, heading_for}
 use Rattle.mz_machine.specs.Running.{IsRunning, machine_of}
-use Rattle.mz_machine.proofs.BodyUnderway.{IsUnderway}
+use Rattle.mz_earlier.proofs.Offered.{IsUnderway}
 use Rattle.mz_machine.proofs.BodyRunning.{IsSameBody}
 use Rattle.mz_machine.proofs.body.run.Given as goal
 
@@ -13,7 +14,7 @@ invariant-commands g l = record {
   in_range : l.at ≤ length l.bytes;
   running : IsRunning l.setting l.parts;
   same : IsSameBody (machine_of l.setting l.fn.parts) (machine_of l.setting l.parts);
-  underway : IsUnderway (gaps_of l.setting.mode) (tables_for (machine_of l.setting l.fn.parts)) (heading_for (machine_of l.setting l.fn.parts)) l.from l.bytes (machine_of l.setting l.fn.parts).state l.fn.steps l.at (machine_of l.setting l.parts).state l.steps;
+  underway : IsUnderway (plain (gaps_of l.setting.mode)) (tables_for (machine_of l.setting l.fn.parts)) (heading_for (machine_of l.setting l.fn.parts)) l.from l.bytes (machine_of l.setting l.fn.parts).state l.fn.steps l.at (machine_of l.setting l.parts).state l.steps;
   gap : HasGap l.bytes ↔ ((l.parts.sorry ≡ true) ⊎ HasGap (drop l.at l.bytes));
   most : l.steps ≤ l.fn.steps + l.at * (length l.setting.earlier.file + 1);
 }

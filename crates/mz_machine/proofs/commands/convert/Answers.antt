@@ -1,6 +1,7 @@
 use Rattle.std.proofs.Common.{[], ◌∷◌, refl}
 use Rattle.std.proofs.lemmas.Result.{err_from_is_err_and}
 use Rattle.mz_unify.proofs.Offered.{items-in-both}
+use Rattle.mz_unification.specs.Profile.{strict}
 use Rattle.mz_earlier.specs.Before.{tables_of}
 use Rattle.mz_machine.specs.OverStore.{state_at}
 use Rattle.mz_machine.proofs.RowResults.{sorry-row}
@@ -21,4 +22,4 @@ returns-in_ok-push-in-Ok-conv_save-clause-ids g c =
 
 pub returns-in-Sorry-clause-row : goal.returns-in-Sorry-clause-row
 returns-in-Sorry-clause-row g c at value hyps =
-    rw c.in-Sorry.is (sorry-row (tables_of c.args.earlier.now) at value (state_at c.args.store.now c.args.heap.now.items c.args.stack.now.items hyps))
+    rw c.in-Sorry.is (sorry-row strict (tables_of c.args.earlier.now) at value (state_at c.args.store.now c.args.heap.now.items c.args.stack.now.items hyps) refl)

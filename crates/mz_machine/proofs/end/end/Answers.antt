@@ -10,7 +10,8 @@ use Rattle.mz_machine.specs.OverStore.{state_at}
 use Rattle.mz_machine.specs.Endings.{IsOwnRun}
 use Rattle.mz_unification.specs.Profile.{strict}
 use Rattle.mz_earlier.proofs.Offered.{kind-is}
-use Rattle.mz_machine.proofs.Ending.{no-last-item, not-ending, is-ending, stopped-end, no-end-steps, end-steps, own-end, own-matching, first-trees, first-in, first-variables, own-items, own-items-in}
+use Rattle.mz_machine.proofs.EndRows.{no-last-item, not-ending, is-ending, stopped-end, no-end-steps, end-steps, own-end}
+use Rattle.mz_machine.proofs.Ending.{own-matching, first-trees, first-in, first-variables, own-items, own-items-in}
 use Rattle.mz_machine.proofs.Unfoldings.{no-more, unless-more}
 use Rattle.mz_machine.proofs.end.end.Goals as goal
 
@@ -38,7 +39,7 @@ returns-in-Err-clause-row g c heap =
     let st = state_at s heap c.args.stack.now c.args.hyps.now in
     let is = kind-is E.file c.args.row kind in
     let last = ap (λ (k : Kind). last_item k st.stack) is ∙ c.in-Err.ensures.last in
-    stopped-end (tables_of E) h st _ (no-last-item (tables_of E) h st _ last)
+    stopped-end strict (tables_of E) h st _ (no-last-item strict (tables_of E) h st _ last)
 
 pub returns-in-Err-clause-steps : goal.returns-in-Err-clause-steps
 returns-in-Err-clause-steps g c heap =
@@ -49,7 +50,7 @@ returns-in-Err-clause-steps g c heap =
     let st = state_at s heap c.args.stack.now c.args.hyps.now in
     let is = kind-is E.file c.args.row kind in
     let last = ap (λ (k : Kind). last_item k st.stack) is ∙ c.in-Err.ensures.last in
-    no-more _ _ (no-end-steps (tables_of E) h st _ (no-last-item (tables_of E) h st _ last))
+    no-more _ _ (no-end-steps strict (tables_of E) h st _ (no-last-item strict (tables_of E) h st _ last))
 
 pub returns-in-Err-check_target-clause-row : goal.returns-in-Err-check_target-clause-row
 returns-in-Err-check_target-clause-row g c heap =
@@ -61,7 +62,7 @@ returns-in-Err-check_target-clause-row g c heap =
     let is = kind-is E.file c.args.row kind in
     let last = ap (λ (k : Kind). last_item k st.stack) is ∙ c.in-Ok.ensures.last in
     let stopped = ap (λ (k : Kind). ending strict (tables_of E) h st k (tree_of s c.in-Ok.target.0)) is ∙ c.in-Err-check_target.ensures st refl in
-    stopped-end (tables_of E) h st _ (not-ending (tables_of E) h st _ _ last stopped)
+    stopped-end strict (tables_of E) h st _ (not-ending strict (tables_of E) h st _ _ last stopped)
 
 pub returns-in-Err-check_target-clause-steps : goal.returns-in-Err-check_target-clause-steps
 returns-in-Err-check_target-clause-steps g c heap =
@@ -73,7 +74,7 @@ returns-in-Err-check_target-clause-steps g c heap =
     let is = kind-is E.file c.args.row kind in
     let last = ap (λ (k : Kind). last_item k st.stack) is ∙ c.in-Ok.ensures.last in
     let stopped = ap (λ (k : Kind). ending strict (tables_of E) h st k (tree_of s c.in-Ok.target.0)) is ∙ c.in-Err-check_target.ensures st refl in
-    no-more _ _ (no-end-steps (tables_of E) h st _ (not-ending (tables_of E) h st _ _ last stopped))
+    no-more _ _ (no-end-steps strict (tables_of E) h st _ (not-ending strict (tables_of E) h st _ _ last stopped))
 
 pub returns-clause-row : goal.returns-clause-row
 returns-clause-row g c heap =
@@ -85,9 +86,9 @@ returns-clause-row g c heap =
     let is = kind-is E.file c.args.row kind in
     let last = ap (λ (k : Kind). last_item k st.stack) is ∙ c.in-Ok.ensures.last in
     let ends = ap (λ (k : Kind). ending strict (tables_of E) h st k (tree_of s c.in-Ok.target.0)) is ∙ c.in_default.ensures st refl in
-    let m = is-ending (tables_of E) h st _ _ last ends in
+    let m = is-ending strict (tables_of E) h st _ _ last ends in
     let own = own-matching h st kind s c.own_stream-stream.result.now c.first_ids.new.ids.items c.in-Ok.target c.own_proofs.new.items.items c.own_stream-stream.ensures.stream (ap (trees_at s) (c.in-Ok-first_ids.ensures ∙ ap first_ids c.own_arity.ensures.params) ∙ first-trees s _ c.requires.params) (ap (items_at s) c.in-Ok-own_proofs.ensures ∙ own-items s kind c.args.hyps.now) in
-    own-end (tables_of E) h st _ c.run_own.result m (subst (λ n. IsOwnRun (unify strict (signatures_of E) s.context n) c.run_own.result) own c.run_own.ensures.run)
+    own-end strict (tables_of E) h st _ c.run_own.result m (subst (λ n. IsOwnRun (unify strict (signatures_of E) s.context n) c.run_own.result) own c.run_own.ensures.run)
 
 pub returns-clause-steps : goal.returns-clause-steps
 returns-clause-steps g c heap =
@@ -99,6 +100,6 @@ returns-clause-steps g c heap =
     let is = kind-is E.file c.args.row kind in
     let last = ap (λ (k : Kind). last_item k st.stack) is ∙ c.in-Ok.ensures.last in
     let ends = ap (λ (k : Kind). ending strict (tables_of E) h st k (tree_of s c.in-Ok.target.0)) is ∙ c.in_default.ensures st refl in
-    let m = is-ending (tables_of E) h st _ _ last ends in
+    let m = is-ending strict (tables_of E) h st _ _ last ends in
     let own = own-matching h st kind s c.own_stream-stream.result.now c.first_ids.new.ids.items c.in-Ok.target c.own_proofs.new.items.items c.own_stream-stream.ensures.stream (ap (trees_at s) (c.in-Ok-first_ids.ensures ∙ ap first_ids c.own_arity.ensures.params) ∙ first-trees s _ c.requires.params) (ap (items_at s) c.in-Ok-own_proofs.ensures ∙ own-items s kind c.args.hyps.now) in
-    unless-more c.run_own.result _ _ _ _ c.run_own.ensures.steps (end-steps (tables_of E) h st _ m ∙ sym (ap (λ n. unify_steps strict (signatures_of E) s.context n) own))
+    unless-more c.run_own.result _ _ _ _ c.run_own.ensures.steps (end-steps strict (tables_of E) h st _ m ∙ sym (ap (λ n. unify_steps strict (signatures_of E) s.context n) own))

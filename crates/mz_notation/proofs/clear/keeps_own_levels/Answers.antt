@@ -1,23 +1,29 @@
-use Rattle.std.proofs.Common.{◌≡◌, ◌∙◌, ℕ, List, Contains, sym, subst, refl}
-use Rattle.std.proofs.lemmas.Bool.{true≢false, false≢true}
-use Rattle.mz_notation.specs.Notation.{Element, fixed}
-use Rattle.mz_tokens.proofs.Offered.{all_so_far_more, all-members}
+use Rattle.std.proofs.Common.{refl, subst}
+use Rattle.std.proofs.lemmas.Bool.{false≢true}
+use Rattle.mz_notation.specs.Levels.{IsLevelNoted}
+use Rattle.mz_notation.proofs.Noting.{all-noted, none-noted, noted-on, noted-twice}
 use Rattle.mz_notation.proofs.clear.keeps_own_levels.Goals as goal
 
-pub returns-then-not-keeps_level_beside : goal.returns-then-not-keeps_level_beside
-returns-then-not-keeps_level_beside c =
-    let mem : Contains c.args.elements.now c.element-item.result = (c.loop-element.element-index, c.loop-element-test.true, sym c.element-item.is) in
-    (λ f. absurd (false≢true f), λ all. absurd (true≢false (sym (c.keeps_level_beside.ensures.1 (λ w q p is. all w q p (subst (Contains c.args.elements.now) is mem))) ∙ c.if-not-keeps_level_beside.true)))
+pub loop-element-init : goal.loop-element-init
+loop-element-init c = none-noted c.new-levels.result c.args.elements.now c.new-levels.ensures
 
 pub loop-element-preserved : goal.loop-element-preserved
 loop-element-preserved c =
-    let P : Element → Type 0 = λ x. (w : List ℕ) (q p : ℕ) → x ≡ fixed w q → Contains c.args.elements.now (fixed w p) → p ≡ q in
-    all_so_far_more P c.args.elements.now c.loop-element.element-index c.element-item.result c.loop-element.invariant c.loop-element-test.true
-    (subst P c.element-item.is (c.keeps_level_beside.ensures.0 c.if-not-keeps_level_beside.false))
+    let old = c.loop-element.levels in
+    let new = c.note_level.new.levels in
+    let e = c.element-item.result in
+    noted-on c.args.elements.now c.loop-element.element-index e c.loop-element-test.true c.element-item.is old new
+    (subst (λ b. IsLevelNoted b old e new) c.if-not-is_noted.false c.in_ok-is_noted.ensures) c.loop-element.invariant
+
+pub returns-then-not-is_noted : goal.returns-then-not-is_noted
+returns-then-not-is_noted c =
+    let old = c.loop-element.levels in
+    let new = c.note_level.new.levels in
+    let e = c.element-item.result in (
+      λ f. absurd (false≢true f),
+      λ keeps. absurd (noted-twice c.args.elements.now c.loop-element.element-index e c.loop-element-test.true c.element-item.is old new
+          (subst (λ b. IsLevelNoted b old e new) c.if-not-is_noted.true c.in_ok-is_noted.ensures) c.loop-element.invariant keeps),
+    )
 
 pub returns : goal.returns
-returns c =
-    let P : Element → Type 0 = λ x. (w : List ℕ) (q p : ℕ) → x ≡ fixed w q → Contains c.args.elements.now (fixed w p) → p ≡ q in
-    let seen = c.loop-element.invariant in
-    let done = c.loop-element-test.false in
-    (λ t. λ w q p inn. all-members P c.args.elements.now seen done (fixed w q) inn w q p refl, λ all. refl)
+returns c = (λ t. all-noted c.loop-element.levels c.args.elements.now c.loop-element.element-index c.loop-element-test.false c.loop-element.invariant, λ all. refl)

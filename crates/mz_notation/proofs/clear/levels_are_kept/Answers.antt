@@ -3,9 +3,9 @@ use Rattle.std.proofs.lemmas.Bool.{true≢false, false≢true}
 use Rattle.mz_notation.specs.Answers.{KeepsLevels, KeepsOwnLevels}
 use Rattle.mz_notation.proofs.clear.levels_are_kept.Goals as goal
 
-pub returns-then-not-keeps_own_levels : goal.returns-then-not-keeps_own_levels
-returns-then-not-keeps_own_levels c =
-    (λ f. absurd (false≢true f), λ all. absurd (true≢false (sym (c.keeps_own_levels.ensures.1 (subst KeepsOwnLevels (sym c.as_slice-elements.ensures) all.0)) ∙ c.if-not-keeps_own_levels.true)))
+pub returns-then-not-keeps_own : goal.returns-then-not-keeps_own
+returns-then-not-keeps_own c =
+    (λ f. absurd (false≢true f), λ all. absurd (true≢false (sym (c.in_ok-keeps_own.ensures.1 (subst KeepsOwnLevels (sym c.as_slice-elements.ensures) all.0)) ∙ c.if-not-keeps_own.true)))
 
 pub returns-then-not-keeps_levels : goal.returns-then-not-keeps_levels
 returns-then-not-keeps_levels c =
@@ -15,7 +15,7 @@ pub returns : goal.returns
 returns c =
     let es = c.as_slice-elements.ensures in (
       λ t. (
-        subst KeepsOwnLevels es (c.keeps_own_levels.ensures.0 c.if-not-keeps_own_levels.false),
+        subst KeepsOwnLevels es (c.in_ok-keeps_own.ensures.0 c.if-not-keeps_own.false),
         subst (λ xs. KeepsLevels xs c.args.leading.now) es (c.keeps_levels.ensures.0 c.if-not-keeps_levels.false),
         subst (λ xs. KeepsLevels xs c.args.infixes.now) es (c.keeps_levels-2.ensures.0 t),
       ),

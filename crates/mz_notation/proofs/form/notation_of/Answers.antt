@@ -4,16 +4,16 @@ use Rattle.mz_notation.specs.Notation.{Element}
 use Rattle.mz_notation.specs.Forms.{EachOnce, Begins}
 use Rattle.mz_notation.proofs.form.notation_of.Goals as goal
 
-pub returns-then-not-each_once : goal.returns-then-not-each_once
-returns-then-not-each_once c = λ k is.
-    let many = c.len.ensures ∙ ap length c.binders.ensures.binders in
-    true≢false (sym (c.each_once.ensures.1 (subst (λ n. EachOnce n c.as_slice.result.now) (sym many) (subst (EachOnce (length c.args.statement.params.now.binders)) (sym c.as_slice.ensures) is.2))) ∙ c.if-not-each_once.true)
+pub returns-then-not-once : goal.returns-then-not-once
+returns-then-not-once c = λ k is.
+    let many = c.len-many.ensures ∙ ap length c.binders.ensures.binders in
+    true≢false (sym (c.in-Ok.ensures.1 (subst (λ n. EachOnce n c.as_slice.result.now) (sym many) (subst (EachOnce (length c.args.statement.params.now.binders)) (sym c.as_slice.ensures) is.2))) ∙ c.if-not-once.true)
 
 pub returns-in-Some : goal.returns-in-Some
 returns-in-Some c =
-    let many = c.len.ensures ∙ ap length c.binders.ensures.binders in (
+    let many = c.len-many.ensures ∙ ap length c.binders.ensures.binders in (
       refl,
       refl,
-      subst (EachOnce (length c.args.statement.params.now.binders)) c.as_slice.ensures (subst (λ n. EachOnce n c.as_slice.result.now) many (c.each_once.ensures.0 c.if-not-each_once.false)),
+      subst (EachOnce (length c.args.statement.params.now.binders)) c.as_slice.ensures (subst (λ n. EachOnce n c.as_slice.result.now) many (c.in-Ok.ensures.0 c.if-not-once.false)),
       subst (λ (es : List Element). Begins es c.args.statement.tail c.in-Some.level c.in-Some.is_right) c.as_slice-2.ensures c.in-Some.ensures,
     )

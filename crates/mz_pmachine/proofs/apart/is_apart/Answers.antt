@@ -3,13 +3,13 @@ use Rattle.std.specs.Prelude.{bit_and, if◌then◌else◌}
 use Rattle.std.proofs.lemmas.Option.{slice_get-get_or}
 use Rattle.mz_logic.specs.Words.{word_bound, word_deps}
 use Rattle.mz_logic.specs.declared.word.Word.{Word}
+use Rattle.mz_nodes.specs.Numbering.{tree_of, vars_of}
 use Rattle.mz_punify.specs.Stored.{trees_at}
 use Rattle.mz_punify.proofs.Offered.{is-in-at, length-trees, tree-at}
 use Rattle.mz_unification.proofs.Offered.{some_is}
 use Rattle.mz_earlier.specs.Before.{signatures_of}
 use Rattle.mz_layout.specs.Rows.{params_of}
-use Rattle.mz_earlier.proofs.Offered.{is-there, place-below, place-fits, decides-first, decides-end, decides-not, decides-next, row-asked}
-use Rattle.mz_pmachine.proofs.Apartness.{apart-at-once}
+use Rattle.mz_earlier.proofs.Offered.{apart-at-once, is-there, place-below, place-fits, decides-first, decides-end, decides-not, decides-next, row-asked}
 use Rattle.mz_pmachine.proofs.apart.is_apart.Goals as goal
 
 pub vars-requires : goal.vars-requires
@@ -26,8 +26,10 @@ returns-then-vars-all-eq0 c e p eat pat =
     let at = slice_get-get_or c.args.operands.now c.args.i _ there in
     let (w, wat) = is-there ws c.args.i c.requires.place in
     let none = ap (λ (n : ℕ). bit_and n c.args.all) (sym c.vars.ensures.kept) ∙ c.if-vars-all-eq0.true in
-    sym (apart-at-once (signatures_of c.args.earlier.now) s c.args.operands.now ws c.requires.over c.requires.ids c.requires.many c.requires.fit c.args.bound.now c.requires.bound c.args.all c.requires.all
-    c.args.i _ w at wat none)
+    let many : length es ≡ length ws = length-trees s c.args.operands.now ∙ c.requires.many in
+    sym (apart-at-once (signatures_of c.args.earlier.now) s.context c.args.operands.now es (λ id. tree_of s id.0) (λ id. vars_of s id.0) (tree-at s c.args.operands.now)
+    (λ k id kat. (c.requires.over id.0 (is-in-at s c.args.operands.now k id c.requires.ids kat)).1.1)
+    ws c.requires.many many c.requires.fit c.args.bound.now c.requires.bound c.args.all c.requires.all c.args.i _ w at wat none)
     ∙ row-asked s.context es ws c.args.i w _ e p wat (tree-at s c.args.operands.now c.args.i _ at) eat pat
 
 pub places-init : goal.places-init

@@ -1,7 +1,8 @@
 use Rattle.std.proofs.Common.{◌≤◌, ◌+◌, ◌*◌, ◌-◌, length}
 use Rattle.mz_pmachine.specs.Steps.{tables_for, heading_for}
 use Rattle.mz_pmachine.specs.Running.{IsRunning, machine_of}
-use Rattle.mz_pmachine.proofs.BodyUnderway.{IsUnderway}
+use Rattle.mz_numbered.specs.Numbered.{portable}
+use Rattle.mz_earlier.proofs.Offered.{IsUnderway}
 use Rattle.mz_pmachine.proofs.BodyRunning.{IsSameBody}
 use Rattle.mz_pmachine.proofs.body.run.Given as goal
 
@@ -10,7 +11,7 @@ invariant-commands g l = record {
   in_range : l.at ≤ length l.bytes;
   running : IsRunning l.setting l.parts;
   same : IsSameBody (machine_of l.setting l.fn.parts) (machine_of l.setting l.parts);
-  underway : IsUnderway (tables_for (machine_of l.setting l.fn.parts)) (heading_for (machine_of l.setting l.fn.parts)) l.from l.bytes (machine_of l.setting l.fn.parts).state l.fn.steps l.at (machine_of l.setting l.parts).state l.steps;
+  underway : IsUnderway portable (tables_for (machine_of l.setting l.fn.parts)) (heading_for (machine_of l.setting l.fn.parts)) l.from l.bytes (machine_of l.setting l.fn.parts).state l.fn.steps l.at (machine_of l.setting l.parts).state l.steps;
   first : (machine_of l.setting l.parts).next ≤ l.from + l.at;
   most : l.steps ≤ l.fn.steps + l.at * (length l.setting.earlier.file + 1);
 }

@@ -1,9 +1,10 @@
 use Rattle.std.proofs.Common.{[], ◌∷◌, refl}
 use Rattle.std.proofs.lemmas.Result.{err_from_is_err_and}
 use Rattle.mz_punify.proofs.Offered.{items-in-both}
+use Rattle.mz_numbered.specs.Numbered.{portable}
 use Rattle.mz_earlier.specs.Before.{tables_of}
 use Rattle.mz_pmachine.specs.OverNodes.{state_at}
-use Rattle.mz_pmachine.proofs.RowResults.{sorry-row}
+use Rattle.mz_machine.proofs.Offered.{sorry-row}
 use Rattle.mz_pmachine.proofs.commands.convert.Goals as goal
 
 pub returns-in_err-unfold-in-Unfold-clause-steps : goal.returns-in_err-unfold-in-Unfold-clause-steps
@@ -21,4 +22,4 @@ returns-in_ok-push-in-Ok-conv_save-clause-ids g c =
 
 pub returns-in-Sorry-clause-row : goal.returns-in-Sorry-clause-row
 returns-in-Sorry-clause-row g c at value hyps =
-    rw c.in-Sorry.is (sorry-row (tables_of c.args.earlier.now) at value (state_at c.args.nodes.now c.args.heap.now.items c.args.stack.now.items hyps))
+    rw c.in-Sorry.is (sorry-row portable (tables_of c.args.earlier.now) at value (state_at c.args.nodes.now c.args.heap.now.items c.args.stack.now.items hyps) refl)

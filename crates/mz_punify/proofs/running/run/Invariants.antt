@@ -1,10 +1,12 @@
-use Rattle.std.proofs.Common.{◌≡◌, ℕ, ◌+◌, ◌-◌, ◌≤◌, List, length}
+use Rattle.std.proofs.Common.{◌≡◌, ℕ, ◌+◌, ◌-◌, ◌≤◌, List, length, map}
 use Rattle.mz_logic.specs.Signature.{Signature}
+use Rattle.mz_numbered.specs.Numbered.{Numbered, tree_of, portable}
 use Rattle.mz_nodes.specs.Numbering.{AreIn, IsOver}
 use Rattle.mz_unify.specs.Stored.{mode_of, AreLeft}
+use Rattle.mz_unify.specs.Rows.{TellsAny}
 use Rattle.mz_punify.specs.Stored.{exprs_at, AreItemsIn}
 use Rattle.mz_punify.specs.Rows.{state_at}
-use Rattle.mz_punify.proofs.Underway.{IsUnderway}
+use Rattle.mz_unify.proofs.Offered.{IsUnderway}
 use Rattle.mz_punify.proofs.running.run.Given as goal
 
 abbrev pub invariant-commands : goal.invariant-commands
@@ -16,7 +18,9 @@ invariant-commands g l = record {
   ticked : l.steps ≤ l.fn.steps + l.at;
   held : l.held ≡ length l.fn.hyps.items;
   left : (taken : ℕ) × (taken ≤ l.at) × AreLeft l.fn.hyps.items l.hyps.items taken;
-  underway : (sigs : List Signature) → IsOver sigs l.nodes → IsUnderway l.nodes (mode_of l.mode) l.stream sigs (state_at l.nodes l.fn.heap.items (exprs_at l.nodes l.fn.heap.items) l.fn.start.items l.fn.hyps.items) l.fn.steps l.at l.apart l.heap.items l.targets.items l.hyps.items l.steps;
+  underway : (sigs : List Signature) → IsOver sigs l.nodes
+      → IsUnderway portable sigs l.nodes.context (mode_of l.mode) (List Numbered) l.stream (state_at l.nodes l.fn.heap.items (exprs_at l.nodes l.fn.heap.items) l.fn.start.items l.fn.hyps.items) l.fn.steps l.at
+      (λ es. TellsAny l.nodes.context l.apart (map tree_of es)) (λ es. state_at l.nodes l.heap.items es l.targets.items l.hyps.items) l.steps;
 }
 
 abbrev pub decreases-commands : goal.decreases-commands

@@ -1,4 +1,4 @@
-use Rattle.std.proofs.Common.{◌≡◌, ◌++◌, true≢false, refl, sym, ap, ◌∙◌, subst, [], inl, arith}
+use Rattle.std.proofs.Common.{◌≡◌, ◌++◌, true≢false, sym, ap, ◌∙◌, subst, [], inl, arith}
 use Rattle.mz_checks.specs.Checks.{AllHold, Judges}
 use Rattle.mz_checks.proofs.Offered.{fails-after, all_hold-both}
 use Rattle.mz_sexpr.specs.Node.{parts, place}
@@ -9,6 +9,7 @@ use Rattle.mz_logic.specs.DeclView.{assertion_view}
 use Rattle.mz_forms.specs.Order.{fault}
 use Rattle.mz_forms.specs.ProofView.{proof_view}
 use Rattle.mz_forms.specs.Stops.{Stops}
+use Rattle.mz_forms.specs.declared.fault.Stop.TheVariants.{Mem}
 use Rattle.std.specs.Prelude.{Some}
 use Rattle.mz_typing.specs.Claims.{claim_trees}
 use Rattle.mz_typing.specs.Parts.{part}
@@ -62,8 +63,13 @@ claim_at-requires c =
     let many = many_behind [] c.check_proof.new.claims.items (more (proved env a.hyps none p) none) are in
     omega (arith, many)
 
-pub returns-then-same_claim : goal.returns-then-same_claim
-returns-then-same_claim c =
+pub returns-in_err-same : goal.returns-in_err-same
+returns-in_err-same c =
+    stop_handed_on (theorem_rules c.args.env.now (assertion_view c.args.thm.now) c.args.dummies.now (Some (proof_view c.args.proof.now)) c.args.parts.now)
+    c.from_residual-in_err-same.result Mem c.from_residual-in_err-same.ensures.1 tt
+
+pub returns-then-same : goal.returns-then-same
+returns-then-same c =
     let env = c.args.env.now in
     let ps = c.args.parts.now in
     let a = assertion_view c.args.thm.now in
@@ -79,7 +85,7 @@ returns-then-same_claim c =
     ∙ ap (λ xs. with_fact (claim_trees xs) (proved env a.hyps none p)) c.new-claims.ensures.items in
     all_hold-both A _ (told_holds A c.check_dummies.result c.refuse.result c.in_ok-refuse.field-0 c.refuse.ensures c.in_ok-refuse.was (subst (λ ns. Judges c.check_dummies.result (dummy_rules env ds ns)) (c.parts.ensures ∙ ap (λ ms. parts (first ms)) c.after.ensures) c.check_dummies.ensures))
     (all_hold-both B _ (subst (λ cs. AllHold cs) rules c.in_ok-check_proof.ensures.judged)
-    (sym (ap (λ ts. operand ts 0) are) ∙ sym (c.claim_at.ensures ∙ ap (λ cs. operand (claim_trees cs) 0) c.deref.ensures.value) ∙ c.if-same_claim.ensures.0 refl ∙ c.of.ensures, tt))
+    (sym (ap (λ ts. operand ts 0) are) ∙ sym (c.claim_at.ensures ∙ ap (λ cs. operand (claim_trees cs) 0) c.deref.ensures.value) ∙ c.in_ok-same.ensures.0 c.if-same.true ∙ c.of.ensures, tt))
 
 pub returns : goal.returns
 returns c =
@@ -98,4 +104,4 @@ returns c =
     ∙ ap (λ xs. with_fact (claim_trees xs) (proved env a.hyps none p)) c.new-claims.ensures.items in
     fails-after A _ c.fault.result (told_holds A c.check_dummies.result c.refuse.result c.in_ok-refuse.field-0 c.refuse.ensures c.in_ok-refuse.was (subst (λ ns. Judges c.check_dummies.result (dummy_rules env ds ns)) (c.parts.ensures ∙ ap (λ ms. parts (first ms)) c.after.ensures) c.check_dummies.ensures))
     (fails-after B _ c.fault.result (subst (λ cs. AllHold cs) rules c.in_ok-check_proof.ensures.judged)
-    (inl (λ is. true≢false (sym (c.if-same_claim.ensures.1 (c.claim_at.ensures ∙ ap (λ cs. operand (claim_trees cs) 0) c.deref.ensures.value ∙ ap (λ ts. operand ts 0) are ∙ is ∙ sym c.of.ensures))), c.fault.ensures ∙ ap (λ m. fault (place (first m)) U.Conclusion) c.after-else-same_claim.ensures)))
+    (inl (λ is. true≢false (sym (c.in_ok-same.ensures.1 (c.claim_at.ensures ∙ ap (λ cs. operand (claim_trees cs) 0) c.deref.ensures.value ∙ ap (λ ts. operand ts 0) are ∙ is ∙ sym c.of.ensures)) ∙ c.if-same.false), c.fault.ensures ∙ ap (λ m. fault (place (first m)) U.Conclusion) c.after-else-same.ensures)))

@@ -3,17 +3,19 @@ use Rattle.std.specs.Prelude.{slice_get}
 use Rattle.std.proofs.lemmas.Option.{slice_get_read}
 use Rattle.mz_unify.proofs.StoredIds.{tree-at, no-tree-at, is-in-at}
 use Rattle.mz_unify.proofs.RowValues.{ref-no-target, ref-no-place, ref-other, ref-row}
+use Rattle.mz_unification.specs.Profile.{strict}
+use Rattle.mz_unify.proofs.Parts.{of-trees}
 use Rattle.mz_unify.proofs.rows.refer.Goals as goal
 
 true-false : true ≡ false → ⊥
 true-false e = cc
 
 pub returns-in_default-clause-row : goal.returns-in_default-clause-row
-returns-in_default-clause-row c sigs mode st heap is = ref-no-target sigs c.args.store.now.context mode st c.args.place (is ∙ c.in_default.ensures.none)
+returns-in_default-clause-row c sigs mode st heap is = ref-no-target strict sigs c.args.store.now.context mode st c.args.place (is ∙ c.in_default.ensures.none)
 
 pub returns-in_default-get-clause-row : goal.returns-in_default-get-clause-row
 returns-in_default-get-clause-row c sigs mode st heap is =
-    ref-no-place sigs c.args.store.now.context mode st c.args.place _ _ (is ∙ c.in-Some.ensures.some)
+    ref-no-place strict sigs c.args.store.now.context mode st c.args.place _ _ (is ∙ c.in-Some.ensures.some)
     (ap (λ es. slice_get es c.args.place) heap ∙ no-tree-at c.args.store.now c.args.heap.now c.args.place (ltb-false _ _ (sym c.in_default-get.ensures.lookup.0)))
 
 pub same-requires-clause-left : goal.same-requires-clause-left
@@ -24,13 +26,13 @@ same-requires-clause-left c =
 pub returns-then-not-same-clause-row : goal.returns-then-not-same-clause-row
 returns-then-not-same-clause-row c sigs mode st heap is =
     let at : slice_get c.args.heap.now c.args.place ≡ Some c.in-Some-get.met.now = slice_get_read c.args.heap.now (length c.args.heap.now) c.args.place c.in-Some-get.met.now refl (ltb-true _ _ (sym c.in-Some-get.ensures.lookup.0)) c.in-Some-get.ensures.lookup.1 in
-    ref-other sigs c.args.store.now.context mode st c.args.place _ _ _ (is ∙ c.in-Some.ensures.some)
+    ref-other strict sigs c.args.store.now.context mode st of-trees c.args.place _ _ _ (is ∙ c.in-Some.ensures.some)
     (ap (λ es. slice_get es c.args.place) heap ∙ tree-at c.args.store.now c.args.heap.now c.args.place c.in-Some-get.met.now at)
     (λ same. true-false (sym (c.if-not-same.ensures.trees.1 same)))
 
 pub returns-clause-row : goal.returns-clause-row
 returns-clause-row c sigs mode st heap is =
     let at : slice_get c.args.heap.now c.args.place ≡ Some c.in-Some-get.met.now = slice_get_read c.args.heap.now (length c.args.heap.now) c.args.place c.in-Some-get.met.now refl (ltb-true _ _ (sym c.in-Some-get.ensures.lookup.0)) c.in-Some-get.ensures.lookup.1 in
-    ref-row sigs c.args.store.now.context mode st c.args.place _ _ _ (is ∙ c.in-Some.ensures.some)
+    ref-row strict sigs c.args.store.now.context mode st of-trees c.args.place _ _ _ (is ∙ c.in-Some.ensures.some)
     (ap (λ es. slice_get es c.args.place) heap ∙ tree-at c.args.store.now c.args.heap.now c.args.place c.in-Some-get.met.now at)
     (c.if-not-same.ensures.trees.0 refl)

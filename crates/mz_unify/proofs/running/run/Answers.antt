@@ -1,9 +1,9 @@
 use Rattle.std.proofs.Common.{◌∙◌, ◌+◌, ◌≤◌, length, drop, refl, sym, ap, subst, arith}
 use Rattle.mz_unification.specs.Streams.{IsEnd}
-use Rattle.mz_unify.specs.Stored.{mode_of, trees_at}
+use Rattle.mz_unify.specs.Stored.{mode_of, trees_at, items_at}
 use Rattle.mz_unify.specs.Rows.{command_of, TellsFor, state_at}
-use Rattle.mz_unify.proofs.Underway.{further, not-end, dummy-stands, left-none, left-both, cut-whole, cut-many, other-whole, other-many, stopped-whole, stopped-many, ended-whole, ended-many, goes-on}
-use Rattle.mz_unification.proofs.Offered.{command-long}
+use Rattle.mz_unify.proofs.Underway.{not-end, dummy-stands, left-none, left-both, cut-whole, cut-many, other-whole, other-many, stopped-whole, stopped-many, ended-whole, ended-many, goes-on}
+use Rattle.mz_unification.proofs.Offered.{command-long, further}
 use Rattle.mz_unify.proofs.running.run.Goals as goal
 
 pub commands-init : goal.commands-init
@@ -15,32 +15,32 @@ commands-init g c = record {
   ticked = omega arith;
   held = c.len-held.ensures ∙ c.args.hyps.now.ok.0;
   left = (0, omega arith, left-none c.args.hyps.now.items);
-  underway = λ sigs over. (trees_at c.args.store.now c.args.heap.now.items, subst (λ is. TellsFor (mode_of c.args.mode) c.args.store.now.context c.kept_apart-apart.result (trees_at c.args.store.now is)) c.deref.ensures.value (c.kept_apart-apart.ensures sigs over), refl, refl);
+  underway = λ sigs over. record { left = (trees_at c.args.store.now c.args.heap.now.items, subst (λ is. TellsFor (mode_of c.args.mode) c.args.store.now.context c.kept_apart-apart.result (trees_at c.args.store.now is)) c.deref.ensures.value (c.kept_apart-apart.ensures sigs over), refl, refl) };
 }
 
 pub returns-in_default-clause-run : goal.returns-in_default-clause-run
-returns-in_default-clause-run g c sigs over = rw c.stopped.ensures (cut-whole c.args.store.now (mode_of c.args.mode) c.args.stream.now sigs (state_at c.args.store.now c.args.heap.now.items (trees_at c.args.store.now c.args.heap.now.items) c.args.targets.now.items c.args.hyps.now.items) c.args.steps.now c.commands.at c.commands.apart c.commands.heap.items c.commands.targets.items c.commands.hyps.items c.commands.steps (c.commands.invariant.underway sigs over) c.in_default.field-0 (sym c.in_default.ensures.computed))
+returns-in_default-clause-run g c sigs over = rw c.stopped.ensures (cut-whole (c.commands.invariant.underway sigs over) c.in_default.field-0 (sym c.in_default.ensures.computed))
 
 pub returns-in_default-clause-steps : goal.returns-in_default-clause-steps
-returns-in_default-clause-steps g c sigs over = rw c.stopped.ensures (cut-many c.args.store.now (mode_of c.args.mode) c.args.stream.now sigs (state_at c.args.store.now c.args.heap.now.items (trees_at c.args.store.now c.args.heap.now.items) c.args.targets.now.items c.args.hyps.now.items) c.args.steps.now c.commands.at c.commands.apart c.commands.heap.items c.commands.targets.items c.commands.hyps.items c.commands.steps (c.commands.invariant.underway sigs over) c.in_default.field-0 (sym c.in_default.ensures.computed))
+returns-in_default-clause-steps g c sigs over = rw c.stopped.ensures (cut-many (c.commands.invariant.underway sigs over) c.in_default.field-0 (sym c.in_default.ensures.computed))
 
 pub returns-in_default-decoded-clause-run : goal.returns-in_default-decoded-clause-run
-returns-in_default-decoded-clause-run g c sigs over = rw c.stopped-in_default-decoded.ensures (other-whole c.args.store.now (mode_of c.args.mode) c.args.stream.now sigs (state_at c.args.store.now c.args.heap.now.items (trees_at c.args.store.now c.args.heap.now.items) c.args.targets.now.items c.args.hyps.now.items) c.args.steps.now c.commands.at c.commands.apart c.commands.heap.items c.commands.targets.items c.commands.hyps.items c.commands.steps (c.commands.invariant.underway sigs over) c.in-Ok.cmd (sym c.in-Ok.ensures.computed) c.in_default-decoded.ensures.none)
+returns-in_default-decoded-clause-run g c sigs over = rw c.stopped-in_default-decoded.ensures (other-whole (c.commands.invariant.underway sigs over) c.in-Ok.cmd (sym c.in-Ok.ensures.computed) c.in_default-decoded.ensures.none)
 
 pub returns-in_default-decoded-clause-steps : goal.returns-in_default-decoded-clause-steps
-returns-in_default-decoded-clause-steps g c sigs over = rw c.stopped-in_default-decoded.ensures (c.tick.ensures ∙ other-many c.args.store.now (mode_of c.args.mode) c.args.stream.now sigs (state_at c.args.store.now c.args.heap.now.items (trees_at c.args.store.now c.args.heap.now.items) c.args.targets.now.items c.args.hyps.now.items) c.args.steps.now c.commands.at c.commands.apart c.commands.heap.items c.commands.targets.items c.commands.hyps.items c.commands.steps (c.commands.invariant.underway sigs over) c.in-Ok.cmd (sym c.in-Ok.ensures.computed) c.in_default-decoded.ensures.none)
+returns-in_default-decoded-clause-steps g c sigs over = rw c.stopped-in_default-decoded.ensures (c.tick.ensures ∙ other-many (c.commands.invariant.underway sigs over) c.in-Ok.cmd (sym c.in-Ok.ensures.computed) c.in_default-decoded.ensures.none)
 
 pub returns-in-Err-clause-run : goal.returns-in-Err-clause-run
-returns-in-Err-clause-run g c sigs over = rw c.stopped-in-Err.ensures (stopped-whole c.args.store.now (mode_of c.args.mode) c.args.stream.now sigs (state_at c.args.store.now c.args.heap.now.items (trees_at c.args.store.now c.args.heap.now.items) c.args.targets.now.items c.args.hyps.now.items) c.args.steps.now c.commands.at c.commands.apart c.commands.heap.items c.commands.targets.items c.commands.hyps.items c.commands.steps (c.commands.invariant.underway sigs over) c.in-Ok.cmd (sym c.in-Ok.ensures.computed) (command_of c.in-Some.next) c.in-Some.ensures.some c.in-Err.stop _ (λ es told. c.in-Err.ensures.row sigs es over told))
+returns-in-Err-clause-run g c sigs over = rw c.stopped-in-Err.ensures (stopped-whole (c.commands.invariant.underway sigs over) c.in-Ok.cmd (sym c.in-Ok.ensures.computed) (command_of c.in-Some.next) c.in-Some.ensures.some c.in-Err.stop _ (λ es told. c.in-Err.ensures.row sigs es over told))
 
 pub returns-in-Err-clause-steps : goal.returns-in-Err-clause-steps
-returns-in-Err-clause-steps g c sigs over = rw (c.stopped-in-Err.ensures, c.tick.ensures) (stopped-many c.args.store.now (mode_of c.args.mode) c.args.stream.now sigs (state_at c.args.store.now c.args.heap.now.items (trees_at c.args.store.now c.args.heap.now.items) c.args.targets.now.items c.args.hyps.now.items) c.args.steps.now c.commands.at c.commands.apart c.commands.heap.items c.commands.targets.items c.commands.hyps.items c.commands.steps (c.commands.invariant.underway sigs over) c.in-Ok.cmd (sym c.in-Ok.ensures.computed) (command_of c.in-Some.next) c.in-Some.ensures.some c.in-Err.stop _ (λ es told. c.in-Err.ensures.row sigs es over told))
+returns-in-Err-clause-steps g c sigs over = rw (c.stopped-in-Err.ensures, c.tick.ensures) (stopped-many (c.commands.invariant.underway sigs over) c.in-Ok.cmd (sym c.in-Ok.ensures.computed) (command_of c.in-Some.next) c.in-Some.ensures.some c.in-Err.stop _ (λ es told. c.in-Err.ensures.row sigs es over told))
 
 pub returns-in-End-clause-run : goal.returns-in-End-clause-run
-returns-in-End-clause-run g c sigs over = ended-whole c.args.store.now (mode_of c.args.mode) c.args.stream.now sigs (state_at c.args.store.now c.args.heap.now.items (trees_at c.args.store.now c.args.heap.now.items) c.args.targets.now.items c.args.hyps.now.items) c.args.steps.now c.commands.at c.commands.apart c.commands.heap.items c.commands.targets.items c.commands.hyps.items c.commands.steps (c.commands.invariant.underway sigs over) c.in-Ok.cmd (sym c.in-Ok.ensures.computed) (command_of c.in-Some.next) c.in-Some.ensures.some c.step.new.apart c.step.new.heap.items c.step.new.targets.items c.step.new.hyps.items (subst IsEnd (ap command_of (sym c.in-End.is)) tt) (λ es told. c.in_default-step.ensures.row sigs es over told)
+returns-in-End-clause-run g c sigs over = ended-whole (c.commands.invariant.underway sigs over) c.in-Ok.cmd (sym c.in-Ok.ensures.computed) (command_of c.in-Some.next) c.in-Some.ensures.some (λ fs. TellsFor (mode_of c.args.mode) c.args.store.now.context c.step.new.apart fs) (λ fs. state_at c.args.store.now c.step.new.heap.items fs c.step.new.targets.items c.step.new.hyps.items) (trees_at c.args.store.now c.step.new.heap.items) (items_at c.args.store.now c.step.new.hyps.items) (λ _. (refl, refl)) (subst IsEnd (ap command_of (sym c.in-End.is)) tt) (λ es told. c.in_default-step.ensures.row sigs es over told)
 
 pub returns-in-End-clause-steps : goal.returns-in-End-clause-steps
-returns-in-End-clause-steps g c sigs over = c.tick.ensures ∙ ended-many c.args.store.now (mode_of c.args.mode) c.args.stream.now sigs (state_at c.args.store.now c.args.heap.now.items (trees_at c.args.store.now c.args.heap.now.items) c.args.targets.now.items c.args.hyps.now.items) c.args.steps.now c.commands.at c.commands.apart c.commands.heap.items c.commands.targets.items c.commands.hyps.items c.commands.steps (c.commands.invariant.underway sigs over) c.in-Ok.cmd (sym c.in-Ok.ensures.computed) (command_of c.in-Some.next) c.in-Some.ensures.some c.step.new.apart c.step.new.heap.items c.step.new.targets.items c.step.new.hyps.items (subst IsEnd (ap command_of (sym c.in-End.is)) tt) (λ es told. c.in_default-step.ensures.row sigs es over told)
+returns-in-End-clause-steps g c sigs over = c.tick.ensures ∙ ended-many (c.commands.invariant.underway sigs over) c.in-Ok.cmd (sym c.in-Ok.ensures.computed) (command_of c.in-Some.next) c.in-Some.ensures.some (λ fs. TellsFor (mode_of c.args.mode) c.args.store.now.context c.step.new.apart fs) (λ fs. state_at c.args.store.now c.step.new.heap.items fs c.step.new.targets.items c.step.new.hyps.items) (subst IsEnd (ap command_of (sym c.in-End.is)) tt) (λ es told. c.in_default-step.ensures.row sigs es over told)
 
 pub overflow_add-at : goal.overflow_add-at
 overflow_add-at g c =
@@ -61,7 +61,7 @@ commands-preserved g c =
       ticked = rw (c.tick.ensures, c.from-at.ensures) (omega (arith, (command-long (drop c.commands.at c.args.stream.now) c.in-Ok.cmd (sym c.in-Ok.ensures.computed)).0, c.commands.invariant.ticked));
       held = c.commands.invariant.held;
       left = (before.0 + after.0, rw c.from-at.ensures (omega arith), left-both c.args.hyps.now.items c.commands.hyps.items c.step.new.hyps.items before.0 after.0 before.2 after.2);
-      underway = λ sigs over. rw (c.tick.ensures, c.from-at.ensures) (goes-on c.args.store.now (mode_of c.args.mode) c.args.stream.now sigs (state_at c.args.store.now c.args.heap.now.items (trees_at c.args.store.now c.args.heap.now.items) c.args.targets.now.items c.args.hyps.now.items) c.args.steps.now c.commands.at c.commands.apart c.commands.heap.items c.commands.targets.items c.commands.hyps.items c.commands.steps (c.commands.invariant.underway sigs over) c.in-Ok.cmd (sym c.in-Ok.ensures.computed) (command_of c.in-Some.next) c.in-Some.ensures.some c.step.new.apart c.step.new.heap.items c.step.new.targets.items c.step.new.hyps.items (not-end c.in-Some.next c.in_default-next.not-End) (λ es told. c.in_default-step.ensures.row sigs es over told));
+      underway = λ sigs over. rw (c.tick.ensures, c.from-at.ensures) (goes-on (c.commands.invariant.underway sigs over) c.in-Ok.cmd (sym c.in-Ok.ensures.computed) (command_of c.in-Some.next) c.in-Some.ensures.some (λ fs. TellsFor (mode_of c.args.mode) c.args.store.now.context c.step.new.apart fs) (λ fs. state_at c.args.store.now c.step.new.heap.items fs c.step.new.targets.items c.step.new.hyps.items) (not-end c.in-Some.next c.in_default-next.not-End) (λ es told. c.in_default-step.ensures.row sigs es over told));
     }
 
 pub step-requires-clause-stands : goal.step-requires-clause-stands

@@ -1,8 +1,10 @@
 use Rattle.std.proofs.Common.{◌≡◌, ℕ, ◌+◌, ◌-◌, ◌≤◌, List, length}
+use Rattle.mz_logic.specs.Tree.{Tree}
 use Rattle.mz_logic.specs.Signature.{Signature}
 use Rattle.mz_store.specs.Sharing.{AreIn, IsOver}
+use Rattle.mz_unification.specs.Profile.{strict}
 use Rattle.mz_unify.specs.Stored.{mode_of, trees_at, AreItemsIn, AreLeft}
-use Rattle.mz_unify.specs.Rows.{state_at}
+use Rattle.mz_unify.specs.Rows.{TellsFor, state_at}
 use Rattle.mz_unify.proofs.Underway.{IsUnderway}
 use Rattle.mz_unify.proofs.running.run.Given as goal
 
@@ -15,7 +17,9 @@ invariant-commands g l = record {
   ticked : l.steps ≤ l.fn.steps + l.at;
   held : l.held ≡ length l.fn.hyps.items;
   left : (taken : ℕ) × (taken ≤ l.at) × AreLeft l.fn.hyps.items l.hyps.items taken;
-  underway : (sigs : List Signature) → IsOver sigs l.store → IsUnderway l.store (mode_of l.mode) l.stream sigs (state_at l.store l.fn.heap.items (trees_at l.store l.fn.heap.items) l.fn.targets.items l.fn.hyps.items) l.fn.steps l.at l.apart l.heap.items l.targets.items l.hyps.items l.steps;
+  underway : (sigs : List Signature) → IsOver sigs l.store
+      → IsUnderway strict sigs l.store.context (mode_of l.mode) (List Tree) l.stream (state_at l.store l.fn.heap.items (trees_at l.store l.fn.heap.items) l.fn.targets.items l.fn.hyps.items) l.fn.steps l.at
+      (λ es. TellsFor (mode_of l.mode) l.store.context l.apart es) (λ es. state_at l.store l.heap.items es l.targets.items l.hyps.items) l.steps;
 }
 
 abbrev pub decreases-commands : goal.decreases-commands

@@ -2,15 +2,17 @@ use Rattle.std.proofs.Common.{◌∙◌, ap, sym}
 use Rattle.mz_unify.specs.Stored.{items_at}
 use Rattle.mz_unify.proofs.Offered.{heads-differ, heads-same}
 use Rattle.mz_soundness.specs.Premises.{pop_obligation}
-use Rattle.mz_machine.proofs.Converting.{cong-variable, cong-other, cong-row, gives-stack, operand-trees}
+use Rattle.mz_unify.proofs.Offered.{of-trees}
+use Rattle.mz_machine.proofs.ConversionRows.{cong-variable, cong-other, cong-row, gives-stack}
+use Rattle.mz_machine.proofs.Converting.{operand-trees}
 use Rattle.mz_machine.proofs.commands.conversions.cong.Goals as goal
 
 pub returns-in_default-clause-row : goal.returns-in_default-clause-row
-returns-in_default-clause-row c tables at n st is = cong-variable tables at n st _ _ _ (ap pop_obligation is ∙ c.in-Ok.ensures.taken) (sym c.head.ensures ∙ c.in_default.is)
+returns-in_default-clause-row c tables at n st is = cong-variable of-trees tables at n st _ _ _ (ap pop_obligation is ∙ c.in-Ok.ensures.taken) (sym c.head.ensures ∙ c.in_default.is)
 
 pub returns-then-ne-clause-row : goal.returns-then-ne-clause-row
 returns-then-ne-clause-row c tables at n st is =
-    cong-other tables at n st _ _ _ (ap pop_obligation is ∙ c.in-Ok.ensures.taken) c.in-Some.term (sym c.head.ensures ∙ c.in-Some.is)
+    cong-other of-trees tables at n st _ _ _ (ap pop_obligation is ∙ c.in-Ok.ensures.taken) c.in-Some.term (sym c.head.ensures ∙ c.in-Some.is)
     (λ h. heads-differ c.head-2.result c.in-Some.term (sym c.ne.ensures ∙ c.if-ne.true) (c.head-2.ensures ∙ h))
 
 pub returns-clause-row : goal.returns-clause-row
@@ -18,6 +20,6 @@ returns-clause-row c tables at n st is =
     let h = sym c.head.ensures ∙ c.in-Some.is in
     let i = sym c.head-2.ensures ∙ heads-same c.head-2.result c.in-Some.term (sym c.ne.ensures ∙ c.if-ne.false) in
     gives-stack st _ _ (items_at c.args.store.now c.push_sides.new.stack.items) c.push_sides.result
-    (cong-row tables at n st _ _ _ (ap pop_obligation is ∙ c.in-Ok.ensures.taken) c.in-Some.term h i)
+    (cong-row of-trees tables at n st _ _ _ (ap pop_obligation is ∙ c.in-Ok.ensures.taken) c.in-Some.term h i)
     (rw (← operand-trees c.args.store.now c.args-2.result.now _ c.args-2.ensures.trees, ← operand-trees c.args.store.now c.args-3.result.now _ c.args-3.ensures.trees) c.push_sides.ensures.sides)
     c.push_sides.ensures.err

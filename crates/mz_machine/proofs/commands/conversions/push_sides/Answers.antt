@@ -5,7 +5,8 @@ use Rattle.mz_store.specs.Sharing.{tree_of}
 use Rattle.mz_store.specs.declared.item.Id.{Id}
 use Rattle.mz_unification.specs.Profile.{obligation}
 use Rattle.mz_unify.proofs.Offered.{items-push, is-in-at}
-use Rattle.mz_machine.proofs.Converting.{put_in, sides_from, no-sides, next-side, least, one-before}
+use Rattle.mz_machine.proofs.ConversionRows.{sides_from, no-sides, next-side}
+use Rattle.mz_machine.proofs.Converting.{put_in, least, one-before}
 use Rattle.mz_machine.proofs.commands.conversions.push_sides.Goals as goal
 
 pub operands-init : goal.operands-init
@@ -15,7 +16,7 @@ operands-init c =
       left = rw c.min-at.ensures left;
       right = rw c.min-at.ensures right;
       ids = c.requires.stack;
-      sides = sym (rw c.min-at.ensures (no-sides c.args.store.now c.args.lefts.now c.args.rights.now (items_at c.args.store.now c.args.stack.now.items) _ either));
+      sides = sym (rw c.min-at.ensures (no-sides (λ i. tree_of c.args.store.now i.0) c.args.lefts.now c.args.rights.now (items_at c.args.store.now c.args.stack.now.items) _ either));
     }
 
 pub operands-preserved : goal.operands-preserved
@@ -33,6 +34,6 @@ operands-preserved c =
       sides =
           ap (items_at s) c.in_ok-push.ensures.ok ∙ (items-push s c.operands.stack.items _
           ∙ (ap (λ ys. obligation (tree_of s (get_or c.args.lefts.now at d).0) (tree_of s (get_or c.args.rights.now at d).0) ∷ ys)
-          (c.operands.invariant.sides ∙ ap (sides_from s c.args.lefts.now c.args.rights.now xs) (sym (one-before c.operands.at c.operands-test.true)))
-          ∙ sym (next-side s c.args.lefts.now c.args.rights.now xs at _ _ l r)));
+          (c.operands.invariant.sides ∙ ap (sides_from (λ i. tree_of s i.0) c.args.lefts.now c.args.rights.now xs) (sym (one-before c.operands.at c.operands-test.true)))
+          ∙ sym (next-side (λ i. tree_of s i.0) c.args.lefts.now c.args.rights.now xs at _ _ l r)));
     }

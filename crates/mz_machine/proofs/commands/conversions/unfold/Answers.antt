@@ -3,23 +3,26 @@ use Rattle.mz_store.specs.Sharing.{IsOver, tree_of}
 use Rattle.mz_unify.specs.Stored.{trees_at}
 use Rattle.mz_machine.specs.OverStore.{pop_unfolding}
 use Rattle.mz_earlier.proofs.Offered.{signatures-before}
-use Rattle.mz_machine.proofs.Converting.{not-taken, of-variable, not-defined, is-unfolding, unfold-stopped, stopped-steps, unfold-refused, unfold-row, unfold-steps, gives-stack, operand-trees}
+use Rattle.mz_unification.specs.Profile.{strict}
+use Rattle.mz_unify.proofs.Offered.{of-trees}
+use Rattle.mz_machine.proofs.ConversionRows.{not-taken, of-variable, not-defined, is-unfolding, unfold-stopped, stopped-steps, unfold-refused, unfold-row, unfold-steps, gives-stack}
+use Rattle.mz_machine.proofs.Converting.{operand-trees}
 use Rattle.mz_machine.proofs.Unfoldings.{term-there, row-there, stream-there, no-stream, same-run, same-count, no-more, so-many, ids-pushed, items-pushed, unless-mem}
 use Rattle.mz_machine.proofs.commands.conversions.unfold.Goals as goal
 
 pub returns-in-Err-clause-row : goal.returns-in-Err-clause-row
-returns-in-Err-clause-row g c at n st ctx is = unfold-stopped _ st at n _ (not-taken _ st _ (ap pop_unfolding is ∙ c.in-Err.ensures.taken))
+returns-in-Err-clause-row g c at n st ctx is = unfold-stopped strict _ st at n _ (not-taken strict _ st _ (ap pop_unfolding is ∙ c.in-Err.ensures.taken))
 
 pub returns-in-Err-clause-steps : goal.returns-in-Err-clause-steps
-returns-in-Err-clause-steps g c n st ctx is = no-more _ _ (stopped-steps _ st n _ (not-taken _ st _ (ap pop_unfolding is ∙ c.in-Err.ensures.taken)))
+returns-in-Err-clause-steps g c n st ctx is = no-more _ _ (stopped-steps strict _ st n _ (not-taken strict _ st _ (ap pop_unfolding is ∙ c.in-Err.ensures.taken)))
 
 pub returns-in_default-clause-row : goal.returns-in_default-clause-row
 returns-in_default-clause-row g c at n st ctx is =
-    unfold-stopped _ st at n _ (of-variable _ st _ _ _ _ (ap pop_unfolding is ∙ c.in-Ok.ensures.taken) (sym c.head.ensures ∙ c.in_default.is))
+    unfold-stopped strict _ st at n _ (of-variable strict _ st of-trees _ _ _ _ (ap pop_unfolding is ∙ c.in-Ok.ensures.taken) (sym c.head.ensures ∙ c.in_default.is))
 
 pub returns-in_default-clause-steps : goal.returns-in_default-clause-steps
 returns-in_default-clause-steps g c n st ctx is =
-    no-more _ _ (stopped-steps _ st n _ (of-variable _ st _ _ _ _ (ap pop_unfolding is ∙ c.in-Ok.ensures.taken) (sym c.head.ensures ∙ c.in_default.is)))
+    no-more _ _ (stopped-steps strict _ st n _ (of-variable strict _ st of-trees _ _ _ _ (ap pop_unfolding is ∙ c.in-Ok.ensures.taken) (sym c.head.ensures ∙ c.in_default.is)))
 
 pub has_body-requires : goal.has_body-requires
 has_body-requires g c = term-there c.args.earlier.now c.args.store.now c.requires.over c.in-Ok.items.1.0 c.in-Some.term c.in-Ok.ensures.ids.1 (sym c.head.ensures ∙ c.in-Some.is)
@@ -28,14 +31,14 @@ pub returns-then-not-has_body-clause-row : goal.returns-then-not-has_body-clause
 returns-then-not-has_body-clause-row g c at n st ctx is =
     let h = sym c.head.ensures ∙ c.in-Some.is in
     let there = row-there c.args.earlier.now c.in-Some.term (term-there c.args.earlier.now c.args.store.now c.requires.over c.in-Ok.items.1.0 c.in-Some.term c.in-Ok.ensures.ids.1 h) in
-    unfold-stopped _ st at n _ (not-defined _ st _ _ _ _ (ap pop_unfolding is ∙ c.in-Ok.ensures.taken) c.in-Some.term h
+    unfold-stopped strict _ st at n _ (not-defined strict _ st of-trees _ _ _ _ (ap pop_unfolding is ∙ c.in-Ok.ensures.taken) c.in-Some.term h
     (no-stream c.args.earlier.now c.in-Some.term there (sym c.has_body.ensures.row ∙ c.if-not-has_body.true)))
 
 pub returns-then-not-has_body-clause-steps : goal.returns-then-not-has_body-clause-steps
 returns-then-not-has_body-clause-steps g c n st ctx is =
     let h = sym c.head.ensures ∙ c.in-Some.is in
     let there = row-there c.args.earlier.now c.in-Some.term (term-there c.args.earlier.now c.args.store.now c.requires.over c.in-Ok.items.1.0 c.in-Some.term c.in-Ok.ensures.ids.1 h) in
-    no-more _ _ (stopped-steps _ st n _ (not-defined _ st _ _ _ _ (ap pop_unfolding is ∙ c.in-Ok.ensures.taken) c.in-Some.term h
+    no-more _ _ (stopped-steps strict _ st n _ (not-defined strict _ st of-trees _ _ _ _ (ap pop_unfolding is ∙ c.in-Ok.ensures.taken) c.in-Some.term h
     (no-stream c.args.earlier.now c.in-Some.term there (sym c.has_body.ensures.row ∙ c.if-not-has_body.true))))
 
 pub stream_of_term-stream-requires : goal.stream_of_term-stream-requires
@@ -55,12 +58,12 @@ returns-in-Done-clause-row g c at n st ctx is =
     let l = tree_of s c.in-Ok.items.1.0 in
     let h = sym c.head.ensures ∙ c.in-Some.is in
     let there = row-there E t (term-there E s c.requires.over c.in-Ok.items.1.0 t c.in-Ok.ensures.ids.1 h) in
-    let m = is-unfolding _ st _ _ _ _ (ap pop_unfolding is ∙ c.in-Ok.ensures.taken) t _ h (stream-there E t there (sym c.has_body.ensures.row ∙ c.if-not-has_body.false)) in
+    let m = is-unfolding strict _ st of-trees _ _ _ _ (ap pop_unfolding is ∙ c.in-Ok.ensures.taken) t _ h (stream-there E t there (sym c.has_body.ensures.row ∙ c.if-not-has_body.false)) in
     let ops = c.in-Ok-extend_from_slice.ensures.items ∙ ap (λ is. is ++ c.args-2.result.now) c.clear.ensures.items in
     let are = ap (trees_at s) ops ∙ operand-trees s c.args-2.result.now l c.args-2.ensures.trees in
     let run = c.in-Done.ensures.run in
     gives-stack st _ _ _ c.push.result
-    (unfold-row _ st _ _ _ m at n _ (same-run E s st.ctx ctx t l c.in-Ok.items.0 _ _ _ c.stream_of_term-stream.ensures.stream are c.clear-2.ensures.items ∙ run.1))
+    (unfold-row strict _ st _ _ _ m at n _ (same-run E s st.ctx ctx t l c.in-Ok.items.0 _ _ _ c.stream_of_term-stream.ensures.stream are c.clear-2.ensures.items ∙ run.1))
     (items-pushed s _ _ _ c.push.result c.push.ensures.ok) c.push.ensures.err
 
 pub returns-in-Done-clause-steps : goal.returns-in-Done-clause-steps
@@ -71,10 +74,10 @@ returns-in-Done-clause-steps g c n st ctx is =
     let l = tree_of s c.in-Ok.items.1.0 in
     let h = sym c.head.ensures ∙ c.in-Some.is in
     let there = row-there E t (term-there E s c.requires.over c.in-Ok.items.1.0 t c.in-Ok.ensures.ids.1 h) in
-    let m = is-unfolding _ st _ _ _ _ (ap pop_unfolding is ∙ c.in-Ok.ensures.taken) t _ h (stream-there E t there (sym c.has_body.ensures.row ∙ c.if-not-has_body.false)) in
+    let m = is-unfolding strict _ st of-trees _ _ _ _ (ap pop_unfolding is ∙ c.in-Ok.ensures.taken) t _ h (stream-there E t there (sym c.has_body.ensures.row ∙ c.if-not-has_body.false)) in
     let ops = c.in-Ok-extend_from_slice.ensures.items ∙ ap (λ is. is ++ c.args-2.result.now) c.clear.ensures.items in
     let are = ap (trees_at s) ops ∙ operand-trees s c.args-2.result.now l c.args-2.ensures.trees in
-    unless-mem c.push.result (so-many _ _ _ _ c.in-Done.ensures.steps (unfold-steps _ st _ _ _ m n ∙ sym (same-count E s st.ctx ctx t l c.in-Ok.items.0 _ _ _ c.stream_of_term-stream.ensures.stream are c.clear-2.ensures.items)))
+    unless-mem c.push.result (so-many _ _ _ _ c.in-Done.ensures.steps (unfold-steps strict _ st _ _ _ m n ∙ sym (same-count E s st.ctx ctx t l c.in-Ok.items.0 _ _ _ c.stream_of_term-stream.ensures.stream are c.clear-2.ensures.items)))
 
 pub returns-in-Refused-clause-row : goal.returns-in-Refused-clause-row
 returns-in-Refused-clause-row g c at n st ctx is =
@@ -84,10 +87,10 @@ returns-in-Refused-clause-row g c at n st ctx is =
     let l = tree_of s c.in-Ok.items.1.0 in
     let h = sym c.head.ensures ∙ c.in-Some.is in
     let there = row-there E t (term-there E s c.requires.over c.in-Ok.items.1.0 t c.in-Ok.ensures.ids.1 h) in
-    let m = is-unfolding _ st _ _ _ _ (ap pop_unfolding is ∙ c.in-Ok.ensures.taken) t _ h (stream-there E t there (sym c.has_body.ensures.row ∙ c.if-not-has_body.false)) in
+    let m = is-unfolding strict _ st of-trees _ _ _ _ (ap pop_unfolding is ∙ c.in-Ok.ensures.taken) t _ h (stream-there E t there (sym c.has_body.ensures.row ∙ c.if-not-has_body.false)) in
     let ops = c.in-Ok-extend_from_slice.ensures.items ∙ ap (λ is. is ++ c.args-2.result.now) c.clear.ensures.items in
     let are = ap (trees_at s) ops ∙ operand-trees s c.args-2.result.now l c.args-2.ensures.trees in
-    unfold-refused _ st _ _ _ m at n _ _ (same-run E s st.ctx ctx t l c.in-Ok.items.0 _ _ _ c.stream_of_term-stream.ensures.stream are c.clear-2.ensures.items ∙ c.in-Refused.ensures.run)
+    unfold-refused strict _ st _ _ _ m at n _ _ (same-run E s st.ctx ctx t l c.in-Ok.items.0 _ _ _ c.stream_of_term-stream.ensures.stream are c.clear-2.ensures.items ∙ c.in-Refused.ensures.run)
 
 pub returns-in-Refused-clause-steps : goal.returns-in-Refused-clause-steps
 returns-in-Refused-clause-steps g c n st ctx is =
@@ -97,7 +100,7 @@ returns-in-Refused-clause-steps g c n st ctx is =
     let l = tree_of s c.in-Ok.items.1.0 in
     let h = sym c.head.ensures ∙ c.in-Some.is in
     let there = row-there E t (term-there E s c.requires.over c.in-Ok.items.1.0 t c.in-Ok.ensures.ids.1 h) in
-    let m = is-unfolding _ st _ _ _ _ (ap pop_unfolding is ∙ c.in-Ok.ensures.taken) t _ h (stream-there E t there (sym c.has_body.ensures.row ∙ c.if-not-has_body.false)) in
+    let m = is-unfolding strict _ st of-trees _ _ _ _ (ap pop_unfolding is ∙ c.in-Ok.ensures.taken) t _ h (stream-there E t there (sym c.has_body.ensures.row ∙ c.if-not-has_body.false)) in
     let ops = c.in-Ok-extend_from_slice.ensures.items ∙ ap (λ is. is ++ c.args-2.result.now) c.clear.ensures.items in
     let are = ap (trees_at s) ops ∙ operand-trees s c.args-2.result.now l c.args-2.ensures.trees in
-    so-many _ _ _ _ c.in-Refused.ensures.steps (unfold-steps _ st _ _ _ m n ∙ sym (same-count E s st.ctx ctx t l c.in-Ok.items.0 _ _ _ c.stream_of_term-stream.ensures.stream are c.clear-2.ensures.items))
+    so-many _ _ _ _ c.in-Refused.ensures.steps (unfold-steps strict _ st _ _ _ m n ∙ sym (same-count E s st.ctx ctx t l c.in-Ok.items.0 _ _ _ c.stream_of_term-stream.ensures.stream are c.clear-2.ensures.items))

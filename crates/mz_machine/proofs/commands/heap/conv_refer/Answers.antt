@@ -6,15 +6,16 @@ use Rattle.mz_unification.specs.Profile.{conversion}
 use Rattle.mz_unify.specs.Stored.{item_at, IsItemIn}
 use Rattle.mz_machine.proofs.Popping.{item-in-at, item-at-heap, no-item-at-heap}
 use Rattle.mz_machine.proofs.RowResults.{conv-ref-none, conv-ref-other, conv-ref-row}
+use Rattle.mz_unification.specs.Profile.{strict}
 use Rattle.mz_machine.proofs.commands.heap.conv_refer.Goals as goal
 
 pub returns-in_default-clause-row : goal.returns-in_default-clause-row
 returns-in_default-clause-row c tables at st heap is =
-    conv-ref-none tables at c.args.place st (ap (λ xs. slice_get xs c.args.place) heap ∙ no-item-at-heap c.args.store.now c.args.heap.now c.args.place (sym c.kept_at.ensures ∙ c.in_default.is))
+    conv-ref-none strict tables at c.args.place st (ap (λ xs. slice_get xs c.args.place) heap ∙ no-item-at-heap c.args.store.now c.args.heap.now c.args.place (sym c.kept_at.ensures ∙ c.in_default.is))
 
 pub returns-in_default-conversion_of-clause-row : goal.returns-in_default-conversion_of-clause-row
 returns-in_default-conversion_of-clause-row c tables at st heap is =
-    conv-ref-other tables at c.args.place st (item_at c.args.store.now c.in-Some.item)
+    conv-ref-other strict tables at c.args.place st (item_at c.args.store.now c.in-Some.item)
     (ap (λ xs. slice_get xs c.args.place) heap ∙ item-at-heap c.args.store.now c.args.heap.now c.args.place c.in-Some.item (sym c.kept_at.ensures ∙ c.in-Some.is))
     (c.in_default-conversion_of.ensures.none c.args.store.now)
 
@@ -32,12 +33,12 @@ pub returns-in_err-pay-clause-row : goal.returns-in_err-pay-clause-row
 returns-in_err-pay-clause-row c tables at st heap is =
     let p = err_from_is_err_and c.from_residual.result c.from_residual.ensures.1 in
     rw (p.1, p.2)
-    (conv-ref-row tables at c.args.place st (conversion (tree_of c.args.store.now c.in-Some-conversion_of.left.0) (tree_of c.args.store.now c.in-Some-conversion_of.right.0))
+    (conv-ref-row strict tables at c.args.place st (conversion (tree_of c.args.store.now c.in-Some-conversion_of.left.0) (tree_of c.args.store.now c.in-Some-conversion_of.right.0))
     (ap (λ xs. slice_get xs c.args.place) heap ∙ item-at-heap c.args.store.now c.args.heap.now c.args.place c.in-Some.item (sym c.kept_at.ensures ∙ c.in-Some.is)
     ∙ ap (λ x. Some (item_at c.args.store.now x)) c.in-Some-conversion_of.ensures.some) refl ∙ c.in_err-pay.ensures.row st is)
 
 pub returns-clause-row : goal.returns-clause-row
 returns-clause-row c tables at st heap is =
-    conv-ref-row tables at c.args.place st (conversion (tree_of c.args.store.now c.in-Some-conversion_of.left.0) (tree_of c.args.store.now c.in-Some-conversion_of.right.0))
+    conv-ref-row strict tables at c.args.place st (conversion (tree_of c.args.store.now c.in-Some-conversion_of.left.0) (tree_of c.args.store.now c.in-Some-conversion_of.right.0))
     (ap (λ xs. slice_get xs c.args.place) heap ∙ item-at-heap c.args.store.now c.args.heap.now c.args.place c.in-Some.item (sym c.kept_at.ensures ∙ c.in-Some.is)
     ∙ ap (λ x. Some (item_at c.args.store.now x)) c.in-Some-conversion_of.ensures.some) refl ∙ c.in_ok-pay.ensures.row st is

@@ -2,6 +2,7 @@ use Rattle.std.proofs.Common.{◌≡◌, ◌∙◌, true, false, refl, sym, ap}
 use Rattle.mz_store.specs.Sharing.{tree_of}
 use Rattle.mz_soundness.specs.Premises.{pop_obligation}
 use Rattle.mz_machine.proofs.RowResults.{pay-left, pay-right, pay-row}
+use Rattle.mz_unify.proofs.Offered.{of-trees}
 use Rattle.mz_machine.proofs.commands.heap.pay.Goals.{else-same-via-then-same+else-same-2, else-same-via-else-same}
 use Rattle.mz_machine.proofs.commands.heap.pay.Goals as goal
 
@@ -10,15 +11,15 @@ true-false e = cc
 
 pub returns-then-same-2-clause-row : goal.returns-then-same-2-clause-row
 returns-then-same-2-clause-row c st is =
-    pay-row st (tree_of c.args.store.now c.args.left.0) (tree_of c.args.store.now c.args.right.0) _ _ _ (ap pop_obligation is ∙ c.in_ok-owed_left.ensures.taken)
+    pay-row of-trees st (tree_of c.args.store.now c.args.left.0) (tree_of c.args.store.now c.args.right.0) _ _ _ (ap pop_obligation is ∙ c.in_ok-owed_left.ensures.taken)
     (c.if-same.ensures.trees.0 refl) (c.if-same-2.ensures.trees.0 refl)
 
 pub returns-else-same-clause-row : goal.returns-else-same-clause-row
 returns-else-same-clause-row c st is = elim c.else-same.branch [
   | else-same-via-then-same+else-same-2 w ↦
-      pay-right st (tree_of c.args.store.now c.args.left.0) (tree_of c.args.store.now c.args.right.0) _ _ _ (ap pop_obligation is ∙ c.in_ok-owed_left.ensures.taken)
+      pay-right of-trees st (tree_of c.args.store.now c.args.left.0) (tree_of c.args.store.now c.args.right.0) _ _ _ (ap pop_obligation is ∙ c.in_ok-owed_left.ensures.taken)
       (w.if-same.ensures.trees.0 refl) (λ same. true-false (sym (w.if-same-2.ensures.trees.1 same)))
   | else-same-via-else-same w ↦
-      pay-left st (tree_of c.args.store.now c.args.left.0) (tree_of c.args.store.now c.args.right.0) _ _ _ (ap pop_obligation is ∙ c.in_ok-owed_left.ensures.taken)
+      pay-left of-trees st (tree_of c.args.store.now c.args.left.0) (tree_of c.args.store.now c.args.right.0) _ _ _ (ap pop_obligation is ∙ c.in_ok-owed_left.ensures.taken)
       (λ same. true-false (sym (w.if-same.ensures.trees.1 same)))
 ]

@@ -14,20 +14,21 @@ use Rattle.mz_earlier.specs.Before.{tables_of, signatures_of, words_before}
 use Rattle.mz_soundness.specs.FileRows.{term_of_file}
 use Rattle.mz_earlier.proofs.Offered.{term-before, no-term-before}
 use Rattle.mz_machine.proofs.Stopping.{stops-as}
-use Rattle.mz_machine.proofs.TermResults.{built-none, built-few, built-unfit, built-row, can-take, over-words, over-rows, items-kept, items-still, same-trees, takes-its-own}
+use Rattle.mz_machine.proofs.TermRows.{built-none, built-few, built-unfit, built-row, takes-its-own}
+use Rattle.mz_machine.proofs.TermResults.{can-take, over-words, over-rows, items-kept, items-still, map-same, same-trees}
 use Rattle.mz_machine.proofs.Dummies.{no-dummies}
 use Rattle.mz_machine.proofs.commands.terms.build.Goals as goal
 
 pub returns-then-t-terms-clause-built : goal.returns-then-t-terms-clause-built
 returns-then-t-terms-clause-built c at st ctx is =
-    built-none (tables_of c.args.earlier.now) at c.args.t st (no-term-before c.args.earlier.now c.args.t (omega (arith, c.terms.ensures.rows, c.if-t-terms.true)))
+    built-none strict (tables_of c.args.earlier.now) at c.args.t st (no-term-before c.args.earlier.now c.args.t (omega (arith, c.terms.ensures.rows, c.if-t-terms.true)))
 
 pub returns-in_err-pop_operands-clause-built : goal.returns-in_err-pop_operands-clause-built
 returns-in_err-pop_operands-clause-built c at st ctx is =
     let p = err_from_is_err_and c.from_residual.result c.from_residual.ensures.1 in
     let row = term-before c.args.earlier.now c.args.t (let e : c.args.t < c.args.earlier.now.rows.terms = omega (arith, c.terms.ensures.rows, c.if-t-terms.false) in e) in
     rw (p.1, p.2) (stops-as c.in_err-pop_operands.field-0.0 _ (λ k. built strict (tables_of c.args.earlier.now) at c.args.t st ≡ Err k)
-    (λ k h. built-few (tables_of c.args.earlier.now) at c.args.t st (term_of_file c.args.earlier.now.file c.args.t) row k
+    (λ k h. built-few strict (tables_of c.args.earlier.now) at c.args.t st (term_of_file c.args.earlier.now.file c.args.t) row k
     (takes-its-own c.args.earlier.now c.args.t st _ c.arity_of.result _ c.arity_of.ensures is h)) c.in_err-pop_operands.ensures.taken)
 
 pub check_operands-requires-clause-many : goal.check_operands-requires-clause-many
@@ -36,8 +37,8 @@ check_operands-requires-clause-many c = ap length c.deref.ensures.value ∙ c.in
 pub returns-in-Err-clause-built : goal.returns-in-Err-clause-built
 returns-in-Err-clause-built c at st ctx is =
     let row = term-before c.args.earlier.now c.args.t (let e : c.args.t < c.args.earlier.now.rows.terms = omega (arith, c.terms.ensures.rows, c.if-t-terms.false) in e) in
-    built-unfit (tables_of c.args.earlier.now) at c.args.t st (term_of_file c.args.earlier.now.file c.args.t) row c.in-Err.rule _ _
-    (takes-its-own c.args.earlier.now c.args.t st _ c.arity_of.result _ c.arity_of.ensures is c.in_ok-pop_operands.ensures.taken)
+    built-unfit strict (tables_of c.args.earlier.now) at c.args.t st (term_of_file c.args.earlier.now.file c.args.t) row (λ es. es) map-same _ _
+    (takes-its-own c.args.earlier.now c.args.t st _ c.arity_of.result _ c.arity_of.ensures is c.in_ok-pop_operands.ensures.taken) c.in-Err.rule
     (subst (λ x. operands_fit (signatures_of c.args.earlier.now) x (trees_at c.args.store.now c.pop_operands.new.operands.items) (binders_of (term_row c.args.earlier.now.file c.args.t).words.params) ≡ Err c.in-Err.rule) (sym ctx)
     (subst (λ ids. operands_fit (signatures_of c.args.earlier.now) c.args.store.now.context (trees_at c.args.store.now ids) (binders_of (term_row c.args.earlier.now.file c.args.t).words.params) ≡ Err c.in-Err.rule) c.deref.ensures.value c.in-Err.ensures))
 
@@ -69,7 +70,7 @@ returns-clause-built c at st ctx is =
     let made : tree_of c.app.new.self c.in-Ok.made.0 ≡ app c.args.t (trees_of (trees_at c.args.store.now c.pop_operands.new.operands.items)) =
     c.in-Ok.ensures.holds.1 ∙ ap (λ ids. app c.args.t (trees_in c.args.store.now ids)) c.deref-2.ensures.value ∙ ap (app c.args.t) (sym (same-trees c.args.store.now c.pop_operands.new.operands.items)) in
     rw (made, items-kept c.args.store.now c.app.new.self c.in-Ok.ensures.kept c.pop_operands.new.stack.items c.in_ok-pop_operands.ensures.ids.1)
-    (built-row (tables_of c.args.earlier.now) at c.args.t st (term_of_file c.args.earlier.now.file c.args.t) row _ _
+    (built-row strict (tables_of c.args.earlier.now) at c.args.t st (term_of_file c.args.earlier.now.file c.args.t) row (λ es. es) map-same _ _
     (takes-its-own c.args.earlier.now c.args.t st _ c.arity_of.result _ c.arity_of.ensures is c.in_ok-pop_operands.ensures.taken)
     (subst (λ x. operands_fit (signatures_of c.args.earlier.now) x (trees_at c.args.store.now c.pop_operands.new.operands.items) (binders_of (term_row c.args.earlier.now.file c.args.t).words.params) ≡ Ok tt) (sym ctx)
     (subst (λ ids. operands_fit (signatures_of c.args.earlier.now) c.args.store.now.context (trees_at c.args.store.now ids) (binders_of (term_row c.args.earlier.now.file c.args.t).words.params) ≡ Ok tt) c.deref.ensures.value c.in_default.ensures)))

@@ -1,55 +1,57 @@
-use Rattle.std.proofs.Common.{◌≡◌, ◌∙◌, Err, Ok, List, true, false, sym, subst, arith}
+use Rattle.std.proofs.Common.{◌≡◌, ◌∙◌, Err, Ok, List, true, false, length, sym, subst, arith}
 use Rattle.std.proofs.lemmas.Result.{err_from_is_err_and}
 use Rattle.mz_logic.specs.Words.{binders_of}
 use Rattle.mz_layout.specs.Tables.{thm_row}
 use Rattle.mz_store.specs.declared.item.Id.{Id}
-use Rattle.mz_unify.specs.Stored.{trees_at}
+use Rattle.mz_unify.specs.Stored.{items_at, trees_at}
 use Rattle.mz_unification.specs.Profile.{strict}
 use Rattle.mz_soundness.specs.ProofMachine.{citation}
 use Rattle.mz_soundness.specs.Premises.{operands_fit, are_apart}
 use Rattle.mz_earlier.specs.Before.{tables_of, signatures_of}
 use Rattle.mz_machine.proofs.Stopping.{stops-as}
-use Rattle.mz_machine.proofs.Citing.{cites-none, cites-few, cites-other, cites-without, cites-unfit, cites-meeting, cites-so}
+use Rattle.mz_machine.proofs.TermResults.{map-same}
+use Rattle.mz_machine.proofs.CitationRows.{cites-none, cites-few, cites-other, cites-without, cites-unfit, cites-meeting, cites-so}
+use Rattle.mz_machine.proofs.Citing.{items-many}
 use Rattle.mz_machine.proofs.commands.terms.take_citation.Goals as goal
 
 pub returns-then-t-thms-clause-taken : goal.returns-then-t-thms-clause-taken
-returns-then-t-thms-clause-taken c st ctx is = cites-none c.args.earlier.now c.args.t st (omega (arith, c.thms.ensures.rows, c.if-t-thms.true))
+returns-then-t-thms-clause-taken c st ctx is = cites-none strict (λ es. es) map-same c.args.earlier.now c.args.t st (omega (arith, c.thms.ensures.rows, c.if-t-thms.true))
 
 pub returns-then-len-arity-clause-taken : goal.returns-then-len-arity-clause-taken
 returns-then-len-arity-clause-taken c st ctx is =
-    cites-few c.args.earlier.now c.args.t st c.args.store.now c.args.stack.now.items c.arity_of-arity.result (omega (arith, c.thms.ensures.rows, c.if-t-thms.false)) c.arity_of-arity.ensures is
+    cites-few strict (λ es. es) map-same c.args.earlier.now c.args.t st (items_at c.args.store.now c.args.stack.now.items) (length c.args.stack.now.items) c.arity_of-arity.result (items-many c.args.store.now c.args.stack.now.items) (omega (arith, c.thms.ensures.rows, c.if-t-thms.false)) c.arity_of-arity.ensures is
     (omega (arith, c.len.ensures, c.args.stack.now.ok.0, c.if-len-arity.true))
 
 pub returns-in-Err-clause-taken : goal.returns-in-Err-clause-taken
 returns-in-Err-clause-taken c st ctx is =
-    cites-other c.args.earlier.now c.args.t st c.args.store.now c.args.stack.now.items c.arity_of-arity.result (omega (arith, c.thms.ensures.rows, c.if-t-thms.false)) c.arity_of-arity.ensures is
+    cites-other strict (λ es. es) map-same c.args.earlier.now c.args.t st (items_at c.args.store.now c.args.stack.now.items) (length c.args.stack.now.items) c.arity_of-arity.result (items-many c.args.store.now c.args.stack.now.items) (omega (arith, c.thms.ensures.rows, c.if-t-thms.false)) c.arity_of-arity.ensures is
     (omega (arith, c.len.ensures, c.args.stack.now.ok.0, c.if-len-arity.false)) c.in-Err.rule c.in-Err.ensures.taken
 
 pub returns-in_err-pop_operands-clause-taken : goal.returns-in_err-pop_operands-clause-taken
 returns-in_err-pop_operands-clause-taken c st ctx is =
     let p = err_from_is_err_and c.from_residual.result c.from_residual.ensures.1 in
     rw (p.1, p.2) (stops-as c.in_err-pop_operands.field-0.0 _ (λ k. citation strict (tables_of c.args.earlier.now) c.args.t st ≡ Err k)
-    (λ k h. cites-without c.args.earlier.now c.args.t st c.args.store.now c.args.stack.now.items c.arity_of-arity.result (omega (arith, c.thms.ensures.rows, c.if-t-thms.false)) c.arity_of-arity.ensures is
+    (λ k h. cites-without strict (λ es. es) map-same c.args.earlier.now c.args.t st (items_at c.args.store.now c.args.stack.now.items) (length c.args.stack.now.items) c.arity_of-arity.result (items-many c.args.store.now c.args.stack.now.items) (omega (arith, c.thms.ensures.rows, c.if-t-thms.false)) c.arity_of-arity.ensures is
     (omega (arith, c.len.ensures, c.args.stack.now.ok.0, c.if-len-arity.false)) _ _ c.in-Ok.ensures.taken k h) c.in_err-pop_operands.ensures.taken)
 
 pub returns-in_err-check_cited-clause-taken : goal.returns-in_err-check_cited-clause-taken
 returns-in_err-check_cited-clause-taken c st ctx is =
     let p = err_from_is_err_and c.from_residual-in_err-check_cited.result c.from_residual-in_err-check_cited.ensures.1 in
     rw (p.1, p.2) (stops-as c.in_err-check_cited.field-0.0 _ (λ k. citation strict (tables_of c.args.earlier.now) c.args.t st ≡ Err k)
-    (λ k h. cites-unfit c.args.earlier.now c.args.t st c.args.store.now c.args.stack.now.items c.arity_of-arity.result (omega (arith, c.thms.ensures.rows, c.if-t-thms.false)) c.arity_of-arity.ensures is
-    (omega (arith, c.len.ensures, c.args.stack.now.ok.0, c.if-len-arity.false)) _ _ c.in-Ok.ensures.taken _ _ c.in_ok-pop_operands.ensures.taken ctx k
+    (λ k h. cites-unfit strict (λ es. es) map-same c.args.earlier.now c.args.t st (items_at c.args.store.now c.args.stack.now.items) (length c.args.stack.now.items) c.arity_of-arity.result (items-many c.args.store.now c.args.stack.now.items) (omega (arith, c.thms.ensures.rows, c.if-t-thms.false)) c.arity_of-arity.ensures is
+    (omega (arith, c.len.ensures, c.args.stack.now.ok.0, c.if-len-arity.false)) _ _ c.in-Ok.ensures.taken _ _ c.in_ok-pop_operands.ensures.taken c.args.store.now.context ctx k
     (subst (λ (ids : List Id). operands_fit (signatures_of c.args.earlier.now) c.args.store.now.context (trees_at c.args.store.now ids) (binders_of (thm_row c.args.earlier.now.file c.args.t).params) ≡ Err k) c.deref.ensures.value h)) c.in_err-check_cited.ensures.fit)
 
 pub returns-then-not-are_apart-clause-taken : goal.returns-then-not-are_apart-clause-taken
 returns-then-not-are_apart-clause-taken c st ctx is =
-    cites-meeting c.args.earlier.now c.args.t st c.args.store.now c.args.stack.now.items c.arity_of-arity.result (omega (arith, c.thms.ensures.rows, c.if-t-thms.false)) c.arity_of-arity.ensures is
-    (omega (arith, c.len.ensures, c.args.stack.now.ok.0, c.if-len-arity.false)) _ _ c.in-Ok.ensures.taken _ _ c.in_ok-pop_operands.ensures.taken ctx
+    cites-meeting strict (λ es. es) map-same c.args.earlier.now c.args.t st (items_at c.args.store.now c.args.stack.now.items) (length c.args.stack.now.items) c.arity_of-arity.result (items-many c.args.store.now c.args.stack.now.items) (omega (arith, c.thms.ensures.rows, c.if-t-thms.false)) c.arity_of-arity.ensures is
+    (omega (arith, c.len.ensures, c.args.stack.now.ok.0, c.if-len-arity.false)) _ _ c.in-Ok.ensures.taken _ _ c.in_ok-pop_operands.ensures.taken c.args.store.now.context ctx
     (subst (λ (ids : List Id). operands_fit (signatures_of c.args.earlier.now) c.args.store.now.context (trees_at c.args.store.now ids) (binders_of (thm_row c.args.earlier.now.file c.args.t).params) ≡ Ok tt) c.deref.ensures.value c.in_ok-check_cited.ensures.fit)
     (subst (λ (ids : List Id). are_apart c.args.store.now.context (trees_at c.args.store.now ids) (binders_of (thm_row c.args.earlier.now.file c.args.t).params) ≡ false) c.deref-2.ensures.value (sym c.are_apart.ensures ∙ c.if-not-are_apart.true))
 
 pub returns-clause-taken : goal.returns-clause-taken
 returns-clause-taken c st ctx is =
-    cites-so c.args.earlier.now c.args.t st c.args.store.now c.args.stack.now.items c.arity_of-arity.result (omega (arith, c.thms.ensures.rows, c.if-t-thms.false)) c.arity_of-arity.ensures is
-    (omega (arith, c.len.ensures, c.args.stack.now.ok.0, c.if-len-arity.false)) _ _ c.in-Ok.ensures.taken _ _ c.in_ok-pop_operands.ensures.taken ctx
+    cites-so strict (λ es. es) map-same c.args.earlier.now c.args.t st (items_at c.args.store.now c.args.stack.now.items) (length c.args.stack.now.items) c.arity_of-arity.result (items-many c.args.store.now c.args.stack.now.items) (omega (arith, c.thms.ensures.rows, c.if-t-thms.false)) c.arity_of-arity.ensures is
+    (omega (arith, c.len.ensures, c.args.stack.now.ok.0, c.if-len-arity.false)) _ _ c.in-Ok.ensures.taken _ _ c.in_ok-pop_operands.ensures.taken c.args.store.now.context ctx
     (subst (λ (ids : List Id). operands_fit (signatures_of c.args.earlier.now) c.args.store.now.context (trees_at c.args.store.now ids) (binders_of (thm_row c.args.earlier.now.file c.args.t).params) ≡ Ok tt) c.deref.ensures.value c.in_ok-check_cited.ensures.fit)
     (subst (λ (ids : List Id). are_apart c.args.store.now.context (trees_at c.args.store.now ids) (binders_of (thm_row c.args.earlier.now.file c.args.t).params) ≡ true) c.deref-2.ensures.value (sym c.are_apart.ensures ∙ c.if-not-are_apart.false))

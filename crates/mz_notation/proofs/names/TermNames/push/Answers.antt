@@ -1,21 +1,23 @@
-use Rattle.std.proofs.Common.{◌∙◌, List, Some, ap, sym, subst, Contains}
-use Rattle.std.specs.Prelude.{bytes_eq, if◌then◌else◌}
-use Rattle.mz_notation.specs.Names.{HasName}
-use Rattle.mz_tokens.specs.Places.{LeadsTo, place_of}
-use Rattle.mz_notation.specs.declared.table.TermName.{TermName}
-use Rattle.mz_tokens.proofs.Offered.{leads-kept, leads-more}
+use Rattle.std.proofs.Common.{◌≡◌, ◌∙◌, ◌++◌, ◌∷◌, [], List, ap, sym, refl, subst, Contains}
+use Rattle.mz_notation.specs.Names.{AreOnce, all_named, name_with}
+use Rattle.mz_notation.specs.Notation.{TermName}
+use Rattle.mz_notation.proofs.Naming.{name-more, once-more}
 use Rattle.mz_notation.proofs.names.TermNames.push.Goals as goal
 
-pub invariant_of-self-in_err-push : goal.invariant_of-self-in_err-push
-invariant_of-self-in_err-push c =
-    subst (LeadsTo HasName c.insert.new.self) (sym c.in_err-push.ensures.items)
-    (leads-kept HasName c.self.inside.places c.insert.new.self c.self.inside.items.items c.args.name.now c.self.invariant
-    (λ x has is. c.requires x (subst (λ (ns : List TermName). Contains ns x) c.self.view_is has) is)
-    (λ w. c.in_ok-insert.ensures.ok w ∙ ap (λ n. if bytes_eq c.args.name.now w then Some n else place_of c.self.inside.places w) (c.len.ensures ∙ c.self.inside.items.ok.0)))
+more : (c : goal.In_ok-insert) → all_named (λ k. k.items) c.insert.new.self.entries ≡ all_named (λ k. k.items) c.self.inside.terms.entries ++ name_with c.args.name.now c.args.term ∷ []
+more c =
+    let es = c.self.inside.terms.entries in
+    let same = c.in_ok-name.ensures.items_if_clones_equal (λ x y e. e) in
+    ap (λ xs. all_named (λ k. k.items) xs) c.in_ok-insert.ensures.entries
+    ∙ name-more (λ k. k.items) _ (λ j k. refl) c.in_ok-name.name c.args.term es
+    (λ n has is. c.requires n (subst (λ (ns : List TermName). Contains ns n) c.self.view_is has) (is ∙ same))
+    ∙ ap (λ w. all_named (λ k. k.items) es ++ name_with w c.args.term ∷ []) same
 
 pub invariant_of-self-2 : goal.invariant_of-self-2
 invariant_of-self-2 c =
-    subst (LeadsTo HasName c.insert.new.self) (sym c.in_ok-push.ensures.items)
-    (leads-more HasName c.self.inside.places c.insert.new.self c.self.inside.items.items c.args.name.now _ (λ w is. sym c.in_ok-copy.ensures ∙ is) c.self.invariant
-    (λ x has is. c.requires x (subst (λ (ns : List TermName). Contains ns x) c.self.view_is has) is)
-    (λ w. c.in_ok-insert.ensures.ok w ∙ ap (λ n. if bytes_eq c.args.name.now w then Some n else place_of c.self.inside.places w) (c.len.ensures ∙ c.self.inside.items.ok.0)))
+    subst AreOnce (sym (more c))
+    (once-more (all_named (λ k. k.items) c.self.inside.terms.entries) (name_with c.args.name.now c.args.term) c.self.invariant
+    (λ m has is. c.requires m (subst (λ (ns : List TermName). Contains ns m) c.self.view_is has) is))
+
+pub returns-clause-ok : goal.returns-clause-ok
+returns-clause-ok c = more c ∙ ap (λ ns. ns ++ name_with c.args.name.now c.args.term ∷ []) c.self.view_is

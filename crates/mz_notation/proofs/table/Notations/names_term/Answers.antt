@@ -7,4 +7,4 @@ use Rattle.mz_notation.proofs.table.Notations.names_term.Goals as goal
 pub returns : goal.returns
 returns c =
     subst (λ (t : Table). IsTrue c.is_some.result ↔ ((n : TermName) × Contains t.names n × (n.name ≡ c.args.name.now))) c.self.view_is
-    (found-decides (λ x. x.now) c.self.inside.names c.args.name.now c.get.result c.get.ensures c.is_some.result c.is_some.ensures)
+    (found-decides c.self.inside.names c.args.name.now c.get.result c.get.ensures c.is_some.result c.is_some.ensures)

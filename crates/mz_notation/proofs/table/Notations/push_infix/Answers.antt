@@ -10,12 +10,12 @@ use Rattle.mz_notation.proofs.Spotting.{joined-apart}
 use Rattle.mz_notation.proofs.Tables.{infix-is, pushed-infix}
 use Rattle.mz_notation.proofs.table.Notations.push_infix.Goals as goal
 
-pub returns-then-not-is_clear_with_infix : goal.returns-then-not-is_clear_with_infix
-returns-then-not-is_clear_with_infix c =
+pub returns-then-not-stays_clear : goal.returns-then-not-stays_clear
+returns-then-not-stays_clear c =
     let v : Table = record { delimiters = c.self.inside.delimiters; leading = c.self.inside.leading; infixes = c.self.inside.infixes; names = c.self.inside.names; coercions = c.self.inside.coercions } in
     let k = c.args.notation in (
       (λ made. let clear : IsClear v.leading (v.infixes ++ k ∷ []) = subst (λ (t : Table). IsClearTable (with_infix t k)) (sym c.self.view_is) made in
-          true≢false (sym (c.is_clear_with_infix.ensures.1 clear) ∙ c.if-not-is_clear_with_infix.true)),
+          true≢false (sym (c.in-Ok.ensures.1 clear) ∙ c.if-not-stays_clear.true)),
       refl,
     )
 
@@ -23,16 +23,16 @@ pub invariant_of-self-2 : goal.invariant_of-self-2
 invariant_of-self-2 c =
     let v : Table = record { delimiters = c.self.inside.delimiters; leading = c.self.inside.leading; infixes = c.self.inside.infixes; names = c.self.inside.names; coercions = c.self.inside.coercions } in
     let k = c.args.notation in
-    let clear : IsClear v.leading (v.infixes ++ k ∷ []) = c.is_clear_with_infix.ensures.0 c.if-not-is_clear_with_infix.false in
-    subst (λ (xs : List Notation). IsTable (record v { infixes = xs })) (sym c.in-Ok.ensures.ok)
+    let clear : IsClear v.leading (v.infixes ++ k ∷ []) = c.in-Ok.ensures.0 c.if-not-stays_clear.false in
+    subst (λ (xs : List Notation). IsTable (record v { infixes = xs })) (sym c.in-Ok-push.ensures.ok)
     (infix-is v k c.self.invariant c.requires.plain clear c.requires.joined)
 
 pub returns : goal.returns
 returns c =
     let v : Table = record { delimiters = c.self.inside.delimiters; leading = c.self.inside.leading; infixes = c.self.inside.infixes; names = c.self.inside.names; coercions = c.self.inside.coercions } in
     let k = c.args.notation in
-    let clear : IsClear v.leading (v.infixes ++ k ∷ []) = c.is_clear_with_infix.ensures.0 c.if-not-is_clear_with_infix.false in
-    pushed-infix v c.args.self.now c.self.view_is k c.push.new.self c.in-Ok.ensures.ok clear
+    let clear : IsClear v.leading (v.infixes ++ k ∷ []) = c.in-Ok.ensures.0 c.if-not-stays_clear.false in
+    pushed-infix v c.args.self.now c.self.view_is k c.push.new.self c.in-Ok-push.ensures.ok clear
 
 pub push-requires-clause-headed : goal.push-requires-clause-headed
 push-requires-clause-headed c = (c.requires.joined.0, inr c.requires.joined.1)
@@ -41,5 +41,5 @@ pub push-requires-clause-other : goal.push-requires-clause-other
 push-requires-clause-other c =
     let v : Table = record { delimiters = c.self.inside.delimiters; leading = c.self.inside.leading; infixes = c.self.inside.infixes; names = c.self.inside.names; coercions = c.self.inside.coercions } in
     let k = c.args.notation in
-    let clear : IsClear v.leading (v.infixes ++ k ∷ []) = c.is_clear_with_infix.ensures.0 c.if-not-is_clear_with_infix.false in
+    let clear : IsClear v.leading (v.infixes ++ k ∷ []) = c.in-Ok.ensures.0 c.if-not-stays_clear.false in
     joined-apart v.infixes k c.requires.joined c.self.invariant.joined (infix-other v.leading v.infixes k clear)

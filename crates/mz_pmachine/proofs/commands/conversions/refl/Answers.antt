@@ -1,11 +1,11 @@
 use Rattle.std.proofs.Common.{◌∙◌, ap, sym, refl}
 use Rattle.mz_soundness.specs.Premises.{pop_obligation}
-use Rattle.mz_pmachine.proofs.Converting.{refl-row, refl-other}
-use Rattle.mz_machine.proofs.Offered.{true-false}
+use Rattle.mz_punify.proofs.Offered.{of-numbered}
+use Rattle.mz_machine.proofs.Offered.{refl-row, refl-other, true-false}
 use Rattle.mz_pmachine.proofs.commands.conversions.refl.Goals as goal
 
 pub returns-then-same-clause-row : goal.returns-then-same-clause-row
-returns-then-same-clause-row c tables at n st is = refl-row tables at n st _ _ _ (ap pop_obligation is ∙ c.in_ok-left.ensures.taken) (c.if-same.ensures.0 refl)
+returns-then-same-clause-row c tables at n st is = refl-row of-numbered tables at n st _ _ _ (ap pop_obligation is ∙ c.in_ok-left.ensures.taken) (c.if-same.ensures.0 refl)
 
 pub returns-else-same-clause-row : goal.returns-else-same-clause-row
-returns-else-same-clause-row c tables at n st is = refl-other tables at n st _ _ _ (ap pop_obligation is ∙ c.in_ok-left.ensures.taken) (λ same. true-false (sym (c.if-same.ensures.1 same)))
+returns-else-same-clause-row c tables at n st is = refl-other of-numbered tables at n st _ _ _ (ap pop_obligation is ∙ c.in_ok-left.ensures.taken) (λ same. true-false (sym (c.if-same.ensures.1 same)))

@@ -3,24 +3,27 @@ use Rattle.mz_nodes.specs.Numbering.{IsOver, expr_of}
 use Rattle.mz_punify.specs.Stored.{exprs_at}
 use Rattle.mz_pmachine.specs.OverNodes.{pop_unfolding}
 use Rattle.mz_earlier.proofs.Offered.{signatures-before}
-use Rattle.mz_pmachine.proofs.Converting.{not-taken, of-variable, not-defined, is-unfolding, unfold-stopped, stopped-steps, unfold-refused, unfold-row, unfold-steps, gives-stack, operand-exprs}
+use Rattle.mz_numbered.specs.Numbered.{portable}
+use Rattle.mz_punify.proofs.Offered.{of-numbered}
+use Rattle.mz_machine.proofs.Offered.{not-taken, of-variable, not-defined, is-unfolding, unfold-stopped, stopped-steps, unfold-refused, unfold-row, unfold-steps, gives-stack}
+use Rattle.mz_pmachine.proofs.Converting.{operand-exprs}
 use Rattle.mz_pmachine.proofs.Unfoldings.{term-there, same-run, same-count, ids-pushed, items-pushed}
 use Rattle.mz_machine.proofs.Offered.{no-more, no-stream, row-there, so-many, stream-there, unless-mem}
 use Rattle.mz_pmachine.proofs.commands.conversions.unfold.Goals as goal
 
 pub returns-in-Err-clause-row : goal.returns-in-Err-clause-row
-returns-in-Err-clause-row g c at n st ctx is = unfold-stopped _ st at n _ (not-taken _ st _ (ap pop_unfolding is ∙ c.in-Err.ensures.taken))
+returns-in-Err-clause-row g c at n st ctx is = unfold-stopped portable _ st at n _ (not-taken portable _ st _ (ap pop_unfolding is ∙ c.in-Err.ensures.taken))
 
 pub returns-in-Err-clause-steps : goal.returns-in-Err-clause-steps
-returns-in-Err-clause-steps g c n st ctx is = no-more _ _ (stopped-steps _ st n _ (not-taken _ st _ (ap pop_unfolding is ∙ c.in-Err.ensures.taken)))
+returns-in-Err-clause-steps g c n st ctx is = no-more _ _ (stopped-steps portable _ st n _ (not-taken portable _ st _ (ap pop_unfolding is ∙ c.in-Err.ensures.taken)))
 
 pub returns-in_default-clause-row : goal.returns-in_default-clause-row
 returns-in_default-clause-row g c at n st ctx is =
-    unfold-stopped _ st at n _ (of-variable _ st _ _ _ _ (ap pop_unfolding is ∙ c.in-Ok.ensures.taken) (sym c.head.ensures ∙ c.in_default.is))
+    unfold-stopped portable _ st at n _ (of-variable portable _ st of-numbered _ _ _ _ (ap pop_unfolding is ∙ c.in-Ok.ensures.taken) (sym c.head.ensures ∙ c.in_default.is))
 
 pub returns-in_default-clause-steps : goal.returns-in_default-clause-steps
 returns-in_default-clause-steps g c n st ctx is =
-    no-more _ _ (stopped-steps _ st n _ (of-variable _ st _ _ _ _ (ap pop_unfolding is ∙ c.in-Ok.ensures.taken) (sym c.head.ensures ∙ c.in_default.is)))
+    no-more _ _ (stopped-steps portable _ st n _ (of-variable portable _ st of-numbered _ _ _ _ (ap pop_unfolding is ∙ c.in-Ok.ensures.taken) (sym c.head.ensures ∙ c.in_default.is)))
 
 pub has_body-requires : goal.has_body-requires
 has_body-requires g c = term-there c.args.earlier.now c.args.nodes.now c.requires.over c.in-Ok.items.1.0 c.in-Some.term c.in-Ok.ensures.ids.1 (sym c.head.ensures ∙ c.in-Some.is)
@@ -29,14 +32,14 @@ pub returns-then-not-has_body-clause-row : goal.returns-then-not-has_body-clause
 returns-then-not-has_body-clause-row g c at n st ctx is =
     let h = sym c.head.ensures ∙ c.in-Some.is in
     let there = row-there c.args.earlier.now c.in-Some.term (term-there c.args.earlier.now c.args.nodes.now c.requires.over c.in-Ok.items.1.0 c.in-Some.term c.in-Ok.ensures.ids.1 h) in
-    unfold-stopped _ st at n _ (not-defined _ st _ _ _ _ (ap pop_unfolding is ∙ c.in-Ok.ensures.taken) c.in-Some.term h
+    unfold-stopped portable _ st at n _ (not-defined portable _ st of-numbered _ _ _ _ (ap pop_unfolding is ∙ c.in-Ok.ensures.taken) c.in-Some.term h
     (no-stream c.args.earlier.now c.in-Some.term there (sym c.has_body.ensures.row ∙ c.if-not-has_body.true)))
 
 pub returns-then-not-has_body-clause-steps : goal.returns-then-not-has_body-clause-steps
 returns-then-not-has_body-clause-steps g c n st ctx is =
     let h = sym c.head.ensures ∙ c.in-Some.is in
     let there = row-there c.args.earlier.now c.in-Some.term (term-there c.args.earlier.now c.args.nodes.now c.requires.over c.in-Ok.items.1.0 c.in-Some.term c.in-Ok.ensures.ids.1 h) in
-    no-more _ _ (stopped-steps _ st n _ (not-defined _ st _ _ _ _ (ap pop_unfolding is ∙ c.in-Ok.ensures.taken) c.in-Some.term h
+    no-more _ _ (stopped-steps portable _ st n _ (not-defined portable _ st of-numbered _ _ _ _ (ap pop_unfolding is ∙ c.in-Ok.ensures.taken) c.in-Some.term h
     (no-stream c.args.earlier.now c.in-Some.term there (sym c.has_body.ensures.row ∙ c.if-not-has_body.true))))
 
 pub stream_of_term-stream-requires : goal.stream_of_term-stream-requires
@@ -56,12 +59,12 @@ returns-in-Done-clause-row g c at n st ctx is =
     let l = expr_of s c.in-Ok.items.1.0 in
     let h = sym c.head.ensures ∙ c.in-Some.is in
     let there = row-there E t (term-there E s c.requires.over c.in-Ok.items.1.0 t c.in-Ok.ensures.ids.1 h) in
-    let m = is-unfolding _ st _ _ _ _ (ap pop_unfolding is ∙ c.in-Ok.ensures.taken) t _ h (stream-there E t there (sym c.has_body.ensures.row ∙ c.if-not-has_body.false)) in
+    let m = is-unfolding portable _ st of-numbered _ _ _ _ (ap pop_unfolding is ∙ c.in-Ok.ensures.taken) t _ h (stream-there E t there (sym c.has_body.ensures.row ∙ c.if-not-has_body.false)) in
     let ops = c.in-Ok-extend_from_slice.ensures.items ∙ ap (λ is. is ++ c.args-2.result.now) c.new-operands.ensures.items in
     let are = ap (exprs_at s) ops ∙ operand-exprs s c.args-2.result.now l c.args-2.ensures.exprs in
     let run = c.in-Done.ensures.run in
     gives-stack st _ _ _ c.push.result
-    (unfold-row _ st _ _ _ m at n _ (same-run E s st.ctx ctx t l c.in-Ok.items.0 _ _ _ c.stream_of_term-stream.ensures.stream are c.new-none.ensures.items ∙ run.1))
+    (unfold-row portable _ st _ _ _ m at n _ (same-run E s st.ctx ctx t l c.in-Ok.items.0 _ _ _ c.stream_of_term-stream.ensures.stream are c.new-none.ensures.items ∙ run.1))
     (items-pushed s _ _ _ c.push.result c.push.ensures.ok) c.push.ensures.err
 
 pub returns-in-Done-clause-steps : goal.returns-in-Done-clause-steps
@@ -72,10 +75,10 @@ returns-in-Done-clause-steps g c n st ctx is =
     let l = expr_of s c.in-Ok.items.1.0 in
     let h = sym c.head.ensures ∙ c.in-Some.is in
     let there = row-there E t (term-there E s c.requires.over c.in-Ok.items.1.0 t c.in-Ok.ensures.ids.1 h) in
-    let m = is-unfolding _ st _ _ _ _ (ap pop_unfolding is ∙ c.in-Ok.ensures.taken) t _ h (stream-there E t there (sym c.has_body.ensures.row ∙ c.if-not-has_body.false)) in
+    let m = is-unfolding portable _ st of-numbered _ _ _ _ (ap pop_unfolding is ∙ c.in-Ok.ensures.taken) t _ h (stream-there E t there (sym c.has_body.ensures.row ∙ c.if-not-has_body.false)) in
     let ops = c.in-Ok-extend_from_slice.ensures.items ∙ ap (λ is. is ++ c.args-2.result.now) c.new-operands.ensures.items in
     let are = ap (exprs_at s) ops ∙ operand-exprs s c.args-2.result.now l c.args-2.ensures.exprs in
-    unless-mem c.push.result (so-many _ _ _ _ c.in-Done.ensures.steps (unfold-steps _ st _ _ _ m n ∙ sym (same-count E s st.ctx ctx t l c.in-Ok.items.0 _ _ _ c.stream_of_term-stream.ensures.stream are c.new-none.ensures.items)))
+    unless-mem c.push.result (so-many _ _ _ _ c.in-Done.ensures.steps (unfold-steps portable _ st _ _ _ m n ∙ sym (same-count E s st.ctx ctx t l c.in-Ok.items.0 _ _ _ c.stream_of_term-stream.ensures.stream are c.new-none.ensures.items)))
 
 pub returns-in-Refused-clause-row : goal.returns-in-Refused-clause-row
 returns-in-Refused-clause-row g c at n st ctx is =
@@ -85,10 +88,10 @@ returns-in-Refused-clause-row g c at n st ctx is =
     let l = expr_of s c.in-Ok.items.1.0 in
     let h = sym c.head.ensures ∙ c.in-Some.is in
     let there = row-there E t (term-there E s c.requires.over c.in-Ok.items.1.0 t c.in-Ok.ensures.ids.1 h) in
-    let m = is-unfolding _ st _ _ _ _ (ap pop_unfolding is ∙ c.in-Ok.ensures.taken) t _ h (stream-there E t there (sym c.has_body.ensures.row ∙ c.if-not-has_body.false)) in
+    let m = is-unfolding portable _ st of-numbered _ _ _ _ (ap pop_unfolding is ∙ c.in-Ok.ensures.taken) t _ h (stream-there E t there (sym c.has_body.ensures.row ∙ c.if-not-has_body.false)) in
     let ops = c.in-Ok-extend_from_slice.ensures.items ∙ ap (λ is. is ++ c.args-2.result.now) c.new-operands.ensures.items in
     let are = ap (exprs_at s) ops ∙ operand-exprs s c.args-2.result.now l c.args-2.ensures.exprs in
-    unfold-refused _ st _ _ _ m at n _ _ (same-run E s st.ctx ctx t l c.in-Ok.items.0 _ _ _ c.stream_of_term-stream.ensures.stream are c.new-none.ensures.items ∙ c.in-Refused.ensures.run)
+    unfold-refused portable _ st _ _ _ m at n _ _ (same-run E s st.ctx ctx t l c.in-Ok.items.0 _ _ _ c.stream_of_term-stream.ensures.stream are c.new-none.ensures.items ∙ c.in-Refused.ensures.run)
 
 pub returns-in-Refused-clause-steps : goal.returns-in-Refused-clause-steps
 returns-in-Refused-clause-steps g c n st ctx is =
@@ -98,7 +101,7 @@ returns-in-Refused-clause-steps g c n st ctx is =
     let l = expr_of s c.in-Ok.items.1.0 in
     let h = sym c.head.ensures ∙ c.in-Some.is in
     let there = row-there E t (term-there E s c.requires.over c.in-Ok.items.1.0 t c.in-Ok.ensures.ids.1 h) in
-    let m = is-unfolding _ st _ _ _ _ (ap pop_unfolding is ∙ c.in-Ok.ensures.taken) t _ h (stream-there E t there (sym c.has_body.ensures.row ∙ c.if-not-has_body.false)) in
+    let m = is-unfolding portable _ st of-numbered _ _ _ _ (ap pop_unfolding is ∙ c.in-Ok.ensures.taken) t _ h (stream-there E t there (sym c.has_body.ensures.row ∙ c.if-not-has_body.false)) in
     let ops = c.in-Ok-extend_from_slice.ensures.items ∙ ap (λ is. is ++ c.args-2.result.now) c.new-operands.ensures.items in
     let are = ap (exprs_at s) ops ∙ operand-exprs s c.args-2.result.now l c.args-2.ensures.exprs in
-    so-many _ _ _ _ c.in-Refused.ensures.steps (unfold-steps _ st _ _ _ m n ∙ sym (same-count E s st.ctx ctx t l c.in-Ok.items.0 _ _ _ c.stream_of_term-stream.ensures.stream are c.new-none.ensures.items))
+    so-many _ _ _ _ c.in-Refused.ensures.steps (unfold-steps portable _ st _ _ _ m n ∙ sym (same-count E s st.ctx ctx t l c.in-Ok.items.0 _ _ _ c.stream_of_term-stream.ensures.stream are c.new-none.ensures.items))

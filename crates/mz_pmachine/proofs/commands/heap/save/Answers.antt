@@ -1,16 +1,17 @@
 use Rattle.std.proofs.Common.{◌∙◌, ◌-◌, length, sym}
 use Rattle.mz_punify.specs.Stored.{item_at}
 use Rattle.mz_pmachine.proofs.Popping.{owed, top-is, no-top, item-in-at}
-use Rattle.mz_pmachine.proofs.RowResults.{save-none, save-other, save-row}
+use Rattle.mz_machine.proofs.Offered.{save-none, save-other, save-row}
+use Rattle.mz_numbered.specs.Numbered.{portable}
 use Rattle.mz_pmachine.proofs.commands.heap.save.Goals as goal
 
 pub returns-in_default-clause-row : goal.returns-in_default-clause-row
-returns-in_default-clause-row c tables at n st is = save-none tables at n st (is ∙ no-top c.args.nodes.now c.args.stack.now (sym c.top.ensures ∙ c.in_default.is))
+returns-in_default-clause-row c tables at n st is = save-none portable tables at n st (is ∙ no-top c.args.nodes.now c.args.stack.now (sym c.top.ensures ∙ c.in_default.is))
 
 pub returns-then-is_obligation-clause-row : goal.returns-then-is_obligation-clause-row
 returns-then-is_obligation-clause-row c tables at n st is =
     let (rest, top) = top-is c.args.nodes.now c.args.stack.now c.in-Some.item (sym c.top.ensures ∙ c.in-Some.is) in
-    save-other tables at n st (item_at c.args.nodes.now c.in-Some.item) rest (is ∙ top) (owed c.args.nodes.now c.in-Some.item ∙ sym c.is_obligation.ensures ∙ c.if-is_obligation.true)
+    save-other portable tables at n st (item_at c.args.nodes.now c.in-Some.item) rest (is ∙ top) (owed c.args.nodes.now c.in-Some.item ∙ sym c.is_obligation.ensures ∙ c.if-is_obligation.true)
 
 pub returns-clause-ids : goal.returns-clause-ids
 returns-clause-ids c = item-in-at c.args.nodes.now c.args.stack.now (length c.args.stack.now - 1) c.in-Some.item c.requires (sym c.top.ensures ∙ c.in-Some.is)
@@ -18,4 +19,4 @@ returns-clause-ids c = item-in-at c.args.nodes.now c.args.stack.now (length c.ar
 pub returns-clause-row : goal.returns-clause-row
 returns-clause-row c tables at n st is =
     let (rest, top) = top-is c.args.nodes.now c.args.stack.now c.in-Some.item (sym c.top.ensures ∙ c.in-Some.is) in
-    save-row tables at n st (item_at c.args.nodes.now c.in-Some.item) rest (is ∙ top) (owed c.args.nodes.now c.in-Some.item ∙ sym c.is_obligation.ensures ∙ c.if-is_obligation.false)
+    save-row portable tables at n st (item_at c.args.nodes.now c.in-Some.item) rest (is ∙ top) (owed c.args.nodes.now c.in-Some.item ∙ sym c.is_obligation.ensures ∙ c.if-is_obligation.false)

@@ -1,4 +1,4 @@
-use Rattle.std.proofs.Common.{◌≡◌, ◌<◌, ◌∙◌, Err, Ok, [], length, sym, ap, subst, arith, append-nil}
+use Rattle.std.proofs.Common.{◌≡◌, ◌<◌, ◌∙◌, Err, Ok, [], length, map, refl, sym, ap, subst, arith, append-nil}
 use Rattle.std.proofs.lemmas.Result.{err_from_is_err_and}
 use Rattle.mz_logic.specs.Words.{binders_of}
 use Rattle.mz_layout.specs.Tables.{term_row}
@@ -7,26 +7,26 @@ use Rattle.mz_nodes.specs.Numbering.{expr_of, exprs_of}
 use Rattle.mz_nodes.specs.Numbering.{trees_of as trees_in}
 use Rattle.mz_punify.proofs.Offered.{from-exprs}
 use Rattle.mz_punify.specs.Stored.{exprs_at, trees_at}
-use Rattle.mz_numbered.specs.Numbered.{an_application, operands_from, portable}
+use Rattle.mz_numbered.specs.Numbered.{an_application, operands_from, tree_of, portable}
 use Rattle.mz_soundness.specs.ProofMachine.{built}
 use Rattle.mz_soundness.specs.Premises.{operands_fit}
 use Rattle.mz_earlier.specs.Before.{tables_of, signatures_of, words_before}
 use Rattle.mz_soundness.specs.FileRows.{term_of_file}
-use Rattle.mz_pmachine.proofs.TermResults.{built-none, built-few, built-unfit, built-row, can-take, over-words, over-rows, items-kept, items-still, takes-its-own}
+use Rattle.mz_machine.proofs.Offered.{built-none, built-few, built-unfit, built-row, takes-its-own, no-dummies, stops-as}
+use Rattle.mz_pmachine.proofs.TermResults.{can-take, over-words, over-rows, items-kept, items-still}
 use Rattle.mz_earlier.proofs.Offered.{term-before, no-term-before}
-use Rattle.mz_machine.proofs.Offered.{no-dummies, stops-as}
 use Rattle.mz_pmachine.proofs.commands.terms.build.Goals as goal
 
 pub returns-then-t-terms-clause-built : goal.returns-then-t-terms-clause-built
 returns-then-t-terms-clause-built c st ctx is =
-    built-none (tables_of c.args.earlier.now) c.args.at c.args.t st (no-term-before c.args.earlier.now c.args.t (omega (arith, c.terms.ensures.rows, c.if-t-terms.true)))
+    built-none portable (tables_of c.args.earlier.now) c.args.at c.args.t st (no-term-before c.args.earlier.now c.args.t (omega (arith, c.terms.ensures.rows, c.if-t-terms.true)))
 
 pub returns-in_err-operands-clause-built : goal.returns-in_err-operands-clause-built
 returns-in_err-operands-clause-built c st ctx is =
     let p = err_from_is_err_and c.from_residual.result c.from_residual.ensures.1 in
     let row = term-before c.args.earlier.now c.args.t (let e : c.args.t < c.args.earlier.now.rows.terms = omega (arith, c.terms.ensures.rows, c.if-t-terms.false) in e) in
     rw (p.1, p.2) (stops-as c.in_err-operands.field-0.0 _ (λ k. built portable (tables_of c.args.earlier.now) c.args.at c.args.t st ≡ Err k)
-    (λ k h. built-few (tables_of c.args.earlier.now) c.args.at c.args.t st (term_of_file c.args.earlier.now.file c.args.t) row k
+    (λ k h. built-few portable (tables_of c.args.earlier.now) c.args.at c.args.t st (term_of_file c.args.earlier.now.file c.args.t) row k
     (takes-its-own c.args.earlier.now c.args.t st _ c.arity_of.result _ c.arity_of.ensures is h)) c.in_err-operands.ensures.taken)
 
 pub check_operands-requires-clause-many : goal.check_operands-requires-clause-many
@@ -35,8 +35,8 @@ check_operands-requires-clause-many c = ap length c.deref.ensures.value ∙ c.in
 pub returns-in-Err-clause-built : goal.returns-in-Err-clause-built
 returns-in-Err-clause-built c st ctx is =
     let row = term-before c.args.earlier.now c.args.t (let e : c.args.t < c.args.earlier.now.rows.terms = omega (arith, c.terms.ensures.rows, c.if-t-terms.false) in e) in
-    built-unfit (tables_of c.args.earlier.now) c.args.at c.args.t st (term_of_file c.args.earlier.now.file c.args.t) row c.in-Err.rule _ _
-    (takes-its-own c.args.earlier.now c.args.t st _ c.arity_of.result _ c.arity_of.ensures is c.in_ok-operands.ensures.taken)
+    built-unfit portable (tables_of c.args.earlier.now) c.args.at c.args.t st (term_of_file c.args.earlier.now.file c.args.t) row (map tree_of) (λ _. refl) _ _
+    (takes-its-own c.args.earlier.now c.args.t st _ c.arity_of.result _ c.arity_of.ensures is c.in_ok-operands.ensures.taken) c.in-Err.rule
     (subst (λ x. operands_fit (signatures_of c.args.earlier.now) x (trees_at c.args.nodes.now c.in_ok-operands.operands.items) (binders_of (term_row c.args.earlier.now.file c.args.t).words.params) ≡ Err c.in-Err.rule) (sym ctx)
     (subst (λ ids. operands_fit (signatures_of c.args.earlier.now) c.args.nodes.now.context (trees_at c.args.nodes.now ids) (binders_of (term_row c.args.earlier.now.file c.args.t).words.params) ≡ Err c.in-Err.rule) c.deref.ensures.value c.in-Err.ensures))
 
@@ -69,7 +69,7 @@ returns-clause-built c st ctx is =
     c.in-Ok.ensures.holds.1 ∙ ap (λ ids. an_application c.args.at c.args.t (exprs_of c.args.nodes.now ids)) c.deref-2.ensures.value
     ∙ ap (an_application c.args.at c.args.t) (sym (from-exprs c.args.nodes.now c.in_ok-operands.operands.items)) in
     rw (made, items-kept c.args.nodes.now c.app.new.self c.in-Ok.ensures.kept c.pop_operands.new.stack.items c.in_ok-operands.ensures.ids.1)
-    (built-row (tables_of c.args.earlier.now) c.args.at c.args.t st (term_of_file c.args.earlier.now.file c.args.t) row _ _
+    (built-row portable (tables_of c.args.earlier.now) c.args.at c.args.t st (term_of_file c.args.earlier.now.file c.args.t) row (map tree_of) (λ _. refl) _ _
     (takes-its-own c.args.earlier.now c.args.t st _ c.arity_of.result _ c.arity_of.ensures is c.in_ok-operands.ensures.taken)
     (subst (λ x. operands_fit (signatures_of c.args.earlier.now) x (trees_at c.args.nodes.now c.in_ok-operands.operands.items) (binders_of (term_row c.args.earlier.now.file c.args.t).words.params) ≡ Ok tt) (sym ctx)
     (subst (λ ids. operands_fit (signatures_of c.args.earlier.now) c.args.nodes.now.context (trees_at c.args.nodes.now ids) (binders_of (term_row c.args.earlier.now.file c.args.t).words.params) ≡ Ok tt) c.deref.ensures.value c.in_default.ensures)))

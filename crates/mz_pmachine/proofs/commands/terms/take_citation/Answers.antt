@@ -1,54 +1,54 @@
-use Rattle.std.proofs.Common.{◌≡◌, ◌∙◌, Err, Ok, List, true, false, sym, subst, arith}
+use Rattle.std.proofs.Common.{◌≡◌, ◌∙◌, Err, Ok, List, true, false, length, map, refl, sym, subst, arith}
 use Rattle.std.proofs.lemmas.Result.{err_from_is_err_and}
 use Rattle.mz_logic.specs.Words.{binders_of}
 use Rattle.mz_layout.specs.Tables.{thm_row}
 use Rattle.mz_store.specs.declared.item.Id.{Id}
-use Rattle.mz_punify.specs.Stored.{trees_at}
-use Rattle.mz_numbered.specs.Numbered.{portable}
+use Rattle.mz_punify.specs.Stored.{items_at, trees_at}
+use Rattle.mz_numbered.specs.Numbered.{tree_of, portable}
 use Rattle.mz_soundness.specs.ProofMachine.{citation}
 use Rattle.mz_soundness.specs.Premises.{operands_fit, are_apart}
 use Rattle.mz_earlier.specs.Before.{tables_of, signatures_of}
-use Rattle.mz_pmachine.proofs.Citing.{cites-none, cites-few, cites-other, cites-without, cites-unfit, cites-meeting, cites-so}
-use Rattle.mz_machine.proofs.Offered.{stops-as}
+use Rattle.mz_pmachine.proofs.Citing.{items-many}
+use Rattle.mz_machine.proofs.Offered.{cites-none, cites-few, cites-other, cites-without, cites-unfit, cites-meeting, cites-so, stops-as}
 use Rattle.mz_pmachine.proofs.commands.terms.take_citation.Goals as goal
 
 pub returns-then-t-thms-clause-taken : goal.returns-then-t-thms-clause-taken
-returns-then-t-thms-clause-taken c st ctx is = cites-none c.args.earlier.now c.args.t st (omega (arith, c.thms.ensures.rows, c.if-t-thms.true))
+returns-then-t-thms-clause-taken c st ctx is = cites-none portable (map tree_of) (λ _. refl) c.args.earlier.now c.args.t st (omega (arith, c.thms.ensures.rows, c.if-t-thms.true))
 
 pub returns-then-len-arity-clause-taken : goal.returns-then-len-arity-clause-taken
 returns-then-len-arity-clause-taken c st ctx is =
-    cites-few c.args.earlier.now c.args.t st c.args.nodes.now c.args.stack.now.items c.arity_of-arity.result (omega (arith, c.thms.ensures.rows, c.if-t-thms.false)) c.arity_of-arity.ensures is
+    cites-few portable (map tree_of) (λ _. refl) c.args.earlier.now c.args.t st (items_at c.args.nodes.now c.args.stack.now.items) (length c.args.stack.now.items) c.arity_of-arity.result (items-many c.args.nodes.now c.args.stack.now.items) (omega (arith, c.thms.ensures.rows, c.if-t-thms.false)) c.arity_of-arity.ensures is
     (omega (arith, c.len.ensures, c.args.stack.now.ok.0, c.if-len-arity.true))
 
 pub returns-in-Err-clause-taken : goal.returns-in-Err-clause-taken
 returns-in-Err-clause-taken c st ctx is =
-    cites-other c.args.earlier.now c.args.t st c.args.nodes.now c.args.stack.now.items c.arity_of-arity.result (omega (arith, c.thms.ensures.rows, c.if-t-thms.false)) c.arity_of-arity.ensures is
+    cites-other portable (map tree_of) (λ _. refl) c.args.earlier.now c.args.t st (items_at c.args.nodes.now c.args.stack.now.items) (length c.args.stack.now.items) c.arity_of-arity.result (items-many c.args.nodes.now c.args.stack.now.items) (omega (arith, c.thms.ensures.rows, c.if-t-thms.false)) c.arity_of-arity.ensures is
     (omega (arith, c.len.ensures, c.args.stack.now.ok.0, c.if-len-arity.false)) c.in-Err.rule c.in-Err.ensures.taken
 
 pub returns-in_err-operands-clause-taken : goal.returns-in_err-operands-clause-taken
 returns-in_err-operands-clause-taken c st ctx is =
     let p = err_from_is_err_and c.from_residual.result c.from_residual.ensures.1 in
     rw (p.1, p.2) (stops-as c.in_err-operands.field-0.0 _ (λ k. citation portable (tables_of c.args.earlier.now) c.args.t st ≡ Err k)
-    (λ k h. cites-without c.args.earlier.now c.args.t st c.args.nodes.now c.args.stack.now.items c.arity_of-arity.result (omega (arith, c.thms.ensures.rows, c.if-t-thms.false)) c.arity_of-arity.ensures is
+    (λ k h. cites-without portable (map tree_of) (λ _. refl) c.args.earlier.now c.args.t st (items_at c.args.nodes.now c.args.stack.now.items) (length c.args.stack.now.items) c.arity_of-arity.result (items-many c.args.nodes.now c.args.stack.now.items) (omega (arith, c.thms.ensures.rows, c.if-t-thms.false)) c.arity_of-arity.ensures is
     (omega (arith, c.len.ensures, c.args.stack.now.ok.0, c.if-len-arity.false)) _ _ c.in-Ok.ensures.taken k h) c.in_err-operands.ensures.taken)
 
 pub returns-in-Err-check_operands-clause-taken : goal.returns-in-Err-check_operands-clause-taken
 returns-in-Err-check_operands-clause-taken c st ctx is =
-    cites-unfit c.args.earlier.now c.args.t st c.args.nodes.now c.args.stack.now.items c.arity_of-arity.result (omega (arith, c.thms.ensures.rows, c.if-t-thms.false)) c.arity_of-arity.ensures is
-    (omega (arith, c.len.ensures, c.args.stack.now.ok.0, c.if-len-arity.false)) _ _ c.in-Ok.ensures.taken _ _ c.in_ok-operands.ensures.taken ctx c.in-Err-check_operands.rule
+    cites-unfit portable (map tree_of) (λ _. refl) c.args.earlier.now c.args.t st (items_at c.args.nodes.now c.args.stack.now.items) (length c.args.stack.now.items) c.arity_of-arity.result (items-many c.args.nodes.now c.args.stack.now.items) (omega (arith, c.thms.ensures.rows, c.if-t-thms.false)) c.arity_of-arity.ensures is
+    (omega (arith, c.len.ensures, c.args.stack.now.ok.0, c.if-len-arity.false)) _ _ c.in-Ok.ensures.taken _ _ c.in_ok-operands.ensures.taken c.args.nodes.now.context ctx c.in-Err-check_operands.rule
     (subst (λ (ids : List Id). operands_fit (signatures_of c.args.earlier.now) c.args.nodes.now.context (trees_at c.args.nodes.now ids) (binders_of (thm_row c.args.earlier.now.file c.args.t).params) ≡ Err c.in-Err-check_operands.rule)
     c.deref.ensures.value c.in-Err-check_operands.ensures)
 
 pub returns-then-not-apart-clause-taken : goal.returns-then-not-apart-clause-taken
 returns-then-not-apart-clause-taken c st ctx is =
-    cites-meeting c.args.earlier.now c.args.t st c.args.nodes.now c.args.stack.now.items c.arity_of-arity.result (omega (arith, c.thms.ensures.rows, c.if-t-thms.false)) c.arity_of-arity.ensures is
-    (omega (arith, c.len.ensures, c.args.stack.now.ok.0, c.if-len-arity.false)) _ _ c.in-Ok.ensures.taken _ _ c.in_ok-operands.ensures.taken ctx
+    cites-meeting portable (map tree_of) (λ _. refl) c.args.earlier.now c.args.t st (items_at c.args.nodes.now c.args.stack.now.items) (length c.args.stack.now.items) c.arity_of-arity.result (items-many c.args.nodes.now c.args.stack.now.items) (omega (arith, c.thms.ensures.rows, c.if-t-thms.false)) c.arity_of-arity.ensures is
+    (omega (arith, c.len.ensures, c.args.stack.now.ok.0, c.if-len-arity.false)) _ _ c.in-Ok.ensures.taken _ _ c.in_ok-operands.ensures.taken c.args.nodes.now.context ctx
     (subst (λ (ids : List Id). operands_fit (signatures_of c.args.earlier.now) c.args.nodes.now.context (trees_at c.args.nodes.now ids) (binders_of (thm_row c.args.earlier.now.file c.args.t).params) ≡ Ok tt) c.deref.ensures.value c.in_default.ensures)
     (subst (λ (ids : List Id). are_apart c.args.nodes.now.context (trees_at c.args.nodes.now ids) (binders_of (thm_row c.args.earlier.now.file c.args.t).params) ≡ false) c.deref-2.ensures.value (sym c.in-Ok-are_apart.ensures ∙ c.if-not-apart.true))
 
 pub returns-clause-taken : goal.returns-clause-taken
 returns-clause-taken c st ctx is =
-    cites-so c.args.earlier.now c.args.t st c.args.nodes.now c.args.stack.now.items c.arity_of-arity.result (omega (arith, c.thms.ensures.rows, c.if-t-thms.false)) c.arity_of-arity.ensures is
-    (omega (arith, c.len.ensures, c.args.stack.now.ok.0, c.if-len-arity.false)) _ _ c.in-Ok.ensures.taken _ _ c.in_ok-operands.ensures.taken ctx
+    cites-so portable (map tree_of) (λ _. refl) c.args.earlier.now c.args.t st (items_at c.args.nodes.now c.args.stack.now.items) (length c.args.stack.now.items) c.arity_of-arity.result (items-many c.args.nodes.now c.args.stack.now.items) (omega (arith, c.thms.ensures.rows, c.if-t-thms.false)) c.arity_of-arity.ensures is
+    (omega (arith, c.len.ensures, c.args.stack.now.ok.0, c.if-len-arity.false)) _ _ c.in-Ok.ensures.taken _ _ c.in_ok-operands.ensures.taken c.args.nodes.now.context ctx
     (subst (λ (ids : List Id). operands_fit (signatures_of c.args.earlier.now) c.args.nodes.now.context (trees_at c.args.nodes.now ids) (binders_of (thm_row c.args.earlier.now.file c.args.t).params) ≡ Ok tt) c.deref.ensures.value c.in_default.ensures)
     (subst (λ (ids : List Id). are_apart c.args.nodes.now.context (trees_at c.args.nodes.now ids) (binders_of (thm_row c.args.earlier.now.file c.args.t).params) ≡ true) c.deref-2.ensures.value (sym c.in-Ok-are_apart.ensures ∙ c.if-not-apart.false))

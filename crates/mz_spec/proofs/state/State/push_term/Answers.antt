@@ -10,7 +10,7 @@ pub overflow_cast-number : goal.overflow_cast-number
 overflow_cast-number c =
     let few = few-terms (state c.args.self.now) c.requires.kept c.requires.few in
     let many = names-many c.args.self.now.notations.names in
-    let all = ap length c.names.ensures in
+    let all = c.name_count-number.ensures in
     omega (arith, few, many, all)
 
 pub add_term_name-requires-clause-other : goal.add_term_name-requires-clause-other
@@ -19,6 +19,6 @@ add_term_name-requires-clause-other c = λ n has same. new-apart c.args.self.now
 pub returns-clause-with : goal.returns-clause-with
 returns-clause-with c =
     let σ = state c.args.self.now in
-    term-pushed σ c.args.place (lexeme c.args.name) (term_of c.args.term) (length c.names.result.now) c.add_term_name.new.self c.push_decl.new.self c.push.new.self.items
-    refl (ap length c.names.ensures ∙ sym (names-many σ.table.names)) c.in-Ok.ensures.ok c.in_ok-push_decl.ensures.ok
+    term-pushed σ c.args.place (lexeme c.args.name) (term_of c.args.term) c.name_count-number.result c.add_term_name.new.self c.push_decl.new.self c.push.new.self.items
+    refl (c.name_count-number.ensures ∙ sym (names-many σ.table.names)) c.in-Ok.ensures.ok c.in_ok-push_decl.ensures.ok
     (c.in_ok-push.ensures.items ∙ ap (λ m. σ.marks ++ m ∷ []) c.mark_of.ensures)

@@ -1,4 +1,4 @@
-use Rattle.std.proofs.Common.{◌≡◌, ◌+◌, true≢false, drop, take, refl, sym, ap, ◌∙◌, subst, length, arith}
+use Rattle.std.proofs.Common.{◌≡◌, ◌+◌, true≢false, drop, take, sym, ap, ◌∙◌, subst, length, arith}
 use Rattle.std.proofs.lemmas.List.{drop_all}
 use Rattle.std.proofs.lemmas.Result.{on_ok_weaker}
 use Rattle.mz_checks.specs.Checks.{AllHold, ◌>>◌}
@@ -12,6 +12,7 @@ use Rattle.mz_forms.specs.ConvView.{conversion}
 use Rattle.mz_forms.specs.Proof.{by_citation, by_conv, by_let}
 use Rattle.mz_forms.specs.ProofView.{proof_view, proofs_view}
 use Rattle.mz_forms.specs.Stops.{Stops}
+use Rattle.mz_forms.specs.declared.fault.Stop.TheVariants.{Mem}
 use Rattle.mz_typing.specs.Answers.{Judged}
 use Rattle.mz_typing.specs.Claims.{claim_trees}
 use Rattle.mz_typing.specs.Names.{ProofThere, ProofsThere}
@@ -211,8 +212,14 @@ check_conversion-goes_between-requires t c =
     let many = many_behind old new (more x none) are in
     omega (arith, many, from)
 
-pub check_conversion-returns-then-not-goes_between-clause-judged : goal.check_conversion-returns-then-not-goes_between-clause-judged
-check_conversion-returns-then-not-goes_between-clause-judged t c =
+pub check_conversion-returns-in_err-goes-clause-judged : goal.check_conversion-returns-in_err-goes-clause-judged
+check_conversion-returns-in_err-goes-clause-judged t c =
+    let p = by_conv (tree c.args.e.now) (conversion c.args.conv.now) (proof_view c.args.proof.now) in
+    stop_handed_on (proof_rules c.args.self.now.env.now c.args.self.now.ctx.now c.args.self.now.hyps.now (claim_trees c.args.lets.now.items) p (first c.args.nodes.now))
+    c.from_residual-in_err-goes.result Mem c.from_residual-in_err-goes.ensures.1 tt
+
+pub check_conversion-returns-then-not-goes-clause-judged : goal.check_conversion-returns-then-not-goes-clause-judged
+check_conversion-returns-then-not-goes-clause-judged t c =
     let from : c.len-from.result ≡ length c.args.claims.now.items = omega (arith, c.len-from.ensures) in
     let env = c.args.self.now.env.now in
     let ctx = c.args.self.now.ctx.now in
@@ -229,7 +236,7 @@ check_conversion-returns-then-not-goes_between-clause-judged t c =
     step.conversion_differs env ctx hyps lets (tree c.args.e.now) (conversion c.args.conv.now) (proof_view c.args.proof.now) n c.fault.result
     (all_hold-first A B c.in_ok-check_converted.ensures) (all_hold-rest A B c.in_ok-check_converted.ensures)
     (subst (λ m. AllHold (proof_rules env ctx hyps lets (proof_view c.args.proof.now) m)) c.part.ensures c.in_ok-check_proof.ensures.judged)
-    c.fault.ensures (λ is. true≢false (sym (c.if-not-goes_between.ensures.1 (is.0, is.1 ∙ sym at))))
+    c.fault.ensures (λ is. true≢false (sym (c.in_ok-goes.ensures.1 (is.0, is.1 ∙ sym at)) ∙ c.if-not-goes.true))
 
 pub check_conversion-returns-clause-judged : goal.check_conversion-returns-clause-judged
 check_conversion-returns-clause-judged t c =
@@ -246,7 +253,7 @@ check_conversion-returns-clause-judged t c =
     let x = proved env hyps lets (proof_view c.args.proof.now) in
     let are = c.in_ok-check_proof.ensures.claims in
     let at = ap (λ cs. operand (claim_trees cs) c.len-from.result) c.deref.ensures.value ∙ ap (operand (claim_trees new)) from ∙ last_same old new x are in
-    let sides = c.if-not-goes_between.ensures.0 refl in
+    let sides = c.in_ok-goes.ensures.0 c.if-not-goes.false in
     judged_still (proof_rules env ctx hyps lets (by_conv (tree c.args.e.now) (conversion c.args.conv.now) (proof_view c.args.proof.now)) n) c.claim_instead.result
     (step.conversion_holds env ctx hyps lets (tree c.args.e.now) (conversion c.args.conv.now) (proof_view c.args.proof.now) n
     (all_hold-first A B c.in_ok-check_converted.ensures) (all_hold-rest A B c.in_ok-check_converted.ensures)

@@ -1,4 +1,4 @@
-use Rattle.std.proofs.Common.{◌≡◌, ◌<◌, ◌+◌, true≢false, drop, length, refl, sym, ◌∙◌, subst, inl, arith}
+use Rattle.std.proofs.Common.{◌≡◌, ◌<◌, ◌+◌, true≢false, drop, length, sym, ◌∙◌, subst, inl, arith}
 use Rattle.std.proofs.lemmas.List.{drop_all}
 use Rattle.mz_checks.specs.Checks.{demand, AllHold}
 use Rattle.mz_checks.proofs.Offered.{Decides, decides-whole}
@@ -9,9 +9,10 @@ use Rattle.mz_logic.specs.Tree.{listed, instance, instances}
 use Rattle.mz_logic.specs.View.{tree, trees}
 use Rattle.mz_logic.proofs.Offered.{expr-read, exprs_of, length-exprs, trees-exprs}
 use Rattle.mz_forms.specs.Order.{fault}
+use Rattle.mz_forms.specs.declared.fault.Stop.TheVariants.{Mem}
 use Rattle.mz_typing.specs.Claims.{claim_tree, claim_trees}
 use Rattle.mz_typing.specs.Rules.{subproof_rules}
-use Rattle.mz_typing.proofs.Judging.{left_fails, left_step}
+use Rattle.mz_typing.proofs.Judging.{left_fails, left_step, stop_handed_on}
 use Rattle.mz_typing.proofs.ProofSteps.{subproofs_cut}
 use Rattle.mz_typing.proofs.convs.Checker.check_claims.Goals as goal
 
@@ -24,8 +25,12 @@ loop-i-init c =
 pub at-requires : goal.at-requires
 at-requires c = let below : c.loop-i.i < length (listed c.args.hyps.now) = omega (arith, c.loop-i-test.true, c.requires) in below
 
-pub returns-then-not-same_claim : goal.returns-then-not-same_claim
-returns-then-not-same_claim c =
+pub returns-in_err-same : goal.returns-in_err-same
+returns-in_err-same c =
+    stop_handed_on (subproof_rules (claim_trees c.args.claims.now) c.args.nodes.now (instances c.args.es.now c.args.hyps.now)) c.from_residual.result Mem c.from_residual.ensures.1 tt
+
+pub returns-then-not-same : goal.returns-then-not-same
+returns-then-not-same c =
     let es = c.args.es.now in
     let items = c.args.claims.now in
     let wanted = exprs_of c.args.hyps.now in
@@ -37,7 +42,7 @@ returns-then-not-same_claim c =
     (subproof_rules (claim_trees (drop (i + 1) items)) (rest c.loop-i.left) (instances es (trees (drop (i + 1) wanted)))) whole c.fault.result
     (subproofs_cut es items wanted i c.index-claims-i.result c.at.result.now c.loop-i-test.true c.index-claims-i.is
     (let within : i < length wanted = omega (arith, c.loop-i-test.true, c.requires, many) in within) (expr-read c.args.hyps.now i c.at.result.now c.at.ensures) c.loop-i.left)
-    c.loop-i.invariant (inl (λ is. true≢false (sym (c.if-not-same_claim.ensures.1 (is ∙ sym c.instance.ensures))), c.fault.ensures))
+    c.loop-i.invariant (inl (λ is. true≢false (sym (c.in_ok-same.ensures.1 (is ∙ sym c.instance.ensures)) ∙ c.if-not-same.true), c.fault.ensures))
 
 pub loop-i-preserved : goal.loop-i-preserved
 loop-i-preserved c =
@@ -53,7 +58,7 @@ loop-i-preserved c =
     (subproof_rules (claim_trees (drop (i + 1) items)) (rest c.loop-i.left) (instances es (trees (drop (i + 1) wanted)))) whole
     (subproofs_cut es items wanted i c.index-claims-i.result c.at.result.now c.loop-i-test.true c.index-claims-i.is
     (let within : i < length wanted = omega (arith, c.loop-i-test.true, c.requires, many) in within) (expr-read c.args.hyps.now i c.at.result.now c.at.ensures) c.loop-i.left)
-    c.loop-i.invariant (c.if-not-same_claim.ensures.0 refl ∙ c.instance.ensures, tt))
+    c.loop-i.invariant (c.in_ok-same.ensures.0 c.if-not-same.false ∙ c.instance.ensures, tt))
 
 pub returns : goal.returns
 returns c =

@@ -1,0 +1,84 @@
+// Sets of variables, as what goes over expressions asks for them.
+ghost use Rattle.std.specs.Prelude.{◌≡◌, ◌↔◌, ◌⊎◌, ◌++◌, [], ℕ, List, IsTrue, IfOk, OnOk, Contains, length, take};
+
+use indexmap::IndexSet;
+use mz_logic::Deps;
+use std::alloc::{AllocError, Global};
+use std::marker::Model;
+
+/// Variables by their places, each once, the last ones added last.
+#[derive(Drop)]
+pub struct VariableSet {
+    places: IndexSet<u32>,
+}
+
+impl Model for VariableSet {
+    ghost use Rattle.std.specs.Prelude.{List, ℕ};
+
+    ghost Value = { List ℕ };
+
+    ghost view = { λ a. a.places.keys };
+}
+
+impl VariableSet {
+    /// No variables.
+    pub fn new(alloc: Global) -> VariableSet
+        ensures { result ≡ [] }
+    {
+        VariableSet {
+            places: IndexSet::new(alloc),
+        }
+    }
+
+    /// The variables at these places.
+    pub(crate) fn of(alloc: Global, deps: &Deps) -> Result<VariableSet, AllocError>
+        ensures { IfOk result (λ covered. (x : ℕ) → Contains covered x ↔ Contains deps.now x) }
+    {
+        let mut covered = VariableSet::new(alloc);
+        for place in deps.as_slice() {
+            covered.add(*place)?;
+        }
+        Ok(covered)
+    }
+
+    /// How many there are.
+    pub(crate) fn len(&self) -> usize
+        ensures { result ≡ length self.now }
+    {
+        self.places.len()
+    }
+
+    /// Whether there are none.
+    pub(crate) fn is_empty(&self) -> bool
+        ensures { IsTrue result ↔ (length self.now ≡ 0) }
+    {
+        self.len() == 0
+    }
+
+    /// Whether the variable is one of them.
+    pub fn has(&self, x: u32) -> bool
+        ensures { IsTrue result ↔ Contains self.now x }
+    {
+        self.places.contains(&x)
+    }
+
+    /// Adds a variable, if it isn't one of them.
+    ///
+    /// # Errors
+    ///
+    /// Where there is no memory.
+    pub fn add(&mut self, x: u32) -> Result<(), AllocError>
+        ensures grows { OnOk result ((more : List ℕ) × (self.new ≡ self.old ++ more)) }
+        ensures has { OnOk result ((y : ℕ) → Contains self.new y ↔ (Contains self.old y ⊎ (y ≡ x))) }
+    {
+        self.places.insert(x)?;
+        Ok(())
+    }
+
+    /// Keeps the first ones.
+    pub(crate) fn truncate(&mut self, len: usize)
+        ensures { self.new ≡ take len self.old }
+    {
+        self.places.truncate(len);
+    }
+}

@@ -1,0 +1,52 @@
+-- The END of a body in any machine.
+use Rattle.std.proofs.Common.{◌≡◌, ◌+◌, ℕ, suc, List, [], ◌∷◌, length, map, Result, Ok, Err, refl, ap, ◌∙◌, arith}
+use Rattle.std.specs.List.{range_with_len}
+use Rattle.mz_cmd.specs.declared.rule.K.{K}
+use Rattle.mz_logic.specs.declared.binder.Binder.{Binder}
+use Rattle.mz_unification.specs.Profile.{Profile}
+use Rattle.mz_unification.specs.UnifyMachine.{Matching, unify, unify_steps}
+use Rattle.mz_soundness.specs.MachineState.{RowsBefore, State, Heading, signatures_in}
+use Rattle.mz_soundness.specs.ProofMachine.{last_item, own_variables, ending, ends_with, proof_end}
+use Rattle.mz_soundness.specs.Bodies.{match_steps}
+use Rattle.mz_machine.specs.OverStore.{Gives}
+use Rattle.mz_machine.specs.Endings.{IsOwnRun}
+use Rattle.mz_unify.specs.declared.stop.Stop.{Stop}
+use Rattle.mz_unify.specs.declared.stop.Stop.TheVariants.{Rule, Mem}
+
+next-is : (i : ℕ) → suc i ≡ i + 1
+next-is i = omega arith
+
+-- the row's own parameters, as expressions
+pub own-are : (P : Profile) (i : ℕ) (ps : List Binder) → own_variables P i ps ≡ map P.variable (range_with_len i (length ps))
+own-are P i [] = refl
+own-are P i (p ∷ ps) = ap (λ (ts : List P.T). P.variable i ∷ ts) (own-are P (suc i) ps ∙ ap (λ (j : ℕ). map P.variable (range_with_len j (length ps))) (next-is i))
+
+module _ (P : Profile) (tables : RowsBefore) (h : Heading) (st : State P.T) where
+  pub no-last-item : (d : K) → last_item h.kind st.stack ≡ Err d → ends_with P tables h st ≡ Err d
+  unfolding ends_with
+  no-last-item d e = rw e refl
+
+  pub not-ending : (e : P.T) (d : K) → last_item h.kind st.stack ≡ Ok e → ending P tables h st h.kind e ≡ Err d → ends_with P tables h st ≡ Err d
+  unfolding ends_with
+  not-ending e d is stopped = rw (is, stopped) refl
+
+  pub is-ending : (e : P.T) (m : Matching P.T) → last_item h.kind st.stack ≡ Ok e → ending P tables h st h.kind e ≡ Ok m → ends_with P tables h st ≡ Ok m
+  unfolding ends_with
+  is-ending e m is ends = rw (is, ends) refl
+
+  pub stopped-end : (d : K) → ends_with P tables h st ≡ Err d → proof_end P tables h st ≡ Err d
+  unfolding proof_end
+  stopped-end d e = rw e refl
+
+  pub no-end-steps : (d : K) → ends_with P tables h st ≡ Err d → match_steps P tables st (ends_with P tables h st) ≡ 0
+  no-end-steps d e = rw e refl
+
+  pub end-steps : (m : Matching P.T) → ends_with P tables h st ≡ Ok m → match_steps P tables st (ends_with P tables h st) ≡ unify_steps P (signatures_in tables) st.ctx m
+  end-steps m e = rw e refl
+
+  pub own-end : {A : Type 0} (m : Matching P.T) (result : Result A Stop) → ends_with P tables h st ≡ Ok m → IsOwnRun (unify P (signatures_in tables) st.ctx m) result
+      → Gives (proof_end P tables h st) result (λ _. st)
+  unfolding proof_end
+  own-end m (Ok x) e (u, is) = rw (e, is) refl
+  own-end m (Err (Rule d)) e (at, is) = rw (e, is) refl
+  own-end m (Err Mem) e run = tt

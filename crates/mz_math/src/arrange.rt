@@ -1,0 +1,128 @@
+// Operands in the order of their parameters, where a notation has them in another one.
+ghost use Rattle.std.specs.Prelude.{◌≡◌, ◌<◌, ◌==◌, ℕ, None, Some, IfOk, IfSome, get_or, if◌then◌else◌, length};
+ghost use Rattle.mz_logic.specs.Tree.{app, none, operand as operand_at};
+ghost use Rattle.mz_logic.specs.View.{tree, trees};
+ghost use Rattle.mz_math.specs.Arrange.{AreApart, earlier_or, first_of, picked, picked_one};
+ghost use Rattle.mz_math.specs.Grammar.{arranged as in_order};
+ghost use Rattle.mz_notation.specs.Notation.{places};
+
+use mz_logic::{Expr, Exprs};
+use mz_notation::Element;
+use std::alloc::{AllocError, Global};
+use std::mem;
+
+/// The operands of so many parameters, in their order. None is copied.
+pub fn arranged(alloc: Global, elements: &[Element], operands: Exprs, many: usize) -> Option<Exprs>
+    ensures { IfSome result (λ es. es ≡ in_order (places elements.now) operands 0 many) }
+{
+    match order_of(alloc, elements, many) {
+        Err(_) => None,
+        Ok(order) => {
+            let mut items = operands.into_vec();
+            picked_in_order(alloc, &mut items, &order)
+        }
+    }
+}
+
+/// For each of so many parameters, which of the operands is the first one for it.
+fn order_of(
+    alloc: Global,
+    elements: &[Element],
+    many: usize,
+) -> Result<Vec<Option<usize>>, AllocError>
+    ensures many { IfOk result (λ order. length order.items ≡ many) }
+    ensures firsts { IfOk result (λ order. (i : ℕ) → i < many → get_or order.items i None ≡ first_of (places elements.now) i) }
+{
+    let mut order = unordered(alloc, many)?;
+    note_order(&mut order, elements);
+    Ok(order)
+}
+
+/// Nothing for each of so many parameters.
+fn unordered(alloc: Global, many: usize) -> Result<Vec<Option<usize>>, AllocError>
+    ensures many { IfOk result (λ order. length order.items ≡ many) }
+    ensures nothing { IfOk result (λ order. (i : ℕ) → get_or order.items i None ≡ None) }
+{
+    let mut order: Vec<Option<usize>> = Vec::new(alloc);
+    'places: while order.len() < many {
+        order.push(None)?;
+    }
+    Ok(order)
+}
+
+/// Notes for each parameter which of the operands is the first one for it.
+fn note_order(order: &mut [Option<usize>], elements: &[Element])
+    requires { (i : ℕ) → get_or order.old i None ≡ None }
+    ensures many { length order.new ≡ length order.old }
+    ensures firsts { (i : ℕ) → i < length order.old → get_or order.new i None ≡ first_of (places elements.now) i }
+{
+    let mut next = 0;
+    for element in elements {
+        match element {
+            Element::Fixed(_, _) => {}
+            Element::Slot(slot) => {
+                note_first(order, *slot, next);
+                next += 1;
+            }
+        }
+    }
+}
+
+/// Notes an operand for a parameter, if there is none for it yet.
+fn note_first(order: &mut [Option<usize>], place: usize, at: usize)
+    ensures many { length order.new ≡ length order.old }
+    ensures noted { (i : ℕ) → i < length order.old → get_or order.new i None ≡ (if place == i then Some (earlier_or (get_or order.old i None) at) else get_or order.old i None) }
+{
+    if place >= order.len() {
+        return;
+    }
+    if order[place].is_none() {
+        order[place] = Some(at);
+    }
+}
+
+/// The operands at these places, each of which is told once at most.
+fn picked_in_order(alloc: Global, operands: &mut [Expr], order: &[Option<usize>]) -> Option<Exprs>
+    requires { AreApart order.now }
+    ensures { IfSome result (λ es. es ≡ picked (trees operands.old) order.now) }
+{
+    let Ok(mut all) = Exprs::with_capacity(alloc, order.len()) else {
+        return None;
+    };
+    for at in order {
+        let operand = taken(alloc, operands, *at);
+        let Ok(()) = all.push(operand) else {
+            return None;
+        };
+    }
+    Some(all)
+}
+
+/// Takes the operand at a place, if there is one.
+fn taken(alloc: Global, operands: &mut [Expr], at: Option<usize>) -> Expr
+    ensures is { tree result ≡ picked_one (trees operands.old) at }
+    ensures kept { (k : ℕ) → (at ≡ Some k → ⊥) → operand_at (trees operands.new) k ≡ operand_at (trees operands.old) k }
+{
+    match at {
+        None => absent(alloc),
+        Some(k) => taken_at(alloc, operands, k),
+    }
+}
+
+/// Takes the operand at the place, and leaves what stands for one that isn't there.
+fn taken_at(alloc: Global, operands: &mut [Expr], k: usize) -> Expr
+    ensures is { tree result ≡ operand_at (trees operands.old) k }
+    ensures kept { (j : ℕ) → (j ≡ k → ⊥) → operand_at (trees operands.new) j ≡ operand_at (trees operands.old) j }
+{
+    if k >= operands.len() {
+        return absent(alloc);
+    }
+    mem::replace(&mut operands[k], absent(alloc))
+}
+
+/// What stands for an operand that isn't there.
+fn absent(alloc: Global) -> Expr
+    ensures { tree result ≡ app 0 none }
+{
+    Expr::App(0, Exprs::new(alloc))
+}

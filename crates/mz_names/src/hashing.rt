@@ -1,0 +1,36 @@
+// How names are hashed.
+use std::hash::{BuildHasher, FoldHasher, Hasher};
+
+/// Makes the hashers of maps by names. Each begins with what a seed left, which the program draws by
+/// chance, so that a file can't be chosen for names that share their hash, which take long to be told
+/// apart. No answer depends on it.
+#[derive(Clone, Copy)]
+pub struct Hashing {
+    initial: FoldHasher,
+}
+
+impl Hashing {
+    /// That of a seed.
+    pub fn seeded(seed: u64) -> Hashing {
+        let mut initial = FoldHasher::default();
+        initial.write_u64(seed);
+        Hashing { initial }
+    }
+
+    /// That of those who draw no seed.
+    pub fn fixed() -> Hashing {
+        Hashing {
+            initial: FoldHasher::default(),
+        }
+    }
+}
+
+impl BuildHasher for Hashing {
+    type Hasher = FoldHasher;
+
+    ghost build_hasher = { λ hashing. hashing.initial };
+
+    fn build_hasher(&self) -> FoldHasher {
+        self.initial
+    }
+}

@@ -1,9 +1,0 @@
-use Rattle.std.proofs.Common.{◌∙◌, Contains, ap, sym}
-use Rattle.mz_notation.specs.Notation.{fixed}
-use Rattle.mz_notation.proofs.Constants.{fixed-level}
-use Rattle.mz_notation.proofs.notation.Element.keeps_level_beside.Goals as goal
-
-pub returns-in-Fixed : goal.returns-in-Fixed
-returns-in-Fixed c =
-    fixed-level c.args.self.now c.as_slice.result.now c.in-Fixed.level (c.in-Fixed.is ∙ ap (λ w. fixed w c.in-Fixed.level) (sym c.as_slice.ensures))
-    c.has_level.result (λ w p. Contains c.args.elements.now (fixed w p)) c.has_level.ensures
