@@ -9,6 +9,7 @@ mod earlier;
 mod items;
 mod own;
 mod places;
+mod spare;
 
 pub use command::{Converting, Making};
 pub use earlier::Earlier;
@@ -17,4 +18,5 @@ pub use own::{
     BodyKind, deps_mode, first_ids, first_items, kind_by, own_arity, own_proofs, own_stream,
     read_words,
 };
-pub use places::{bound_places, dependencies, may_meet};
+pub use places::{dependencies, may_meet};
+pub use spare::Spare;

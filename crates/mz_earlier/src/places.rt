@@ -1,31 +1,8 @@
-//! The places of a row's bound parameters, and who may share a variable there.
-ghost use Rattle.std.specs.Prelude.{◌≡◌, ◌%◌, ◌==◌, ◌||◌, ◌&&◌, IfOk, nat_lt, if◌then◌else◌};
-ghost use Rattle.mz_logic.specs.Words.{bound_places, word_bound, word_deps};
-ghost use Rattle.mz_layout.specs.Rows.{params_of};
-ghost use Rattle.mz_earlier.specs.OperandRows.{IsBefore};
+//! Who may share a variable at two places of a row.
+ghost use Rattle.std.specs.Prelude.{◌≡◌, ◌%◌, ◌==◌, ◌||◌, ◌&&◌, nat_lt, if◌then◌else◌};
+ghost use Rattle.mz_logic.specs.Words.{word_bound, word_deps};
 
-use crate::earlier::Earlier;
-use mz_layout::Row;
 use mz_logic::Word;
-use std::alloc::{AllocError, Global};
-
-/// The places of the row's bound parameters.
-///
-/// # Errors
-///
-/// Where there is no memory.
-pub fn bound_places(alloc: Global, earlier: &Earlier, row: Row) -> Result<Vec<u32>, AllocError>
-    requires { IsBefore earlier.now row }
-    ensures { IfOk result (λ places. places.items ≡ bound_places 0 (params_of earlier.now.file row)) }
-{
-    let mut places = Vec::new(alloc);
-    'params: for i in 0..earlier.arity_of(row) {
-        if earlier.word_of(row, i).bound() {
-            places.push(i)?;
-        }
-    }
-    Ok(places)
-}
 
 /// The bits of the bound parameters on which a parameter depends, none of a bound one.
 pub fn dependencies(word: Word) -> u64

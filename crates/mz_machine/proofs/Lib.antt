@@ -9,6 +9,7 @@ mod Citing
 pub mod RowResults
 pub mod TakenOperands
 pub mod ReadExprs
+mod StoredItems
 pub mod FittingOperands
 mod Apartness
 mod TermRows

@@ -9,6 +9,7 @@ pub use Rattle.mz_machine.proofs.FittingOperands.{fit-next}
 pub use Rattle.mz_machine.proofs.GapRows.{counts-as, gives-as}
 pub use Rattle.mz_machine.proofs.Machines.{same-three}
 pub use Rattle.mz_machine.proofs.Popping.{last-splits, no-last}
+pub use Rattle.mz_machine.proofs.ReadExprs.{ItemsOf, exprs-are, exprs-many, operands-read, read-of}
 pub use Rattle.mz_machine.proofs.RowResults.{count-is, dummy-many, dummy-row, dummy-sort-fails, hyp-err, hyp-other, hyp-row, pay-left, pay-right, pay-row, provable, ref-none, ref-row, save-none, save-other, save-row, sorry-row}
 pub use Rattle.mz_machine.proofs.Stopping.{stopped, stops-as}
 pub use Rattle.mz_machine.proofs.TermRows.{built-few, built-none, built-row, built-unfit, can-stand, takes-its-own, term-of, term-save-of}

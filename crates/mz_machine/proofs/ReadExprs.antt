@@ -1,20 +1,16 @@
--- Items read off a stack as expressions.
-use Rattle.std.proofs.Common.{◌≡◌, ◌≤◌, ℕ, zero, suc, ◌-◌, List, [], ◌∷◌, ◌++◌, length, take, drop, Result, Ok, Err, refl, sym, ap, subst, ◌∙◌, arith, append_assoc, length-append}
-use Rattle.std.specs.Prelude.{map}
-use Rattle.std.proofs.lemmas.List.{append-nil, length-drop, length-map}
+-- Items read off a stack as expressions, in any machine.
+use Rattle.std.proofs.Common.{◌≡◌, ◌≤◌, ℕ, zero, suc, ◌-◌, List, [], ◌∷◌, ◌++◌, length, take, drop, Result, Ok, Err, refl, sym, ap, ◌∙◌, arith, append_assoc, length-append}
+use Rattle.std.specs.Prelude.{map, reverse}
+use Rattle.std.proofs.lemmas.List.{append-nil, length-drop, length-map, length-reverse, reverse-append}
 use Rattle.std.proofs.Math.Seq.{take-length}
 use Rattle.mz_cmd.specs.declared.rule.K.{K}
 use Rattle.mz_cmd.specs.declared.rule.K.TheVariants as k
-use Rattle.mz_logic.specs.Tree.{Tree}
-use Rattle.mz_store.specs.Sharing.{Sharing, AreIn}
 use Rattle.mz_store.specs.declared.item.Id.{Id}
 use Rattle.mz_store.specs.declared.item.Item.{Item as Kept}
 use Rattle.mz_store.specs.declared.item.Item.TheVariants.{Expr, Proof, Obligation, Conversion}
 use Rattle.mz_unification.specs.Profile.{Item, expr, proof, obligation, conversion}
 use Rattle.mz_unification.specs.Steps.{◌>>=◌}
 use Rattle.mz_unification.proofs.Offered.{taken-is}
-use Rattle.mz_unify.specs.Stored.{trees_at, items_at, AreItemsIn}
-use Rattle.mz_unify.proofs.Offered.{items-push}
 use Rattle.mz_soundness.specs.Premises.{pop_exprs, pop_operands}
 use Rattle.mz_machine.specs.OverStore.{exprs_of}
 use Rattle.mz_machine.proofs.TakenOperands.{pop-enough}
@@ -62,13 +58,6 @@ exprs-are (Conversion i j ∷ xs) is h = absurd cc
 pub exprs-many : (xs : List Kept) (is : List Id) → exprs_of xs ≡ Ok is → length is ≡ length xs
 exprs-many xs is h = sym (ap length (exprs-are xs is h) ∙ length-map is Expr)
 
-are-ids : (s : Sharing) (is : List Id) → AreItemsIn s (map Expr is) → AreIn s is
-are-ids s [] h = tt
-are-ids s (i ∷ is) h = (h.0, are-ids s is h.1)
-
-pub exprs-in : (s : Sharing) (xs : List Kept) (is : List Id) → exprs_of xs ≡ Ok is → AreItemsIn s xs → AreIn s is
-exprs-in s xs is h inside = are-ids s is (subst (AreItemsIn s) (exprs-are xs is h) inside)
-
 only-kind : (xs : List Kept) (f : K) → exprs_of xs ≡ Err f → k.Kind ≡ f
 only-kind [] f h = absurd cc
 only-kind (Expr i ∷ xs) f h = go (exprs_of xs) refl h (λ later. only-kind xs f later)
@@ -83,7 +72,7 @@ only-kind (Conversion i j ∷ xs) f h = cc
 -- ---- as taken from above
 
 -- one more is taken after the others
-pop-more : (n : ℕ) (xs : List (Item Tree)) (es : List Tree) → pop_exprs (suc n) xs es ≡ (pop_exprs n xs es >>= λ p. pop_exprs 1 p.1 p.0)
+pop-more : {T : Type 0} (n : ℕ) (xs : List (Item T)) (es : List T) → pop_exprs (suc n) xs es ≡ (pop_exprs n xs es >>= λ p. pop_exprs 1 p.1 p.0)
 pop-more zero xs es = refl
 pop-more (suc n) [] es = refl
 pop-more (suc n) (expr e ∷ xs) es = pop-more n xs (e ∷ es)
@@ -91,47 +80,64 @@ pop-more (suc n) (proof e ∷ xs) es = refl
 pop-more (suc n) (obligation l r ∷ xs) es = refl
 pop-more (suc n) (conversion l r ∷ xs) es = refl
 
-module _ (s : Sharing) where
+-- what items are in a machine where each id stands for an expression
+pub record ItemsOf (T : Type 0) (item : Kept → Item T) (expression : Id → T) : Type 0 where
+  pub exprs : (i : Id) → item (Expr i) ≡ expr (expression i)
+  pub proofs : (i : Id) → item (Proof i) ≡ proof (expression i)
+  pub obligations : (i j : Id) → item (Obligation i j) ≡ obligation (expression i) (expression j)
+  pub conversions : (i j : Id) → item (Conversion i j) ≡ conversion (expression i) (expression j)
+
+module _ {T : Type 0} {item : Kept → Item T} {expression : Id → T} (are : ItemsOf T item expression) where
+  -- a stack of items, the top first
+  abbrev items : List Kept → List (Item T)
+  items xs = map item (reverse xs)
+
+  items-push : (xs : List Kept) (x : Kept) (y : Item T) → item x ≡ y → items (xs ++ x ∷ []) ≡ y ∷ items xs
+  items-push xs x y is = ap (map item) (reverse-append xs (x ∷ [])) ∙ ap (λ (z : Item T). z ∷ items xs) is
+
+  items-many : (xs : List Kept) → length (items xs) ≡ length xs
+  items-many xs = length-map (reverse xs) item ∙ length-reverse xs
+
   -- what was taken above, and is to be taken next
   abbrev Taken : Type 0
-  Taken = Result (List Tree × List (Item Tree)) K
+  Taken = Result (List T × List (Item T)) K
 
-  abbrev taken_as : List Kept → List Tree → Result (List Id) K → Taken
-  taken_as ys es r = r >>= λ is. Ok (trees_at s is ++ es, items_at s ys)
+  abbrev taken_as : List Kept → List T → Result (List Id) K → Taken
+  taken_as ys es r = r >>= λ is. Ok (map expression is ++ es, items ys)
 
   abbrev one_more : Taken → Taken
   one_more r = r >>= λ p. pop_exprs 1 p.1 p.0
 
-  expr-more : (i : Id) (ys : List Kept) (es : List Tree) (r : Result (List Id) K) → one_more (taken_as (ys ++ Expr i ∷ []) es r) ≡ taken_as ys es (r >>= λ js. Ok (i ∷ js))
-  expr-more i ys es (Ok is) = ap (λ (zs : List (Item Tree)). pop_exprs 1 zs (trees_at s is ++ es)) (items-push s ys (Expr i))
+  expr-more : (i : Id) (ys : List Kept) (es : List T) (r : Result (List Id) K) → one_more (taken_as (ys ++ Expr i ∷ []) es r) ≡ taken_as ys es (r >>= λ js. Ok (i ∷ js))
+  expr-more i ys es (Ok is) = ap (λ (zs : List (Item T)). pop_exprs 1 zs (map expression is ++ es)) (items-push ys (Expr i) (expr (expression i)) (are.exprs i))
   expr-more i ys es (Err f) = refl
 
-  other-more : (x : Kept) (xs ys : List Kept) (es : List Tree) (r : Result (List Id) K) → exprs_of xs ≡ r
-      → ((fs : List Tree) → pop_exprs 1 (items_at s (ys ++ x ∷ [])) fs ≡ Err k.Kind) → one_more (taken_as (ys ++ x ∷ []) es r) ≡ Err k.Kind
-  other-more x xs ys es (Ok is) same stops = stops (trees_at s is ++ es)
+  other-more : (x : Kept) (xs ys : List Kept) (es : List T) (r : Result (List Id) K) → exprs_of xs ≡ r
+      → ((fs : List T) → pop_exprs 1 (items (ys ++ x ∷ [])) fs ≡ Err k.Kind) → one_more (taken_as (ys ++ x ∷ []) es r) ≡ Err k.Kind
+  other-more x xs ys es (Ok is) same stops = stops (map expression is ++ es)
   other-more x xs ys es (Err f) same stops = ap (λ (g : K). Err g) (sym (only-kind xs f same))
 
-  item-more : (x : Kept) (xs ys : List Kept) (es : List Tree) → one_more (taken_as (ys ++ x ∷ []) es (exprs_of xs)) ≡ taken_as ys es (exprs_of (x ∷ xs))
+  item-more : (x : Kept) (xs ys : List Kept) (es : List T) → one_more (taken_as (ys ++ x ∷ []) es (exprs_of xs)) ≡ taken_as ys es (exprs_of (x ∷ xs))
   item-more (Expr i) xs ys es = expr-more i ys es (exprs_of xs)
-  item-more (Proof i) xs ys es = other-more (Proof i) xs ys es (exprs_of xs) refl λ fs. ap (λ (zs : List (Item Tree)). pop_exprs 1 zs fs) (items-push s ys (Proof i))
-  item-more (Obligation i j) xs ys es = other-more (Obligation i j) xs ys es (exprs_of xs) refl λ fs. ap (λ (zs : List (Item Tree)). pop_exprs 1 zs fs) (items-push s ys (Obligation i j))
-  item-more (Conversion i j) xs ys es = other-more (Conversion i j) xs ys es (exprs_of xs) refl λ fs. ap (λ (zs : List (Item Tree)). pop_exprs 1 zs fs) (items-push s ys (Conversion i j))
+  item-more (Proof i) xs ys es = other-more (Proof i) xs ys es (exprs_of xs) refl λ fs. ap (λ (zs : List (Item T)). pop_exprs 1 zs fs) (items-push ys (Proof i) (proof (expression i)) (are.proofs i))
+  item-more (Obligation i j) xs ys es = other-more (Obligation i j) xs ys es (exprs_of xs) refl λ fs. ap (λ (zs : List (Item T)). pop_exprs 1 zs fs) (items-push ys (Obligation i j) (obligation (expression i) (expression j)) (are.obligations i j))
+  item-more (Conversion i j) xs ys es = other-more (Conversion i j) xs ys es (exprs_of xs) refl λ fs. ap (λ (zs : List (Item T)). pop_exprs 1 zs fs) (items-push ys (Conversion i j) (conversion (expression i) (expression j)) (are.conversions i j))
 
-  pop-read : (xs ys : List Kept) (es : List Tree) → pop_exprs (length xs) (items_at s (ys ++ xs)) es ≡ taken_as ys es (exprs_of xs)
-  pop-read [] ys es = ap (λ (zs : List Kept). Ok (es, items_at s zs)) (append-nil ys)
+  pop-read : (xs ys : List Kept) (es : List T) → pop_exprs (length xs) (items (ys ++ xs)) es ≡ taken_as ys es (exprs_of xs)
+  pop-read [] ys es = ap (λ (zs : List Kept). Ok (es, items zs)) (append-nil ys)
   pop-read (x ∷ xs) ys es =
-      pop-more (length xs) (items_at s (ys ++ x ∷ xs)) es
-      ∙ ap (λ (zs : List Kept). one_more (pop_exprs (length xs) (items_at s zs) es)) (sym (append_assoc ys (x ∷ []) xs))
+      pop-more (length xs) (items (ys ++ x ∷ xs)) es
+      ∙ ap (λ (zs : List Kept). one_more (pop_exprs (length xs) (items zs) es)) (sym (append_assoc ys (x ∷ []) xs))
       ∙ ap one_more (pop-read xs (ys ++ x ∷ []) es)
       ∙ item-more x xs ys es
 
-  whole : (ys : List Kept) (r : Result (List Id) K) → taken_as ys [] r ≡ (r >>= λ is. Ok (trees_at s is, items_at s ys))
-  whole ys (Ok is) = ap (λ (es : List Tree). Ok (es, items_at s ys)) (append-nil (trees_at s is))
+  whole : (ys : List Kept) (r : Result (List Id) K) → taken_as ys [] r ≡ (r >>= λ is. Ok (map expression is, items ys))
+  whole ys (Ok is) = ap (λ (es : List T). Ok (es, items ys)) (append-nil (map expression is))
   whole ys (Err f) = refl
 
   -- so many are read as what is taken
   pub operands-read : (xs ys top : List Kept) (n : ℕ) (r : Result (List Id) K) → xs ≡ ys ++ top → n ≡ length top → exprs_of top ≡ r
-      → pop_operands n (items_at s xs) ≡ (r >>= λ is. Ok (trees_at s is, items_at s ys))
+      → pop_operands n (map item (reverse xs)) ≡ (r >>= λ is. Ok (map expression is, map item (reverse ys)))
   operands-read xs ys top n r split many is =
-      pop-enough n s xs (r >>= λ js. Ok (trees_at s js, items_at s ys)) (let e : n ≤ length xs = omega (arith, ap length split, length-append ys top, many) in e)
+      pop-enough n (items xs) (r >>= λ js. Ok (map expression js, items ys)) (let e : n ≤ length (items xs) = omega (arith, items-many xs, ap length split, length-append ys top, many) in e)
       (rw (split, many) (pop-read top ys []) ∙ ap (taken_as ys []) is ∙ whole ys r)

@@ -20,12 +20,11 @@ ghost use Rattle.mz_machine.specs.OverStore.{state_at, code_of, code_of_keeping,
 ghost use Rattle.mz_unify.specs.Rows.{StopsBy};
 
 use crate::command::{Command, Keeping};
-use crate::spare::Spare;
 use conversions::{cong, conv, conv_cut, conv_save, refl, symm, unfold};
 pub(crate) use gaps::gap;
 use heap::{conv_refer, dummy, hyp, refer, save};
 use mz_cmd::{K, Steps};
-use mz_earlier::{Converting, Earlier, Making};
+use mz_earlier::{Converting, Earlier, Making, Spare};
 use mz_store::{Id, Item, Store};
 use mz_unify::{Stop, push};
 use std::sync::ledger::Ledger;

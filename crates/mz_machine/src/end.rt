@@ -18,9 +18,8 @@ ghost use Rattle.mz_machine.specs.OverStore.{state_at, AreFirst, IsContextOf, Gi
 ghost use Rattle.mz_machine.specs.Endings.{mode_at, ended, IsOwnRun};
 
 use crate::commands::heap::is_provable;
-use crate::spare::Spare;
 use mz_cmd::{K, Steps};
-use mz_earlier::{BodyKind, Earlier, first_ids, own_arity, own_proofs, own_stream};
+use mz_earlier::{BodyKind, Earlier, Spare, first_ids, own_arity, own_proofs, own_stream};
 use mz_logic::Word;
 use mz_store::{Id, Item, Store};
 use mz_unify::{Stop, Unified, UnifyMode, unify_in};

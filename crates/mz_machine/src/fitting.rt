@@ -41,7 +41,11 @@ pub(crate) fn pop_operands(
 }
 
 /// Reads items as expressions, whose ids the list becomes.
-fn read_exprs(items: &[Item], ids: &mut Vec<Id>) -> Result<(), Stop>
+///
+/// # Errors
+///
+/// Where an item is no expression, or there is no memory.
+pub fn read_exprs(items: &[Item], ids: &mut Vec<Id>) -> Result<(), Stop>
     ensures { Gives (exprs_of items.now) result (λ _. ids.new.items) }
 {
     ids.clear();

@@ -19,9 +19,10 @@ use crate::body::BodyEnd;
 use crate::command::{Command, decoded};
 use crate::commands::{execute, gap};
 use crate::end::end;
-use crate::spare::Spare;
 use mz_cmd::{Cmd, K, ProofCode, Steps};
-use mz_earlier::{BodyKind, Converting, Earlier, deps_mode, first_items, kind_by, read_words};
+use mz_earlier::{
+    BodyKind, Converting, Earlier, Spare, deps_mode, first_items, kind_by, read_words,
+};
 use mz_layout::{Mmb, Rows};
 use mz_logic::Word;
 use mz_mode::Mode;

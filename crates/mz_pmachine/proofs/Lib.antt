@@ -3,7 +3,7 @@ mod Popping
 mod Converting
 mod Unfoldings
 mod Citing
-mod TakenOperands
+mod NodeItems
 mod FittingOperands
 mod TermResults
 mod Ending

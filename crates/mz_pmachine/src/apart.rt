@@ -1,6 +1,6 @@
 //! Operands that are apart: none holds the variable of a bound parameter, but of its own and of those
 //! on which its parameter depends.
-ghost use Rattle.std.specs.Prelude.{ℕ, ◌≡◌, ◌<◌, ◌||◌, true, List, IfOk, Ok, Some, length, not, slice_get};
+ghost use Rattle.std.specs.Prelude.{ℕ, ◌≡◌, ◌<◌, ◌||◌, true, List, Ok, Some, length, not, slice_get};
 ghost use Rattle.mz_logic.specs.Tree.{Tree};
 ghost use Rattle.mz_logic.specs.Signature.{Signature};
 ghost use Rattle.mz_logic.specs.Words.{binders_of, bound_places};
@@ -13,37 +13,37 @@ ghost use Rattle.mz_soundness.specs.Premises.{operands_fit, apart_from, are_apar
 ghost use Rattle.mz_earlier.specs.Before.{signatures_of};
 ghost use Rattle.mz_earlier.specs.OperandRows.{IsBefore, AreAmong};
 
-use mz_earlier::{Earlier, bound_places, dependencies, may_meet};
+use mz_earlier::{Earlier, dependencies, may_meet};
 use mz_layout::Row;
 use mz_nodes::Nodes;
 use mz_store::Id;
-use std::alloc::{AllocError, Global};
 
-/// Whether each two operands of a row are apart, whichever of them comes first. They fit.
+/// Whether each two operands of a row are apart, whichever of them comes first. They fit, and the bound
+/// parameters stand at these places.
 ///
 /// Each is compared with those of the bound parameters alone, of which a row has few.
 pub(crate) fn are_apart(
-    alloc: Global,
     earlier: &Earlier,
     row: Row,
     nodes: &Nodes,
     operands: &[Id],
-) -> Result<bool, AllocError>
+    bound: &[u32],
+) -> bool
     requires row { IsBefore earlier.now row }
     requires over { IsOver (signatures_of earlier.now) nodes.now }
     requires ids { AreIn nodes.now operands.now }
     requires many { length operands.now ≡ length (params_of earlier.now.file row) }
     requires fit { operands_fit (signatures_of earlier.now) nodes.now.context (trees_at nodes.now operands.now) (binders_of (params_of earlier.now.file row)) ≡ Ok tt }
-    ensures { IfOk result (λ apart. apart ≡ are_apart nodes.now.context (trees_at nodes.now operands.now) (binders_of (params_of earlier.now.file row))) }
+    requires bound { bound.now ≡ bound_places 0 (params_of earlier.now.file row) }
+    ensures { result ≡ are_apart nodes.now.context (trees_at nodes.now operands.now) (binders_of (params_of earlier.now.file row)) }
 {
-    let bound = bound_places(alloc, earlier, row)?;
-    let all = variables_at(nodes, operands, &bound);
+    let all = variables_at(nodes, operands, bound);
     'operands: for i in 0..earlier.arity_of(row) {
-        if !is_apart(earlier, row, nodes, operands, &bound, all, i) {
-            return Ok(false);
+        if !is_apart(earlier, row, nodes, operands, bound, all, i) {
+            return false;
         }
     }
-    Ok(true)
+    true
 }
 
 /// The word of the variables of the operands at these places.

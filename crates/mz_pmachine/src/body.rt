@@ -69,14 +69,13 @@ pub fn check_portable_in<L: Ledger>(
     let Ok(mut desk) = room.take(alloc) else {
         return BodyChecked::Mem;
     };
-    let checked = check_on(alloc, &mut desk, mmb, kind, row, before, body, steps);
+    let checked = check_on(&mut desk, mmb, kind, row, before, body, steps);
     room.keep(desk);
     checked
 }
 
 /// Runs the body of a statement on a desk, whatever lies on it.
 fn check_on<L: Ledger>(
-    alloc: Global,
     desk: &mut Desk,
     mmb: &Mmb,
     kind: BodyKind,
@@ -92,15 +91,8 @@ fn check_on<L: Ledger>(
     ensures most { steps.new ≤ steps.old + (body.1 - body.0) * (length mmb.now + 1) }
     ensures steps { UnlessMem result (steps.new ≡ steps.old + body_steps portable (tables_before mmb.now before) (heading_of mmb.now (byte_of kind) row) body.0 (body_bytes mmb.now body.0 body.1)) }
 {
-    let Ok(setting) = Setting::begin(
-        alloc,
-        mmb,
-        kind,
-        row,
-        before,
-        &mut desk.words,
-        &mut desk.parts,
-    ) else {
+    let Ok(setting) = Setting::begin(mmb, kind, row, before, &mut desk.words, &mut desk.parts)
+    else {
         return BodyChecked::Mem;
     };
     let bytes = &mmb.file()[body.0 as usize..body.1 as usize];

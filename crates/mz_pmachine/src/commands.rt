@@ -19,18 +19,16 @@ use crate::command::{Command, Keeping};
 use conversions::{cong, conv, conv_cut, conv_save, refl, symm, unfold};
 use heap::{dummy, hyp, refer, save};
 use mz_cmd::{K, Steps};
-use mz_earlier::{Converting, Earlier, Making};
+use mz_earlier::{Converting, Earlier, Making, Spare};
 use mz_machine::assume;
 use mz_nodes::Nodes;
 use mz_store::{Id, Item};
 use mz_unify::{Stop, push};
-use std::alloc::Global;
 use std::sync::ledger::Ledger;
 use terms::{term, thm};
 
 /// Executes a command that makes an expression or a proof.
 fn make<L: Ledger>(
-    alloc: Global,
     earlier: &Earlier,
     at: u32,
     command: Making,
@@ -38,6 +36,7 @@ fn make<L: Ledger>(
     nodes: &mut Nodes,
     heap: &mut Vec<Item>,
     stack: &mut Vec<Item>,
+    spare: &mut Spare,
     steps: &mut Steps<L>,
 ) -> Result<(), Stop>
     requires number { nodes.old.next ≤ at }
@@ -53,20 +52,20 @@ fn make<L: Ledger>(
 {
     match command {
         Making::Term => {
-            term(alloc, earlier, at, value, nodes, stack)?;
+            term(earlier, at, value, nodes, stack, &mut spare.operands)?;
             Ok(())
         }
         Making::TermSave => {
-            let made = term(alloc, earlier, at, value, nodes, stack)?;
+            let made = term(earlier, at, value, nodes, stack, &mut spare.operands)?;
             push(heap, Item::Expr(made))?;
             Ok(())
         }
         Making::Thm => {
-            thm(alloc, earlier, value, nodes, stack, steps)?;
+            thm(earlier, value, nodes, stack, spare, steps)?;
             Ok(())
         }
         Making::ThmSave => {
-            let proved = thm(alloc, earlier, value, nodes, stack, steps)?;
+            let proved = thm(earlier, value, nodes, stack, spare, steps)?;
             push(heap, Item::Proof(proved))?;
             Ok(())
         }
@@ -124,12 +123,12 @@ fn keep(
 
 /// Executes a command on conversions. A gap is refused.
 fn convert<L: Ledger>(
-    alloc: Global,
     earlier: &Earlier,
     command: Converting,
     nodes: &Nodes,
     heap: &mut Vec<Item>,
     stack: &mut Vec<Item>,
+    spare: &mut Spare,
     steps: &mut Steps<L>,
 ) -> Result<(), Stop>
     requires over { IsOver (signatures_of earlier.now) nodes.now }
@@ -158,7 +157,7 @@ fn convert<L: Ledger>(
             Ok(())
         }
         Converting::Unfold => {
-            unfold(earlier, nodes, stack, steps)?;
+            unfold(earlier, nodes, stack, spare, steps)?;
             Ok(())
         }
         Converting::ConvCut => {
@@ -178,7 +177,6 @@ fn convert<L: Ledger>(
 
 /// Executes the command at a place.
 pub(crate) fn execute<L: Ledger>(
-    alloc: Global,
     earlier: &Earlier,
     at: u32,
     command: Command,
@@ -187,6 +185,7 @@ pub(crate) fn execute<L: Ledger>(
     heap: &mut Vec<Item>,
     stack: &mut Vec<Item>,
     hyps: &mut Vec<Id>,
+    spare: &mut Spare,
     steps: &mut Steps<L>,
 ) -> Result<(), Stop>
     requires number { nodes.old.next ≤ at }
@@ -205,7 +204,7 @@ pub(crate) fn execute<L: Ledger>(
 {
     match command {
         Command::Makes(making) => {
-            make(alloc, earlier, at, making, value, nodes, heap, stack, steps)?;
+            make(earlier, at, making, value, nodes, heap, stack, spare, steps)?;
             Ok(())
         }
         Command::Keeps(keeping) => {
@@ -213,7 +212,7 @@ pub(crate) fn execute<L: Ledger>(
             Ok(())
         }
         Command::Converts(converting) => {
-            convert(alloc, earlier, converting, nodes, heap, stack, steps)?;
+            convert(earlier, converting, nodes, heap, stack, spare, steps)?;
             Ok(())
         }
     }

@@ -20,26 +20,25 @@ ghost use Rattle.mz_numbered.specs.Numbered.{Numbered, portable};
 
 use crate::commands::heap::is_provable;
 use mz_cmd::{K, Steps};
-use mz_earlier::{BodyKind, Earlier, first_ids, own_arity, own_proofs, own_stream};
+use mz_earlier::{BodyKind, Earlier, Spare, first_ids, own_arity, own_proofs, own_stream};
 use mz_logic::Word;
 use mz_machine::mode_of;
 use mz_nodes::Nodes;
-use mz_punify::unify;
+use mz_punify::unify_in;
 use mz_store::{Id, Item};
 use mz_unify::{Stop, Unified};
-use std::alloc::Global;
 use std::sync::ledger::Ledger;
 
 /// Ends the body of the next row of its kind: the stack is one item, for a theorem a proof and else
 /// an expression, and what the row's own stream spells.
 pub(crate) fn end<L: Ledger>(
-    alloc: Global,
     earlier: &Earlier,
     kind: BodyKind,
     row: u32,
     nodes: &Nodes,
     stack: &[Item],
     hyps: &[Id],
+    spare: &mut Spare,
     steps: &mut Steps<L>,
 ) -> Result<(), Stop>
     requires row { IsNextRow earlier.now.file earlier.now.rows row (kind_of kind) }
@@ -60,50 +59,45 @@ pub(crate) fn end<L: Ledger>(
     if let Err(rule) = check_target(earlier, kind, row, nodes, target) {
         return Err(Stop::Rule(rule));
     }
-    let mut operands = Vec::new(alloc);
-    let Ok(()) = first_ids(&mut operands, own_arity(earlier, kind, row)) else {
+    let Ok(()) = first_ids(&mut spare.operands, own_arity(earlier, kind, row)) else {
         return Err(Stop::Mem);
     };
-    let mut proofs = Vec::new(alloc);
-    let Ok(()) = own_proofs(&mut proofs, kind, hyps) else {
+    let Ok(()) = own_proofs(&mut spare.hyps, kind, hyps) else {
         return Err(Stop::Mem);
     };
     let stream = own_stream(earlier, kind, row);
-    run_own(
-        earlier, kind, stream, operands, target, proofs, nodes, steps,
-    )
+    run_own(earlier, kind, stream, target, nodes, spare, steps)
 }
 
-/// Runs the row's own stream: at an assertion's end its hypotheses are taken too.
+/// Runs the row's own stream on the operands and the hypotheses of these lists: at an assertion's end
+/// its hypotheses are taken too.
 fn run_own<L: Ledger>(
     earlier: &Earlier,
     kind: BodyKind,
     stream: &[u8],
-    operands: Vec<Id>,
     target: Id,
-    proofs: Vec<Item>,
     nodes: &Nodes,
+    spare: &mut Spare,
     steps: &mut Steps<L>,
 ) -> Result<(), Stop>
     requires stream { length stream.now < 2 ^ 32 }
     requires over { IsOver (signatures_of earlier.now) nodes.now }
-    requires operands { AreIn nodes.now operands.items }
+    requires operands { AreIn nodes.now spare.old.operands.items }
     requires target { IsIn nodes.now target.0 }
-    requires proofs { AreItemsIn nodes.now proofs.items }
-    ensures run { IsOwnRun (unify portable (signatures_of earlier.now) nodes.now.context (matching_at nodes.now (mode_at (kind_of kind)) stream.now operands.items target proofs.items)) result }
-    ensures steps { UnlessMem result (steps.new ≡ steps.old + unify_steps portable (signatures_of earlier.now) nodes.now.context (matching_at nodes.now (mode_at (kind_of kind)) stream.now operands.items target proofs.items)) }
+    requires proofs { AreItemsIn nodes.now spare.old.hyps.items }
+    ensures run { IsOwnRun (unify portable (signatures_of earlier.now) nodes.now.context (matching_at nodes.now (mode_at (kind_of kind)) stream.now spare.old.operands.items target spare.old.hyps.items)) result }
+    ensures steps { UnlessMem result (steps.new ≡ steps.old + unify_steps portable (signatures_of earlier.now) nodes.now.context (matching_at nodes.now (mode_at (kind_of kind)) stream.now spare.old.operands.items target spare.old.hyps.items)) }
     ensures most { steps.new ≤ steps.old + length stream.now }
 {
-    let mut operands = operands;
-    let mut proofs = proofs;
     let mode = mode_of(kind);
-    match unify(
+    match unify_in(
         earlier,
         stream,
         mode,
-        &mut operands,
+        &mut spare.operands,
         target,
-        &mut proofs,
+        &mut spare.targets,
+        &mut spare.hyps,
         nodes,
         steps,
     ) {

@@ -1,7 +1,7 @@
 //! The operands of a row: taken from the stack, and compared with its parameters.
-ghost use Rattle.std.specs.Prelude.{ℕ, ◌≡◌, List, [], ◌∷◌, IfOk, length};
+ghost use Rattle.std.specs.Prelude.{ℕ, ◌≡◌, List, [], ◌∷◌, OnOk, length};
 ghost use Rattle.mz_logic.specs.Signature.{Signature};
-ghost use Rattle.mz_logic.specs.Words.{binders_of, word_bound, word_sort};
+ghost use Rattle.mz_logic.specs.Words.{binders_of, bound_places, word_bound, word_sort};
 ghost use Rattle.mz_logic.specs.declared.binder.Binder.{Binder};
 ghost use Rattle.mz_layout.specs.Rows.{params_of};
 ghost use Rattle.mz_nodes.specs.Numbering.{IsIn, AreIn, IsOver, tree_of};
@@ -11,40 +11,34 @@ ghost use Rattle.mz_earlier.specs.Before.{signatures_of};
 ghost use Rattle.mz_earlier.specs.OperandRows.{IsBefore};
 ghost use Rattle.mz_machine.specs.OverStore.{GivesRule, Gives};
 
-use crate::stack::pop_expr;
 use mz_cmd::K;
 use mz_earlier::Earlier;
 use mz_layout::Row;
 use mz_logic::Word;
+use mz_machine::read_exprs;
 use mz_nodes::Nodes;
 use mz_store::{Id, Item};
 use mz_unify::{Stop, push};
-use std::alloc::Global;
 
-/// Takes so many expressions from the stack, of which the last is on top.
+/// Takes so many expressions from the stack, of which the last is on top; the list becomes these.
 pub(crate) fn pop_operands(
-    alloc: Global,
     nodes: &Nodes,
     count: u32,
     stack: &mut Vec<Item>,
-) -> Result<Vec<Id>, Stop>
+    operands: &mut Vec<Id>,
+) -> Result<(), Stop>
     requires { AreItemsIn nodes.now stack.old.items }
-    ensures ids { IfOk result (λ es. AreIn nodes.now es.items × AreItemsIn nodes.now stack.new.items) }
-    ensures many { IfOk result (λ es. length es.items ≡ count) }
-    ensures taken { Gives (pop_operands count (items_at nodes.now stack.old.items)) result (λ es. (exprs_at nodes.now es.items, items_at nodes.now stack.new.items)) }
+    ensures ids { OnOk result (AreIn nodes.now operands.new.items × AreItemsIn nodes.now stack.new.items) }
+    ensures many { OnOk result (length operands.new.items ≡ count) }
+    ensures taken { Gives (pop_operands count (items_at nodes.now stack.old.items)) result (λ _. (exprs_at nodes.now operands.new.items, items_at nodes.now stack.new.items)) }
 {
     if stack.len() < count as usize {
         return Err(Stop::Rule(K::Underflow));
     }
-    let mut taken = Vec::new(alloc);
-    'operands: for i in 0..count {
-        match pop_expr(nodes, stack) {
-            Ok(id) => push(&mut taken, id)?,
-            Err(rule) => return Err(Stop::Rule(rule)),
-        }
-    }
-    taken.reverse();
-    Ok(taken)
+    let below = stack.len() - count as usize;
+    read_exprs(&stack[below..], operands)?;
+    stack.truncate(below);
+    Ok(())
 }
 
 /// Whether an operand has its parameter's sort, and for a bound parameter is a bound variable.
@@ -76,6 +70,34 @@ pub(crate) fn check_operands(
 {
     'operands: for j in 0..earlier.arity_of(row) {
         check_operand(nodes, earlier.word_of(row, j), operands[j as usize])?;
+    }
+    Ok(())
+}
+
+/// Whether each operand fits its parameter; the list becomes the places of the bound parameters.
+pub(crate) fn check_cited(
+    earlier: &Earlier,
+    row: Row,
+    nodes: &Nodes,
+    operands: &[Id],
+    places: &mut Vec<u32>,
+) -> Result<(), Stop>
+    requires row { IsBefore earlier.now row }
+    requires over { IsOver (signatures_of earlier.now) nodes.now }
+    requires ids { AreIn nodes.now operands.now }
+    requires many { length operands.now ≡ length (params_of earlier.now.file row) }
+    ensures fit { Gives (operands_fit (signatures_of earlier.now) nodes.now.context (trees_at nodes.now operands.now) (binders_of (params_of earlier.now.file row))) result (λ _. tt) }
+    ensures places { OnOk result (places.new.items ≡ bound_places 0 (params_of earlier.now.file row)) }
+{
+    places.clear();
+    'operands: for j in 0..earlier.arity_of(row) {
+        let word = earlier.word_of(row, j);
+        if let Err(rule) = check_operand(nodes, word, operands[j as usize]) {
+            return Err(Stop::Rule(rule));
+        }
+        if word.bound() {
+            push(places, j)?;
+        }
     }
     Ok(())
 }

@@ -19,7 +19,7 @@ use crate::command::decoded;
 use crate::commands::execute;
 use crate::end::end;
 use mz_cmd::{Cmd, K, Steps};
-use mz_earlier::{BodyKind, Earlier, deps_mode, first_items, read_words};
+use mz_earlier::{BodyKind, Earlier, Spare, deps_mode, first_items, read_words};
 use mz_layout::{Mmb, Rows};
 use mz_logic::Word;
 use mz_machine::{BodyEnd, Finished};
@@ -32,7 +32,6 @@ use std::sync::ledger::Ledger;
 /// The statement whose body runs, and the rows before it.
 #[derive(Drop)]
 pub(crate) struct Setting<'a> {
-    alloc: Global,
     earlier: Earlier<'a>,
     kind: BodyKind,
     row: u32,
@@ -46,6 +45,7 @@ pub(crate) struct Parts {
     heap: Vec<Item>,
     stack: Vec<Item>,
     hyps: Vec<Id>,
+    spare: Spare,
 }
 
 impl Parts {
@@ -56,6 +56,7 @@ impl Parts {
             heap: Vec::new(alloc),
             stack: Vec::new(alloc),
             hyps: Vec::new(alloc),
+            spare: Spare::new(alloc),
         }
     }
 }
@@ -70,7 +71,6 @@ impl<'a> Setting<'a> {
     ///
     /// Where there is no memory.
     pub(crate) fn begin(
-        alloc: Global,
         mmb: &'a Mmb<'a>,
         kind: BodyKind,
         row: u32,
@@ -90,7 +90,6 @@ impl<'a> Setting<'a> {
         parts.hyps.clear();
         let bound_params = parts.nodes.bound_count();
         Ok(Setting {
-            alloc,
             earlier,
             kind,
             row,
@@ -117,7 +116,6 @@ impl<'a> Setting<'a> {
         ensures most { steps.new ≤ steps.old + (1 + length self.now.earlier.file) }
     {
         obey(
-            self.alloc,
             &self.earlier,
             self.kind,
             at,
@@ -126,27 +124,28 @@ impl<'a> Setting<'a> {
             &mut parts.heap,
             &mut parts.stack,
             &mut parts.hyps,
+            &mut parts.spare,
             steps,
         )
     }
 
     /// Ends the body, whose END ends its statement too. A step is counted for it, and one for each
     /// command of the row's own stream that is executed.
-    pub(crate) fn finish<L: Ledger>(&self, parts: &Parts, steps: &mut Steps<L>) -> Finished
-        requires { IsRunning self.now parts.now }
-        ensures run { IsFinished (machine_of self.now parts.now) result }
-        ensures steps { UnlessEndMem result (steps.new ≡ steps.old + end_steps (tables_of self.now.earlier) (heading_for (machine_of self.now parts.now)) (machine_of self.now parts.now).state) }
+    pub(crate) fn finish<L: Ledger>(&self, parts: &mut Parts, steps: &mut Steps<L>) -> Finished
+        requires { IsRunning self.now parts.old }
+        ensures run { IsFinished (machine_of self.now parts.old) result }
+        ensures steps { UnlessEndMem result (steps.new ≡ steps.old + end_steps (tables_of self.now.earlier) (heading_for (machine_of self.now parts.old)) (machine_of self.now parts.old).state) }
         ensures most { steps.new ≤ steps.old + (1 + length self.now.earlier.file) }
     {
         steps.tick();
         match end(
-            self.alloc,
             &self.earlier,
             self.kind,
             self.row,
             &parts.nodes,
             &parts.stack,
             &parts.hyps,
+            &mut parts.spare,
             steps,
         ) {
             Ok(()) => Finished::Body(counted(&parts.nodes, self.bound_params, &parts.hyps)),
@@ -159,7 +158,6 @@ impl<'a> Setting<'a> {
 /// Executes the command at a place, which is no END, if it stands in bodies of the kind, and counts its
 /// steps.
 fn obey<L: Ledger>(
-    alloc: Global,
     earlier: &Earlier,
     kind: BodyKind,
     at: u32,
@@ -168,6 +166,7 @@ fn obey<L: Ledger>(
     heap: &mut Vec<Item>,
     stack: &mut Vec<Item>,
     hyps: &mut Vec<Id>,
+    spare: &mut Spare,
     steps: &mut Steps<L>,
 ) -> Result<(), Stop>
     requires code { cmd.code ≡ 0 → ⊥ }
@@ -190,7 +189,7 @@ fn obey<L: Ledger>(
         return Err(Stop::Rule(K::Command));
     };
     execute(
-        alloc, earlier, at, command, cmd.value, nodes, heap, stack, hyps, steps,
+        earlier, at, command, cmd.value, nodes, heap, stack, hyps, spare, steps,
     )
 }
 

@@ -1,3 +1,3 @@
 -- What crates above may use of these proofs; all else is this crate's own, and may change.
 pub use Rattle.mz_punify.proofs.Parts.{of-numbered}
-pub use Rattle.mz_punify.proofs.StoredIds.{are-in-both, are-in-reverse, are-still-in, from-exprs, is-in-at, items-in-both, items-in-left, items-in-right, items-push, length-trees, listed-exprs, stack-push, still-in, tree-at, trees-of}
+pub use Rattle.mz_punify.proofs.StoredIds.{are-in-both, are-still-in, from-exprs, is-in-at, items-in-both, items-in-left, items-in-right, items-push, length-trees, listed-exprs, still-in, tree-at, trees-of}

@@ -7,4 +7,4 @@
 mod rows;
 mod running;
 
-pub use running::unify;
+pub use running::{unify, unify_in};

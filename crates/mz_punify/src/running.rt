@@ -49,6 +49,43 @@ pub fn unify<T: Terms, L: Ledger>(
     ensures most { steps.new ≤ steps.old + length stream.now }
 {
     let mut targets = Vec::new(*heap.allocator());
+    unify_in(
+        terms,
+        stream,
+        mode,
+        heap,
+        target,
+        &mut targets,
+        hyps,
+        nodes,
+        steps,
+    )
+}
+
+/// Runs a unify stream as `unify` does. Its targets stand in a list of the caller's, whatever that held.
+pub fn unify_in<T: Terms, L: Ledger>(
+    terms: &T,
+    stream: &[u8],
+    mode: UnifyMode,
+    heap: &mut Vec<Id>,
+    target: Id,
+    targets: &mut Vec<Id>,
+    hyps: &mut Vec<Item>,
+    nodes: &Nodes,
+    steps: &mut Steps<L>,
+) -> Unified
+    requires stream { length stream.now < 2 ^ 32 }
+    requires over { IsOver (signatures_of (T.all_terms terms.now)) nodes.now }
+    requires heap { AreIn nodes.now heap.old.items }
+    requires target { IsIn nodes.now target.0 }
+    requires hyps { AreItemsIn nodes.now hyps.old.items }
+    ensures run { IsRun (unify portable (signatures_of (T.all_terms terms.now)) nodes.now.context (matching_at nodes.now mode stream.now heap.old.items target hyps.old.items)) result (exprs_at nodes.now heap.new.items) (items_at nodes.now hyps.new.items) }
+    ensures taken { OnDone result (λ taken. AreLeft hyps.old.items hyps.new.items taken) }
+    ensures ids { OnDone result (λ _. AreIn nodes.now heap.new.items × AreItemsIn nodes.now hyps.new.items) }
+    ensures steps { UnlessMem result (steps.new ≡ steps.old + unify_steps portable (signatures_of (T.all_terms terms.now)) nodes.now.context (matching_at nodes.now mode stream.now heap.old.items target hyps.old.items)) }
+    ensures most { steps.new ≤ steps.old + length stream.now }
+{
+    targets.clear();
     let Ok(()) = targets.push(target) else {
         return Unified::Mem;
     };
@@ -60,23 +97,22 @@ fn run<L: Ledger>(
     stream: &[u8],
     mode: UnifyMode,
     heap: &mut Vec<Id>,
-    start: Vec<Id>,
+    targets: &mut Vec<Id>,
     hyps: &mut Vec<Item>,
     nodes: &Nodes,
     steps: &mut Steps<L>,
 ) -> Unified
     requires stream { length stream.now < 2 ^ 32 }
     requires heap { AreIn nodes.now heap.old.items }
-    requires targets { AreIn nodes.now start.items }
+    requires targets { AreIn nodes.now targets.old.items }
     requires hyps { AreItemsIn nodes.now hyps.old.items }
-    ensures run { (sigs : List Signature) → IsOver sigs nodes.now → IsRun (unify_from portable sigs nodes.now.context (mode_of mode) (length stream.now) 0 stream.now (state_at nodes.now heap.old.items (exprs_at nodes.now heap.old.items) start.items hyps.old.items)) result (exprs_at nodes.now heap.new.items) (items_at nodes.now hyps.new.items) }
+    ensures run { (sigs : List Signature) → IsOver sigs nodes.now → IsRun (unify_from portable sigs nodes.now.context (mode_of mode) (length stream.now) 0 stream.now (state_at nodes.now heap.old.items (exprs_at nodes.now heap.old.items) targets.old.items hyps.old.items)) result (exprs_at nodes.now heap.new.items) (items_at nodes.now hyps.new.items) }
     ensures taken { OnDone result (λ taken. AreLeft hyps.old.items hyps.new.items taken) }
     ensures ids { OnDone result (λ _. AreIn nodes.now heap.new.items × AreItemsIn nodes.now hyps.new.items) }
-    ensures steps { (sigs : List Signature) → IsOver sigs nodes.now → UnlessMem result (steps.new ≡ steps.old + unify_steps_from portable sigs nodes.now.context (mode_of mode) (length stream.now) stream.now (state_at nodes.now heap.old.items (exprs_at nodes.now heap.old.items) start.items hyps.old.items)) }
+    ensures steps { (sigs : List Signature) → IsOver sigs nodes.now → UnlessMem result (steps.new ≡ steps.old + unify_steps_from portable sigs nodes.now.context (mode_of mode) (length stream.now) stream.now (state_at nodes.now heap.old.items (exprs_at nodes.now heap.old.items) targets.old.items hyps.old.items)) }
     ensures most { steps.new ≤ steps.old + length stream.now }
 {
     let held = hyps.len();
-    let mut targets = start;
     let mut apart = variables(nodes, heap);
     let mut at = 0;
     'commands: loop {
@@ -87,7 +123,7 @@ fn run<L: Ledger>(
         let Some(next) = decoded(mode, cmd) else {
             return Unified::stopped(at, Stop::Rule(K::Command));
         };
-        if let Err(stop) = step(nodes, mode, next, heap, &mut apart, &mut targets, hyps) {
+        if let Err(stop) = step(nodes, mode, next, heap, &mut apart, targets, hyps) {
             return Unified::stopped(at, stop);
         }
         if let Command::End = next {

@@ -14,10 +14,9 @@ ghost use Rattle.mz_earlier.specs.Before.{tables_of, signatures_of};
 ghost use Rattle.mz_machine.specs.OverStore.{with_stack, pop_unfolding, Gives, GivesRule, UnlessMem};
 ghost use Rattle.mz_unify.specs.Rows.{StopsBy};
 
-use crate::spare::Spare;
 use crate::stack::{pop, pop_conversion, pop_expr, pop_obligation, pop_proof};
 use mz_cmd::{K, Steps};
-use mz_earlier::{Earlier, put_back};
+use mz_earlier::{Earlier, Spare, put_back};
 use mz_logic::Terms;
 use mz_store::{Id, Item, Store};
 use mz_unify::{Stop, Unified, UnifyMode, push, unify_in};

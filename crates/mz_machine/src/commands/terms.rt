@@ -16,10 +16,9 @@ ghost use Rattle.mz_machine.specs.OverStore.{with_stack, Gives, UnlessMem, Grows
 
 use crate::apart::are_apart;
 use crate::fitting::{check_cited, check_operands, pop_operands};
-use crate::spare::Spare;
 use crate::stack::pop_expr;
 use mz_cmd::{K, Steps};
-use mz_earlier::Earlier;
+use mz_earlier::{Earlier, Spare};
 use mz_layout::Row;
 use mz_logic::Terms;
 use mz_store::{Id, Item, Store};

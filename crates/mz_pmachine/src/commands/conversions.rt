@@ -15,10 +15,10 @@ ghost use Rattle.mz_numbered.specs.Numbered.{Numbered, portable};
 
 use crate::stack::{pop_conversion, pop_expr, pop_obligation, pop_proof};
 use mz_cmd::{K, Steps};
-use mz_earlier::{Earlier, put_back};
+use mz_earlier::{Earlier, Spare, put_back};
 use mz_logic::Terms;
 use mz_nodes::Nodes;
-use mz_punify::unify;
+use mz_punify::unify_in;
 use mz_store::{Id, Item};
 use mz_unify::{Stop, Unified, UnifyMode, push};
 use std::sync::ledger::Ledger;
@@ -110,6 +110,7 @@ pub(crate) fn unfold<L: Ledger>(
     earlier: &Earlier,
     nodes: &Nodes,
     stack: &mut Vec<Item>,
+    spare: &mut Spare,
     steps: &mut Steps<L>,
 ) -> Result<(), Stop>
     requires over { IsOver (signatures_of earlier.now) nodes.now }
@@ -129,20 +130,20 @@ pub(crate) fn unfold<L: Ledger>(
     if !earlier.has_body(term) {
         return Err(Stop::Rule(K::Unfold));
     }
-    let alloc = *stack.allocator();
-    let mut operands = Vec::new(alloc);
-    let Ok(()) = operands.extend_from_slice(nodes.args(left)) else {
+    spare.operands.clear();
+    let Ok(()) = spare.operands.extend_from_slice(nodes.args(left)) else {
         return Err(Stop::Mem);
     };
-    let mut none = Vec::new(alloc);
+    spare.hyps.clear();
     let stream = earlier.stream_of_term(term);
-    match unify(
+    match unify_in(
         earlier,
         stream,
         UnifyMode::Body,
-        &mut operands,
+        &mut spare.operands,
         unfolded,
-        &mut none,
+        &mut spare.targets,
+        &mut spare.hyps,
         nodes,
         steps,
     ) {

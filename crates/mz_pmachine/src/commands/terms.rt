@@ -15,27 +15,26 @@ ghost use Rattle.mz_machine.specs.OverStore.{Gives, UnlessMem};
 ghost use Rattle.mz_numbered.specs.Numbered.{Numbered, portable};
 
 use crate::apart::are_apart;
-use crate::fitting::{check_operands, pop_operands};
+use crate::fitting::{check_cited, check_operands, pop_operands};
 use crate::stack::pop_expr;
 use mz_cmd::{K, Steps};
-use mz_earlier::Earlier;
+use mz_earlier::{Earlier, Spare};
 use mz_layout::Row;
 use mz_logic::Terms;
 use mz_nodes::Nodes;
-use mz_punify::unify;
+use mz_punify::unify_in;
 use mz_store::{Id, Item};
 use mz_unify::{Stop, Unified, UnifyMode, push};
-use std::alloc::Global;
 use std::sync::ledger::Ledger;
 
 /// Makes the application of a term to the operands on top, which it takes, by the command at a place.
 fn build(
-    alloc: Global,
     earlier: &Earlier,
     at: u32,
     t: u32,
     nodes: &mut Nodes,
     stack: &mut Vec<Item>,
+    operands: &mut Vec<Id>,
 ) -> Result<Id, Stop>
     requires number { nodes.old.next ≤ at }
     requires over { IsOver (signatures_of earlier.now) nodes.old }
@@ -49,11 +48,11 @@ fn build(
     if t >= earlier.terms() {
         return Err(Stop::Rule(K::TermIndex));
     }
-    let operands = pop_operands(alloc, nodes, earlier.arity_of(Row::Term(t)), stack)?;
-    if let Err(rule) = check_operands(earlier, Row::Term(t), nodes, &operands) {
+    pop_operands(nodes, earlier.arity_of(Row::Term(t)), stack, operands)?;
+    if let Err(rule) = check_operands(earlier, Row::Term(t), nodes, operands) {
         return Err(Stop::Rule(rule));
     }
-    let Ok(made) = nodes.app(earlier, at, t, &operands) else {
+    let Ok(made) = nodes.app(earlier, at, t, operands) else {
         return Err(Stop::Mem);
     };
     Ok(made)
@@ -62,12 +61,12 @@ fn build(
 /// Makes the application of a term to the operands on top, and puts it in their stead, by the command
 /// at a place.
 pub(crate) fn term(
-    alloc: Global,
     earlier: &Earlier,
     at: u32,
     t: u32,
     nodes: &mut Nodes,
     stack: &mut Vec<Item>,
+    operands: &mut Vec<Id>,
 ) -> Result<Id, Stop>
     requires number { nodes.old.next ≤ at }
     requires over { IsOver (signatures_of earlier.now) nodes.old }
@@ -79,7 +78,7 @@ pub(crate) fn term(
     ensures plain { (st : State Numbered) → st.ctx ≡ nodes.old.context → st.stack ≡ items_at nodes.old stack.old.items → Gives (proof_row portable (tables_of earlier.now) at code.Term t st) result (λ _. with_stack st (items_at nodes.new stack.new.items)) }
     ensures saved { (st : State Numbered) → st.ctx ≡ nodes.old.context → st.stack ≡ items_at nodes.old stack.old.items → Gives (proof_row portable (tables_of earlier.now) at code.TermSave t st) result (λ id. record (with_stack st (items_at nodes.new stack.new.items)) { heap = st.heap ++ expr (expr_of nodes.new id.0) ∷ [] }) }
 {
-    let made = build(alloc, earlier, at, t, nodes, stack)?;
+    let made = build(earlier, at, t, nodes, stack, operands)?;
     push(stack, Item::Expr(made))?;
     Ok(made)
 }
@@ -87,11 +86,11 @@ pub(crate) fn term(
 /// Cites an axiom or theorem for the expression on top, with the operands below: its stream runs on
 /// the expression, of which a proof stands then in their place, and takes the hypotheses.
 pub(crate) fn thm<L: Ledger>(
-    alloc: Global,
     earlier: &Earlier,
     t: u32,
     nodes: &Nodes,
     stack: &mut Vec<Item>,
+    spare: &mut Spare,
     steps: &mut Steps<L>,
 ) -> Result<Id, Stop>
     requires over { IsOver (signatures_of earlier.now) nodes.now }
@@ -102,14 +101,15 @@ pub(crate) fn thm<L: Ledger>(
     ensures steps { (st : State Numbered) → st.ctx ≡ nodes.now.context → st.stack ≡ items_at nodes.now stack.old.items → UnlessMem result (steps.new ≡ steps.old + row_steps portable (tables_of earlier.now) code.Thm t st) }
     ensures most { steps.new ≤ steps.old + length earlier.now.file }
 {
-    let (target, mut operands) = take_citation(alloc, earlier, t, nodes, stack)?;
+    let target = take_citation(earlier, t, nodes, stack, spare)?;
     let stream = earlier.stream_of_thm(t);
-    match unify(
+    match unify_in(
         earlier,
         stream,
         UnifyMode::Use,
-        &mut operands,
+        &mut spare.operands,
         target,
+        &mut spare.targets,
         stack,
         nodes,
         steps,
@@ -123,20 +123,20 @@ pub(crate) fn thm<L: Ledger>(
     }
 }
 
-/// What a citation takes: the expression on top, and the operands below it, which fit their
-/// parameters and are apart.
+/// What a citation takes: the expression on top, and for the list of operands those below it, which fit
+/// their parameters and are apart.
 fn take_citation(
-    alloc: Global,
     earlier: &Earlier,
     t: u32,
     nodes: &Nodes,
     stack: &mut Vec<Item>,
-) -> Result<(Id, Vec<Id>), Stop>
+    spare: &mut Spare,
+) -> Result<Id, Stop>
     requires over { IsOver (signatures_of earlier.now) nodes.now }
     requires stack { AreItemsIn nodes.now stack.old.items }
     ensures there { OnOk result (t < earlier.now.rows.thms) }
-    ensures ids { IfOk result (λ cited. IsIn nodes.now cited.0.0 × AreIn nodes.now cited.1.items × AreItemsIn nodes.now stack.new.items) }
-    ensures taken { (st : State Numbered) → st.ctx ≡ nodes.now.context → st.stack ≡ items_at nodes.now stack.old.items → Gives (citation portable (tables_of earlier.now) t st) result (λ cited. matching_at nodes.now Use (drop (thm_row earlier.now.file t).stream_at earlier.now.file) cited.1.items cited.0 stack.new.items) }
+    ensures ids { IfOk result (λ target. IsIn nodes.now target.0 × AreIn nodes.now spare.new.operands.items × AreItemsIn nodes.now stack.new.items) }
+    ensures taken { (st : State Numbered) → st.ctx ≡ nodes.now.context → st.stack ≡ items_at nodes.now stack.old.items → Gives (citation portable (tables_of earlier.now) t st) result (λ target. matching_at nodes.now Use (drop (thm_row earlier.now.file t).stream_at earlier.now.file) spare.new.operands.items target stack.new.items) }
 {
     if t >= earlier.thms() {
         return Err(Stop::Rule(K::TheoremIndex));
@@ -149,15 +149,16 @@ fn take_citation(
         Ok(target) => target,
         Err(rule) => return Err(Stop::Rule(rule)),
     };
-    let operands = pop_operands(alloc, nodes, arity, stack)?;
-    if let Err(rule) = check_operands(earlier, Row::Thm(t), nodes, &operands) {
-        return Err(Stop::Rule(rule));
-    }
-    let Ok(apart) = are_apart(alloc, earlier, Row::Thm(t), nodes, &operands) else {
-        return Err(Stop::Mem);
-    };
-    if !apart {
+    pop_operands(nodes, arity, stack, &mut spare.operands)?;
+    check_cited(
+        earlier,
+        Row::Thm(t),
+        nodes,
+        &spare.operands,
+        &mut spare.bound,
+    )?;
+    if !are_apart(earlier, Row::Thm(t), nodes, &spare.operands, &spare.bound) {
         return Err(Stop::Rule(K::Disjoint));
     }
-    Ok((target, operands))
+    Ok(target)
 }

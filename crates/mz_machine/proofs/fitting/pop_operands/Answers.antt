@@ -5,7 +5,8 @@ use Rattle.mz_unify.specs.Stored.{items_at, AreItemsIn}
 use Rattle.mz_unify.proofs.Offered.{items-in-left, items-in-right}
 use Rattle.mz_soundness.specs.Premises.{pop_operands}
 use Rattle.mz_machine.proofs.Stopping.{stops-as}
-use Rattle.mz_machine.proofs.ReadExprs.{exprs-in, exprs-many, operands-read, read-of}
+use Rattle.mz_machine.proofs.ReadExprs.{exprs-many, operands-read, read-of}
+use Rattle.mz_machine.proofs.StoredItems.{exprs-in, of-store}
 use Rattle.mz_machine.proofs.fitting.pop_operands.Goals as goal
 
 pub returns-in_err-read_exprs-clause-taken : goal.returns-in_err-read_exprs-clause-taken
@@ -18,7 +19,7 @@ returns-in_err-read_exprs-clause-taken c =
     let many : c.args.count ≡ length top = omega (arith, length-drop below stack, c.len.ensures, c.len-2.ensures, c.args.stack.now.ok.0, c.if-len-count.false) in
     let p = err_from_is_err_and c.from_residual.result c.from_residual.ensures.1 in
     rw (p.1, p.2) (stops-as c.in_err-read_exprs.field-0.0 _ (λ k. pop_operands c.args.count (items_at s stack) ≡ Err k)
-    (λ k h. operands-read s stack (take below stack) top c.args.count (Err k) split many
+    (λ k h. operands-read (of-store s) stack (take below stack) top c.args.count (Err k) split many
     (read-of c.deref.result.now stack below (Err k) c.deref.ensures.value h)) c.in_err-read_exprs.ensures)
 
 pub returns-clause-ids : goal.returns-clause-ids
@@ -55,5 +56,5 @@ returns-clause-taken c =
     let split : stack ≡ take below stack ++ top = sym (take-append-drop below stack) in
     let many : c.args.count ≡ length top = omega (arith, length-drop below stack, c.len.ensures, c.len-2.ensures, c.args.stack.now.ok.0, c.if-len-count.false) in
     rw c.truncate.ensures.items
-    (operands-read s stack (take below stack) top c.args.count (Ok ids) split many
+    (operands-read (of-store s) stack (take below stack) top c.args.count (Ok ids) split many
     (read-of c.deref.result.now stack below (Ok ids) c.deref.ensures.value c.in_ok-read_exprs.ensures))

@@ -9,7 +9,7 @@ use Rattle.mz_pmachine.proofs.apart.are_apart.Goals as goal
 pub variables_at-all-requires-clause-within : goal.variables_at-all-requires-clause-within
 variables_at-all-requires-clause-within c k p at =
     let ws = params_of c.args.earlier.now.file c.args.row in
-    let low = place-below ws c.deref.result.now (c.deref.ensures.value ∙ c.in_ok-bound.ensures) k p at in
+    let low = place-below ws c.args.bound.now c.requires.bound k p at in
     omega (arith, low, c.requires.many)
 
 pub returns-then-not-is_apart : goal.returns-then-not-is_apart

@@ -1,48 +1,59 @@
-use Rattle.std.proofs.Common.{ℕ, zero, suc, ◌≡◌, ◌+◌, ◌-◌, ◌∷◌, [], length, refl, sym, ap, ◌∙◌, arith, length-append}
-use Rattle.std.proofs.lemmas.List.{length-reverse}
-use Rattle.mz_punify.specs.Stored.{stack_at}
-use Rattle.mz_punify.proofs.Offered.{stack-push, are-in-both, are-in-reverse}
-use Rattle.mz_pmachine.proofs.TakenOperands.{pop-next, pop-stop, pop-enough}
+use Rattle.std.proofs.Common.{◌≡◌, ℕ, ◌-◌, ◌++◌, length, take, drop, Err, Ok, sym, subst, ◌∙◌, arith}
+use Rattle.std.proofs.lemmas.List.{take-append-drop, length-drop}
+use Rattle.std.proofs.lemmas.Result.{err_from_is_err_and}
+use Rattle.mz_punify.specs.Stored.{items_at, AreItemsIn}
+use Rattle.mz_punify.proofs.Offered.{items-in-left, items-in-right}
+use Rattle.mz_soundness.specs.Premises.{pop_operands}
+use Rattle.mz_machine.proofs.Offered.{exprs-many, operands-read, read-of, stops-as}
+use Rattle.mz_pmachine.proofs.NodeItems.{exprs-in, of-nodes}
 use Rattle.mz_pmachine.proofs.fitting.pop_operands.Goals as goal
 
-pub operands-init : goal.operands-init
-operands-init c = (
-  ap length c.new-taken.ensures.items,
-  rw c.new-taken.ensures.items tt,
-  c.requires,
-  λ m at. let same : m ≡ c.args.count = omega (arith, at) in rw (same, c.new-taken.ensures.items) refl,
-)
-
-pub pop_expr-requires : goal.pop_expr-requires
-pop_expr-requires c = c.operands.invariant.2
-
-pub returns-in-Err-clause-taken : goal.returns-in-Err-clause-taken
-returns-in-Err-clause-taken c =
-    let m : ℕ = c.args.count - suc c.operands.i in
-    let one : suc m + c.operands.i ≡ c.args.count = omega arith in
-    pop-enough c.args.count c.args.nodes.now c.args.stack.now.items _ (omega (arith, c.len.ensures, c.args.stack.now.ok.0, c.if-len-count.false))
-    (sym (c.operands.invariant.3 (suc m) one) ∙ pop-stop m _ _ _ c.in-Err.ensures.taken)
-
-pub operands-preserved : goal.operands-preserved
-operands-preserved c = (
-  (let more : length c.push.new.items.items ≡ c.operands.i + 1 = omega (arith, ap length c.in_ok-push-in-Ok.ensures.ok, length-append c.operands.taken.items (c.in-Ok.id ∷ []), c.operands.invariant.0) in more),
-  rw c.in_ok-push-in-Ok.ensures.ok (are-in-both c.args.nodes.now _ _ c.operands.invariant.1 (c.in-Ok.ensures.ids.0, tt)),
-  c.in-Ok.ensures.ids.1,
-  λ m at. rw (c.in_ok-push-in-Ok.ensures.ok, stack-push c.args.nodes.now c.operands.taken.items c.in-Ok.id)
-      (sym (pop-next m _ (stack_at c.args.nodes.now c.operands.taken.items) _ _ c.in-Ok.ensures.taken) ∙ c.operands.invariant.3 (suc m) (omega arith)),
-)
+pub returns-in_err-read_exprs-clause-taken : goal.returns-in_err-read_exprs-clause-taken
+returns-in_err-read_exprs-clause-taken c =
+    let s = c.args.nodes.now in
+    let stack = c.args.stack.now.items in
+    let below : ℕ = c.len-2.result - c.args.count in
+    let top = drop below stack in
+    let split : stack ≡ take below stack ++ top = sym (take-append-drop below stack) in
+    let many : c.args.count ≡ length top = omega (arith, length-drop below stack, c.len.ensures, c.len-2.ensures, c.args.stack.now.ok.0, c.if-len-count.false) in
+    let p = err_from_is_err_and c.from_residual.result c.from_residual.ensures.1 in
+    rw (p.1, p.2) (stops-as c.in_err-read_exprs.field-0.0 _ (λ k. pop_operands c.args.count (items_at s stack) ≡ Err k)
+    (λ k h. operands-read (of-nodes s) stack (take below stack) top c.args.count (Err k) split many
+    (read-of c.deref.result.now stack below (Err k) c.deref.ensures.value h)) c.in_err-read_exprs.ensures)
 
 pub returns-clause-ids : goal.returns-clause-ids
-returns-clause-ids c = (rw c.reverse.ensures.items (are-in-reverse c.args.nodes.now _ c.operands.invariant.1), c.operands.invariant.2)
-
-pub returns-clause-taken : goal.returns-clause-taken
-returns-clause-taken c =
-    let all : zero + c.operands.i ≡ c.args.count = omega (arith, c.operands-test.false) in
-    rw c.reverse.ensures.items
-    (pop-enough c.args.count c.args.nodes.now c.args.stack.now.items _ (omega (arith, c.len.ensures, c.args.stack.now.ok.0, c.if-len-count.false))
-    (sym (c.operands.invariant.3 zero all)))
+returns-clause-ids c =
+    let s = c.args.nodes.now in
+    let stack = c.args.stack.now.items in
+    let below : ℕ = c.len-2.result - c.args.count in
+    let top = drop below stack in
+    let ids = c.read_exprs.new.ids.items in
+    let split : stack ≡ take below stack ++ top = sym (take-append-drop below stack) in
+    let inside = subst (AreItemsIn s) split c.requires in (
+      exprs-in s top ids
+          (read-of c.deref.result.now stack below (Ok ids) c.deref.ensures.value c.in_ok-read_exprs.ensures) (items-in-right s (take below stack) top inside),
+      rw c.truncate.ensures.items (items-in-left s (take below stack) top inside),
+    )
 
 pub returns-clause-many : goal.returns-clause-many
 returns-clause-many c =
-    let many : length c.reverse.new.self.items ≡ c.args.count = omega (arith, ap length c.reverse.ensures.items, length-reverse c.operands.taken.items, c.operands.invariant.0, c.operands-test.false) in
-    many
+    let stack = c.args.stack.now.items in
+    let below : ℕ = c.len-2.result - c.args.count in
+    let top = drop below stack in
+    let ids = c.read_exprs.new.ids.items in
+    let many : c.args.count ≡ length top = omega (arith, length-drop below stack, c.len.ensures, c.len-2.ensures, c.args.stack.now.ok.0, c.if-len-count.false) in
+    exprs-many top ids
+    (read-of c.deref.result.now stack below (Ok ids) c.deref.ensures.value c.in_ok-read_exprs.ensures) ∙ sym many
+
+pub returns-clause-taken : goal.returns-clause-taken
+returns-clause-taken c =
+    let s = c.args.nodes.now in
+    let stack = c.args.stack.now.items in
+    let below : ℕ = c.len-2.result - c.args.count in
+    let top = drop below stack in
+    let ids = c.read_exprs.new.ids.items in
+    let split : stack ≡ take below stack ++ top = sym (take-append-drop below stack) in
+    let many : c.args.count ≡ length top = omega (arith, length-drop below stack, c.len.ensures, c.len-2.ensures, c.args.stack.now.ok.0, c.if-len-count.false) in
+    rw c.truncate.ensures.items
+    (operands-read (of-nodes s) stack (take below stack) top c.args.count (Ok ids) split many
+    (read-of c.deref.result.now stack below (Ok ids) c.deref.ensures.value c.in_ok-read_exprs.ensures))

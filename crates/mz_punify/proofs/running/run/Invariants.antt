@@ -19,7 +19,7 @@ invariant-commands g l = record {
   held : l.held ≡ length l.fn.hyps.items;
   left : (taken : ℕ) × (taken ≤ l.at) × AreLeft l.fn.hyps.items l.hyps.items taken;
   underway : (sigs : List Signature) → IsOver sigs l.nodes
-      → IsUnderway portable sigs l.nodes.context (mode_of l.mode) (List Numbered) l.stream (state_at l.nodes l.fn.heap.items (exprs_at l.nodes l.fn.heap.items) l.fn.start.items l.fn.hyps.items) l.fn.steps l.at
+      → IsUnderway portable sigs l.nodes.context (mode_of l.mode) (List Numbered) l.stream (state_at l.nodes l.fn.heap.items (exprs_at l.nodes l.fn.heap.items) l.fn.targets.items l.fn.hyps.items) l.fn.steps l.at
       (λ es. TellsAny l.nodes.context l.apart (map tree_of es)) (λ es. state_at l.nodes l.heap.items es l.targets.items l.hyps.items) l.steps;
 }
 

@@ -45,8 +45,8 @@ returns-then-not-has_body-clause-steps g c n st ctx is =
 pub stream_of_term-stream-requires : goal.stream_of_term-stream-requires
 stream_of_term-stream-requires g c = row-there c.args.earlier.now c.in-Some.term (term-there c.args.earlier.now c.args.nodes.now c.requires.over c.in-Ok.items.1.0 c.in-Some.term c.in-Ok.ensures.ids.1 (sym c.head.ensures ∙ c.in-Some.is))
 
-pub unify-requires-clause-over : goal.unify-requires-clause-over
-unify-requires-clause-over g c = subst (λ sigs. IsOver sigs c.args.nodes.now) (sym (signatures-before c.args.earlier.now)) c.requires.over
+pub unify_in-requires-clause-over : goal.unify_in-requires-clause-over
+unify_in-requires-clause-over g c = subst (λ sigs. IsOver sigs c.args.nodes.now) (sym (signatures-before c.args.earlier.now)) c.requires.over
 
 pub returns-in-Done-clause-ids : goal.returns-in-Done-clause-ids
 returns-in-Done-clause-ids g c = ids-pushed c.args.nodes.now _ _ _ c.push.result c.push.ensures.ok (c.in-Ok.ensures.ids.0, c.in-Ok.ensures.ids.2) c.in-Ok.ensures.ids.3
@@ -60,11 +60,11 @@ returns-in-Done-clause-row g c at n st ctx is =
     let h = sym c.head.ensures ∙ c.in-Some.is in
     let there = row-there E t (term-there E s c.requires.over c.in-Ok.items.1.0 t c.in-Ok.ensures.ids.1 h) in
     let m = is-unfolding portable _ st of-numbered _ _ _ _ (ap pop_unfolding is ∙ c.in-Ok.ensures.taken) t _ h (stream-there E t there (sym c.has_body.ensures.row ∙ c.if-not-has_body.false)) in
-    let ops = c.in-Ok-extend_from_slice.ensures.items ∙ ap (λ is. is ++ c.args-2.result.now) c.new-operands.ensures.items in
+    let ops = c.in-Ok-extend_from_slice.ensures.items ∙ ap (λ is. is ++ c.args-2.result.now) c.clear.ensures.items in
     let are = ap (exprs_at s) ops ∙ operand-exprs s c.args-2.result.now l c.args-2.ensures.exprs in
     let run = c.in-Done.ensures.run in
     gives-stack st _ _ _ c.push.result
-    (unfold-row portable _ st _ _ _ m at n _ (same-run E s st.ctx ctx t l c.in-Ok.items.0 _ _ _ c.stream_of_term-stream.ensures.stream are c.new-none.ensures.items ∙ run.1))
+    (unfold-row portable _ st _ _ _ m at n _ (same-run E s st.ctx ctx t l c.in-Ok.items.0 _ _ _ c.stream_of_term-stream.ensures.stream are c.clear-2.ensures.items ∙ run.1))
     (items-pushed s _ _ _ c.push.result c.push.ensures.ok) c.push.ensures.err
 
 pub returns-in-Done-clause-steps : goal.returns-in-Done-clause-steps
@@ -76,9 +76,9 @@ returns-in-Done-clause-steps g c n st ctx is =
     let h = sym c.head.ensures ∙ c.in-Some.is in
     let there = row-there E t (term-there E s c.requires.over c.in-Ok.items.1.0 t c.in-Ok.ensures.ids.1 h) in
     let m = is-unfolding portable _ st of-numbered _ _ _ _ (ap pop_unfolding is ∙ c.in-Ok.ensures.taken) t _ h (stream-there E t there (sym c.has_body.ensures.row ∙ c.if-not-has_body.false)) in
-    let ops = c.in-Ok-extend_from_slice.ensures.items ∙ ap (λ is. is ++ c.args-2.result.now) c.new-operands.ensures.items in
+    let ops = c.in-Ok-extend_from_slice.ensures.items ∙ ap (λ is. is ++ c.args-2.result.now) c.clear.ensures.items in
     let are = ap (exprs_at s) ops ∙ operand-exprs s c.args-2.result.now l c.args-2.ensures.exprs in
-    unless-mem c.push.result (so-many _ _ _ _ c.in-Done.ensures.steps (unfold-steps portable _ st _ _ _ m n ∙ sym (same-count E s st.ctx ctx t l c.in-Ok.items.0 _ _ _ c.stream_of_term-stream.ensures.stream are c.new-none.ensures.items)))
+    unless-mem c.push.result (so-many _ _ _ _ c.in-Done.ensures.steps (unfold-steps portable _ st _ _ _ m n ∙ sym (same-count E s st.ctx ctx t l c.in-Ok.items.0 _ _ _ c.stream_of_term-stream.ensures.stream are c.clear-2.ensures.items)))
 
 pub returns-in-Refused-clause-row : goal.returns-in-Refused-clause-row
 returns-in-Refused-clause-row g c at n st ctx is =
@@ -89,9 +89,9 @@ returns-in-Refused-clause-row g c at n st ctx is =
     let h = sym c.head.ensures ∙ c.in-Some.is in
     let there = row-there E t (term-there E s c.requires.over c.in-Ok.items.1.0 t c.in-Ok.ensures.ids.1 h) in
     let m = is-unfolding portable _ st of-numbered _ _ _ _ (ap pop_unfolding is ∙ c.in-Ok.ensures.taken) t _ h (stream-there E t there (sym c.has_body.ensures.row ∙ c.if-not-has_body.false)) in
-    let ops = c.in-Ok-extend_from_slice.ensures.items ∙ ap (λ is. is ++ c.args-2.result.now) c.new-operands.ensures.items in
+    let ops = c.in-Ok-extend_from_slice.ensures.items ∙ ap (λ is. is ++ c.args-2.result.now) c.clear.ensures.items in
     let are = ap (exprs_at s) ops ∙ operand-exprs s c.args-2.result.now l c.args-2.ensures.exprs in
-    unfold-refused portable _ st _ _ _ m at n _ _ (same-run E s st.ctx ctx t l c.in-Ok.items.0 _ _ _ c.stream_of_term-stream.ensures.stream are c.new-none.ensures.items ∙ c.in-Refused.ensures.run)
+    unfold-refused portable _ st _ _ _ m at n _ _ (same-run E s st.ctx ctx t l c.in-Ok.items.0 _ _ _ c.stream_of_term-stream.ensures.stream are c.clear-2.ensures.items ∙ c.in-Refused.ensures.run)
 
 pub returns-in-Refused-clause-steps : goal.returns-in-Refused-clause-steps
 returns-in-Refused-clause-steps g c n st ctx is =
@@ -102,6 +102,6 @@ returns-in-Refused-clause-steps g c n st ctx is =
     let h = sym c.head.ensures ∙ c.in-Some.is in
     let there = row-there E t (term-there E s c.requires.over c.in-Ok.items.1.0 t c.in-Ok.ensures.ids.1 h) in
     let m = is-unfolding portable _ st of-numbered _ _ _ _ (ap pop_unfolding is ∙ c.in-Ok.ensures.taken) t _ h (stream-there E t there (sym c.has_body.ensures.row ∙ c.if-not-has_body.false)) in
-    let ops = c.in-Ok-extend_from_slice.ensures.items ∙ ap (λ is. is ++ c.args-2.result.now) c.new-operands.ensures.items in
+    let ops = c.in-Ok-extend_from_slice.ensures.items ∙ ap (λ is. is ++ c.args-2.result.now) c.clear.ensures.items in
     let are = ap (exprs_at s) ops ∙ operand-exprs s c.args-2.result.now l c.args-2.ensures.exprs in
-    so-many _ _ _ _ c.in-Refused.ensures.steps (unfold-steps portable _ st _ _ _ m n ∙ sym (same-count E s st.ctx ctx t l c.in-Ok.items.0 _ _ _ c.stream_of_term-stream.ensures.stream are c.new-none.ensures.items))
+    so-many _ _ _ _ c.in-Refused.ensures.steps (unfold-steps portable _ st _ _ _ m n ∙ sym (same-count E s st.ctx ctx t l c.in-Ok.items.0 _ _ _ c.stream_of_term-stream.ensures.stream are c.clear-2.ensures.items))

@@ -25,30 +25,31 @@ returns-in-Err-clause-taken c st ctx is =
     cites-other portable (map tree_of) (λ _. refl) c.args.earlier.now c.args.t st (items_at c.args.nodes.now c.args.stack.now.items) (length c.args.stack.now.items) c.arity_of-arity.result (items-many c.args.nodes.now c.args.stack.now.items) (omega (arith, c.thms.ensures.rows, c.if-t-thms.false)) c.arity_of-arity.ensures is
     (omega (arith, c.len.ensures, c.args.stack.now.ok.0, c.if-len-arity.false)) c.in-Err.rule c.in-Err.ensures.taken
 
-pub returns-in_err-operands-clause-taken : goal.returns-in_err-operands-clause-taken
-returns-in_err-operands-clause-taken c st ctx is =
+pub returns-in_err-pop_operands-clause-taken : goal.returns-in_err-pop_operands-clause-taken
+returns-in_err-pop_operands-clause-taken c st ctx is =
     let p = err_from_is_err_and c.from_residual.result c.from_residual.ensures.1 in
-    rw (p.1, p.2) (stops-as c.in_err-operands.field-0.0 _ (λ k. citation portable (tables_of c.args.earlier.now) c.args.t st ≡ Err k)
+    rw (p.1, p.2) (stops-as c.in_err-pop_operands.field-0.0 _ (λ k. citation portable (tables_of c.args.earlier.now) c.args.t st ≡ Err k)
     (λ k h. cites-without portable (map tree_of) (λ _. refl) c.args.earlier.now c.args.t st (items_at c.args.nodes.now c.args.stack.now.items) (length c.args.stack.now.items) c.arity_of-arity.result (items-many c.args.nodes.now c.args.stack.now.items) (omega (arith, c.thms.ensures.rows, c.if-t-thms.false)) c.arity_of-arity.ensures is
-    (omega (arith, c.len.ensures, c.args.stack.now.ok.0, c.if-len-arity.false)) _ _ c.in-Ok.ensures.taken k h) c.in_err-operands.ensures.taken)
+    (omega (arith, c.len.ensures, c.args.stack.now.ok.0, c.if-len-arity.false)) _ _ c.in-Ok.ensures.taken k h) c.in_err-pop_operands.ensures.taken)
 
-pub returns-in-Err-check_operands-clause-taken : goal.returns-in-Err-check_operands-clause-taken
-returns-in-Err-check_operands-clause-taken c st ctx is =
-    cites-unfit portable (map tree_of) (λ _. refl) c.args.earlier.now c.args.t st (items_at c.args.nodes.now c.args.stack.now.items) (length c.args.stack.now.items) c.arity_of-arity.result (items-many c.args.nodes.now c.args.stack.now.items) (omega (arith, c.thms.ensures.rows, c.if-t-thms.false)) c.arity_of-arity.ensures is
-    (omega (arith, c.len.ensures, c.args.stack.now.ok.0, c.if-len-arity.false)) _ _ c.in-Ok.ensures.taken _ _ c.in_ok-operands.ensures.taken c.args.nodes.now.context ctx c.in-Err-check_operands.rule
-    (subst (λ (ids : List Id). operands_fit (signatures_of c.args.earlier.now) c.args.nodes.now.context (trees_at c.args.nodes.now ids) (binders_of (thm_row c.args.earlier.now.file c.args.t).params) ≡ Err c.in-Err-check_operands.rule)
-    c.deref.ensures.value c.in-Err-check_operands.ensures)
+pub returns-in_err-check_cited-clause-taken : goal.returns-in_err-check_cited-clause-taken
+returns-in_err-check_cited-clause-taken c st ctx is =
+    let p = err_from_is_err_and c.from_residual-in_err-check_cited.result c.from_residual-in_err-check_cited.ensures.1 in
+    rw (p.1, p.2) (stops-as c.in_err-check_cited.field-0.0 _ (λ k. citation portable (tables_of c.args.earlier.now) c.args.t st ≡ Err k)
+    (λ k h. cites-unfit portable (map tree_of) (λ _. refl) c.args.earlier.now c.args.t st (items_at c.args.nodes.now c.args.stack.now.items) (length c.args.stack.now.items) c.arity_of-arity.result (items-many c.args.nodes.now c.args.stack.now.items) (omega (arith, c.thms.ensures.rows, c.if-t-thms.false)) c.arity_of-arity.ensures is
+    (omega (arith, c.len.ensures, c.args.stack.now.ok.0, c.if-len-arity.false)) _ _ c.in-Ok.ensures.taken _ _ c.in_ok-pop_operands.ensures.taken c.args.nodes.now.context ctx k
+    (subst (λ (ids : List Id). operands_fit (signatures_of c.args.earlier.now) c.args.nodes.now.context (trees_at c.args.nodes.now ids) (binders_of (thm_row c.args.earlier.now.file c.args.t).params) ≡ Err k) c.deref.ensures.value h)) c.in_err-check_cited.ensures.fit)
 
-pub returns-then-not-apart-clause-taken : goal.returns-then-not-apart-clause-taken
-returns-then-not-apart-clause-taken c st ctx is =
+pub returns-then-not-are_apart-clause-taken : goal.returns-then-not-are_apart-clause-taken
+returns-then-not-are_apart-clause-taken c st ctx is =
     cites-meeting portable (map tree_of) (λ _. refl) c.args.earlier.now c.args.t st (items_at c.args.nodes.now c.args.stack.now.items) (length c.args.stack.now.items) c.arity_of-arity.result (items-many c.args.nodes.now c.args.stack.now.items) (omega (arith, c.thms.ensures.rows, c.if-t-thms.false)) c.arity_of-arity.ensures is
-    (omega (arith, c.len.ensures, c.args.stack.now.ok.0, c.if-len-arity.false)) _ _ c.in-Ok.ensures.taken _ _ c.in_ok-operands.ensures.taken c.args.nodes.now.context ctx
-    (subst (λ (ids : List Id). operands_fit (signatures_of c.args.earlier.now) c.args.nodes.now.context (trees_at c.args.nodes.now ids) (binders_of (thm_row c.args.earlier.now.file c.args.t).params) ≡ Ok tt) c.deref.ensures.value c.in_default.ensures)
-    (subst (λ (ids : List Id). are_apart c.args.nodes.now.context (trees_at c.args.nodes.now ids) (binders_of (thm_row c.args.earlier.now.file c.args.t).params) ≡ false) c.deref-2.ensures.value (sym c.in-Ok-are_apart.ensures ∙ c.if-not-apart.true))
+    (omega (arith, c.len.ensures, c.args.stack.now.ok.0, c.if-len-arity.false)) _ _ c.in-Ok.ensures.taken _ _ c.in_ok-pop_operands.ensures.taken c.args.nodes.now.context ctx
+    (subst (λ (ids : List Id). operands_fit (signatures_of c.args.earlier.now) c.args.nodes.now.context (trees_at c.args.nodes.now ids) (binders_of (thm_row c.args.earlier.now.file c.args.t).params) ≡ Ok tt) c.deref.ensures.value c.in_ok-check_cited.ensures.fit)
+    (subst (λ (ids : List Id). are_apart c.args.nodes.now.context (trees_at c.args.nodes.now ids) (binders_of (thm_row c.args.earlier.now.file c.args.t).params) ≡ false) c.deref-2.ensures.value (sym c.are_apart.ensures ∙ c.if-not-are_apart.true))
 
 pub returns-clause-taken : goal.returns-clause-taken
 returns-clause-taken c st ctx is =
     cites-so portable (map tree_of) (λ _. refl) c.args.earlier.now c.args.t st (items_at c.args.nodes.now c.args.stack.now.items) (length c.args.stack.now.items) c.arity_of-arity.result (items-many c.args.nodes.now c.args.stack.now.items) (omega (arith, c.thms.ensures.rows, c.if-t-thms.false)) c.arity_of-arity.ensures is
-    (omega (arith, c.len.ensures, c.args.stack.now.ok.0, c.if-len-arity.false)) _ _ c.in-Ok.ensures.taken _ _ c.in_ok-operands.ensures.taken c.args.nodes.now.context ctx
-    (subst (λ (ids : List Id). operands_fit (signatures_of c.args.earlier.now) c.args.nodes.now.context (trees_at c.args.nodes.now ids) (binders_of (thm_row c.args.earlier.now.file c.args.t).params) ≡ Ok tt) c.deref.ensures.value c.in_default.ensures)
-    (subst (λ (ids : List Id). are_apart c.args.nodes.now.context (trees_at c.args.nodes.now ids) (binders_of (thm_row c.args.earlier.now.file c.args.t).params) ≡ true) c.deref-2.ensures.value (sym c.in-Ok-are_apart.ensures ∙ c.if-not-apart.false))
+    (omega (arith, c.len.ensures, c.args.stack.now.ok.0, c.if-len-arity.false)) _ _ c.in-Ok.ensures.taken _ _ c.in_ok-pop_operands.ensures.taken c.args.nodes.now.context ctx
+    (subst (λ (ids : List Id). operands_fit (signatures_of c.args.earlier.now) c.args.nodes.now.context (trees_at c.args.nodes.now ids) (binders_of (thm_row c.args.earlier.now.file c.args.t).params) ≡ Ok tt) c.deref.ensures.value c.in_ok-check_cited.ensures.fit)
+    (subst (λ (ids : List Id). are_apart c.args.nodes.now.context (trees_at c.args.nodes.now ids) (binders_of (thm_row c.args.earlier.now.file c.args.t).params) ≡ true) c.deref-2.ensures.value (sym c.are_apart.ensures ∙ c.if-not-are_apart.false))

@@ -33,48 +33,48 @@ returns-in_err-target-clause-steps g c st ctx is =
     rw (p.1, p.2) (stops-as c.in_err-target.field-0.0 _ (λ k. c.args.steps.now ≡ c.args.steps.now + row_steps portable (tables_of c.args.earlier.now) code.Thm c.args.t st)
     (λ k h. no-more _ _ (thm-stopped-steps portable (tables_of c.args.earlier.now) c.args.t st k h)) (c.in_err-target.ensures.taken st ctx is))
 
-pub unify-requires-clause-over : goal.unify-requires-clause-over
-unify-requires-clause-over g c = subst (λ sigs. IsOver sigs c.args.nodes.now) (sym (signatures-before c.args.earlier.now)) c.requires.over
+pub unify_in-requires-clause-over : goal.unify_in-requires-clause-over
+unify_in-requires-clause-over g c = subst (λ sigs. IsOver sigs c.args.nodes.now) (sym (signatures-before c.args.earlier.now)) c.requires.over
 
-pub returns-in-Done-clause-ids : goal.returns-in-Done-clause-ids
-returns-in-Done-clause-ids g c = (
+pub returns-in_ok-push-in-Done-clause-ids : goal.returns-in_ok-push-in-Done-clause-ids
+returns-in_ok-push-in-Done-clause-ids g c = (
   c.in_ok-target.ensures.ids.0,
-  rw c.in_ok-push-in-Done.ensures.ok (items-in-both c.args.nodes.now c.unify.new.hyps.items (Proof c.in_ok-target.target ∷ []) c.in-Done.ensures.ids.1 (c.in_ok-target.ensures.ids.0, tt)),
+  rw c.in_ok-push-in-Done.ensures.ok (items-in-both c.args.nodes.now c.unify_in.new.hyps.items (Proof c.in_ok-target.target ∷ []) c.in-Done.ensures.ids.1 (c.in_ok-target.ensures.ids.0, tt)),
 )
 
-pub returns-in-Done-clause-plain : goal.returns-in-Done-clause-plain
-returns-in-Done-clause-plain g c at st ctx is =
+pub returns-in_ok-push-in-Done-clause-plain : goal.returns-in_ok-push-in-Done-clause-plain
+returns-in_ok-push-in-Done-clause-plain g c at st ctx is =
     let row = thm-row portable (tables_of c.args.earlier.now) at c.args.t st _ (c.in_ok-target.ensures.taken st ctx is) c.in-Done.ensures.run.0
-    (cited-run c.args.earlier.now c.args.nodes.now st ctx c.args.t c.stream_of_thm-stream.result.now c.stream_of_thm-stream.ensures.stream c.in_ok-target.operands.items c.in_ok-target.target c.take_citation.new.stack.items ∙ c.in-Done.ensures.run.1) in
-    rw (c.in_ok-push-in-Done.ensures.ok, items-push c.args.nodes.now c.unify.new.hyps.items (Proof c.in_ok-target.target))
+    (cited-run c.args.earlier.now c.args.nodes.now st ctx c.args.t c.stream_of_thm-stream.result.now c.stream_of_thm-stream.ensures.stream c.take_citation.new.spare.operands.items c.in_ok-target.target c.take_citation.new.stack.items ∙ c.in-Done.ensures.run.1) in
+    rw (c.in_ok-push-in-Done.ensures.ok, items-push c.args.nodes.now c.unify_in.new.hyps.items (Proof c.in_ok-target.target))
     (row ∙ ap (λ xs. Ok (with_stack st (proof (expr_of c.args.nodes.now c.in_ok-target.target.0) ∷ xs))) c.in-Done.ensures.run.3)
 
-pub returns-in-Done-clause-saved : goal.returns-in-Done-clause-saved
-returns-in-Done-clause-saved g c at st ctx is =
+pub returns-in_ok-push-in-Done-clause-saved : goal.returns-in_ok-push-in-Done-clause-saved
+returns-in_ok-push-in-Done-clause-saved g c at st ctx is =
     let row = thm-save-row portable (tables_of c.args.earlier.now) at c.args.t st _ (c.in_ok-target.ensures.taken st ctx is) c.in-Done.ensures.run.0
-    (cited-run c.args.earlier.now c.args.nodes.now st ctx c.args.t c.stream_of_thm-stream.result.now c.stream_of_thm-stream.ensures.stream c.in_ok-target.operands.items c.in_ok-target.target c.take_citation.new.stack.items ∙ c.in-Done.ensures.run.1) in
-    rw (c.in_ok-push-in-Done.ensures.ok, items-push c.args.nodes.now c.unify.new.hyps.items (Proof c.in_ok-target.target))
+    (cited-run c.args.earlier.now c.args.nodes.now st ctx c.args.t c.stream_of_thm-stream.result.now c.stream_of_thm-stream.ensures.stream c.take_citation.new.spare.operands.items c.in_ok-target.target c.take_citation.new.stack.items ∙ c.in-Done.ensures.run.1) in
+    rw (c.in_ok-push-in-Done.ensures.ok, items-push c.args.nodes.now c.unify_in.new.hyps.items (Proof c.in_ok-target.target))
     (row
     ∙ ap (λ xs. Ok (record (with_stack st (proof (expr_of c.args.nodes.now c.in_ok-target.target.0) ∷ xs)) { heap = st.heap ++ proof (expr_of c.args.nodes.now c.in_ok-target.target.0) ∷ [] })) c.in-Done.ensures.run.3)
 
-pub returns-in-Done-clause-steps : goal.returns-in-Done-clause-steps
-returns-in-Done-clause-steps g c st ctx is =
+pub returns-in_ok-push-in-Done-clause-steps : goal.returns-in_ok-push-in-Done-clause-steps
+returns-in_ok-push-in-Done-clause-steps g c st ctx is =
     so-many _ _ _ _ c.in-Done.ensures.steps
     (thm-steps portable (tables_of c.args.earlier.now) c.args.t st _ (c.in_ok-target.ensures.taken st ctx is)
-    ∙ cited-count c.args.earlier.now c.args.nodes.now st ctx c.args.t c.stream_of_thm-stream.result.now c.stream_of_thm-stream.ensures.stream c.in_ok-target.operands.items c.in_ok-target.target c.take_citation.new.stack.items)
+    ∙ cited-count c.args.earlier.now c.args.nodes.now st ctx c.args.t c.stream_of_thm-stream.result.now c.stream_of_thm-stream.ensures.stream c.take_citation.new.spare.operands.items c.in_ok-target.target c.take_citation.new.stack.items)
 
 pub returns-in-Refused-clause-plain : goal.returns-in-Refused-clause-plain
 returns-in-Refused-clause-plain g c at st ctx is =
     thm-refused portable (tables_of c.args.earlier.now) at c.args.t st _ (c.in_ok-target.ensures.taken st ctx is) _ c.in-Refused.rule
-    (cited-run c.args.earlier.now c.args.nodes.now st ctx c.args.t c.stream_of_thm-stream.result.now c.stream_of_thm-stream.ensures.stream c.in_ok-target.operands.items c.in_ok-target.target c.take_citation.new.stack.items ∙ c.in-Refused.ensures.run)
+    (cited-run c.args.earlier.now c.args.nodes.now st ctx c.args.t c.stream_of_thm-stream.result.now c.stream_of_thm-stream.ensures.stream c.take_citation.new.spare.operands.items c.in_ok-target.target c.take_citation.new.stack.items ∙ c.in-Refused.ensures.run)
 
 pub returns-in-Refused-clause-saved : goal.returns-in-Refused-clause-saved
 returns-in-Refused-clause-saved g c at st ctx is =
     thm-save-refused portable (tables_of c.args.earlier.now) at c.args.t st _ (c.in_ok-target.ensures.taken st ctx is) _ c.in-Refused.rule
-    (cited-run c.args.earlier.now c.args.nodes.now st ctx c.args.t c.stream_of_thm-stream.result.now c.stream_of_thm-stream.ensures.stream c.in_ok-target.operands.items c.in_ok-target.target c.take_citation.new.stack.items ∙ c.in-Refused.ensures.run)
+    (cited-run c.args.earlier.now c.args.nodes.now st ctx c.args.t c.stream_of_thm-stream.result.now c.stream_of_thm-stream.ensures.stream c.take_citation.new.spare.operands.items c.in_ok-target.target c.take_citation.new.stack.items ∙ c.in-Refused.ensures.run)
 
 pub returns-in-Refused-clause-steps : goal.returns-in-Refused-clause-steps
 returns-in-Refused-clause-steps g c st ctx is =
     so-many _ _ _ _ c.in-Refused.ensures.steps
     (thm-steps portable (tables_of c.args.earlier.now) c.args.t st _ (c.in_ok-target.ensures.taken st ctx is)
-    ∙ cited-count c.args.earlier.now c.args.nodes.now st ctx c.args.t c.stream_of_thm-stream.result.now c.stream_of_thm-stream.ensures.stream c.in_ok-target.operands.items c.in_ok-target.target c.take_citation.new.stack.items)
+    ∙ cited-count c.args.earlier.now c.args.nodes.now st ctx c.args.t c.stream_of_thm-stream.result.now c.stream_of_thm-stream.ensures.stream c.take_citation.new.spare.operands.items c.in_ok-target.target c.take_citation.new.stack.items)

@@ -1,0 +1,56 @@
+use Rattle.std.proofs.Common.{◌<◌, ◌≤◌, ◌+◌, ◌++◌, List, ℕ, drop, length, refl, sym, ap, ◌∙◌, arith, add-one}
+use Rattle.std.proofs.lemmas.Option.{slice_get-get_or}
+use Rattle.mz_logic.specs.Words.{bound_places}
+use Rattle.mz_punify.proofs.Offered.{is-in-at}
+use Rattle.mz_earlier.specs.Before.{signatures_of}
+use Rattle.mz_earlier.proofs.Offered.{places-take, places-skip, places-all}
+use Rattle.mz_layout.specs.Rows.{params_of}
+use Rattle.mz_pmachine.proofs.FittingOperands.{fit-step, fit-end}
+use Rattle.mz_pmachine.proofs.fitting.check_cited.Goals as goal
+use Rattle.mz_pmachine.proofs.fitting.check_cited.Goals.{then-bound+in_ok-push, else-bound}
+
+pub operands-init : goal.operands-init
+operands-init c = (refl, ap (λ (ps : List ℕ). ps ++ bound_places 0 (params_of c.args.earlier.now.file c.args.row)) c.clear.ensures.items)
+
+pub check_operand-requires : goal.check_operand-requires
+check_operand-requires c =
+    is-in-at c.args.nodes.now c.args.operands.now c.operands.j _ c.requires.ids
+    (slice_get-get_or _ _ _ (let e : c.operands.j < length c.args.operands.now = omega (arith, c.requires.many, c.arity_of-j-end.ensures, c.operands-test.true) in e))
+
+pub returns-in-Err-clause-fit : goal.returns-in-Err-clause-fit
+returns-in-Err-clause-fit c =
+    let here : c.operands.j < length c.args.operands.now = omega (arith, c.requires.many, c.arity_of-j-end.ensures, c.operands-test.true) in
+    sym c.operands.invariant.0
+    ∙ fit-step (signatures_of c.args.earlier.now) c.args.nodes.now c.args.operands.now (params_of c.args.earlier.now.file c.args.row) c.operands.j _ c.word_of-word.result _
+    (slice_get-get_or _ _ _ here) c.word_of-word.ensures (λ q s b. c.in-Err.ensures (signatures_of c.args.earlier.now) q c.requires.over s b)
+
+pub operands-preserved : goal.operands-preserved
+operands-preserved c =
+    let ws = params_of c.args.earlier.now.file c.args.row in
+    let here : c.operands.j < length c.args.operands.now = omega (arith, c.requires.many, c.arity_of-j-end.ensures, c.operands-test.true) in
+    let rest = bound_places (c.operands.j + 1) (drop (c.operands.j + 1) ws) in (
+      rw (add-one c.operands.j)
+          (sym (fit-step (signatures_of c.args.earlier.now) c.args.nodes.now c.args.operands.now ws c.operands.j _ c.word_of-word.result _
+          (slice_get-get_or _ _ _ here) c.word_of-word.ensures (λ q s b. c.in_default.ensures (signatures_of c.args.earlier.now) q c.requires.over s b)) ∙ c.operands.invariant.0),
+      elim c.if-bound.branch [
+        | then-bound+in_ok-push r ↦
+            ap (λ b. b.items ++ rest) r.places-is ∙ ap (λ (ps : List ℕ). ps ++ rest) r.in_ok-push.ensures.ok
+            ∙ rw (add-one c.operands.j)
+            (places-take ws c.operands.j c.word_of-word.result c.word_of-word.ensures c.operands.places.items (bound_places 0 ws) c.operands.invariant.1 (sym c.bound.ensures ∙ r.if-bound.true))
+        | else-bound r ↦
+            ap (λ b. b.items ++ rest) r.places-is
+            ∙ rw (add-one c.operands.j)
+            (places-skip ws c.operands.j c.word_of-word.result c.word_of-word.ensures c.operands.places.items (bound_places 0 ws) c.operands.invariant.1 (sym c.bound.ensures ∙ r.if-bound.false))
+      ],
+    )
+
+pub returns-clause-fit : goal.returns-clause-fit
+returns-clause-fit c =
+    let past : length c.args.operands.now ≤ c.operands.j = omega (arith, c.requires.many, c.arity_of-j-end.ensures, c.operands-test.false) in
+    sym c.operands.invariant.0
+    ∙ fit-end (signatures_of c.args.earlier.now) c.args.nodes.now c.args.operands.now _ c.operands.j past
+
+pub returns-clause-places : goal.returns-clause-places
+returns-clause-places c =
+    let ws = params_of c.args.earlier.now.file c.args.row in
+    places-all ws c.operands.j c.operands.places.items (bound_places 0 ws) (omega (arith, c.arity_of-j-end.ensures, c.operands-test.false)) c.operands.invariant.1
