@@ -7,7 +7,7 @@ use crate::bytes::is;
 use mz_cmd::StatementCode;
 
 /// The kind of a statement, as a listing names it.
-#[derive(Clone, Copy, Debug, PartialEq, Eq)]
+#[derive(Clone, Copy, PartialEq, Eq)]
 pub enum Kind {
     Sort,
     Term,

@@ -11,7 +11,7 @@ use crate::rule::A;
 const GREATEST: u64 = 4_294_967_295;
 
 /// How many rows of each table the lines so far have taken.
-#[derive(Clone, Copy, Debug, PartialEq, Eq)]
+#[derive(Clone, Copy)]
 pub struct Rows {
     pub sorts: u64,
     pub terms: u64,

@@ -6,7 +6,7 @@ use crate::rule::A;
 use mz_cmd::Mem;
 
 /// Why the lines of a text are read no further.
-#[derive(Clone, Copy, Debug, PartialEq, Eq)]
+#[derive(Clone, Copy)]
 pub enum Stop {
     /// A line, from 1, breaks a rule.
     Refused { line: u32, rule: A },
@@ -15,7 +15,7 @@ pub enum Stop {
 }
 
 /// Why a line isn't added.
-#[derive(Clone, Copy, Debug, PartialEq, Eq)]
+#[derive(Clone, Copy)]
 pub enum Fault {
     /// It breaks a rule.
     Rule(A),

@@ -21,7 +21,7 @@ pub fn gaps_text(
     requires gaps { AreGapsOf spec.now places.now }
     ensures { IfOk result (λ text. IsGapsTextOf spec.now theorems places.now text.items) }
 {
-    let declared = declared_by(alloc, Hashing::seeded(seed.0), spec)?;
+    let declared = declared_by(alloc, Hashing::from(seed), spec)?;
     let mut text = count_line(alloc, places.len(), theorems)?;
     put_gaps(&mut text, spec, &declared, places)?;
     Ok(text)

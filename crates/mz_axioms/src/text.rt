@@ -16,7 +16,7 @@ pub fn axioms_text(alloc: Global, seed: Seed, spec: &[u8], lists: &Lists) -> Res
     requires supports { AreOfSome spec.now lists.now }
     ensures { IfOk result (λ text. IsTextOf spec.now lists.now text.items) }
 {
-    let declared = declared_by(alloc, Hashing::seeded(seed.0), spec)?;
+    let declared = declared_by(alloc, Hashing::from(seed), spec)?;
     lines(alloc, spec, &declared, lists)
 }
 

@@ -1,4 +1,5 @@
 pub mod SpellingLaws
+pub mod FirstCommand
 pub mod ReadingLaws
 pub mod ListLaws
 pub mod WorkedExamples

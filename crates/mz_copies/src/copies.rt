@@ -3,9 +3,7 @@ ghost use Rattle.std.specs.Prelude.{◌≡◌, IfOk};
 ghost use Rattle.mz_logic.specs.DeclView.{declaration, form, term_view, assertion_view};
 ghost use Rattle.mz_logic.specs.View.{tree};
 
-use mz_logic::{
-    Binder, Binders, Decl, Deps, Expr, Exprs, Hyps, ResultType, TermDecl, TermForm, ThmDecl,
-};
+use mz_logic::{Binder, Binders, Decl, Expr, Exprs, Hyps, ResultType, TermDecl, TermForm, ThmDecl};
 use std::alloc::{AllocError, Global};
 
 /// A list that is copied up to an application, whose operands are copied first.
@@ -73,17 +71,11 @@ pub fn copy_of(alloc: Global, expr: &Expr) -> Result<Expr, AllocError>
     }
 }
 
-fn copy_of_deps(alloc: Global, deps: &Deps) -> Result<Deps, AllocError>
-    ensures { IfOk result (λ copy. copy ≡ deps.now) }
-{
-    let places = Vec::from_slice(alloc, deps.as_slice())?;
-    Ok(Deps::from_vec(places))
-}
-
-fn copy_of_binder(alloc: Global, binder: &Binder) -> Result<Binder, AllocError>
+/// A copy of the binder, with which it shares its dependencies.
+fn copy_of_binder(binder: &Binder) -> Result<Binder, AllocError>
     ensures { IfOk result (λ copy. copy ≡ binder.now) }
 {
-    let deps = copy_of_deps(alloc, &binder.deps)?;
+    let deps = binder.deps.share()?;
     Ok(Binder {
         sort: binder.sort,
         bound: binder.bound,
@@ -96,16 +88,16 @@ fn copy_of_binders(alloc: Global, binders: &Binders) -> Result<Binders, AllocErr
 {
     let mut copies = Binders::new(alloc);
     for binder in binders.as_slice() {
-        let copy = copy_of_binder(alloc, binder)?;
+        let copy = copy_of_binder(binder)?;
         copies.push(copy)?;
     }
     Ok(copies)
 }
 
-fn copy_of_result(alloc: Global, result_type: &ResultType) -> Result<ResultType, AllocError>
+fn copy_of_result(result_type: &ResultType) -> Result<ResultType, AllocError>
     ensures { IfOk result (λ copy. copy ≡ result_type.now) }
 {
-    let deps = copy_of_deps(alloc, &result_type.deps)?;
+    let deps = result_type.deps.share()?;
     Ok(ResultType {
         sort: result_type.sort,
         deps,
@@ -130,7 +122,7 @@ fn copy_of_term(alloc: Global, term: &TermDecl) -> Result<TermDecl, AllocError>
     ensures { IfOk result (λ copy. term_view copy ≡ term_view term.now) }
 {
     let params = copy_of_binders(alloc, &term.params)?;
-    let result_type = copy_of_result(alloc, &term.result)?;
+    let result_type = copy_of_result(&term.result)?;
     let form = copy_of_form(alloc, &term.form)?;
     Ok(TermDecl {
         params,

@@ -17,8 +17,8 @@ use std::alloc::Global;
 /// The most bytes of a text, and of what it compiles to.
 const LONGEST: u128 = 4_294_967_295;
 
-/// The text of a binary's statements, or what stands first against it. The passes share nothing, so that no more than one
-/// statement's phrases are kept at a time.
+/// The text of a binary's statements, or what stands first against it. The passes share nothing, so that no more than
+/// one statement's phrases are kept at a time.
 pub(crate) fn answer(alloc: Global, mmb: &Mmb, names: &Names) -> Result<Decompiled, Mem>
     requires { SomeAreAll mmb.now names.now }
     ensures { IfOk result (λ d. (ts : List Statement) → AreAll mmb.now names.now ts → IsAnswer (vocabulary_by names.now) ts d) }

@@ -27,8 +27,8 @@ pub enum Decompiled {
     Refused(Verdict),
     /// The number of the first statement in whose text more than 4,096 lists stand in one another.
     Deep(u32),
-    /// The text's length, or the bound on that of what it would compile to, is more than 4,294,967,295 bytes: the greater of
-    /// both, or the greatest number that can be told.
+    /// The text's length, or the bound on that of what it would compile to, is more than 4,294,967,295 bytes: the
+    /// greater of both, or the greatest number that can be told.
     Limit { count: u128 },
     /// Want of memory.
     Mem,
@@ -78,6 +78,6 @@ fn of_accepted(alloc: Global, seed: Seed, spec: &[u8], bin: &[u8]) -> Result<Dec
     let Ok(mmb) = Mmb::read(bin) else {
         unreachable!();
     };
-    let names = Names::of(alloc, Hashing::seeded(seed.0), spec, &mmb)?;
+    let names = Names::of(alloc, Hashing::from(seed), spec, &mmb)?;
     answer(alloc, &mmb, &names)
 }

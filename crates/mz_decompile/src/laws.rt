@@ -5,8 +5,8 @@ ghost use Rattle.mz_decompile.specs.Decompiling.{IsDecided};
 use mz_restating::accepted_are_restated;
 use mz_verdicts::each_pair_has_one_verdict;
 
-/// Each pair that is accepted has one text, or one thing that stands first against it, and never both; and no other pair has
-/// either.
+/// Each pair that is accepted has one text, or one thing that stands first against it, and never both; and no other
+/// pair has either.
 pub fn decompilation_is_decided()
     ensures { (spec bin : List ℕ) → IsDecided spec bin }
 {

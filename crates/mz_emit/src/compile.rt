@@ -23,8 +23,8 @@ use mz_type::{
 };
 use std::alloc::Global;
 
-/// Emits the statements that declare what the environment has, each in its place, and say these beside it. What one says
-/// is let go once it is written.
+/// Emits the statements that declare what the environment has, each in its place, and say these beside it. What one
+/// says is let go once it is written.
 fn emit_all(alloc: Global, env: &Env, mut besides: Vec<Beside>) -> Result<Emitter, Mem>
     requires many { length env.now ≡ length besides.items }
     requires few { length env.now < 2 ^ 32 }
@@ -73,9 +73,9 @@ fn compile_typed(alloc: Global, typed: Typed) -> Compiled
     }
 }
 
-/// Compiles a text of at most 4,294,967,295 bytes, whose names are hashed like this: the binary where the text is well typed and
-/// within the limits, else its first fault, or the first limit that it passes. A draft may have gaps; one that is
-/// finished is compiled as a finished text.
+/// Compiles a text of at most 4,294,967,295 bytes, whose names are hashed by `hashing`: the binary where the text is
+/// well typed and within the limits, else its first fault, or the first limit that it passes. A draft may have gaps;
+/// one that is finished is compiled as a finished text.
 ///
 /// The binary's bodies build no application twice, and its streams none once all its dummies are met. So that of a
 /// finished text is accepted by verifiers that compare addresses, too.

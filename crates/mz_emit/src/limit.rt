@@ -13,7 +13,7 @@ use mz_logic::{Binder, Decl};
 use mz_type::{Typed, weight};
 
 /// A limit that a text passes, and by which count.
-#[derive(Clone, Copy, Debug, PartialEq, Eq)]
+#[derive(Clone, Copy)]
 pub(crate) struct Passed {
     pub(crate) rule: L,
     pub(crate) count: u128,

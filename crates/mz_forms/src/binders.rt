@@ -16,10 +16,11 @@ use crate::space::Space;
 use mz_logic::{Binder, Binders, Deps, ResultType};
 use mz_names::is_identifier;
 use mz_sexpr::U;
+use std::alloc::AllocError;
 
 /// These places in ascending order, each once.
-fn ascending(mut places: Vec<u32>) -> Deps
-    ensures { IsAscending places.items result }
+fn ascending(mut places: Vec<u32>) -> Result<Deps, AllocError>
+    ensures { IfOk result (IsAscending places.items) }
 {
     places.sort_unstable();
     places.dedup();
@@ -50,7 +51,8 @@ impl<'r, 'a> Reader<'r, 'a> {
         ensures stops { IfErr result (λ stop. Stops stop (variable_list_asked vars.now (node_at self.now.nodes.now n))) }
     {
         let places = self.variables(vars, n)?;
-        Ok(ascending(places))
+        let deps = ascending(places)?;
+        Ok(deps)
     }
 
     /// A parameter's name, or `_`.
@@ -82,7 +84,7 @@ impl<'r, 'a> Reader<'r, 'a> {
         if let Some((name, sort)) = self.two(first) {
             let name = self.param_name(vars, name)?;
             let sort = self.number(&names.sorts, sort)?;
-            let deps = Deps::new(self.alloc);
+            let deps = Deps::new();
             return Ok((
                 name,
                 Binder {
@@ -119,7 +121,7 @@ impl<'r, 'a> Reader<'r, 'a> {
         };
         let name = self.new_name(vars, name)?;
         let sort = self.number(&names.sorts, sort)?;
-        let deps = Deps::new(self.alloc);
+        let deps = Deps::new();
         Ok((
             name,
             Binder {

@@ -10,7 +10,7 @@ pub fn is(word: &[u8], other: &[u8]) -> bool
 }
 
 /// The literal words with which a conversion or a proof may begin.
-#[derive(Clone, Copy, Debug, PartialEq, Eq)]
+#[derive(Clone, Copy)]
 pub enum Keyword {
     /// `:conv`
     Conv,

@@ -2,7 +2,7 @@
 use Rattle.std.proofs.Common.{◌≡◌, ◌∙◌, ◌<◌, ◌≤◌, ◌+◌, ◌⊎◌, ◌↔◌, ℕ, Bool, true, false, List, [], ◌∷◌, length, zero, suc, slice_get, Some, Contains, All, IsTrue, ap, sym, refl, subst, inl, inr, arith, eq-or-lt_of_le, true≢false}
 use Rattle.std.specs.Prelude.{not}
 use Rattle.std.proofs.lemmas.Option.{slice_get_within}
-use Rattle.mz_logic.specs.Tree.{Tree, Trees, var, none, more, operand}
+use Rattle.mz_logic.specs.Tree.{Trees, var, none, more, operand}
 use Rattle.mz_logic.specs.Signature.{Signature}
 use Rattle.mz_logic.specs.Sorts.{Fits, IsBoundVar}
 use Rattle.mz_logic.specs.Variables.{Apart, InV, IsBoundAt, IsOperandAt}
@@ -26,9 +26,6 @@ module _ (params : List Binder) (es : Trees) where
   Single = (j k x : ℕ) → IsBoundAt params j → operand es j ≡ var x → IsBoundAt params k → operand es k ≡ var x → j ≡ k
 
   -- ---- one parameter
-
-  pub regular-owns : (j : ℕ) (p : Binder) → slice_get params j ≡ Some p → p.bound ≡ false → (x : ℕ) → Owns j x → ⊥
-  regular-owns j p at regular x ((q, at', bound), _) = absurd (true≢false (sym bound ∙ ap (λ (b : Binder). b.bound) (one_at at' at) ∙ regular))
 
   -- the operand of a bound one is added, new or not
   module _ (j x : ℕ) (bound : IsBoundAt params j) (is : operand es j ≡ var x) (old : List ℕ) where
@@ -123,32 +120,33 @@ module _ (params : List Binder) (es : Trees) where
   abbrev pub IsOwn : Binder → ℕ → ℕ → Type 0
   IsOwn p i x = IsOperandAt params es p.deps x ⊎ Owns i x
 
+  -- gathered from those of the others and its own one
+  pub own-gathered : (i : ℕ) (p : Binder) (old first its : List ℕ) → old ≡ [] → ((x : ℕ) → Contains first x ↔ (Contains old x ⊎ IsOperandAt params es p.deps x))
+      → ((x : ℕ) → Contains its x ↔ (Contains first x ⊎ Owns i x)) → (x : ℕ) → Contains its x ↔ IsOwn p i x
+  own-gathered i p old first its empty covers grows x = (
+    λ has. elim ((grows x).0 has) [
+      | inl had ↦ elim ((covers x).0 had) [ inl absent ↦ absurd (nothing-in x (subst (λ (ys : List ℕ). Contains ys x) empty absent)) | inr op ↦ inl op ]
+      | inr owns ↦ inr owns
+    ],
+    λ own. (grows x).1 (elim own [ inl op ↦ inl ((covers x).1 (inr op)) | inr owns ↦ inr owns ]),
+  )
+
   module _ (ctx : List Binder) (owned : List ℕ) where
     -- of the variables that are owned, the i-th operand names its own alone
     abbrev pub NamesOwn : ℕ → Type 0
     NamesOwn i = (x : ℕ) (p : Binder) → slice_get params i ≡ Some p → InV ctx x (operand es i) → Contains owned x → IsOwn p i x
 
     -- told by a set of its own
-    module _ (i : ℕ) (p : Binder) (at : slice_get params i ≡ Some p) (first its : List ℕ)
-        (covers : (x : ℕ) → Contains first x ↔ (Contains [] x ⊎ IsOperandAt params es p.deps x)) (grows : (x : ℕ) → Contains its x ↔ (Contains first x ⊎ Owns i x)) where
-      is-own : (x : ℕ) → Contains its x → IsOwn p i x
-      is-own x has = elim ((grows x).0 has) [
-        | inl had ↦ elim ((covers x).0 had) [ inl absent ↦ absurd (nothing-in x absent) | inr op ↦ inl op ]
-        | inr owns ↦ inr owns
-      ]
-
-      own-is : (x : ℕ) → IsOwn p i x → Contains its x
-      own-is x own = (grows x).1 (elim own [ inl op ↦ inl ((covers x).1 (inr op)) | inr owns ↦ inr owns ])
-
-      pub own-by : (e : Tree) → operand es i ≡ e → (b : Bool) → IsTrue b ↔ ((x : ℕ) × IsOther owned its x × InV ctx x e) → IsTrue (not b) ↔ NamesOwn i
-      own-by e is true (to, from) = (
+    module _ (i : ℕ) (p : Binder) (at : slice_get params i ≡ Some p) (its : List ℕ) (own : (x : ℕ) → Contains its x ↔ IsOwn p i x) where
+      pub own-by : (b : Bool) → IsTrue b ↔ ((x : ℕ) × IsOther owned its x × InV ctx x (operand es i)) → IsTrue (not b) ↔ NamesOwn i
+      own-by true (to, from) = (
         λ no. absurd (true≢false (sym no)),
-        λ names. absurd (let (x, other, named) = to refl in other.1 (own-is x (names x p at (subst (InV ctx x) (sym is) named) other.0))),
+        λ names. absurd (let (x, other, named) = to refl in other.1 ((own x).1 (names x p at named other.0))),
       )
-      own-by e is false (to, from) = (
+      own-by false (to, from) = (
         λ _ x q at' named has. elim (contains-decided its x) [
-          | inl own ↦ subst (λ (r : Binder). IsOwn r i x) (one_at at at') (is-own x own)
-          | inr out ↦ absurd (true≢false (sym (from (x, (has, out), subst (InV ctx x) is named))))
+          | inl had ↦ subst (λ (r : Binder). IsOwn r i x) (one_at at at') ((own x).0 had)
+          | inr out ↦ absurd (true≢false (sym (from (x, (has, out), named))))
         ],
         λ _. refl,
       )

@@ -6,10 +6,10 @@ ghost use Rattle.mz_logic.specs.Tree.{operand, var};
 ghost use Rattle.mz_logic.specs.Variables.{Apart, InV, IsBoundAt, IsOperandAt};
 ghost use Rattle.mz_logic.specs.declared.binder.Binder.{Binder as Param};
 
-use crate::free::{add_operands_at, variable_at};
+use crate::free::{add_bound_operands, bound_operand};
 use crate::named::names_other;
 use crate::variables::VariableSet;
-use mz_logic::{Binder, Context, Env, Exprs, are_apart as are_apart_by_pairs};
+use mz_logic::{Binder, Context, Env, Exprs, are_apart_by_pairs};
 use std::alloc::{AllocError, Global};
 
 /// Whether operands that fit the parameters are apart: where the operand of a bound parameter is in
@@ -29,25 +29,41 @@ pub fn are_apart(
     ensures { IfOk result (λ apart. IsTrue apart ↔ Apart ctx.now es.now params.now) }
 {
     let mut owned = VariableSet::new(alloc);
-    let single = own_all(params, es, &mut owned)?;
+    are_apart_with(alloc, env, ctx, es, params, &mut owned)
+}
+
+/// The same, with a set for the operands of the bound parameters.
+fn are_apart_with(
+    alloc: Global,
+    env: &Env,
+    ctx: &Context,
+    es: &Exprs,
+    params: &[Binder],
+    owned: &mut VariableSet,
+) -> Result<bool, AllocError>
+    requires fits { Fits (signatures env.now) ctx.now es.now params.now }
+    requires empty { owned.old ≡ [] }
+    ensures { IfOk result (λ apart. IsTrue apart ↔ Apart ctx.now es.now params.now) }
+{
+    let single = gather_owned(params, es, owned)?;
     if single {
-        return all_name_own(alloc, ctx, es, params, &owned);
+        return all_name_own(alloc, ctx, es, params, owned);
     }
-    if stand_alone(params) {
+    if all_stand_alone(params) {
         return Ok(false);
     }
     Ok(are_apart_by_pairs(env, ctx, es, params))
 }
 
 /// Gathers the operands of the bound parameters. Whether no two of these have the same one.
-fn own_all(params: &[Binder], es: &Exprs, owned: &mut VariableSet) -> Result<bool, AllocError>
+fn gather_owned(params: &[Binder], es: &Exprs, owned: &mut VariableSet) -> Result<bool, AllocError>
     requires { owned.old ≡ [] }
     ensures has { IfOk result (λ single. single ≡ true → (x : ℕ) → Contains owned.new x ↔ ((j : ℕ) × IsBoundAt params.now j × (operand es.now j ≡ var x))) }
     ensures single { IfOk result (λ single. IsTrue single
         ↔ ((j k x : ℕ) → IsBoundAt params.now j → operand es.now j ≡ var x → IsBoundAt params.now k → operand es.now k ≡ var x → j ≡ k)) }
 {
     for j in 0..params.len() {
-        let fresh = own(params, es, j, owned)?;
+        let fresh = add_owned(params, es, j, owned)?;
         if !fresh {
             return Ok(false);
         }
@@ -56,15 +72,16 @@ fn own_all(params: &[Binder], es: &Exprs, owned: &mut VariableSet) -> Result<boo
 }
 
 /// Adds the operand of the j-th parameter, if this one is bound. Whether it wasn't there.
-fn own(params: &[Binder], es: &Exprs, j: usize, owned: &mut VariableSet) -> Result<bool, AllocError>
-    requires { j < length params.now }
+fn add_owned(
+    params: &[Binder],
+    es: &Exprs,
+    j: usize,
+    owned: &mut VariableSet,
+) -> Result<bool, AllocError>
     ensures has { OnOk result ((x : ℕ) → Contains owned.new x ↔ (Contains owned.old x ⊎ (IsBoundAt params.now j × (operand es.now j ≡ var x)))) }
     ensures fresh { IfOk result (λ fresh. IsTrue fresh ↔ ((x : ℕ) → IsBoundAt params.now j → operand es.now j ≡ var x → Contains owned.old x → ⊥)) }
 {
-    if !params[j].bound {
-        return Ok(true);
-    }
-    match variable_at(es, j) {
+    match bound_operand(params, es, j) {
         None => Ok(true),
         Some(x) => {
             let fresh = !owned.has(x);
@@ -75,7 +92,7 @@ fn own(params: &[Binder], es: &Exprs, j: usize, owned: &mut VariableSet) -> Resu
 }
 
 /// Whether no bound parameter depends on others, as in each legal statement.
-fn stand_alone(params: &[Binder]) -> bool
+fn all_stand_alone(params: &[Binder]) -> bool
     ensures { IsTrue result ↔ All (λ (p : Param). p.bound ≡ true → p.deps ≡ []) params.now }
 {
     for param in params {
@@ -132,11 +149,36 @@ fn names_own(
         ↔ ((x : ℕ) (p : Param) → slice_get params.now i ≡ Some p → InV ctx.now x (operand es.now i) → Contains owned.now x
         → IsOperandAt params.now es.now p.deps x ⊎ (IsBoundAt params.now i × (operand es.now i ≡ var x)))) }
 {
-    let mut its = VariableSet::new(alloc);
-    add_operands_at(params, es, &params[i].deps, &mut its)?;
-    own(params, es, i, &mut its)?;
+    let mut own = VariableSet::new(alloc);
+    add_own(params, es, i, &mut own)?;
+    Ok(!operand_names_other(ctx, es, i, owned, &own))
+}
+
+/// Adds what the i-th operand may name: what it is itself, if its parameter is bound, and the
+/// operands of the bound ones on which this depends.
+fn add_own(params: &[Binder], es: &Exprs, i: usize, own: &mut VariableSet) -> Result<(), AllocError>
+    requires within { i < length params.now }
+    requires empty { own.old ≡ [] }
+    ensures { OnOk result ((p : Param) × (slice_get params.now i ≡ Some p)
+        × ((x : ℕ) → Contains own.new x ↔ (IsOperandAt params.now es.now p.deps x ⊎ (IsBoundAt params.now i × (operand es.now i ≡ var x))))) }
+{
+    add_bound_operands(params, es, &params[i].deps, own)?;
+    add_owned(params, es, i, own)?;
+    Ok(())
+}
+
+/// Whether one of the variables, but for its own ones, is in V of the i-th operand.
+fn operand_names_other(
+    ctx: &Context,
+    es: &Exprs,
+    i: usize,
+    variables: &VariableSet,
+    own: &VariableSet,
+) -> bool
+    ensures { IsTrue result ↔ ((x : ℕ) × (Contains variables.now x × (Contains own.now x → ⊥)) × InV ctx.now x (operand es.now i)) }
+{
     match es.get(i) {
-        None => Ok(true),
-        Some(e) => Ok(!names_other(ctx, e, owned, &its)),
+        None => false,
+        Some(e) => names_other(ctx, e, variables, own),
     }
 }

@@ -49,7 +49,7 @@ fn covers(
             None => unreachable!(),
             Some(term) => {
                 let params = term.params.as_slice();
-                if !covers_operands_at(params, es, &term.result.deps, covered) {
+                if !covers_bound_operands(params, es, &term.result.deps, covered) {
                     return Ok(false);
                 }
                 covers_operands(env, ctx, es, params, covered)
@@ -101,7 +101,7 @@ fn covers_operand(
         return Ok(true);
     }
     let before = covered.len();
-    add_operands_at(params, es, &param.deps, covered)?;
+    add_bound_operands(params, es, &param.deps, covered)?;
     let holds = covers(env, ctx, operand, covered)?;
     if !holds {
         return Ok(false);
@@ -128,12 +128,12 @@ fn covers_binder(binder: &Binder, y: u32, covered: &VariableSet) -> bool
     if binder.bound {
         covered.has(y)
     } else {
-        covers_all(&binder.deps, covered)
+        covers_places(&binder.deps, covered)
     }
 }
 
 /// Whether the variables at these places are covered.
-fn covers_all(places: &Deps, covered: &VariableSet) -> bool
+fn covers_places(places: &Deps, covered: &VariableSet) -> bool
     ensures { IsTrue result ↔ All (Contains covered.now) places.now }
 {
     for place in places.as_slice() {
@@ -145,11 +145,16 @@ fn covers_all(places: &Deps, covered: &VariableSet) -> bool
 }
 
 /// Whether the operands of the bound parameters at these places are covered.
-fn covers_operands_at(params: &[Binder], es: &Exprs, places: &Deps, covered: &VariableSet) -> bool
+fn covers_bound_operands(
+    params: &[Binder],
+    es: &Exprs,
+    places: &Deps,
+    covered: &VariableSet,
+) -> bool
     ensures { IsTrue result ↔ All (λ j. (x : ℕ) → IsBoundAt params.now j → operand es.now j ≡ var x → Contains covered.now x) places.now }
 {
     for place in places.as_slice() {
-        if !covers_operand_at(params, es, *place, covered) {
+        if !covers_bound_operand(params, es, *place as usize, covered) {
             return false;
         }
     }
@@ -157,7 +162,7 @@ fn covers_operands_at(params: &[Binder], es: &Exprs, places: &Deps, covered: &Va
 }
 
 /// The same at one place.
-fn covers_operand_at(params: &[Binder], es: &Exprs, place: u32, covered: &VariableSet) -> bool
+fn covers_bound_operand(params: &[Binder], es: &Exprs, place: usize, covered: &VariableSet) -> bool
     ensures { IsTrue result ↔ ((x : ℕ) → IsBoundAt params.now place → operand es.now place ≡ var x → Contains covered.now x) }
 {
     match bound_operand(params, es, place) {
@@ -167,35 +172,35 @@ fn covers_operand_at(params: &[Binder], es: &Exprs, place: u32, covered: &Variab
 }
 
 /// Adds the operands of the bound parameters at these places.
-pub(crate) fn add_operands_at(
+pub(crate) fn add_bound_operands(
     params: &[Binder],
     es: &Exprs,
     places: &Deps,
-    covered: &mut VariableSet,
+    variables: &mut VariableSet,
 ) -> Result<(), AllocError>
-    ensures grows { OnOk result ((more : List ℕ) × (covered.new ≡ covered.old ++ more)) }
-    ensures has { OnOk result ((x : ℕ) → Contains covered.new x ↔ (Contains covered.old x ⊎ IsOperandAt params.now es.now places.now x)) }
+    ensures grows { OnOk result ((more : List ℕ) × (variables.new ≡ variables.old ++ more)) }
+    ensures has { OnOk result ((x : ℕ) → Contains variables.new x ↔ (Contains variables.old x ⊎ IsOperandAt params.now es.now places.now x)) }
 {
     for place in places.as_slice() {
-        if let Some(x) = bound_operand(params, es, *place) {
-            covered.add(x)?;
+        if let Some(x) = bound_operand(params, es, *place as usize) {
+            variables.add(x)?;
         }
     }
     Ok(())
 }
 
 /// The variable that is the operand of a bound parameter at the place, if there is one.
-fn bound_operand(params: &[Binder], es: &Exprs, place: u32) -> Option<u32>
+pub(crate) fn bound_operand(params: &[Binder], es: &Exprs, place: usize) -> Option<u32>
     ensures { MatchOption result ((x : ℕ) → IsBoundAt params.now place → operand es.now place ≡ var x → ⊥) (λ x. IsBoundAt params.now place × (operand es.now place ≡ var x)) }
 {
     if !is_bound_at(params, place) {
         return None;
     }
-    variable_at(es, place as usize)
+    variable_at(es, place)
 }
 
 /// The variable that the operand at the place is, if it is one.
-pub(crate) fn variable_at(es: &Exprs, place: usize) -> Option<u32>
+fn variable_at(es: &Exprs, place: usize) -> Option<u32>
     ensures { MatchOption result ((x : ℕ) → operand es.now place ≡ var x → ⊥) (λ x. operand es.now place ≡ var x) }
 {
     match es.get(place) {

@@ -1,4 +1,4 @@
-// Sets of variables, as what goes over expressions asks for them.
+// Sets of variables, for what goes over expressions.
 ghost use Rattle.std.specs.Prelude.{◌≡◌, ◌↔◌, ◌⊎◌, ◌++◌, [], ℕ, List, IsTrue, IfOk, OnOk, Contains, length, take};
 
 use indexmap::IndexSet;
@@ -32,13 +32,13 @@ impl VariableSet {
 
     /// The variables at these places.
     pub(crate) fn of(alloc: Global, deps: &Deps) -> Result<VariableSet, AllocError>
-        ensures { IfOk result (λ covered. (x : ℕ) → Contains covered x ↔ Contains deps.now x) }
+        ensures { IfOk result (λ set. (x : ℕ) → Contains set x ↔ Contains deps.now x) }
     {
-        let mut covered = VariableSet::new(alloc);
+        let mut set = VariableSet::new(alloc);
         for place in deps.as_slice() {
-            covered.add(*place)?;
+            set.add(*place)?;
         }
-        Ok(covered)
+        Ok(set)
     }
 
     /// How many there are.

@@ -1,5 +1,5 @@
 -- Trees as a list of the code's expressions.
-use Rattle.std.proofs.Common.{ℕ, zero, suc, ◌≡◌, ◌<◌, ◌∙◌, List, [], ◌∷◌, length, get_or, slice_get, Some, ap, ap₂, refl, sym, le_of_suc-le-suc, not-suc-le-zero}
+use Rattle.std.proofs.Common.{ℕ, zero, suc, ◌≡◌, ◌<◌, ◌∙◌, List, [], ◌∷◌, length, get_or, slice_get, Some, ap, ap₂, arith, refl, sym, le_of_suc-le-suc, not-suc-le-zero}
 use Rattle.mz_logic.specs.Tree.{Tree, Trees, var, app, none, more, listed}
 use Rattle.mz_logic.specs.View.{tree, trees}
 use Rattle.mz_logic.specs.declared.expr.Expr.{Expr}
@@ -29,6 +29,10 @@ trees-exprs (more e es) = ap₂ more (tree-expr e) (trees-exprs es)
 pub length-exprs : (es : Trees) → length (exprs_of es) ≡ length (listed es)
 length-exprs none = refl
 length-exprs (more e es) = ap suc (length-exprs es)
+
+-- a place among so many trees is one in the list
+pub exprs-within : (es : Trees) (i n : ℕ) → n ≡ length (listed es) → i < n → i < length (exprs_of es)
+exprs-within es i n is below = let many = length-exprs es in omega (arith, many, is, below)
 
 -- what is read of the trees stands in the list
 pub expr-read : (es : Trees) (i : ℕ) (e : Expr) → slice_get (listed es) i ≡ Some (tree e) → e ≡ get_or (exprs_of es) i e

@@ -1,6 +1,9 @@
 -- Formulas with their ends, and the hypotheses that they make.
-use Rattle.std.proofs.Common.{ℕ, zero, suc, true, false, leb, leb-true, leb-false, ◌≡◌, ◌<◌, ◌≤◌, ◌+◌, ◌-◌, ◌∙◌, List, [], ◌∷◌, ◌++◌, length, get_or, slice_get, option_map, Option, Some, None, MatchOption, Bor, ap, refl, sym, subst, arith, le_of_suc-le-suc, not-suc-le-zero}
-use Rattle.std.specs.List.Sorted.{IsNonDecreasingBy, IsPartitionPoint}
+use Rattle.std.proofs.Common.{ℕ, zero, suc, true, false, leb, leb-true, leb-false, ◌≡◌, ◌<◌, ◌≤◌, ◌+◌, ◌-◌, ◌∙◌, List, [], ◌∷◌, ◌++◌, length, get_or, slice_get, option_map, Option, Some, None, MatchOption, Result, Ok, Err, is_err, nat_cmp, Bor, ap, refl, sym, subst, arith, le_of_suc-le-suc, not-suc-le-zero}
+use Rattle.std.specs.List.Sorted.{IsBinarySearchResult, IsNonDecreasingBy, IsPartitionPoint}
+use Rattle.std.proofs.lemmas.Bool.{false≢true}
+use Rattle.std.proofs.lemmas.List.{get_or_default}
+use Rattle.std.proofs.lemmas.List.Sorted.{searched}
 use Rattle.mz_logic.specs.Tree.{Tree, Trees, app, none, more, listed, operand, followed_by, copies}
 use Rattle.mz_logic.specs.Groups.{up_to, Rise, AreEnds, Repeats}
 use Rattle.mz_logic.specs.View.{tree}
@@ -157,6 +160,25 @@ formula_found es hs ends xs i g is (many, rise) same point =
     let (low, high) = subst (λ ys. IsPartitionPoint (λ y. leb y i ≡ true) (λ y. leb y i ≡ false) ys g) same point in
     ap (λ fs. slice_get (listed fs) i) (sym is)
     ∙ formula_at 0 es ends g i i many rise (omega arith) (λ k d below. leb-true _ _ (low k d (omega arith) below)) (λ k d from within. leb-false _ _ (high k d from within))
+
+-- where a search finds no end at i, the hypothesis before has the same formula
+pub shared_formula : (es hs : Trees) (ends xs : List ℕ) (i : ℕ) (r : Result ℕ ℕ) → up_to 0 es ends ≡ hs → AreEnds es ends → xs ≡ ends → 0 < i
+    → IsBinarySearchResult (λ y. nat_cmp y i) xs r → is_err r ≡ true → slice_get (listed hs) (i - 1) ≡ slice_get (listed hs) i
+shared_formula es hs ends xs i (Ok k) is are same some found missed = absurd (false≢true missed)
+shared_formula es hs ends xs i (Err g) is (many, rise) same some found missed =
+    ap (λ fs. slice_get (listed fs) (i - 1)) (sym is)
+    ∙ formula_at 0 es ends g (i - 1) (i - 1) many rise (omega arith) (λ k d less. omega (arith, low k d less, some)) (λ k d from inside. omega (arith, high k d from inside))
+    ∙ sym (formula_at 0 es ends g i i many rise (omega arith) (λ k d less. omega (arith, low k d less)) high)
+    ∙ ap (λ fs. slice_get (listed fs) i) is
+  where
+    place : (g ≤ length ends) × ((k : ℕ) → k < g → get_or ends k 0 < i) × ((k : ℕ) → g ≤ k → k < length ends → i < get_or ends k 0)
+    place = searched ends i (Err g) (subst (λ ys. IsBinarySearchResult (λ y. nat_cmp y i) ys (Err g)) same found) (λ a b order inside. never_fall 0 ends rise a b 0 order inside)
+
+    low : (k d : ℕ) → k < g → get_or ends k d < i
+    low k d less = omega (arith, place.1 k less, get_or_default ends k d 0 (omega (arith, less, place.0)))
+
+    high : (k d : ℕ) → g ≤ k → k < length ends → i < get_or ends k d
+    high k d from inside = omega (arith, place.2 k from inside, get_or_default ends k d 0 inside)
 
 -- ---- an operand is what is at its place
 

@@ -9,6 +9,7 @@ pub mod Graft
 pub mod Fresh
 pub mod Closing
 pub mod Lists
+mod Left
 pub mod Push
 pub mod Lookup
 pub mod Trees

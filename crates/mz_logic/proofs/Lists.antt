@@ -20,6 +20,13 @@ all_so_far_more P xs i e seen within here k d below = go (eq-or-lt_of_le up_to)
 pub all_at_end : {X : Type 0} (P : X → Type 0) (xs ys : List X) (i : ℕ) → AllSoFar P xs i → length xs ≤ i → xs ≡ ys → All P ys
 all_at_end P xs ys i seen done same = subst (All P) same (λ k d below. seen k d (omega arith))
 
+-- the same of places alone
+pub each_before_more : (P : ℕ → Type 0) (i : ℕ) → ((k : ℕ) → k < i → P k) → P i → (k : ℕ) → k < i + 1 → P k
+each_before_more P i before here k below = elim (eq-or-lt_of_le up_to) [ inl same ↦ subst P (sym same) here | inr less ↦ before k less ]
+  where
+    up_to : k ≤ i
+    up_to = omega (arith, below)
+
 -- P of each element, by the two ways to read one
 pub each_from_all : {X : Type 0} (P : X → Type 0) (xs : List X) → All P xs → (i : ℕ) (x : X) → slice_get xs i ≡ Some x → P x
 each_from_all P xs all i x at = subst P (get_or_from_slice_get xs i x x at) (all i x (slice_get_within xs i x at))

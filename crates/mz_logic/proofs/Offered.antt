@@ -1,6 +1,6 @@
 -- What crates above may use of these proofs; all else is this crate's own, and may change.
 pub use Rattle.mz_logic.proofs.Apart.{in_instance, operand_has_sort}
-pub use Rattle.mz_logic.proofs.AsExprs.{expr-at, expr-read, exprs_of, length-exprs, trees-exprs}
+pub use Rattle.mz_logic.proofs.AsExprs.{expr-at, expr-read, exprs-within, exprs_of, length-exprs, trees-exprs}
 pub use Rattle.mz_logic.proofs.Closing.{legal_at, legal_by_supports, legal_list_is_closed}
 pub use Rattle.mz_logic.proofs.Compose.{contains_cases, contains_head, contains_tail, instance-instance, instances-followed_by}
 pub use Rattle.mz_logic.proofs.EightRules.{legal_by_rules}

@@ -1,9 +1,10 @@
-ghost use Rattle.std.specs.Prelude.{◌≡◌, ◌↔◌, ◌∷◌, [], ◌++◌, IsTrue, IfErr, OnOk, OnErr, length};
+ghost use Rattle.std.specs.Prelude.{◌≡◌, ◌↔◌, ◌∷◌, [], ◌++◌, IsTrue, IfErr, IfOk, OnOk, OnErr, length};
 ghost use Rattle.mz_logic.specs.Modifiers.{IsPure, IsStrict, IsProvable, IsFree};
 
 use crate::room::push_tightly;
 use std::alloc::{AllocError, AllocFailed, Global};
 use std::marker::Model;
+use std::rc::RcSlice;
 
 /// A sort's modifiers, one bit each.
 #[derive(Clone, Copy, PartialEq, Eq)]
@@ -44,55 +45,76 @@ impl SortMods {
     }
 }
 
-/// The places of the bound parameters on which something depends.
+/// The places of the bound parameters on which something depends. Variables that depend on the same ones
+/// may share their places.
 #[derive(Drop)]
 pub struct Deps {
-    places: Vec<u32>,
+    // none where there are no places
+    places: Option<RcSlice<u32>>,
 }
 
 impl Model for Deps {
-    ghost use Rattle.std.specs.Prelude.{List, ℕ};
+    ghost use Rattle.std.specs.Prelude.{List, ℕ, []};
+    ghost use Rattle.std.specs.Option.{option_map_or};
+    ghost use Rattle.std.specs.Rc.{rc_slice_items};
 
     ghost Value = { List ℕ };
 
-    ghost view = { λ a. a.places.items };
+    ghost view = { λ a. option_map_or rc_slice_items a.places [] };
 }
 
 impl Deps {
-    /// No places.
-    pub fn new(alloc: Global) -> Deps
+    /// No places. It takes no memory.
+    pub fn new() -> Deps
         ensures { result ≡ [] }
     {
-        Deps {
-            places: Vec::new(alloc),
-        }
+        Deps { places: None }
     }
 
     /// These places.
-    pub fn from_vec(places: Vec<u32>) -> Deps
-        ensures { result ≡ places.items }
-    {
-        Deps { places }
-    }
-
-    /// Appends a place.
     ///
     /// # Errors
     ///
-    /// Where there is no memory. The list is unchanged then.
-    pub fn push(&mut self, place: u32) -> Result<(), AllocError>
-        ensures ok { OnOk result (self.new ≡ self.old ++ place ∷ []) }
-        ensures err { OnErr result (self.new ≡ self.old) }
+    /// Where there is no memory.
+    pub fn from_vec(places: Vec<u32>) -> Result<Deps, AllocError>
+        ensures { IfOk result (λ deps. deps ≡ places.items) }
     {
-        self.places.push(place)?;
-        Ok(())
+        if places.is_empty() {
+            return Ok(Deps::new());
+        }
+        let places = RcSlice::from_vec(places)?;
+        Ok(Deps {
+            places: Some(places),
+        })
+    }
+
+    /// The same places, which are kept once for both.
+    ///
+    /// # Errors
+    ///
+    /// Where more share them than can be counted.
+    pub fn share(&self) -> Result<Deps, AllocError>
+        ensures { IfOk result (λ deps. deps ≡ self.now) }
+    {
+        match &self.places {
+            None => Ok(Deps::new()),
+            Some(places) => {
+                let shared = places.clone()?;
+                Ok(Deps {
+                    places: Some(shared),
+                })
+            }
+        }
     }
 
     /// The places in order.
     pub fn as_slice(&self) -> &[u32]
         ensures { result.now ≡ self.now }
     {
-        &self.places
+        match &self.places {
+            None => &[],
+            Some(places) => places.as_slice(),
+        }
     }
 }
 

@@ -194,7 +194,7 @@ pub fn are_bound_before(params: &[Binder], end: usize, places: &Deps) -> bool
     ensures { IsTrue result ↔ All (λ j. (j < end) × IsBoundAt params.now j) places.now }
 {
     for j in places.as_slice() {
-        if !is_bound_before(params, end, *j) {
+        if !is_bound_before(params, end, *j as usize) {
             return false;
         }
     }
@@ -202,10 +202,10 @@ pub fn are_bound_before(params: &[Binder], end: usize, places: &Deps) -> bool
 }
 
 /// Whether a bound parameter stands at `place`, before `end`.
-fn is_bound_before(params: &[Binder], end: usize, place: u32) -> bool
+fn is_bound_before(params: &[Binder], end: usize, place: usize) -> bool
     ensures { IsTrue result ↔ ((place < end) × IsBoundAt params.now place) }
 {
-    (place as usize) < end && is_bound_at(params, place)
+    place < end && is_bound_at(params, place)
 }
 
 /// Whether the places are those of bound parameters.

@@ -12,8 +12,8 @@ use crate::expr::{Expr, Exprs};
 use crate::vars::{has_place, in_tree};
 
 /// Whether operands that fit the parameters are apart: where the operand of a bound parameter is in
-/// V of another operand, the other one's parameter depends on it.
-pub fn are_apart(env: &Env, ctx: &Context, es: &Exprs, params: &[Binder]) -> bool
+/// V of another operand, the other one's parameter depends on it. Each pair of operands is looked at.
+pub fn are_apart_by_pairs(env: &Env, ctx: &Context, es: &Exprs, params: &[Binder]) -> bool
     requires { Fits (signatures env.now) ctx.now es.now params.now }
     ensures { IsTrue result ↔ Apart ctx.now es.now params.now }
 {

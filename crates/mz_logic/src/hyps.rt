@@ -120,16 +120,13 @@ impl Hyps {
         }
     }
 
-    /// Whether the i-th hypothesis and the one before it are of one formula, kept once for both.
+    /// Whether the i-th hypothesis and the one before it are of one formula, kept once for both. No
+    /// clause says that it is told where it is so, since how formulas are kept isn't to be seen.
     pub fn shares_with_previous(&self, i: usize) -> bool
         requires { 0 < i }
         ensures { IsTrue result → slice_get (listed self.now) (i - 1) ≡ slice_get (listed self.now) i }
     {
-        let ends = self.ends.as_slice();
-        let before = i - 1;
-        let first = ends.partition_point(|end| *end <= before);
-        let second = ends.partition_point(|end| *end <= i);
-        first == second
+        self.ends.binary_search(&i).is_err()
     }
 
     /// The formulas in order, each of which is one hypothesis or more.

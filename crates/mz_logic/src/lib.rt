@@ -25,7 +25,7 @@ pub use check::{
 };
 pub use context::Context;
 pub use decl::{Decl, DeclFault, TermDecl, TermForm, ThmDecl, ThmForm};
-pub use disjoint::are_apart;
+pub use disjoint::are_apart_by_pairs;
 pub use env::Env;
 pub use examples::{
     definition_unfolds, dependencies_come_before, four_statements_are_legal,
@@ -41,7 +41,5 @@ pub use laws::{
 };
 pub use room::push_tightly;
 pub use sorts::{is_bound_var, is_claim, sort_of, sort_of_term};
-pub use vars::{
-    free_vars_are_in, has_place, in_all_vars, in_free_tree, in_free_vars, in_tree, is_bound_at,
-};
+pub use vars::{in_all_vars, in_free_vars, is_bound_at};
 pub use word::{Terms, Word};

@@ -23,7 +23,7 @@ pub fn in_all_vars(env: &Env, ctx: &Binders, expr: &Expr, x: u32) -> bool
 
 /// The same over a context of parameters and dummies.
 #[cycle(in_tree)]
-pub fn in_tree(env: &Env, ctx: &Context, expr: &Expr, x: usize) -> bool
+pub(crate) fn in_tree(env: &Env, ctx: &Context, expr: &Expr, x: usize) -> bool
     requires { InRange (signatures env.now) (length ctx.now) (tree expr.now) }
     ensures { IsTrue result ↔ InV ctx.now x (tree expr.now) }
 {
@@ -69,7 +69,7 @@ fn is_in_binder(binder: &Binder, y: u32, x: usize) -> bool
 }
 
 /// Whether `x` is one of the places.
-pub fn has_place(places: &Deps, x: usize) -> bool
+pub(crate) fn has_place(places: &Deps, x: usize) -> bool
     ensures { IsTrue result ↔ Contains places.now x }
 {
     for place in places.as_slice() {
@@ -90,7 +90,7 @@ pub fn in_free_vars(env: &Env, ctx: &Binders, expr: &Expr, x: u32) -> bool
 
 /// The same over a context of parameters and dummies.
 #[cycle(in_free_tree)]
-pub fn in_free_tree(env: &Env, ctx: &Context, expr: &Expr, x: usize) -> bool
+fn in_free_tree(env: &Env, ctx: &Context, expr: &Expr, x: usize) -> bool
     requires { InRange (signatures env.now) (length ctx.now) (tree expr.now) }
     ensures { IsTrue result ↔ InFV (signatures env.now) ctx.now x (tree expr.now) }
 {
@@ -144,7 +144,7 @@ fn is_operand_at(params: &[Binder], es: &Exprs, places: &Deps, x: usize) -> bool
     ensures { IsTrue result ↔ IsOperandAt params.now es.now places.now x }
 {
     for place in places.as_slice() {
-        if is_bound_at(params, *place) && is_variable_at(es, *place, x) {
+        if is_bound_at(params, *place as usize) && is_variable_at(es, *place as usize, x) {
             return true;
         }
     }
@@ -152,20 +152,20 @@ fn is_operand_at(params: &[Binder], es: &Exprs, places: &Deps, x: usize) -> bool
 }
 
 /// Whether a bound parameter stands at the place.
-pub fn is_bound_at(params: &[Binder], place: u32) -> bool
+pub fn is_bound_at(params: &[Binder], place: usize) -> bool
     ensures { IsTrue result ↔ IsBoundAt params.now place }
 {
-    match params.get(place as usize) {
+    match params.get(place) {
         None => false,
         Some(param) => param.bound,
     }
 }
 
 /// Whether the variable `x` is the operand at the place.
-fn is_variable_at(es: &Exprs, place: u32, x: usize) -> bool
+fn is_variable_at(es: &Exprs, place: usize, x: usize) -> bool
     ensures { IsTrue result ↔ (operand es.now place ≡ var x) }
 {
-    match es.get(place as usize) {
+    match es.get(place) {
         None => false,
         Some(e) => is_variable(e, x),
     }
@@ -196,7 +196,7 @@ pub fn body_deps_are_right(env: &Env, term: &TermDecl) -> bool
 }
 
 /// Whether the places hold all variables of FV of the expression.
-pub fn free_vars_are_in(env: &Env, ctx: &Context, expr: &Expr, places: &Deps) -> bool
+fn free_vars_are_in(env: &Env, ctx: &Context, expr: &Expr, places: &Deps) -> bool
     requires sorted { (s : ℕ) × HasSort (signatures env.now) ctx.now (tree expr.now) s }
     requires deps { DependOnBound ctx.now }
     ensures { IsTrue result ↔ ((x : ℕ) → InFV (signatures env.now) ctx.now x (tree expr.now) → Contains places.now x) }

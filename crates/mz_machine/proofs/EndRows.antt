@@ -3,15 +3,20 @@ use Rattle.std.proofs.Common.{◌≡◌, ◌+◌, ℕ, suc, List, [], ◌∷◌,
 use Rattle.std.specs.List.{range_with_len}
 use Rattle.mz_cmd.specs.declared.rule.K.{K}
 use Rattle.mz_logic.specs.declared.binder.Binder.{Binder}
-use Rattle.mz_unification.specs.Profile.{Profile}
-use Rattle.mz_unification.specs.UnifyMachine.{Matching, unify, unify_steps}
+use Rattle.mz_unification.specs.Profile.{Profile, Item}
+use Rattle.mz_unification.specs.UnifyMachine.{Matching, UnifyState, unify, unify_steps}
 use Rattle.mz_soundness.specs.MachineState.{RowsBefore, State, Heading, signatures_in}
 use Rattle.mz_soundness.specs.ProofMachine.{last_item, own_variables, ending, ends_with, proof_end}
 use Rattle.mz_soundness.specs.Bodies.{match_steps}
-use Rattle.mz_machine.specs.OverStore.{Gives}
+use Rattle.mz_machine.specs.OverStore.{Gives, UnlessMem}
 use Rattle.mz_machine.specs.Endings.{IsOwnRun}
 use Rattle.mz_unify.specs.declared.stop.Stop.{Stop}
 use Rattle.mz_unify.specs.declared.stop.Stop.TheVariants.{Rule, Mem}
+use Rattle.mz_unify.specs.Rows.{gone_through}
+use Rattle.mz_unify.specs.Stored.{IsRun}
+use Rattle.mz_unify.specs.Stored.{UnlessMem as UnlessRunMem}
+use Rattle.mz_unify.specs.declared.unified.Unified.{Unified}
+use Rattle.mz_unify.specs.declared.unified.Unified.TheVariants as said
 
 next-is : (i : ℕ) → suc i ≡ i + 1
 next-is i = omega arith
@@ -20,6 +25,18 @@ next-is i = omega arith
 pub own-are : (P : Profile) (i : ℕ) (ps : List Binder) → own_variables P i ps ≡ map P.variable (range_with_len i (length ps))
 own-are P i [] = refl
 own-are P i (p ∷ ps) = ap (λ (ts : List P.T). P.variable i ∷ ts) (own-are P (suc i) ps ∙ ap (λ (j : ℕ). map P.variable (range_with_len j (length ps))) (next-is i))
+
+-- what the row's own stream comes to is what its END comes to
+pub own-run : {T : Type 0} (r : Result (UnifyState T) (ℕ × K)) (run : Unified) (heap : List T) (items : List (Item T)) (result : Result (Unit {0}) Stop)
+    → result ≡ gone_through run → IsRun r run heap items → IsOwnRun r result
+own-run r (said.Done taken) heap items result same is = rw same (is.0, is.1)
+own-run r (said.Refused at d) heap items result same is = rw same (at, is)
+own-run r said.Mem heap items result same is = rw same tt
+
+pub own-steps : (X : Type 0) (run : Unified) (result : Result (Unit {0}) Stop) → result ≡ gone_through run → UnlessRunMem run X → UnlessMem result X
+own-steps X (said.Done taken) result same x = rw same x
+own-steps X (said.Refused at d) result same x = rw same x
+own-steps X said.Mem result same x = rw same tt
 
 module _ (P : Profile) (tables : RowsBefore) (h : Heading) (st : State P.T) where
   pub no-last-item : (d : K) → last_item h.kind st.stack ≡ Err d → ends_with P tables h st ≡ Err d

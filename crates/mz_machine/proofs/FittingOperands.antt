@@ -1,5 +1,5 @@
--- Operands beside the parameters of their row, one after another.
-use Rattle.std.proofs.Common.{◌≡◌, ◌≤◌, ℕ, suc, Bool, true, false, List, [], ◌∷◌, length, take, drop, Some, Result, Ok, refl, ap, ◌∙◌, arith}
+-- Operands beside the parameters of their row, one after another, in any machine.
+use Rattle.std.proofs.Common.{◌≡◌, ◌≤◌, ℕ, suc, Bool, true, false, List, [], ◌∷◌, length, take, drop, Some, Result, Ok, refl, ap, ◌∙◌}
 use Rattle.std.specs.Prelude.{slice_get, ◌==◌, not, ◌||◌}
 use Rattle.mz_cmd.specs.declared.rule.K.{K}
 use Rattle.mz_cmd.specs.declared.rule.K.TheVariants as k
@@ -9,11 +9,6 @@ use Rattle.mz_logic.specs.Legality.{sort_of}
 use Rattle.mz_logic.specs.Words.{word_bound, word_sort, bound_places, binder_of, binders_of}
 use Rattle.mz_logic.specs.declared.binder.Binder.{Binder}
 use Rattle.mz_logic.specs.declared.word.Word.{Word}
-use Rattle.std.proofs.lemmas.List.{length-map}
-use Rattle.mz_store.specs.Sharing.{Sharing, tree_of}
-use Rattle.mz_store.specs.declared.item.Id.{Id}
-use Rattle.mz_unify.specs.Stored.{trees_at}
-use Rattle.mz_unify.proofs.Offered.{tree-at}
 use Rattle.mz_unification.specs.Steps.{◌>>◌, need}
 use Rattle.mz_unification.specs.Tests.{is_bound_var}
 use Rattle.mz_soundness.specs.Premises.{operands_fit}
@@ -29,23 +24,20 @@ module _ (sigs : List Signature) (ctx : List Binder) (e : Tree) (p : Binder) (es
   either false b r h = ap (λ (x : Result (Unit {0}) K). x >> operands_fit sigs ctx es ps) h
 
   -- what is found of the first decides, or leaves it to the others
-  pub fit-next : (r : Result (Unit {0}) K) → operands_fit sigs ctx (e ∷ []) (p ∷ []) ≡ r → operands_fit sigs ctx (e ∷ es) (p ∷ ps) ≡ (r >> operands_fit sigs ctx es ps)
+  fit-next : (r : Result (Unit {0}) K) → operands_fit sigs ctx (e ∷ []) (p ∷ []) ≡ r → operands_fit sigs ctx (e ∷ es) (p ∷ ps) ≡ (r >> operands_fit sigs ctx es ps)
   fit-next r h = either (sort_of sigs ctx e == p.sort) (not p.bound || is_bound_var ctx e) r h
 
 -- the j-th operand decides, or leaves it to those after it
-pub fit-step : (sigs : List Signature) (s : Sharing) (is : List Id) (ws : List Word) (j : ℕ) (i : Id) (w : Word) (r : Result (Unit {0}) K)
-    → slice_get is j ≡ Some i → slice_get ws j ≡ Some w
-    → ((p : Binder) → p.sort ≡ word_sort w → p.bound ≡ word_bound w → operands_fit sigs s.context (tree_of s i.0 ∷ []) (p ∷ []) ≡ r)
-    → operands_fit sigs s.context (drop j (trees_at s is)) (drop j (binders_of ws)) ≡ (r >> operands_fit sigs s.context (drop (suc j) (trees_at s is)) (drop (suc j) (binders_of ws)))
-fit-step sigs s is ws j i w r at wat h =
-    let es = next-at (trees_at s is) j (tree_of s i.0) (tree-at s is j i at) in
-    let ps = next-binder ws j w wat in
-    ap (λ xs. operands_fit sigs s.context xs (drop j (binders_of ws))) es
-    ∙ ap (λ qs. operands_fit sigs s.context (tree_of s i.0 ∷ drop (suc j) (trees_at s is)) qs) ps
-    ∙ fit-next sigs s.context (tree_of s i.0) (binder_of (bound_places 0 (take j ws)) w) (drop (suc j) (trees_at s is)) (drop (suc j) (binders_of ws)) r
+pub fit-step : (sigs : List Signature) (ctx : List Binder) (es : List Tree) (ws : List Word) (j : ℕ) (e : Tree) (w : Word) (r : Result (Unit {0}) K)
+    → slice_get es j ≡ Some e → slice_get ws j ≡ Some w
+    → ((p : Binder) → p.sort ≡ word_sort w → p.bound ≡ word_bound w → operands_fit sigs ctx (e ∷ []) (p ∷ []) ≡ r)
+    → operands_fit sigs ctx (drop j es) (drop j (binders_of ws)) ≡ (r >> operands_fit sigs ctx (drop (suc j) es) (drop (suc j) (binders_of ws)))
+fit-step sigs ctx es ws j e w r at wat h =
+    ap (λ xs. operands_fit sigs ctx xs (drop j (binders_of ws))) (next-at es j e at)
+    ∙ ap (λ qs. operands_fit sigs ctx (e ∷ drop (suc j) es) qs) (next-binder ws j w wat)
+    ∙ fit-next sigs ctx e (binder_of (bound_places 0 (take j ws)) w) (drop (suc j) es) (drop (suc j) (binders_of ws)) r
     (h (binder_of (bound_places 0 (take j ws)) w) refl refl)
 
 -- where none is left nothing fails
-pub fit-end : (sigs : List Signature) (s : Sharing) (is : List Id) (ps : List Binder) (j : ℕ) → length is ≤ j → operands_fit sigs s.context (drop j (trees_at s is)) ps ≡ Ok tt
-fit-end sigs s is ps j past =
-    ap (λ xs. operands_fit sigs s.context xs ps) (none-left (trees_at s is) j (omega (arith, length-map is (λ (i : Id). tree_of s i.0), past)))
+pub fit-end : (sigs : List Signature) (ctx : List Binder) (es : List Tree) (ps : List Binder) (j : ℕ) → length es ≤ j → operands_fit sigs ctx (drop j es) ps ≡ Ok tt
+fit-end sigs ctx es ps j past = ap (λ xs. operands_fit sigs ctx xs ps) (none-left es j past)

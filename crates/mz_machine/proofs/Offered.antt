@@ -4,8 +4,8 @@ pub use Rattle.mz_machine.proofs.CitationRows.{cites-few, cites-meeting, cites-n
 pub use Rattle.mz_machine.proofs.ConversionRows.{cong-other, cong-row, cong-variable, gives-stack, is-unfolding, next-side, no-sides, not-defined, not-taken, of-variable, refl-other, refl-row, same, sides_from, stopped-steps, unfold-refused, unfold-row, unfold-steps, unfold-stopped}
 pub use Rattle.mz_machine.proofs.Converting.{least, one-before, true-false}
 pub use Rattle.mz_machine.proofs.Dummies.{a-dummy, bound-more, context-longer, no-dummies}
-pub use Rattle.mz_machine.proofs.EndRows.{end-steps, is-ending, no-end-steps, no-last-item, not-ending, own-are, own-end, stopped-end}
-pub use Rattle.mz_machine.proofs.FittingOperands.{fit-next}
+pub use Rattle.mz_machine.proofs.EndRows.{end-steps, is-ending, no-end-steps, no-last-item, not-ending, own-are, own-end, own-run, own-steps, stopped-end}
+pub use Rattle.mz_machine.proofs.FittingOperands.{fit-end, fit-step}
 pub use Rattle.mz_machine.proofs.GapRows.{counts-as, gives-as}
 pub use Rattle.mz_machine.proofs.Machines.{same-three}
 pub use Rattle.mz_machine.proofs.Popping.{last-splits, no-last}

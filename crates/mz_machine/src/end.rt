@@ -22,7 +22,7 @@ use mz_cmd::{K, Steps};
 use mz_earlier::{BodyKind, Earlier, Spare, first_ids, own_arity, own_proofs, own_stream};
 use mz_logic::Word;
 use mz_store::{Id, Item, Store};
-use mz_unify::{Stop, Unified, UnifyMode, unify_in};
+use mz_unify::{Stop, UnifyMode, unify_in};
 use std::sync::ledger::Ledger;
 
 /// Ends the body of the next row of its kind: the stack is one item, for a theorem a proof and else
@@ -87,7 +87,7 @@ fn run_own<L: Ledger>(
     ensures most { steps.new ≤ steps.old + length stream.now }
 {
     let mode = mode_of(kind);
-    match unify_in(
+    unify_in(
         earlier,
         stream,
         mode,
@@ -97,11 +97,8 @@ fn run_own<L: Ledger>(
         &mut spare.hyps,
         store,
         steps,
-    ) {
-        Unified::Done { .. } => Ok(()),
-        Unified::Refused { rule, .. } => Err(Stop::Rule(rule)),
-        Unified::Mem => Err(Stop::Mem),
-    }
+    )
+    .through()
 }
 
 /// Where the own stream of a row of the kind runs, at its END.

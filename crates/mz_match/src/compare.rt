@@ -5,7 +5,7 @@ ghost use Rattle.mz_logic.specs.Tree.{Tree, Trees, listed, var};
 ghost use Rattle.mz_logic.specs.View.{tree};
 ghost use Rattle.mz_layout.specs.Tables.{term_count, term_row};
 ghost use Rattle.mz_unification.specs.Spells.{Marks, trees_of};
-ghost use Rattle.mz_match.specs.Streams.{step_at as step_lem};
+ghost use Rattle.mz_match.specs.Streams.{mark_from, step_at as step_lem};
 ghost use Rattle.mz_verdicts.specs.Trees.{SameBody, SameTree, SameTrees};
 ghost use Rattle.mz_verdicts.specs.Comparing.{all_none, all_compared, compared, dummy_compared, has_sort as sort_lem, is_taken as taken_lem, is_number as number_lem, makes_term as term_lem, paired};
 ghost use Rattle.mz_match.specs.Comparison.{Answers};
@@ -29,6 +29,18 @@ pub struct Sides<'a> {
     pub start: u32,
     pub places: Vec<Cursor>,
     pub params: u32,
+}
+
+impl<'a> Sides<'a> {
+    /// Where the stream makes the mark with this number, which is no parameter's.
+    fn place_of(&self, mark: u32) -> Option<Cursor>
+        requires stream { (m : Marks) × IsStream self.now m }
+        requires behind { self.now.params ≤ mark }
+        ensures { (n : ℕ) (place : Cursor) → mark_from self.now.mmb.now n self.now.start 0 (mark - self.now.params) ≡ Some place → result ≡ Some place }
+    {
+        let places = self.places.as_slice();
+        place_of_mark(self.mmb, self.start, places, mark - self.params)
+    }
 }
 
 /// Whether the body is the one that the stream says, up to the names of dummies: which of the
@@ -67,6 +79,7 @@ pub fn same_hyps(sides: &Sides, hyps: &Hyps) -> bool
 {
     let mut left = hyps.len();
     let mut at = sides.start;
+    // no hypothesis stands at `left` yet, so nothing is known of it
     let mut known = Cursor { at, dummies: 0 };
     'hyps: loop {
         let Some(next) = next_hyp(sides.mmb.file(), at) else {
@@ -86,7 +99,7 @@ pub fn same_hyps(sides: &Sides, hyps: &Hyps) -> bool
 }
 
 /// Where what the stream says from a place on is made: there, or where it makes the mark to which
-/// the place refers.
+/// the place refers. The clause holds of the place itself, too.
 fn made_at(sides: &Sides, at: u32) -> Cursor
     requires { (m : Marks) × (f : Tree) × (to : Cursor) × IsStream sides.now m × SaidAt sides.now m (record { at = at; dummies = 0 }) f to }
     ensures { (m : Marks) (f : Tree) (to : Cursor) → IsStream sides.now m → SaidAt sides.now m (record { at = at; dummies = 0 }) f to
@@ -102,12 +115,7 @@ fn made_at(sides: &Sides, at: u32) -> Cursor
     if step.value < sides.params {
         return here;
     }
-    let places = sides.places.as_slice();
-    let mark = step.value - sides.params;
-    let Some(place) = place_of_mark(sides.mmb, sides.start, places, mark) else {
-        return here;
-    };
-    place
+    sides.place_of(step.value).unwrap_or(here)
 }
 
 /// Whether the hypothesis before the i-th one is what the stream says from `made` on.
@@ -127,7 +135,8 @@ fn same_hyp(sides: &Sides, hyps: &Hyps, i: usize, known: Cursor, made: Cursor) -
     same_tree(sides, hyps.at(i - 1), made)
 }
 
-/// Whether the places are the same one, and the i-th hypothesis has the formula of the one before.
+/// Whether the places are the same one, and the i-th hypothesis has the formula of the one before. No
+/// clause says that it is told where it is so: that such hypotheses are compared once isn't proved.
 fn is_known(hyps: &Hyps, i: usize, known: Cursor, made: Cursor) -> bool
     requires { 0 < i }
     ensures { IsTrue result → (known ≡ made) × (slice_get (listed hyps.now) (i - 1) ≡ slice_get (listed hyps.now) i) }
@@ -190,8 +199,7 @@ fn same_mark(sides: &Sides, expr: &Expr, mark: u32, pairs: &mut [Option<u32>]) -
     if mark < sides.params {
         return is_variable(expr, mark);
     }
-    let places = sides.places.as_slice();
-    let Some(place) = place_of_mark(sides.mmb, sides.start, places, mark - sides.params) else {
+    let Some(place) = sides.place_of(mark) else {
         return false;
     };
     let Some(step) = step_at(sides.mmb.file(), place.at) else {

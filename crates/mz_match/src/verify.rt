@@ -83,7 +83,7 @@ pub(crate) fn judge<L: Ledger>(
     ensures steps { TicksBy standard bin.now steps.old steps.new result }
     ensures bound { steps.new ≤ steps.old + (length bin.now * length bin.now + length bin.now) }
 {
-    let declared = match read_spec(alloc, Hashing::seeded(seed.0), spec) {
+    let declared = match read_spec(alloc, Hashing::from(seed), spec) {
         SpecRead::Spec(declared) => declared,
         SpecRead::Refused(refusal) => return Verdict::Spec(refusal),
         SpecRead::Mem => return Verdict::Mem,

@@ -1,13 +1,13 @@
 -- Operands that are taken by what is noted of their parameters.
-use Rattle.std.proofs.Common.{◌≡◌, ◌∙◌, ◌⊎◌, ◌<◌, ◌≤◌, ◌+◌, ◌++◌, ℕ, zero, suc, List, [], ◌∷◌, length, Bool, true, false, Some, None, Option, get_or, slice_set, drop, drop-cons, add-one, ap, ap₂, sym, refl, subst, inl, inr, arith}
-use Rattle.std.specs.Prelude.{◌==◌, if◌then◌else◌, IfSome, option_map}
+use Rattle.std.proofs.Common.{◌≡◌, ◌∙◌, ◌⊎◌, ◌<◌, ◌≤◌, ◌+◌, ℕ, zero, suc, List, [], ◌∷◌, length, Bool, true, false, Some, None, Option, get_or, replicate, slice_set, drop, drop-cons, add-one, ap, ap₂, sym, refl, subst, inl, inr, arith}
+use Rattle.std.specs.Prelude.{◌==◌, if◌then◌else◌, option_map}
 use Rattle.std.proofs.lemmas.Bool.{cond-true, cond-false}
 use Rattle.std.proofs.lemmas.Bool.Decides.{eqb_tells}
 use Rattle.std.proofs.lemmas.List.{drop_all, get_or-set_same, get_or-set_other}
 use Rattle.mz_logic.specs.Tree.{Tree, Trees, app, none, more, operand, followed_by}
 use Rattle.mz_logic.specs.View.{tree, trees}
 use Rattle.mz_logic.specs.declared.expr.Expr.{Expr}
-use Rattle.mz_math.specs.Arrange.{AreApart, Differs, earlier_or, first_of, picked, picked_one}
+use Rattle.mz_math.specs.Arrange.{AreDistinct, Differs, earlier_or, first_of, picked, picked_one}
 use Rattle.mz_math.specs.Grammar.{operand_for, arranged}
 use Rattle.mz_math.proofs.TreeLists.{followed_by_push, followed_by_none}
 
@@ -16,10 +16,6 @@ none-some e = cc
 
 some-same : {A : Type 0} {x y : A} → Some x ≡ Some y → x ≡ y
 some-same e = cc
-
-pub some-weaker : {A : Type 0} (o : Option A) (P Q : A → Type 0) → ((x : A) → P x → Q x) → IfSome o P → IfSome o Q
-some-weaker None P Q f h = tt
-some-weaker (Some x) P Q f h = f x h
 
 -- ---- what is noted gives the operands in order
 
@@ -85,23 +81,22 @@ differs-from js o b is (x ∷ xs) from before firsts = (
   differs-from js o b is xs (from + 1) (omega (arith, before)) (λ i below. let e : from + suc i ≡ from + 1 + i = omega arith in firsts (suc i) (omega (arith, below)) ∙ ap (first_of js) e),
 )
 
-apart-from : (js : List ℕ) (os : List (Option ℕ)) (from : ℕ) → ((i : ℕ) → i < length os → get_or os i None ≡ first_of js (from + i)) → AreApart os
-apart-from js [] from firsts = tt
-apart-from js (o ∷ os) from firsts =
+distinct-from : (js : List ℕ) (os : List (Option ℕ)) (from : ℕ) → ((i : ℕ) → i < length os → get_or os i None ≡ first_of js (from + i)) → AreDistinct os
+distinct-from js [] from firsts = tt
+distinct-from js (o ∷ os) from firsts =
     let here : from + 0 ≡ from = omega arith in
     let rest : (i : ℕ) → i < length os → get_or os i None ≡ first_of js (from + 1 + i) = λ i below. (let e : from + suc i ≡ from + 1 + i = omega arith in firsts (suc i) (omega (arith, below)) ∙ ap (first_of js) e) in
-    (differs-from js o from (firsts 0 (omega arith) ∙ ap (first_of js) here) os (from + 1) (omega arith) rest, apart-from js os (from + 1) rest)
+    (differs-from js o from (firsts 0 (omega arith) ∙ ap (first_of js) here) os (from + 1) (omega arith) rest, distinct-from js os (from + 1) rest)
 
-pub apart-is : (js : List ℕ) (os : List (Option ℕ)) (many : ℕ) → length os ≡ many → ((i : ℕ) → i < many → get_or os i None ≡ first_of js i) → AreApart os
-apart-is js os many long firsts = apart-from js os 0 (within js os many long firsts)
+pub distinct-is : (js : List ℕ) (os : List (Option ℕ)) (many : ℕ) → length os ≡ many → ((i : ℕ) → i < many → get_or os i None ≡ first_of js i) → AreDistinct os
+distinct-is js os many long firsts = distinct-from js os 0 (within js os many long firsts)
 
 -- ---- notes
 
-pub nothing-more : (os : List (Option ℕ)) → ((i : ℕ) → get_or os i None ≡ None) → (i : ℕ) → get_or (os ++ None ∷ []) i None ≡ None
-nothing-more [] all zero = refl
-nothing-more [] all (suc i) = refl
-nothing-more (o ∷ os) all zero = all zero
-nothing-more (o ∷ os) all (suc i) = nothing-more os (λ j. all (suc j)) i
+pub get_or-alike : {A : Type 0} (n i : ℕ) (x : A) → get_or (replicate n x) i x ≡ x
+get_or-alike zero i x = refl
+get_or-alike (suc n) zero x = refl
+get_or-alike (suc n) (suc i) x = get_or-alike n i x
 
 module _ (os : List (Option ℕ)) (place at i : ℕ) where
   abbrev pub IsNotedAs : Option ℕ → Type 0
@@ -176,29 +171,29 @@ operand-other (y ∷ xs) (suc k) (suc j) x other = operand-other xs k j x (λ e.
 
 -- those behind are none that was taken
 picked-kept : (old new : Trees) (o : Option ℕ) (os : List (Option ℕ)) → Differs o os → ((k : ℕ) → (o ≡ Some k → ⊥) → operand new k ≡ operand old k) → picked new os ≡ picked old os
-picked-kept old new o [] apart kept = refl
-picked-kept old new o (x ∷ xs) (here, apart) kept = ap₂ more (one x here) (picked-kept old new o xs apart kept)
+picked-kept old new o [] distinct kept = refl
+picked-kept old new o (x ∷ xs) (here, distinct) kept = ap₂ more (one x here) (picked-kept old new o xs distinct kept)
   where
     one : (y : Option ℕ) → ((k : ℕ) → y ≡ Some k → o ≡ Some k → ⊥) → picked_one new y ≡ picked_one old y
     one None other = refl
     one (Some k) other = kept k (other k refl)
 
-apart-drop : (n : ℕ) (os : List (Option ℕ)) → AreApart os → AreApart (drop n os)
-apart-drop zero os apart = apart
-apart-drop (suc n) [] apart = tt
-apart-drop (suc n) (o ∷ os) apart = apart-drop n os apart.1
+distinct-drop : (n : ℕ) (os : List (Option ℕ)) → AreDistinct os → AreDistinct (drop n os)
+distinct-drop zero os distinct = distinct
+distinct-drop (suc n) [] distinct = tt
+distinct-drop (suc n) (o ∷ os) distinct = distinct-drop n os distinct.1
 
 -- with those before, the operands that are left to take are all
 abbrev pub PicksTo : Trees → List (Option ℕ) → ℕ → Trees → Trees → Type 0
 PicksTo first os i left before = followed_by before (picked left (drop i os)) ≡ picked first os
 
-pub picks-on : (first : Trees) (os : List (Option ℕ)) (i : ℕ) (o : Option ℕ) → i < length os → o ≡ get_or os i None → AreApart os → (old new before now : Trees) (t : Tree)
+pub picks-on : (first : Trees) (os : List (Option ℕ)) (i : ℕ) (o : Option ℕ) → i < length os → o ≡ get_or os i None → AreDistinct os → (old new before now : Trees) (t : Tree)
     → t ≡ picked_one old o → ((k : ℕ) → (o ≡ Some k → ⊥) → operand new k ≡ operand old k) → now ≡ followed_by before (more t none)
     → PicksTo first os i old before → PicksTo first os (i + 1) new now
-picks-on first os i o below item apart old new before now t is kept pushed so_far =
+picks-on first os i o below item distinct old new before now t is kept pushed so_far =
     let here : drop i os ≡ o ∷ drop (i + 1) os = drop-cons os i None below ∙ ap₂ ◌∷◌ (sym item) (ap (λ k. drop k os) (sym (add-one i))) in
     let rest = drop (i + 1) os in
-    let differs : Differs o rest = (subst AreApart here (apart-drop i os apart)).0 in
+    let differs : Differs o rest = (subst AreDistinct here (distinct-drop i os distinct)).0 in
     ap (λ es. followed_by es (picked new rest)) pushed ∙ followed_by_push before (picked new rest) t
     ∙ ap₂ (λ u es. followed_by before (more u es)) is (picked-kept old new o rest differs kept)
     ∙ ap (λ xs. followed_by before (picked old xs)) (sym here) ∙ so_far

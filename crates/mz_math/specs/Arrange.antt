@@ -27,6 +27,6 @@ abbrev pub Differs : Option ℕ → List (Option ℕ) → Type 0
 Differs o [] = ⊤
 Differs o (x ∷ xs) = ((k : ℕ) → x ≡ Some k → o ≡ Some k → ⊥) × Differs o xs
 
-abbrev pub AreApart : List (Option ℕ) → Type 0
-AreApart [] = ⊤
-AreApart (o ∷ os) = Differs o os × AreApart os
+abbrev pub AreDistinct : List (Option ℕ) → Type 0
+AreDistinct [] = ⊤
+AreDistinct (o ∷ os) = Differs o os × AreDistinct os

@@ -1,8 +1,8 @@
 // Operands in the order of their parameters, where a notation has them in another one.
-ghost use Rattle.std.specs.Prelude.{◌≡◌, ◌<◌, ◌==◌, ℕ, None, Some, IfOk, IfSome, get_or, if◌then◌else◌, length};
+ghost use Rattle.std.specs.Prelude.{◌≡◌, ◌<◌, ◌==◌, ℕ, None, Some, IfOk, get_or, if◌then◌else◌, length};
 ghost use Rattle.mz_logic.specs.Tree.{app, none, operand as operand_at};
 ghost use Rattle.mz_logic.specs.View.{tree, trees};
-ghost use Rattle.mz_math.specs.Arrange.{AreApart, earlier_or, first_of, picked, picked_one};
+ghost use Rattle.mz_math.specs.Arrange.{AreDistinct, earlier_or, first_of, picked, picked_one};
 ghost use Rattle.mz_math.specs.Grammar.{arranged as in_order};
 ghost use Rattle.mz_notation.specs.Notation.{places};
 
@@ -12,16 +12,21 @@ use std::alloc::{AllocError, Global};
 use std::mem;
 
 /// The operands of so many parameters, in their order. None is copied.
-pub fn arranged(alloc: Global, elements: &[Element], operands: Exprs, many: usize) -> Option<Exprs>
-    ensures { IfSome result (λ es. es ≡ in_order (places elements.now) operands 0 many) }
+///
+/// # Errors
+///
+/// Where there is no memory.
+pub fn arranged(
+    alloc: Global,
+    elements: &[Element],
+    operands: Exprs,
+    many: usize,
+) -> Result<Exprs, AllocError>
+    ensures { IfOk result (λ es. es ≡ in_order (places elements.now) operands 0 many) }
 {
-    match order_of(alloc, elements, many) {
-        Err(_) => None,
-        Ok(order) => {
-            let mut items = operands.into_vec();
-            picked_in_order(alloc, &mut items, &order)
-        }
-    }
+    let order = order_of(alloc, elements, many)?;
+    let mut items = operands.into_vec();
+    picked_in_order(alloc, &mut items, &order)
 }
 
 /// For each of so many parameters, which of the operands is the first one for it.
@@ -33,20 +38,8 @@ fn order_of(
     ensures many { IfOk result (λ order. length order.items ≡ many) }
     ensures firsts { IfOk result (λ order. (i : ℕ) → i < many → get_or order.items i None ≡ first_of (places elements.now) i) }
 {
-    let mut order = unordered(alloc, many)?;
+    let mut order: Vec<Option<usize>> = vec![in alloc; None; many]?;
     note_order(&mut order, elements);
-    Ok(order)
-}
-
-/// Nothing for each of so many parameters.
-fn unordered(alloc: Global, many: usize) -> Result<Vec<Option<usize>>, AllocError>
-    ensures many { IfOk result (λ order. length order.items ≡ many) }
-    ensures nothing { IfOk result (λ order. (i : ℕ) → get_or order.items i None ≡ None) }
-{
-    let mut order: Vec<Option<usize>> = Vec::new(alloc);
-    'places: while order.len() < many {
-        order.push(None)?;
-    }
     Ok(order)
 }
 
@@ -82,20 +75,20 @@ fn note_first(order: &mut [Option<usize>], place: usize, at: usize)
 }
 
 /// The operands at these places, each of which is told once at most.
-fn picked_in_order(alloc: Global, operands: &mut [Expr], order: &[Option<usize>]) -> Option<Exprs>
-    requires { AreApart order.now }
-    ensures { IfSome result (λ es. es ≡ picked (trees operands.old) order.now) }
+fn picked_in_order(
+    alloc: Global,
+    operands: &mut [Expr],
+    order: &[Option<usize>],
+) -> Result<Exprs, AllocError>
+    requires { AreDistinct order.now }
+    ensures { IfOk result (λ es. es ≡ picked (trees operands.old) order.now) }
 {
-    let Ok(mut all) = Exprs::with_capacity(alloc, order.len()) else {
-        return None;
-    };
+    let mut all = Exprs::with_capacity(alloc, order.len())?;
     for at in order {
         let operand = taken(alloc, operands, *at);
-        let Ok(()) = all.push(operand) else {
-            return None;
-        };
+        all.push(operand)?;
     }
-    Some(all)
+    Ok(all)
 }
 
 /// Takes the operand at a place, if there is one.

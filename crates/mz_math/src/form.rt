@@ -161,8 +161,10 @@ fn notated(alloc: Global, notation: &Notation, operands: Exprs) -> Option<Expr>
         }
     }
     let many = slots(elements);
-    let all = arranged(alloc, elements, operands, many)?;
-    Some(Expr::App(notation.term, all))
+    match arranged(alloc, elements, operands, many) {
+        Err(_) => None,
+        Ok(all) => Some(Expr::App(notation.term, all)),
+    }
 }
 
 /// How many parameters stand there, if they stand in their own order.

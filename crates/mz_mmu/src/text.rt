@@ -180,7 +180,7 @@ fn refused<'a>(stop: TextStop) -> TextRead<'a>
 
 /// Reads a text: its statements, or the first of its bytes, parentheses, forms and names that is
 /// wrong. The text has at most 4,294,967,295 bytes. Only in a draft may its proofs have gaps. Its names
-/// are hashed like this.
+/// are hashed by `hashing`.
 pub fn read_text<'a>(alloc: Global, hashing: Hashing, text: &'a [u8], mode: Mode) -> TextRead<'a>
     requires { length text.now < 2 ^ 32 }
     ensures { IsReading (gaps_of mode) text.now result }

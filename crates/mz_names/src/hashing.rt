@@ -2,8 +2,9 @@
 use std::hash::{BuildHasher, FoldHasher, Hasher};
 
 /// Makes the hashers of maps by names. Each begins with what a seed left, which the program draws by
-/// chance, so that a file can't be chosen for names that share their hash, which take long to be told
-/// apart. No answer depends on it.
+/// chance, so that who makes a file doesn't know which names share their hash, which take long to be
+/// told apart (`FoldHasher` isn't cryptographic; of an identifier no eight bytes are its multiplier,
+/// which would make it forget the seed). No answer depends on it.
 #[derive(Clone, Copy)]
 pub struct Hashing {
     initial: FoldHasher,

@@ -1,6 +1,6 @@
 -- The elements of a `notation` statement.
 use Rattle.std.proofs.Common.{◌≡◌, ◌≢◌, ◌<◌, ◌+◌, ◌-◌, suc, ◌++◌, ◌∙◌, ℕ, List, [], ◌∷◌, length, Some, Option, slice_get, get_or, ap, ap₂, sym, refl, subst, arith, drop, drop-cons, add-one, append_assoc, Contains, Result, Ok, Err}
-use Rattle.std.specs.Prelude.{slice_range}
+use Rattle.std.specs.Prelude.{slice_range, IsErrAnd}
 use Rattle.std.proofs.lemmas.Option.{slice_get_within, get_or_from_slice_get}
 use Rattle.mz_logic.specs.Signature.{Signature}
 use Rattle.mz_tokens.specs.declared.pieces.Delimiters.{Delimiters}
@@ -48,6 +48,10 @@ made-err P Q faults.Form back none = λ y q. none (back y q).0 (back y q).1
 made-err P Q faults.Mem back none = tt
 made-err P Q faults.Clash back none = none
 made-err P Q faults.CoercionClash back none = none
+
+pub made-mem : {A : Type 0} (r : Result A NoteFault) (P : A → Type 0) → IsErrAnd r (λ f. f ≡ NoteFault.Mem) → IsMade r P
+made-mem (Ok x) P h = absurd h
+made-mem {A} (Err f) P h = subst (λ (g : NoteFault). IsMade {A = A} (Err g) P) (sym h) tt
 
 pub made-map : {A : Type 0} (P Q : A → Type 0) (r : Result A NoteFault) → ((x : A) → P x → Q x) → ((x : A) → Q x → P x) → IsMade r P → IsMade r Q
 made-map P Q (Ok x) there back made = there x made

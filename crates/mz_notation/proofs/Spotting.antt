@@ -1,5 +1,5 @@
 -- Constants found by a place where they stand.
-use Rattle.std.proofs.Common.{◌≡◌, ◌<◌, ◌≤◌, ◌+◌, ◌++◌, eq-or-lt_of_le, arith, ◌∙◌, ℕ, List, [], ◌∷◌, length, get_or, true, false, Some, slice_get, ap, sym, subst, inl, inr, Contains}
+use Rattle.std.proofs.Common.{◌≡◌, ◌<◌, ◌≤◌, ◌+◌, ◌++◌, eq-or-lt_of_le, arith, ◌∙◌, ℕ, List, [], ◌∷◌, length, get_or, true, false, Option, Some, None, MatchOption, slice_get, ap, sym, subst, inl, inr, Contains}
 use Rattle.std.specs.Prelude.{bytes_eq, if◌then◌else◌}
 use Rattle.std.specs.Cmp.Lexicographic.{bytes_decides}
 use Rattle.std.proofs.lemmas.Bool.{cases_Bool, cond-true, cond-false}
@@ -17,6 +17,49 @@ fixed-word e = cc
 
 some-same : {A : Type 0} {x y : A} → Some x ≡ Some y → x ≡ y
 some-same e = cc
+
+none-some : {A : Type 0} {x : A} → None ≡ Some x → ⊥
+none-some e = cc
+
+-- ---- reading
+
+stands-somewhere : (ps : List (List ℕ × Spot)) (ks : List Notation) (w : List ℕ) (q : ℕ) → AreFound ps ks → HasConstant ks w q → (s : Spot) × (place_of ps w ≡ Some s) × StandsAt ks w s
+stands-somewhere ps ks w q are (k, in_ks, in_k) =
+    let (i, at) = at_of ks k in_ks in
+    let (j, there) = at_of k.elements (fixed w q) in_k in
+    are i j k w q at there
+
+pub none-found : (ps : List (List ℕ × Spot)) (ks : List Notation) (w : List ℕ) → AreFound ps ks → place_of ps w ≡ None → (q : ℕ) → HasConstant ks w q → ⊥
+none-found ps ks w are gone q has = let (s, found, stands) = stands-somewhere ps ks w q are has in none-some (sym gone ∙ found)
+
+module _ (ps : List (List ℕ × Spot)) (ks : List Notation) (w : List ℕ) (s : Spot) (are : AreFound ps ks) (found : place_of ps w ≡ Some s) where
+  stands-there : (q : ℕ) → HasConstant ks w q → StandsAt ks w s
+  stands-there q has = let (r, kept, stands) = stands-somewhere ps ks w q are has in subst (StandsAt ks w) (some-same (sym kept ∙ found)) stands
+
+  pub past-notations : length ks ≤ s.notation → (q : ℕ) → HasConstant ks w q → ⊥
+  past-notations past q has =
+      let (k, p, at, there) = stands-there q has in
+      let within : s.notation < length ks = slice_get_within ks s.notation k at in
+      absurd (omega (arith, within, past))
+
+  module _ (n : Notation) (here : slice_get ks s.notation ≡ Some n) where
+    stands-in : (q : ℕ) → HasConstant ks w q → (p : ℕ) × (slice_get n.elements s.element ≡ Some (fixed w p))
+    stands-in q has =
+        let (k, p, at, there) = stands-there q has in
+        (p, subst (λ (l : Notation). slice_get l.elements s.element ≡ Some (fixed w p)) (some-same (sym at ∙ here)) there)
+
+    pub past-elements : length n.elements ≤ s.element → (q : ℕ) → HasConstant ks w q → ⊥
+    past-elements past q has =
+        let (p, there) = stands-in q has in
+        let within : s.element < length n.elements = slice_get_within n.elements s.element (fixed w p) there in
+        absurd (omega (arith, within, past))
+
+    pub level-here : (e : Element) → slice_get n.elements s.element ≡ Some e → (o : Option ℕ) → MatchOption o ((q : ℕ) → e ≡ fixed w q → ⊥) (λ q. e ≡ fixed w q)
+        → MatchOption o ((q : ℕ) → HasConstant ks w q → ⊥) (λ q. HasConstant ks w q)
+    level-here e element None other = λ q has. let (p, there) = stands-in q has in other p (some-same (sym element ∙ there))
+    level-here e element (Some q) is = (n, contains_at ks n s.notation here, contains_at n.elements (fixed w q) s.element (element ∙ ap Some is))
+
+-- ---- one notation more
 
 stands-longer : (ks : List Notation) (k : Notation) (w : List ℕ) (s : Spot) → StandsAt ks w s → StandsAt (ks ++ k ∷ []) w s
 stands-longer ks k w s (l, q, at, there) = (l, q, place_first ks (k ∷ []) s.notation l at, there)

@@ -1,6 +1,6 @@
 -- Tables: what each statement keeps of them.
 use Rattle.std.proofs.Common.{◌≡◌, ◌≢◌, ◌⊎◌, ◌++◌, ◌∙◌, ℕ, zero, suc, List, [], ◌∷◌, length, Bool, true, false, Some, None, Option, slice_get, ap, ap₂, sym, refl, subst, inl, inr, arith, Contains, Result, Ok, Err}
-use Rattle.std.specs.Prelude.{codes, IsTrue, MatchBool, slice_range, ◌+◌, OnOk, OnErr, if◌then◌else◌}
+use Rattle.std.specs.Prelude.{codes, IsTrue, MatchBool, slice_range, ◌+◌, IsErrAnd, OnOk, OnErr, if◌then◌else◌}
 use Rattle.mz_names.specs.Identifiers.{is_name}
 use Rattle.mz_logic.specs.Signature.{Signature}
 use Rattle.mz_tokens.specs.Pieces.{piece_text, no_delimiters, AreDelimiters}
@@ -217,6 +217,10 @@ form-answer A t Makes faults.Form none = inl ((λ h. none h.0 h.1), refl)
 form-answer A t Makes faults.Mem none = tt
 form-answer A t Makes faults.Clash none = absurd none
 form-answer A t Makes faults.CoercionClash none = absurd none
+
+pub added-mem : {A : Type 0} (r : Result A NoteFault) (t next u : Table) → u ≡ t → IsErrAnd r (λ f. f ≡ NoteFault.Mem) → IsAdded r t next u
+added-mem (Ok x) t next u same h = absurd h
+added-mem {A} (Err f) t next u same h = subst (λ (g : NoteFault). IsAdded {A = A} (Err g) t next u) (sym h) same
 
 pub added-answer : {A : Type 0} (t : Table) (Makes : Notation → Type 0) (k : Notation) (u : Table) (r : Result A NoteFault) → Makes k → ((l : Notation) → Makes l → l ≡ k) → IsAdded r t (with_notation t k) u → IsAnswer r (notation_checks t Makes)
 added-answer t Makes k u (Ok x) makes one (clear, is) = ((k, makes), ((k, makes, clear), tt))

@@ -29,7 +29,7 @@ impl Element {
     {
         match self {
             Element::Fixed(constant, level) => {
-                note_level(alloc, levels, constant.as_slice(), *level)
+                note_level_of(alloc, levels, constant.as_slice(), *level)
             }
             Element::Slot(_) => Ok(true),
         }
@@ -46,7 +46,7 @@ impl Notation {
 }
 
 /// Notes the level of a constant that has none; whether it has had no other.
-fn note_level(
+fn note_level_of(
     alloc: Global,
     levels: &mut Places<u32>,
     word: &[u8],

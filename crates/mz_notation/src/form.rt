@@ -307,9 +307,7 @@ fn notation_of(
     ensures { IsMade result (IsNotationOf (general statement.entry) elements) }
 {
     let many = statement.params.binders().len();
-    let Ok(once) = each_once(alloc, many, elements.as_slice()) else {
-        return Err(NoteFault::Mem);
-    };
+    let once = each_once(alloc, many, elements.as_slice())?;
     if !once {
         return Err(NoteFault::Form);
     }

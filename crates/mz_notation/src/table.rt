@@ -44,17 +44,23 @@ pub enum NoteFault {
 }
 
 impl From<AllocError> for NoteFault {
-    fn from(_: AllocError) -> NoteFault
-        ensures { result ≡ NoteFault.Mem }
-    {
+    ghost use Rattle.std.specs.Prelude.{◌≡◌};
+    ghost use Rattle.mz_notation.specs.declared.table.NoteFault.TheVariants.{Mem};
+
+    ghost from_gives = { λ _ fault. fault ≡ Mem };
+
+    fn from(_: AllocError) -> NoteFault {
         NoteFault::Mem
     }
 }
 
 impl<T: Drop> From<AllocFailed<T>> for NoteFault {
-    fn from(_: AllocFailed<T>) -> NoteFault
-        ensures { result ≡ NoteFault.Mem }
-    {
+    ghost use Rattle.std.specs.Prelude.{◌≡◌};
+    ghost use Rattle.mz_notation.specs.declared.table.NoteFault.TheVariants.{Mem};
+
+    ghost from_gives = { λ _ fault. fault ≡ Mem };
+
+    fn from(_: AllocFailed<T>) -> NoteFault {
         NoteFault::Mem
     }
 }
@@ -308,15 +314,8 @@ impl Notations {
         requires plain { IsPlain notation }
         ensures { IsAdded result self.old (with_infix self.old notation) self.new }
     {
-        let Ok(stays_clear) = is_clear_with_infix(
-            self.alloc,
-            &self.leading,
-            &self.infixes,
-            &notation,
-        ) else {
-            return Err(NoteFault::Mem);
-        };
-        if !stays_clear {
+        let is_clear = is_clear_with_infix(self.alloc, &self.leading, &self.infixes, &notation)?;
+        if !is_clear {
             return Err(NoteFault::Clash);
         }
         let Ok(()) = self.infixes.push(self.alloc, notation) else {
@@ -330,14 +329,7 @@ impl Notations {
         requires plain { IsPlain notation }
         ensures { IsAdded result self.old (with_leading self.old notation) self.new }
     {
-        let Ok(is_clear) = is_clear_with_leading(
-            self.alloc,
-            &self.leading,
-            &self.infixes,
-            &notation,
-        ) else {
-            return Err(NoteFault::Mem);
-        };
+        let is_clear = is_clear_with_leading(self.alloc, &self.leading, &self.infixes, &notation)?;
         if !is_clear {
             return Err(NoteFault::Clash);
         }

@@ -4,7 +4,6 @@ mod Converting
 mod Unfoldings
 mod Citing
 mod NodeItems
-mod FittingOperands
 mod TermResults
 mod Ending
 mod Advancing

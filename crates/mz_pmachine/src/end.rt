@@ -26,7 +26,7 @@ use mz_machine::mode_of;
 use mz_nodes::Nodes;
 use mz_punify::unify_in;
 use mz_store::{Id, Item};
-use mz_unify::{Stop, Unified};
+use mz_unify::Stop;
 use std::sync::ledger::Ledger;
 
 /// Ends the body of the next row of its kind: the stack is one item, for a theorem a proof and else
@@ -90,7 +90,7 @@ fn run_own<L: Ledger>(
     ensures most { steps.new ≤ steps.old + length stream.now }
 {
     let mode = mode_of(kind);
-    match unify_in(
+    unify_in(
         earlier,
         stream,
         mode,
@@ -100,11 +100,8 @@ fn run_own<L: Ledger>(
         &mut spare.hyps,
         nodes,
         steps,
-    ) {
-        Unified::Done { .. } => Ok(()),
-        Unified::Refused { rule, .. } => Err(Stop::Rule(rule)),
-        Unified::Mem => Err(Stop::Mem),
-    }
+    )
+    .through()
 }
 
 /// The one item that is left: for a theorem a proof, else an expression.

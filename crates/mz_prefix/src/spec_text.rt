@@ -113,7 +113,7 @@ fn spec_within(alloc: Global, hashing: Hashing, text: &[u8], most: u128) -> Spec
     }
 }
 
-/// Makes a specification of a text of at most 4,294,967,295 bytes, whose names are hashed like this:
+/// Makes a specification of a text of at most 4,294,967,295 bytes, whose names are hashed by `hashing`:
 /// its public statements in prefix form, one a line, where the text is well typed; else its first
 /// fault, or what stands first against a specification. What it declares agrees with the text's
 /// public statements.

@@ -12,8 +12,8 @@ pub fn accepted_are_restated()
     bodies_make_proofs();
 }
 
-/// The text of a pair that is accepted, of which the binary is bytes, is well typed and within the compiler's limits, and
-/// says the binary's statements.
+/// The text of a pair that is accepted, of which the binary is bytes, is well typed and within the compiler's limits,
+/// and says the binary's statements.
 pub fn plain_texts_are_texts()
     ensures { PlainTextsAreTexts }
 {

@@ -101,6 +101,17 @@ module _ {X Y : Type 0} (F : List X → List Y) (g : X → List Y) (xs : List X)
   pub made-end : Joins → (made whole : List Y) → length xs ≤ i → made ++ F (drop i xs) ≡ whole → made ≡ whole
   made-end (joins, none) made whole past so_far = sym (append-nil made) ∙ ap (λ ys. made ++ ys) (sym (ap F (left-none xs i past) ∙ none)) ∙ so_far
 
+-- one more is made, of the element at hand
+module _ {X Y Z : Type 0} (f : X → Y) (h : Y → Z) (xs : List X) (i : ℕ) where
+  pub item-step : (x : X) → i < length xs → x ≡ get_or xs i x → (made new whole : List Z) (z : Z) → new ≡ made ++ z ∷ [] → z ≡ h (f x) → made ++ map h (map f (drop i xs)) ≡ whole
+      → new ++ map h (map f (drop (i + 1) xs)) ≡ whole
+  item-step x within is made new whole z pushed same so_far =
+      let rest = map h (map f (drop (i + 1) xs)) in
+      ap (λ zs. zs ++ rest) (pushed ∙ ap (λ y. made ++ y ∷ []) same) ∙ append_assoc made (h (f x) ∷ []) rest ∙ ap (λ ys. made ++ map h (map f ys)) (sym (left-at xs i x within is)) ∙ so_far
+
+  pub items-end : (made whole : List Z) → length xs ≤ i → made ++ map h (map f (drop i xs)) ≡ whole → made ≡ whole
+  items-end made whole past so_far = sym (append-nil made) ∙ ap (λ ys. made ++ map h (map f ys)) (sym (left-none xs i past)) ∙ so_far
+
 -- ---- a test on one
 
 module _ {X Y : Type 0} (f : X → Y) (p : Y → Bool) (b : Bool) (xs : List X) (i : ℕ) where

@@ -14,6 +14,7 @@ use Rattle.mz_grammar.specs.declared.kind.AssertKind.{AssertKind}
 use Rattle.mz_grammar.specs.Statement.{TypeText, Source, type_source, formula_source, NameText, Group, Head, Statement, sort_statement, term_statement, assert_statement, definition_statement, operator_statement, coercion_statement, delimiter_statement, notation_statement, Spells, Sign, keyword, symbol, name, name_or_blank, formula, number, only_if, IsSign, AreSigns, each, end_signs, modifier_signs, type_signs, takes_dummies, closing_of, dot_signs, name_signs, group_source_signs, group_signs, argument_signs, premise_signs, body_signs, literal_signs, tail_signs, statement_signs}
 use Rattle.mz_spec.specs.Code.{EndsSmall}
 use Rattle.mz_spec.specs.Kept.{AreOfText, IsSpelled, bytes_of}
+pub use Rattle.mz_variables.proofs.Offered.{every-join}
 use Rattle.mz_variables.specs.Dependencies.{Every}
 use Rattle.mz_variables.specs.View.{Variable, view, name_of, variable_of, source_variables, group_variables, variables_of, unnamed, types_of, group_stated, premise_stated, stated_of, source_stated, params_of, dummies_of}
 
@@ -22,10 +23,6 @@ use Rattle.mz_variables.specs.View.{Variable, view, name_of, variable_of, source
 pub every-front : {A : Type 0} → (P : A → Type 0) (xs ys : List A) → Every P (xs ++ ys) → Every P xs × Every P ys
 every-front P [] ys all = (tt, all)
 every-front P (x ∷ xs) ys (p, all) = let rest = every-front P xs ys all in ((p, rest.0), rest.1)
-
-pub every-join : {A : Type 0} → (P : A → Type 0) (xs ys : List A) → Every P xs → Every P ys → Every P (xs ++ ys)
-every-join P [] ys a b = b
-every-join P (x ∷ xs) ys (p, a) b = (p, every-join P xs ys a b)
 
 -- ---- signs
 

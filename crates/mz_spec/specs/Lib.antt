@@ -10,4 +10,5 @@ pub mod Entries
 pub mod Reading
 pub mod Answers
 pub mod Noting
+pub mod Found
 pub mod Laws

@@ -10,7 +10,7 @@ ghost use Rattle.mz_logic.specs.View.{tree};
 ghost use Rattle.mz_notation.specs.Kept.{AreVariables};
 ghost use Rattle.mz_tokens.specs.declared.pieces.Piece.{Piece};
 ghost use Rattle.mz_spec.specs.Answers.{JudgesOrMem, JudgesStatement};
-ghost use Rattle.mz_variables.specs.Code.{AreParts, all_of, variable};
+ghost use Rattle.mz_variables.specs.Code.{AreGrouped, AreParts, all_of, variable};
 ghost use Rattle.mz_spec.specs.Code.{EndsSmall, stated as stated_lem};
 ghost use Rattle.mz_spec.specs.Declaring.{After, Declares, IsForm, is_axiom, sort_bits};
 ghost use Rattle.mz_spec.specs.Entries.{state};
@@ -128,6 +128,7 @@ impl<'a> State<'a> {
     ) -> Result<(), Halt>
         requires kept { IsKept (state self.now) }
         requires index { MatchOption index.now ⊤ (IsIndexOf (map variable parts.now.params.items)) }
+        requires grouped { AreGrouped parts.now.params.items }
         ensures { (vs : List VariableLem) (types results : List TypeLem) → AreParts parts.now vs types results → JudgesOrMem result (parts_rules (state self.now) place vs types results) }
     {
         self.check_variables(alloc, &parts.variables, &parts.types)?;
@@ -345,6 +346,8 @@ impl<'a> State<'a> {
         requires index { MatchOption index.now ⊤ (IsIndexOf (map variable parts.now.params.items)) }
         requires room { length parts.now.params.items + length parts.now.dummies.items < 2 ^ 32 }
         requires names { AreVariables (map variable_bytes (map variable parts.now.params.items) ++ map variable_bytes (map variable parts.now.dummies.items)) }
+        requires grouped_params { AreGrouped parts.now.params.items }
+        requires grouped_dummies { AreGrouped parts.now.dummies.items }
         requires small { Every (λ f. EndsSmall (math_of f)) (view (assertion_lem assertion.now)).formulas }
         ensures judged { AreParts parts.now (view (assertion_lem assertion.now)).variables (view (assertion_lem assertion.now)).types []
             → (tokens : List (List Piece)) → AreTokens (state self.now) (view (assertion_lem assertion.now)).formulas tokens

@@ -5,7 +5,7 @@ ghost use Rattle.mz_grammar.specs.Statement.{TypeText};
 ghost use Rattle.mz_grammar.specs.Code.{coercion as coercion_lem, delimiter as delimiter_lem, lexeme, level as level_lem, literal as literal_lem, notation as notation_lem, operator as operator_lem, tail as tail_lem, type_text};
 ghost use Rattle.mz_notation.specs.Forms.{IsAnswer, notation_checks};
 ghost use Rattle.mz_spec.specs.Answers.{JudgesOrMem, JudgesStatement};
-ghost use Rattle.mz_variables.specs.Code.{AreParts, variable};
+ghost use Rattle.mz_variables.specs.Code.{AreGrouped, AreParts, variable};
 ghost use Rattle.mz_spec.specs.Declaring.{After};
 ghost use Rattle.mz_spec.specs.Entries.{state};
 ghost use Rattle.mz_spec.specs.Formulas.{inner as inner_lem};
@@ -140,6 +140,7 @@ impl<'a> State<'a> {
     ) -> Result<(), Halt>
         requires kept { IsKept (state self.now) }
         requires index { MatchOption index.now ⊤ (IsIndexOf (map variable parts.now.params.items)) }
+        requires grouped { AreGrouped parts.now.params.items }
         ensures { (vs : List VariableLem) (types results : List TypeText) → AreParts parts.now vs types results
             → JudgesOrMem result (noting_rules (state self.now) place (lexeme name.entry) vs types results) }
     {

@@ -24,7 +24,7 @@ pub enum SpecRead {
     Mem,
 }
 
-/// Reads a specification, whose names are hashed like this.
+/// Reads a specification, whose names are hashed by `hashing`.
 pub fn read_spec(alloc: Global, hashing: Hashing, text: &[u8]) -> SpecRead
     requires { length text.now < 2 ^ 32 }
     ensures { IsAnswer text.now result }

@@ -1,15 +1,15 @@
 // The rules of a statement on its names and binders.
-ghost use Rattle.std.specs.Prelude.{◌≡◌, ◌↔◌, ◌⊎◌, ◌≤◌, ⊤, [], IfOk, IsTrue, List, MatchOption, length, map, option_map, take};
+ghost use Rattle.std.specs.Prelude.{◌≡◌, ◌↔◌, ◌⊎◌, ◌≤◌, ⊤, ℕ, [], IfOk, IsTrue, List, MatchOption, Some, length, map, option_map, take};
 ghost use Rattle.mz_checks.specs.Checks.{Judges, each_in_order};
 ghost use Rattle.mz_logic.specs.Modifiers.{IsPure, IsStrict, IsFree};
 ghost use Rattle.mz_grammar.specs.Code.{lexeme, type_text};
 ghost use Rattle.mz_spec.specs.Answers.{JudgesOrMem};
-ghost use Rattle.mz_variables.specs.Code.{AreParts, all_of, variable as variable_lem};
+ghost use Rattle.mz_variables.specs.Code.{AreGrouped, AreParts, all_of, variable as variable_lem};
 ghost use Rattle.mz_spec.specs.Entries.{state};
 ghost use Rattle.mz_variables.specs.Index.{IsIndexOf};
 ghost use Rattle.mz_spec.specs.Kept.{IsKept};
 ghost use Rattle.mz_spec.specs.Rules.{AreBinders, DependsOnNothing, HasSortThat, HaveBinders, IsBinder, IsDummySort, IsNotPure, IsResult, are_others, binder_rules, is_known, mods_of as mods_of_lem, new_name, type_checks};
-ghost use Rattle.mz_variables.specs.Dependencies.{Every};
+ghost use Rattle.mz_variables.specs.Dependencies.{Every, IsBoundAmong};
 ghost use Rattle.mz_variables.specs.View.{Variable as VariableLem, names_of};
 ghost use Rattle.mz_grammar.specs.Statement.{TypeText as TypeLem};
 
@@ -161,35 +161,41 @@ impl<'a> State<'a> {
         }
     }
 
-    /// Whether the parameter at this place stands right behind those before it.
+    /// Whether the parameter at this place stands right behind those before it, the last of which is of
+    /// this group.
     fn is_binder(
         &self,
         index: &Option<NameIndex<'a>>,
         params: &[Variable<'_, 'a>],
         place: usize,
         variable: &Variable<'_, 'a>,
+        last: Option<usize>,
     ) -> bool
         requires kept { IsKept (state self.now) }
         requires index { MatchOption index.now ⊤ (IsIndexOf (map variable_lem params.now)) }
         requires place { place ≤ length params.now }
+        requires last { (g : ℕ) → variable.now.group ≡ Some g → last ≡ Some g → Every (IsBoundAmong (map variable_lem (take place params.now))) (type_text variable.now.ty.now).deps }
         ensures { IsTrue result ↔ IsBinder (state self.now) (map variable_lem (take place params.now)) (variable_lem variable.now) }
     {
         if variable.is_bound && (!variable.ty.deps.is_empty() || self.is_strict(variable.ty)) {
             return false;
         }
-        are_bound_before(index, params, place, &variable.ty.deps)
+        depends_on_those_before(index, params, place, variable, last)
     }
 
     /// Whether each parameter stands right behind those before it.
     fn are_binders(&self, index: &Option<NameIndex<'a>>, params: &[Variable<'_, 'a>]) -> bool
         requires kept { IsKept (state self.now) }
         requires index { MatchOption index.now ⊤ (IsIndexOf (map variable_lem params.now)) }
+        requires grouped { AreGrouped params.now }
         ensures { IsTrue result ↔ AreBinders (state self.now) [] (map variable_lem params.now) }
     {
+        let mut last = None;
         for (i, variable) in params.iter().enumerate() {
-            if !self.is_binder(index, params, i, variable) {
+            if !self.is_binder(index, params, i, variable, last) {
                 return false;
             }
+            last = variable.group;
         }
         true
     }
@@ -222,6 +228,7 @@ impl<'a> State<'a> {
     fn have_binders(&self, index: &Option<NameIndex<'a>>, parts: &Parts<'_, 'a>) -> bool
         requires kept { IsKept (state self.now) }
         requires index { MatchOption index.now ⊤ (IsIndexOf (map variable_lem parts.now.params.items)) }
+        requires grouped { AreGrouped parts.now.params.items }
         ensures { (vs : List VariableLem) (types results : List TypeLem) → AreParts parts.now vs types results → IsTrue result ↔ HaveBinders (state self.now) vs results }
     {
         self.are_binders(index, &parts.params)
@@ -238,6 +245,7 @@ impl<'a> State<'a> {
     ) -> Result<(), Halt>
         requires kept { IsKept (state self.now) }
         requires index { MatchOption index.now ⊤ (IsIndexOf (map variable_lem parts.now.params.items)) }
+        requires grouped { AreGrouped parts.now.params.items }
         ensures { (vs : List VariableLem) (types results : List TypeLem) → AreParts parts.now vs types results → JudgesOrMem result (binder_rules (state self.now) place vs results) }
     {
         if !self.have_binders(index, parts) {
@@ -260,6 +268,26 @@ impl<'a> State<'a> {
         }
         Ok(())
     }
+}
+
+/// Whether the variable depends on bound ones before this place alone, where the last of those before it
+/// does, and is of this group. Within a group that is looked up once.
+fn depends_on_those_before<'a>(
+    index: &Option<NameIndex<'a>>,
+    params: &[Variable<'_, 'a>],
+    place: usize,
+    variable: &Variable<'_, 'a>,
+    last: Option<usize>,
+) -> bool
+    requires index { MatchOption index.now ⊤ (IsIndexOf (map variable_lem params.now)) }
+    requires place { place ≤ length params.now }
+    requires last { (g : ℕ) → variable.now.group ≡ Some g → last ≡ Some g → Every (IsBoundAmong (map variable_lem (take place params.now))) (type_text variable.now.ty.now).deps }
+    ensures { IsTrue result ↔ Every (IsBoundAmong (map variable_lem (take place params.now))) (type_text variable.now.ty.now).deps }
+{
+    if variable.is_of(last) {
+        return true;
+    }
+    are_bound_before(index, params, place, &variable.ty.deps)
 }
 
 /// Whether none of the variables has dependencies.

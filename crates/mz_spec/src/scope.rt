@@ -1,10 +1,12 @@
 // The variables of a statement over what is declared.
-ghost use Rattle.std.specs.Prelude.{◌≡◌, ◌+◌, ◌<◌, ◌^◌, ◌++◌, ⊤, List, IfOk, MatchOption, OnOk, length, map, option_map};
+ghost use Rattle.std.specs.Prelude.{◌≡◌, ◌+◌, ◌<◌, ◌^◌, ◌++◌, ⊤, ℕ, List, Option, IfOk, MatchOption, OnOk, length, map, option_map};
 ghost use Rattle.mz_grammar.specs.Code.{lexeme, type_text};
 ghost use Rattle.mz_grammar.specs.Statement.{TypeText as TypeLem};
 ghost use Rattle.mz_notation.specs.Kept.{AreVariables};
-ghost use Rattle.mz_variables.specs.Code.{AreParts, variable as variable_lem};
+ghost use Rattle.mz_variables.specs.Code.{AreGrouped, AreParts, IsOfTypes, typed, variable as variable_lem};
+ghost use Rattle.mz_variables.specs.Dependencies.{dep_places};
 ghost use Rattle.mz_spec.specs.Entries.{state};
+ghost use Rattle.mz_spec.specs.Found.{IsFound};
 ghost use Rattle.mz_variables.specs.Index.{IsIndexOf};
 ghost use Rattle.mz_spec.specs.Kept.{IsKept};
 ghost use Rattle.mz_spec.specs.State.{binder_of as binder_of_lem, bytes_of as bytes_of_lem, result_of, scope_of as scope_of_lem, sort_number as sort_number_lem, term_number as term_number_lem, variable_bytes};
@@ -12,7 +14,7 @@ ghost use Rattle.mz_variables.specs.View.{Variable as VariableLem, alone};
 
 use crate::state::State;
 use mz_grammar::{Lexeme, TypeText};
-use mz_logic::{Binder, Binders, ResultType};
+use mz_logic::{Binder, Binders, Deps, ResultType};
 use mz_math::Scope;
 use mz_variables::{NameIndex, Parts, Variable, places_among};
 use std::alloc::{AllocError, Global};
@@ -40,23 +42,28 @@ impl<'a> State<'a> {
         }
     }
 
-    /// The binder of a variable, over these parameters.
+    /// The binder of a variable, over these parameters, with what was found for the variable before it.
     fn binder_of(
         &self,
         alloc: Global,
         index: &Option<NameIndex<'a>>,
         params: &[Variable<'_, 'a>],
         variable: &Variable<'_, 'a>,
+        found: &mut Found,
     ) -> Result<Binder, AllocError>
         requires few { length (state self.now).sort_names < 2 ^ 32 }
         requires index { MatchOption index.now ⊤ (IsIndexOf (map variable_lem params.now)) }
         requires small { length params.now < 2 ^ 32 }
-        ensures { IfOk result (λ binder. binder ≡ binder_of_lem (state self.now) (map variable_lem params.now) (variable_lem variable.now)) }
+        ensures binder { IfOk result (λ binder. (types : ℕ → Option TypeLem) → IsOfTypes types (typed variable.now) → IsFound types (map variable_lem params.now) found.old
+            → binder ≡ binder_of_lem (state self.now) (map variable_lem params.now) (variable_lem variable.now)) }
+        ensures found { OnOk result ((types : ℕ → Option TypeLem) → IsOfTypes types (typed variable.now) → IsFound types (map variable_lem params.now) found.old → IsFound types (map variable_lem params.now) found.new) }
     {
+        let deps = deps_of(alloc, index, params, variable, found)?;
+        let sort = self.sort_number(variable.ty.sort);
         Ok(Binder {
-            sort: self.sort_number(variable.ty.sort),
+            sort,
             bound: variable.is_bound,
-            deps: places_among(alloc, index, params, &variable.ty.deps)?,
+            deps,
         })
     }
 
@@ -71,11 +78,14 @@ impl<'a> State<'a> {
         requires few { length (state self.now).sort_names < 2 ^ 32 }
         requires index { MatchOption index.now ⊤ (IsIndexOf (map variable_lem params.now)) }
         requires small { length params.now < 2 ^ 32 }
+        requires grouped { AreGrouped variables.now }
         ensures { IfOk result (λ binders. binders ≡ map (binder_of_lem (state self.now) (map variable_lem params.now)) (map variable_lem variables.now)) }
     {
+        let mut found = Found::new();
         let mut binders = Vec::with_capacity(alloc, variables.len())?;
         for variable in variables {
-            binders.push(self.binder_of(alloc, index, params, variable)?)?;
+            let binder = self.binder_of(alloc, index, params, variable, &mut found)?;
+            binders.push(binder)?;
         }
         Ok(Binders::from_vec(binders))
     }
@@ -113,11 +123,13 @@ impl<'a> State<'a> {
         requires small { length params.now < 2 ^ 32 }
         requires room { length scope.old.names + length variables.now < 2 ^ 32 }
         requires names { AreVariables (scope.old.names ++ map variable_bytes (map variable_lem variables.now)) }
+        requires grouped { AreGrouped variables.now }
         ensures names { OnOk result (scope.new.names ≡ scope.old.names ++ map variable_bytes (map variable_lem variables.now)) }
         ensures binders { OnOk result (scope.new.binders ≡ scope.old.binders ++ map (binder_of_lem (state self.now) (map variable_lem params.now)) (map variable_lem variables.now)) }
     {
+        let mut found = Found::new();
         for variable in variables {
-            let binder = self.binder_of(alloc, index, params, variable)?;
+            let binder = self.binder_of(alloc, index, params, variable, &mut found)?;
             scope.push(bytes_of(variable.name), binder)?;
         }
         Ok(())
@@ -134,6 +146,8 @@ impl<'a> State<'a> {
         requires few { length (state self.now).sort_names < 2 ^ 32 }
         requires room { length parts.now.params.items + length parts.now.dummies.items < 2 ^ 32 }
         requires names { AreVariables (map variable_bytes (map variable_lem parts.now.params.items) ++ map variable_bytes (map variable_lem parts.now.dummies.items)) }
+        requires grouped_params { AreGrouped parts.now.params.items }
+        requires grouped_dummies { AreGrouped parts.now.dummies.items }
         ensures { IfOk result (λ scope. (vs : List VariableLem) (types results : List TypeLem) → AreParts parts.now vs types results → scope ≡ scope_of_lem (state self.now) vs) }
     {
         let mut scope = Scope::new(alloc);
@@ -141,6 +155,51 @@ impl<'a> State<'a> {
         self.push_variables(alloc, index, &mut scope, &parts.params, &parts.dummies)?;
         Ok(scope)
     }
+}
+
+/// On what the variables of a group depend: they share it.
+#[derive(Drop)]
+struct Found {
+    group: Option<usize>,
+    deps: Deps,
+}
+
+impl Found {
+    fn new() -> Found
+        ensures { (types : ℕ → Option TypeLem) (ps : List VariableLem) → IsFound types ps result }
+    {
+        Found {
+            group: None,
+            deps: Deps::new(),
+        }
+    }
+}
+
+/// The places of the parameters on which a variable depends. Where it is of the group for which they were
+/// found last, they are those.
+fn deps_of<'a>(
+    alloc: Global,
+    index: &Option<NameIndex<'a>>,
+    params: &[Variable<'_, 'a>],
+    variable: &Variable<'_, 'a>,
+    found: &mut Found,
+) -> Result<Deps, AllocError>
+    requires index { MatchOption index.now ⊤ (IsIndexOf (map variable_lem params.now)) }
+    requires small { length params.now < 2 ^ 32 }
+    ensures deps { IfOk result (λ deps. (types : ℕ → Option TypeLem) → IsOfTypes types (typed variable.now) → IsFound types (map variable_lem params.now) found.old
+        → deps ≡ dep_places 0 (map variable_lem params.now) (type_text variable.now.ty.now).deps) }
+    ensures found { OnOk result ((types : ℕ → Option TypeLem) → IsOfTypes types (typed variable.now) → IsFound types (map variable_lem params.now) found.old → IsFound types (map variable_lem params.now) found.new) }
+{
+    if variable.is_of(found.group) {
+        return found.deps.share();
+    }
+    let deps = places_among(alloc, index, params, &variable.ty.deps)?;
+    let shared = deps.share()?;
+    *found = Found {
+        group: variable.group,
+        deps: shared,
+    };
+    Ok(deps)
 }
 
 /// The bytes of a name, none where there is none.

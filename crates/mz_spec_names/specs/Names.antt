@@ -1,4 +1,5 @@
--- The name of a declaration, as the specification's text has it (mm0.md: sorts, terms and assertions are declared by name and known by it from then on).
+-- The name of a declaration, as the specification's text has it (mm0.md: sorts, terms and assertions are declared by
+-- name and known by it from then on).
 use Rattle.std.specs.Prelude.{ℕ, List, [], slice_get, slice_range, Option, Some, None}
 use Rattle.mz_spec.specs.State.{Entry}
 

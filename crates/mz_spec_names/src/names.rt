@@ -4,8 +4,7 @@ ghost use Rattle.mz_spec.specs.State.{Entry};
 ghost use Rattle.mz_spec.specs.Spec.{SpecMakes};
 ghost use Rattle.mz_spec_names.specs.Names.{name_at};
 
-use mz_names::Hashing;
-use mz_spec::{Spec, SpecRead, read_spec};
+use mz_spec::{Hashing, Spec, SpecRead, read_spec};
 use std::alloc::{AllocError, Global};
 
 /// The declarations of a text that is known to be a specification, with the places of their names.

@@ -5,7 +5,7 @@ ghost use Rattle.mz_statements.specs.Statements.{kind_of_word};
 use mz_forms::is;
 
 /// The literal words with which statements begin.
-#[derive(Clone, Copy, Debug, PartialEq, Eq)]
+#[derive(Clone, Copy)]
 pub enum Kind {
     /// `sort`
     Sort,

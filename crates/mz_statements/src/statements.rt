@@ -120,8 +120,8 @@ fn sort<'a>(
     })
 }
 
-/// The same, with room for the names of its variables.
-fn term_in<'a>(
+/// What is left of `(term N (binder ..) (s (dep ..)))`.
+fn term<'a>(
     reader: &Reader<'_, 'a>,
     names: &Names<'a>,
     vars: &mut Space<'a>,
@@ -154,30 +154,8 @@ fn term_in<'a>(
     })
 }
 
-/// What is left of `(term N (binder ..) (s (dep ..)))`.
-fn term<'a>(
-    reader: &Reader<'_, 'a>,
-    names: &Names<'a>,
-    n: u32,
-    rest: Option<u32>,
-) -> Result<Declared<'a>, Stop>
-    requires within { n < node_count reader.now.nodes.now }
-    requires there { IsThere reader.now.nodes.now rest }
-    requires few { nodes_size (nodes_from reader.now.nodes.now rest) < 2 ^ 32 }
-    ensures read { IfOk result (λ d. (mark : Bool) → IsDeclared (names_view names.now) term_kind (nodes_from reader.now.nodes.now rest) (stated mark d)) }
-    ensures stops { IfErr result (λ stop. Stops stop (declared_asked term_kind (place (node_at reader.now.nodes.now n)) (names_view names.now) (nodes_from reader.now.nodes.now rest))) }
-{
-    term_in(
-        reader,
-        names,
-        &mut Space::new(reader.alloc, names.hashing),
-        n,
-        rest,
-    )
-}
-
-/// The same, with room for the names of its variables.
-fn axiom_in<'a>(
+/// What is left of `(axiom N (binder ..) (expr ..) expr)`.
+fn axiom<'a>(
     reader: &Reader<'_, 'a>,
     names: &Names<'a>,
     vars: &mut Space<'a>,
@@ -213,30 +191,8 @@ fn axiom_in<'a>(
     })
 }
 
-/// What is left of `(axiom N (binder ..) (expr ..) expr)`.
-fn axiom<'a>(
-    reader: &Reader<'_, 'a>,
-    names: &Names<'a>,
-    n: u32,
-    rest: Option<u32>,
-) -> Result<Declared<'a>, Stop>
-    requires within { n < node_count reader.now.nodes.now }
-    requires there { IsThere reader.now.nodes.now rest }
-    requires few { nodes_size (nodes_from reader.now.nodes.now rest) < 2 ^ 32 }
-    ensures read { IfOk result (λ d. (mark : Bool) → IsDeclared (names_view names.now) axiom_kind (nodes_from reader.now.nodes.now rest) (stated mark d)) }
-    ensures stops { IfErr result (λ stop. Stops stop (declared_asked axiom_kind (place (node_at reader.now.nodes.now n)) (names_view names.now) (nodes_from reader.now.nodes.now rest))) }
-{
-    axiom_in(
-        reader,
-        names,
-        &mut Space::new(reader.alloc, names.hashing),
-        n,
-        rest,
-    )
-}
-
-/// The same, with room for the names of its variables.
-fn def_in<'a>(
+/// What is left of `(def N (binder ..) (s (dep ..)) (dummy ..) expr)`.
+fn def<'a>(
     reader: &Reader<'_, 'a>,
     names: &Names<'a>,
     vars: &mut Space<'a>,
@@ -269,28 +225,6 @@ fn def_in<'a>(
         dummies: Binders::new(reader.alloc),
         proof: None,
     })
-}
-
-/// What is left of `(def N (binder ..) (s (dep ..)) (dummy ..) expr)`.
-fn def<'a>(
-    reader: &Reader<'_, 'a>,
-    names: &Names<'a>,
-    n: u32,
-    rest: Option<u32>,
-) -> Result<Declared<'a>, Stop>
-    requires within { n < node_count reader.now.nodes.now }
-    requires there { IsThere reader.now.nodes.now rest }
-    requires few { nodes_size (nodes_from reader.now.nodes.now rest) < 2 ^ 32 }
-    ensures read { IfOk result (λ d. (mark : Bool) → IsDeclared (names_view names.now) def_kind (nodes_from reader.now.nodes.now rest) (stated mark d)) }
-    ensures stops { IfErr result (λ stop. Stops stop (declared_asked def_kind (place (node_at reader.now.nodes.now n)) (names_view names.now) (nodes_from reader.now.nodes.now rest))) }
-{
-    def_in(
-        reader,
-        names,
-        &mut Space::new(reader.alloc, names.hashing),
-        n,
-        rest,
-    )
 }
 
 /// The hypotheses of a theorem that sees these variables.
@@ -341,8 +275,8 @@ fn proof_over<'a>(
     reader.boxed_proof(&Scope { names, vars }, labels, &mut lets, n)
 }
 
-/// The same, with room for the names of its variables and of its hypotheses.
-fn theorem_in<'a>(
+/// What is left of `(theorem N (binder ..) ((h expr) ..) expr (dummy ..) proof)`.
+fn theorem<'a>(
     reader: &Reader<'_, 'a>,
     names: &Names<'a>,
     vars: &mut Space<'a>,
@@ -381,32 +315,18 @@ fn theorem_in<'a>(
     })
 }
 
-/// What is left of `(theorem N (binder ..) ((h expr) ..) expr (dummy ..) proof)`.
-fn theorem<'a>(
-    reader: &Reader<'_, 'a>,
-    names: &Names<'a>,
-    n: u32,
-    rest: Option<u32>,
-) -> Result<Declared<'a>, Stop>
-    requires within { n < node_count reader.now.nodes.now }
-    requires there { IsThere reader.now.nodes.now rest }
-    requires few { nodes_size (nodes_from reader.now.nodes.now rest) < 2 ^ 32 }
-    ensures read { IfOk result (λ d. (mark : Bool) → IsDeclared (names_view names.now) theorem_kind (nodes_from reader.now.nodes.now rest) (stated mark d)) }
-    ensures stops { IfErr result (λ stop. Stops stop (declared_asked theorem_kind (place (node_at reader.now.nodes.now n)) (names_view names.now) (nodes_from reader.now.nodes.now rest))) }
-{
-    let mut vars = Space::new(reader.alloc, names.hashing);
-    let mut labels = Space::new(reader.alloc, names.hashing);
-    theorem_in(reader, names, &mut vars, &mut labels, n, rest)
-}
-
 /// What is left of a statement of this kind.
 fn of_kind<'a>(
     reader: &Reader<'_, 'a>,
     names: &Names<'a>,
+    vars: &mut Space<'a>,
+    labels: &mut Space<'a>,
     kind: Kind,
     n: u32,
     rest: Option<u32>,
 ) -> Result<Declared<'a>, Stop>
+    requires no_variables { vars.old ≡ [] }
+    requires no_labels { labels.old ≡ [] }
     requires within { n < node_count reader.now.nodes.now }
     requires there { IsThere reader.now.nodes.now rest }
     requires few { nodes_size (nodes_from reader.now.nodes.now rest) < 2 ^ 32 }
@@ -415,10 +335,10 @@ fn of_kind<'a>(
 {
     match kind {
         Kind::Sort => sort(reader, names, n, rest),
-        Kind::Term => term(reader, names, n, rest),
-        Kind::Axiom => axiom(reader, names, n, rest),
-        Kind::Def => def(reader, names, n, rest),
-        Kind::Theorem => theorem(reader, names, n, rest),
+        Kind::Term => term(reader, names, vars, n, rest),
+        Kind::Axiom => axiom(reader, names, vars, n, rest),
+        Kind::Def => def(reader, names, vars, n, rest),
+        Kind::Theorem => theorem(reader, names, vars, labels, n, rest),
         Kind::Other => Err(reader.wrong(n, U::Form)),
     }
 }
@@ -427,10 +347,14 @@ fn of_kind<'a>(
 fn local<'a>(
     reader: &Reader<'_, 'a>,
     names: &Names<'a>,
+    vars: &mut Space<'a>,
+    labels: &mut Space<'a>,
     kind: Kind,
     n: u32,
     rest: Option<u32>,
 ) -> Result<Declared<'a>, Stop>
+    requires no_variables { vars.old ≡ [] }
+    requires no_labels { labels.old ≡ [] }
     requires within { n < node_count reader.now.nodes.now }
     requires there { IsThere reader.now.nodes.now rest }
     requires few { nodes_size (nodes_from reader.now.nodes.now rest) < 2 ^ 32 }
@@ -438,10 +362,50 @@ fn local<'a>(
     ensures stops { IfErr result (λ stop. Stops stop (local_asked kind (place (node_at reader.now.nodes.now n)) (names_view names.now) (nodes_from reader.now.nodes.now rest))) }
 {
     match kind {
-        Kind::Def => def(reader, names, n, rest),
-        Kind::Theorem => theorem(reader, names, n, rest),
+        Kind::Def => def(reader, names, vars, n, rest),
+        Kind::Theorem => theorem(reader, names, vars, labels, n, rest),
         _ => Err(reader.wrong(n, U::Form)),
     }
+}
+
+/// The statement that the node is, and whether it's marked as local. The names of its variables and of its
+/// hypotheses are put into the spaces, which are empty.
+fn statement_in<'a>(
+    reader: &Reader<'_, 'a>,
+    names: &Names<'a>,
+    vars: &mut Space<'a>,
+    labels: &mut Space<'a>,
+    n: u32,
+) -> Result<(bool, Declared<'a>), Stop>
+    requires no_variables { vars.old ≡ [] }
+    requires no_labels { labels.old ≡ [] }
+    requires within { n < node_count reader.now.nodes.now }
+    requires few { node_size (node_at reader.now.nodes.now n) < 2 ^ 32 }
+    ensures read { IfOk result (λ s. IsStatement (names_view names.now) (node_at reader.now.nodes.now n) (stated s.0 s.1)) }
+    ensures stops { IfErr result (λ stop. Stops stop (statement_asked (names_view names.now) (node_at reader.now.nodes.now n))) }
+{
+    let Some(head) = reader.nodes.first(n) else {
+        return Err(reader.wrong(n, U::Form));
+    };
+    let rest = reader.nodes.next(head);
+    let word = reader.word(head);
+    if !is(word, b"local") {
+        let declared = of_kind(reader, names, vars, labels, Kind::of(word), n, rest)?;
+        return Ok((false, declared));
+    }
+    let Some(kind) = rest else {
+        return Err(reader.wrong(n, U::Form));
+    };
+    let declared = local(
+        reader,
+        names,
+        vars,
+        labels,
+        Kind::of(reader.word(kind)),
+        n,
+        reader.nodes.next(kind),
+    )?;
+    Ok((true, declared))
 }
 
 /// The statement that the node is, and whether it's marked as local.
@@ -460,24 +424,7 @@ pub fn statement<'a>(
     ensures read { IfOk result (λ s. IsStatement (names_view names.now) (node_at reader.now.nodes.now n) (stated s.0 s.1)) }
     ensures stops { IfErr result (λ stop. Stops stop (statement_asked (names_view names.now) (node_at reader.now.nodes.now n))) }
 {
-    let Some(head) = reader.nodes.first(n) else {
-        return Err(reader.wrong(n, U::Form));
-    };
-    let rest = reader.nodes.next(head);
-    let word = reader.word(head);
-    if !is(word, b"local") {
-        let declared = of_kind(reader, names, Kind::of(word), n, rest)?;
-        return Ok((false, declared));
-    }
-    let Some(kind) = rest else {
-        return Err(reader.wrong(n, U::Form));
-    };
-    let declared = local(
-        reader,
-        names,
-        Kind::of(reader.word(kind)),
-        n,
-        reader.nodes.next(kind),
-    )?;
-    Ok((true, declared))
+    let mut vars = Space::new(reader.alloc, names.hashing);
+    let mut labels = Space::new(reader.alloc, names.hashing);
+    statement_in(reader, names, &mut vars, &mut labels, n)
 }

@@ -6,8 +6,8 @@ ghost use Rattle.mz_stating.specs.Measures.{capped, word_count};
 
 use crate::phrases::Phrases;
 
-/// How long the text of a list of these is: each part and what stands behind it, a space or the closing bracket, after the
-/// opening one.
+/// How long the text of a list of these is: each part and what stands behind it, a space or the closing bracket, after
+/// the opening one.
 pub(crate) fn list_len(phrases: &Phrases, parts: &[usize]) -> u128
     requires { All (λ n. n < length phrases.now) parts.now }
     ensures { result ≡ capped (length (written (a_list (phrases_at phrases.now parts.now)))) }

@@ -1,3 +1,5 @@
+use mz_names::Hashing;
+
 /// What the numbers are made with by which a store's terms are looked up. It is drawn by chance, so that
 /// a file can't be chosen for terms that share them, which take long to be told apart. No answer
 /// depends on it.
@@ -7,4 +9,10 @@ pub struct Seed(pub u64);
 impl Seed {
     /// The seed of those who draw none: 2^64 over the golden section, an odd number without a pattern.
     pub const FIXED: Seed = Seed(0x9e37_79b9_7f4a_7c15);
+}
+
+impl From<Seed> for Hashing {
+    fn from(seed: Seed) -> Hashing {
+        Hashing::seeded(seed.0)
+    }
 }

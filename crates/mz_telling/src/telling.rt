@@ -18,8 +18,8 @@ use mz_stating::Phrases;
 use mz_walk::is_local;
 use std::alloc::Global;
 
-/// The phrase and the weight of the statement with this head, before which so many rows were taken. The phrase, and those
-/// of its parts, are added to the phrases.
+/// The phrase and the weight of the statement with this head, before which so many rows were taken. The phrase, and
+/// those of its parts, are added to the phrases.
 ///
 /// # Errors
 ///

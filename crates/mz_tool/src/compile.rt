@@ -23,7 +23,7 @@ pub fn compile(alloc: Global, seed: Seed, text: &[u8], mode: Mode) -> Outcome
     ensures only_no { (line : List ℕ) → IsNotCompiled (gaps_of mode) text.now line → OnYes result ⊥ }
 {
     compilation_is_decided();
-    let compiled = compile_bytes(alloc, Hashing::seeded(seed.0), text, mode);
+    let compiled = compile_bytes(alloc, Hashing::from(seed), text, mode);
     if let Compiled::Mem = compiled {
         return Outcome::Mem;
     }

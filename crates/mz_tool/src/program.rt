@@ -16,8 +16,8 @@ use std::alloc::Global;
 
 /// Does what the words ask for, with the folder's files, and writes the answer to `out`.
 ///
-/// Want of memory may come in place of any answer but `Usage`. The terms of a binary's bodies are numbered, and names are
-/// hashed, with the seed, on which no answer depends.
+/// Want of memory may come in place of any answer but `Usage`. The terms of a binary's bodies are numbered, and names
+/// are hashed, with the seed, on which no answer depends.
 pub fn run<F: Folder, O: Sink>(
     alloc: Global,
     seed: Seed,
@@ -25,7 +25,8 @@ pub fn run<F: Folder, O: Sink>(
     folder: &mut F,
     out: &mut O,
 ) -> Status
-    // The answer is that of the definitions for the files that the words name; its file is put, and its text is written.
+    // The answer is that of the definitions for the files that the words name; its file is put, and its text is
+    // written.
     ensures done { F.told → result ≡ Status.Done → (asked : Request) × Asks (map string_bytes words.now) asked
         × ((put : Option (List ℕ)) × (text : List ℕ) × IsYes (F.file folder.old) asked put text
         × IsPut (name_put asked) put (F.file folder.old) (F.file folder.new) × (O.told → O.written out.new ≡ O.written out.old ++ text)) }
@@ -33,8 +34,8 @@ pub fn run<F: Folder, O: Sink>(
         × ((text : List ℕ) × IsNo (F.file folder.old) asked text × (O.told → O.written out.new ≡ O.written out.old ++ text)) }
 
     // What is accepted is proved: each theorem of the specification ends a legal front of the binary's statements, and
-    // rests on the specification's axioms before it alone. With `draft` this is so of what rests on no gap: it is derived
-    // without gaps, and from no theorem that rests on one.
+    // rests on the specification's axioms before it alone. With `draft` this is so of what rests on no gap: it is
+    // derived without gaps, and from no theorem that rests on one.
     ensures sound { F.told → (asked : Request) → Asks (map string_bytes words.now) asked → result ≡ Status.Done → IsProved (F.file folder.old) asked }
 
     // Where the files are there and nothing fails, the answer comes, or no memory was left.
@@ -68,8 +69,8 @@ pub fn run<F: Folder, O: Sink>(
         ⊎ ((asked : Request) × Asks (map string_bytes words.now) asked
         × ((text : List ℕ) × IsListedFor (F.file folder.old) asked text × AppendsPrefix (O.written out.old) (O.written out.new) text)) }
 
-    // Files stay where none may have been put, and then all but that one; and the folder isn't called at all where no file
-    // is read and none put.
+    // Files stay where none may have been put, and then all but that one; and the folder isn't called at all where no
+    // file is read and none put.
     ensures files { F.told → (MayPut result → ⊥) → SameFiles (F.file folder.old) (F.file folder.new) }
     ensures others { F.told → (asked : Request) → Asks (map string_bytes words.now) asked → SameButPut (name_put asked) (F.file folder.old) (F.file folder.new) }
     ensures put_faults { ((asked : Request) → Asks (map string_bytes words.now) asked → name_put asked ≡ None) → F.put_faults folder.new ≡ F.put_faults folder.old }

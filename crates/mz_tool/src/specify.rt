@@ -49,7 +49,7 @@ pub fn specify(alloc: Global, seed: Seed, text: &[u8]) -> Outcome
     ensures only_no { (line : List ℕ) → IsNotSpecified text.now line → OnYes result ⊥ }
 {
     specification_is_decided();
-    let made = spec_of(alloc, Hashing::seeded(seed.0), text);
+    let made = spec_of(alloc, Hashing::from(seed), text);
     if let SpecText::Mem = made {
         return Outcome::Mem;
     }

@@ -45,21 +45,6 @@ impl Run {
         &self.nodes[n as usize]
     }
 
-    /// How many proofs have got a name.
-    pub fn let_count(&self) -> usize
-        ensures { result ≡ length self.now.lets.items }
-    {
-        self.lets.len()
-    }
-
-    /// The proof with this name.
-    pub fn let_root(&self, i: usize) -> u32
-        requires { i < length self.now.lets.items }
-        ensures { slice_get self.now.lets.items i ≡ Some result }
-    {
-        self.lets[i]
-    }
-
     /// The sorts of the dummies, in order.
     pub fn dummies(&self) -> &[u32]
         ensures { result.now ≡ self.now.dummies.items }

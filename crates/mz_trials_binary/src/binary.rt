@@ -2,6 +2,7 @@
 
 ghost use Rattle.std.specs.Prelude.{◌≡◌, ◌<◌, ◌^◌, length};
 
+use crate::expect::expect;
 use mz_binary::{Checked, Checker, Next, Rows, Statement, check_all, refusal_line};
 use mz_cmd::{K, Mem, Refusal, Steps};
 use mz_files::Standard;
@@ -12,7 +13,6 @@ use std::alloc::{AllocError, Global};
 use std::marker::Brand;
 use std::process::Abort;
 use std::sync::ledger::{Blank, Ledger};
-use std::test::Fail;
 
 /// Finished proofs, and drafts.
 const STRICT: Standard = Standard::Published(Mode::Strict);
@@ -95,12 +95,11 @@ const WHOLE: &[(usize, u8, Standard, &str)] = &[
 ];
 
 #[test]
-fn whole_files(rt: HostRuntime) -> Result<(), Fail> {
+fn whole_files(rt: HostRuntime) {
     for (at, byte, standard, line) in WHOLE {
-        let found = line_of(&rt, *at, *byte, *standard)?;
+        let found = line_of(&rt, *at, *byte, *standard).expect(&rt, "memory");
         assert!(rt; found.as_slice() == line.as_bytes(), "{byte} at {at}");
     }
-    Ok(())
 }
 
 /// Adds the good statements of a file, and tells what comes after them.
@@ -209,28 +208,24 @@ fn end_with(
 
 /// A sort, a term, a local definition and a theorem; then the same with an open proof.
 #[test]
-fn statements_one_by_one(rt: HostRuntime) -> Result<(), Fail> {
+fn statements_one_by_one(rt: HostRuntime) {
     for (at, byte, count, after) in ENDINGS {
         let mut found = Vec::new(rt.alloc());
-        let ended = end_with(&rt, *at, *byte, STRICT, &mut found)?;
-        assert!(rt;
-            found.iter().eq(STATEMENTS.iter().take(*count)),
-            "{count} statements"
-        );
+        let ended = end_with(&rt, *at, *byte, STRICT, &mut found).expect(&rt, "memory");
+        let are_good = found.iter().eq(STATEMENTS.iter().take(*count));
+        assert!(rt; are_good, "{count} statements");
         assert!(rt; ended == *after, "after {count} statements");
     }
-    Ok(())
 }
 
 /// In a draft the open proof goes through, and its theorem is told apart.
 #[test]
-fn gaps_are_told(rt: HostRuntime) -> Result<(), Fail> {
+fn gaps_are_told(rt: HostRuntime) {
     let mut found = Vec::new(rt.alloc());
-    let ended = end_with(&rt, 157, 0x20, DRAFT, &mut found)?;
-    assert!(rt; ended.is_ok(), "good in a draft");
-    assert!(rt; found.len() == 4, "four statements");
+    let ended = end_with(&rt, 157, 0x20, DRAFT, &mut found).expect(&rt, "memory");
+    expect(&rt, ended.is_ok(), "good in a draft");
+    expect(&rt, found.len() == 4, "four statements");
     for (i, statement) in found.iter().enumerate() {
         assert!(rt; statement.gap == (i == 3), "statement {i}");
     }
-    Ok(())
 }

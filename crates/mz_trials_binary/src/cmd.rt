@@ -1,6 +1,7 @@
 ghost use Rattle.std.specs.Prelude.{◌≡◌, ◌+◌, ◌<◌, IsTrue};
 ghost use Rattle.mz_cmd.specs.Codes.{is_known};
 
+use crate::expect::expect_bytes;
 use mz_cmd::{
     Cmd, CmdFault, K, Mem, ProofCode, StatementCode, Steps, StmtAt, StmtFault, UnifyCode,
     UnknownCode, cmd_at, is_known_code, put_cmd, stmt_at,
@@ -9,7 +10,6 @@ use std::alloc::Global;
 use std::marker::Brand;
 use std::process::Abort;
 use std::sync::ledger::{Blank, Ledger};
-use std::test::Fail;
 
 /// Bytes, a place, and the command there: its code, its operand and its length.
 const COMMANDS: &[(&[u8], u32, u8, u32, u8)] = &[
@@ -80,28 +80,47 @@ const KNOWN: &[u8] = &[
     0x17, 0x18, 0x19, 0x1A, 0x1B, 0x1C, 0x1D, 0x1E, 0x1F, 0x20, 0x30, 0x31, 0x32, 0x33, 0x36,
 ];
 
+fn is_statement(code: u8) -> bool {
+    StatementCode::try_from(code).map(u8::from).is_ok()
+}
+
+fn is_proof(code: u8) -> bool {
+    ProofCode::try_from(code).map(u8::from).is_ok()
+}
+
+fn is_unify(code: u8) -> bool {
+    UnifyCode::try_from(code).map(u8::from).is_ok()
+}
+
+fn expect_code(rt: &impl Abort, holds: bool, code: u8) {
+    assert!(rt; holds, "code {code}");
+}
+
 #[test]
 fn codes_are_known(rt: HostRuntime) {
     for code in 0..=255 {
-        assert_eq!(rt; is_known_code(code), KNOWN.contains(&code), "code {code}");
-        let statement = StatementCode::try_from(code).map(u8::from);
-        assert_eq!(rt;
-            statement.is_ok(),
-            matches!(code, 2 | 4..=6 | 13 | 14),
-            "code {code}"
+        expect_code(&rt, is_known_code(code) == KNOWN.contains(&code), code);
+        expect_code(
+            &rt,
+            is_statement(code) == matches!(code, 2 | 4..=6 | 13 | 14),
+            code,
         );
-        let proof = ProofCode::try_from(code).map(u8::from);
-        assert_eq!(rt; proof.is_ok(), matches!(code, 16..=32), "code {code}");
-        let unify = UnifyCode::try_from(code).map(u8::from);
-        assert_eq!(rt; unify.is_ok(), matches!(code, 48..=51 | 54), "code {code}");
+        expect_code(&rt, is_proof(code) == matches!(code, 16..=32), code);
+        expect_code(&rt, is_unify(code) == matches!(code, 48..=51 | 54), code);
     }
-    assert_eq!(rt;
-        StatementCode::try_from(0x0D),
-        Ok(StatementCode::LocalDefinition)
+    let local = StatementCode::try_from(0x0D);
+    expect_code(&rt, local == Ok(StatementCode::LocalDefinition), 0x0D);
+    expect_code(
+        &rt,
+        ProofCode::try_from(0x1D) == Ok(ProofCode::ConvRef),
+        0x1D,
     );
-    assert_eq!(rt; ProofCode::try_from(0x1D), Ok(ProofCode::ConvRef));
-    assert_eq!(rt; UnifyCode::try_from(0x36), Ok(UnifyCode::Hyp));
-    assert_eq!(rt; UnifyCode::try_from(0x10), Err(UnknownCode(0x10)));
+    expect_code(&rt, UnifyCode::try_from(0x36) == Ok(UnifyCode::Hyp), 0x36);
+    expect_code(
+        &rt,
+        UnifyCode::try_from(0x10) == Err(UnknownCode(0x10)),
+        0x10,
+    );
 }
 
 /// The list of a file of one sort.
@@ -188,13 +207,12 @@ fn spelling(alloc: Global, code: u8, value: u32) -> Result<Vec<u8>, Mem>
 }
 
 #[test]
-fn the_shortest_spelling_is_written(rt: HostRuntime) -> Result<(), Fail> {
+fn the_shortest_spelling_is_written(rt: HostRuntime) {
     for (code, value, wanted) in SPELLINGS {
         assert!(rt; is_known_code(*code));
-        let found = spelling(rt.alloc(), *code, *value)?;
+        let found = spelling(rt.alloc(), *code, *value).expect(&rt, "memory");
         assert!(rt; found.as_slice() == *wanted, "code {code}, value {value}");
     }
-    Ok(())
 }
 
 const RULES: &[(K, &str)] = &[
@@ -205,12 +223,11 @@ const RULES: &[(K, &str)] = &[
 ];
 
 #[test]
-fn rules_are_printed(rt: HostRuntime) -> Result<(), Fail> {
+fn rules_are_printed(rt: HostRuntime) {
     for (rule, wanted) in RULES {
-        let text = format!(in rt.alloc(); "{rule}")?;
-        assert_eq!(rt; text.as_str(), *wanted);
+        let text = format!(in rt.alloc(); "{rule}").expect(&rt, "memory");
+        expect_bytes(&rt, text.as_bytes(), wanted.as_bytes(), wanted);
     }
-    Ok(())
 }
 
 fn tick_twice<L: Ledger>(steps: &mut Steps<L>)

@@ -1,11 +1,11 @@
 // Headers and tables, by the bytes that the format says.
 
+use crate::expect::expect;
 use mz_cmd::{K, Refusal};
 use mz_layout::Mmb;
 use mz_logic::Terms;
 use std::alloc::AllocError;
 use std::process::Abort;
-use std::test::Fail;
 
 /// Two sorts, the term `all {x: nat} (p: wff x): wff`, an axiom of the same parameters and a
 /// theorem of the same.
@@ -23,18 +23,17 @@ const GEN: &[u8] = &[
 fn tables_of_a_file(rt: HostRuntime) {
     assert!(rt; GEN.len() < 200);
     let Ok(mmb) = Mmb::read(GEN) else {
-        assert!(rt; false, "the file has a layout");
-        return;
+        panic!(rt; "the file has a layout");
     };
-    assert_eq!(rt; mmb.sorts(), 2);
     assert!(rt; mmb.terms() == 1 && mmb.thms() == 2);
-    assert_eq!(rt; mmb.arity(0), 2);
-    assert_eq!(rt; mmb.thm_arity(1), 2);
-    assert_eq!(rt; mmb.term_sort(0), 0);
-    assert_eq!(rt; mmb.term_word_at(0, 0), 0x48);
-    assert_eq!(rt; mmb.unify_of_term(0).0, 0x60);
-    assert_eq!(rt; mmb.unify_of_thm(1).0, 0x88);
-    assert_eq!(rt; mmb.proof_at(), 0x90);
+    expect(&rt, mmb.sorts() == 2, "sorts");
+    expect(&rt, mmb.arity(0) == 2, "the term's arity");
+    expect(&rt, mmb.thm_arity(1) == 2, "the theorem's arity");
+    expect(&rt, mmb.term_sort(0) == 0, "the term's sort");
+    expect(&rt, mmb.term_word_at(0, 0) == 0x48, "the term's first word");
+    expect(&rt, mmb.unify_of_term(0).0 == 0x60, "the term's stream");
+    expect(&rt, mmb.unify_of_thm(1).0 == 0x88, "the theorem's stream");
+    expect(&rt, mmb.proof_at() == 0x90, "the list");
 }
 
 /// A byte put in place of another, and the refusal.
@@ -65,14 +64,14 @@ fn refusal_of(
 }
 
 #[test]
-fn bytes_of_tables(rt: HostRuntime) -> Result<(), Fail> {
+fn bytes_of_tables(rt: HostRuntime) {
     for (at, byte, place, rule, what) in BYTES {
         let refusal = Refusal {
             statement: 0,
             at: *place,
             rule: *rule,
         };
-        assert!(rt; refusal_of(&rt, *at, *byte)? == Some(refusal), "{what}");
+        let found = refusal_of(&rt, *at, *byte).expect(&rt, "memory");
+        expect(&rt, found == Some(refusal), what);
     }
-    Ok(())
 }

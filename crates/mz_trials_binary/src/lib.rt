@@ -6,6 +6,8 @@ mod binary;
 #[cfg(test)]
 mod cmd;
 #[cfg(test)]
+mod expect;
+#[cfg(test)]
 mod layout;
 #[cfg(test)]
 mod store;

@@ -3,12 +3,12 @@ ghost use Rattle.mz_logic.specs.Words.{BitsRight, signatures_of, word_bound, wor
 ghost use Rattle.mz_logic.specs.Sorts.{IsBoundVar};
 ghost use Rattle.mz_store.specs.Sharing.{IsIn, AreIn, sort_of, tree_of, trees_of, IsOver, CanTake};
 
+use crate::expect::{expect, expect_part};
 use mz_logic::{SortMods, Terms, Word};
 use mz_store::{DepsMode, Id, Store};
 use std::alloc::{AllocError, Global};
 use std::marker::Model;
 use std::process::Abort;
-use std::test::Fail;
 
 const IM: u32 = 0;
 
@@ -205,207 +205,240 @@ const BUILT: &[(u32, u64, u64, u32, u64, u64, &str)] = &[
     (ALL, 1, 14, 0, 3, 0, "15: all y (14)"),
 ];
 
-/// The parameters' sorts, boundness and words.
-const ENTERED: &[(u32, bool, u64)] = &[
-    (1, true, 1),
-    (1, true, 2),
-    (0, false, 1),
-    (0, false, 3),
-    (0, false, 0),
+/// The parameters' sorts, boundness, words and names.
+const ENTERED: &[(u32, bool, u64, &str)] = &[
+    (1, true, 1, "variable 0"),
+    (1, true, 2, "variable 1"),
+    (0, false, 1, "variable 2"),
+    (0, false, 3, "variable 3"),
+    (0, false, 0, "variable 4"),
 ];
 
-/// Tests that the store has the parameters, and the first of what is built over them.
-fn check_built(rt: &impl Abort, bench: &Bench<Sample>, mode: DepsMode, many: usize) {
-    assert_eq!(rt; bench.store.len().saturating_sub(5), many, "how many");
-    assert_eq!(rt; bench.store.bound_count(), 2, "bound variables");
-    for (i, (sort, bound, deps)) in ENTERED.iter().enumerate() {
+fn expect_told(rt: &impl Abort, bench: &Bench<Sample>, id: Id, told: Told, what: &str) {
+    assert_eq!(rt; bench.told(id), Some(told), "{what}");
+}
+
+fn expect_operands(rt: &impl Abort, bench: &Bench<Sample>, id: Id, operands: &[Id], what: &str) {
+    expect_part(rt, bench.has_operands(id, operands), "operands", what);
+}
+
+/// Tests that the store has the parameters.
+fn check_entered(rt: &impl Abort, bench: &Bench<Sample>) {
+    expect(rt, bench.store.bound_count() == 2, "bound variables");
+    for (i, (sort, bound, deps, what)) in ENTERED.iter().enumerate() {
         let told = Told {
             sort: *sort,
             bound: *bound,
             deps: *deps,
             head: None,
         };
-        assert_eq!(rt; bench.told(Id(i as u64)), Some(told), "variable {i}");
-        assert!(rt;
-            bench.has_operands(Id(i as u64), &[]),
-            "operands of variable {i}"
-        );
+        let id = Id(i as u64);
+        expect_told(rt, bench, id, told, what);
+        expect_operands(rt, bench, id, &[], what);
     }
-    for (i, (term, a, b, sort, all, free, what)) in BUILT.iter().enumerate() {
-        if i >= many {
-            break;
-        }
-        let deps = match mode {
-            DepsMode::All => *all,
-            DepsMode::Free => *free,
-        };
+}
+
+/// Tests that the store has the parameters, and the first of what is built over them.
+fn check_built(rt: &impl Abort, bench: &Bench<Sample>, mode: DepsMode, many: usize) {
+    expect(rt, bench.store.len().saturating_sub(5) == many, "how many");
+    check_entered(rt, bench);
+    for (i, (term, a, b, sort, all, free, what)) in BUILT.iter().take(many).enumerate() {
         let told = Told {
             sort: *sort,
             bound: false,
-            deps,
+            deps: match mode {
+                DepsMode::All => *all,
+                DepsMode::Free => *free,
+            },
             head: Some(*term),
         };
         let id = Id(5 + i as u64);
-        assert_eq!(rt; bench.told(id), Some(told), "{what}");
-        assert!(rt;
-            bench.has_operands(id, &[Id(*a), Id(*b)]),
-            "operands of {what}"
-        );
+        expect_told(rt, bench, id, told, what);
+        expect_operands(rt, bench, id, &[Id(*a), Id(*b)], what);
     }
+}
+
+/// Begins, and where memory is refused, tests that the store is empty and begins again.
+fn begin(rt: &impl Abort, bench: &mut Bench<Sample>, mode: DepsMode) {
+    if bench.begin(&PARAMS, mode).is_ok() {
+        return;
+    }
+    expect(rt, bench.store.len() == 0, "empty after a refused begin");
+    expect(
+        rt,
+        bench.store.bound_count() == 0,
+        "no variables after a refused begin",
+    );
+    bench.begin(&PARAMS, mode).expect(rt, "memory");
+}
+
+/// Puts a term over two operands. Where memory is refused, the store is as before, with `many` built.
+fn build(
+    rt: &impl Abort,
+    bench: &mut Bench<Sample>,
+    mode: DepsMode,
+    many: usize,
+    t: u32,
+    operands: &[Id],
+) -> Id {
+    if let Ok(id) = bench.app(t, operands) {
+        return id;
+    }
+    check_built(rt, bench, mode, many);
+    bench.app(t, operands).expect(rt, "memory")
 }
 
 /// Builds all of it, and tests after each growth that was refused that the store is as before.
-fn build_all(rt: &impl Abort, alloc: Global, mode: DepsMode) -> Result<(), Fail> {
+fn build_all(rt: &impl Abort, alloc: Global, mode: DepsMode) {
     let mut bench = Bench::new(alloc, Sample);
-    if bench.begin(&PARAMS, mode).is_err() {
-        assert_eq!(rt; bench.store.len(), 0, "empty after a refused begin");
-        assert_eq!(rt;
-            bench.store.bound_count(),
-            0,
-            "no variables after a refused begin"
-        );
-        bench.begin(&PARAMS, mode)?;
+    begin(rt, &mut bench, mode);
+    for (i, (term, a, b, _, _, _, what)) in BUILT.iter().enumerate() {
+        let first = build(rt, &mut bench, mode, i, *term, &[Id(*a), Id(*b)]);
+        expect_part(rt, first == Id(5 + i as u64), "the id", what);
+        check_built(rt, &bench, mode, i.saturating_add(1));
     }
     for (i, (term, a, b, _, _, _, what)) in BUILT.iter().enumerate() {
-        let operands = [Id(*a), Id(*b)];
-        let first = match bench.app(*term, &operands) {
-            Ok(id) => id,
-            Err(Fault::Memory) => {
-                check_built(rt, &bench, mode, i);
-                bench.app(*term, &operands)?
-            }
-            Err(fault) => return Err(fault.into()),
-        };
-        assert_eq!(rt; first, Id(5 + i as u64), "the id of {what}");
-        check_built(rt, &bench, mode, i + 1);
-    }
-    for (i, (term, a, b, _, _, _, what)) in BUILT.iter().enumerate() {
-        let operands = [Id(*a), Id(*b)];
-        let again = match bench.app(*term, &operands) {
-            Ok(id) => id,
-            Err(Fault::Memory) => bench.app(*term, &operands)?,
-            Err(fault) => return Err(fault.into()),
-        };
-        assert_eq!(rt; again, Id(5 + i as u64), "again {what}");
+        let again = build(rt, &mut bench, mode, BUILT.len(), *term, &[Id(*a), Id(*b)]);
+        expect_part(rt, again == Id(5 + i as u64), "again", what);
     }
     check_built(rt, &bench, mode, BUILT.len());
-    Ok(())
 }
 
 #[test]
-fn all_variables(rt: HostRuntime) -> Result<(), Fail> {
-    build_all(&rt, rt.alloc(), DepsMode::All)
+fn all_variables(rt: HostRuntime) {
+    build_all(&rt, rt.alloc(), DepsMode::All);
 }
 
 #[test]
-fn free_variables(rt: HostRuntime) -> Result<(), Fail> {
-    build_all(&rt, rt.alloc(), DepsMode::Free)
+fn free_variables(rt: HostRuntime) {
+    build_all(&rt, rt.alloc(), DepsMode::Free);
+}
+
+/// A store over the parameters.
+fn begun(rt: &(impl Abort + AllocGlobal), params: &[Word], mode: DepsMode) -> Bench<Sample>
+    requires { BitsRight params.now }
+{
+    let mut bench = Bench::new(rt.alloc(), Sample);
+    bench.begin(params, mode).expect(rt, "memory");
+    bench
+}
+
+fn app(rt: &impl Abort, bench: &mut Bench<Sample>, t: u32, operands: &[Id]) -> Id {
+    bench
+        .app(t, operands)
+        .expect(rt, "a term over its operands")
 }
 
 /// A tree of 2^71 - 1 nodes takes 70 ids beside that of its leaves, and built a second time it is
 /// the same.
 #[test]
-fn more_nodes_than_numbers(rt: HostRuntime) -> Result<(), Fail> {
-    let mut bench = Bench::new(rt.alloc(), Sample);
-    bench.begin(&[Word(0), Word(0)], DepsMode::All)?;
-    let mut tops = [Id(0), Id(0), Id(1)];
+fn more_nodes_than_numbers(rt: HostRuntime) {
+    let mut bench = begun(&rt, &[Word(0), Word(0)], DepsMode::All);
+    let (mut first, mut second, mut other) = (Id(0), Id(0), Id(1));
     for _ in 0..70 {
-        for top in &mut tops {
-            *top = bench.app(IM, &[*top, *top])?;
-        }
+        first = app(&rt, &mut bench, IM, &[first, first]);
+        second = app(&rt, &mut bench, IM, &[second, second]);
+        other = app(&rt, &mut bench, IM, &[other, other]);
     }
-    let [first, second, other] = tops;
-    assert_eq!(rt; bench.store.len(), 142, "two leaves, and 70 ids over each");
-    assert_eq!(rt; bench.same(first, second), Some(true), "built twice");
-    assert_eq!(rt; bench.same(first, other), Some(false), "over another leaf");
-    Ok(())
+    expect(
+        &rt,
+        bench.store.len() == 142,
+        "two leaves, and 70 ids over each",
+    );
+    expect(&rt, bench.same(first, second) == Some(true), "built twice");
+    expect(
+        &rt,
+        bench.same(first, other) == Some(false),
+        "over another leaf",
+    );
 }
 
 /// Trees that differ in one place, in the order of operands, or in the head.
 #[test]
-fn different_trees(rt: HostRuntime) -> Result<(), Fail> {
-    let mut bench = Bench::new(rt.alloc(), Sample);
-    bench.begin(&PARAMS, DepsMode::All)?;
-    let forward = bench.app(IM, &[Id(2), Id(3)])?;
-    let back = bench.app(IM, &[Id(3), Id(2)])?;
-    let bound = bench.app(ALL, &[Id(0), Id(2)])?;
-    let lambda = bench.app(LAM, &[Id(0), Id(2)])?;
-    assert_eq!(rt;
-        bench.same(forward, back),
-        Some(false),
-        "operands in another order"
+fn different_trees(rt: HostRuntime) {
+    let mut bench = begun(&rt, &PARAMS, DepsMode::All);
+    let forward = app(&rt, &mut bench, IM, &[Id(2), Id(3)]);
+    let back = app(&rt, &mut bench, IM, &[Id(3), Id(2)]);
+    let bound = app(&rt, &mut bench, ALL, &[Id(0), Id(2)]);
+    let lambda = app(&rt, &mut bench, LAM, &[Id(0), Id(2)]);
+    let others = bench.same(forward, back);
+    expect(&rt, others == Some(false), "operands in another order");
+    expect(
+        &rt,
+        bench.same(bound, lambda) == Some(false),
+        "another head",
     );
-    assert_eq!(rt; bench.same(bound, lambda), Some(false), "another head");
-    assert_eq!(rt; bench.same(back, back), Some(true), "itself");
-    assert!(rt;
-        matches!(bench.app(ALL, &[Id(2), Id(2)]), Err(Fault::Unfit)),
-        "p isn't bound"
-    );
-    Ok(())
+    expect(&rt, bench.same(back, back) == Some(true), "itself");
+    let unfit = bench.app(ALL, &[Id(2), Id(2)]);
+    expect(&rt, matches!(unfit, Err(Fault::Unfit)), "p isn't bound");
+}
+
+/// Adds the dummy of this number to a store with two bound variables and an expression over five.
+fn expect_dummy(rt: &impl Abort, bench: &mut Bench<Sample>, i: u64)
+    requires { i < 53 }
+{
+    let told = Told {
+        sort: 1,
+        bound: true,
+        deps: 1 << (2 + i),
+        head: None,
+    };
+    let dummy = bench.dummy(1).expect(rt, "a dummy");
+    assert!(rt; dummy == Id(6 + i), "the id of dummy {i}");
+    assert!(rt; bench.told(dummy) == Some(told), "dummy {i}");
 }
 
 #[test]
-fn dummies(rt: HostRuntime) -> Result<(), Fail> {
-    let mut bench = Bench::new(rt.alloc(), Sample);
-    bench.begin(&PARAMS, DepsMode::Free)?;
-    let before = bench.app(IM, &[Id(2), Id(3)])?;
+fn dummies(rt: HostRuntime) {
+    let mut bench = begun(&rt, &PARAMS, DepsMode::Free);
+    let before = app(&rt, &mut bench, IM, &[Id(2), Id(3)]);
     for i in 0..53 {
-        let told = Told {
-            sort: 1,
-            bound: true,
-            deps: 1 << (2 + i),
-            head: None,
-        };
-        let dummy = bench.dummy(1)?;
-        assert_eq!(rt; dummy, Id(6 + i), "the id of dummy {i}");
-        assert_eq!(rt; bench.told(dummy), Some(told), "dummy {i}");
+        expect_dummy(&rt, &mut bench, i);
     }
-    assert_eq!(rt; bench.store.bound_count(), 55, "all bits");
-    assert!(rt;
-        matches!(bench.dummy(1), Err(Fault::Unfit)),
-        "no bit is left"
-    );
-    assert_eq!(rt;
-        bench.app(IM, &[Id(2), Id(3)])?,
-        before,
-        "built before the dummies"
-    );
-    let last = bench.app(ALL, &[Id(58), before])?;
+    expect(&rt, bench.store.bound_count() == 55, "all bits");
+    let unfit = bench.dummy(1);
+    expect(&rt, matches!(unfit, Err(Fault::Unfit)), "no bit is left");
+    let again = app(&rt, &mut bench, IM, &[Id(2), Id(3)]);
+    expect(&rt, again == before, "built before the dummies");
+    let last = app(&rt, &mut bench, ALL, &[Id(58), before]);
     let told = Told {
         sort: 0,
         bound: false,
         deps: 3,
         head: Some(ALL),
     };
-    assert_eq!(rt;
-        bench.told(last),
-        Some(told),
-        "the last dummy doesn't stand in it"
+    expect_told(
+        &rt,
+        &bench,
+        last,
+        told,
+        "the last dummy doesn't stand in it",
     );
-    Ok(())
 }
 
 /// After `begin` what was built is gone, and its ids are those of other trees.
 #[test]
-fn begun_again(rt: HostRuntime) -> Result<(), Fail> {
-    let mut bench = Bench::new(rt.alloc(), Sample);
-    bench.begin(&PARAMS, DepsMode::All)?;
-    bench.app(IM, &[Id(2), Id(3)])?;
-    bench.begin(&[Word(0), Word(0), Word(0), Word(0)], DepsMode::Free)?;
-    assert_eq!(rt; bench.store.len(), 4, "the parameters alone");
-    assert_eq!(rt; bench.store.bound_count(), 0, "none of them bound");
-    let id = bench.app(IM, &[Id(2), Id(3)])?;
-    assert_eq!(rt; id, Id(4), "built again");
+fn begun_again(rt: HostRuntime) {
+    let mut bench = begun(&rt, &PARAMS, DepsMode::All);
+    app(&rt, &mut bench, IM, &[Id(2), Id(3)]);
+    bench
+        .begin(&[Word(0), Word(0), Word(0), Word(0)], DepsMode::Free)
+        .expect(&rt, "memory");
+    expect(&rt, bench.store.len() == 4, "the parameters alone");
+    expect(&rt, bench.store.bound_count() == 0, "none of them bound");
+    let id = app(&rt, &mut bench, IM, &[Id(2), Id(3)]);
+    expect(&rt, id == Id(4), "built again");
     let told = Told {
         sort: 0,
         bound: false,
         deps: 0,
         head: Some(IM),
     };
-    assert_eq!(rt;
-        bench.told(id),
-        Some(told),
-        "over variables that depend on nothing"
+    expect_told(
+        &rt,
+        &bench,
+        id,
+        told,
+        "over variables that depend on nothing",
     );
-    Ok(())
 }

@@ -7,6 +7,7 @@ ghost use Rattle.mz_store.specs.Sharing.{AreIn, IsIn, tree_of, trees_of, IsOver,
 ghost use Rattle.mz_store.specs.declared.item.DepsMode.TheVariants.{All as AllVars};
 ghost use Rattle.mz_unify.specs.Stored.{AreItemsIn};
 
+use crate::expect::expect_part;
 use mz_cmd::{K, Steps};
 use mz_logic::{SortMods, Terms, Word};
 use mz_store::{DepsMode, Id, Item, Store};
@@ -15,7 +16,6 @@ use std::alloc::Global;
 use std::marker::Brand;
 use std::process::Abort;
 use std::sync::ledger::{Blank, Ledger};
-use std::test::Fail;
 
 /// The sorts wff and nat, and the terms 0, `im (a b: wff): wff`, and 1, `all {x: nat} (p: wff x): wff`.
 #[derive(Drop)]
@@ -251,12 +251,12 @@ fn said<T: Terms>(
     requires all { store.now.mode ≡ AllVars }
     requires ids { AreIn store.now ids.now }
 {
-    let mut heap = chosen(alloc, store, ids, operands)?;
-    let mut items = proofs(alloc, store, ids, hyps)?;
     let target = numbered(store, ids, target)?;
     if stream.len() >= 100 {
         return Err(Fault::Unfit);
     }
+    let mut heap = chosen(alloc, store, ids, operands)?;
+    let mut items = proofs(alloc, store, ids, hyps)?;
     let blank = Blank::new(1);
     let said = run::<T, Brand>(
         blank, terms, stream, mode, &mut heap, target, &mut items, store,
@@ -660,55 +660,54 @@ const REFUSED: &[Row<(u32, K)>] = &[
     ),
 ];
 
+fn are_numbered(ids: &[Id], numbers: &[u64]) -> bool {
+    ids.iter().map(|id| id.0).eq(numbers.iter().copied())
+}
+
+fn expect_said(rt: &impl Abort, said: Unified, wanted: Unified, what: &str) {
+    assert_eq!(rt; said, wanted, "{what}");
+}
+
 fn check_done<T: Terms>(
     rt: &impl Abort,
     alloc: Global,
     terms: &T,
     rows: &[Row<(u32, &'static [u64])>],
-) -> Result<(), Fail> {
+) {
     let mut store = Store::new(alloc);
-    let ids = build(alloc, terms, &mut store)?;
+    let ids = build(alloc, terms, &mut store).expect(rt, "memory");
     for row in rows {
         let (mode, stream, operands, target, hyps, (taken, wanted), what) = *row;
         let (said, heap, left) = said(
             alloc, terms, &store, &ids, mode, stream, operands, target, hyps,
-        )?;
-        assert_eq!(rt; said, Unified::Done { taken }, "{what}");
-        let numbers: Vec<u64> = heap.iter().map(|id| id.0).collect(alloc)?;
-        assert_eq!(rt; numbers.as_slice(), wanted, "the heap: {what}");
-        assert_eq!(rt;
-            Some(left),
-            hyps.len().checked_sub(taken as usize),
-            "items left: {what}"
-        );
+        )
+        .expect(rt, "memory");
+        expect_said(rt, said, Unified::Done { taken }, what);
+        expect_part(rt, are_numbered(&heap, wanted), "the heap", what);
+        let are_left = Some(left) == hyps.len().checked_sub(taken as usize);
+        expect_part(rt, are_left, "items left", what);
     }
-    Ok(())
 }
 
-fn check_refused<T: Terms>(
-    rt: &impl Abort,
-    alloc: Global,
-    terms: &T,
-    rows: &[Row<(u32, K)>],
-) -> Result<(), Fail> {
+fn check_refused<T: Terms>(rt: &impl Abort, alloc: Global, terms: &T, rows: &[Row<(u32, K)>]) {
     let mut store = Store::new(alloc);
-    let ids = build(alloc, terms, &mut store)?;
+    let ids = build(alloc, terms, &mut store).expect(rt, "memory");
     for row in rows {
         let (mode, stream, operands, target, hyps, (at, rule), what) = *row;
         let (said, _, _) = said(
             alloc, terms, &store, &ids, mode, stream, operands, target, hyps,
-        )?;
-        assert_eq!(rt; said, Unified::Refused { at, rule }, "{what}");
+        )
+        .expect(rt, "memory");
+        expect_said(rt, said, Unified::Refused { at, rule }, what);
     }
-    Ok(())
 }
 
 #[test]
-fn streams_that_run(rt: HostRuntime) -> Result<(), Fail> {
-    check_done(&rt, rt.alloc(), &Sample, DONE)
+fn streams_that_run(rt: HostRuntime) {
+    check_done(&rt, rt.alloc(), &Sample, DONE);
 }
 
 #[test]
-fn streams_that_are_refused(rt: HostRuntime) -> Result<(), Fail> {
-    check_refused(&rt, rt.alloc(), &Sample, REFUSED)
+fn streams_that_are_refused(rt: HostRuntime) {
+    check_refused(&rt, rt.alloc(), &Sample, REFUSED);
 }

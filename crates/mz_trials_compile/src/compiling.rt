@@ -1,17 +1,15 @@
 // Proof texts that are compiled, and what is refused.
+use crate::expect::expect_of;
 use crate::failing::ONE_LISTING;
 use crate::files::{EMPTY, FOLD_SPEC, IMP_SPEC, ONE, ONE_SPEC};
-use crate::runs::{compiled, expect_verdict, words_of};
+use crate::runs::{compiled, ended, expect_verdict, folder_of};
 use crate::texts::{
     EMPTY_TEXT, FIFTY_FIVE, FIFTY_FIVE_SPECIFICATION, FOLD_TEXT, IMPLICATION, LET_TWICE,
     LET_TWICE_SPECIFICATION, LOCAL_DEFINITION, LOCAL_DEFINITION_SPECIFICATION, LOCAL_IN_AXIOM,
     REFUSED_TEXTS, SAMPLE, SAMPLE_SPECIFICATION, SORT,
 };
-use mz_io::{Folder, MemFolder, MemSink};
-use mz_tool::{Seed, Status, run};
-use std::alloc::{AllocError, Global};
+use mz_tool::Status;
 use std::process::Abort;
-use std::test::Fail;
 
 /// A text, a specification, and what `verify` says of both: of what is compiled.
 const VERIFIED: &[(&str, &str, &str)] = &[
@@ -63,49 +61,32 @@ const VERIFIED: &[(&str, &str, &str)] = &[
 ];
 
 /// Verifies the binary that was put against a specification.
-fn expect_verified(
-    rt: &(impl Abort + AllocGlobal),
-    text: &str,
-    spec: &str,
-    line: &str,
-) -> Result<(), Fail> {
-    let (status, folder, _) = compiled(rt.alloc(), text.as_bytes())?;
-    assert!(rt; status == Status::Done, "compiling {text}");
-    let Some(bin) = folder.file("out") else {
-        assert!(rt; false, "a file is put for {text}");
-        return Ok(());
-    };
-    expect_verdict(rt, spec.as_bytes(), bin, line, text)?;
-    expect_listed(rt, bin, text)
+fn expect_verified(rt: &(impl Abort + AllocGlobal), text: &str, spec: &str, line: &str) {
+    let (status, folder, _) = compiled(rt, text.as_bytes());
+    expect_of(rt, status == Status::Done, "the status", text);
+    let bin = folder.file("out").expect(rt, text);
+    expect_verdict(rt, spec.as_bytes(), bin, line, text);
+    expect_listed(rt, bin, text);
 }
 
 /// Lists a binary to its end.
-fn expect_listed(rt: &(impl Abort + AllocGlobal), bin: &[u8], what: &str) -> Result<(), Fail> {
-    let alloc = rt.alloc();
-    let mut folder = MemFolder::new(alloc);
-    folder.add("bin", bin)?;
-    let mut out = MemSink::new(alloc, 8192)?;
-    let status = run(
-        alloc,
-        Seed::FIXED,
-        &words_of(alloc, "show bin")?,
-        &mut folder,
-        &mut out,
-    );
-    assert!(rt; status == Status::Done, "the listing for {what}");
-    assert!(rt;
+fn expect_listed(rt: &(impl Abort + AllocGlobal), bin: &[u8], what: &str) {
+    let mut folder = folder_of(rt, &[("bin", bin)]);
+    let (status, out) = ended(rt, "show bin", &mut folder, 8192);
+    expect_of(rt, status == Status::Done, "the listing", what);
+    expect_of(
+        rt,
         out.bytes().ends_with(b"end\n"),
-        "the listing's end for {what}"
+        "the listing's end",
+        what,
     );
-    Ok(())
 }
 
 #[test]
-fn what_is_compiled_is_verified(rt: HostRuntime) -> Result<(), Fail> {
+fn what_is_compiled_is_verified(rt: HostRuntime) {
     for (text, spec, line) in VERIFIED {
-        expect_verified(&rt, text, spec, line)?;
+        expect_verified(&rt, text, spec, line);
     }
-    Ok(())
 }
 
 /// A text, the bytes of its binary where they stand elsewhere, and the line.
@@ -116,56 +97,67 @@ const LINES: &[(&str, Option<&[u8]>, &str)] = &[
 ];
 
 #[test]
-fn the_smallest_binaries(rt: HostRuntime) -> Result<(), Fail> {
+fn the_smallest_binaries(rt: HostRuntime) {
     for (text, bin, line) in LINES {
-        let (status, folder, out) = compiled(rt.alloc(), text.as_bytes())?;
-        assert!(rt; status == Status::Done, "compiling {text}");
-        assert!(rt; out.bytes() == line.as_bytes(), "the line for {text}");
-        if let Some(bin) = bin {
-            assert!(rt; folder.file("out") == Some(*bin), "the bytes for {text}");
-        }
+        let (status, folder, out) = compiled(&rt, text.as_bytes());
+        expect_of(&rt, status == Status::Done, "the status", text);
+        expect_of(&rt, out.bytes() == line.as_bytes(), "the line", text);
+        let is_same = bin.is_none() || folder.file("out") == *bin;
+        expect_of(&rt, is_same, "the bytes", text);
     }
-    Ok(())
 }
 
 /// Compiles a text that is refused: its line is written, and no file is put.
-fn expect_refused(
-    rt: &(impl Abort + AllocGlobal),
-    text: &str,
-    line: &str,
-    what: &str,
-) -> Result<(), Fail> {
-    let (status, folder, out) = compiled(rt.alloc(), text.as_bytes())?;
-    assert!(rt; status == Status::Refused, "the status for {what}");
-    assert!(rt; out.bytes() == line.as_bytes(), "the line for {what}");
-    assert!(rt; folder.file("out").is_none(), "no file for {what}");
-    Ok(())
+fn expect_refused(rt: &(impl Abort + AllocGlobal), text: &str, line: &str, what: &str) {
+    let (status, folder, out) = compiled(rt, text.as_bytes());
+    expect_of(rt, status == Status::Refused, "the status", what);
+    expect_of(rt, out.bytes() == line.as_bytes(), "the line", what);
+    expect_of(rt, folder.file("out").is_none(), "no file", what);
 }
 
 #[test]
-fn texts_that_are_refused(rt: HostRuntime) -> Result<(), Fail> {
+fn texts_that_are_refused(rt: HostRuntime) {
     for (text, line, what) in REFUSED_TEXTS {
-        expect_refused(&rt, text, line, what)?;
+        expect_refused(&rt, text, line, what);
     }
-    Ok(())
 }
 
-/// How a command over the smallest text and listing ends, where a file of this name may have so many
-/// bytes, and the folder after it.
-fn ended(
-    alloc: Global,
-    line: &str,
-    name: &str,
-    room: u64,
-) -> Result<(Status, MemFolder), AllocError> {
-    let mut folder = MemFolder::new(alloc);
-    folder.add("text", SORT.as_bytes())?;
-    folder.add("list", ONE_LISTING.as_bytes())?;
-    folder.room(name, room)?;
-    let mut out = MemSink::new(alloc, 100)?;
-    let words = words_of(alloc, line)?;
-    let status = run(alloc, Seed::FIXED, &words, &mut folder, &mut out);
-    Ok((status, folder))
+/// Fails, naming the part, unless a command with so much room leaves this.
+fn expect_within(rt: &impl Abort, holds: bool, part: &str, line: &str, room: u64) {
+    assert!(rt; holds, "{part} for {line} of {room} bytes");
+}
+
+/// Runs a command over the smallest text and listing, where a file of this name may have so many bytes.
+fn expect_end(rt: &(impl Abort + AllocGlobal), line: &str, name: &str, room: u64, wanted: Status) {
+    let (text, listing) = (SORT.as_bytes(), ONE_LISTING.as_bytes());
+    let mut folder = folder_of(rt, &[("text", text), ("list", listing)]);
+    folder.room(name, room).expect(rt, "memory");
+    let (status, _) = ended(rt, line, &mut folder, 100);
+    let is_put = wanted == Status::Done;
+    let is_text = folder.file("text") == Some(text);
+    let is_listing = folder.file("list") == Some(listing);
+    expect_within(rt, status == wanted, "the status", line, room);
+    expect_within(
+        rt,
+        (folder.file(name) == Some(ONE)) == is_put,
+        "the file",
+        line,
+        room,
+    );
+    expect_within(
+        rt,
+        is_text != (is_put && name == "text"),
+        "the text",
+        line,
+        room,
+    );
+    expect_within(
+        rt,
+        is_listing != (is_put && name == "list"),
+        "the listing",
+        line,
+        room,
+    );
 }
 
 /// A command, the name of the file that it puts, the bytes that this may have, and how the run ends. The
@@ -182,23 +174,8 @@ const ENDS: &[(&str, &str, u64, Status)] = &[
 ];
 
 #[test]
-fn a_file_is_put_where_there_is_room(rt: HostRuntime) -> Result<(), Fail> {
+fn a_file_is_put_where_there_is_room(rt: HostRuntime) {
     for (line, name, room, wanted) in ENDS {
-        let (status, folder) = ended(rt.alloc(), line, name, *room)?;
-        let is_put = *wanted == Status::Done;
-        assert!(rt; status == *wanted, "{line} of {room} bytes");
-        assert!(rt;
-            (folder.file(name) == Some(ONE)) == is_put,
-            "the file for {line} of {room} bytes"
-        );
-        assert!(rt;
-            (folder.file("text") == Some(SORT.as_bytes())) != (is_put && *name == "text"),
-            "the text for {line} of {room} bytes"
-        );
-        assert!(rt;
-            (folder.file("list") == Some(ONE_LISTING.as_bytes())) != (is_put && *name == "list"),
-            "the listing for {line} of {room} bytes"
-        );
+        expect_end(&rt, line, name, *room, *wanted);
     }
-    Ok(())
 }

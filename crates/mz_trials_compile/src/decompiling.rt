@@ -1,31 +1,26 @@
 // Texts that are made of binaries, and pairs of which none is made.
 use crate::binaries::{BINDING, BINDING_SPEC, FOLD, GEN, GEN_SPEC, LOCALS, NAMED, SAVED};
+use crate::expect::{expect_of, expect_that};
 use crate::files::{EMPTY, FOLD_SPEC, IMP, IMP_SPEC, ONE, ONE_SPEC};
-use crate::runs::{compiled, expect_verdict, words_of};
+use crate::runs::{compiled, ended, expect_verdict, folder_of};
 use crate::texts::SORT;
 use mz_io::{MemFolder, MemSink};
-use mz_tool::{Seed, Status, run};
-use std::alloc::{AllocError, Global};
+use mz_tool::Status;
 use std::process::Abort;
-use std::test::Fail;
 
 /// A room for each text of these tests.
 const ROOM: u64 = 100_000;
 
 /// How `decompile` ends, the folder after it, and what was written.
 fn decompiled(
-    alloc: Global,
-    spec: &[u8],
+    rt: &(impl Abort + AllocGlobal),
+    spec: &str,
     bin: &[u8],
-) -> Result<(Status, MemFolder, MemSink), AllocError> {
-    let mut folder = MemFolder::new(alloc);
-    folder.add("spec", spec)?;
-    folder.add("bin", bin)?;
-    folder.room("out", ROOM)?;
-    let mut out = MemSink::new(alloc, 200)?;
-    let words = words_of(alloc, "decompile spec bin out")?;
-    let status = run(alloc, Seed::FIXED, &words, &mut folder, &mut out);
-    Ok((status, folder, out))
+) -> (Status, MemFolder, MemSink) {
+    let mut folder = folder_of(rt, &[("spec", spec.as_bytes()), ("bin", bin)]);
+    folder.room("out", ROOM).expect(rt, "memory");
+    let (status, out) = ended(rt, "decompile spec bin out", &mut folder, 200);
+    (status, folder, out)
 }
 
 /// A specification, a binary, the text, and what `verify` says of the specification and what the text is compiled to.
@@ -122,23 +117,35 @@ const TEXTS: &[(&str, &[u8], &str, &str)] = &[
     ),
 ];
 
-#[test]
-fn pairs_have_texts(rt: HostRuntime) -> Result<(), Fail> {
-    let alloc = rt.alloc();
-    for (spec, bin, text, _) in TEXTS {
-        let (status, folder, out) = decompiled(alloc, spec.as_bytes(), bin)?;
-        assert!(rt; status == Status::Done, "the status for {text}");
-        let line = format!(in alloc; "decompiled: {} bytes\n", text.len())?;
-        assert!(rt; out.bytes() == line.as_bytes(), "the line for {text}");
-        assert!(rt; folder.file("out") == Some(text.as_bytes()), "{text}");
-        assert!(rt; folder.file("spec") == Some(spec.as_bytes()), "{spec}");
-        assert!(rt; folder.file("bin") == Some(*bin), "the binary of {text}");
-    }
-    Ok(())
+fn expect_text(rt: &(impl Abort + AllocGlobal), spec: &str, bin: &[u8], text: &str) {
+    let (status, folder, out) = decompiled(rt, spec, bin);
+    let line = format!(in rt.alloc(); "decompiled: {} bytes\n", text.len()).expect(rt, "memory");
+    expect_of(rt, status == Status::Done, "the status", text);
+    expect_of(rt, out.bytes() == line.as_bytes(), "the line", text);
+    expect_of(
+        rt,
+        folder.file("out") == Some(text.as_bytes()),
+        "the file",
+        text,
+    );
+    expect_of(
+        rt,
+        folder.file("spec") == Some(spec.as_bytes()),
+        "the specification",
+        text,
+    );
+    expect_of(rt, folder.file("bin") == Some(bin), "the binary", text);
 }
 
-/// A specification, and a text under the names that its binary's text has: with dummies of a definition and of a theorem, an
-/// unfolding that meets one, a conversion under a term, and a term without operands.
+#[test]
+fn pairs_have_texts(rt: HostRuntime) {
+    for (spec, bin, text, _) in TEXTS {
+        expect_text(&rt, spec, bin, text);
+    }
+}
+
+/// A specification, and a text under the names that its binary's text has: with dummies of a definition and of a
+/// theorem, an unfolding that meets one, a conversion under a term, and a term without operands.
 const COMING_BACK: &[(&str, &str)] = &[(
     "provable sort wff;
 sort nat;
@@ -170,45 +177,36 @@ theorem w {y: nat}: $ not triv $ > $ not ( all y ( eq y y ) ) $;
 ",
 )];
 
+/// Compiles a text.
+fn expect_compiled(rt: &(impl Abort + AllocGlobal), text: &str) -> MemFolder {
+    let (status, folder, _) = compiled(rt, text.as_bytes());
+    expect_of(rt, status == Status::Done, "compiling", text);
+    folder
+}
+
 #[test]
-fn texts_come_back(rt: HostRuntime) -> Result<(), Fail> {
-    let alloc = rt.alloc();
+fn texts_come_back(rt: HostRuntime) {
     for (spec, text) in COMING_BACK {
-        let (status, folder, _) = compiled(alloc, text.as_bytes())?;
-        assert!(rt; status == Status::Done, "compiling {text}");
-        let Some(bin) = folder.file("out") else {
-            assert!(rt; false, "no binary is put for {text}");
-            return Ok(());
-        };
-        let (status, folder, _) = decompiled(alloc, spec.as_bytes(), bin)?;
-        assert!(rt; status == Status::Done, "the status for {text}");
-        assert!(rt; folder.file("out") == Some(text.as_bytes()), "{text}");
+        let compiled = expect_compiled(&rt, text);
+        let bin = compiled.file("out").expect(&rt, text);
+        let (status, folder, _) = decompiled(&rt, spec, bin);
+        expect_of(&rt, status == Status::Done, "the status", text);
+        expect_of(
+            &rt,
+            folder.file("out") == Some(text.as_bytes()),
+            "the file",
+            text,
+        );
     }
-    Ok(())
-}
-
-/// Compiles a text, and verifies the binary against a specification.
-fn expect_accepted(
-    rt: &(impl Abort + AllocGlobal),
-    spec: &str,
-    text: &str,
-    line: &str,
-) -> Result<(), Fail> {
-    let (status, folder, _) = compiled(rt.alloc(), text.as_bytes())?;
-    assert!(rt; status == Status::Done, "compiling {text}");
-    let Some(bin) = folder.file("out") else {
-        assert!(rt; false, "no binary is put for {text}");
-        return Ok(());
-    };
-    expect_verdict(rt, spec.as_bytes(), bin, line, text)
 }
 
 #[test]
-fn their_texts_are_accepted(rt: HostRuntime) -> Result<(), Fail> {
+fn their_texts_are_accepted(rt: HostRuntime) {
     for (spec, _, text, line) in TEXTS {
-        expect_accepted(&rt, spec, text, line)?;
+        let compiled = expect_compiled(&rt, text);
+        let bin = compiled.file("out").expect(&rt, text);
+        expect_verdict(&rt, spec.as_bytes(), bin, line, text);
     }
-    Ok(())
 }
 
 /// A specification, a binary that isn't accepted against it, and the line.
@@ -246,25 +244,18 @@ theorem t {y: nat} (q: wff y): $ q $ > $ all y q $;
 ];
 
 /// Makes a text of a pair that has none: the line is written, and no file is put.
-fn expect_none(
-    rt: &(impl Abort + AllocGlobal),
-    spec: &[u8],
-    bin: &[u8],
-    line: &str,
-) -> Result<(), Fail> {
-    let (status, folder, out) = decompiled(rt.alloc(), spec, bin)?;
-    assert!(rt; status == Status::Refused, "the status for {line}");
-    assert!(rt; out.bytes() == line.as_bytes(), "{line}");
-    assert!(rt; folder.file("out").is_none(), "a file for {line}");
-    Ok(())
+fn expect_none(rt: &(impl Abort + AllocGlobal), spec: &str, bin: &[u8], line: &str) {
+    let (status, folder, out) = decompiled(rt, spec, bin);
+    expect_of(rt, status == Status::Refused, "the status", line);
+    expect_of(rt, out.bytes() == line.as_bytes(), "the text", line);
+    expect_of(rt, folder.file("out").is_none(), "no file", line);
 }
 
 #[test]
-fn refused_pairs_have_none(rt: HostRuntime) -> Result<(), Fail> {
+fn refused_pairs_have_none(rt: HostRuntime) {
     for (spec, bin, line) in REFUSED {
-        expect_none(&rt, spec.as_bytes(), bin, line)?;
+        expect_none(&rt, spec, bin, line);
     }
-    Ok(())
 }
 
 /// The name of the text, the bytes that it may have, and how the run ends. It has 20; its file may be one that is read.
@@ -277,34 +268,44 @@ const ENDS: &[(&str, u64, Status)] = &[
     ("bin", 19, Status::WriteFault),
 ];
 
+/// Fails, naming the part, unless a text of this name with so much room leaves this.
+fn expect_within(rt: &impl Abort, holds: bool, part: &str, name: &str, room: u64) {
+    assert!(rt; holds, "{part} for {name} of {room} bytes");
+}
+
+fn expect_end(rt: &(impl Abort + AllocGlobal), name: &str, room: u64, wanted: Status) {
+    let spec = ONE_SPEC.as_bytes();
+    let mut folder = folder_of(rt, &[("spec", spec), ("bin", ONE)]);
+    folder.room(name, room).expect(rt, "memory");
+    let line = format!(in rt.alloc(); "decompile spec bin {name}").expect(rt, "memory");
+    let (status, _) = ended(rt, &line, &mut folder, 100);
+    let is_put = wanted == Status::Done;
+    let is_text = folder.file(name) == Some(SORT.as_bytes());
+    let is_spec = folder.file("spec") == Some(spec);
+    let is_bin = folder.file("bin") == Some(ONE);
+    expect_within(rt, status == wanted, "the status", name, room);
+    expect_within(rt, is_text == is_put, "the text", name, room);
+    expect_within(
+        rt,
+        is_spec != (is_put && name == "spec"),
+        "the specification",
+        name,
+        room,
+    );
+    expect_within(
+        rt,
+        is_bin != (is_put && name == "bin"),
+        "the binary",
+        name,
+        room,
+    );
+}
+
 #[test]
-fn a_text_is_put_where_there_is_room(rt: HostRuntime) -> Result<(), Fail> {
-    let alloc = rt.alloc();
+fn a_text_is_put_where_there_is_room(rt: HostRuntime) {
     for (name, room, wanted) in ENDS {
-        let mut folder = MemFolder::new(alloc);
-        folder.add("spec", ONE_SPEC.as_bytes())?;
-        folder.add("bin", ONE)?;
-        folder.room(name, *room)?;
-        let mut out = MemSink::new(alloc, 100)?;
-        let line = format!(in alloc; "decompile spec bin {name}")?;
-        let words = words_of(alloc, line.as_str())?;
-        let status = run(alloc, Seed::FIXED, &words, &mut folder, &mut out);
-        let is_put = *wanted == Status::Done;
-        assert!(rt; status == *wanted, "{line} of {room} bytes");
-        assert!(rt;
-            (folder.file(name) == Some(SORT.as_bytes())) == is_put,
-            "the text for {line} of {room} bytes"
-        );
-        assert!(rt;
-            (folder.file("spec") == Some(ONE_SPEC.as_bytes())) != (is_put && *name == "spec"),
-            "the specification for {line} of {room} bytes"
-        );
-        assert!(rt;
-            (folder.file("bin") == Some(ONE)) != (is_put && *name == "bin"),
-            "the binary for {line} of {room} bytes"
-        );
+        expect_end(&rt, name, *room, *wanted);
     }
-    Ok(())
 }
 
 /// The first bytes of a binary of a sort, a term of two parameters and a theorem of one, up to the place of its list.
@@ -320,46 +321,49 @@ const TABLES: &[u8] = &[
 ];
 
 /// A binary of a sort, a term and a local theorem with this stream and this body, which has fewer than 65,533 bytes.
-fn with_theorem(alloc: Global, stream: &[u8], body: &[u8]) -> Result<Vec<u8>, AllocError> {
+fn with_theorem(rt: &(impl Abort + AllocGlobal), stream: &[u8], body: &[u8]) -> Vec<u8> {
     let list = stream.len().wrapping_add(96).to_le_bytes();
     let distance = body.len().wrapping_add(3).to_le_bytes();
-    let mut file = FRONT.to_vec(alloc)?;
-    file.extend_from_slice(&[list[0], list[1], list[2], list[3]])?;
-    file.extend_from_slice(TABLES)?;
-    file.extend_from_slice(stream)?;
-    file.extend_from_slice(&[0x44, 2, 0x45, 2, 0x8e, distance[0], distance[1]])?;
-    file.extend_from_slice(body)?;
-    file.push(0)?;
-    Ok(file)
+    let list_at = [list[0], list[1], list[2], list[3]];
+    let heads = [0x44, 2, 0x45, 2, 0x8e, distance[0], distance[1]];
+    joined(rt, &[FRONT, &list_at, TABLES, stream, &heads, body, &[0]])
+}
+
+/// These pieces, one after another.
+fn joined(rt: &(impl Abort + AllocGlobal), pieces: &[&[u8]]) -> Vec<u8> {
+    let mut bytes = Vec::new(rt.alloc());
+    for piece in pieces {
+        bytes.extend_from_slice(piece).expect(rt, "memory");
+    }
+    bytes
 }
 
 /// These bytes so many times.
-fn repeated(alloc: Global, bytes: &[u8], count: u16) -> Result<Vec<u8>, AllocError> {
-    let mut many = Vec::new(alloc);
+fn repeated(rt: &(impl Abort + AllocGlobal), bytes: &[u8], count: u16) -> Vec<u8> {
+    let mut many = Vec::new(rt.alloc());
     for _ in 0..count {
-        many.extend_from_slice(bytes)?;
+        many.extend_from_slice(bytes).expect(rt, "memory");
     }
-    Ok(many)
+    many
 }
 
 /// The stream of a theorem whose hypothesis and conclusion are `im (.. (im (im a a) a) ..) a`, so many deep.
-fn deep_stream(alloc: Global, levels: u16) -> Result<Vec<u8>, AllocError> {
-    let mut tree = repeated(alloc, &[0x30], levels)?;
-    tree.extend_from_slice(&repeated(alloc, &[0x32], levels)?)?;
-    tree.push(0x32)?;
-    let mut stream = tree.to_vec(alloc)?;
-    stream.push(0x36)?;
-    stream.extend_from_slice(&tree)?;
-    stream.push(0)?;
-    Ok(stream)
+fn deep_stream(rt: &(impl Abort + AllocGlobal), levels: u16) -> Vec<u8> {
+    let terms = repeated(rt, &[0x30], levels);
+    let operands = repeated(rt, &[0x32], levels);
+    let tree = joined(rt, &[&terms, &operands, &[0x32]]);
+    joined(rt, &[&tree, &[0x36], &tree, &[0]])
 }
 
 /// Its body.
-fn deep_body(alloc: Global, levels: u16) -> Result<Vec<u8>, AllocError> {
-    let mut body = repeated(alloc, &[0x12], 1)?;
-    body.extend_from_slice(&repeated(alloc, &[0x12, 0x10], levels)?)?;
-    body.extend_from_slice(&[0x16, 0x52, 1, 0])?;
-    Ok(body)
+fn deep_body(rt: &(impl Abort + AllocGlobal), levels: u16) -> Vec<u8> {
+    let tree = repeated(rt, &[0x12, 0x10], levels);
+    joined(rt, &[&[0x12], &tree, &[0x16, 0x52, 1, 0]])
+}
+
+/// The binary of both.
+fn deep_binary(rt: &(impl Abort + AllocGlobal), levels: u16) -> Vec<u8> {
+    with_theorem(rt, &deep_stream(rt, levels), &deep_body(rt, levels))
 }
 
 const IM_SPEC: &str = "provable sort wff; term im (a b: wff): wff;";
@@ -371,46 +375,36 @@ const DEEP: &str = "refused: decompiled statement 3: depth\n";
 
 /// Three lists stand around the hypothesis of a theorem, so 4,093 may stand in one another there.
 #[test]
-fn a_text_is_so_deep(rt: HostRuntime) -> Result<(), Fail> {
-    let alloc = rt.alloc();
-    let most = with_theorem(alloc, &deep_stream(alloc, 4093)?, &deep_body(alloc, 4093)?)?;
-    let (status, folder, out) = decompiled(alloc, IM_SPEC.as_bytes(), &most)?;
-    assert!(rt; status == Status::Done, "4,096 lists");
-    assert!(rt;
-        out.bytes() == b"decompiled: 73799 bytes\n".as_slice(),
-        "4,096 lists"
-    );
-    let Some(text) = folder.file("out") else {
-        assert!(rt; false, "no text with 4,096 lists");
-        return Ok(());
-    };
-    let (status, _, _) = compiled(alloc, text)?;
-    assert!(rt; status == Status::Done, "a text with 4,096 lists");
-    let more = with_theorem(alloc, &deep_stream(alloc, 4094)?, &deep_body(alloc, 4094)?)?;
-    expect_none(&rt, IM_SPEC.as_bytes(), &more, DEEP)
+fn a_text_is_so_deep(rt: HostRuntime) {
+    let (status, folder, out) = decompiled(&rt, IM_SPEC, &deep_binary(&rt, 4093));
+    expect_that(&rt, status == Status::Done, "4,096 lists");
+    let line = b"decompiled: 73799 bytes\n".as_slice();
+    expect_that(&rt, out.bytes() == line, "4,096 lists");
+    let text = folder.file("out").expect(&rt, "a text with 4,096 lists");
+    let (status, _, _) = compiled(&rt, text);
+    expect_that(&rt, status == Status::Done, "a text with 4,096 lists");
+    expect_none(&rt, IM_SPEC, &deep_binary(&rt, 4094), DEEP);
 }
 
 /// The stream of a theorem whose hypothesis and conclusion have 2^(levels + 1) - 1 nodes: each application has the one
 /// before it on both sides.
-fn wide_stream(alloc: Global, levels: u8) -> Result<Vec<u8>, AllocError> {
-    let mut stream = repeated(alloc, &[0x31], u16::from(levels))?;
-    stream.extend_from_slice(&[0x32, 0x32])?;
+fn wide_stream(rt: &(impl Abort + AllocGlobal), levels: u8) -> Vec<u8> {
+    let mut stream = repeated(rt, &[0x31], u16::from(levels));
+    stream.extend_from_slice(&[0x32, 0x32]).expect(rt, "memory");
     for mark in (2..levels.saturating_add(1)).rev() {
-        stream.extend_from_slice(&[0x72, mark])?;
+        stream.extend_from_slice(&[0x72, mark]).expect(rt, "memory");
     }
-    stream.extend_from_slice(&[0x36, 0x72, 1, 0])?;
-    Ok(stream)
+    joined(rt, &[&stream, &[0x36, 0x72, 1, 0]])
 }
 
 /// Its body.
-fn wide_body(alloc: Global, levels: u8) -> Result<Vec<u8>, AllocError> {
-    let mut body = repeated(alloc, &[0x12], 2)?;
-    body.push(0x11)?;
+fn wide_body(rt: &(impl Abort + AllocGlobal), levels: u8) -> Vec<u8> {
+    let mut body = joined(rt, &[&[0x12, 0x12, 0x11]]);
     for saved in 1..levels {
-        body.extend_from_slice(&[0x52, saved, 0x11])?;
+        body.extend_from_slice(&[0x52, saved, 0x11])
+            .expect(rt, "memory");
     }
-    body.extend_from_slice(&[0x16, 0x52, levels.saturating_add(1), 0])?;
-    Ok(body)
+    joined(rt, &[&body, &[0x16, 0x52, levels.saturating_add(1), 0]])
 }
 
 /// A specification, the levels of a local theorem's formulas, and the line. The binary of the text may have
@@ -431,15 +425,10 @@ const LONG: &[(&str, u8, &str)] = &[
 ];
 
 #[test]
-fn a_text_is_so_long(rt: HostRuntime) -> Result<(), Fail> {
-    let alloc = rt.alloc();
+fn a_text_is_so_long(rt: HostRuntime) {
     for (spec, levels, line) in LONG {
-        let bin = with_theorem(
-            alloc,
-            &wide_stream(alloc, *levels)?,
-            &wide_body(alloc, *levels)?,
-        )?;
-        expect_none(&rt, spec.as_bytes(), &bin, line)?;
+        let stream = wide_stream(&rt, *levels);
+        let bin = with_theorem(&rt, &stream, &wide_body(&rt, *levels));
+        expect_none(&rt, spec, &bin, line);
     }
-    Ok(())
 }

@@ -1,12 +1,11 @@
 // Calls on the folder and on the output that fail, one by one, under each command; files that are too long.
+use crate::expect::expect_of;
 use crate::files::{IMP, IMP_SPEC, ONE, ONE_SPEC};
-use crate::runs::words_of;
+use crate::runs::{folder_of, words_of};
 use crate::texts::SORT;
 use mz_io::{Folder, MemFolder, MemSink};
 use mz_tool::{Command, Seed, Status, answer, run};
-use std::alloc::{AllocError, Global};
 use std::process::Abort;
-use std::test::Fail;
 
 const ACCEPTED_ONE: &str = "accepted: 1 sorts, 0 terms, 0 axioms, 0 definitions, 0 theorems\n";
 
@@ -69,16 +68,13 @@ const TEXTS: &[(&str, &str)] = &[
 const BINARIES: &[(&str, &[u8])] = &[("bin", ONE), ("proof", IMP), ("gap", GAP)];
 
 /// These files, with room for one that is put.
-pub fn smallest(alloc: Global) -> Result<MemFolder, AllocError> {
-    let mut folder = MemFolder::new(alloc);
+pub fn smallest(rt: &(impl Abort + AllocGlobal)) -> MemFolder {
+    let mut folder = folder_of(rt, BINARIES);
     for (name, text) in TEXTS {
-        folder.add(name, text.as_bytes())?;
+        folder.add(name, text.as_bytes()).expect(rt, "memory");
     }
-    for (name, bytes) in BINARIES {
-        folder.add(name, bytes)?;
-    }
-    folder.room("out", 51)?;
-    Ok(folder)
+    folder.room("out", 51).expect(rt, "memory");
+    folder
 }
 
 /// What a command puts that puts a file: the smallest binary, its text, or the specification of this.
@@ -93,163 +89,136 @@ fn made_by(line: &str) -> &[u8] {
 /// Asserts that the files are as they were, and whether one was put.
 pub fn assert_files(rt: &impl Abort, folder: &MemFolder, is_put: bool, what: &str) {
     for (name, text) in TEXTS {
-        assert!(rt;
-            folder.file(name) == Some(text.as_bytes()),
-            "{name} for {what}"
-        );
+        let is_same = folder.file(name) == Some(text.as_bytes());
+        expect_of(rt, is_same, name, what);
     }
     for (name, bytes) in BINARIES {
-        assert!(rt; folder.file(name) == Some(*bytes), "{name} for {what}");
+        expect_of(rt, folder.file(name) == Some(*bytes), name, what);
     }
-    let put = if is_put { Some(made_by(what)) } else { None };
-    assert!(rt;
-        folder.file("out") == put,
-        "the file that is put for {what}"
-    );
+    let put = is_put.then_some(made_by(what));
+    expect_of(rt, folder.file("out") == put, "the file that is put", what);
 }
 
-/// How a run over the smallest files ends where the call of this number on the folder fails, and whether
-/// that call comes after it.
-fn ended_at_call(
-    alloc: Global,
+/// Fails, naming a run by its words and the number of the call or write that fails.
+fn expect_at(rt: &impl Abort, holds: bool, line: &str, number: u64) {
+    assert!(rt; holds, "{line} where {number} fails");
+}
+
+/// How a run over the folder ends where an output that takes one byte at a time fails at the write of this
+/// number (0: none), and what is written.
+fn ended_slowly(
+    rt: &(impl Abort + AllocGlobal),
+    line: &str,
+    folder: &mut MemFolder,
+    write: u64,
+) -> (Status, MemSink) {
+    let words = words_of(rt.alloc(), line).expect(rt, "memory");
+    let mut out = MemSink::new(rt.alloc(), 200).expect(rt, "memory");
+    out.take_at_most(1);
+    out.fail_call(write).expect(rt, "memory");
+    let status = run(rt.alloc(), Seed::FIXED, &words, folder, &mut out);
+    (status, out)
+}
+
+/// Runs a command over the smallest files where the call of this number on the folder fails. It comes after
+/// the run where this is done.
+fn expect_call(
+    rt: &(impl Abort + AllocGlobal),
     line: &str,
     call: u64,
-) -> Result<(Status, MemFolder, MemSink, bool), AllocError> {
-    let mut folder = smallest(alloc)?;
-    folder.fail_call(call)?;
-    let mut out = MemSink::new(alloc, 200)?;
-    out.take_at_most(1);
-    let status = run(
-        alloc,
-        Seed::FIXED,
-        &words_of(alloc, line)?,
-        &mut folder,
-        &mut out,
-    );
+    wanted: Status,
+    text: &str,
+    is_put: bool,
+) {
+    let mut folder = smallest(rt);
+    folder.fail_call(call).expect(rt, "memory");
+    let (status, out) = ended_slowly(rt, line, &mut folder, 0);
     let comes_next = folder.start("bin").is_err();
-    Ok((status, folder, out, comes_next))
+    expect_at(rt, status == wanted, line, call);
+    expect_at(rt, out.bytes() == text.as_bytes(), line, call);
+    expect_at(rt, comes_next == (wanted == Status::Done), line, call);
+    assert_files(rt, &folder, is_put, line);
 }
 
 /// Counts the failing call up until a run meets no failure: a failing start or pull is a ReadFault, a
 /// failing put a WriteFault, and nothing is written.
-fn expect_calls(
-    rt: &(impl Abort + AllocGlobal),
-    line: &str,
-    reads: u8,
-    puts: u8,
-    text: &str,
-) -> Result<(), Fail> {
+fn expect_calls(rt: &(impl Abort + AllocGlobal), line: &str, reads: u8, puts: u8, text: &str) {
     let reads = u64::from(reads);
     let calls = reads + u64::from(puts);
     for call in 1..=calls {
-        let (status, folder, out, comes_next) = ended_at_call(rt.alloc(), line, call)?;
         let wanted = if call <= reads {
             Status::ReadFault
         } else {
             Status::WriteFault
         };
-        assert!(rt; status == wanted, "{line} where call {call} fails");
-        assert!(rt; out.bytes().is_empty(), "{line} where call {call} fails");
-        assert!(rt; !comes_next, "{line} makes call {call}");
-        assert_files(rt, &folder, false, line);
+        expect_call(rt, line, call, wanted, "", false);
     }
-    let (status, folder, out, comes_next) = ended_at_call(rt.alloc(), line, calls + 1)?;
-    assert!(rt; status == Status::Done, "{line} where no call fails");
-    assert!(rt;
-        out.bytes() == text.as_bytes(),
-        "{line} where no call fails"
-    );
-    assert!(rt; comes_next, "{line} makes no further call");
-    assert_files(rt, &folder, puts > 0, line);
-    Ok(())
+    expect_call(rt, line, calls + 1, Status::Done, text, puts > 0);
 }
 
 #[test]
-fn each_failing_call_on_the_folder_is_told(rt: HostRuntime) -> Result<(), Fail> {
+fn each_failing_call_on_the_folder_is_told(rt: HostRuntime) {
     for (line, reads, puts, text) in RUNS {
-        expect_calls(&rt, line, *reads, *puts, text)?;
+        expect_calls(&rt, line, *reads, *puts, text);
     }
-    Ok(())
 }
 
-/// How a run over the smallest files ends where the write of this number fails, of an output that takes one
-/// byte at a time.
-fn ended_at_write(
-    alloc: Global,
+/// Runs a command over the smallest files, with an output that fails after so many bytes of the text.
+fn expect_write(
+    rt: &(impl Abort + AllocGlobal),
     line: &str,
-    write: u64,
-) -> Result<(Status, MemFolder, MemSink), AllocError> {
-    let mut folder = smallest(alloc)?;
-    let mut out = MemSink::new(alloc, 200)?;
-    out.take_at_most(1);
-    out.fail_call(write)?;
-    let status = run(
-        alloc,
-        Seed::FIXED,
-        &words_of(alloc, line)?,
-        &mut folder,
-        &mut out,
-    );
-    Ok((status, folder, out))
+    written: usize,
+    wanted: Status,
+    text: &str,
+    is_put: bool,
+) {
+    let mut folder = smallest(rt);
+    let write = (written as u64).saturating_add(1);
+    let (status, out) = ended_slowly(rt, line, &mut folder, write);
+    let front = text.as_bytes().iter().take(written);
+    expect_at(rt, status == wanted, line, write);
+    expect_at(rt, out.bytes().iter().eq(front), line, write);
+    assert_files(rt, &folder, is_put, line);
 }
 
 /// Counts the failing write up until a run meets no failure: what was written before is there, and a file
 /// is put already.
-fn expect_writes(
-    rt: &(impl Abort + AllocGlobal),
-    line: &str,
-    puts: u8,
-    text: &str,
-) -> Result<(), Fail> {
+fn expect_writes(rt: &(impl Abort + AllocGlobal), line: &str, is_put: bool, text: &str) {
     for written in 0..text.len() {
-        let (status, folder, out) = ended_at_write(rt.alloc(), line, written as u64 + 1)?;
-        assert!(rt; status == Status::OutFault, "{line} after {written} bytes");
-        let front = text.as_bytes().iter().take(written);
-        assert!(rt;
-            out.bytes().iter().eq(front),
-            "{line} after {written} bytes"
-        );
-        assert_files(rt, &folder, puts > 0, line);
+        expect_write(rt, line, written, Status::OutFault, text, is_put);
     }
-    let (status, folder, out) = ended_at_write(rt.alloc(), line, text.len() as u64 + 1)?;
-    assert!(rt; status == Status::Done, "{line} where no write fails");
-    assert!(rt;
-        out.bytes() == text.as_bytes(),
-        "{line} where no write fails"
-    );
-    assert_files(rt, &folder, puts > 0, line);
-    Ok(())
+    expect_write(rt, line, text.len(), Status::Done, text, is_put);
 }
 
 #[test]
-fn each_failing_write_leaves_the_front(rt: HostRuntime) -> Result<(), Fail> {
+fn each_failing_write_leaves_the_front(rt: HostRuntime) {
     for (line, _, puts, text) in RUNS {
-        expect_writes(&rt, line, *puts, text)?;
+        expect_writes(&rt, line, *puts > 0, text);
     }
-    Ok(())
 }
 
-/// How a command over the smallest files ends where files may have so many bytes.
-fn ended_within(
-    alloc: Global,
+/// Runs a command over the smallest files where files may have so many bytes.
+fn expect_within(
+    rt: &(impl Abort + AllocGlobal),
     limit: u32,
     line: &str,
-) -> Result<(Status, MemFolder, MemSink), AllocError> {
-    let mut folder = smallest(alloc)?;
-    let mut out = MemSink::new(alloc, 200)?;
-    let words = words_of(alloc, line)?;
-    let status = match Command::read(&words) {
-        Some(command) => answer(
-            alloc,
-            Seed::FIXED,
-            u64::from(limit),
-            command,
-            &mut folder,
-            &mut out,
-        ),
-        None => Status::Usage,
-    };
-    Ok((status, folder, out))
+    wanted: Status,
+    text: &str,
+    is_put: bool,
+) {
+    let alloc = rt.alloc();
+    let mut folder = smallest(rt);
+    let mut out = MemSink::new(alloc, 200).expect(rt, "memory");
+    let words = words_of(alloc, line).expect(rt, "memory");
+    let command = Command::read(&words).expect(rt, line);
+    let limit = u64::from(limit);
+    let status = answer(alloc, Seed::FIXED, limit, command, &mut folder, &mut out);
+    assert!(rt; status == wanted, "{line} within {limit} bytes");
+    assert!(rt;
+        out.bytes() == text.as_bytes(),
+        "{line} within {limit} bytes"
+    );
+    assert_files(rt, &folder, is_put, line);
 }
 
 /// How many bytes a file may have, and what is written where none is too long. The smallest specification
@@ -284,20 +253,14 @@ const LIMITS: &[(u32, &str, Option<&str>)] = &[
 ];
 
 #[test]
-fn a_file_past_the_limit_is_too_long(rt: HostRuntime) -> Result<(), Fail> {
+fn a_file_past_the_limit_is_too_long(rt: HostRuntime) {
     for (limit, line, text) in LIMITS {
-        let (status, folder, out) = ended_within(rt.alloc(), *limit, line)?;
-        let wanted = match text {
-            Some(_) => Status::Done,
-            None => Status::TooLong,
-        };
-        assert!(rt; status == wanted, "{line} within {limit} bytes");
-        assert!(rt;
-            out.bytes() == text.unwrap_or("").as_bytes(),
-            "{line} within {limit} bytes"
-        );
-        let is_put = text.is_some() && line.as_bytes().ends_with(b" out");
-        assert_files(&rt, &folder, is_put, line);
+        match text {
+            Some(text) => {
+                let is_put = line.as_bytes().ends_with(b" out");
+                expect_within(&rt, *limit, line, Status::Done, text, is_put);
+            }
+            None => expect_within(&rt, *limit, line, Status::TooLong, "", false),
+        }
     }
-    Ok(())
 }

@@ -1,15 +1,14 @@
 // What is compiled is verified against the specification that declares the public statements, and listed.
+use crate::expect::{expect_of, expect_that};
 use crate::form_texts::{
     BOUND_VARIABLES, BOUND_VARIABLES_SPECIFICATION, CONVERSIONS, CONVERSIONS_SPECIFICATION,
     DUMMIES, DUMMIES_SPECIFICATION, EQUAL_PARTS, EQUAL_PARTS_SPECIFICATION, FOLD,
     FOLD_SPECIFICATION, LETS, LETS_SPECIFICATION, LOCALS, LOCALS_SPECIFICATION,
 };
-use crate::runs::words_of;
+use crate::runs::{ended, folder_of};
 use mz_io::{MemFolder, MemSink};
-use mz_tool::{Seed, Status, run};
-use std::alloc::{AllocError, Global};
+use mz_tool::Status;
 use std::process::Abort;
-use std::test::Fail;
 
 /// A room for each binary and each listing of these tests.
 const ROOM: u64 = 262_144;
@@ -49,82 +48,70 @@ const TEXTS: &[(&str, &str, &str)] = &[
 ];
 
 /// Runs a command that is to be done, and returns what it writes.
-fn expect_done(
+fn done(
     rt: &(impl Abort + AllocGlobal),
     folder: &mut MemFolder,
     command: &str,
     text: &str,
-) -> Result<MemSink, Fail> {
-    let mut out = MemSink::new(rt.alloc(), ROOM)?;
-    let words = words_of(rt.alloc(), command)?;
-    let status = run(rt.alloc(), Seed::FIXED, &words, folder, &mut out);
-    assert!(rt; status == Status::Done, "{command} of {text}");
-    Ok(out)
+) -> MemSink {
+    let (status, out) = ended(rt, command, folder, ROOM);
+    expect_of(rt, status == Status::Done, command, text);
+    out
 }
 
 /// Compiles a text, verifies the binary against a specification, and lists it.
-fn expect_compiled(
-    rt: &(impl Abort + AllocGlobal),
-    text: &str,
-    spec: &str,
-    line: &str,
-) -> Result<MemSink, Fail> {
-    let mut folder = MemFolder::new(rt.alloc());
-    folder.add("text", text.as_bytes())?;
-    folder.add("spec", spec.as_bytes())?;
-    folder.room("bin", ROOM)?;
-    let told = expect_done(rt, &mut folder, "compile text bin", text)?;
-    assert!(rt;
+fn expect_compiled(rt: &(impl Abort + AllocGlobal), text: &str, spec: &str, line: &str) -> MemSink {
+    let mut folder = folder_of(rt, &[("text", text.as_bytes()), ("spec", spec.as_bytes())]);
+    folder.room("bin", ROOM).expect(rt, "memory");
+    let told = done(rt, &mut folder, "compile text bin", text);
+    expect_of(
+        rt,
         told.bytes().starts_with(b"compiled: "),
-        "the line for {text}"
+        "the line",
+        text,
     );
-    let told = expect_done(rt, &mut folder, "verify spec bin", text)?;
-    assert!(rt; told.bytes() == line.as_bytes(), "what is said of {text}");
-    let listing = expect_done(rt, &mut folder, "show bin", text)?;
-    assert!(rt;
-        listing.bytes().ends_with(b"end\n"),
-        "the listing of {text}"
-    );
-    Ok(listing)
+    let told = done(rt, &mut folder, "verify spec bin", text);
+    expect_of(rt, told.bytes() == line.as_bytes(), "what is said", text);
+    let listing = done(rt, &mut folder, "show bin", text);
+    expect_of(rt, listing.bytes().ends_with(b"end\n"), "the listing", text);
+    listing
 }
 
 #[test]
-fn texts_of_all_forms(rt: HostRuntime) -> Result<(), Fail> {
+fn texts_of_all_forms(rt: HostRuntime) {
     for (text, spec, line) in TEXTS {
-        expect_compiled(&rt, text, spec, line)?;
+        expect_compiled(&rt, text, spec, line);
     }
-    Ok(())
 }
 
 #[test]
-fn an_application_is_built_once(rt: HostRuntime) -> Result<(), Fail> {
+fn an_application_is_built_once(rt: HostRuntime) {
     let line = "accepted: 1 sorts, 1 terms, 0 axioms, 1 definitions, 1 theorems\n";
-    let listing = expect_compiled(&rt, FOLD, FOLD_SPECIFICATION, line)?;
+    let listing = expect_compiled(&rt, FOLD, FOLD_SPECIFICATION, line);
     let built = listing
         .bytes()
         .split(|byte| *byte == b'\n')
         .filter(|line| *line == b" p term 1".as_slice() || *line == b" p term_save 1".as_slice())
         .count();
-    assert!(rt; built == 1, "the folded expression is built once");
-    Ok(())
+    expect_that(&rt, built == 1, "the folded expression is built once");
 }
 
 /// How deep the texts of the last test go.
 const DEPTH: usize = 1000;
 
-/// Appends a piece so many times.
-fn repeat(text: &mut String, piece: &str, times: usize) -> Result<(), AllocError> {
-    for _ in 0..times {
-        text.push_str(piece)?;
+/// A piece so many times.
+fn repeated(rt: &(impl Abort + AllocGlobal), piece: &str) -> String {
+    let mut text = String::new(rt.alloc());
+    for _ in 0..DEPTH {
+        text.push_str(piece).expect(rt, "memory");
     }
-    Ok(())
+    text
 }
 
-/// Appends something in so many pairs of what opens and what closes.
-fn nest(text: &mut String, open: &str, inner: &str, times: usize) -> Result<(), AllocError> {
-    repeat(text, open, times)?;
-    text.push_str(inner)?;
-    repeat(text, ")", times)
+/// Something in so many negations.
+fn negated(rt: &(impl Abort + AllocGlobal), inner: &str) -> String {
+    let (open, close) = (repeated(rt, "(not "), repeated(rt, ")"));
+    format!(in rt.alloc(); "{open}{inner}{close}").expect(rt, "memory")
 }
 
 const DEEP_SPECIFICATION: &str = "provable sort wff;
@@ -138,84 +125,63 @@ const DEEP: &str = "(sort wff provable)
 (def nn ((a wff ())) (wff ()) () (not (not a)))
 ";
 
-/// A text and a specification of an axiom with a deep expression.
-fn deep_expression(alloc: Global) -> Result<(String, String), AllocError> {
-    let mut text = DEEP.to_string(alloc)?;
-    text.push_str("(axiom deep ((a wff ())) () ")?;
-    nest(&mut text, "(not ", "a", DEPTH)?;
-    text.push_str(")\n")?;
-    let mut spec = DEEP_SPECIFICATION.to_string(alloc)?;
-    spec.push_str("axiom deep (a: wff): $ ")?;
-    repeat(&mut spec, "~ ", DEPTH)?;
-    spec.push_str("a $;\n")?;
-    Ok((text, spec))
+const ONE_AXIOM: &str = "accepted: 1 sorts, 1 terms, 1 axioms, 1 definitions, 0 theorems\n";
+
+const ONE_THEOREM: &str = "accepted: 1 sorts, 1 terms, 0 axioms, 1 definitions, 1 theorems\n";
+
+/// Compiles statements behind the first three, and verifies them.
+fn expect_deep(rt: &(impl Abort + AllocGlobal), text: &str, spec: &str, line: &str) {
+    let text = format!(in rt.alloc(); "{DEEP}{text}\n").expect(rt, "memory");
+    let spec = format!(in rt.alloc(); "{DEEP_SPECIFICATION}{spec}\n").expect(rt, "memory");
+    expect_compiled(rt, &text, &spec, line);
 }
 
-/// The same of a theorem with a deep conversion.
-fn deep_conversion(alloc: Global) -> Result<(String, String), AllocError> {
-    let mut text = DEEP.to_string(alloc)?;
-    text.push_str("(theorem deep ((a wff ())) ((h ")?;
-    nest(&mut text, "(not ", "(not (not a))", DEPTH)?;
-    text.push_str(")) ")?;
-    nest(&mut text, "(not ", "(nn a)", DEPTH)?;
-    text.push_str(" () (:conv ")?;
-    nest(&mut text, "(not ", "(nn a)", DEPTH)?;
-    text.push_str(" ")?;
-    nest(
-        &mut text,
-        "(not ",
-        "(:unfold nn (a) () (not (not a)))",
-        DEPTH,
-    )?;
-    text.push_str(" h))\n")?;
-    let mut spec = DEEP_SPECIFICATION.to_string(alloc)?;
-    spec.push_str("theorem deep (a: wff): $ ")?;
-    repeat(&mut spec, "~ ", DEPTH + 2)?;
-    spec.push_str("a $ > $ ")?;
-    repeat(&mut spec, "~ ", DEPTH)?;
-    spec.push_str("nn a $;\n")?;
-    Ok((text, spec))
+/// An axiom with a deep expression.
+fn expect_deep_expression(rt: &(impl Abort + AllocGlobal)) {
+    let (deep, signs) = (negated(rt, "a"), repeated(rt, "~ "));
+    let text = format!(in rt.alloc(); "(axiom deep ((a wff ())) () {deep})").expect(rt, "memory");
+    let spec = format!(in rt.alloc(); "axiom deep (a: wff): $ {signs}a $;").expect(rt, "memory");
+    expect_deep(rt, &text, &spec, ONE_AXIOM);
 }
 
-/// The same of a theorem whose proof has lets in one another.
-fn deep_lets(alloc: Global) -> Result<(String, String), AllocError> {
-    let mut text = DEEP.to_string(alloc)?;
-    text.push_str("(theorem deep ((a wff ())) ((h a)) a () ")?;
-    for i in 0..DEPTH as u32 {
-        text.push_str("(:let k")?;
-        text.push_str(&i.to_string(alloc)?)?;
-        text.push_str(" h ")?;
+/// A theorem with a deep conversion.
+fn deep_conversion(rt: &(impl Abort + AllocGlobal)) -> String {
+    let plain = negated(rt, "(not (not a))");
+    let folded = negated(rt, "(nn a)");
+    let unfolding = negated(rt, "(:unfold nn (a) () (not (not a)))");
+    let text = format!(in rt.alloc();
+        "(theorem deep ((a wff ())) ((h {plain})) {folded} () (:conv {folded} {unfolding} h))"
+    );
+    text.expect(rt, "memory")
+}
+
+fn expect_deep_conversion(rt: &(impl Abort + AllocGlobal)) {
+    let (text, signs) = (deep_conversion(rt), repeated(rt, "~ "));
+    let spec = format!(in rt.alloc(); "theorem deep (a: wff): $ {signs}~ ~ a $ > $ {signs}nn a $;");
+    expect_deep(rt, &text, &spec.expect(rt, "memory"), ONE_THEOREM);
+}
+
+/// So many lets of the hypothesis, each with its own name.
+fn lets(rt: &(impl Abort + AllocGlobal)) -> String {
+    let mut text = String::new(rt.alloc());
+    for i in 0..DEPTH {
+        let next = format!(in rt.alloc(); "(:let k{i} h ").expect(rt, "memory");
+        text.push_str(&next).expect(rt, "memory");
     }
-    nest(&mut text, "", "k7", DEPTH)?;
-    text.push_str(")\n")?;
-    let mut spec = DEEP_SPECIFICATION.to_string(alloc)?;
-    spec.push_str("theorem deep (a: wff): $ a $ > $ a $;\n")?;
-    Ok((text, spec))
+    text
+}
+
+/// A theorem whose proof has lets in one another.
+fn expect_deep_lets(rt: &(impl Abort + AllocGlobal)) {
+    let (open, close) = (lets(rt), repeated(rt, ")"));
+    let text = format!(in rt.alloc(); "(theorem deep ((a wff ())) ((h a)) a () {open}k7{close})");
+    let spec = "theorem deep (a: wff): $ a $ > $ a $;";
+    expect_deep(rt, &text.expect(rt, "memory"), spec, ONE_THEOREM);
 }
 
 #[test]
-fn deep_texts(rt: HostRuntime) -> Result<(), Fail> {
-    let alloc = rt.alloc();
-    let (text, spec) = deep_expression(alloc)?;
-    expect_compiled(
-        &rt,
-        &text,
-        &spec,
-        "accepted: 1 sorts, 1 terms, 1 axioms, 1 definitions, 0 theorems\n",
-    )?;
-    let (text, spec) = deep_conversion(alloc)?;
-    expect_compiled(
-        &rt,
-        &text,
-        &spec,
-        "accepted: 1 sorts, 1 terms, 0 axioms, 1 definitions, 1 theorems\n",
-    )?;
-    let (text, spec) = deep_lets(alloc)?;
-    expect_compiled(
-        &rt,
-        &text,
-        &spec,
-        "accepted: 1 sorts, 1 terms, 0 axioms, 1 definitions, 1 theorems\n",
-    )?;
-    Ok(())
+fn deep_texts(rt: HostRuntime) {
+    expect_deep_expression(&rt);
+    expect_deep_conversion(&rt);
+    expect_deep_lets(&rt);
 }

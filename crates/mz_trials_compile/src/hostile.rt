@@ -6,7 +6,6 @@ use crate::texts::{ALL_VARIABLES, FOLD_TEXT, IMPLICATION, LET_TWICE, SORT};
 use mz_tool::Status;
 use std::alloc::{AllocError, Global};
 use std::process::Abort;
-use std::test::Fail;
 
 /// A byte that is put in place of another (None: the text is cut there), and what is told then: rows that
 /// end with `/`, each of them for so many places on.
@@ -96,13 +95,8 @@ fn name_of(rule: &str) -> &'static str {
 }
 
 /// The text that is cut at the place, or has another byte there.
-fn changed(
-    alloc: Global,
-    text: &str,
-    byte: Option<u8>,
-    place: usize,
-) -> Result<Vec<u8>, AllocError> {
-    let mut bytes = text.as_bytes().to_vec(alloc)?;
+fn changed(rt: &(impl Abort + AllocGlobal), text: &str, byte: Option<u8>, place: usize) -> Vec<u8> {
+    let mut bytes = text.as_bytes().to_vec(rt.alloc()).expect(rt, "memory");
     match byte {
         None => bytes.truncate(place),
         Some(byte) => {
@@ -111,12 +105,12 @@ fn changed(
             }
         }
     }
-    Ok(bytes)
+    bytes
 }
 
 /// Whether compiling ends as it has to: with a file and a line that begins so, or with this line alone.
-fn is_told(alloc: Global, text: &[u8], line: &str, is_compiled: bool) -> Result<bool, AllocError> {
-    let (status, folder, out) = compiled(alloc, text)?;
+fn is_told(rt: &(impl Abort + AllocGlobal), text: &[u8], line: &str, is_compiled: bool) -> bool {
+    let (status, folder, out) = compiled(rt, text);
     let wanted = if is_compiled {
         Status::Done
     } else {
@@ -124,7 +118,7 @@ fn is_told(alloc: Global, text: &[u8], line: &str, is_compiled: bool) -> Result<
     };
     let is_whole = is_compiled || out.bytes().len() == line.len();
     let is_line = is_whole && out.bytes().starts_with(line.as_bytes());
-    Ok(status == wanted && is_line && folder.file("out").is_some() == is_compiled)
+    status == wanted && is_line && folder.file("out").is_some() == is_compiled
 }
 
 /// Compiles the text as it is changed at a place. Where the byte was there already, there is nothing to try.
@@ -134,15 +128,14 @@ fn expect_place(
     byte: Option<u8>,
     place: usize,
     row: Row,
-) -> Result<(), Fail> {
+) {
     if byte.is_some() && byte == text.as_bytes().get(place).copied() {
-        return Ok(());
+        return;
     }
-    let line = row.line(rt.alloc(), text, place)?;
-    let changed = changed(rt.alloc(), text, byte, place)?;
-    let is_right = is_told(rt.alloc(), &changed, &line, row.is_compiled())?;
+    let line = row.line(rt.alloc(), text, place).expect(rt, "memory");
+    let changed = changed(rt, text, byte, place);
+    let is_right = is_told(rt, &changed, &line, row.is_compiled());
     assert!(rt; is_right, "changed at {place}: {line}");
-    Ok(())
 }
 
 fn expect_row(
@@ -151,26 +144,20 @@ fn expect_row(
     byte: Option<u8>,
     from: usize,
     row: Row,
-) -> Result<(), Fail> {
+) {
     for place in from..from.saturating_add(row.places) {
-        expect_place(rt, text, byte, place, row)?;
+        expect_place(rt, text, byte, place, row);
     }
-    Ok(())
 }
 
 /// Compiles the text as it is changed at each place on from the first.
-fn expect_sheet(
-    rt: &(impl Abort + AllocGlobal),
-    text: &str,
-    first: usize,
-    sheet: Sheet,
-) -> Result<(), Fail> {
+fn expect_sheet(rt: &(impl Abort + AllocGlobal), text: &str, first: usize, sheet: Sheet) {
     let (byte, rows) = sheet;
     let mut place = first;
     let mut row = EMPTY_ROW;
     for word in rows.split_whitespace() {
         if word == "/" {
-            expect_row(rt, text, byte, place, row)?;
+            expect_row(rt, text, byte, place, row);
             place = place.saturating_add(row.places);
             row = EMPTY_ROW;
         } else {
@@ -178,43 +165,36 @@ fn expect_sheet(
         }
     }
     assert!(rt; place == text.len(), "the places of {text}");
-    Ok(())
 }
 
-fn expect_sheets(
-    rt: &(impl Abort + AllocGlobal),
-    text: &str,
-    first: usize,
-    sheets: &[Sheet],
-) -> Result<(), Fail> {
+fn expect_sheets(rt: &(impl Abort + AllocGlobal), text: &str, first: usize, sheets: &[Sheet]) {
     for sheet in sheets {
-        expect_sheet(rt, text, first, *sheet)?;
+        expect_sheet(rt, text, first, *sheet);
     }
-    Ok(())
 }
 
 #[test]
-fn the_smallest_text_cut_and_changed(rt: HostRuntime) -> Result<(), Fail> {
-    expect_sheets(&rt, SORT, 0, hostile_sheets::SORT)
+fn the_smallest_text_cut_and_changed(rt: HostRuntime) {
+    expect_sheets(&rt, SORT, 0, hostile_sheets::SORT);
 }
 
 #[test]
-fn implication_cut_and_changed(rt: HostRuntime) -> Result<(), Fail> {
-    expect_sheets(&rt, IMPLICATION, 0, hostile_sheets::IMPLICATION)
+fn implication_cut_and_changed(rt: HostRuntime) {
+    expect_sheets(&rt, IMPLICATION, 0, hostile_sheets::IMPLICATION);
 }
 
 #[test]
-fn all_variables_cut_and_changed(rt: HostRuntime) -> Result<(), Fail> {
-    expect_sheets(&rt, ALL_VARIABLES, 0, hostile_sheets::ALL_VARIABLES)
+fn all_variables_cut_and_changed(rt: HostRuntime) {
+    expect_sheets(&rt, ALL_VARIABLES, 0, hostile_sheets::ALL_VARIABLES);
 }
 
 #[test]
-fn fold_cut_and_changed(rt: HostRuntime) -> Result<(), Fail> {
-    expect_sheets(&rt, FOLD_TEXT, 0, hostile_sheets::FOLD)
+fn fold_cut_and_changed(rt: HostRuntime) {
+    expect_sheets(&rt, FOLD_TEXT, 0, hostile_sheets::FOLD);
 }
 
 /// The front of the text is that of implication.
 #[test]
-fn a_let_cut_and_changed(rt: HostRuntime) -> Result<(), Fail> {
-    expect_sheets(&rt, LET_TWICE, 268, hostile_sheets::LET_TWICE)
+fn a_let_cut_and_changed(rt: HostRuntime) {
+    expect_sheets(&rt, LET_TWICE, 268, hostile_sheets::LET_TWICE);
 }

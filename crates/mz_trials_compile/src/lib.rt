@@ -9,6 +9,8 @@ mod compiling;
 #[cfg(test)]
 mod decompiling;
 #[cfg(test)]
+mod expect;
+#[cfg(test)]
 mod failing;
 #[cfg(test)]
 mod files;

@@ -1,9 +1,9 @@
 // Runs of the program over a folder and a sink in memory.
+use crate::expect::expect_of;
 use mz_io::{MemFolder, MemSink};
 use mz_tool::{Seed, Status, run};
 use std::alloc::{AllocError, Global};
 use std::process::Abort;
-use std::test::Fail;
 
 /// The words of a command line, separated by single spaces; no words where it is empty.
 pub fn words_of(alloc: Global, line: &str) -> Result<Vec<String>, AllocError> {
@@ -17,25 +17,43 @@ pub fn words_of(alloc: Global, line: &str) -> Result<Vec<String>, AllocError> {
 /// A room for each binary of these tests.
 const ROOM: u64 = 20_000;
 
-/// How compiling a text ends, the folder after it, and what was written.
-pub fn compiled(alloc: Global, text: &[u8]) -> Result<(Status, MemFolder, MemSink), AllocError> {
-    compiled_as(alloc, "compile", text)
+/// A folder of these files.
+pub fn folder_of(rt: &(impl Abort + AllocGlobal), files: &[(&str, &[u8])]) -> MemFolder {
+    let mut folder = MemFolder::new(rt.alloc());
+    for (name, bytes) in files {
+        folder.add(name, bytes).expect(rt, "memory");
+    }
+    folder
 }
 
-/// The same with `compile_draft` or `compile`.
-pub fn compiled_as(
-    alloc: Global,
-    command: &str,
+/// How a command over the folder ends, and what it writes to a sink of this room.
+pub fn ended(
+    rt: &(impl Abort + AllocGlobal),
+    line: &str,
+    folder: &mut MemFolder,
+    room: u64,
+) -> (Status, MemSink) {
+    let words = words_of(rt.alloc(), line).expect(rt, "memory");
+    let mut out = MemSink::new(rt.alloc(), room).expect(rt, "memory");
+    let status = run(rt.alloc(), Seed::FIXED, &words, folder, &mut out);
+    (status, out)
+}
+
+/// How compiling a text ends, the folder after it, and what was written.
+pub fn compiled(rt: &(impl Abort + AllocGlobal), text: &[u8]) -> (Status, MemFolder, MemSink) {
+    made_of(rt, "compile text out", text)
+}
+
+/// The same with another command that puts the file `out`.
+pub fn made_of(
+    rt: &(impl Abort + AllocGlobal),
+    line: &str,
     text: &[u8],
-) -> Result<(Status, MemFolder, MemSink), AllocError> {
-    let mut folder = MemFolder::new(alloc);
-    folder.add("text", text)?;
-    folder.room("out", ROOM)?;
-    let mut out = MemSink::new(alloc, 200)?;
-    let line = format!(in alloc; "{command} text out")?;
-    let words = words_of(alloc, line.as_str())?;
-    let status = run(alloc, Seed::FIXED, &words, &mut folder, &mut out);
-    Ok((status, folder, out))
+) -> (Status, MemFolder, MemSink) {
+    let mut folder = folder_of(rt, &[("text", text)]);
+    folder.room("out", ROOM).expect(rt, "memory");
+    let (status, out) = ended(rt, line, &mut folder, 200);
+    (status, folder, out)
 }
 
 /// What is compiled of a finished text is judged alike by the published table and by address.
@@ -49,11 +67,10 @@ pub fn expect_verdict(
     bin: &[u8],
     line: &str,
     what: &str,
-) -> Result<(), Fail> {
+) {
     for command in JUDGING {
-        expect_said(rt, command, spec, bin, line, what)?;
+        expect_said(rt, command, spec, bin, line, what);
     }
-    Ok(())
 }
 
 /// Judges a binary against a specification by a command, and compares the line and the status.
@@ -64,20 +81,16 @@ fn expect_said(
     bin: &[u8],
     line: &str,
     what: &str,
-) -> Result<(), Fail> {
-    let alloc = rt.alloc();
-    let mut folder = MemFolder::new(alloc);
-    folder.add("spec", spec)?;
-    folder.add("bin", bin)?;
-    let mut out = MemSink::new(alloc, 200)?;
-    let words = words_of(alloc, command)?;
-    let status = run(alloc, Seed::FIXED, &words, &mut folder, &mut out);
-    let text = format!(in alloc; "{line}\n")?;
-    assert!(rt; out.bytes() == text.as_bytes(), "the line for {what}");
+) {
+    let mut folder = folder_of(rt, &[("spec", spec), ("bin", bin)]);
+    let (status, out) = ended(rt, command, &mut folder, 200);
+    let text = format!(in rt.alloc(); "{line}\n").expect(rt, "memory");
+    expect_of(rt, out.bytes() == text.as_bytes(), "the line", what);
     let is_accepted = line.as_bytes().starts_with(b"accepted: ");
-    assert!(rt;
+    expect_of(
+        rt,
         (status == Status::Done) == is_accepted,
-        "the status for {what}"
+        "the status",
+        what,
     );
-    Ok(())
 }

@@ -1,18 +1,31 @@
 // Samples that the program makes, compiles and verifies.
-use crate::runs::words_of;
-use mz_io::{Folder, MemFolder, MemSink};
+use crate::expect::expect_of;
+use crate::runs::{folder_of, words_of};
+use mz_io::{Folder, MemSink};
 use mz_tool::{Seed, Status, run};
-use std::alloc::Global;
-use std::test::Fail;
+use std::alloc::{AllocError, Global};
+use std::process::Abort;
 
-/// How a run over an empty folder ends, whether it made no call on the folder, and what was written.
-fn ended(alloc: Global, words: &[String]) -> Result<(Status, bool, MemSink), Fail> {
-    let mut folder = MemFolder::new(alloc);
-    folder.add("file", b"")?;
-    folder.fail_call(1)?;
-    let mut out = MemSink::new(alloc, 400)?;
-    let status = run(alloc, Seed::FIXED, words, &mut folder, &mut out);
-    Ok((status, folder.start("file").is_err(), out))
+/// Runs a command that makes no call on the folder, and compares how it ends and what it writes.
+fn expect_said(
+    rt: &(impl Abort + AllocGlobal),
+    words: &[String],
+    wanted: Status,
+    text: &str,
+    what: &str,
+) {
+    let mut folder = folder_of(rt, &[("file", b"")]);
+    folder.fail_call(1).expect(rt, "memory");
+    let mut out = MemSink::new(rt.alloc(), 400).expect(rt, "memory");
+    let status = run(rt.alloc(), Seed::FIXED, words, &mut folder, &mut out);
+    expect_of(rt, status == wanted, "the status", what);
+    expect_of(
+        rt,
+        folder.start("file").is_err(),
+        "no call on the folder",
+        what,
+    );
+    expect_of(rt, out.bytes() == text.as_bytes(), "the text", what);
 }
 
 /// The words, and what is written.
@@ -28,15 +41,11 @@ const SAMPLES: &[(&str, &str)] = &[
 ];
 
 #[test]
-fn samples_are_accepted(rt: HostRuntime) -> Result<(), Fail> {
+fn samples_are_accepted(rt: HostRuntime) {
     for (line, text) in SAMPLES {
-        let words = words_of(rt.alloc(), line)?;
-        let (status, is_apart, out) = ended(rt.alloc(), &words)?;
-        assert!(rt; status == Status::Done, "{line}");
-        assert!(rt; is_apart, "no call on the folder for {line}");
-        assert!(rt; out.bytes() == text.as_bytes(), "{line}");
+        let words = words_of(rt.alloc(), line).expect(&rt, "memory");
+        expect_said(&rt, &words, Status::Done, text, line);
     }
-    Ok(())
 }
 
 /// Words that are no size of a sample: none, numbers out of range, leading zeros, signs and others.
@@ -61,16 +70,19 @@ const OTHERS: &[&[&str]] = &[
     &["Sample", "1"],
 ];
 
-#[test]
-fn other_sizes_are_usage(rt: HostRuntime) -> Result<(), Fail> {
-    for others in OTHERS {
-        let mut words = Vec::new(rt.alloc());
-        for word in *others {
-            words.push(word.to_string(rt.alloc())?)?;
-        }
-        let (status, is_apart, out) = ended(rt.alloc(), &words)?;
-        assert!(rt; status == Status::Usage, "{}", others.len());
-        assert!(rt; is_apart && out.bytes().is_empty(), "{}", others.len());
+fn owned(alloc: Global, words: &[&str]) -> Result<Vec<String>, AllocError> {
+    let mut strings = Vec::new(alloc);
+    for word in words {
+        strings.push(word.to_string(alloc)?)?;
     }
-    Ok(())
+    Ok(strings)
+}
+
+#[test]
+fn other_sizes_are_usage(rt: HostRuntime) {
+    for others in OTHERS {
+        let words = owned(rt.alloc(), others).expect(&rt, "memory");
+        let last = others.last().copied().unwrap_or_default();
+        expect_said(&rt, &words, Status::Usage, "", last);
+    }
 }

@@ -1,13 +1,12 @@
 // Each command over a folder that gives one byte at a time, and an output that takes one.
 ghost use Rattle.std.specs.Prelude.{◌≡◌};
 
+use crate::expect::expect_of;
 use crate::failing::{RUNS, assert_files, smallest};
 use crate::runs::words_of;
 use mz_io::{Failed, Folder, MemFolder, MemSink};
 use mz_tool::{Seed, Status, run};
-use std::alloc::{AllocError, Global};
 use std::process::Abort;
-use std::test::Fail;
 
 /// A folder in memory that gives one byte at a time. It tells nothing of its files.
 #[derive(Drop)]
@@ -75,32 +74,25 @@ impl Folder for SlowFolder {
     }
 }
 
-/// How a run over the smallest files ends where they are given, and the output taken, byte by byte.
-fn ended(alloc: Global, line: &str) -> Result<(Status, SlowFolder, MemSink), AllocError> {
-    let mut folder = SlowFolder {
-        folder: smallest(alloc)?,
+/// Runs a command over the smallest files where they are given, and the output taken, byte by byte.
+fn expect_slow(rt: &(impl Abort + AllocGlobal), line: &str, is_put: bool, text: &str) {
+    let mut slow = SlowFolder {
+        folder: smallest(rt),
         faults: 0,
         put_faults: 0,
     };
-    let mut out = MemSink::new(alloc, 200)?;
+    let mut out = MemSink::new(rt.alloc(), 200).expect(rt, "memory");
     out.take_at_most(1);
-    let status = run(
-        alloc,
-        Seed::FIXED,
-        &words_of(alloc, line)?,
-        &mut folder,
-        &mut out,
-    );
-    Ok((status, folder, out))
+    let words = words_of(rt.alloc(), line).expect(rt, "memory");
+    let status = run(rt.alloc(), Seed::FIXED, &words, &mut slow, &mut out);
+    expect_of(rt, status == Status::Done, "the status", line);
+    expect_of(rt, out.bytes() == text.as_bytes(), "the text", line);
+    assert_files(rt, &slow.folder, is_put, line);
 }
 
 #[test]
-fn one_byte_at_a_time(rt: HostRuntime) -> Result<(), Fail> {
+fn one_byte_at_a_time(rt: HostRuntime) {
     for (line, _, puts, text) in RUNS {
-        let (status, slow, out) = ended(rt.alloc(), line)?;
-        assert!(rt; status == Status::Done, "{line}");
-        assert!(rt; out.bytes() == text.as_bytes(), "{line}");
-        assert_files(&rt, &slow.folder, *puts > 0, line);
+        expect_slow(&rt, line, *puts > 0, text);
     }
-    Ok(())
 }

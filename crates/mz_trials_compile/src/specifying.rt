@@ -1,29 +1,20 @@
 // Specifications that are made for proof texts.
-use crate::runs::{compiled, expect_verdict, words_of};
+use crate::expect::{expect_of, expect_that};
+use crate::runs::{compiled, expect_verdict, made_of};
 use crate::texts::{
     ALL_VARIABLES, FOLD_TEXT, IMPLICATION, LET_TWICE, LOCAL_DEFINITION, LOCAL_IN_AXIOM, SAMPLE,
 };
 use mz_io::{MemFolder, MemSink};
-use mz_tool::{Seed, Status, run};
-use std::alloc::{AllocError, Global};
-use std::test::Fail;
-
-/// A room for each specification of these tests.
-const ROOM: u64 = 20_000;
+use mz_tool::Status;
+use std::process::Abort;
 
 /// How `spec` ends, the folder after it, and what was written.
-fn specified(alloc: Global, text: &[u8]) -> Result<(Status, MemFolder, MemSink), AllocError> {
-    let mut folder = MemFolder::new(alloc);
-    folder.add("text", text)?;
-    folder.room("out", ROOM)?;
-    let mut out = MemSink::new(alloc, 200)?;
-    let words = words_of(alloc, "spec text out")?;
-    let status = run(alloc, Seed::FIXED, &words, &mut folder, &mut out);
-    Ok((status, folder, out))
+fn specified(rt: &(impl Abort + AllocGlobal), text: &[u8]) -> (Status, MemFolder, MemSink) {
+    made_of(rt, "spec text out", text)
 }
 
 /// Texts, and their specifications.
-const SPECIFIED: [(&str, &str); 4] = [
+const SPECIFIED: &[(&str, &str)] = &[
     (
         IMPLICATION,
         "provable sort wff;
@@ -74,7 +65,7 @@ def e (___v0: nat) {.___v1: nat}: __s = $ all ___v1 ( _eq ___v1 ___v0 ) $;
 ];
 
 /// Texts that have no specification, and what is written.
-const REFUSED: [(&str, &str); 3] = [
+const REFUSED: &[(&str, &str)] = &[
     (
         LOCAL_IN_AXIOM,
         "refused: text statement 5: local definition\n",
@@ -94,7 +85,7 @@ const REFUSED: [(&str, &str); 3] = [
 ];
 
 /// Texts that are accepted beside their own specifications, and the line.
-const ACCEPTED: [(&str, &str); 4] = [
+const ACCEPTED: &[(&str, &str)] = &[
     (
         IMPLICATION,
         "accepted: 1 sorts, 1 terms, 2 axioms, 0 definitions, 1 theorems",
@@ -113,44 +104,45 @@ const ACCEPTED: [(&str, &str); 4] = [
     ),
 ];
 
+fn expect_specified(rt: &(impl Abort + AllocGlobal), text: &str, spec: &str) {
+    let (status, folder, out) = specified(rt, text.as_bytes());
+    let line = format!(in rt.alloc(); "specified: {} bytes\n", spec.len()).expect(rt, "memory");
+    expect_of(rt, status == Status::Done, "the status", spec);
+    expect_of(rt, out.bytes() == line.as_bytes(), "the line", spec);
+    expect_of(
+        rt,
+        folder.file("out") == Some(spec.as_bytes()),
+        "the file",
+        spec,
+    );
+}
+
 #[test]
-fn texts_have_specifications(rt: HostRuntime) -> Result<(), Fail> {
-    let alloc = rt.alloc();
+fn texts_have_specifications(rt: HostRuntime) {
     for (text, spec) in SPECIFIED {
-        let (status, folder, out) = specified(alloc, text.as_bytes())?;
-        assert!(rt; status == Status::Done, "the status for {spec}");
-        let line = format!(in alloc; "specified: {} bytes\n", spec.len())?;
-        assert!(rt; out.bytes() == line.as_bytes(), "the line for {spec}");
-        assert!(rt; folder.file("out") == Some(spec.as_bytes()), "{spec}");
+        expect_specified(&rt, text, spec);
     }
-    Ok(())
 }
 
 #[test]
-fn some_texts_have_none(rt: HostRuntime) -> Result<(), Fail> {
-    let alloc = rt.alloc();
+fn some_texts_have_none(rt: HostRuntime) {
     for (text, line) in REFUSED {
-        let (status, folder, out) = specified(alloc, text.as_bytes())?;
-        assert!(rt; status == Status::Refused, "the status for {line}");
-        assert!(rt; out.bytes() == line.as_bytes(), "{line}");
-        assert!(rt; folder.file("out").is_none(), "a file for {line}");
+        let (status, folder, out) = specified(&rt, text.as_bytes());
+        expect_of(&rt, status == Status::Refused, "the status", line);
+        expect_of(&rt, out.bytes() == line.as_bytes(), "the text", line);
+        expect_of(&rt, folder.file("out").is_none(), "no file", line);
     }
-    Ok(())
 }
 
 #[test]
-fn texts_are_accepted_beside_their_own(rt: HostRuntime) -> Result<(), Fail> {
-    let alloc = rt.alloc();
+fn texts_are_accepted_beside_their_own(rt: HostRuntime) {
     for (text, line) in ACCEPTED {
-        let (_, specs, _) = specified(alloc, text.as_bytes())?;
-        let (_, bins, _) = compiled(alloc, text.as_bytes())?;
-        let (Some(spec), Some(bin)) = (specs.file("out"), bins.file("out")) else {
-            assert!(rt; false, "no files for {line}");
-            return Ok(());
-        };
-        expect_verdict(&rt, spec, bin, line, text)?;
+        let (_, specs, _) = specified(&rt, text.as_bytes());
+        let (_, bins, _) = compiled(&rt, text.as_bytes());
+        let spec = specs.file("out").expect(&rt, line);
+        let bin = bins.file("out").expect(&rt, line);
+        expect_verdict(&rt, spec, bin, line, text);
     }
-    Ok(())
 }
 
 /// A sort and two terms.
@@ -165,32 +157,23 @@ term im (_v0: wff) (_v1: wff): wff;
 ";
 
 /// An implication of implications, ten deep, whose prefix form has 4,091 tokens.
-fn wide_expression(alloc: Global) -> Result<String, AllocError> {
-    let mut wide = "a".to_string(alloc)?;
+fn wide_expression(rt: &(impl Abort + AllocGlobal)) -> String {
+    let mut wide = "a".to_string(rt.alloc()).expect(rt, "memory");
     for _ in 0..10 {
-        let mut both = "(im ".to_string(alloc)?;
-        both.push_str(&wide)?;
-        both.push_str(" ")?;
-        both.push_str(&wide)?;
-        both.push_str(")")?;
-        wide = both;
+        wide = format!(in rt.alloc(); "(im {wide} {wide})").expect(rt, "memory");
     }
-    Ok(wide)
+    wide
 }
 
 /// The terms, and a statement: what stands before the wide expression, and behind it.
-fn wide_text(alloc: Global, front: &str, rest: &str) -> Result<String, AllocError> {
-    let wide = wide_expression(alloc)?;
-    let mut text = TERMS.to_string(alloc)?;
-    text.push_str(front)?;
-    text.push_str(&wide)?;
-    text.push_str(rest)?;
-    Ok(text)
+fn wide_text(rt: &(impl Abort + AllocGlobal), front: &str, rest: &str) -> String {
+    let wide = wide_expression(rt);
+    format!(in rt.alloc(); "{TERMS}{front}{wide}{rest}").expect(rt, "memory")
 }
 
 /// What stands before the wide expression and behind it, how `spec` ends, and the line; of a specification the
 /// line is long. A negation before the expression makes 4,094 tokens of it, and two make 4,097.
-const WIDE: [(&str, &str, Status, &str); 3] = [
+const WIDE: &[(&str, &str, Status, &str)] = &[
     ("(axiom x ((a wff ())) () (not ", "))", Status::Done, ""),
     (
         "(axiom x ((a wff ())) () (not (not ",
@@ -209,29 +192,24 @@ const WIDE: [(&str, &str, Status, &str); 3] = [
 ];
 
 #[test]
-fn a_claim_has_so_many_tokens(rt: HostRuntime) -> Result<(), Fail> {
-    let alloc = rt.alloc();
-    for (front, rest, status, line) in WIDE {
-        let text = wide_text(alloc, front, rest)?;
-        let (ended, folder, out) = specified(alloc, text.as_bytes())?;
-        assert!(rt; ended == status, "the status for {front}");
+fn a_claim_has_so_many_tokens(rt: HostRuntime) {
+    for (front, rest, wanted, line) in WIDE {
+        let text = wide_text(&rt, front, rest);
+        let (status, folder, out) = specified(&rt, text.as_bytes());
         let is_put = folder.file("out").is_some();
-        assert!(rt; is_put == line.is_empty(), "a file for {front}");
         let is_told = line.is_empty() || out.bytes() == line.as_bytes();
-        assert!(rt; is_told, "{line}");
+        expect_of(&rt, status == *wanted, "the status", front);
+        expect_of(&rt, is_put == line.is_empty(), "a file", front);
+        expect_that(&rt, is_told, line);
     }
-    Ok(())
 }
 
 #[test]
-fn a_long_body_is_left_out(rt: HostRuntime) -> Result<(), Fail> {
-    let alloc = rt.alloc();
+fn a_long_body_is_left_out(rt: HostRuntime) {
     let front = "(def d ((a wff ())) (wff ()) () (not (not ";
-    let text = wide_text(alloc, front, ")))")?;
-    let (status, folder, _) = specified(alloc, text.as_bytes())?;
-    assert!(rt; status == Status::Done, "the status");
-    let mut spec = OF_TERMS.to_string(alloc)?;
-    spec.push_str("def d (_v0: wff): wff;\n")?;
-    assert!(rt; folder.file("out") == Some(spec.as_bytes()), "{spec}");
-    Ok(())
+    let text = wide_text(&rt, front, ")))");
+    let (status, folder, _) = specified(&rt, text.as_bytes());
+    expect_that(&rt, status == Status::Done, "the status");
+    let spec = format!(in rt.alloc(); "{OF_TERMS}def d (_v0: wff): wff;\n").expect(&rt, "memory");
+    expect_that(&rt, folder.file("out") == Some(spec.as_bytes()), &spec);
 }

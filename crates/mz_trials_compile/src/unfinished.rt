@@ -1,10 +1,12 @@
 // Drafts of texts: compiled with their gaps, told apart, and refused by `verify`.
-use crate::runs::{compiled, compiled_as, words_of};
+use crate::expect::{expect_of, expect_that};
+use crate::runs::{compiled, ended, folder_of, made_of};
 use crate::texts::{FOLD_TEXT, IMPLICATION, LET_TWICE, SAMPLE};
-use mz_io::{MemFolder, MemSink};
-use mz_tool::{Seed, Status, run};
-use std::alloc::{AllocError, Global};
-use std::test::Fail;
+use mz_io::MemSink;
+use mz_tool::Status;
+use std::process::Abort;
+
+const COMPILE_DRAFT: &str = "compile_draft text out";
 
 /// A sort, a term and a definition, and what a specification says of them.
 const NOT_NOT: &str = "(sort wff provable)
@@ -78,89 +80,85 @@ theorem rest (a: wff): $ a $ > $ a $;
 ];
 
 /// What a command writes about a specification and a binary, and how it ends.
-fn told(
-    alloc: Global,
-    line: &str,
-    spec: &[u8],
-    bin: &[u8],
-) -> Result<(Status, MemSink), AllocError> {
-    let mut folder = MemFolder::new(alloc);
-    folder.add("spec", spec)?;
-    folder.add("bin", bin)?;
-    let mut out = MemSink::new(alloc, 200)?;
-    let words = words_of(alloc, line)?;
-    let status = run(alloc, Seed::FIXED, &words, &mut folder, &mut out);
-    Ok((status, out))
+fn told(rt: &(impl Abort + AllocGlobal), line: &str, spec: &str, bin: &[u8]) -> (Status, MemSink) {
+    let mut folder = folder_of(rt, &[("spec", spec.as_bytes()), ("bin", bin)]);
+    ended(rt, line, &mut folder, 200)
+}
+
+/// The text of these statements after the first three, and the specification.
+fn whole(rt: &(impl Abort + AllocGlobal), rest: &str, declared: &str) -> (String, String) {
+    let text = format!(in rt.alloc(); "{NOT_NOT}{rest}").expect(rt, "memory");
+    let spec = format!(in rt.alloc(); "{NOT_NOT_SPEC}{declared}").expect(rt, "memory");
+    (text, spec)
+}
+
+fn expect_draft(rt: &(impl Abort + AllocGlobal), rest: &str, declared: &str, lines: &str) {
+    let (text, spec) = whole(rt, rest, declared);
+    let (status, folder, out) = made_of(rt, COMPILE_DRAFT, text.as_bytes());
+    expect_of(rt, status == Status::Done, "the status", rest);
+    let bin = folder.file("out").expect(rt, rest);
+    let line = format!(in rt.alloc(); "compiled: {} bytes\n", bin.len()).expect(rt, "memory");
+    expect_of(rt, out.bytes() == line.as_bytes(), "the line", rest);
+    let (status, out) = told(rt, "draft spec bin", &spec, bin);
+    expect_of(rt, status == Status::Done, "the status of the draft", rest);
+    expect_of(rt, out.bytes() == lines.as_bytes(), "the gaps", rest);
 }
 
 #[test]
-fn drafts_are_told_apart(rt: HostRuntime) -> Result<(), Fail> {
-    let alloc = rt.alloc();
+fn drafts_are_told_apart(rt: HostRuntime) {
     for (rest, declared, lines) in OPEN {
-        let text = format!(in alloc; "{NOT_NOT}{rest}")?;
-        let spec = format!(in alloc; "{NOT_NOT_SPEC}{declared}")?;
-        let (status, folder, out) = compiled_as(alloc, "compile_draft", text.as_bytes())?;
-        assert!(rt; status == Status::Done, "the status for {rest}");
-        let Some(bin) = folder.file("out") else {
-            assert!(rt; false, "no file for {rest}");
-            return Ok(());
-        };
-        let line = format!(in alloc; "compiled: {} bytes\n", bin.len())?;
-        assert!(rt; out.bytes() == line.as_bytes(), "the line for {rest}");
-        let (status, out) = told(alloc, "draft spec bin", spec.as_bytes(), bin)?;
-        assert!(rt;
-            status == Status::Done,
-            "the status of the draft for {rest}"
-        );
-        assert!(rt; out.bytes() == lines.as_bytes(), "{rest}");
+        expect_draft(&rt, rest, declared, lines);
     }
-    Ok(())
+}
+
+/// `compile` doesn't take it.
+fn expect_not_compiled(rt: &(impl Abort + AllocGlobal), text: &str) {
+    let (status, folder, out) = compiled(rt, text.as_bytes());
+    let line = "refused: text statement 4 at byte 158: U15 sorry\n";
+    expect_that(rt, status == Status::Refused, "compile");
+    expect_that(rt, folder.file("out").is_none(), "a file");
+    expect_that(rt, out.bytes() == line.as_bytes(), "the line of compile");
+}
+
+/// `verify` doesn't take what `compile_draft` makes of it.
+fn expect_not_verified(rt: &(impl Abort + AllocGlobal), text: &str, spec: &str) {
+    let (_, drafts, _) = made_of(rt, COMPILE_DRAFT, text.as_bytes());
+    let bin = drafts.file("out").expect(rt, "a file");
+    let (status, out) = told(rt, "verify spec bin", spec, bin);
+    let line = out.bytes();
+    let is_fourth = line.starts_with(b"refused: binary statement 4 at byte ");
+    expect_that(rt, status == Status::Refused, "verify");
+    expect_that(rt, is_fourth, "the line of verify");
+    expect_that(rt, line.ends_with(b": K30 sorry\n"), "the rule of verify");
 }
 
 /// A finished proof has no gap, so neither `compile` nor `verify` takes a draft.
 #[test]
-fn drafts_are_no_finished_proofs(rt: HostRuntime) -> Result<(), Fail> {
-    let alloc = rt.alloc();
+fn drafts_are_no_finished_proofs(rt: HostRuntime) {
     let (rest, declared, _) = OPEN[0];
-    let text = format!(in alloc; "{NOT_NOT}{rest}")?;
-    let spec = format!(in alloc; "{NOT_NOT_SPEC}{declared}")?;
-    let (status, folder, out) = compiled(alloc, text.as_bytes())?;
-    assert!(rt; status == Status::Refused, "compile");
-    assert!(rt; folder.file("out").is_none(), "a file");
-    let line = "refused: text statement 4 at byte 158: U15 sorry\n";
-    assert!(rt; out.bytes() == line.as_bytes(), "the line of compile");
-    let (_, drafts, _) = compiled_as(alloc, "compile_draft", text.as_bytes())?;
-    let Some(bin) = drafts.file("out") else {
-        assert!(rt; false, "no file");
-        return Ok(());
-    };
-    let (status, out) = told(alloc, "verify spec bin", spec.as_bytes(), bin)?;
-    assert!(rt; status == Status::Refused, "verify");
-    assert!(rt;
-        out.bytes()
-            .starts_with(b"refused: binary statement 4 at byte "),
-        "the line of verify"
-    );
-    assert!(rt;
-        out.bytes().ends_with(b": K30 sorry\n"),
-        "the rule of verify"
-    );
-    Ok(())
+    let (text, spec) = whole(&rt, rest, declared);
+    expect_not_compiled(&rt, &text);
+    expect_not_verified(&rt, &text, &spec);
 }
+
+const FINISHED: &[&str] = &[FOLD_TEXT, IMPLICATION, LET_TWICE, SAMPLE];
 
 /// A text without gaps: the bytes of `compile_draft` are those of `compile`.
 #[test]
-fn finished_texts_compile_alike(rt: HostRuntime) -> Result<(), Fail> {
-    let alloc = rt.alloc();
-    for text in [FOLD_TEXT, IMPLICATION, LET_TWICE, SAMPLE] {
-        let (status, drafts, line) = compiled_as(alloc, "compile_draft", text.as_bytes())?;
-        let (_, finished, other) = compiled(alloc, text.as_bytes())?;
-        assert!(rt; status == Status::Done, "the status for {text}");
-        assert!(rt; drafts.file("out").is_some(), "no file for {text}");
-        assert!(rt; drafts.file("out") == finished.file("out"), "{text}");
-        assert!(rt; line.bytes() == other.bytes(), "the line for {text}");
+fn finished_texts_compile_alike(rt: HostRuntime) {
+    for text in FINISHED {
+        let (status, drafts, line) = made_of(&rt, COMPILE_DRAFT, text.as_bytes());
+        let (_, finished, other) = compiled(&rt, text.as_bytes());
+        expect_of(&rt, status == Status::Done, "the status", text);
+        expect_of(&rt, drafts.file("out").is_some(), "a file", text);
+        expect_of(
+            &rt,
+            drafts.file("out") == finished.file("out"),
+            "the bytes",
+            text,
+        );
+        expect_of(&rt, line.bytes() == other.bytes(), "the line", text);
     }
-    Ok(())
 }
 
 /// Statements after the first three that aren't typed, and the line.
@@ -192,14 +190,12 @@ const REFUSED: &[(&str, &str)] = &[
 ];
 
 #[test]
-fn some_drafts_are_refused(rt: HostRuntime) -> Result<(), Fail> {
-    let alloc = rt.alloc();
+fn some_drafts_are_refused(rt: HostRuntime) {
     for (rest, line) in REFUSED {
-        let text = format!(in alloc; "{NOT_NOT}{rest}")?;
-        let (status, folder, out) = compiled_as(alloc, "compile_draft", text.as_bytes())?;
-        assert!(rt; status == Status::Refused, "the status for {rest}");
-        assert!(rt; out.bytes() == line.as_bytes(), "{rest}");
-        assert!(rt; folder.file("out").is_none(), "a file for {rest}");
+        let (text, _) = whole(&rt, rest, "");
+        let (status, folder, out) = made_of(&rt, COMPILE_DRAFT, text.as_bytes());
+        expect_of(&rt, status == Status::Refused, "the status", rest);
+        expect_of(&rt, out.bytes() == line.as_bytes(), "the line", rest);
+        expect_of(&rt, folder.file("out").is_none(), "no file", rest);
     }
-    Ok(())
 }

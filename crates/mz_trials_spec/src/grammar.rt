@@ -67,60 +67,81 @@ const MISFITS: &[(&str, u32, S)] = &[
     ("notation t : s = a : 1 prec ;", 23, S::Statement),
 ];
 
-fn refuses(rt: &impl Abort, alloc: Global, text: &[u8], at: u32, rule: S) {
-    assert!(rt; text.len() < 1000);
+/// The fault of the first statement, if there is one.
+fn fault_of(alloc: Global, text: &[u8]) -> Option<Fault> {
+    if text.len() >= 1000 {
+        return None;
+    }
     match read_statement(alloc, text, 0) {
-        Err(Halt::Fault(fault)) => {
-            assert_eq!(rt; fault, Fault { at, rule }, "in {text:?}");
-        }
-        _ => panic!(rt; "no fault in {text:?}"),
+        Err(Halt::Fault(fault)) => Some(fault),
+        _ => None,
     }
 }
 
-fn reads(rt: &impl Abort, alloc: Global, text: &[u8]) {
-    assert!(rt; text.len() < 1000);
-    let Ok(Some(read)) = read_statement(alloc, text, 0) else {
-        panic!(rt; "no statement: {text:?}");
-    };
-    assert_eq!(rt; read.place, 0, "place in {text:?}");
-    assert_eq!(rt; read.end, text.len(), "end in {text:?}");
-    assert!(rt; read.end <= text.len());
-    assert!(rt;
-        matches!(read_statement(alloc, text, read.end), Ok(None)),
-        "behind {text:?}"
+fn refuses(rt: &impl Abort, alloc: Global, text: &[u8], at: u32, rule: S) {
+    assert_eq!(rt;
+        fault_of(alloc, text),
+        Some(Fault { at, rule }),
+        "in {text:?}"
     );
+}
+
+/// Where the first statement begins and ends, if there is one.
+fn span_of(alloc: Global, text: &[u8]) -> Option<(u32, usize)> {
+    if text.len() >= 1000 {
+        return None;
+    }
+    match read_statement(alloc, text, 0) {
+        Ok(Some(read)) => Some((read.place, read.end)),
+        _ => None,
+    }
+}
+
+fn has_no_more(alloc: Global, text: &[u8]) -> bool {
+    text.len() < 1000 && matches!(read_statement(alloc, text, text.len()), Ok(None))
+}
+
+fn reads(rt: &impl Abort, alloc: Global, text: &[u8]) {
+    assert_eq!(rt;
+        span_of(alloc, text),
+        Some((0, text.len())),
+        "the span of {text:?}"
+    );
+    assert!(rt; has_no_more(alloc, text), "behind {text:?}");
 }
 
 /// The first bytes of a text, and one more.
 fn cut(rt: &impl Abort, alloc: Global, text: &[u8], to: usize, last: u8) -> Vec<u8> {
-    let mut cut = Vec::new(alloc);
-    for i in 0..to {
-        assert!(rt; i < text.len());
-        cut.push(text[i]).expect(rt, "memory");
-    }
-    cut.push(last).expect(rt, "memory");
-    cut
+    let front = text.get(..to).expect(rt, "a place in the text");
+    [front, &[last]].concat(alloc).expect(rt, "memory")
 }
 
-/// At each lexeme of a statement: none fits, no lexeme comes, or the text ends.
+/// A byte that stands in the place of a lexeme, and the rule that it breaks: none fits, or no lexeme comes.
+const STOPS: &[(u8, S)] = &[(b'*', S::Statement), (b'#', S::Token), (1, S::Character)];
+
+/// Stops at this lexeme of a statement by each of these, or where the text ends.
+fn stops(rt: &impl Abort, alloc: Global, text: &[u8], i: usize, at: u32) {
+    for (last, rule) in STOPS {
+        refuses(rt, alloc, &cut(rt, alloc, text, i, *last), at, *rule);
+    }
+    if i > 0 {
+        let next = at.saturating_add(1);
+        refuses(
+            rt,
+            alloc,
+            &cut(rt, alloc, text, i, b'\n'),
+            next,
+            S::Statement,
+        );
+    }
+}
+
+/// Stops at each lexeme of a statement.
 fn stops_everywhere(rt: &impl Abort, alloc: Global, text: &[u8]) {
     assert!(rt; text.len() < 500);
     for i in 0..text.len() {
-        if i > 0 && text[i - 1] != b' ' {
-            continue;
-        }
-        let at = i as u32;
-        refuses(rt, alloc, &cut(rt, alloc, text, i, b'*'), at, S::Statement);
-        refuses(rt, alloc, &cut(rt, alloc, text, i, b'#'), at, S::Token);
-        refuses(rt, alloc, &cut(rt, alloc, text, i, 1), at, S::Character);
-        if i > 0 {
-            refuses(
-                rt,
-                alloc,
-                &cut(rt, alloc, text, i, b'\n'),
-                at + 1,
-                S::Statement,
-            );
+        if i == 0 || text[i - 1] == b' ' {
+            stops(rt, alloc, text, i, i as u32);
         }
     }
 }

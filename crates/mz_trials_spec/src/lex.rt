@@ -1,47 +1,49 @@
 // Texts, their lexemes and how these end, worked out by hand.
+use crate::expect::{expect, expect_bytes};
 use mz_lex::TokenKind::{Math, Name, Number, Symbol};
 use mz_lex::{LexFault, Token, TokenKind, next_token};
 use std::process::Abort;
 
 type Span = (TokenKind, u32, u32);
 
-fn reads(rt: &impl Abort, text: &[u8], tokens: &[Span], ending: Option<LexFault>) {
+/// A text, its lexemes, and the fault at their end, if there is one.
+type Case = (&'static [u8], &'static [Span], Option<LexFault>);
+
+fn expect_next(rt: &impl Abort, text: &[u8], pos: usize, wanted: Result<Option<Token>, LexFault>) {
     assert!(rt; text.len() < 1000);
-    let mut pos = 0;
-    for token in tokens {
-        assert!(rt; pos <= text.len());
-        let found = next_token(text, pos);
-        assert_eq!(rt;
-            found,
-            Ok(Some(Token {
-                kind: token.0,
-                from: token.1,
-                to: token.2
-            })),
-            "in {text:?}"
-        );
-        pos = token.2 as usize;
-    }
     assert!(rt; pos <= text.len());
-    let end = match ending {
-        None => Ok(None),
-        Some(fault) => Err(fault),
-    };
-    assert_eq!(rt; next_token(text, pos), end, "at the end of {text:?}");
+    assert_eq!(rt; next_token(text, pos), wanted, "in {text:?} at {pos}");
 }
 
-#[test]
-fn lexemes(rt: HostRuntime) {
-    reads(&rt, b"", &[], None);
-    reads(&rt, b" \n \n", &[], None);
-    reads(
-        &rt,
+fn reads(rt: &impl Abort, text: &[u8], tokens: &[Span], ending: Option<LexFault>) {
+    let mut pos = 0;
+    for (kind, from, to) in tokens {
+        let token = Token {
+            kind: *kind,
+            from: *from,
+            to: *to,
+        };
+        expect_next(rt, text, pos, Ok(Some(token)));
+        pos = *to as usize;
+    }
+    expect_next(rt, text, pos, ending.map_or(Ok(None), Err));
+}
+
+fn read_all(rt: &impl Abort, cases: &[Case]) {
+    for (text, tokens, ending) in cases {
+        reads(rt, text, tokens, *ending);
+    }
+}
+
+const LEXEMES: &[Case] = &[
+    (b"", &[], None),
+    (b" \n \n", &[], None),
+    (
         b"sort wff;",
         &[(Name, 0, 4), (Name, 5, 8), (Symbol, 8, 9)],
         None,
-    );
-    reads(
-        &rt,
+    ),
+    (
         b"_ __ _a _: a_1B",
         &[
             (Symbol, 0, 1),
@@ -52,9 +54,8 @@ fn lexemes(rt: HostRuntime) {
             (Name, 11, 15),
         ],
         None,
-    );
-    reads(
-        &rt,
+    ),
+    (
         b"0 01 107a",
         &[
             (Number, 0, 1),
@@ -64,9 +65,8 @@ fn lexemes(rt: HostRuntime) {
             (Name, 8, 9),
         ],
         None,
-    );
-    reads(
-        &rt,
+    ),
+    (
         b"*.:;()",
         &[
             (Symbol, 0, 1),
@@ -77,9 +77,8 @@ fn lexemes(rt: HostRuntime) {
             (Symbol, 5, 6),
         ],
         None,
-    );
-    reads(
-        &rt,
+    ),
+    (
         b">{}=",
         &[
             (Symbol, 0, 1),
@@ -88,68 +87,73 @@ fn lexemes(rt: HostRuntime) {
             (Symbol, 3, 4),
         ],
         None,
-    );
-    reads(
-        &rt,
+    ),
+    (
         b"$$ $ a\n--b $c",
         &[(Math, 0, 2), (Math, 3, 12), (Name, 12, 13)],
         None,
-    );
-}
+    ),
+];
 
 #[test]
-fn comments(rt: HostRuntime) {
-    reads(&rt, b"--", &[], None);
-    reads(&rt, b"a--b", &[(Name, 0, 1)], None);
-    reads(
-        &rt,
+fn lexemes(rt: HostRuntime) {
+    read_all(&rt, LEXEMES);
+}
+
+const COMMENTS: &[Case] = &[
+    (b"--", &[], None),
+    (b"a--b", &[(Name, 0, 1)], None),
+    (
         b"--- a $\nb -- c\n\n-- d\n;",
         &[(Name, 8, 9), (Symbol, 21, 22)],
         None,
-    );
+    ),
+];
+
+#[test]
+fn comments(rt: HostRuntime) {
+    read_all(&rt, COMMENTS);
 }
+
+const BYTES_THAT_MAY_NOT_STAND: &[Case] = &[
+    (b"a\t", &[(Name, 0, 1)], Some(LexFault::Char(1))),
+    (b"\r\n", &[], Some(LexFault::Char(0))),
+    (b"; -- a\x7F\n", &[(Symbol, 0, 1)], Some(LexFault::Char(6))),
+    (b"--\xC3\xA9", &[], Some(LexFault::Char(2))),
+    (b"$ a\tb $", &[], Some(LexFault::Char(3))),
+    (b"$ a \x00 b", &[], Some(LexFault::Char(4))),
+];
 
 #[test]
 fn bytes_that_may_not_stand(rt: HostRuntime) {
-    reads(&rt, b"a\t", &[(Name, 0, 1)], Some(LexFault::Char(1)));
-    reads(&rt, b"\r\n", &[], Some(LexFault::Char(0)));
-    reads(
-        &rt,
-        b"; -- a\x7F\n",
-        &[(Symbol, 0, 1)],
-        Some(LexFault::Char(6)),
-    );
-    reads(&rt, b"--\xC3\xA9", &[], Some(LexFault::Char(2)));
-    reads(&rt, b"$ a\tb $", &[], Some(LexFault::Char(3)));
-    reads(&rt, b"$ a \x00 b", &[], Some(LexFault::Char(4)));
+    read_all(&rt, BYTES_THAT_MAY_NOT_STAND);
 }
+
+const BYTES_THAT_BEGIN_NO_LEXEME: &[Case] = &[
+    (b"-", &[], Some(LexFault::Token(0))),
+    (b"a - --", &[(Name, 0, 1)], Some(LexFault::Token(2))),
+    (b"-\t", &[], Some(LexFault::Token(0))),
+    (b"ab~", &[(Name, 0, 2)], Some(LexFault::Token(2))),
+    (b"$ a $ $ b;\n", &[(Math, 0, 5)], Some(LexFault::Token(6))),
+    (b" $", &[], Some(LexFault::Token(1))),
+];
 
 #[test]
 fn bytes_that_begin_no_lexeme(rt: HostRuntime) {
-    reads(&rt, b"-", &[], Some(LexFault::Token(0)));
-    reads(&rt, b"a - --", &[(Name, 0, 1)], Some(LexFault::Token(2)));
-    reads(&rt, b"-\t", &[], Some(LexFault::Token(0)));
-    reads(&rt, b"ab~", &[(Name, 0, 2)], Some(LexFault::Token(2)));
-    reads(
-        &rt,
-        b"$ a $ $ b;\n",
-        &[(Math, 0, 5)],
-        Some(LexFault::Token(6)),
-    );
-    reads(&rt, b" $", &[], Some(LexFault::Token(1)));
+    read_all(&rt, BYTES_THAT_BEGIN_NO_LEXEME);
 }
 
+/// Faults, their rules' words, and their places.
+const FAULTS: &[(LexFault, &str, u32)] = &[
+    (LexFault::Char(7), "S1 character", 7),
+    (LexFault::Token(9), "S2 token", 9),
+];
+
 #[test]
-fn faults_as_rules(rt: HostRuntime) -> Result<(), std::test::Fail> {
-    let words = format!(in rt.alloc();
-        "{} {}",
-        LexFault::Char(7).rule(),
-        LexFault::Token(9).rule()
-    )?;
-    assert_eq!(rt; words.as_str(), "S1 character S2 token");
-    assert_eq!(rt;
-        (LexFault::Char(7).place(), LexFault::Token(9).place()),
-        (7, 9)
-    );
-    Ok(())
+fn faults_as_rules(rt: HostRuntime) {
+    for (fault, words, place) in FAULTS {
+        let rule = fault.rule().to_string(rt.alloc()).expect(&rt, "memory");
+        expect_bytes(&rt, rule.as_bytes(), words.as_bytes(), words);
+        expect(&rt, fault.place() == *place, words);
+    }
 }

@@ -54,6 +54,14 @@ const SORTS_AND_TERMS: &[(&str, &str)] = &[
         "0 5 s sort 0; 8 13 f term {0} {0} (0 0 1) (0 0 1) (0 1): 0 0 1; ",
     ),
     (
+        "sort s; term f {x y: s} (a b: s x) (c d: s y) (e: s) (g: s x y): s;",
+        "0 5 s sort 0; 8 13 f term {0} {0} (0 0) (0 0) (0 1) (0 1) (0) (0 0 1): 0; ",
+    ),
+    (
+        "sort s; term f {x y: s} (a b c d e f g h: s y) (i j k l m n o p: s x y): s;",
+        "0 5 s sort 0; 8 13 f term {0} {0} (0 1) (0 1) (0 1) (0 1) (0 1) (0 1) (0 1) (0 1) (0 0 1) (0 0 1) (0 0 1) (0 0 1) (0 0 1) (0 0 1) (0 0 1) (0 0 1): 0; ",
+    ),
+    (
         "sort s; term f {_ x _: s} (_: s x) (_ _: s): s x;",
         "0 5 s sort 0; 8 13 f term {0} {0} {0} (0 1) (0) (0): 0 1; ",
     ),
@@ -286,6 +294,10 @@ const DECLARES: &[(&str, &str)] = &[
     (
         "def d {x: nat} (.y: nat) (a: wff) (.z _: nat): wff x = $ all y ( eq x y ) $;",
         "0 4 d term {1} (0) (1): 0 0 = {1} {1} (t1 v3 (t2 v0 v3)); ",
+    ),
+    (
+        "def d {.x y z: nat} (p q: wff z): wff y = $ all x ( eq x y ) $;",
+        "0 4 d term {1} {1} (0 1) (0 1): 0 0 = {1} (t1 v4 (t2 v4 v0)); ",
     ),
     (
         "def d {x y: nat} (p: wff y x x): wff y x = $ all y ( all x p ) $; def e (a: nat): wff = $ eq a a $;",

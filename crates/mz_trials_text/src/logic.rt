@@ -1,13 +1,14 @@
 ghost use Rattle.std.specs.Prelude.{ℕ, suc, ◌≡◌, ◌<◌, ◌∷◌, [], Some, length, slice_get, false};
 ghost use Rattle.mz_logic.specs.Words.{term_at};
 
+use crate::expect::expect;
 use mz_copies::copy_of;
 use mz_logic::{
     Binder, Binders, Decl, DeclFault, Deps, Env, Expr, Exprs, Hyps, ResultType, SortMods, TermDecl,
     TermForm, Terms, ThmDecl, ThmForm, Word, check_decl, same_expr,
 };
 use std::alloc::{AllocError, Global};
-use std::test::Fail;
+use std::process::Abort;
 
 /// The sorts wff and nat, and the term `all {x: nat} (p: wff x): wff`.
 struct Quantifier;
@@ -75,13 +76,13 @@ const WORDS: &[(u64, u32, bool, u64)] = &[
 fn words_of_a_table(rt: HostRuntime) {
     for (word, sort, bound, deps) in WORDS {
         let word = Word(*word);
-        assert_eq!(rt; word.sort(), *sort, "sort");
-        assert_eq!(rt; word.bound(), *bound, "bound");
-        assert_eq!(rt; word.deps(), *deps, "dependencies");
+        expect(&rt, word.sort() == *sort, "sort");
+        expect(&rt, word.bound() == *bound, "bound");
+        expect(&rt, word.deps() == *deps, "dependencies");
     }
     let last = last_word(&Quantifier, 0);
-    assert_eq!(rt; last.sort(), 0, "the sort of p");
-    assert_eq!(rt; last.deps(), 1, "p depends on x");
+    expect(&rt, last.sort() == 0, "the sort of p");
+    expect(&rt, last.deps() == 1, "p depends on x");
 }
 
 // ---- declarations
@@ -98,12 +99,9 @@ enum Shape {
 #[derive(Clone, Copy)]
 enum Kind {
     Term(u32),
-    Definition(u32, Bound, Shape),
+    Definition(u32, &'static [Param], Shape),
     Axiom(Shape),
 }
-
-/// The sort of a dummy, if there is one.
-type Bound = Option<u32>;
 
 /// A parameter: its sort, whether it is bound, and on which place it depends, if on one.
 type Param = (u32, bool, Option<u32>);
@@ -121,72 +119,63 @@ fn expr(alloc: Global, shape: Shape) -> Result<Expr, AllocError> {
     }
 }
 
+fn binder(alloc: Global, param: &Param) -> Result<Binder, AllocError> {
+    let (sort, bound, place) = *param;
+    let deps = match place {
+        Some(place) => Deps::from_vec(Vec::from_slice(alloc, &[place])?)?,
+        None => Deps::new(),
+    };
+    Ok(Binder { sort, bound, deps })
+}
+
 fn binders(alloc: Global, params: &[Param]) -> Result<Binders, AllocError> {
     let mut binders = Binders::new(alloc);
-    for (sort, bound, place) in params {
-        let mut deps = Deps::new(alloc);
-        if let Some(place) = *place {
-            deps.push(place)?;
-        }
-        binders.push(Binder {
-            sort: *sort,
-            bound: *bound,
-            deps,
-        })?;
+    for param in params {
+        binders.push(binder(alloc, param)?)?;
     }
     Ok(binders)
 }
 
-fn term(alloc: Global, params: &[Param], sort: u32, form: TermForm) -> Result<Decl, AllocError> {
-    let params = binders(alloc, params)?;
-    let deps = Deps::new(alloc);
-    Ok(Decl::Term(TermDecl {
+fn term(params: Binders, sort: u32, form: TermForm) -> Decl {
+    let deps = Deps::new();
+    Decl::Term(TermDecl {
         params,
         result: ResultType { sort, deps },
         form,
-    }))
+    })
 }
 
-fn defined(alloc: Global, dummy: Bound, body: Shape) -> Result<TermForm, AllocError> {
-    let dummies = match dummy {
-        None => binders(alloc, &[])?,
-        Some(sort) => binders(alloc, &[(sort, true, None)])?,
-    };
+fn defined(alloc: Global, dummies: &[Param], body: Shape) -> Result<TermForm, AllocError> {
+    let dummies = binders(alloc, dummies)?;
     let body = expr(alloc, body)?;
     Ok(TermForm::Body { dummies, body })
 }
 
-fn axiom(alloc: Global, params: &[Param], conclusion: Shape) -> Result<Decl, AllocError> {
-    let params = binders(alloc, params)?;
-    let conclusion = expr(alloc, conclusion)?;
-    Ok(Decl::Thm(ThmDecl {
+fn axiom(alloc: Global, params: Binders, conclusion: Expr) -> Decl {
+    Decl::Thm(ThmDecl {
         form: ThmForm::Axiom,
         params,
         hyps: Hyps::new(alloc),
         conclusion,
-    }))
+    })
 }
 
 fn declaration(alloc: Global, params: &[Param], kind: Kind) -> Result<Decl, AllocError> {
-    match kind {
-        Kind::Term(sort) => term(alloc, params, sort, TermForm::Plain),
-        Kind::Definition(sort, dummy, body) => {
-            let form = defined(alloc, dummy, body)?;
-            term(alloc, params, sort, form)
-        }
-        Kind::Axiom(conclusion) => axiom(alloc, params, conclusion),
-    }
+    let params = binders(alloc, params)?;
+    Ok(match kind {
+        Kind::Term(sort) => term(params, sort, TermForm::Plain),
+        Kind::Definition(sort, dummies, body) => term(params, sort, defined(alloc, dummies, body)?),
+        Kind::Axiom(conclusion) => axiom(alloc, params, expr(alloc, conclusion)?),
+    })
 }
 
-/// Checks the declaration, and adds it where it is legal.
-fn declare(env: &mut Env, decl: Decl) -> Result<Option<DeclFault>, AllocError> {
-    if let Err(fault) = check_decl(env, &decl) {
-        return Ok(Some(fault));
+/// Adds a declaration that is legal.
+fn declare(env: &mut Env, decl: Decl) -> Result<(), AllocError> {
+    if check_decl(env, &decl).is_ok() && env.len() < 4_294_967_295 {
+        env.push_decl(decl)
+    } else {
+        Err(AllocError)
     }
-    if env.len() < 4_294_967_295 {
-        env.push_decl(decl)?;
-    }
-    Ok(None)
 }
 
 const WFF: u32 = 0;
@@ -211,34 +200,35 @@ const A_NAT: Param = (NAT, false, None);
 
 const X_NAT: Param = (NAT, true, None);
 
-/// Five sorts, implication, a quantifier over nat, and equality on nat.
-fn small_env(alloc: Global) -> Result<Env, AllocError> {
-    let mut env = Env::new(alloc);
-    for mods in [
-        SortMods::PROVABLE,
-        0,
-        SortMods::PURE,
-        SortMods::STRICT,
-        SortMods::FREE,
-    ] {
-        declare(&mut env, Decl::Sort(SortMods(mods)))?;
-    }
-    for params in [
-        [A_WFF, A_WFF],
-        [X_NAT, (WFF, false, Some(0))],
-        [A_NAT, A_NAT],
-    ] {
-        let decl = term(alloc, &params, WFF, TermForm::Plain)?;
-        declare(&mut env, decl)?;
-    }
-    Ok(env)
-}
+const X_FREE: Param = (FREE, true, None);
 
-/// The fault of one more declaration in the small environment.
-fn fault_of(alloc: Global, params: &[Param], kind: Kind) -> Result<Option<DeclFault>, AllocError> {
-    let mut env = small_env(alloc)?;
-    let decl = declaration(alloc, params, kind)?;
-    declare(&mut env, decl)
+/// The modifiers of five sorts.
+const SORTS: &[u8] = &[
+    SortMods::PROVABLE,
+    0,
+    SortMods::PURE,
+    SortMods::STRICT,
+    SortMods::FREE,
+];
+
+/// The parameters of implication, a quantifier over nat, and equality on nat.
+const TERMS: &[[Param; 2]] = &[
+    [A_WFF, A_WFF],
+    [X_NAT, (WFF, false, Some(0))],
+    [A_NAT, A_NAT],
+];
+
+/// These sorts and terms.
+fn small_env(rt: &(impl Abort + AllocGlobal)) -> Env {
+    let mut env = Env::new(rt.alloc());
+    for mods in SORTS {
+        declare(&mut env, Decl::Sort(SortMods(*mods))).expect(rt, "a legal sort");
+    }
+    for params in TERMS {
+        let term = declaration(rt.alloc(), params, Kind::Term(WFF)).expect(rt, "memory");
+        declare(&mut env, term).expect(rt, "a legal term");
+    }
+    env
 }
 
 const PAIR: Shape = Shape::Pair(EQ, 0, 0);
@@ -253,7 +243,7 @@ const FIRST_FAULTS: &[(&[Param], Kind, Option<DeclFault>, &str)] = &[
     ),
     (
         &[A_NAT],
-        Kind::Definition(WFF, Some(NAT), PAIR),
+        Kind::Definition(WFF, &[X_NAT], PAIR),
         None,
         "a definition with a dummy",
     ),
@@ -308,7 +298,7 @@ const FIRST_FAULTS: &[(&[Param], Kind, Option<DeclFault>, &str)] = &[
     ),
     (
         &[A_NAT],
-        Kind::Definition(WFF, None, Shape::Var(0)),
+        Kind::Definition(WFF, &[], Shape::Var(0)),
         Some(DeclFault::Sort),
         "a body of another sort",
     ),
@@ -326,44 +316,43 @@ const FIRST_FAULTS: &[(&[Param], Kind, Option<DeclFault>, &str)] = &[
     ),
     (
         &[],
-        Kind::Definition(WFF, Some(FREE), Shape::Var(0)),
+        Kind::Definition(WFF, &[X_FREE], Shape::Var(0)),
         Some(DeclFault::Sort),
         "the body before the dummy",
     ),
     (
         &[],
-        Kind::Definition(FREE, Some(FREE), Shape::Var(0)),
+        Kind::Definition(FREE, &[X_FREE], Shape::Var(0)),
         Some(DeclFault::DummySort),
         "a free sort's dummy",
     ),
     (
         &[X_NAT],
-        Kind::Definition(WFF, None, PAIR),
+        Kind::Definition(WFF, &[], PAIR),
         Some(DeclFault::DefDeps),
         "a variable that the result leaves out",
     ),
 ];
 
 #[test]
-fn first_faults(rt: HostRuntime) -> Result<(), Fail> {
-    let alloc = rt.alloc();
-    for (params, kind, want, what) in FIRST_FAULTS {
-        assert!(rt; fault_of(alloc, params, *kind)? == *want, "{what}");
+fn first_faults(rt: HostRuntime) {
+    let env = small_env(&rt);
+    for (params, kind, wanted, what) in FIRST_FAULTS {
+        let decl = declaration(rt.alloc(), params, *kind).expect(&rt, "memory");
+        expect(&rt, check_decl(&env, &decl).err() == *wanted, what);
     }
-    Ok(())
 }
 
 #[test]
-fn what_is_added(rt: HostRuntime) -> Result<(), Fail> {
-    let alloc = rt.alloc();
-    let env = small_env(alloc)?;
-    assert_eq!(rt; env.len(), 8, "five sorts and three terms");
-    assert!(rt;
+fn what_is_added(rt: HostRuntime) {
+    let env = small_env(&rt);
+    expect(&rt, env.len() == 8, "five sorts and three terms");
+    expect(
+        &rt,
         env.term(2).is_some() && env.term(3).is_none(),
-        "three terms"
+        "three terms",
     );
-    let e = expr(alloc, Shape::Pair(EQ, 0, 1))?;
-    let same = copy_of(alloc, &e)?;
-    assert!(rt; same_expr(&e, &same), "a copy is the same");
-    Ok(())
+    let e = expr(rt.alloc(), Shape::Pair(EQ, 0, 1)).expect(&rt, "memory");
+    let same = copy_of(rt.alloc(), &e).expect(&rt, "memory");
+    expect(&rt, same_expr(&e, &same), "a copy is the same");
 }

@@ -1,263 +1,285 @@
-ghost use Rattle.std.specs.Prelude.{◌<◌, ◌^◌, length};
+ghost use Rattle.std.specs.Prelude.{◌<◌, length};
 
+use crate::expect::{expect, expect_bytes, refusal};
 use mz_forms::{Conv, Convs, Hashing, Proof, Proofs};
 use mz_logic::{Binder, Decl, Expr, Exprs, Hyps, TermForm};
 use mz_mmu::{Text, TextRead, read_text};
 use mz_mode::Mode;
 use std::alloc::{AllocError, Global};
-use std::test::Fail;
+use std::process::Abort;
 
 /// What a test writes, part after part.
 #[derive(Drop)]
 struct Page {
     alloc: Global,
     bytes: Vec<u8>,
+    /// Whether memory sufficed so far.
+    is_whole: bool,
 }
 
 impl Page {
-    fn word(&mut self, word: &[u8]) -> Result<(), AllocError> {
-        self.bytes.extend_from_slice(word)
+    fn new(alloc: Global) -> Page {
+        Page {
+            alloc,
+            bytes: Vec::new(alloc),
+            is_whole: true,
+        }
     }
 
-    fn number(&mut self, before: &[u8], n: u32) -> Result<(), AllocError> {
-        self.bytes.extend_from_slice(before)?;
-        let digits = format!(in self.alloc; "{}", n)?;
-        self.bytes.extend_from_slice(digits.as_bytes())
+    fn finish(self) -> Result<Vec<u8>, AllocError> {
+        self.is_whole.then_some(self.bytes).ok_or(AllocError)
+    }
+
+    fn word(&mut self, word: &[u8]) {
+        if self.bytes.extend_from_slice(word).is_err() {
+            self.is_whole = false;
+        }
+    }
+
+    fn number(&mut self, before: &[u8], n: u32) {
+        self.word(before);
+        match format!(in self.alloc; "{n}") {
+            Ok(digits) => self.word(digits.as_bytes()),
+            Err(_) => self.is_whole = false,
+        }
     }
 
     /// `v0` is a variable, `t0(..)` a term over expressions.
     #[cycle(expr)]
-    fn expr(&mut self, expr: &Expr, limit: u32) -> Result<(), AllocError> {
+    fn expr(&mut self, expr: &Expr, limit: u32) {
         if limit == 0 {
-            return Ok(());
+            return;
         }
         match expr {
             Expr::Var(x) => self.number(b"v", *x),
             Expr::App(t, es) => {
-                self.number(b"t", *t)?;
-                self.exprs(es, limit - 1)
+                self.number(b"t", *t);
+                self.exprs(es, limit - 1);
             }
         }
     }
 
     #[cycle(expr)]
-    fn exprs(&mut self, exprs: &Exprs, limit: u32) -> Result<(), AllocError> {
+    fn exprs(&mut self, exprs: &Exprs, limit: u32) {
         if limit == 0 {
-            return Ok(());
+            return;
         }
-        self.word(b"(")?;
+        self.word(b"(");
         for e in exprs.as_slice() {
-            self.expr(e, limit - 1)?;
+            self.expr(e, limit - 1);
         }
-        self.word(b")")
+        self.word(b")");
     }
 
-    fn hyps(&mut self, hyps: &Hyps) -> Result<(), AllocError> {
-        self.word(b"(")?;
+    fn hyps(&mut self, hyps: &Hyps) {
+        self.word(b"(");
         for i in 0..hyps.len() {
-            self.expr(hyps.at(i), 99)?;
+            self.expr(hyps.at(i), 99);
         }
-        self.word(b")")
+        self.word(b")");
     }
 
     /// `=e`, `~c`, `c0(..)`, `u0(..)[..]c`, `?l r`.
     #[cycle(conv)]
-    fn conv(&mut self, conv: &Conv, limit: u32) -> Result<(), AllocError> {
+    fn conv(&mut self, conv: &Conv, limit: u32) {
         if limit == 0 {
-            return Ok(());
+            return;
         }
         match conv {
             Conv::Refl(e) => {
-                self.word(b"=")?;
-                self.expr(e, 100)
+                self.word(b"=");
+                self.expr(e, 100);
             }
             Conv::Sym(c) => {
-                self.word(b"~")?;
-                self.conv(c.get(), limit - 1)
+                self.word(b"~");
+                self.conv(c.get(), limit - 1);
             }
             Conv::Cong(t, cs) => {
-                self.number(b"c", *t)?;
-                self.convs(cs, limit - 1)
+                self.number(b"c", *t);
+                self.convs(cs, limit - 1);
             }
             Conv::Unfold(t, es, ys, c) => {
-                self.number(b"u", *t)?;
-                self.exprs(es, 100)?;
-                self.places(ys.as_slice())?;
-                self.conv(c.get(), limit - 1)
+                self.number(b"u", *t);
+                self.exprs(es, 100);
+                self.places(ys.as_slice());
+                self.conv(c.get(), limit - 1);
             }
             Conv::Gap(l, r) => {
-                self.word(b"?")?;
-                self.expr(l, 100)?;
-                self.word(b" ")?;
-                self.expr(r, 100)
+                self.word(b"?");
+                self.expr(l, 100);
+                self.word(b" ");
+                self.expr(r, 100);
             }
         }
     }
 
     #[cycle(conv)]
-    fn convs(&mut self, convs: &Convs, limit: u32) -> Result<(), AllocError> {
+    fn convs(&mut self, convs: &Convs, limit: u32) {
         if limit == 0 {
-            return Ok(());
+            return;
         }
-        self.word(b"(")?;
+        self.word(b"(");
         for c in convs.as_slice() {
-            self.conv(c, limit - 1)?;
+            self.conv(c, limit - 1);
         }
-        self.word(b")")
+        self.word(b")");
     }
 
     /// `h0`, `n0`, `T0(..){..}`, `:e c p`, `!p.q`, `?e`.
     #[cycle(proof)]
-    fn proof(&mut self, proof: &Proof, limit: u32) -> Result<(), AllocError> {
+    fn proof(&mut self, proof: &Proof, limit: u32) {
         if limit == 0 {
-            return Ok(());
+            return;
         }
         match proof {
             Proof::Hyp(i) => self.number(b"h", *i),
             Proof::Name(i) => self.number(b"n", *i),
             Proof::Cite(t, es, ps) => {
-                self.number(b"T", *t)?;
-                self.exprs(es, 100)?;
-                self.proofs(ps, limit - 1)
+                self.number(b"T", *t);
+                self.exprs(es, 100);
+                self.proofs(ps, limit - 1);
             }
             Proof::Conv(e, c, p) => {
-                self.word(b":")?;
-                self.expr(e, 100)?;
-                self.word(b" ")?;
-                self.conv(c.get(), 100)?;
-                self.word(b" ")?;
-                self.proof(p.get(), limit - 1)
+                self.word(b":");
+                self.expr(e, 100);
+                self.word(b" ");
+                self.conv(c.get(), 100);
+                self.word(b" ");
+                self.proof(p.get(), limit - 1);
             }
             Proof::Let(p, q) => {
-                self.word(b"!")?;
-                self.proof(p.get(), limit - 1)?;
-                self.word(b".")?;
-                self.proof(q.get(), limit - 1)
+                self.word(b"!");
+                self.proof(p.get(), limit - 1);
+                self.word(b".");
+                self.proof(q.get(), limit - 1);
             }
             Proof::Gap(e) => {
-                self.word(b"?")?;
-                self.expr(e, 100)
+                self.word(b"?");
+                self.expr(e, 100);
             }
         }
     }
 
     #[cycle(proof)]
-    fn proofs(&mut self, proofs: &Proofs, limit: u32) -> Result<(), AllocError> {
+    fn proofs(&mut self, proofs: &Proofs, limit: u32) {
         if limit == 0 {
-            return Ok(());
+            return;
         }
-        self.word(b"{")?;
+        self.word(b"{");
         for p in proofs.as_slice() {
-            self.proof(p, limit - 1)?;
+            self.proof(p, limit - 1);
         }
-        self.word(b"}")
+        self.word(b"}");
     }
 
-    fn places(&mut self, places: &[u32]) -> Result<(), AllocError> {
-        self.word(b"[")?;
+    fn places(&mut self, places: &[u32]) {
+        self.word(b"[");
         for p in places {
-            self.number(b".", *p)?;
+            self.number(b".", *p);
         }
-        self.word(b"]")
+        self.word(b"]");
     }
 
     /// `b0` is a bound variable of the sort 0, `s0[.1]` a regular one that depends on the variable 1.
-    fn binders(&mut self, binders: &[Binder]) -> Result<(), AllocError> {
-        self.word(b"(")?;
+    fn binders(&mut self, binders: &[Binder]) {
+        self.word(b"(");
         for b in binders {
             if b.bound {
-                self.number(b"b", b.sort)?;
+                self.number(b"b", b.sort);
             } else {
-                self.number(b"s", b.sort)?;
-                self.places(b.deps.as_slice())?;
+                self.number(b"s", b.sort);
+                self.places(b.deps.as_slice());
             }
         }
-        self.word(b")")
+        self.word(b")");
     }
 
-    fn decl(&mut self, decl: &Decl) -> Result<(), AllocError> {
+    fn decl(&mut self, decl: &Decl) {
         match decl {
             Decl::Sort(mods) => self.number(b" sort ", u32::from(mods.0)),
             Decl::Term(term) => {
-                self.word(b" term ")?;
-                self.binders(term.params.as_slice())?;
-                self.number(b">", term.result.sort)?;
-                self.places(term.result.deps.as_slice())?;
-                match &term.form {
-                    TermForm::Body { dummies, body } => {
-                        self.word(b" def ")?;
-                        self.binders(dummies.as_slice())?;
-                        self.expr(body, 100)
-                    }
-                    _ => Ok(()),
+                self.word(b" term ");
+                self.binders(term.params.as_slice());
+                self.number(b">", term.result.sort);
+                self.places(term.result.deps.as_slice());
+                if let TermForm::Body { dummies, body } = &term.form {
+                    self.word(b" def ");
+                    self.binders(dummies.as_slice());
+                    self.expr(body, 100);
                 }
             }
             Decl::Thm(thm) => {
-                self.word(b" thm ")?;
-                self.binders(thm.params.as_slice())?;
-                self.hyps(&thm.hyps)?;
-                self.expr(&thm.conclusion, 100)
+                self.word(b" thm ");
+                self.binders(thm.params.as_slice());
+                self.hyps(&thm.hyps);
+                self.expr(&thm.conclusion, 100);
             }
         }
     }
 
-    fn statement(&mut self, text: &Text, i: u32) -> Result<(), AllocError>
+    fn statement(&mut self, text: &Text, i: u32)
         requires { i < length text.now.statements }
     {
-        self.number(b"", text.sexprs().at(text.root(i)))?;
+        self.number(b"", text.sexprs().at(text.root(i)));
         if text.is_local(i) {
-            self.word(b" local")?;
+            self.word(b" local");
         }
-        self.word(b" ")?;
-        self.word(text.name(i))?;
-        self.decl(text.decl(i))?;
+        self.word(b" ");
+        self.word(text.name(i));
+        self.decl(text.decl(i));
         if let Some(proof) = text.proof(i) {
-            self.word(b" ")?;
-            self.binders(text.dummies(i).as_slice())?;
-            self.proof(proof, 100)?;
+            self.word(b" ");
+            self.binders(text.dummies(i).as_slice());
+            self.proof(proof, 100);
         }
-        self.word(b"; ")
+        self.word(b"; ");
     }
 }
 
+/// The statements of a text.
+fn written(alloc: Global, text: &Text) -> Result<Vec<u8>, AllocError> {
+    let mut page = Page::new(alloc);
+    for i in 0..text.len() {
+        page.statement(text, i);
+    }
+    page.finish()
+}
+
 /// The statements of a text, or its refusal.
-fn description(alloc: Global, text: &[u8], mode: Mode) -> Result<Vec<u8>, AllocError>
-    requires { length text.now < 2 ^ 32 }
-{
+fn description(alloc: Global, text: &[u8], mode: Mode) -> Result<Vec<u8>, AllocError> {
+    if text.len() >= 20000 {
+        return Err(AllocError);
+    }
     match read_text(alloc, Hashing::fixed(), text, mode) {
-        TextRead::Text(text) => {
-            let mut page = Page {
-                alloc,
-                bytes: Vec::new(alloc),
-            };
-            for i in 0..text.len() {
-                page.statement(&text, i)?;
-            }
-            Ok(page.bytes)
-        }
-        TextRead::Refused(r) => {
-            let line = format!(in alloc; "statement {} at byte {}: {}", r.statement, r.at, r.rule)?;
-            Ok(line.into_bytes())
-        }
+        TextRead::Text(text) => written(alloc, &text),
+        TextRead::Refused(r) => refusal(alloc, r),
         TextRead::Mem => Err(AllocError),
     }
 }
 
-/// A text of the sorts `s` and `w`, the terms `c` without parameters, `f` with one and `g` with two,
-/// an axiom `A`, and then `more`; its description without these.
-fn told(alloc: Global, more: &[u8], mode: Mode) -> Result<Vec<u8>, AllocError>
-    requires { length more.now < 10000 }
-{
-    let mut text: Vec<u8> = Vec::new(alloc);
-    text.extend_from_slice(b"(sort s)(sort w)(term c () (s ()))")?;
-    text.extend_from_slice(b"(term f ((a s ())) (s ()))(term g ((x s) (a s (x))) (s ()))")?;
-    text.extend_from_slice(b"(axiom A ((a s ())) (a) a)")?;
-    text.extend_from_slice(more)?;
-    if text.len() < 20000 {
-        description(alloc, &text, mode)
-    } else {
-        Err(AllocError)
-    }
+/// The sorts `s` and `w`, the terms `c` without parameters, `f` with one and `g` with two, and an axiom `A`.
+const BEFORE: &str = "(sort s)(sort w)(term c () (s ()))\
+    (term f ((a s ())) (s ()))(term g ((x s) (a s (x))) (s ()))\
+    (axiom A ((a s ())) (a) a)";
+
+/// The description of a text of those and then `more`.
+fn told(rt: &(impl Abort + AllocGlobal), more: &str, mode: Mode) -> Vec<u8> {
+    let alloc = rt.alloc();
+    let text = format!(in alloc; "{BEFORE}{more}").expect(rt, "memory");
+    description(alloc, text.as_bytes(), mode).expect(rt, "memory")
+}
+
+/// Fails unless the text of those and then `more` is described by these last words.
+fn expect_end(rt: &(impl Abort + AllocGlobal), more: &str, mode: Mode, wanted: &str) {
+    let found = told(rt, more, mode);
+    expect(rt, found.ends_with(wanted.as_bytes()), more);
+}
+
+/// Fails unless the text of those and then `more` is refused like this.
+fn expect_refused(rt: &(impl Abort + AllocGlobal), more: &str, wanted: &str) {
+    let found = told(rt, more, Mode::Strict);
+    let line = format!(in rt.alloc(); "statement 7 at byte {wanted}").expect(rt, "memory");
+    expect_bytes(rt, &found, line.as_bytes(), more);
 }
 
 const FORMS: &[(&str, &str)] = &[
@@ -357,14 +379,10 @@ const FORMS: &[(&str, &str)] = &[
 ];
 
 #[test]
-fn forms(rt: HostRuntime) -> Result<(), Fail> {
-    let alloc = rt.alloc();
-    for (text, expected) in FORMS {
-        assert!(rt; text.len() < 10000);
-        let found = told(alloc, text.as_bytes(), Mode::Strict)?;
-        assert!(rt; found.ends_with(expected.as_bytes()), "{text}");
+fn forms(rt: HostRuntime) {
+    for (text, wanted) in FORMS {
+        expect_end(&rt, text, Mode::Strict, wanted);
     }
-    Ok(())
 }
 
 const WRONG_FORMS: &[(&str, u32)] = &[
@@ -466,15 +484,11 @@ const WRONG_FORMS: &[(&str, u32)] = &[
 ];
 
 #[test]
-fn wrong_forms(rt: HostRuntime) -> Result<(), Fail> {
-    let alloc = rt.alloc();
+fn wrong_forms(rt: HostRuntime) {
     for (text, at) in WRONG_FORMS {
-        assert!(rt; text.len() < 10000);
-        let found = told(alloc, text.as_bytes(), Mode::Strict)?;
-        let expected = format!(in alloc; "statement 7 at byte {at}: U3 form")?;
-        assert_eq!(rt; found.as_slice(), expected.as_bytes(), "{text}");
+        let place = format!(in rt.alloc(); "{at}: U3 form").expect(&rt, "memory");
+        expect_refused(&rt, text, &place);
     }
-    Ok(())
 }
 
 const NAMES: &[(&str, &str)] = &[
@@ -591,15 +605,10 @@ const NAMES: &[(&str, &str)] = &[
 ];
 
 #[test]
-fn names(rt: HostRuntime) -> Result<(), Fail> {
-    let alloc = rt.alloc();
+fn names(rt: HostRuntime) {
     for (text, place) in NAMES {
-        assert!(rt; text.len() < 10000);
-        let found = told(alloc, text.as_bytes(), Mode::Strict)?;
-        let expected = format!(in alloc; "statement 7 at byte {place}")?;
-        assert_eq!(rt; found.as_slice(), expected.as_bytes(), "{text}");
+        expect_refused(&rt, text, place);
     }
-    Ok(())
 }
 
 /// What a draft reads where a finished text is refused, and what it still refuses.
@@ -643,14 +652,10 @@ const DRAFTS: &[(&str, &str)] = &[
 ];
 
 #[test]
-fn drafts(rt: HostRuntime) -> Result<(), Fail> {
-    let alloc = rt.alloc();
-    for (text, expected) in DRAFTS {
-        assert!(rt; text.len() < 10000);
-        let found = told(alloc, text.as_bytes(), Mode::Draft)?;
-        assert!(rt; found.as_slice().ends_with(expected.as_bytes()), "{text}");
+fn drafts(rt: HostRuntime) {
+    for (text, wanted) in DRAFTS {
+        expect_end(&rt, text, Mode::Draft, wanted);
     }
-    Ok(())
 }
 
 const STATEMENTS_IN_ORDER: &[(&str, &str)] = &[
@@ -683,12 +688,9 @@ const STATEMENTS_IN_ORDER: &[(&str, &str)] = &[
 ];
 
 #[test]
-fn statements_in_order(rt: HostRuntime) -> Result<(), Fail> {
-    let alloc = rt.alloc();
-    for (text, expected) in STATEMENTS_IN_ORDER {
-        assert!(rt; text.len() < 100);
-        let found = description(alloc, text.as_bytes(), Mode::Strict)?;
-        assert_eq!(rt; found.as_slice(), expected.as_bytes(), "{text}");
+fn statements_in_order(rt: HostRuntime) {
+    for (text, wanted) in STATEMENTS_IN_ORDER {
+        let found = description(rt.alloc(), text.as_bytes(), Mode::Strict).expect(&rt, "memory");
+        expect_bytes(&rt, &found, wanted.as_bytes(), text);
     }
-    Ok(())
 }

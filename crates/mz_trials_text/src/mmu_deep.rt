@@ -1,8 +1,9 @@
+use crate::expect::refusal;
 use mz_forms::Hashing;
 use mz_mmu::{TextRead, read_text};
 use mz_mode::Mode;
 use std::alloc::{AllocError, Global};
-use std::test::Fail;
+use std::process::Abort;
 
 /// A part of a text that stands in itself: `open` so many times, `core`, and `close` as many times.
 struct Nest {
@@ -132,63 +133,68 @@ const NESTS: &[Nest] = &[
 ];
 
 /// The pieces, with the number between them.
-fn write_open(alloc: Global, text: &mut Vec<u8>, nest: &Nest, n: u32) -> Result<(), AllocError> {
-    let mut is_first = true;
-    for piece in nest.open {
-        if !is_first {
-            let number = format!(in alloc; "{}", n)?;
-            text.extend_from_slice(number.as_bytes())?;
+fn opened(rt: &(impl Abort + AllocGlobal), pieces: &[&str], n: u32) -> String {
+    let mut text = String::new(rt.alloc());
+    for (i, piece) in pieces.iter().enumerate() {
+        if i > 0 {
+            let number = format!(in rt.alloc(); "{n}").expect(rt, "memory");
+            text.push_str(&number).expect(rt, "memory");
         }
-        is_first = false;
-        text.extend_from_slice(piece.as_bytes())?;
+        text.push_str(piece).expect(rt, "memory");
     }
-    Ok(())
+    text
 }
 
-/// Two sorts, three terms and an axiom, and then the nest of so many times.
-fn nested(alloc: Global, nest: &Nest, count: u32) -> Result<Vec<u8>, AllocError> {
-    let mut text: Vec<u8> = Vec::new(alloc);
-    text.extend_from_slice(b"(sort s)(sort w)(term c () (s ()))")?;
-    text.extend_from_slice(b"(term f ((a s ())) (s ()))(term g ((x s) (a s (x))) (s ()))")?;
-    text.extend_from_slice(b"(axiom A ((a s ())) (a) a)")?;
-    text.extend_from_slice(nest.before.as_bytes())?;
+/// Two sorts, three terms and an axiom.
+const BEFORE: &str = "(sort s)(sort w)(term c () (s ()))\
+    (term f ((a s ())) (s ()))(term g ((x s) (a s (x))) (s ()))\
+    (axiom A ((a s ())) (a) a)";
+
+/// These, and then the nest of so many times.
+fn nested(rt: &(impl Abort + AllocGlobal), nest: &Nest, count: u32) -> String {
+    let before = nest.before;
+    let mut text = format!(in rt.alloc(); "{BEFORE}{before}").expect(rt, "memory");
     for n in 0..count {
-        write_open(alloc, &mut text, nest, n)?;
+        text.push_str(&opened(rt, nest.open, n))
+            .expect(rt, "memory");
     }
-    text.extend_from_slice(nest.core.as_bytes())?;
+    text.push_str(nest.core).expect(rt, "memory");
     for _ in 0..count {
-        text.extend_from_slice(nest.close.as_bytes())?;
+        text.push_str(nest.close).expect(rt, "memory");
     }
-    text.extend_from_slice(nest.after.as_bytes())?;
-    Ok(text)
+    text.push_str(nest.after).expect(rt, "memory");
+    text
 }
 
-/// How many statements the text with the nest of so many times has, or its refusal.
-fn answer(alloc: Global, nest: &Nest, count: u32) -> Result<Vec<u8>, AllocError> {
-    let text = nested(alloc, nest, count)?;
-    if text.len() >= 100000 {
+/// How many statements a text has, or its refusal.
+fn answer(alloc: Global, text: &[u8]) -> Result<Vec<u8>, AllocError> {
+    if text.len() >= 100_000 {
         return Err(AllocError);
     }
-    let line = match read_text(alloc, Hashing::fixed(), &text, Mode::Strict) {
-        TextRead::Text(text) => format!(in alloc; "{} statements", text.len())?,
-        TextRead::Refused(r) => {
-            format!(in alloc; "statement {} at byte {}: {}", r.statement, r.at, r.rule)?
+    match read_text(alloc, Hashing::fixed(), text, Mode::Strict) {
+        TextRead::Text(text) => {
+            format!(in alloc; "{} statements", text.len()).map(String::into_bytes)
         }
-        TextRead::Mem => return Err(AllocError),
-    };
-    Ok(line.into_bytes())
+        TextRead::Refused(r) => refusal(alloc, r),
+        TextRead::Mem => Err(AllocError),
+    }
+}
+
+/// Fails unless this is the answer to a text with the nest of so many times.
+fn expect_answer(rt: &(impl Abort + AllocGlobal), nest: &Nest, count: u32, wanted: &str) {
+    let text = nested(rt, nest, count);
+    let found = answer(rt.alloc(), text.as_bytes()).expect(rt, "memory");
+    assert!(rt; found.as_slice() == wanted.as_bytes(), "{}", nest.at);
 }
 
 #[test]
-fn deep_texts(rt: HostRuntime) -> Result<(), Fail> {
-    let alloc = rt.alloc();
+fn deep_texts(rt: HostRuntime) {
     for nest in NESTS {
-        assert!(rt; nest.count < 5000);
-        let found = answer(alloc, nest, nest.count)?;
-        assert_eq!(rt; found.as_slice(), b"7 statements".as_slice(), "{}", nest.at);
-        let found = answer(alloc, nest, nest.count + 1)?;
-        let expected = format!(in alloc; "statement 7 at byte {}: U16 depth", nest.at)?;
-        assert_eq!(rt; found.as_slice(), expected.as_bytes(), "{}", nest.at);
+        let at = nest.at;
+        let refusal = format!(in rt.alloc(); "statement 7 at byte {at}: U16 depth").expect(
+            &rt, "memory",
+        );
+        expect_answer(&rt, nest, nest.count, "7 statements");
+        expect_answer(&rt, nest, nest.count.saturating_add(1), &refusal);
     }
-    Ok(())
 }

@@ -1,28 +1,26 @@
-ghost use Rattle.std.specs.Prelude.{◌<◌, ◌^◌, length, IfSome};
+ghost use Rattle.std.specs.Prelude.{◌<◌, IfSome};
 ghost use Rattle.mz_sexpr.specs.Number.{node_count};
 
+use crate::expect::{expect, expect_bytes, refusal};
 use mz_sexpr::{SexprRead, Sexprs, read_sexprs};
 use std::alloc::{AllocError, Global};
-use std::test::Fail;
 
 /// A node is its place and `(`, or `()` for a list without parts, or the atom; then `.` where it is
 /// the last of its list.
 fn write_node(alloc: Global, nodes: &Sexprs, n: u32, out: &mut Vec<u8>) -> Result<(), AllocError>
     requires { n < node_count nodes.now }
 {
-    let place = format!(in alloc; "{}", nodes.at(n))?;
-    out.extend_from_slice(place.as_bytes())?;
-    if nodes.is_atom(n) {
-        out.extend_from_slice(nodes.atom(n))?;
+    let word = if nodes.is_atom(n) {
+        nodes.atom(n)
     } else if nodes.first(n).is_some() {
-        out.extend_from_slice(b"(")?;
+        b"(".as_slice()
     } else {
-        out.extend_from_slice(b"()")?;
-    }
-    if nodes.next(n).is_none() {
-        out.extend_from_slice(b".")?;
-    }
-    out.extend_from_slice(b" ")
+        b"()".as_slice()
+    };
+    let end = if nodes.next(n).is_none() { ". " } else { " " };
+    let place = format!(in alloc; "{}", nodes.at(n))?;
+    let node = [place.as_bytes(), word, end.as_bytes()].concat(alloc)?;
+    out.extend_from_slice(&node)
 }
 
 /// The node with its parts, and the later nodes of its list, no more than `limit` in one another or
@@ -47,20 +45,20 @@ fn outline(
     outline(alloc, nodes, nodes.next(n), limit - 1, out)
 }
 
+fn whole_outline(alloc: Global, nodes: &Sexprs) -> Result<Vec<u8>, AllocError> {
+    let mut out: Vec<u8> = Vec::new(alloc);
+    outline(alloc, nodes, nodes.roots(), 10000, &mut out)?;
+    Ok(out)
+}
+
 /// The outline of a text, or its refusal.
-fn description(alloc: Global, text: &[u8]) -> Result<Vec<u8>, AllocError>
-    requires { length text.now < 2 ^ 32 }
-{
+fn description(alloc: Global, text: &[u8]) -> Result<Vec<u8>, AllocError> {
+    if text.len() >= 10000 {
+        return Err(AllocError);
+    }
     match read_sexprs(alloc, text) {
-        SexprRead::Nodes(nodes) => {
-            let mut out: Vec<u8> = Vec::new(alloc);
-            outline(alloc, &nodes, nodes.roots(), 10000, &mut out)?;
-            Ok(out)
-        }
-        SexprRead::Refused(r) => {
-            let line = format!(in alloc; "statement {} at byte {}: {}", r.statement, r.at, r.rule)?;
-            Ok(line.into_bytes())
-        }
+        SexprRead::Nodes(nodes) => whole_outline(alloc, &nodes),
+        SexprRead::Refused(r) => refusal(alloc, r),
         SexprRead::Mem => Err(AllocError),
     }
 }
@@ -109,22 +107,19 @@ const TEXTS: &[(&str, &str)] = &[
 ];
 
 #[test]
-fn nodes_and_refusals(rt: HostRuntime) -> Result<(), Fail> {
-    let alloc = rt.alloc();
-    for (text, expected) in TEXTS {
-        assert!(rt; text.len() < 100);
-        let found = description(alloc, text.as_bytes())?;
-        assert_eq!(rt; found.as_slice(), expected.as_bytes(), "{text}");
+fn nodes_and_refusals(rt: HostRuntime) {
+    for (text, wanted) in TEXTS {
+        let found = description(rt.alloc(), text.as_bytes()).expect(&rt, "memory");
+        expect_bytes(&rt, &found, wanted.as_bytes(), text);
     }
-    Ok(())
 }
 
-/// `open` parentheses, and then `closed` closing ones.
-fn nest(alloc: Global, open: usize, closed: usize) -> Result<Vec<u8>, AllocError> {
-    let mut text: Vec<u8> = vec![in alloc; b'('; open]?;
-    let end: Vec<u8> = vec![in alloc; b')'; closed]?;
-    text.extend_from_slice(&end)?;
-    Ok(text)
+/// What is told of `open` parentheses, and then `closed` closing ones.
+fn nested(alloc: Global, open: usize, closed: usize) -> Result<Vec<u8>, AllocError> {
+    let front: Vec<u8> = vec![in alloc; b'('; open]?;
+    let back: Vec<u8> = vec![in alloc; b')'; closed]?;
+    let text = [front.as_slice(), back.as_slice()].concat(alloc)?;
+    description(alloc, &text)
 }
 
 /// How many parentheses are opened and closed, and the refusal.
@@ -136,18 +131,12 @@ const DEEP: &[(usize, usize, &str)] = &[
 ];
 
 #[test]
-fn deep_lists(rt: HostRuntime) -> Result<(), Fail> {
-    let alloc = rt.alloc();
-    for (open, closed, expected) in DEEP {
-        let text = nest(alloc, *open, *closed)?;
-        assert!(rt; text.len() < 10000);
-        let found = description(alloc, &text)?;
-        assert_eq!(rt; found.as_slice(), expected.as_bytes(), "{open} {closed}");
+fn deep_lists(rt: HostRuntime) {
+    for (open, closed, wanted) in DEEP {
+        let found = nested(rt.alloc(), *open, *closed).expect(&rt, "memory");
+        assert!(rt; found.as_slice() == wanted.as_bytes(), "{open} {closed}");
     }
-    let text = nest(alloc, 4096, 4096)?;
-    assert!(rt; text.len() < 10000);
-    let outline = description(alloc, &text)?;
-    assert!(rt; outline.starts_with(b"0(. 1(. 2(. "));
-    assert!(rt; outline.ends_with(b" 4094(. 4095(). "));
-    Ok(())
+    let outline = nested(rt.alloc(), 4096, 4096).expect(&rt, "memory");
+    expect(&rt, outline.starts_with(b"0(. 1(. 2(. "), "the first ones");
+    expect(&rt, outline.ends_with(b" 4094(. 4095(). "), "the last ones");
 }

@@ -1,24 +1,17 @@
-ghost use Rattle.std.specs.Prelude.{◌<◌, ◌^◌, length};
-
+use crate::expect::{expect_bytes, refusal};
 use mz_forms::Hashing;
 use mz_mmu::{Text, TextRead, read_text};
 use mz_mode::Mode;
-use mz_sexpr::TextRefusal;
 use mz_type::{TypedRead, check_text, weight};
 use std::alloc::{AllocError, Global};
-use std::test::Fail;
-
-fn refusal(alloc: Global, r: TextRefusal) -> Result<Vec<u8>, AllocError> {
-    let line = format!(in alloc; "statement {} at byte {}: {}", r.statement, r.at, r.rule)?;
-    Ok(line.into_bytes())
-}
+use std::process::Abort;
 
 /// How many statements a well-typed text has and what it weighs, or its refusal.
 fn typed_answer(alloc: Global, text: Text) -> Result<Vec<u8>, AllocError> {
     match check_text(alloc, text) {
         TypedRead::Typed(typed) => {
-            let line = format!(in alloc; "{} statements weigh {}", typed.len(), weight(&typed))?;
-            Ok(line.into_bytes())
+            let line = format!(in alloc; "{} statements weigh {}", typed.len(), weight(&typed));
+            line.map(String::into_bytes)
         }
         TypedRead::Refused(r) => refusal(alloc, r),
         TypedRead::Mem => Err(AllocError),
@@ -26,9 +19,10 @@ fn typed_answer(alloc: Global, text: Text) -> Result<Vec<u8>, AllocError> {
 }
 
 /// The same of the bytes of a text.
-fn answer(alloc: Global, text: &[u8], mode: Mode) -> Result<Vec<u8>, AllocError>
-    requires { length text.now < 2 ^ 32 }
-{
+fn answer(alloc: Global, text: &[u8], mode: Mode) -> Result<Vec<u8>, AllocError> {
+    if text.len() >= 100_000 {
+        return Err(AllocError);
+    }
     match read_text(alloc, Hashing::fixed(), text, mode) {
         TextRead::Text(text) => typed_answer(alloc, text),
         TextRead::Refused(r) => refusal(alloc, r),
@@ -37,25 +31,18 @@ fn answer(alloc: Global, text: &[u8], mode: Mode) -> Result<Vec<u8>, AllocError>
 }
 
 /// Fifteen statements: sorts of each modifier, terms, definitions and axioms. They weigh 52.
-const BEFORE: &[u8] = b"(sort s)(sort w provable)(sort p pure)(sort t strict)(sort f free)\
+const BEFORE: &str = "(sort s)(sort w provable)(sort p pure)(sort t strict)(sort f free)\
     (term c () (s ()))(term is ((a s ())) (w ()))(term eq ((a s ()) (b s ())) (w ()))\
     (term all ((x s) (q w (x))) (w ()))(term lam ((x s) (a s (x))) (s ()))\
     (def k ((a s ())) (s ()) ((y s)) (lam y a))(def m () (s ()) ((y s) (u s)) (lam y (lam u c)))\
     (axiom A ((a s ())) () (is a))(axiom B ((x s) (q w ())) (q) (all x q))\
     (axiom C ((a s ()) (b s ())) ((is a) (is b)) (eq a b))";
 
-/// The answer to those and `more`.
-fn told(alloc: Global, more: &[u8], mode: Mode) -> Result<Vec<u8>, AllocError>
-    requires { length more.now < 10000 }
-{
-    let mut text: Vec<u8> = Vec::new(alloc);
-    text.extend_from_slice(BEFORE)?;
-    text.extend_from_slice(more)?;
-    if text.len() < 20000 {
-        answer(alloc, &text, mode)
-    } else {
-        Err(AllocError)
-    }
+/// Fails unless the answer to those and `more` is the one that is wanted.
+fn expect_answer(rt: &(impl Abort + AllocGlobal), more: &str, mode: Mode, wanted: &str) {
+    let text = format!(in rt.alloc(); "{BEFORE}{more}").expect(rt, "memory");
+    let found = answer(rt.alloc(), text.as_bytes(), mode).expect(rt, "memory");
+    expect_bytes(rt, &found, wanted.as_bytes(), more);
 }
 
 /// What is added to those statements, and where it is refused, and by which rule.
@@ -278,14 +265,12 @@ const RULES: &[(&str, &str)] = &[
     ),
 ];
 
-/// Whether the statements are refused as the row says.
-fn is_refused(alloc: Global, row: &(&str, &str)) -> Result<bool, AllocError> {
-    if row.0.len() >= 10000 {
-        return Ok(false);
+#[test]
+fn rules_in_order(rt: HostRuntime) {
+    for (more, place) in RULES {
+        let wanted = format!(in rt.alloc(); "statement 16 at byte {place}").expect(&rt, "memory");
+        expect_answer(&rt, more, Mode::Strict, &wanted);
     }
-    let found = told(alloc, row.0.as_bytes(), Mode::Strict)?;
-    let expected = format!(in alloc; "statement 16 at byte {}", row.1)?;
-    Ok(found.as_slice() == expected.as_bytes())
 }
 
 /// What is added to those statements in a draft, and the answer.
@@ -332,22 +317,10 @@ const GAPS: &[(&str, &str)] = &[
 ];
 
 #[test]
-fn gaps(rt: HostRuntime) -> Result<(), Fail> {
-    let alloc = rt.alloc();
-    for (more, expected) in GAPS {
-        assert!(rt; more.len() < 10000);
-        let found = told(alloc, more.as_bytes(), Mode::Draft)?;
-        assert_eq!(rt; found.as_slice(), expected.as_bytes(), "{more}");
+fn gaps(rt: HostRuntime) {
+    for (more, wanted) in GAPS {
+        expect_answer(&rt, more, Mode::Draft, wanted);
     }
-    Ok(())
-}
-
-#[test]
-fn rules_in_order(rt: HostRuntime) -> Result<(), Fail> {
-    for row in RULES {
-        assert!(rt; is_refused(rt.alloc(), row)?, "{}", row.0);
-    }
-    Ok(())
 }
 
 const IMPLICATION: &str = "(sort wff provable)
@@ -426,24 +399,13 @@ const TEXTS: &[(&str, &str, &str)] = &[
     ),
 ];
 
-/// Whether the answer to both parts is the third.
-fn is_answered(alloc: Global, row: &(&str, &str, &str)) -> Result<bool, AllocError> {
-    let mut text: Vec<u8> = Vec::new(alloc);
-    text.extend_from_slice(row.0.as_bytes())?;
-    text.extend_from_slice(row.1.as_bytes())?;
-    if text.len() >= 10000 {
-        return Ok(false);
-    }
-    let found = answer(alloc, &text, Mode::Strict)?;
-    Ok(found.as_slice() == row.2.as_bytes())
-}
-
 #[test]
-fn whole_texts(rt: HostRuntime) -> Result<(), Fail> {
-    for row in TEXTS {
-        assert!(rt; is_answered(rt.alloc(), row)?, "{}{}", row.0, row.1);
+fn whole_texts(rt: HostRuntime) {
+    for (first, second, wanted) in TEXTS {
+        let text = format!(in rt.alloc(); "{first}{second}").expect(&rt, "memory");
+        let found = answer(rt.alloc(), text.as_bytes(), Mode::Strict).expect(&rt, "memory");
+        expect_bytes(&rt, &found, wanted.as_bytes(), &text);
     }
-    Ok(())
 }
 
 /// A part of a text that stands in itself: `open` so many times, `core`, and `close` as many times.
@@ -517,36 +479,32 @@ const NESTS: &[Nest] = &[
     },
 ];
 
-fn nested(alloc: Global, nest: &Nest) -> Result<Vec<u8>, AllocError> {
-    let mut text: Vec<u8> = Vec::new(alloc);
-    text.extend_from_slice(b"(sort w provable)(term c () (w ()))(term f ((a w ())) (w ()))")?;
-    text.extend_from_slice(b"(axiom A ((a w ())) () a)(axiom M ((a w ())) (a) a)")?;
-    text.extend_from_slice(nest.before.as_bytes())?;
-    for _ in 0..nest.count {
-        text.extend_from_slice(nest.open.as_bytes())?;
+const GROUND: &str = "(sort w provable)(term c () (w ()))(term f ((a w ())) (w ()))\
+    (axiom A ((a w ())) () a)(axiom M ((a w ())) (a) a)";
+
+/// The piece so many times.
+fn repeated(alloc: Global, piece: &str, count: u32) -> Result<String, AllocError> {
+    let mut text = String::new(alloc);
+    for _ in 0..count {
+        text.push_str(piece)?;
     }
-    text.extend_from_slice(nest.core.as_bytes())?;
-    for _ in 0..nest.count {
-        text.extend_from_slice(nest.close.as_bytes())?;
-    }
-    text.extend_from_slice(nest.after.as_bytes())?;
     Ok(text)
 }
 
-/// Whether the nest is answered as it says.
-fn is_nest_answered(alloc: Global, nest: &Nest) -> Result<bool, AllocError> {
-    let text = nested(alloc, nest)?;
-    if text.len() >= 100000 {
-        return Ok(false);
-    }
-    let found = answer(alloc, &text, Mode::Strict)?;
-    Ok(found.as_slice() == nest.answer.as_bytes())
+/// The answer to a text with the nest.
+fn nest_answer(rt: &(impl Abort + AllocGlobal), nest: &Nest) -> Vec<u8> {
+    let alloc = rt.alloc();
+    let (before, core, after) = (nest.before, nest.core, nest.after);
+    let open = repeated(alloc, nest.open, nest.count).expect(rt, "memory");
+    let close = repeated(alloc, nest.close, nest.count).expect(rt, "memory");
+    let text = format!(in alloc; "{GROUND}{before}{open}{core}{close}{after}").expect(rt, "memory");
+    answer(alloc, text.as_bytes(), Mode::Strict).expect(rt, "memory")
 }
 
 #[test]
-fn deep_texts(rt: HostRuntime) -> Result<(), Fail> {
+fn deep_texts(rt: HostRuntime) {
     for nest in NESTS {
-        assert!(rt; is_nest_answered(rt.alloc(), nest)?, "{}", nest.open);
+        let found = nest_answer(&rt, nest);
+        expect_bytes(&rt, &found, nest.answer.as_bytes(), nest.open);
     }
-    Ok(())
 }

@@ -4,6 +4,7 @@ pub mod Parts
 pub mod RowValues
 pub mod UnifyTurns
 pub mod Underway
+mod Through
 pub mod ItemsLeft
 pub mod RunsExact
 pub mod Offered

@@ -1,5 +1,5 @@
 -- A run that is underway, in any machine: the run from here is the whole run, and so is the count.
-use Rattle.std.proofs.Common.{◌≡◌, ℕ, suc, Bool, true, false, cond, eqb, Option, ◌+◌, List, [], ◌++◌, length, drop, Some, None, Result, Ok, Err, refl, sym, ap, ◌∙◌, arith, append_assoc, length-append}
+use Rattle.std.proofs.Common.{◌≡◌, ℕ, suc, Bool, true, false, cond, eqb, Option, ◌+◌, ◌-◌, ◌<◌, ◌≤◌, List, [], ◌++◌, length, drop, Some, None, Result, Ok, Err, refl, sym, ap, subst, ◌∙◌, arith, append_assoc, length-append}
 use Rattle.std.proofs.lemmas.List.{append-nil, drop-drop}
 use Rattle.mz_cmd.specs.declared.rule.K.{K}
 use Rattle.mz_cmd.specs.declared.rule.K.TheVariants as k
@@ -14,7 +14,7 @@ use Rattle.mz_logic.specs.declared.binder.Binder.{Binder}
 use Rattle.mz_unification.specs.Streams.{StreamKind, of_assertion, of_definition, UnifyCommand, u_dummy, u_end, IsEnd, command_in, unify_command}
 use Rattle.mz_unification.specs.Profile.{Profile, Item}
 use Rattle.mz_unification.specs.UnifyMachine.{UnifyMode as Mode, in_citation, at_end, in_definition, kind_of, Matching, UnifyState, unify_row, unify_from, unify_steps_from, at_start, unify, unify_steps}
-use Rattle.mz_unify.specs.Stored.{AreLeft, EndsWith, IsRun, Says, UnlessMem}
+use Rattle.mz_unify.specs.Stored.{AreLeft, EndsWith, IsRun, OnDone, Says, UnlessMem}
 use Rattle.mz_unify.specs.Rows.{command_of, StopsBy, stopped_at}
 use Rattle.mz_unify.specs.declared.unified.Unified.{Unified}
 use Rattle.mz_unify.specs.declared.command.Command.{Command}
@@ -69,6 +69,34 @@ left-none xs = ([], sym (append-nil xs), refl)
 pub left-both : {A : Type 0} (xs ys zs : List A) (m n : ℕ) → AreLeft xs ys m → AreLeft ys zs n → AreLeft xs zs (m + n)
 left-both xs ys zs m n (gone, is, many) (more, are, count) =
     (more ++ gone, is ∙ ap (λ ws. ws ++ gone) are ∙ append_assoc zs more gone, length-append more gone ∙ omega arith)
+
+-- so many that there were and are left, in two steps, say how many are taken
+module _ {A : Type 0} (xs ys zs : List A) (at before after : ℕ) (left : (m : ℕ) × (m ≤ at) × AreLeft xs ys m) (right : (n : ℕ) × (n ≤ 1) × AreLeft ys zs n) (e : before ≡ length xs) (f : after ≡ length zs) where
+  both : AreLeft xs zs (left.0 + right.0)
+  both = left-both xs ys zs left.0 right.0 left.2 right.2
+
+  taken-sum : before ≡ after + (left.0 + right.0)
+  taken-sum = let (gone, is, many) = both in omega (arith, ap length is, length-append zs gone)
+
+  pub taken-there : after ≤ before
+  taken-there = omega (arith, taken-sum)
+
+  pub taken-exactly : AreLeft xs zs (before - after)
+  taken-exactly = subst (AreLeft xs zs) (omega (arith, taken-sum)) both
+
+  pub taken-fits : (len whole most : ℕ) → 1 ≤ len → at + len ≤ whole → whole < most → before - after < most
+  taken-fits len whole most one within small = omega (arith, taken-sum, left.1, right.1)
+
+-- of a count: no more than one for each byte
+pub counted-within : (first steps at whole : ℕ) → steps ≤ first + at → at ≤ whole → steps ≤ first + whole
+counted-within first steps at whole most within = omega arith
+
+pub counted-once : (first steps later at len whole : ℕ) → later ≡ steps + 1 → steps ≤ first + at → 1 ≤ len → at + len ≤ whole → later ≤ first + whole
+counted-once first steps later at len whole more most one within = omega arith
+
+pub stopped-not-done : (at : ℕ) (stop : Stop) (Q : ℕ → Type 0) → OnDone (stopped_at at stop) Q
+stopped-not-done at (Rule rule) Q = tt
+stopped-not-done at Mem Q = tt
 
 module _ {P : Profile} {sigs : List Signature} {ctx : List Binder} {mode : Mode} {A : Type 0} {stream : List ℕ} {start : UnifyState P.T} {first at : ℕ} {Known : A → Type 0} {state : A → UnifyState P.T} {steps : ℕ} (h : IsUnderway P sigs ctx mode A stream start first at Known state steps) where
   abbrev whole : Result (UnifyState P.T) (ℕ × K)

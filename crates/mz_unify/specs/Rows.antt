@@ -61,3 +61,9 @@ IsRow row result after = MatchResult result (λ x. row ≡ Ok (after x)) (λ sto
 abbrev pub stopped_at : ℕ → Stop → Unified
 stopped_at at (Rule k) = Refused at k
 stopped_at at Mem = said.Mem
+
+-- the command goes on whose stream ran to its end; else it is stopped as the stream was
+abbrev pub gone_through : Unified → Result (Unit {0}) Stop
+gone_through (said.Done taken) = Ok tt
+gone_through (Refused at k) = Err (Rule k)
+gone_through said.Mem = Err Mem

@@ -1,6 +1,6 @@
 //! Where a stream runs, and what became of it.
 ghost use Rattle.std.specs.Prelude.{◌≡◌};
-ghost use Rattle.mz_unify.specs.Rows.{stopped_at};
+ghost use Rattle.mz_unify.specs.Rows.{gone_through, stopped_at};
 
 use crate::stop::Stop;
 use mz_cmd::K;
@@ -35,6 +35,21 @@ impl Unified {
         match stop {
             Stop::Rule(rule) => Unified::Refused { at, rule },
             Stop::Mem => Unified::Mem,
+        }
+    }
+
+    /// Lets the command go on whose stream ran to its end.
+    ///
+    /// # Errors
+    ///
+    /// What stopped the stream.
+    pub fn through(self) -> Result<(), Stop>
+        ensures { result ≡ gone_through self }
+    {
+        match self {
+            Unified::Done { .. } => Ok(()),
+            Unified::Refused { rule, .. } => Err(Stop::Rule(rule)),
+            Unified::Mem => Err(Stop::Mem),
         }
     }
 }

@@ -21,8 +21,8 @@ use mz_naming::Names;
 use mz_stating::Phrases;
 use std::alloc::Global;
 
-/// An application that is being read: from where its parts stand among those that are read, up to where they will, and its
-/// mark, where it is saved.
+/// An application that is being read: from where its parts stand among those that are read, up to where they will, and
+/// its mark, where it is saved.
 #[derive(Clone, Copy)]
 pub(crate) struct Open {
     pub from: usize,
@@ -73,8 +73,8 @@ impl<'a> Reading<'a> {
         })
     }
 
-    /// Reads the hypotheses, which stand in the stream from the last to the first. The result is their phrases, the first
-    /// one first.
+    /// Reads the hypotheses, which stand in the stream from the last to the first. The result is their phrases, the
+    /// first one first.
     pub fn hypotheses(
         &mut self,
         mmb: &Mmb,

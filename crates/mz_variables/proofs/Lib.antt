@@ -1,4 +1,6 @@
 pub mod Keyed
 pub mod Places
+mod Chosen
+pub mod Grouped
 pub mod Indexed
 pub mod Offered

@@ -1,5 +1,6 @@
 -- Variables by their places, and the places of dependencies.
-use Rattle.std.proofs.Common.{◌≡◌, ◌∙◌, ◌<◌, ◌+◌, ℕ, zero, suc, List, [], ◌∷◌, length, map, take, Bool, true, false, Option, Some, None, slice_get, All, ap, sym, refl, subst, inl, inr, arith}
+use Rattle.std.proofs.Common.{◌≡◌, ◌∙◌, ◌<◌, ◌≤◌, ◌+◌, ◌++◌, ℕ, zero, suc, List, [], ◌∷◌, length, map, take, drop, Bool, true, false, Option, Some, None, slice_get, All, ap, sym, refl, subst, inl, inr, arith}
+use Rattle.std.proofs.lemmas.List.{append-nil, drop_all}
 use Rattle.std.proofs.lemmas.List.Elements.{All-nil, All-cons}
 use Rattle.std.proofs.lemmas.Bool.{eqb-true}
 use Rattle.std.proofs.lemmas.Slice.Eq.{bytes_eq-Decides}
@@ -70,6 +71,10 @@ get-take [] (suc i) k w at = absurd cc
 get-take (v ∷ vs) zero k w at = absurd cc
 get-take (v ∷ vs) (suc i) zero w at = (omega arith, at)
 get-take (v ∷ vs) (suc i) (suc k) w at = let rest = get-take vs i k w at in (omega (arith, rest.0), rest.1)
+
+-- past the last variable no place is left
+pub all-seen : {X : Type 0} → (f : X → Variable) (ds : List Lexeme) (xs : List X) (i : ℕ) (found whole : List ℕ) → length xs ≤ i → found ++ dep_places i (map f (drop i xs)) ds ≡ whole → found ≡ whole
+all-seen f ds xs i found whole past so_far = sym (append-nil found) ∙ ap (λ ys. found ++ dep_places i (map f ys) ds) (sym (drop_all i xs past)) ∙ so_far
 
 -- nothing depends on nothing
 pub nothing-among : {X : Type 0} → (f : X → Lexeme) (vs : List Variable) (xs : List X) (b : Bool) → b ≡ (length xs == 0) → b ≡ true → [] ≡ dep_places 0 vs (map f xs)

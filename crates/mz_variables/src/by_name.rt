@@ -150,7 +150,7 @@ pub fn places_among<'a>(
     ensures { IfOk result (λ places. places ≡ dep_places_lem 0 (map variable_lem variables.now) (map lexeme deps.now)) }
 {
     if deps.is_empty() {
-        return Ok(Deps::new(alloc));
+        return Ok(Deps::new());
     }
     match index {
         None => dep_places(alloc, variables, deps),
@@ -169,7 +169,7 @@ fn sorted_places<'a>(
     let mut found = places_found(alloc, places, deps)?;
     found.sort()?;
     found.dedup();
-    Ok(Deps::from_vec(found))
+    Deps::from_vec(found)
 }
 
 /// The place of each of these names that is there.

@@ -1,7 +1,7 @@
 // What the rules see of a statement: its variables, its types and its result.
 ghost use Rattle.std.specs.Prelude.{◌++◌, ◌∷◌, ◌≡◌, [], IfOk, OnOk, map, option_map};
 ghost use Rattle.mz_grammar.specs.Code.{assertion as assertion_lem, definition as definition_lem, group as group_lem, notation as notation_lem, source as source_lem, term as term_lem, type_text};
-ghost use Rattle.mz_variables.specs.Code.{AreParts, all_of, variable};
+ghost use Rattle.mz_variables.specs.Code.{AreGrouped, AreParts, all_of, typed, typed_alone, variable};
 ghost use Rattle.mz_variables.specs.View.{group_types as group_types_lem, types_of as types_of_lem, unnamed, view};
 
 use crate::variables::{Variable, dummies_of, params_of, push_groups};
@@ -38,6 +38,7 @@ impl<'t, 'a> Parts<'t, 'a> {
         types: Vec<TypeAt<'t, 'a>>,
         result_type: Option<&'t TypeText<'a>>,
     ) -> Result<Parts<'t, 'a>, AllocError>
+        requires { AreGrouped variables.items }
         ensures { IfOk result (λ parts. AreParts parts (map variable variables.entry.items) (map (λ t. type_text t.ty.now) types.entry.items) (all_of (option_map (λ t. type_text t.now) result_type.entry))) }
     {
         let params = params_of(alloc, &variables)?;
@@ -139,7 +140,8 @@ fn push_arguments<'t, 'a>(
     variables: &mut Vec<Variable<'t, 'a>>,
     arguments: &'t [TypeText<'a>],
 ) -> Result<(), AllocError>
-    ensures { OnOk result (map variable variables.new.items ≡ map variable variables.old.items ++ map unnamed (map type_text arguments.now)) }
+    ensures variables { OnOk result (map variable variables.new.items ≡ map variable variables.old.items ++ map unnamed (map type_text arguments.now)) }
+    ensures groups { OnOk result (map typed variables.new.items ≡ map typed variables.old.items ++ map typed_alone (map type_text arguments.now)) }
 {
     for ty in arguments {
         variables.push(Variable::unnamed(ty))?;
@@ -152,7 +154,8 @@ fn push_premises<'t, 'a>(
     variables: &mut Vec<Variable<'t, 'a>>,
     premises: &'t [Source<'a>],
 ) -> Result<(), AllocError>
-    ensures { OnOk result (map variable variables.new.items ≡ map variable variables.old.items ++ map unnamed (types_of_lem (map source_lem premises.now))) }
+    ensures variables { OnOk result (map variable variables.new.items ≡ map variable variables.old.items ++ map unnamed (types_of_lem (map source_lem premises.now))) }
+    ensures groups { OnOk result (map typed variables.new.items ≡ map typed variables.old.items ++ map typed_alone (types_of_lem (map source_lem premises.now))) }
 {
     for premise in premises {
         if let Source::Type(ty) = premise {

@@ -25,8 +25,8 @@ pub fn check_term_words(mmb: &Mmb, sorts: u32, term: u32) -> Result<(), Fault>
     }
 }
 
-/// The words of the row of an axiom or a theorem, where the first `sorts` sorts are declared. Fails with the place of the
-/// first parameter's word that isn't right, and K8.
+/// The words of the row of an axiom or a theorem, where the first `sorts` sorts are declared. Fails with the place of
+/// the first parameter's word that isn't right, and K8.
 pub fn check_thm_words(mmb: &Mmb, sorts: u32, thm: u32) -> Result<(), Fault>
     requires sorts { sorts ≤ sort_count mmb.now }
     requires row { thm < thm_count mmb.now }

@@ -19,7 +19,7 @@ use mz_cmd::{K, Steps};
 use mz_earlier::{Earlier, Spare, put_back};
 use mz_logic::Terms;
 use mz_store::{Id, Item, Store};
-use mz_unify::{Stop, Unified, UnifyMode, push, unify_in};
+use mz_unify::{Stop, UnifyMode, push, unify_in};
 use std::sync::ledger::Ledger;
 
 /// From an expression and a proof below to a proof of the expression, which the obligation above is
@@ -136,7 +136,7 @@ pub(crate) fn unfold<L: Ledger>(
     };
     spare.hyps.clear();
     let stream = earlier.stream_of_term(term);
-    match unify_in(
+    unify_in(
         earlier,
         stream,
         UnifyMode::Body,
@@ -146,11 +146,9 @@ pub(crate) fn unfold<L: Ledger>(
         &mut spare.hyps,
         store,
         steps,
-    ) {
-        Unified::Done { .. } => push(stack, Item::Obligation(unfolded, right)),
-        Unified::Refused { rule, .. } => Err(Stop::Rule(rule)),
-        Unified::Mem => Err(Stop::Mem),
-    }
+    )
+    .through()?;
+    push(stack, Item::Obligation(unfolded, right))
 }
 
 /// What an unfolding takes: what is unfolded to, and below it the two sides of the obligation, perhaps

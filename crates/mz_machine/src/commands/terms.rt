@@ -22,7 +22,7 @@ use mz_earlier::{Earlier, Spare};
 use mz_layout::Row;
 use mz_logic::Terms;
 use mz_store::{Id, Item, Store};
-use mz_unify::{Stop, Unified, UnifyMode, push, unify_in};
+use mz_unify::{Stop, UnifyMode, push, unify_in};
 use std::sync::ledger::Ledger;
 
 /// Makes the application of a term to the operands on top, which it takes.
@@ -95,7 +95,7 @@ pub(crate) fn thm<L: Ledger>(
 {
     let target = take_citation(earlier, t, store, stack, spare)?;
     let stream = earlier.stream_of_thm(t);
-    match unify_in(
+    unify_in(
         earlier,
         stream,
         UnifyMode::Use,
@@ -105,14 +105,10 @@ pub(crate) fn thm<L: Ledger>(
         stack,
         store,
         steps,
-    ) {
-        Unified::Done { .. } => {
-            push(stack, Item::Proof(target))?;
-            Ok(target)
-        }
-        Unified::Refused { rule, .. } => Err(Stop::Rule(rule)),
-        Unified::Mem => Err(Stop::Mem),
-    }
+    )
+    .through()?;
+    push(stack, Item::Proof(target))?;
+    Ok(target)
 }
 
 /// What a citation takes: the expression on top, and for the list of operands those below it, which fit

@@ -24,7 +24,7 @@ use mz_logic::Terms;
 use mz_nodes::Nodes;
 use mz_punify::unify_in;
 use mz_store::{Id, Item};
-use mz_unify::{Stop, Unified, UnifyMode, push};
+use mz_unify::{Stop, UnifyMode, push};
 use std::sync::ledger::Ledger;
 
 /// Makes the application of a term to the operands on top, which it takes, by the command at a place.
@@ -103,7 +103,7 @@ pub(crate) fn thm<L: Ledger>(
 {
     let target = take_citation(earlier, t, nodes, stack, spare)?;
     let stream = earlier.stream_of_thm(t);
-    match unify_in(
+    unify_in(
         earlier,
         stream,
         UnifyMode::Use,
@@ -113,14 +113,10 @@ pub(crate) fn thm<L: Ledger>(
         stack,
         nodes,
         steps,
-    ) {
-        Unified::Done { .. } => {
-            push(stack, Item::Proof(target))?;
-            Ok(target)
-        }
-        Unified::Refused { rule, .. } => Err(Stop::Rule(rule)),
-        Unified::Mem => Err(Stop::Mem),
-    }
+    )
+    .through()?;
+    push(stack, Item::Proof(target))?;
+    Ok(target)
 }
 
 /// What a citation takes: the expression on top, and for the list of operands those below it, which fit

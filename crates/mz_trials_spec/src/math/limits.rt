@@ -1,9 +1,8 @@
-use crate::math::world::{A, B, N, NAT, Step, WFF, World, code};
+use crate::math::world::{A, B, N, NAT, Step, WFF, World, code, world_of};
 use mz_logic::{Expr, Exprs, SortMods};
 use mz_math::{Parsed, Wanted};
 use std::alloc::{AllocError, Global};
 use std::process::Abort;
-use std::test::Fail;
 
 /// `~` and `-` before formulas and numbers, a number standing for a formula, and two infix forms.
 const DEEP: &[Step<'static>] = &[
@@ -50,35 +49,29 @@ fn highest(exprs: &Exprs, limit: u32) -> u32 {
 /// So many pieces, a middle, and as many other pieces; the height of the tree, or the rule.
 type Nest<'a> = (u32, &'a str, &'a str, &'a str, &'a str);
 
-fn nested(alloc: Global, nest: &Nest<'_>) -> Result<Vec<u8>, AllocError> {
-    let (many, front, middle, back, _) = *nest;
-    let mut text: Vec<u8> = Vec::new(alloc);
+/// The piece so many times.
+fn repeated(alloc: Global, piece: &str, many: u32) -> Result<String, AllocError> {
+    let mut text = String::new(alloc);
     for _ in 0..many {
-        text.extend_from_slice(front.as_bytes())?;
-    }
-    text.extend_from_slice(middle.as_bytes())?;
-    for _ in 0..many {
-        text.extend_from_slice(back.as_bytes())?;
+        text.push_str(piece)?;
     }
     Ok(text)
 }
 
-fn height_of(
-    alloc: Global,
-    world: &World,
-    nest: &Nest<'_>,
-    wanted: Wanted,
-) -> Result<Vec<u8>, AllocError> {
-    let text = nested(alloc, nest)?;
-    if text.len() > 100_000 {
-        return Err(AllocError);
+fn nested(rt: &impl Abort, alloc: Global, nest: &Nest<'_>) -> String {
+    let (many, front, middle, back, _) = *nest;
+    let front = repeated(alloc, front, many).expect(rt, "memory");
+    let back = repeated(alloc, back, many).expect(rt, "memory");
+    format!(in alloc; "{front}{middle}{back}").expect(rt, "memory")
+}
+
+/// The height of the tree, or the rule.
+fn told(alloc: Global, parsed: Parsed) -> Result<String, AllocError> {
+    match parsed {
+        Parsed::Tree(expr) => format!(in alloc; "{}", height(&expr, 20_000)),
+        Parsed::Refused { at, rule } => format!(in alloc; "{}:{}", code(rule), at),
+        Parsed::Mem => Err(AllocError),
     }
-    let line = match world.read(&text, wanted) {
-        Parsed::Tree(expr) => format!(in alloc; "{}", height(&expr, 20_000))?,
-        Parsed::Refused { at, rule } => format!(in alloc; "{}:{}", code(rule), at)?,
-        Parsed::Mem => return Err(AllocError),
-    };
-    Ok(line.into_bytes())
 }
 
 fn compare_heights(
@@ -89,11 +82,11 @@ fn compare_heights(
     wanted: Wanted,
 ) {
     for nest in nests {
-        let (many, front, _, _, told) = *nest;
-        match height_of(alloc, world, nest, wanted) {
-            Err(_) => panic!(rt; "no memory: {many} of {front}"),
-            Ok(found) => assert_eq!(rt; found.as_slice(), told.as_bytes(), "{many} of {front}"),
-        }
+        let text = nested(rt, alloc, nest);
+        assert!(rt; text.len() <= 100_000);
+        let found = told(alloc, world.read(text.as_bytes(), wanted)).expect(rt, "memory");
+        let (many, front, _, _, height) = *nest;
+        assert!(rt; found.as_str() == height, "{many} of {front}");
     }
 }
 
@@ -122,13 +115,9 @@ const BODIES: &[Nest<'static>] = &[
 ];
 
 #[test]
-fn limits(rt: HostRuntime) -> Result<(), Fail> {
+fn limits(rt: HostRuntime) {
     let alloc = rt.alloc();
-    let mut world = World::new(alloc);
-    for step in DEEP {
-        world.take(*step)?;
-    }
+    let world = world_of(alloc, DEEP).expect(&rt, "the table");
     compare_heights(&rt, alloc, &world, FORMULAS, Wanted::Provable);
     compare_heights(&rt, alloc, &world, BODIES, Wanted::Sort(WFF));
-    Ok(())
 }

@@ -1,6 +1,7 @@
 // Tables that are made step by step, and strings that are read over them.
 ghost use Rattle.std.specs.Prelude.{◌<◌, ◌^◌, length};
 
+use crate::expect::expect_bytes;
 use mz_lex::S;
 use mz_logic::{
     Binder, Binders, Decl, Deps, Env, Expr, Exprs, ResultType, SortMods, TermDecl, TermForm,
@@ -56,6 +57,8 @@ pub struct World {
     terms: Vec<Bytes>,
     variables: Vec<Bytes>,
     page: Vec<u8>,
+    // whether memory sufficed for the page
+    is_whole: bool,
 }
 
 pub fn code(rule: S) -> &'static str {
@@ -72,18 +75,14 @@ pub fn code(rule: S) -> &'static str {
 fn binders(alloc: Global, vars: &[Var<'_>]) -> Result<Binders, AllocError> {
     let mut binders = Binders::new(alloc);
     for var in vars {
-        let binder = binder(alloc, var)?;
-        binders.push(binder)?;
+        binders.push(binder(alloc, var)?)?;
     }
     Ok(binders)
 }
 
 fn binder(alloc: Global, var: &Var<'_>) -> Result<Binder, AllocError> {
-    let mut deps = Deps::new(alloc);
     let (_, sort, bound, places) = *var;
-    for place in places {
-        deps.push(*place)?;
-    }
+    let deps = Deps::from_vec(Vec::from_slice(alloc, places)?)?;
     Ok(Binder { sort, bound, deps })
 }
 
@@ -102,6 +101,17 @@ fn literals(alloc: Global, words: &[Word]) -> Result<Vec<Literal>, AllocError> {
     Ok(literals)
 }
 
+/// A term with these parameters and a result of this sort, without a body.
+fn term_decl(alloc: Global, params: &[Var<'_>], sort: u32) -> Result<Decl, AllocError> {
+    let params = binders(alloc, params)?;
+    let deps = Deps::new();
+    Ok(Decl::Term(TermDecl {
+        params,
+        result: ResultType { sort, deps },
+        form: TermForm::Plain,
+    }))
+}
+
 /// The variable is added, where its name may be.
 fn add_variable(alloc: Global, scope: &mut Scope, var: &Var<'_>) -> Result<(), AllocError> {
     let name = var.0.as_bytes();
@@ -113,8 +123,16 @@ fn add_variable(alloc: Global, scope: &mut Scope, var: &Var<'_>) -> Result<(), A
     }
 }
 
+fn scope_of(alloc: Global, vars: &[Var<'_>]) -> Result<Scope, AllocError> {
+    let mut scope = Scope::new(alloc);
+    for var in vars {
+        add_variable(alloc, &mut scope, var)?;
+    }
+    Ok(scope)
+}
+
 impl World {
-    pub fn new(alloc: Global) -> World {
+    fn new(alloc: Global) -> World {
         World {
             alloc,
             env: Env::new(alloc),
@@ -123,16 +141,18 @@ impl World {
             terms: Vec::new(alloc),
             variables: Vec::new(alloc),
             page: Vec::new(alloc),
+            is_whole: true,
         }
     }
 
-    fn word(&mut self, word: &[u8]) -> Result<(), AllocError> {
-        self.page.extend_from_slice(word)
+    fn word(&mut self, word: &[u8]) {
+        if self.page.extend_from_slice(word).is_err() {
+            self.is_whole = false;
+        }
     }
 
-    fn number(&mut self, n: u32) -> Result<(), AllocError> {
-        let digits = format!(in self.alloc; "{}", n)?;
-        self.page.extend_from_slice(digits.as_bytes())
+    fn finish(self) -> Result<Vec<u8>, AllocError> {
+        self.is_whole.then_some(self.page).ok_or(AllocError)
     }
 
     fn declare(&mut self, decl: Decl) -> Result<(), AllocError> {
@@ -144,16 +164,9 @@ impl World {
     }
 
     fn term(&mut self, name: &str, params: &[Var<'_>], sort: u32) -> Result<(), AllocError> {
-        let decl = TermDecl {
-            params: binders(self.alloc, params)?,
-            result: ResultType {
-                sort,
-                deps: Deps::new(self.alloc),
-            },
-            form: TermForm::Plain,
-        };
+        let decl = term_decl(self.alloc, params, sort)?;
         let number = self.notations.name_count();
-        self.declare(Decl::Term(decl))?;
+        self.declare(decl)?;
         let name = name.as_bytes();
         if number > 1000 || !is_identifier(name) || self.notations.names_term(name) {
             return Err(AllocError);
@@ -175,12 +188,13 @@ impl World {
     /// What a statement answers, where it adds nothing.
     fn answer(&mut self, answer: Result<(), NoteFault>) -> Result<(), AllocError> {
         match answer {
-            Ok(()) => Ok(()),
+            Ok(()) => {}
             Err(NoteFault::Clash) => self.word(b"S12 "),
             Err(NoteFault::Form) => self.word(b"S13 "),
             Err(NoteFault::CoercionClash) => self.word(b"S14 "),
-            Err(NoteFault::Mem) => Err(AllocError),
+            Err(NoteFault::Mem) => return Err(AllocError),
         }
+        Ok(())
     }
 
     fn general(
@@ -192,15 +206,10 @@ impl World {
         words: &[Word],
         tail: Option<Tail>,
     ) -> Result<(), AllocError> {
+        let scope = scope_of(self.alloc, params)?;
         let literals = literals(self.alloc, words)?;
-        let mut scope = Scope::new(self.alloc);
-        for var in params {
-            add_variable(self.alloc, &mut scope, var)?;
-        }
-        let result = ResultType {
-            sort,
-            deps: Deps::new(self.alloc),
-        };
+        let deps = Deps::new();
+        let result = ResultType { sort, deps };
         let answer = self.notations.add_general(
             &self.env,
             term,
@@ -215,44 +224,43 @@ impl World {
 
     /// `(im a b)` is a term over two variables.
     #[cycle(expr)]
-    fn expr(&mut self, expr: &Expr, limit: u32) -> Result<(), AllocError> {
+    fn expr(&mut self, expr: &Expr, limit: u32) {
         if limit == 0 {
-            return Ok(());
+            return;
         }
         match expr {
             Expr::Var(x) => self.variable_name(*x),
             Expr::App(t, es) => {
-                self.word(b"(")?;
-                self.term_name(*t)?;
-                self.exprs(es, limit - 1)?;
-                self.word(b")")
+                self.word(b"(");
+                self.term_name(*t);
+                self.exprs(es, limit - 1);
+                self.word(b")");
             }
         }
     }
 
     #[cycle(expr)]
-    fn exprs(&mut self, exprs: &Exprs, limit: u32) -> Result<(), AllocError> {
+    fn exprs(&mut self, exprs: &Exprs, limit: u32) {
         if limit == 0 {
-            return Ok(());
+            return;
         }
         for e in exprs.as_slice() {
-            self.word(b" ")?;
-            self.expr(e, limit - 1)?;
+            self.word(b" ");
+            self.expr(e, limit - 1);
         }
-        Ok(())
     }
 
-    fn variable_name(&mut self, x: u32) -> Result<(), AllocError> {
+    fn variable_name(&mut self, x: u32) {
         match self.variables.get(x as usize) {
-            None => Err(AllocError),
-            Some(name) => self.page.extend_from_slice(name.as_slice()),
+            None => self.is_whole = false,
+            Some(name) => self.is_whole &= self.page.extend_from_slice(name.as_slice()).is_ok(),
         }
     }
 
-    fn term_name(&mut self, t: u32) -> Result<(), AllocError> {
+    fn term_name(&mut self, t: u32) {
         match self.terms.get(t as usize) {
-            None => Err(AllocError),
-            Some(name) => self.page.extend_from_slice(name.as_slice()),
+            None => self.is_whole = false,
+            Some(name) => self.is_whole &= self.page.extend_from_slice(name.as_slice()).is_ok(),
         }
     }
 
@@ -270,6 +278,12 @@ impl World {
         )
     }
 
+    fn refused(&mut self, at: u32, rule: S) -> Result<(), AllocError> {
+        let refusal = format!(in self.alloc; "{}:{} ", code(rule), at)?;
+        self.word(refusal.as_bytes());
+        Ok(())
+    }
+
     /// The tree, or the rule with its place.
     fn reads(&mut self, text: &[u8], wanted: Wanted) -> Result<(), AllocError> {
         if text.len() > 10000 {
@@ -277,18 +291,16 @@ impl World {
         }
         match self.read(text, wanted) {
             Parsed::Tree(expr) => {
-                self.expr(&expr, 100)?;
-                self.word(b" ")
+                self.expr(&expr, 100);
+                self.word(b" ");
+                Ok(())
             }
-            Parsed::Refused { at, rule } => {
-                let refusal = format!(in self.alloc; "{}:{} ", code(rule), at)?;
-                self.word(refusal.as_bytes())
-            }
+            Parsed::Refused { at, rule } => self.refused(at, rule),
             Parsed::Mem => Err(AllocError),
         }
     }
 
-    pub fn take(&mut self, step: Step<'_>) -> Result<(), AllocError> {
+    fn take(&mut self, step: Step<'_>) -> Result<(), AllocError> {
         match step {
             Step::Sort(mods) => self.declare(Decl::Sort(SortMods(mods))),
             Step::Term(name, params, sort) => self.term(name, params, sort),
@@ -338,23 +350,27 @@ pub struct Case<'a> {
     pub told: &'a str,
 }
 
-fn told(alloc: Global, case: &Case<'_>) -> Result<Vec<u8>, AllocError> {
+/// What is declared by these steps.
+pub fn world_of(alloc: Global, table: &[Step<'_>]) -> Result<World, AllocError> {
     let mut world = World::new(alloc);
-    for step in case.table {
+    for step in table {
         world.take(*step)?;
     }
+    Ok(world)
+}
+
+fn told(alloc: Global, case: &Case<'_>) -> Result<Vec<u8>, AllocError> {
+    let mut world = world_of(alloc, case.table)?;
     for step in case.steps {
         world.take(*step)?;
     }
-    Ok(world.page)
+    world.finish()
 }
 
 pub fn compare(rt: &impl Abort, alloc: Global, cases: &[Case<'_>]) {
     for case in cases {
-        match told(alloc, case) {
-            Err(_) => panic!(rt; "a step that can't be taken: {}", case.told),
-            Ok(found) => assert_eq!(rt; found.as_slice(), case.told.as_bytes(), "{}", case.told),
-        }
+        let found = told(alloc, case).expect(rt, case.told);
+        expect_bytes(rt, &found, case.told.as_bytes(), case.told);
     }
 }
 

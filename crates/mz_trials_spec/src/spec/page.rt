@@ -1,4 +1,7 @@
 // What a text is read as, written out.
+ghost use Rattle.std.specs.Prelude.{◌<◌, length};
+
+use crate::expect::{expect, expect_bytes};
 use mz_lex::S;
 use mz_logic::{Binder, Decl, Deps, Expr, Exprs, TermDecl, TermForm, ThmDecl, ThmForm};
 use mz_spec::{Hashing, Spec, SpecRead, SpecRefusal, read_spec};
@@ -10,103 +13,118 @@ use std::process::Abort;
 struct Page {
     alloc: Global,
     bytes: Vec<u8>,
+    /// Whether memory sufficed so far.
+    is_whole: bool,
 }
 
 impl Page {
-    fn word(&mut self, word: &[u8]) -> Result<(), AllocError> {
-        self.bytes.extend_from_slice(word)
+    fn new(alloc: Global) -> Page {
+        Page {
+            alloc,
+            bytes: Vec::new(alloc),
+            is_whole: true,
+        }
     }
 
-    fn number(&mut self, before: &[u8], n: u32) -> Result<(), AllocError> {
-        self.bytes.extend_from_slice(before)?;
-        let digits = format!(in self.alloc; "{}", n)?;
-        self.bytes.extend_from_slice(digits.as_bytes())
+    fn finish(self) -> Result<Vec<u8>, AllocError> {
+        self.is_whole.then_some(self.bytes).ok_or(AllocError)
+    }
+
+    fn word(&mut self, word: &[u8]) {
+        if self.bytes.extend_from_slice(word).is_err() {
+            self.is_whole = false;
+        }
+    }
+
+    fn number(&mut self, before: &[u8], n: u32) {
+        self.word(before);
+        match format!(in self.alloc; "{n}") {
+            Ok(digits) => self.word(digits.as_bytes()),
+            Err(_) => self.is_whole = false,
+        }
     }
 
     /// `v0` is a variable, `(t0 v0 v1)` a term over expressions.
     #[cycle(expr)]
-    fn expr(&mut self, expr: &Expr, limit: u32) -> Result<(), AllocError> {
+    fn expr(&mut self, expr: &Expr, limit: u32) {
         if limit == 0 {
-            return Ok(());
+            return;
         }
         match expr {
             Expr::Var(x) => self.number(b"v", *x),
             Expr::App(t, es) => {
-                self.number(b"(t", *t)?;
-                self.exprs(es, limit - 1)?;
-                self.word(b")")
+                self.number(b"(t", *t);
+                self.exprs(es, limit - 1);
+                self.word(b")");
             }
         }
     }
 
     #[cycle(expr)]
-    fn exprs(&mut self, exprs: &Exprs, limit: u32) -> Result<(), AllocError> {
+    fn exprs(&mut self, exprs: &Exprs, limit: u32) {
         if limit == 0 {
-            return Ok(());
+            return;
         }
         for e in exprs.as_slice() {
-            self.word(b" ")?;
-            self.expr(e, limit - 1)?;
+            self.word(b" ");
+            self.expr(e, limit - 1);
         }
-        Ok(())
     }
 
-    fn deps(&mut self, deps: &Deps) -> Result<(), AllocError> {
+    fn deps(&mut self, deps: &Deps) {
         for place in deps.as_slice() {
-            self.number(b" ", *place)?;
+            self.number(b" ", *place);
         }
-        Ok(())
     }
 
     /// ` {1}` is a bound variable of the sort 1, ` (0 2)` a regular one of the sort 0 that depends on the
     /// variable 2.
-    fn binders(&mut self, binders: &[Binder]) -> Result<(), AllocError> {
+    fn binders(&mut self, binders: &[Binder]) {
         for binder in binders {
             if binder.bound {
-                self.number(b" {", binder.sort)?;
-                self.deps(&binder.deps)?;
-                self.word(b"}")?;
+                self.number(b" {", binder.sort);
+                self.deps(&binder.deps);
+                self.word(b"}");
             } else {
-                self.number(b" (", binder.sort)?;
-                self.deps(&binder.deps)?;
-                self.word(b")")?;
+                self.number(b" (", binder.sort);
+                self.deps(&binder.deps);
+                self.word(b")");
             }
         }
-        Ok(())
     }
 
-    fn term(&mut self, term: &TermDecl) -> Result<(), AllocError> {
-        self.word(b"term")?;
-        self.binders(term.params.as_slice())?;
-        self.number(b": ", term.result.sort)?;
-        self.deps(&term.result.deps)?;
+    fn term(&mut self, term: &TermDecl) {
+        self.word(b"term");
+        self.binders(term.params.as_slice());
+        self.number(b": ", term.result.sort);
+        self.deps(&term.result.deps);
         match &term.form {
-            TermForm::Plain => Ok(()),
+            TermForm::Plain => {}
             TermForm::Abstract => self.word(b" abstract"),
             TermForm::Body { dummies, body } => {
-                self.word(b" =")?;
-                self.binders(dummies.as_slice())?;
-                self.word(b" ")?;
-                self.expr(body, 100)
+                self.word(b" =");
+                self.binders(dummies.as_slice());
+                self.word(b" ");
+                self.expr(body, 100);
             }
         }
     }
 
-    fn assertion(&mut self, assertion: &ThmDecl) -> Result<(), AllocError> {
+    fn assertion(&mut self, assertion: &ThmDecl) {
         match assertion.form {
-            ThmForm::Axiom => self.word(b"axiom")?,
-            ThmForm::Theorem => self.word(b"theorem")?,
+            ThmForm::Axiom => self.word(b"axiom"),
+            ThmForm::Theorem => self.word(b"theorem"),
         }
-        self.binders(assertion.params.as_slice())?;
-        self.word(b": ")?;
+        self.binders(assertion.params.as_slice());
+        self.word(b": ");
         for i in 0..assertion.hyps.len() {
-            self.expr(assertion.hyps.at(i), 100)?;
-            self.word(b" > ")?;
+            self.expr(assertion.hyps.at(i), 100);
+            self.word(b" > ");
         }
-        self.expr(&assertion.conclusion, 100)
+        self.expr(&assertion.conclusion, 100);
     }
 
-    fn decl(&mut self, decl: &Decl) -> Result<(), AllocError> {
+    fn decl(&mut self, decl: &Decl) {
         match decl {
             Decl::Sort(mods) => self.number(b"sort ", u32::from(mods.0)),
             Decl::Term(term) => self.term(term),
@@ -114,32 +132,37 @@ impl Page {
         }
     }
 
-    /// The declarations whose statements don't begin within the first bytes, each with the place of its
-    /// statement, the place of its name, both behind those, and the name.
-    fn spec(&mut self, text: &[u8], spec: &Spec, ground: u32) -> Result<(), AllocError> {
+    /// A declaration, with the place of its statement, the place of its name, both behind the first
+    /// bytes, and the name.
+    fn declared(&mut self, text: &[u8], spec: &Spec, i: u32, ground: u32)
+        requires { i < length spec.now }
+    {
+        let (from, to) = spec.name(i);
+        self.number(b"", spec.place(i).saturating_sub(ground));
+        self.number(b" ", from.saturating_sub(ground));
+        self.word(b" ");
+        if let Some(name) = text.get(from as usize..to as usize) {
+            self.word(name);
+        }
+        self.word(b" ");
+        self.decl(spec.decl(i));
+        self.word(b"; ");
+    }
+
+    /// The declarations whose statements don't begin within the first bytes.
+    fn spec(&mut self, text: &[u8], spec: &Spec, ground: u32) {
         for i in 0..spec.len() {
-            let place = spec.place(i);
-            if place >= ground {
-                let (from, to) = spec.name(i);
-                self.number(b"", place - ground)?;
-                self.number(b" ", from.saturating_sub(ground))?;
-                self.word(b" ")?;
-                if let Some(name) = text.get(from as usize..to as usize) {
-                    self.word(name)?;
-                }
-                self.word(b" ")?;
-                self.decl(spec.decl(i))?;
-                self.word(b"; ")?;
+            if spec.place(i) >= ground {
+                self.declared(text, spec, i, ground);
             }
         }
-        Ok(())
     }
 
     /// The rule, the number of the statement, and the place behind the first bytes.
-    fn refusal(&mut self, refusal: SpecRefusal, ground: u32) -> Result<(), AllocError> {
-        self.number(b"S", rule_number(refusal.rule))?;
-        self.number(b" ", refusal.statement)?;
-        self.number(b" ", refusal.at.saturating_sub(ground))
+    fn refusal(&mut self, refusal: SpecRefusal, ground: u32) {
+        self.number(b"S", rule_number(refusal.rule));
+        self.number(b" ", refusal.statement);
+        self.number(b" ", refusal.at.saturating_sub(ground));
     }
 }
 
@@ -147,47 +170,27 @@ fn rule_number(rule: S) -> u32 {
     rule as u32
 }
 
-/// A text that other texts follow, then a text.
-fn joined(alloc: Global, ground: &str, text: &str) -> Result<Vec<u8>, AllocError> {
-    let mut whole = Vec::new(alloc);
-    whole.extend_from_slice(ground.as_bytes())?;
-    whole.extend_from_slice(text.as_bytes())?;
-    Ok(whole)
-}
-
 /// What the text is read as, where other declarations stand before it.
 fn told(alloc: Global, ground: u32, text: &[u8]) -> Result<Vec<u8>, AllocError> {
     if text.len() > 100_000 {
         return Err(AllocError);
     }
-    let mut page = Page {
-        alloc,
-        bytes: Vec::new(alloc),
-    };
+    let mut page = Page::new(alloc);
     match read_spec(alloc, Hashing::fixed(), text) {
-        SpecRead::Spec(spec) => page.spec(text, &spec, ground)?,
-        SpecRead::Refused(refusal) => page.refusal(refusal, ground)?,
-        SpecRead::Mem => return Err(AllocError),
+        SpecRead::Spec(spec) => page.spec(text, &spec, ground),
+        SpecRead::Refused(refusal) => page.refusal(refusal, ground),
+        SpecRead::Mem => page.is_whole = false,
     }
-    Ok(page.bytes)
-}
-
-fn told_behind(alloc: Global, ground: &str, text: &str) -> Result<Vec<u8>, AllocError> {
-    let Ok(length) = u32::try_from(ground.len()) else {
-        return Err(AllocError);
-    };
-    let whole = joined(alloc, ground, text)?;
-    told(alloc, length, &whole)
+    page.finish()
 }
 
 /// Each text, behind the ground, is read as is said.
 pub fn compare(rt: &impl Abort, alloc: Global, ground: &str, cases: &[(&str, &str)]) {
-    assert!(rt; ground.len() < 1000);
+    let before = u32::try_from(ground.len()).unwrap_or(u32::MAX);
     for (text, wanted) in cases {
-        match told_behind(alloc, ground, text) {
-            Err(_) => panic!(rt; "no memory: {text}"),
-            Ok(found) => assert_eq!(rt; found.as_slice(), wanted.as_bytes(), "{text}"),
-        }
+        let whole = format!(in alloc; "{ground}{text}").expect(rt, text);
+        let found = told(alloc, before, whole.as_bytes()).expect(rt, text);
+        expect_bytes(rt, &found, wanted.as_bytes(), text);
     }
 }
 
@@ -200,23 +203,20 @@ pub struct Long {
     pub tail: &'static str,
 }
 
-fn written(alloc: Global, long: Long) -> Result<Vec<u8>, AllocError> {
-    let mut whole = Vec::new(alloc);
-    whole.extend_from_slice(long.head.as_bytes())?;
+fn written(alloc: Global, long: Long) -> Result<String, AllocError> {
+    let mut pieces = String::new(alloc);
     for _ in 0..long.times {
-        whole.extend_from_slice(long.piece.as_bytes())?;
+        pieces.push_str(long.piece)?;
     }
-    whole.extend_from_slice(long.tail.as_bytes())?;
-    Ok(whole)
+    format!(in alloc; "{}{pieces}{}", long.head, long.tail)
 }
 
 /// The rule that the text breaks, with the number of the statement and the place; 0 where it breaks none.
-fn fault_of(alloc: Global, long: Long) -> Result<(u32, u32, u32), AllocError> {
-    let text = written(alloc, long)?;
+fn fault_of(alloc: Global, text: &[u8]) -> Result<(u32, u32, u32), AllocError> {
     if text.len() > 100_000 {
         return Err(AllocError);
     }
-    match read_spec(alloc, Hashing::fixed(), &text) {
+    match read_spec(alloc, Hashing::fixed(), text) {
         SpecRead::Spec(_) => Ok((0, 0, 0)),
         SpecRead::Refused(refusal) => {
             Ok((rule_number(refusal.rule), refusal.statement, refusal.at))
@@ -227,9 +227,8 @@ fn fault_of(alloc: Global, long: Long) -> Result<(u32, u32, u32), AllocError> {
 
 pub fn compare_long(rt: &impl Abort, alloc: Global, cases: &[(Long, (u32, u32, u32))]) {
     for (long, wanted) in cases {
-        match fault_of(alloc, *long) {
-            Err(_) => panic!(rt; "no memory: {}", long.head),
-            Ok(found) => assert_eq!(rt; found, *wanted, "{}", long.head),
-        }
+        let text = written(alloc, *long).expect(rt, long.head);
+        let found = fault_of(alloc, text.as_bytes()).expect(rt, long.head);
+        expect(rt, found == *wanted, long.head);
     }
 }

@@ -1,4 +1,5 @@
-use Rattle.std.proofs.Common.{ℕ, List, Contains, All, IsTrue, sym, ap, subst, ◌∙◌, ◌↔◌, arith, length, true≢false}
+use Rattle.std.proofs.Common.{ℕ, List, Contains, All, IsTrue, sym, ap, refl, subst, ◌∙◌, ◌↔◌, arith, drop, length, true≢false}
+use Rattle.std.proofs.lemmas.List.{drop_all}
 use Rattle.std.proofs.lemmas.Result.{IfOk-weaker}
 use Rattle.mz_logic.specs.Declaration.{signatures}
 use Rattle.mz_logic.specs.DeclView.{signature}
@@ -13,15 +14,15 @@ use Rattle.mz_logic.proofs.Offered.{signature_is}
 use Rattle.mz_free.proofs.Walking.{IsCoveredAt, app-out, app-in, operand-in, operands-out, operands-step, left-item}
 use Rattle.mz_free.proofs.free.+covers.Goals as goal
 
-pub covers-returns-then-not-covers_operands_at-clause-answer : goal.covers-returns-then-not-covers_operands_at-clause-answer
-covers-returns-then-not-covers_operands_at-clause-answer t c = (
+pub covers-returns-then-not-covers_bound_operands-clause-answer : goal.covers-returns-then-not-covers_bound_operands-clause-answer
+covers-returns-then-not-covers_bound_operands-clause-answer t c = (
   λ no. absurd (true≢false (sym no)),
   λ all. absurd (
       let sigs = signatures c.args.env.now in
       let d = signature c.in-Some.term.now in
       let out : All (IsCoveredAt d.params c.in-App.es c.args.covered.now) d.result.deps → ⊥ =
       subst (λ ps. All (IsCoveredAt ps c.in-App.es c.args.covered.now) d.result.deps → ⊥) c.as_slice-params.ensures
-      (λ here. true≢false (sym (c.covers_operands_at.ensures.1 here) ∙ c.if-not-covers_operands_at.true)) in
+      (λ here. true≢false (sym (c.covers_bound_operands.ensures.1 here) ∙ c.if-not-covers_bound_operands.true)) in
       app-out sigs c.args.ctx.now c.in-App.t c.in-App.es d (sym c.in-Some.ensures.signature) c.args.covered.now out
       (subst (λ e. (x : ℕ) → InFV sigs c.args.ctx.now x e → Contains c.args.covered.now x) (ap (λ (e : Expr). tree e) c.in-App.is) all)),
 )
@@ -37,13 +38,13 @@ pub covers-returns-in-Var-clause-answer : goal.covers-returns-in-Var-clause-answ
 covers-returns-in-Var-clause-answer t c =
     subst (λ e. IsTrue c.covers_variable.result ↔ ((x : ℕ) → InFV (signatures c.args.env.now) c.args.ctx.now x e → Contains c.args.covered.now x)) (sym (ap (λ (e : Expr). tree e) c.in-Var.is)) c.covers_variable.ensures
 
-pub covers-returns-else-not-covers_operands_at-clause-answer : goal.covers-returns-else-not-covers_operands_at-clause-answer
-covers-returns-else-not-covers_operands_at-clause-answer t c =
+pub covers-returns-else-not-covers_bound_operands-clause-answer : goal.covers-returns-else-not-covers_bound_operands-clause-answer
+covers-returns-else-not-covers_bound_operands-clause-answer t c =
     let sigs = signatures c.args.env.now in
     let d = signature c.in-Some.term.now in
     let Free : Tree → Type 0 = λ e. (x : ℕ) → InFV sigs c.args.ctx.now x e → Contains c.args.covered.now x in
     let here : All (IsCoveredAt d.params c.in-App.es c.args.covered.now) d.result.deps =
-    subst (λ ps. All (IsCoveredAt ps c.in-App.es c.args.covered.now) d.result.deps) c.as_slice-params.ensures (c.covers_operands_at.ensures.0 c.if-not-covers_operands_at.false) in
+    subst (λ ps. All (IsCoveredAt ps c.in-App.es c.args.covered.now) d.result.deps) c.as_slice-params.ensures (c.covers_bound_operands.ensures.0 c.if-not-covers_bound_operands.false) in
     IfOk-weaker c.covers_operands.result _ _
     (λ b e. subst (λ x. IsTrue b ↔ Free x) (sym (ap (λ (e : Expr). tree e) c.in-App.is))
     (app-in sigs c.args.ctx.now c.in-App.t c.in-App.es d (sym c.in-Some.ensures.signature) c.args.covered.now here b
@@ -53,12 +54,12 @@ covers-returns-else-not-covers_operands_at-clause-answer t c =
 pub covers_operand-returns-then-not-holds-clause-answer : goal.covers_operand-returns-then-not-holds-clause-answer
 covers_operand-returns-then-not-holds-clause-answer t c =
     subst (λ b. IsTrue b ↔ ((x : ℕ) → IsFreeOperand (signatures c.args.env.now) c.args.ctx.now x c.args.params.now c.args.es.now c.args.param.now (tree c.args.operand.now) → Contains c.args.covered.now x)) c.if-not-holds.true
-    (operand-in (signatures c.args.env.now) c.args.ctx.now c.args.params.now c.args.es.now c.args.param.now (tree c.args.operand.now) c.args.covered.now _ c.in_ok-add_operands_at.ensures.has c.if-param.false c.in_ok-holds.holds c.in_ok-holds.ensures.answer)
+    (operand-in (signatures c.args.env.now) c.args.ctx.now c.args.params.now c.args.es.now c.args.param.now (tree c.args.operand.now) c.args.covered.now _ c.in_ok-add_bound_operands.ensures.has c.if-param.false c.in_ok-holds.holds c.in_ok-holds.ensures.answer)
 
 pub covers_operand-returns-clause-answer : goal.covers_operand-returns-clause-answer
 covers_operand-returns-clause-answer t c =
     subst (λ b. IsTrue b ↔ ((x : ℕ) → IsFreeOperand (signatures c.args.env.now) c.args.ctx.now x c.args.params.now c.args.es.now c.args.param.now (tree c.args.operand.now) → Contains c.args.covered.now x)) c.if-not-holds.false
-    (operand-in (signatures c.args.env.now) c.args.ctx.now c.args.params.now c.args.es.now c.args.param.now (tree c.args.operand.now) c.args.covered.now _ c.in_ok-add_operands_at.ensures.has c.if-param.false c.in_ok-holds.holds c.in_ok-holds.ensures.answer)
+    (operand-in (signatures c.args.env.now) c.args.ctx.now c.args.params.now c.args.es.now c.args.param.now (tree c.args.operand.now) c.args.covered.now _ c.in_ok-add_bound_operands.ensures.has c.if-param.false c.in_ok-holds.holds c.in_ok-holds.ensures.answer)
 
 pub covers_operands-returns-then-not-holds-clause-answer : goal.covers_operands-returns-then-not-holds-clause-answer
 covers_operands-returns-then-not-holds-clause-answer t c = (
@@ -89,3 +90,12 @@ covers_operands-loop-i-preserved t c =
       many = many;
       small = omega (arith, sizes, small);
     }
+
+pub covers_operands-returns-clause-answer : goal.covers_operands-returns-clause-answer
+covers_operands-returns-clause-answer t c =
+    let sigs = signatures c.args.env.now in
+    let ps = drop c.loop-i.i c.args.params.now in (
+      λ _. c.loop-i.invariant.left.0
+          (λ x free. absurd (subst (λ (es : List Expr). InSomeFV sigs c.args.ctx.now x c.args.params.now c.args.es.now ps (trees es)) (drop_all c.loop-i.i c.as_slice-items.result.now c.loop-i-test.false) free)),
+      λ _. refl,
+    )

@@ -7,7 +7,6 @@ use Rattle.mz_match.specs.declared.stream.Cursor.{Cursor}
 use Rattle.std.proofs.lemmas.List.{drop_all}
 use Rattle.std.proofs.lemmas.Bool.{false≢true}
 use Rattle.mz_match.specs.Streams.{step_at, AreSaid, IsMade}
-use Rattle.mz_match.specs.Marks.{AreKept}
 use Rattle.mz_verdicts.specs.Comparing.{compared, all_compared}
 use Rattle.mz_match.specs.Beside.{beside}
 use Rattle.mz_match.proofs.Compared.{cursor-is, said-within, made-within, said-no, made-no, said-made, said-mark, mark-made, mark-param, made-term, compared-param, found-place, differs-app, marked, answered, next-of, all-next, all-stopped, all-goes-on, all-done}
@@ -78,25 +77,20 @@ same_mark-returns-then-mark-sides t c = λ m f stream at.
     subst (λ (g : Tree). MatchBool c.is_variable.result (compared (beside c.args.sides.now m) c.args.pairs.now (tree c.args.expr.now) g ≡ Some c.args.pairs.now) (compared (beside c.args.sides.now m) c.args.pairs.now (tree c.args.expr.now) g ≡ None)) (sym is)
     (marked c.is_variable.result _ _ _ c.is_variable.ensures by.0 by.1)
 
-pub same_mark-place_of_mark-requires-clause-within : goal.same_mark-place_of_mark-requires-clause-within
-same_mark-place_of_mark-requires-clause-within t c = let (m, f, stream, at) = c.requires in stream.within
-
-pub same_mark-place_of_mark-requires-clause-kept : goal.same_mark-place_of_mark-requires-clause-kept
-same_mark-place_of_mark-requires-clause-kept t c =
-    let (m, f, stream, at) = c.requires in
-    subst (AreKept c.args.sides.now.mmb.now c.args.sides.now.start) (sym c.as_slice-places.ensures.value) stream.kept
+pub same_mark-place_of-requires-clause-stream : goal.same_mark-place_of-requires-clause-stream
+same_mark-place_of-requires-clause-stream t c = let (m, f, stream, at) = c.requires in (m, stream)
 
 pub same_mark-returns-in_default : goal.same_mark-returns-in_default
 same_mark-returns-in_default t c = λ m f stream at.
     let made = mark-made c.args.sides.now.mmb.now c.args.sides.now.params m c.args.sides.now.start c.args.mark f stream.marks c.if-mark-sides.false at in
-    let found = c.place_of_mark.ensures made.many made.place made.found in
+    let found = c.place_of.ensures made.many made.place made.found in
     absurd (c.in_default.not-Some made.place found)
 
 pub same_mark-step_at-requires-clause-within : goal.same_mark-step_at-requires-clause-within
 same_mark-step_at-requires-clause-within t c =
     let (m, f, stream, at) = c.requires in
     let made = mark-made c.args.sides.now.mmb.now c.args.sides.now.params m c.args.sides.now.start c.args.mark f stream.marks c.if-mark-sides.false at in
-    let found = c.place_of_mark.ensures made.many made.place made.found in
+    let found = c.place_of.ensures made.many made.place made.found in
     let same : made.place ≡ c.in-Some.place = found-place made.place c.in-Some.place (sym found ∙ c.in-Some.is) in
     let here = subst (λ (p : Cursor). IsMade c.args.sides.now.mmb.now c.args.sides.now.params m p.at p.dummies f made.end.at made.end.dummies) same made.made in
     subst (λ (xs : List ℕ). c.in-Some.place.at ≤ length xs) (sym c.file.ensures.file) (made-within c.args.sides.now.mmb.now c.args.sides.now.params m c.in-Some.place.at c.in-Some.place.dummies f made.end.at made.end.dummies here)
@@ -104,7 +98,7 @@ same_mark-step_at-requires-clause-within t c =
 pub same_mark-returns-in_default-step_at : goal.same_mark-returns-in_default-step_at
 same_mark-returns-in_default-step_at t c = λ m f stream at.
     let made = mark-made c.args.sides.now.mmb.now c.args.sides.now.params m c.args.sides.now.start c.args.mark f stream.marks c.if-mark-sides.false at in
-    let found = c.place_of_mark.ensures made.many made.place made.found in
+    let found = c.place_of.ensures made.many made.place made.found in
     let same : made.place ≡ c.in-Some.place = found-place made.place c.in-Some.place (sym found ∙ c.in-Some.is) in
     let here = subst (λ (p : Cursor). IsMade c.args.sides.now.mmb.now c.args.sides.now.params m p.at p.dummies f made.end.at made.end.dummies) same made.made in
     absurd (made-no c.args.sides.now.mmb.now c.args.sides.now.params m c.in-Some.place.at c.in-Some.place.dummies f made.end.at made.end.dummies (ap (λ (xs : List ℕ). step_at xs c.in-Some.place.at) (sym c.file.ensures.file) ∙ sym c.in_default-step_at.ensures) here)
@@ -113,7 +107,7 @@ pub same_mark-same_made-requires : goal.same_mark-same_made-requires
 same_mark-same_made-requires t c =
     let (m, f, stream, at) = c.requires in
     let made = mark-made c.args.sides.now.mmb.now c.args.sides.now.params m c.args.sides.now.start c.args.mark f stream.marks c.if-mark-sides.false at in
-    let found = c.place_of_mark.ensures made.many made.place made.found in
+    let found = c.place_of.ensures made.many made.place made.found in
     let same : made.place ≡ c.in-Some.place = found-place made.place c.in-Some.place (sym found ∙ c.in-Some.is) in
     let here = subst (λ (p : Cursor). IsMade c.args.sides.now.mmb.now c.args.sides.now.params m p.at p.dummies f made.end.at made.end.dummies) same made.made in
     let stands = ap (λ (xs : List ℕ). step_at xs c.in-Some.place.at) (sym c.file.ensures.file) ∙ sym c.in-Some-step_at.ensures in
@@ -122,7 +116,7 @@ same_mark-same_made-requires t c =
 pub same_mark-returns : goal.same_mark-returns
 same_mark-returns t c = λ m f stream at.
     let made = mark-made c.args.sides.now.mmb.now c.args.sides.now.params m c.args.sides.now.start c.args.mark f stream.marks c.if-mark-sides.false at in
-    let found = c.place_of_mark.ensures made.many made.place made.found in
+    let found = c.place_of.ensures made.many made.place made.found in
     let same : made.place ≡ c.in-Some.place = found-place made.place c.in-Some.place (sym found ∙ c.in-Some.is) in
     let here = subst (λ (p : Cursor). IsMade c.args.sides.now.mmb.now c.args.sides.now.params m p.at p.dummies f made.end.at made.end.dummies) same made.made in
     answered c.same_made.result c.same_made.new.pairs (compared (beside c.args.sides.now m) c.args.pairs.now (tree c.args.expr.now) f) made.end c.is_some.result c.is_some.ensures

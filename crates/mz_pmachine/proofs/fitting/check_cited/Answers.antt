@@ -1,11 +1,12 @@
 use Rattle.std.proofs.Common.{◌<◌, ◌≤◌, ◌+◌, ◌++◌, List, ℕ, drop, length, refl, sym, ap, ◌∙◌, arith, add-one}
 use Rattle.std.proofs.lemmas.Option.{slice_get-get_or}
 use Rattle.mz_logic.specs.Words.{bound_places}
-use Rattle.mz_punify.proofs.Offered.{is-in-at}
+use Rattle.mz_punify.specs.Stored.{trees_at}
+use Rattle.mz_punify.proofs.Offered.{is-in-at, length-trees, tree-at}
 use Rattle.mz_earlier.specs.Before.{signatures_of}
 use Rattle.mz_earlier.proofs.Offered.{places-take, places-skip, places-all}
 use Rattle.mz_layout.specs.Rows.{params_of}
-use Rattle.mz_pmachine.proofs.FittingOperands.{fit-step, fit-end}
+use Rattle.mz_machine.proofs.Offered.{fit-end, fit-step}
 use Rattle.mz_pmachine.proofs.fitting.check_cited.Goals as goal
 use Rattle.mz_pmachine.proofs.fitting.check_cited.Goals.{then-bound+in_ok-push, else-bound}
 
@@ -21,8 +22,8 @@ pub returns-in-Err-clause-fit : goal.returns-in-Err-clause-fit
 returns-in-Err-clause-fit c =
     let here : c.operands.j < length c.args.operands.now = omega (arith, c.requires.many, c.arity_of-j-end.ensures, c.operands-test.true) in
     sym c.operands.invariant.0
-    ∙ fit-step (signatures_of c.args.earlier.now) c.args.nodes.now c.args.operands.now (params_of c.args.earlier.now.file c.args.row) c.operands.j _ c.word_of-word.result _
-    (slice_get-get_or _ _ _ here) c.word_of-word.ensures (λ q s b. c.in-Err.ensures (signatures_of c.args.earlier.now) q c.requires.over s b)
+    ∙ fit-step (signatures_of c.args.earlier.now) c.args.nodes.now.context (trees_at c.args.nodes.now c.args.operands.now) (params_of c.args.earlier.now.file c.args.row) c.operands.j _ c.word_of-word.result _
+    (tree-at c.args.nodes.now c.args.operands.now c.operands.j _ (slice_get-get_or _ _ _ here)) c.word_of-word.ensures (λ q s b. c.in-Err.ensures (signatures_of c.args.earlier.now) q c.requires.over s b)
 
 pub operands-preserved : goal.operands-preserved
 operands-preserved c =
@@ -30,8 +31,8 @@ operands-preserved c =
     let here : c.operands.j < length c.args.operands.now = omega (arith, c.requires.many, c.arity_of-j-end.ensures, c.operands-test.true) in
     let rest = bound_places (c.operands.j + 1) (drop (c.operands.j + 1) ws) in (
       rw (add-one c.operands.j)
-          (sym (fit-step (signatures_of c.args.earlier.now) c.args.nodes.now c.args.operands.now ws c.operands.j _ c.word_of-word.result _
-          (slice_get-get_or _ _ _ here) c.word_of-word.ensures (λ q s b. c.in_default.ensures (signatures_of c.args.earlier.now) q c.requires.over s b)) ∙ c.operands.invariant.0),
+          (sym (fit-step (signatures_of c.args.earlier.now) c.args.nodes.now.context (trees_at c.args.nodes.now c.args.operands.now) ws c.operands.j _ c.word_of-word.result _
+          (tree-at c.args.nodes.now c.args.operands.now c.operands.j _ (slice_get-get_or _ _ _ here)) c.word_of-word.ensures (λ q s b. c.in_default.ensures (signatures_of c.args.earlier.now) q c.requires.over s b)) ∙ c.operands.invariant.0),
       elim c.if-bound.branch [
         | then-bound+in_ok-push r ↦
             ap (λ b. b.items ++ rest) r.places-is ∙ ap (λ (ps : List ℕ). ps ++ rest) r.in_ok-push.ensures.ok
@@ -46,9 +47,9 @@ operands-preserved c =
 
 pub returns-clause-fit : goal.returns-clause-fit
 returns-clause-fit c =
-    let past : length c.args.operands.now ≤ c.operands.j = omega (arith, c.requires.many, c.arity_of-j-end.ensures, c.operands-test.false) in
+    let past : length (trees_at c.args.nodes.now c.args.operands.now) ≤ c.operands.j = omega (arith, length-trees c.args.nodes.now c.args.operands.now, c.requires.many, c.arity_of-j-end.ensures, c.operands-test.false) in
     sym c.operands.invariant.0
-    ∙ fit-end (signatures_of c.args.earlier.now) c.args.nodes.now c.args.operands.now _ c.operands.j past
+    ∙ fit-end (signatures_of c.args.earlier.now) c.args.nodes.now.context (trees_at c.args.nodes.now c.args.operands.now) _ c.operands.j past
 
 pub returns-clause-places : goal.returns-clause-places
 returns-clause-places c =

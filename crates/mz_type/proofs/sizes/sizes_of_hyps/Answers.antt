@@ -3,15 +3,13 @@ use Rattle.std.proofs.lemmas.List.{drop_all}
 use Rattle.mz_logic.specs.Tree.{Trees, listed, size, trees_size}
 use Rattle.mz_logic.specs.View.{tree, trees}
 use Rattle.mz_logic.specs.declared.expr.Expr.{Expr}
-use Rattle.mz_logic.proofs.Offered.{expr-read, exprs_of, length-exprs, trees-exprs}
+use Rattle.mz_logic.proofs.Offered.{expr-read, exprs-within, exprs_of, length-exprs, trees-exprs}
 use Rattle.mz_type.proofs.Weighing.{size_cut}
 use Rattle.mz_type.proofs.sizes.sizes_of_hyps.Goals as goal
 
 next : (hs : Trees) (i n : ℕ) (e : Expr) → n ≡ length (listed hs) → i < n → slice_get (listed hs) i ≡ Some (tree e)
     → trees_size (trees (drop i (exprs_of hs))) ≡ size (tree e) + trees_size (trees (drop (i + 1) (exprs_of hs)))
-next hs i n e is below at =
-    let many = length-exprs hs in
-    size_cut (exprs_of hs) i e (let within : i < length (exprs_of hs) = omega (arith, many, is, below) in within) (expr-read hs i e at)
+next hs i n e is below at = size_cut (exprs_of hs) i e (exprs-within hs i n is below) (expr-read hs i e at)
 
 pub loop-i-init : goal.loop-i-init
 loop-i-init c = let whole = ap trees_size (trees-exprs c.args.hyps.now) in omega (arith, whole)

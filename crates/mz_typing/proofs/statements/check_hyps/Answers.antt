@@ -1,18 +1,14 @@
-use Rattle.std.proofs.Common.{ℕ, ◌≡◌, ◌<◌, ◌+◌, drop, length, sym, subst, arith}
+use Rattle.std.proofs.Common.{◌+◌, drop, sym, subst, arith}
 use Rattle.std.proofs.lemmas.List.{drop_all}
 use Rattle.mz_checks.specs.Checks.{AllHold, FailsFirst}
 use Rattle.mz_checks.proofs.Offered.{Decides, decides-whole}
 use Rattle.mz_sexpr.specs.Number.{first, rest}
-use Rattle.mz_logic.specs.Tree.{Trees, listed}
 use Rattle.mz_logic.specs.View.{tree, trees}
-use Rattle.mz_logic.proofs.Offered.{expr-read, exprs_of, length-exprs, trees-exprs}
+use Rattle.mz_logic.proofs.Offered.{expr-read, exprs-within, exprs_of, length-exprs, trees-exprs}
 use Rattle.mz_typing.specs.Rules.{claim_rules, claims_rules, hyp_node}
 use Rattle.mz_typing.proofs.Judging.{handed_on, left_fails, left_step}
 use Rattle.mz_typing.proofs.StatementSteps.{claims_cut}
 use Rattle.mz_typing.proofs.statements.check_hyps.Goals as goal
-
-within : (hs : Trees) (i n : ℕ) → n ≡ length (listed hs) → i < n → i < length (exprs_of hs)
-within hs i n is below = let many = length-exprs hs in omega (arith, many, is, below)
 
 pub loop-i-init : goal.loop-i-init
 loop-i-init c =
@@ -36,7 +32,7 @@ returns-in_err-check_claim c =
     let whole = claims_rules env ctx ax c.args.hyps.now c.args.nodes.now in
     handed_on whole c.from_residual.result f c.from_residual.ensures.1
     (left_fails (claims_rules env ctx ax (trees (drop i items)) left) (claim_rules env ctx e (hyp_node ax (first left))) (claims_rules env ctx ax (trees (drop (i + 1) items)) (rest left)) whole f
-    (claims_cut env ctx ax items i c.at.result.now (within c.args.hyps.now i c.len-i-end.result c.len-i-end.ensures c.loop-i-test.true) (expr-read c.args.hyps.now i c.at.result.now c.at.ensures) left) c.loop-i.invariant
+    (claims_cut env ctx ax items i c.at.result.now (exprs-within c.args.hyps.now i c.len-i-end.result c.len-i-end.ensures c.loop-i-test.true) (expr-read c.args.hyps.now i c.at.result.now c.at.ensures) left) c.loop-i.invariant
     (subst (λ m. FailsFirst (claim_rules env ctx e m) f) c.hyp_node.ensures c.in_err-check_claim.ensures))
 
 pub loop-i-preserved : goal.loop-i-preserved
@@ -51,7 +47,7 @@ loop-i-preserved c =
     let whole = claims_rules env ctx ax c.args.hyps.now c.args.nodes.now in
     subst (λ ns. Decides (claims_rules env ctx ax (trees (drop (i + 1) items)) ns) whole) (sym c.rest-left.ensures)
     (left_step (claims_rules env ctx ax (trees (drop i items)) left) (claim_rules env ctx e (hyp_node ax (first left))) (claims_rules env ctx ax (trees (drop (i + 1) items)) (rest left)) whole
-    (claims_cut env ctx ax items i c.at.result.now (within c.args.hyps.now i c.len-i-end.result c.len-i-end.ensures c.loop-i-test.true) (expr-read c.args.hyps.now i c.at.result.now c.at.ensures) left) c.loop-i.invariant
+    (claims_cut env ctx ax items i c.at.result.now (exprs-within c.args.hyps.now i c.len-i-end.result c.len-i-end.ensures c.loop-i-test.true) (expr-read c.args.hyps.now i c.at.result.now c.at.ensures) left) c.loop-i.invariant
     (subst (λ m. AllHold (claim_rules env ctx e m)) c.hyp_node.ensures c.in_ok-check_claim.ensures))
 
 pub returns : goal.returns

@@ -5,4 +5,4 @@ use Rattle.mz_variables.specs.Dependencies.{dep_places}
 use Rattle.mz_variables.proofs.variables.dep_places.Given as goal
 
 abbrev pub invariant-loop-i : goal.invariant-loop-i
-invariant-loop-i l = l.places ++ dep_places l.i (map variable (drop l.i l.variables)) (map lexeme l.deps) ≡ dep_places 0 (map variable l.variables) (map lexeme l.deps)
+invariant-loop-i l = l.places.items ++ dep_places l.i (map variable (drop l.i l.variables)) (map lexeme l.deps) ≡ dep_places 0 (map variable l.variables) (map lexeme l.deps)

@@ -6,10 +6,33 @@ use Rattle.mz_forms.specs.Expressions.{IsExpr}
 use Rattle.mz_forms.specs.Order.{expr_asked, exprs_asked, known_asked}
 use Rattle.mz_forms.specs.ScopeView.{scope}
 use Rattle.mz_forms.specs.Stops.{Stops}
-use Rattle.mz_forms.proofs.Cursors.{opened, stands_there, node_size_positive}
+use Rattle.mz_forms.proofs.Cursors.{opened, list_of, stands_there, node_size_positive}
 use Rattle.mz_forms.proofs.Hold.{known_holds}
-use Rattle.mz_forms.proofs.Stopping.{stops_after}
+use Rattle.mz_forms.proofs.Stopping.{failed, stops_before, stops_after}
 use Rattle.mz_forms.proofs.reader.Reader.begun.Goals as goal
+
+pub returns-then-is_atom-clause-says : goal.returns-then-is_atom-clause-says
+returns-then-is_atom-clause-says c = c.in_ok-expr.ensures.read
+
+pub returns-then-is_atom-clause-less : goal.returns-then-is_atom-clause-less
+returns-then-is_atom-clause-less c = let one = node_size_positive (node_at c.args.self.now.nodes.now c.args.n) in omega (arith, one)
+
+pub returns-in_err-expr-clause-stops : goal.returns-in_err-expr-clause-stops
+returns-in_err-expr-clause-stops c =
+    let m = node_at c.args.self.now.nodes.now c.args.n in
+    failed c.from_residual.result c.in_err-expr.field-0.0 (λ stop. Stops stop (expr_asked (scope c.args.sc.now) m)) c.from_residual.ensures.1 c.in_err-expr.ensures.stops
+
+pub returns-in_err-term-clause-stops : goal.returns-in_err-term-clause-stops
+returns-in_err-term-clause-stops c =
+    let all = c.args.self.now.nodes.now in
+    let sc = scope c.args.sc.now in
+    let m = node_at all c.args.n in
+    let h = node_at all c.in-Some.head in
+    let ns = nodes_after all c.in-Some.head in
+    let s = c.in_err-term.field-0.0 in
+    failed c.from_residual-in_err-term.result s (λ stop. Stops stop (expr_asked sc m)) c.from_residual-in_err-term.ensures.1
+    (subst (λ x. Stops s (expr_asked sc x)) (sym (list_of m h ns c.in-Some.ensures.1))
+    (stops_before s (known_asked sc.names.terms h) (exprs_asked sc ns) c.in_err-term.ensures.stops))
 
 pub returns-clause-says : goal.returns-clause-says
 returns-clause-says c =

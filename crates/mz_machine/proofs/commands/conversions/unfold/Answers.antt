@@ -1,10 +1,15 @@
-use Rattle.std.proofs.Common.{◌∙◌, ◌++◌, ap, sym, subst}
+use Rattle.std.proofs.Common.{◌≡◌, ◌∙◌, ◌+◌, ◌++◌, Err, ap, sym, subst}
+use Rattle.std.proofs.lemmas.Result.{err_from_is_err_and}
+use Rattle.mz_cmd.specs.declared.code.ProofCode.TheVariants as code
+use Rattle.mz_soundness.specs.ProofMachine.{proof_row}
+use Rattle.mz_soundness.specs.Bodies.{row_steps}
+use Rattle.mz_earlier.specs.Before.{tables_of}
 use Rattle.mz_store.specs.Sharing.{IsOver, tree_of}
 use Rattle.mz_unify.specs.Stored.{trees_at}
 use Rattle.mz_machine.specs.OverStore.{pop_unfolding}
 use Rattle.mz_earlier.proofs.Offered.{signatures-before}
 use Rattle.mz_unification.specs.Profile.{strict}
-use Rattle.mz_unify.proofs.Offered.{of-trees}
+use Rattle.mz_unify.proofs.Offered.{of-trees, stopped-through, went-through}
 use Rattle.mz_machine.proofs.ConversionRows.{not-taken, of-variable, not-defined, is-unfolding, unfold-stopped, stopped-steps, unfold-refused, unfold-row, unfold-steps, gives-stack}
 use Rattle.mz_machine.proofs.Converting.{operand-trees}
 use Rattle.mz_machine.proofs.Unfoldings.{term-there, row-there, stream-there, no-stream, same-run, same-count, no-more, so-many, ids-pushed, items-pushed, unless-mem}
@@ -47,11 +52,11 @@ stream_of_term-stream-requires g c = row-there c.args.earlier.now c.in-Some.term
 pub unify_in-requires-clause-over : goal.unify_in-requires-clause-over
 unify_in-requires-clause-over g c = subst (λ sigs. IsOver sigs c.args.store.now) (sym (signatures-before c.args.earlier.now)) c.requires.over
 
-pub returns-in-Done-clause-ids : goal.returns-in-Done-clause-ids
-returns-in-Done-clause-ids g c = ids-pushed c.args.store.now _ _ _ c.push.result c.push.ensures.ok (c.in-Ok.ensures.ids.0, c.in-Ok.ensures.ids.2) c.in-Ok.ensures.ids.3
+pub returns-clause-ids : goal.returns-clause-ids
+returns-clause-ids g c = ids-pushed c.args.store.now _ _ _ c.push.result c.push.ensures.ok (c.in-Ok.ensures.ids.0, c.in-Ok.ensures.ids.2) c.in-Ok.ensures.ids.3
 
-pub returns-in-Done-clause-row : goal.returns-in-Done-clause-row
-returns-in-Done-clause-row g c at n st ctx is =
+pub returns-clause-row : goal.returns-clause-row
+returns-clause-row g c at n st ctx is =
     let E = c.args.earlier.now in
     let s = c.args.store.now in
     let t = c.in-Some.term in
@@ -61,13 +66,13 @@ returns-in-Done-clause-row g c at n st ctx is =
     let m = is-unfolding strict _ st of-trees _ _ _ _ (ap pop_unfolding is ∙ c.in-Ok.ensures.taken) t _ h (stream-there E t there (sym c.has_body.ensures.row ∙ c.if-not-has_body.false)) in
     let ops = c.in-Ok-extend_from_slice.ensures.items ∙ ap (λ is. is ++ c.args-2.result.now) c.clear.ensures.items in
     let are = ap (trees_at s) ops ∙ operand-trees s c.args-2.result.now l c.args-2.ensures.trees in
-    let run = c.in-Done.ensures.run in
+    let run = (went-through c.unify_in.result _ _ _ c.in_ok-through.ensures c.unify_in.ensures.run).1 in
     gives-stack st _ _ _ c.push.result
     (unfold-row strict _ st _ _ _ m at n _ (same-run E s st.ctx ctx t l c.in-Ok.items.0 _ _ _ c.stream_of_term-stream.ensures.stream are c.clear-2.ensures.items ∙ run.1))
     (items-pushed s _ _ _ c.push.result c.push.ensures.ok) c.push.ensures.err
 
-pub returns-in-Done-clause-steps : goal.returns-in-Done-clause-steps
-returns-in-Done-clause-steps g c n st ctx is =
+pub returns-clause-steps : goal.returns-clause-steps
+returns-clause-steps g c n st ctx is =
     let E = c.args.earlier.now in
     let s = c.args.store.now in
     let t = c.in-Some.term in
@@ -77,10 +82,10 @@ returns-in-Done-clause-steps g c n st ctx is =
     let m = is-unfolding strict _ st of-trees _ _ _ _ (ap pop_unfolding is ∙ c.in-Ok.ensures.taken) t _ h (stream-there E t there (sym c.has_body.ensures.row ∙ c.if-not-has_body.false)) in
     let ops = c.in-Ok-extend_from_slice.ensures.items ∙ ap (λ is. is ++ c.args-2.result.now) c.clear.ensures.items in
     let are = ap (trees_at s) ops ∙ operand-trees s c.args-2.result.now l c.args-2.ensures.trees in
-    unless-mem c.push.result (so-many _ _ _ _ c.in-Done.ensures.steps (unfold-steps strict _ st _ _ _ m n ∙ sym (same-count E s st.ctx ctx t l c.in-Ok.items.0 _ _ _ c.stream_of_term-stream.ensures.stream are c.clear-2.ensures.items)))
+    unless-mem c.push.result (so-many _ _ _ _ (went-through c.unify_in.result _ _ _ c.in_ok-through.ensures c.unify_in.ensures.steps).1 (unfold-steps strict _ st _ _ _ m n ∙ sym (same-count E s st.ctx ctx t l c.in-Ok.items.0 _ _ _ c.stream_of_term-stream.ensures.stream are c.clear-2.ensures.items)))
 
-pub returns-in-Refused-clause-row : goal.returns-in-Refused-clause-row
-returns-in-Refused-clause-row g c at n st ctx is =
+pub returns-in_err-through-clause-row : goal.returns-in_err-through-clause-row
+returns-in_err-through-clause-row g c at n st ctx is =
     let E = c.args.earlier.now in
     let s = c.args.store.now in
     let t = c.in-Some.term in
@@ -90,10 +95,12 @@ returns-in-Refused-clause-row g c at n st ctx is =
     let m = is-unfolding strict _ st of-trees _ _ _ _ (ap pop_unfolding is ∙ c.in-Ok.ensures.taken) t _ h (stream-there E t there (sym c.has_body.ensures.row ∙ c.if-not-has_body.false)) in
     let ops = c.in-Ok-extend_from_slice.ensures.items ∙ ap (λ is. is ++ c.args-2.result.now) c.clear.ensures.items in
     let are = ap (trees_at s) ops ∙ operand-trees s c.args-2.result.now l c.args-2.ensures.trees in
-    unfold-refused strict _ st _ _ _ m at n _ _ (same-run E s st.ctx ctx t l c.in-Ok.items.0 _ _ _ c.stream_of_term-stream.ensures.stream are c.clear-2.ensures.items ∙ c.in-Refused.ensures.run)
+    let p = err_from_is_err_and c.from_residual.result c.from_residual.ensures.1 in
+    rw (p.1, p.2) (stopped-through c.unify_in.result _ _ (λ d. proof_row strict (tables_of E) at code.Unfold n st ≡ Err d) c.in_err-through.field-0.0 c.in_err-through.ensures c.unify_in.ensures.run
+    (λ place d stopped. unfold-refused strict _ st _ _ _ m at n place d (same-run E s st.ctx ctx t l c.in-Ok.items.0 _ _ _ c.stream_of_term-stream.ensures.stream are c.clear-2.ensures.items ∙ stopped)))
 
-pub returns-in-Refused-clause-steps : goal.returns-in-Refused-clause-steps
-returns-in-Refused-clause-steps g c n st ctx is =
+pub returns-in_err-through-clause-steps : goal.returns-in_err-through-clause-steps
+returns-in_err-through-clause-steps g c n st ctx is =
     let E = c.args.earlier.now in
     let s = c.args.store.now in
     let t = c.in-Some.term in
@@ -103,4 +110,6 @@ returns-in-Refused-clause-steps g c n st ctx is =
     let m = is-unfolding strict _ st of-trees _ _ _ _ (ap pop_unfolding is ∙ c.in-Ok.ensures.taken) t _ h (stream-there E t there (sym c.has_body.ensures.row ∙ c.if-not-has_body.false)) in
     let ops = c.in-Ok-extend_from_slice.ensures.items ∙ ap (λ is. is ++ c.args-2.result.now) c.clear.ensures.items in
     let are = ap (trees_at s) ops ∙ operand-trees s c.args-2.result.now l c.args-2.ensures.trees in
-    so-many _ _ _ _ c.in-Refused.ensures.steps (unfold-steps strict _ st _ _ _ m n ∙ sym (same-count E s st.ctx ctx t l c.in-Ok.items.0 _ _ _ c.stream_of_term-stream.ensures.stream are c.clear-2.ensures.items))
+    let p = err_from_is_err_and c.from_residual.result c.from_residual.ensures.1 in
+    rw (p.1, p.2) (stopped-through c.unify_in.result _ _ (λ d. c.unify_in.new.steps ≡ c.args.steps.now + row_steps strict (tables_of E) code.Unfold n st) c.in_err-through.field-0.0 c.in_err-through.ensures c.unify_in.ensures.steps
+    (λ place d many. so-many _ _ _ _ many (unfold-steps strict _ st _ _ _ m n ∙ sym (same-count E s st.ctx ctx t l c.in-Ok.items.0 _ _ _ c.stream_of_term-stream.ensures.stream are c.clear-2.ensures.items))))

@@ -1,9 +1,15 @@
-use Rattle.std.proofs.Common.{◌∙◌, ◌++◌, ap, sym, subst}
+use Rattle.std.proofs.Common.{◌≡◌, ◌∙◌, ◌+◌, ◌++◌, Err, ap, sym, subst}
+use Rattle.std.proofs.lemmas.Result.{err_from_is_err_and}
+use Rattle.mz_cmd.specs.declared.code.ProofCode.TheVariants as code
+use Rattle.mz_soundness.specs.ProofMachine.{proof_row}
+use Rattle.mz_soundness.specs.Bodies.{row_steps}
+use Rattle.mz_earlier.specs.Before.{tables_of}
 use Rattle.mz_nodes.specs.Numbering.{IsOver, expr_of}
 use Rattle.mz_punify.specs.Stored.{exprs_at}
 use Rattle.mz_pmachine.specs.OverNodes.{pop_unfolding}
 use Rattle.mz_earlier.proofs.Offered.{signatures-before}
 use Rattle.mz_numbered.specs.Numbered.{portable}
+use Rattle.mz_unify.proofs.Offered.{stopped-through, went-through}
 use Rattle.mz_punify.proofs.Offered.{of-numbered}
 use Rattle.mz_machine.proofs.Offered.{not-taken, of-variable, not-defined, is-unfolding, unfold-stopped, stopped-steps, unfold-refused, unfold-row, unfold-steps, gives-stack}
 use Rattle.mz_pmachine.proofs.Converting.{operand-exprs}
@@ -48,11 +54,11 @@ stream_of_term-stream-requires g c = row-there c.args.earlier.now c.in-Some.term
 pub unify_in-requires-clause-over : goal.unify_in-requires-clause-over
 unify_in-requires-clause-over g c = subst (λ sigs. IsOver sigs c.args.nodes.now) (sym (signatures-before c.args.earlier.now)) c.requires.over
 
-pub returns-in-Done-clause-ids : goal.returns-in-Done-clause-ids
-returns-in-Done-clause-ids g c = ids-pushed c.args.nodes.now _ _ _ c.push.result c.push.ensures.ok (c.in-Ok.ensures.ids.0, c.in-Ok.ensures.ids.2) c.in-Ok.ensures.ids.3
+pub returns-clause-ids : goal.returns-clause-ids
+returns-clause-ids g c = ids-pushed c.args.nodes.now _ _ _ c.push.result c.push.ensures.ok (c.in-Ok.ensures.ids.0, c.in-Ok.ensures.ids.2) c.in-Ok.ensures.ids.3
 
-pub returns-in-Done-clause-row : goal.returns-in-Done-clause-row
-returns-in-Done-clause-row g c at n st ctx is =
+pub returns-clause-row : goal.returns-clause-row
+returns-clause-row g c at n st ctx is =
     let E = c.args.earlier.now in
     let s = c.args.nodes.now in
     let t = c.in-Some.term in
@@ -62,13 +68,13 @@ returns-in-Done-clause-row g c at n st ctx is =
     let m = is-unfolding portable _ st of-numbered _ _ _ _ (ap pop_unfolding is ∙ c.in-Ok.ensures.taken) t _ h (stream-there E t there (sym c.has_body.ensures.row ∙ c.if-not-has_body.false)) in
     let ops = c.in-Ok-extend_from_slice.ensures.items ∙ ap (λ is. is ++ c.args-2.result.now) c.clear.ensures.items in
     let are = ap (exprs_at s) ops ∙ operand-exprs s c.args-2.result.now l c.args-2.ensures.exprs in
-    let run = c.in-Done.ensures.run in
+    let run = (went-through c.unify_in.result _ _ _ c.in_ok-through.ensures c.unify_in.ensures.run).1 in
     gives-stack st _ _ _ c.push.result
     (unfold-row portable _ st _ _ _ m at n _ (same-run E s st.ctx ctx t l c.in-Ok.items.0 _ _ _ c.stream_of_term-stream.ensures.stream are c.clear-2.ensures.items ∙ run.1))
     (items-pushed s _ _ _ c.push.result c.push.ensures.ok) c.push.ensures.err
 
-pub returns-in-Done-clause-steps : goal.returns-in-Done-clause-steps
-returns-in-Done-clause-steps g c n st ctx is =
+pub returns-clause-steps : goal.returns-clause-steps
+returns-clause-steps g c n st ctx is =
     let E = c.args.earlier.now in
     let s = c.args.nodes.now in
     let t = c.in-Some.term in
@@ -78,10 +84,10 @@ returns-in-Done-clause-steps g c n st ctx is =
     let m = is-unfolding portable _ st of-numbered _ _ _ _ (ap pop_unfolding is ∙ c.in-Ok.ensures.taken) t _ h (stream-there E t there (sym c.has_body.ensures.row ∙ c.if-not-has_body.false)) in
     let ops = c.in-Ok-extend_from_slice.ensures.items ∙ ap (λ is. is ++ c.args-2.result.now) c.clear.ensures.items in
     let are = ap (exprs_at s) ops ∙ operand-exprs s c.args-2.result.now l c.args-2.ensures.exprs in
-    unless-mem c.push.result (so-many _ _ _ _ c.in-Done.ensures.steps (unfold-steps portable _ st _ _ _ m n ∙ sym (same-count E s st.ctx ctx t l c.in-Ok.items.0 _ _ _ c.stream_of_term-stream.ensures.stream are c.clear-2.ensures.items)))
+    unless-mem c.push.result (so-many _ _ _ _ (went-through c.unify_in.result _ _ _ c.in_ok-through.ensures c.unify_in.ensures.steps).1 (unfold-steps portable _ st _ _ _ m n ∙ sym (same-count E s st.ctx ctx t l c.in-Ok.items.0 _ _ _ c.stream_of_term-stream.ensures.stream are c.clear-2.ensures.items)))
 
-pub returns-in-Refused-clause-row : goal.returns-in-Refused-clause-row
-returns-in-Refused-clause-row g c at n st ctx is =
+pub returns-in_err-through-clause-row : goal.returns-in_err-through-clause-row
+returns-in_err-through-clause-row g c at n st ctx is =
     let E = c.args.earlier.now in
     let s = c.args.nodes.now in
     let t = c.in-Some.term in
@@ -91,10 +97,12 @@ returns-in-Refused-clause-row g c at n st ctx is =
     let m = is-unfolding portable _ st of-numbered _ _ _ _ (ap pop_unfolding is ∙ c.in-Ok.ensures.taken) t _ h (stream-there E t there (sym c.has_body.ensures.row ∙ c.if-not-has_body.false)) in
     let ops = c.in-Ok-extend_from_slice.ensures.items ∙ ap (λ is. is ++ c.args-2.result.now) c.clear.ensures.items in
     let are = ap (exprs_at s) ops ∙ operand-exprs s c.args-2.result.now l c.args-2.ensures.exprs in
-    unfold-refused portable _ st _ _ _ m at n _ _ (same-run E s st.ctx ctx t l c.in-Ok.items.0 _ _ _ c.stream_of_term-stream.ensures.stream are c.clear-2.ensures.items ∙ c.in-Refused.ensures.run)
+    let p = err_from_is_err_and c.from_residual.result c.from_residual.ensures.1 in
+    rw (p.1, p.2) (stopped-through c.unify_in.result _ _ (λ d. proof_row portable (tables_of E) at code.Unfold n st ≡ Err d) c.in_err-through.field-0.0 c.in_err-through.ensures c.unify_in.ensures.run
+    (λ place d stopped. unfold-refused portable _ st _ _ _ m at n place d (same-run E s st.ctx ctx t l c.in-Ok.items.0 _ _ _ c.stream_of_term-stream.ensures.stream are c.clear-2.ensures.items ∙ stopped)))
 
-pub returns-in-Refused-clause-steps : goal.returns-in-Refused-clause-steps
-returns-in-Refused-clause-steps g c n st ctx is =
+pub returns-in_err-through-clause-steps : goal.returns-in_err-through-clause-steps
+returns-in_err-through-clause-steps g c n st ctx is =
     let E = c.args.earlier.now in
     let s = c.args.nodes.now in
     let t = c.in-Some.term in
@@ -104,4 +112,6 @@ returns-in-Refused-clause-steps g c n st ctx is =
     let m = is-unfolding portable _ st of-numbered _ _ _ _ (ap pop_unfolding is ∙ c.in-Ok.ensures.taken) t _ h (stream-there E t there (sym c.has_body.ensures.row ∙ c.if-not-has_body.false)) in
     let ops = c.in-Ok-extend_from_slice.ensures.items ∙ ap (λ is. is ++ c.args-2.result.now) c.clear.ensures.items in
     let are = ap (exprs_at s) ops ∙ operand-exprs s c.args-2.result.now l c.args-2.ensures.exprs in
-    so-many _ _ _ _ c.in-Refused.ensures.steps (unfold-steps portable _ st _ _ _ m n ∙ sym (same-count E s st.ctx ctx t l c.in-Ok.items.0 _ _ _ c.stream_of_term-stream.ensures.stream are c.clear-2.ensures.items))
+    let p = err_from_is_err_and c.from_residual.result c.from_residual.ensures.1 in
+    rw (p.1, p.2) (stopped-through c.unify_in.result _ _ (λ d. c.unify_in.new.steps ≡ c.args.steps.now + row_steps portable (tables_of E) code.Unfold n st) c.in_err-through.field-0.0 c.in_err-through.ensures c.unify_in.ensures.steps
+    (λ place d many. so-many _ _ _ _ many (unfold-steps portable _ st _ _ _ m n ∙ sym (same-count E s st.ctx ctx t l c.in-Ok.items.0 _ _ _ c.stream_of_term-stream.ensures.stream are c.clear-2.ensures.items))))

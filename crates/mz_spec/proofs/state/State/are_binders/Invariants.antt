@@ -1,9 +1,15 @@
-use Rattle.std.proofs.Common.{[], map, take, drop}
+use Rattle.std.proofs.Common.{ℕ, [], Option, map, take, drop}
 use Rattle.std.specs.Prelude.{◌↔◌}
-use Rattle.mz_variables.specs.Code.{variable}
+use Rattle.mz_grammar.specs.Statement.{TypeText}
+use Rattle.mz_variables.specs.Code.{IsOfTypes, typed, variable}
+use Rattle.mz_variables.specs.Dependencies.{Every}
 use Rattle.mz_spec.specs.Entries.{state}
 use Rattle.mz_spec.specs.Rules.{AreBinders}
+use Rattle.mz_spec.proofs.Binding.{IsGroupBehind}
 use Rattle.mz_spec.proofs.state.State.are_binders.Given as goal
 
 abbrev pub invariant-loop-i : goal.invariant-loop-i
-invariant-loop-i l = AreBinders (state l.self) (map variable (take l.i l.params)) (map variable (drop l.i l.params)) ↔ AreBinders (state l.self) [] (map variable l.params)
+invariant-loop-i l = record {
+  binders : AreBinders (state l.self) (map variable (take l.i l.params)) (map variable (drop l.i l.params)) ↔ AreBinders (state l.self) [] (map variable l.params);
+  last : (types : ℕ → Option TypeText) → Every (IsOfTypes types) (map typed l.params) → IsGroupBehind types (map variable (take l.i l.params)) l.last;
+}

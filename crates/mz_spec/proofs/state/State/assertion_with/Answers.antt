@@ -3,6 +3,7 @@ use Rattle.std.proofs.lemmas.Result.{err_from_is_err_and}
 use Rattle.mz_checks.specs.Checks.{nothing, ◌>>◌, each_in_order}
 use Rattle.mz_grammar.specs.Code.{assertion, head, group, lexeme, source}
 use Rattle.mz_spec.specs.Answers.{JudgesOrMem}
+use Rattle.mz_variables.specs.Code.{AreGrouped}
 use Rattle.mz_spec.specs.Entries.{state}
 use Rattle.mz_spec.specs.Rules.{new_name, body_rules, statement_checks}
 use Rattle.mz_variables.specs.View.{view, stated_of}
@@ -13,6 +14,9 @@ use Rattle.mz_spec.proofs.Loops.{mem-before}
 use Rattle.mz_checks.proofs.Offered.{all_hold-both}
 use Rattle.mz_spec.specs.Formulas.{strings_checks, free_checks}
 use Rattle.mz_spec.proofs.state.State.assertion_with.Goals as goal
+
+pub check_parts-requires-clause-grouped : goal.check_parts-requires-clause-grouped
+check_parts-requires-clause-grouped c = c.requires.parts.grouped_params
 
 pub returns-in_err-check_parts-clause-judged : goal.returns-in_err-check_parts-clause-judged
 returns-in_err-check_parts-clause-judged c = λ tokens cut.
@@ -37,6 +41,12 @@ claims_of-requires-clause-small c =
     let small = stated-small a.kind (head a.head) (map source a.premises.items) (lexeme a.conclusion) c.requires.spelled in
     stated-to_formulas (stated_of (map group a.head.groups.items) (map source a.premises.items)) (lexeme a.conclusion) small.0 small.1
 
+pub claims_of-requires-clause-grouped_params : goal.claims_of-requires-clause-grouped_params
+claims_of-requires-clause-grouped_params c = c.requires.parts.grouped_params
+
+pub claims_of-requires-clause-grouped_dummies : goal.claims_of-requires-clause-grouped_dummies
+claims_of-requires-clause-grouped_dummies c = c.requires.parts.grouped_dummies
+
 pub binders_of-requires-clause-few : goal.binders_of-requires-clause-few
 binders_of-requires-clause-few c = few-sorts (state c.args.self.now) c.requires.kept c.requires.few
 
@@ -45,6 +55,9 @@ binders_of-requires-clause-small c =
     let few = few-params (assertion c.args.assertion.now) c.args.parts.now c.requires.spelled c.requires.parts in
     let same = ap length c.deref.ensures.value in
     omega (arith, few, same)
+
+pub binders_of-requires-clause-grouped : goal.binders_of-requires-clause-grouped
+binders_of-requires-clause-grouped c = subst AreGrouped (sym c.deref-2.ensures.value) c.requires.parts.grouped_params
 
 pub returns-in_err-hyps-clause-judged : goal.returns-in_err-hyps-clause-judged
 returns-in_err-hyps-clause-judged c = λ tokens cut.

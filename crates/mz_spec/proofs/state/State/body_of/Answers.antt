@@ -10,7 +10,7 @@ use Rattle.mz_notation.specs.Notation.{Variables}
 use Rattle.mz_math.specs.Formula.{Reader, IsFormula, formula_checks}
 use Rattle.mz_math.specs.declared.formula.Wanted.TheVariants.{Sort as of_sort}
 use Rattle.mz_spec.specs.Answers.{JudgesOrMem}
-use Rattle.mz_variables.specs.Code.{variable}
+use Rattle.mz_variables.specs.Code.{AreGrouped, variable}
 use Rattle.mz_spec.specs.Entries.{state}
 use Rattle.mz_spec.specs.Formulas.{inner, told}
 use Rattle.mz_spec.specs.Rules.{body_rules}
@@ -24,6 +24,12 @@ use Rattle.mz_spec.proofs.state.State.body_of.Goals as goal
 
 pub scope_of-requires-clause-few : goal.scope_of-requires-clause-few
 scope_of-requires-clause-few c = few-sorts (state c.args.self.now) c.requires.kept c.requires.few
+
+pub scope_of-requires-clause-grouped_params : goal.scope_of-requires-clause-grouped_params
+scope_of-requires-clause-grouped_params c = c.requires.parts.3.grouped_params
+
+pub scope_of-requires-clause-grouped_dummies : goal.scope_of-requires-clause-grouped_dummies
+scope_of-requires-clause-grouped_dummies c = c.requires.parts.3.grouped_dummies
 
 pub returns-in_err-body-clause-judged : goal.returns-in_err-body-clause-judged
 returns-in_err-body-clause-judged c = λ vs ts t parts same tokens are.
@@ -62,6 +68,9 @@ returns-then-not-has-clause-judged c = λ vs ts t parts same tokens are.
 
 pub binders_of-requires-clause-few : goal.binders_of-requires-clause-few
 binders_of-requires-clause-few c = few-sorts (state c.args.self.now) c.requires.kept c.requires.few
+
+pub binders_of-requires-clause-grouped : goal.binders_of-requires-clause-grouped
+binders_of-requires-clause-grouped c = subst AreGrouped (sym c.deref-2.ensures.value) c.requires.parts.3.grouped_dummies
 
 pub returns-clause-judged : goal.returns-clause-judged
 returns-clause-judged c = λ vs ts t parts same tokens are.

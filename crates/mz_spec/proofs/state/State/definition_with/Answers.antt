@@ -8,7 +8,7 @@ use Rattle.mz_logic.specs.DeclView.{form}
 use Rattle.mz_logic.specs.declared.binder.Binder.{Binder}
 use Rattle.mz_logic.specs.declared.binder.ResultType.{ResultType}
 use Rattle.mz_spec.specs.Answers.{JudgesOrMem}
-use Rattle.mz_variables.specs.Code.{variable}
+use Rattle.mz_variables.specs.Code.{AreGrouped, variable}
 use Rattle.mz_spec.specs.Entries.{state}
 use Rattle.mz_spec.specs.Rules.{new_name, body_rules, statement_checks}
 use Rattle.mz_spec.specs.State.{binder_of, param_binders}
@@ -17,6 +17,9 @@ use Rattle.mz_spec.proofs.Bodied.{bodies-small}
 use Rattle.mz_spec.proofs.Judged.{parts-halt, rest-halt, parts-hold, few-sorts, few-params, parts-names}
 use Rattle.mz_spec.proofs.Loops.{mem-before}
 use Rattle.mz_spec.proofs.state.State.definition_with.Goals as goal
+
+pub check_parts-requires-clause-grouped : goal.check_parts-requires-clause-grouped
+check_parts-requires-clause-grouped c = c.requires.parts.grouped_params
 
 pub returns-in_err-check_parts-clause-judged : goal.returns-in_err-check_parts-clause-judged
 returns-in_err-check_parts-clause-judged c = λ tokens cut.
@@ -35,6 +38,9 @@ binders_of-requires-clause-small c =
     let few = few-params (definition c.args.definition.now) c.args.parts.now c.requires.spelled c.requires.parts in
     let same = ap length c.deref.ensures.value in
     omega (arith, few, same)
+
+pub binders_of-requires-clause-grouped : goal.binders_of-requires-clause-grouped
+binders_of-requires-clause-grouped c = subst AreGrouped (sym c.deref-2.ensures.value) c.requires.parts.grouped_params
 
 pub result_of-requires-clause-few : goal.result_of-requires-clause-few
 result_of-requires-clause-few c = few-sorts (state c.args.self.now) c.requires.kept c.requires.few

@@ -12,6 +12,9 @@ use Rattle.mz_variables.specs.View.{names_of, view}
 use Rattle.mz_spec.proofs.Noted.{general-rules, general-fault, general-holds}
 use Rattle.mz_spec.proofs.state.State.notation_with.Goals as goal
 
+pub check_notation-requires-clause-grouped : goal.check_notation-requires-clause-grouped
+check_notation-requires-clause-grouped c = c.requires.parts.grouped_params
+
 pub note_general-requires-clause-others : goal.note_general-requires-clause-others
 note_general-requires-clause-others c =
     let σ = state c.args.self.now in

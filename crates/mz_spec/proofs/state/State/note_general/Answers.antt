@@ -21,6 +21,12 @@ scope_of-requires-clause-names c =
     let s = notation c.args.notation.now in
     parts-variables c.args.parts.now (view s).variables (view s).types (view s).result c.requires.parts c.requires.others (variables-named s c.requires.spelled)
 
+pub scope_of-requires-clause-grouped_params : goal.scope_of-requires-clause-grouped_params
+scope_of-requires-clause-grouped_params c = c.requires.parts.grouped_params
+
+pub scope_of-requires-clause-grouped_dummies : goal.scope_of-requires-clause-grouped_dummies
+scope_of-requires-clause-grouped_dummies c = c.requires.parts.grouped_dummies
+
 pub result_of-requires-clause-few : goal.result_of-requires-clause-few
 result_of-requires-clause-few c = few-sorts (state c.args.self.now) c.requires.kept c.requires.few
 

@@ -3,11 +3,15 @@ use Rattle.std.proofs.lemmas.Result.{err_from_is_err_and}
 use Rattle.mz_checks.specs.Checks.{nothing}
 use Rattle.mz_grammar.specs.Code.{lexeme, term}
 use Rattle.mz_spec.specs.Answers.{JudgesOrMem}
+use Rattle.mz_variables.specs.Code.{AreGrouped}
 use Rattle.mz_spec.specs.Entries.{state}
 use Rattle.mz_spec.specs.Rules.{new_name, statement_checks}
 use Rattle.mz_variables.specs.View.{view}
 use Rattle.mz_spec.proofs.Judged.{parts-halt, parts-hold, few-sorts, few-params}
 use Rattle.mz_spec.proofs.state.State.term_with.Goals as goal
+
+pub check_parts-requires-clause-grouped : goal.check_parts-requires-clause-grouped
+check_parts-requires-clause-grouped c = c.requires.parts.grouped_params
 
 pub returns-in_err-check_parts-clause-judged : goal.returns-in_err-check_parts-clause-judged
 returns-in_err-check_parts-clause-judged c = λ tokens cut.
@@ -26,6 +30,9 @@ binders_of-requires-clause-small c =
     let few = few-params (term c.args.term.now) c.args.parts.now c.requires.spelled c.requires.parts in
     let same = ap length c.deref.ensures.value in
     omega (arith, few, same)
+
+pub binders_of-requires-clause-grouped : goal.binders_of-requires-clause-grouped
+binders_of-requires-clause-grouped c = subst AreGrouped (sym c.deref-2.ensures.value) c.requires.parts.grouped_params
 
 pub result_of-requires-clause-few : goal.result_of-requires-clause-few
 result_of-requires-clause-few c = few-sorts (state c.args.self.now) c.requires.kept c.requires.few

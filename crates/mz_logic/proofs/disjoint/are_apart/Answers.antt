@@ -1,9 +1,0 @@
-use Rattle.mz_logic.specs.Declaration.{signatures}
-use Rattle.mz_logic.proofs.Rules.{ranges_of_fits, many_of_fits}
-use Rattle.mz_logic.proofs.disjoint.are_apart.Goals as goal
-
-pub are_all_apart-requires-clause-there : goal.are_all_apart-requires-clause-there
-are_all_apart-requires-clause-there c = ranges_of_fits (signatures c.args.env.now) c.args.ctx.now c.args.es.now c.args.params.now c.requires
-
-pub are_all_apart-requires-clause-many : goal.are_all_apart-requires-clause-many
-are_all_apart-requires-clause-many c = many_of_fits (signatures c.args.env.now) c.args.ctx.now c.args.es.now c.args.params.now c.requires
