@@ -3,30 +3,22 @@ use Rattle.std.proofs.Common.{◌≡◌, ◌<◌, ◌+◌, ◌-◌, ℕ, zero, s
 use Rattle.std.specs.Option.{option_map}
 use Rattle.std.proofs.lemmas.Bool.{ltb-true, ltb-false}
 use Rattle.std.proofs.lemmas.Option.{slice_get-map, slice_get_within, get_or_from_slice_get}
+use Rattle.mz_general.proofs.Offered.{slice_get-some as there, slice_get-map_back}
 use Rattle.mz_logic.specs.Tree.{Tree, Trees, var, app, none, more, operand, instance, instances, followed_by, variables}
 use Rattle.mz_logic.specs.Variables.{Occurs, OccursIn, InSomeV}
 use Rattle.mz_logic.specs.Conversions.{IsBoundOf, AreFresh}
 use Rattle.mz_logic.specs.declared.binder.Binder.{Binder}
 use Rattle.mz_logic.proofs.Offered.{split_at}
 use Rattle.mz_unification.specs.Spells.{variables_from}
-use Rattle.mz_unification.proofs.Offered.{some_is, distinct, in-some, operand-trees_of}
+use Rattle.mz_unification.proofs.Offered.{some_is, distinct, in-some, operand-trees_of, length-params}
 use Rattle.mz_steps.specs.Sameness.{own}
-use Rattle.mz_steps.proofs.Offered.{operand-front, operand-behind, operand-variables}
+use Rattle.mz_steps.proofs.Offered.{operand-front, operand-behind, operand-variables, get-own}
 use Rattle.mz_verdicts.specs.Trees.{SameOver, AllSameOver, Pairs, IsPaired, SameBody}
 
 -- ---- parameters
 
-own-at : (j : ℕ) (ps : List Binder) (i : ℕ) → i < length ps → slice_get (variables_from j ps) i ≡ Some (var (j + i))
-own-at j [] i lt = absurd (omega arith)
-own-at j (p ∷ ps) zero lt = ap (λ (z : ℕ). Some (var z)) (omega arith)
-own-at j (p ∷ ps) (suc i) lt = own-at (suc j) ps i (omega arith) ∙ ap (λ (z : ℕ). Some (var z)) (omega arith)
-
 pub own-of : (ps : List Binder) (i : ℕ) → i < length ps → slice_get (variables_from 0 ps) i ≡ Some (var i)
-own-of ps i lt = own-at 0 ps i lt ∙ ap (λ (z : ℕ). Some (var z)) (omega arith)
-
-pub own-length : (j : ℕ) (ps : List Binder) → length (variables_from j ps) ≡ length ps
-own-length j [] = refl
-own-length j (p ∷ ps) = ap suc (own-length (suc j) ps)
+own-of ps i lt = get-own 0 ps i lt ∙ ap (λ (z : ℕ). Some (var z)) (omega arith)
 
 -- ---- fresh variables
 
@@ -44,16 +36,6 @@ fresh-long ctx es [] [] h = refl
 fresh-long ctx es [] (b ∷ bs) h = absurd h
 fresh-long ctx es (y ∷ ys) [] h = absurd h
 fresh-long ctx es (y ∷ ys) (b ∷ bs) (_, _, _, h) = ap suc (fresh-long ctx es ys bs h)
-
-pub there : {A : Type 0} (xs : List A) (k : ℕ) → k < length xs → (x : A) × (slice_get xs k ≡ Some x)
-there [] k lt = absurd (omega arith)
-there (x ∷ xs) zero lt = (x, refl)
-there (x ∷ xs) (suc k) lt = there xs k (omega arith)
-
-map-back : {A B : Type 0} (f : A → B) (xs : List A) (i : ℕ) (y : B) → slice_get (map f xs) i ≡ Some y → (x : A) × (slice_get xs i ≡ Some x) × (f x ≡ y)
-map-back f [] i y at = absurd cc
-map-back f (x ∷ xs) zero y at = (x, refl, cc)
-map-back f (x ∷ xs) (suc i) y at = map-back f xs i y at
 
 -- one of the list, or the default
 get-at : (ps : List (Option ℕ)) (i p : ℕ) → get_or ps i None ≡ Some p → slice_get ps i ≡ Some (Some p)
@@ -105,15 +87,15 @@ module _ (rows : List ℕ) (params ds es fs : List Binder) (ys : List ℕ) (fres
     where
       keeps : (k p : ℕ) → slice_get (map pair-of ys) k ≡ Some (Some p) → (d : Binder) × (e : Binder) × (slice_get ds p ≡ Some d) × (slice_get fs k ≡ Some e) × (d.sort ≡ e.sort)
       keeps k p at =
-          let (y, y-at, is) = map-back pair-of ys k (Some p) at in
+          let (y, y-at, is) = slice_get-map_back pair-of ys k (Some p) at in
           let q = dummy-of k y y-at in
           let (d, e, d-at, e-at, sorts) = good.keeps_sorts q.place p (pair-at k y y-at q.place p q.is is) in
           (d, q.binder, d-at, q.at, sorts ∙ ap (λ (z : Binder). z.sort) (some_is e-at q.dummy-at) ∙ q.same-sort)
 
       one : (k l p : ℕ) → slice_get (map pair-of ys) k ≡ Some (Some p) → slice_get (map pair-of ys) l ≡ Some (Some p) → k ≡ l
       one k l p at at' =
-          let (y, y-at, is) = map-back pair-of ys k (Some p) at in
-          let (z, z-at, is') = map-back pair-of ys l (Some p) at' in
+          let (y, y-at, is) = slice_get-map_back pair-of ys k (Some p) at in
+          let (z, z-at, is') = slice_get-map_back pair-of ys l (Some p) at' in
           let q = dummy-of k y y-at in
           let r = dummy-of l z z-at in
           let places : q.place ≡ r.place = good.one_to_one q.place r.place p (pair-at k y y-at q.place p q.is is) (pair-at l z z-at r.place p r.is is') in
@@ -150,7 +132,7 @@ module _ (rows : List ℕ) (params ds es fs : List Binder) (ys : List ℕ) (fres
       go : (b : Bool) → ltb z (length params) ≡ b → SameOver (IsPaired (length params) pairs') rows e (var z)
       go true is =
           let less = ltb-true z (length params) is in
-          let many = own-length 0 params in
+          let many = length-params 0 params in
           let is-own : operand F z ≡ var z = operand-front (variables_from 0 params) (variables ys) z (omega (arith, less, many)) ∙ operand-trees_of (variables_from 0 params) z (var z) (own-of params z less) in
           low less e (as-var e z is-own same)
       go false is =
@@ -159,7 +141,7 @@ module _ (rows : List ℕ) (params ds es fs : List Binder) (ys : List ℕ) (fres
           let k : ℕ = z - length params in
           let z-is : z ≡ length params + k = omega (arith, over) in
           let (y, at) = there ys k (omega (arith, lt, over, long)) in
-          let put : operand F z ≡ var y = ap (operand F) z-is ∙ operand-behind (variables_from 0 params) (variables ys) (length params) k (own-length 0 params) ∙ operand-variables ys k y at in
+          let put : operand F z ≡ var y = ap (operand F) z-is ∙ operand-behind (variables_from 0 params) (variables ys) (length params) k (length-params 0 params) ∙ operand-variables ys k y at in
           high k y at z-is e (as-var e y put same)
 
   mutual

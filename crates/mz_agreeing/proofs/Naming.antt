@@ -9,7 +9,8 @@ use Rattle.mz_names.specs.Identifiers.{is_name, is_name_byte}
 use Rattle.mz_names.proofs.Offered.{digits-named}
 use Rattle.mz_logic.specs.Declaration.{Declaration, sort_decl, term_decl, assertion_decl}
 use Rattle.mz_statements.specs.Statements.{Statement}
-use Rattle.mz_wording.specs.Wording.{underscores, longest_run, variable_prefix, term_name, term_names, vocabulary_of}
+use Rattle.mz_statements.specs.DeclaredNames.{underscores, term_name, term_names, text_names, longest_run}
+use Rattle.mz_wording.specs.Wording.{variable_prefix, vocabulary_of}
 
 -- ---- how they begin
 
@@ -24,13 +25,13 @@ one-shorter name (term_decl d) rest n zero others own less = own
 one-shorter name (term_decl d) rest n (suc i) others own less = others i (omega arith)
 one-shorter name (assertion_decl a) rest n i others own less = others i less
 
-all-shorter : (ss : List Statement) (i : ℕ) → i < length (term_names ss) → underscores (get_or (term_names ss) i []) ≤ longest_run ss
+all-shorter : (ss : List Statement) (i : ℕ) → i < length (term_names ss) → underscores (get_or (term_names ss) i []) ≤ longest_run (text_names ss)
 all-shorter [] i less = absurd (omega arith)
-all-shorter (s ∷ ss) i less = one-shorter s.name s.decl (term_names ss) (longest_run (s ∷ ss)) i (λ k below. omega (arith, all-shorter ss k below)) (omega arith) less
+all-shorter (s ∷ ss) i less = one-shorter s.name s.decl (term_names ss) (longest_run (text_names (s ∷ ss))) i (λ k below. omega (arith, all-shorter ss k below)) (omega arith) less
 
 -- no term is named as a variable
 pub other-name : (ss : List Statement) (x t : ℕ) → t < length (term_names ss) → (vocabulary_of ss).variable x ≡ get_or (term_names ss) t [] → ⊥
-other-name ss x t less is = omega (arith, sym (run-is (suc (longest_run ss)) (decimal x)) ∙ ap underscores is, all-shorter ss t less)
+other-name ss x t less is = omega (arith, sym (run-is (suc (longest_run (text_names ss))) (decimal x)) ∙ ap underscores is, all-shorter ss t less)
 
 -- ---- they differ
 
@@ -48,4 +49,4 @@ prefixed-named zero cs all = and_from _ _ (behind-named 0 cs all) refl
 prefixed-named (suc n) cs all = and_from _ _ (behind-named (suc n) cs all) refl
 
 pub is-identifier : (ss : List Statement) (x : ℕ) → x < 2 ^ 64 → IsTrue (is_name ((vocabulary_of ss).variable x))
-is-identifier ss x small = prefixed-named (longest_run ss) (decimal x) (digits-named (decimal x) (decimal_is_IsNumeral x small).0.1)
+is-identifier ss x small = prefixed-named (longest_run (text_names ss)) (decimal x) (digits-named (decimal x) (decimal_is_IsNumeral x small).0.1)

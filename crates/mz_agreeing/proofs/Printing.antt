@@ -11,7 +11,7 @@ use Rattle.mz_logic.specs.Declaration.{Form, plain_form, abstract_form, defined,
 use Rattle.mz_logic.specs.Legality.{InRange, AllInRange, NamesThere}
 use Rattle.mz_logic.specs.declared.binder.SortMods.{SortMods}
 use Rattle.mz_logic.specs.LegalLists.{Statement as Marked, LegalAfter, Legal, gap_free, MayBeLocal, declarations}
-use Rattle.mz_logic.proofs.Offered.{sorts-append}
+use Rattle.mz_logic.proofs.Offered.{sorts-append, signatures-append, same-sorts, same-signatures}
 use Rattle.mz_names.specs.Names.{IsNew}
 use Rattle.mz_names.proofs.Offered.{new-last, new-more, new-other}
 use Rattle.mz_forms.specs.Name.{Names, no_names, names_with}
@@ -21,9 +21,10 @@ use Rattle.mz_type.specs.Meaning.{marked}
 use Rattle.mz_printing.specs.Prefix.{IsShort}
 use Rattle.mz_readback.specs.Declared.{Named, Vocabulary, formula_of, AreShort, HasNewName, HasShortBody, IsWithin, used_with, ArePrintable}
 use Rattle.mz_publics.specs.PublicPart.{public_number, is_local_term, mark_of, marks_of, renamed, all_renamed, mentions_local, any_mentions_local, shown, public_decl, Hides, IsSayable}
-use Rattle.mz_publics.proofs.Offered.{AreBeside, signatures-append, same-signatures, same-sorts, none-beside, all-public, pick, decl-legal, IsAt, mark-at, at-next, at-known, public-next, local-next}
+use Rattle.mz_publics.proofs.Offered.{AreBeside, none-beside, all-public, pick, decl-legal, IsAt, mark-at, at-next, at-known, public-next, local-next}
 use Rattle.mz_verdicts.specs.Match.{term_rows}
-use Rattle.mz_wording.specs.Wording.{sort_name, term_name, sort_names, term_names, vocabulary_of, local_terms, IsBrief}
+use Rattle.mz_statements.specs.DeclaredNames.{sort_name, term_name, sort_names, term_names}
+use Rattle.mz_wording.specs.Wording.{vocabulary_of, local_terms, IsBrief}
 use Rattle.mz_agreeing.proofs.Naming.{other-name}
 use Rattle.mz_agreeing.proofs.Rows.{IsTracked, row-at}
 use Rattle.mz_agreeing.proofs.Spoken.{KeepsName, same-short}

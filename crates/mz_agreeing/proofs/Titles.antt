@@ -4,7 +4,8 @@ use Rattle.std.specs.Prelude.{⊤}
 use Rattle.mz_logic.specs.Declaration.{Declaration, sort_decl, term_decl, assertion_decl}
 use Rattle.mz_sexpr.specs.Node.{Node, Nodes, atom, list, no_nodes, node}
 use Rattle.mz_names.specs.Names.{IsNew}
-use Rattle.mz_forms.specs.Name.{Names, IsName, IsNewName, names_with}
+use Rattle.mz_forms.specs.Name.{Names, IsName, names_with}
+use Rattle.mz_forms.proofs.Offered.{new_name_is}
 use Rattle.mz_statements.specs.Statements.{Statement, kind_of, is_local_word, Modifiers, bit, modifier_bits, IsDeclared, IsLocal, IsMarked, IsStatement, AreStatements}
 use Rattle.mz_statements.specs.declared.kind.Kind.{Kind}
 use Rattle.mz_statements.specs.declared.kind.Kind.TheVariants.{Sort as sort_kind, Term as term_kind, Axiom as axiom_kind, Def as def_kind, Theorem as theorem_kind}
@@ -25,10 +26,6 @@ abbrev pub AreTitled : Names → List Statement → Type 0
 AreTitled names [] = ⊤
 AreTitled names (s ∷ ss) = IsTitled names s.name s.decl × AreTitled (names_with names s.name s.decl) ss
 
-new-name : (xs : List (List ℕ)) (n : Node) (x : List ℕ) → IsNewName xs n x → IsName x × IsNew xs x
-new-name xs (atom at w) x (is, name, new) = subst (λ (v : List ℕ). IsName v × IsNew xs v) (sym is) (name, new)
-new-name xs (list at ns) x h = absurd h
-
 at_most : (b : Bool) (n : ℕ) → bit b n ≤ n
 at_most true n = omega arith
 at_most false n = omega arith
@@ -38,15 +35,15 @@ few-bits m = omega (arith, at_most m.is_pure 1, at_most m.is_strict 2, at_most m
 
 declared-titled : (names : Names) (k : Kind) (ns : Nodes) (s : Statement) → IsDeclared names k ns s → IsTitled names s.name s.decl
 declared-titled names sort_kind (node x ms) s (m, n, r, e, i, j) =
-    let (name, new) = new-name names.sorts x s.name n in subst (IsTitled names s.name) (sym e) (name, (new, few-bits m))
+    let (name, new) = new_name_is names.sorts x s.name n in subst (IsTitled names s.name) (sym e) (name, (new, few-bits m))
 declared-titled names term_kind (node x (node ps (node r no_nodes))) s (params, vars, result, n, p, q, e, i, j) =
-    subst (IsTitled names s.name) (sym e) (new-name names.terms x s.name n)
+    subst (IsTitled names s.name) (sym e) (new_name_is names.terms x s.name n)
 declared-titled names axiom_kind (node x (node ps (node hs (node c no_nodes)))) s (params, vars, hyps, conclusion, n, p, q, r, e, i, j) =
-    subst (IsTitled names s.name) (sym e) (new-name names.assertions x s.name n)
+    subst (IsTitled names s.name) (sym e) (new_name_is names.assertions x s.name n)
 declared-titled names def_kind (node x (node ps (node r (node ds (node b no_nodes))))) s (params, vars, result, dummies, all, body, n, p, q, d, f, e, i, j) =
-    subst (IsTitled names s.name) (sym e) (new-name names.terms x s.name n)
+    subst (IsTitled names s.name) (sym e) (new_name_is names.terms x s.name n)
 declared-titled names theorem_kind (node x (node ps (node hs (node c (node ds (node q no_nodes)))))) s (params, vars, hyps, labels, conclusion, all, proof, n, p, h, f, d, r, e, j) =
-    subst (IsTitled names s.name) (sym e) (new-name names.assertions x s.name n)
+    subst (IsTitled names s.name) (sym e) (new_name_is names.assertions x s.name n)
 declared-titled names _ _ s h = absurd h
 
 local-titled : (names : Names) (k : Kind) (ns : Nodes) (s : Statement) → IsLocal names k ns s → IsTitled names s.name s.decl

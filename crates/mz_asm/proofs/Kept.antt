@@ -2,6 +2,7 @@
 use Rattle.std.proofs.Common.{◌≡◌, ◌≤◌, ◌+◌, ◌-◌, ℕ, Bool, true, false, cond, not, List, [], ◌∷◌, ◌++◌, length, Some, None, refl, sym, ap, subst, ◌∙◌, arith, length-append}
 use Rattle.std.specs.Prelude.{◌==◌, ◌&&◌}
 use Rattle.std.proofs.lemmas.Bool.{eqb-false}
+use Rattle.std.proofs.lemmas.Option.{same_Some}
 use Rattle.mz_checks.specs.Checks.{AllHold}
 use Rattle.mz_asm.specs.declared.kind.Kind.{Kind}
 use Rattle.mz_asm.specs.declared.kind.Kind.TheVariants as kinds
@@ -42,9 +43,6 @@ LeftIs (lines.Head kind row number) before after = after ≤ number
 LeftIs (lines.Param x) before after = after + 1 ≤ before
 LeftIs _ before after = after ≡ 0
 
-some-is : {A : Type 0} (x y : A) → Some x ≡ Some y → x ≡ y
-some-is x y e = cc
-
 begun-left : (kind : Kind) (number : ℕ) → left_of (begun kind number) ≤ number
 begun-left kind number = go (is_sort kind)
   where
@@ -53,8 +51,8 @@ begun-left kind number = go (is_sort kind)
     go false = omega arith
 
 next-of-left : (v : Want) (l : Line) (w : Want) → next_of v l ≡ Some w → LeftIs l (left_of v) (left_of w)
-next-of-left wants.Head (lines.Head kind row number) w e = subst (λ (x : Want). left_of x ≤ number) (some-is (begun kind number) w e) (begun-left kind number)
-next-of-left wants.Head lines.End w e = sym (ap left_of (some-is wants.Nothing w e))
+next-of-left wants.Head (lines.Head kind row number) w e = subst (λ (x : Want). left_of x ≤ number) (same_Some (begun kind number) w e) (begun-left kind number)
+next-of-left wants.Head lines.End w e = sym (ap left_of (same_Some wants.Nothing w e))
 next-of-left wants.Head _ w e = absurd cc
 next-of-left (wants.Words kind left) (lines.Param x) w e = go (left == 0) refl e
   where
@@ -62,20 +60,20 @@ next-of-left (wants.Words kind left) (lines.Param x) w e = go (left == 0) refl e
     go true at e = absurd cc
     go false at e =
         let some : left ≡ 0 → ⊥ = eqb-false _ _ at in
-        let is : left - 1 ≡ left_of w = ap left_of (some-is (wants.Words kind (left - 1)) w e) in
+        let is : left - 1 ≡ left_of w = ap left_of (same_Some (wants.Words kind (left - 1)) w e) in
         omega (arith, some, is)
 next-of-left (wants.Words kind left) (lines.Outcome x) w e = go (left == 0) (has_streams kind) e
   where
     go : (z b : Bool) → cond z (Some (cond b (wants.Unify kind) wants.Head)) None ≡ Some w → left_of w ≡ 0
     go false b e = absurd cc
-    go true true e = sym (ap left_of (some-is (wants.Unify kind) w e))
-    go true false e = sym (ap left_of (some-is wants.Head w e))
+    go true true e = sym (ap left_of (same_Some (wants.Unify kind) w e))
+    go true false e = sym (ap left_of (same_Some wants.Head w e))
 next-of-left (wants.Words kind left) _ w e = absurd cc
-next-of-left (wants.Unify kind) (lines.Unify c v) w e = sym (ap left_of (some-is (wants.Unify kind) w e))
-next-of-left (wants.Unify kind) lines.UnifyEnd w e = sym (ap left_of (some-is (wants.Proof kind) w e))
+next-of-left (wants.Unify kind) (lines.Unify c v) w e = sym (ap left_of (same_Some (wants.Unify kind) w e))
+next-of-left (wants.Unify kind) lines.UnifyEnd w e = sym (ap left_of (same_Some (wants.Proof kind) w e))
 next-of-left (wants.Unify kind) _ w e = absurd cc
-next-of-left (wants.Proof kind) (lines.Proof c v) w e = sym (ap left_of (some-is (wants.Proof kind) w e))
-next-of-left (wants.Proof kind) lines.ProofEnd w e = sym (ap left_of (some-is wants.Head w e))
+next-of-left (wants.Proof kind) (lines.Proof c v) w e = sym (ap left_of (same_Some (wants.Proof kind) w e))
+next-of-left (wants.Proof kind) lines.ProofEnd w e = sym (ap left_of (same_Some wants.Head w e))
 next-of-left (wants.Proof kind) _ w e = absurd cc
 next-of-left wants.Nothing l w e = absurd cc
 

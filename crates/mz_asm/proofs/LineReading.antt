@@ -5,6 +5,7 @@ use Rattle.std.specs.List.{position_or_len}
 use Rattle.std.proofs.lemmas.Bool.{eqb-true, ne_eqb}
 use Rattle.std.proofs.lemmas.List.{take_at, drop_at, take_all}
 use Rattle.std.proofs.lemmas.List.Sums.{split_at_first, passes_at_first}
+use Rattle.mz_general.proofs.Offered.{both-true, same-bytes, some-length}
 use Rattle.mz_cmd.specs.declared.code.ProofCode.{ProofCode}
 use Rattle.mz_cmd.specs.declared.code.ProofCode.TheVariants as proofs
 use Rattle.mz_cmd.specs.declared.code.UnifyCode.{UnifyCode}
@@ -20,7 +21,7 @@ use Rattle.mz_names.proofs.Offered.{digit-between}
 use Rattle.mz_asm.specs.Numbers.{are_digits, IsNumber, number_in, word_in}
 use Rattle.mz_asm.specs.Lines.{kind_name, IsValue, IsLine}
 use Rattle.mz_asm.specs.Reading.{kind_of_word, local_kind_of_word, unify_named, plain_proof_named, proof_named, first_word, other_words, head_of, numbers_in, head_in, param_of, param_in, result_of, result_in, value_in, unify_valued, unify_of, unify_line_in, proof_valued, proof_of, proof_line_in, part_named, part_in, line_named, line_in}
-use Rattle.mz_asm.proofs.Numerals.{both-true, some-if, same-bytes, number-sound, number-complete, numeral-digits, word-sound, word-complete}
+use Rattle.mz_asm.proofs.Numerals.{some-if, number-sound, number-complete, numeral-digits, word-sound, word-complete}
 
 abbrev is_space : ℕ → Bool
 is_space b = b == 32
@@ -223,10 +224,6 @@ part-some name l =
     (branch (λ _. ⊥) (bytes_eq name (codes "u")) None _ l (λ is e. absurd cc)
     (branch (λ _. ⊥) (bytes_eq name (codes "p")) None None l (λ is e. absurd cc)
     (λ e. absurd cc))))
-
-some-length : (xs : List ℕ) → (xs ≡ [] → ⊥) → 0 < length xs
-some-length [] there = absurd (there refl)
-some-length (x ∷ xs) there = omega arith
 
 part-sound : (text : List ℕ) (l : Line) → part_in text ≡ Some l → IsLine (32 ∷ text) l
 part-sound text l e =

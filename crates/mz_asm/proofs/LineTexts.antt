@@ -8,6 +8,7 @@ use Rattle.std.proofs.lemmas.Fmt.{decimal-digits_value}
 use Rattle.std.proofs.lemmas.Str.Parse.{numerals_by_value, tells_digits}
 use Rattle.std.proofs.lemmas.List.Sums.{split_at_first, passes_at_first}
 use Rattle.std.proofs.lemmas.Str.{digit_value_digit}
+use Rattle.mz_general.proofs.Offered.{both-true}
 use Rattle.mz_show.specs.Words.{texts, numbered, param_line, result_line, command_words, unify_name, unify_has_number, proof_name, proof_has_number}
 use Rattle.mz_asm.specs.declared.line.Line.{Line}
 use Rattle.mz_asm.specs.declared.line.Line.TheVariants as lines
@@ -19,7 +20,7 @@ use Rattle.mz_asm.specs.Lines.{kind_name, IsValue, IsLine}
 use Rattle.mz_asm.specs.Rows.{rows_after, IsInRange}
 use Rattle.mz_asm.specs.Assembling.{newline_at, behind_line, HasLines, AreFitting}
 use Rattle.mz_asm.proofs.Kept.{most-few}
-use Rattle.mz_asm.proofs.Numerals.{both-true, numeral-digits}
+use Rattle.mz_asm.proofs.Numerals.{numeral-digits}
 
 abbrev pub line_text : Line → List ℕ
 line_text (lines.Head kind row number) = numbered (numbered (kind_name kind) row) number ++ codes "\n"

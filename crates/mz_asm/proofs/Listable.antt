@@ -10,6 +10,7 @@ use Rattle.std.proofs.lemmas.Fmt.{decimal_is_IsNumeral, decimal_digit, first_dec
 use Rattle.std.proofs.lemmas.List.{take_at}
 use Rattle.std.proofs.lemmas.List.Folds.{list_all-append}
 use Rattle.std.proofs.lemmas.Str.Parse.{digit_from_value}
+use Rattle.mz_general.proofs.Offered.{both-true}
 use Rattle.hex.specs.Hex.{encode_with, encode_lower, lower_digits}
 use Rattle.mz_show.specs.Words.{texts, unify_name, unify_has_number, proof_name, proof_has_number, word_text, command_words}
 use Rattle.mz_cmd.specs.declared.code.ProofCode.{ProofCode}
@@ -29,7 +30,6 @@ use Rattle.mz_asm.specs.Assembling.{behind_line, HasLines, AreFitting, IsPlain, 
 use Rattle.mz_asm.proofs.Kept.{most-few}
 use Rattle.mz_asm.proofs.LineReading.{drop-past}
 use Rattle.mz_asm.proofs.LineTexts.{line_text, head-spelled}
-use Rattle.mz_asm.proofs.Numerals.{both-true}
 
 -- ---- numbers
 

@@ -1,7 +1,8 @@
 -- The lines of a text, one after another: what each turn of the loop keeps, and what its ends show.
-use Rattle.std.proofs.Common.{◌≡◌, ◌≤◌, ◌<◌, ◌+◌, ◌*◌, ◌⊎◌, ℕ, List, [], ◌∷◌, ◌++◌, length, take, Some, None, Err, refl, sym, ap, subst, ◌∙◌, arith, inl, inr, length-append, length-drop, length-take}
+use Rattle.std.proofs.Common.{◌≡◌, ◌≤◌, ◌<◌, ◌+◌, ◌*◌, ◌⊎◌, ℕ, List, [], ◌∷◌, ◌++◌, length, Some, None, Err, refl, sym, ap, subst, ◌∙◌, arith, inl, inr, length-append, length-drop}
 use Rattle.std.specs.Prelude.{◌==◌}
 use Rattle.std.specs.List.{before_first}
+use Rattle.mz_general.proofs.Offered.{take-short}
 use Rattle.mz_checks.specs.Checks.{FailsFirst}
 use Rattle.mz_asm.specs.declared.line.Line.{Line}
 use Rattle.mz_asm.specs.declared.rows.Rows.{Rows}
@@ -45,9 +46,6 @@ no-line l e = absurd cc
 line-some : (bytes : List ℕ) (l : Line) → line_in bytes ≡ Some l → 0 < length bytes
 line-some [] l e = absurd (no-line l e)
 line-some (c ∷ cs) l e = omega arith
-
-take-short : (n : ℕ) (xs : List ℕ) → length (take n xs) ≤ n
-take-short n xs = let is = length-take n xs in omega (arith, is)
 
 -- one line more
 pub goes-on : (text : List ℕ) (m : Made) (rest : List ℕ) (line : ℕ) (new : Made) → HasRead text m rest line → newline_at rest < length rest → IsAdded m (before_first (λ b. b == 10) rest) new → HasRead text new (behind_line rest) (line + 1)

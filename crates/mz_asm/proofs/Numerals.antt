@@ -1,13 +1,12 @@
 -- Numbers and words that a listing's bytes write.
 use Rattle.std.proofs.Common.{◌≡◌, ◌<◌, ◌+◌, ◌*◌, ◌-◌, ◌^◌, min, ℕ, zero, suc, Bool, true, false, cond, List, [], ◌∷◌, length, take, get_or, Result, Ok, Err, Some, None, refl, sym, ap, subst, ◌∙◌, arith}
-use Rattle.std.specs.Prelude.{◌&&◌, bytes_eq}
+use Rattle.std.specs.Prelude.{bytes_eq}
 use Rattle.std.specs.Int.{w64, from_be_bytes, to_be_bytes, bytes_high_first}
-use Rattle.std.specs.Bool.{Decides}
 use Rattle.std.proofs.lemmas.Bool.Decides.{nat_tests}
 use Rattle.std.proofs.lemmas.Int.Digits.{digits_value_more}
 use Rattle.std.proofs.lemmas.Nat.{be_bytes_8, from_be_bytes-to_be_bytes_8}
-use Rattle.std.proofs.lemmas.Slice.Eq.{bytes_eq-Decides}
 use Rattle.std.proofs.lemmas.Str.{digit_value_digit}
+use Rattle.mz_general.proofs.Offered.{both-true, same-bytes}
 use Rattle.hex.specs.Hex.{encode_lower, decode_sized, IsBytes}
 use Rattle.hex.specs.declared.error.FromHexError.{FromHexError}
 use Rattle.hex.proofs.HexLemmas.{decode_of-ok, decode_sized-ok, decode_sized-twice, decode_sized-encode_lower}
@@ -18,20 +17,9 @@ use Rattle.mz_asm.specs.Numbers.{are_digits, is_numeral, number_of, IsNumber, nu
 
 -- ---- tests
 
-pub both-true : (a b : Bool) → (a && b) ≡ true → (a ≡ true) × (b ≡ true)
-both-true true b is = (refl, is)
-both-true false b is = absurd cc
-
 pub some-if : {A : Type 0} (b : Bool) (x y : A) → cond b (Some x) None ≡ Some y → (b ≡ true) × (x ≡ y)
 some-if true x y e = (refl, cc)
 some-if false x y e = absurd cc
-
-pub same-bytes : (xs ys : List ℕ) → bytes_eq xs ys ≡ true → xs ≡ ys
-same-bytes xs ys e = go (bytes_eq xs ys) (bytes_eq-Decides xs ys) e
-  where
-    go : (b : Bool) → Decides b (xs ≡ ys) → b ≡ true → xs ≡ ys
-    go true by e = by.0 refl
-    go false by e = absurd cc
 
 pub bytes-same : (xs : List ℕ) → bytes_eq xs xs ≡ true
 bytes-same [] = refl

@@ -3,10 +3,11 @@ use Rattle.std.proofs.Common.{◌≡◌, ◌∙◌, ◌≤◌, ◌<◌, ◌+◌,
 use Rattle.std.specs.Prelude.{◌↔◌, All}
 use Rattle.std.proofs.lemmas.List.{drop-drop, drop-take, length-drop}
 use Rattle.std.proofs.lemmas.List.Elements.{All-nil, All-cons, All-head, All-tail, All-append}
+use Rattle.mz_general.proofs.Offered.{take-short}
 use Rattle.mz_cmd.specs.declared.command.Cmd.{Cmd}
 use Rattle.mz_cmd.specs.declared.command.CmdFault.{CmdFault}
 use Rattle.mz_cmd.specs.Reading.{first_command}
-use Rattle.mz_unification.proofs.Offered.{command-long}
+use Rattle.mz_unification.proofs.Offered.{command-long, cmd-is}
 use Rattle.mz_soundness.specs.Sound.{IsCitation, CitesWithin}
 use Rattle.mz_layout.specs.Heads.{body_bytes}
 use Rattle.mz_axioms.specs.Commands.{StandThere, length_of, IsCiting, IsCitedIn}
@@ -14,9 +15,6 @@ use Rattle.mz_axioms.specs.Citations.{IsFirstCitation, CiteNothing, IsFirstIn}
 
 abbrev pub IsSilent : Cmd → Type 0
 IsSilent c = IsCiting c → ⊥
-
-one-command : (bytes : List ℕ) (c d : Cmd) → first_command bytes ≡ Ok c → first_command bytes ≡ Ok d → c ≡ d
-one-command bytes c d e f = let both : Ok c ≡ Ok d = sym e ∙ f in cc
 
 no-command : (bytes : List ℕ) (c : Cmd) (f : CmdFault) → first_command bytes ≡ Err f → first_command bytes ≡ Ok c → ⊥
 no-command bytes c f e read = let both : Err f ≡ Ok c = sym e ∙ read in cc
@@ -36,11 +34,11 @@ cited-step : (bytes : List ℕ) (c : Cmd) (T : ℕ) → first_command bytes ≡ 
 cited-step bytes c T read = (λ r. there r.before r.command r.stand r.cites, back)
   where
     there : (cs : List Cmd) (d : Cmd) → StandThere bytes (cs ++ d ∷ []) → IsCitation d T → IsCitation c T ⊎ IsCitedIn (drop c.len bytes) T
-    there [] d (read', _) cites = inl (subst (λ z. IsCitation z T) (one-command bytes d c read' read) cites)
+    there [] d (read', _) cites = inl (subst (λ z. IsCitation z T) (cmd-is bytes d c read' read) cites)
     there (e ∷ cs) d (read', stand) cites = inr (record {
       before = cs;
       command = d;
-      stand = subst (λ (z : Cmd). StandThere (drop z.len bytes) (cs ++ d ∷ [])) (one-command bytes e c read' read) stand;
+      stand = subst (λ (z : Cmd). StandThere (drop z.len bytes) (cs ++ d ∷ [])) (cmd-is bytes e c read' read) stand;
       cites = cites;
     })
 
@@ -105,10 +103,10 @@ none-behind : (cs ds : List Cmd) (d : Cmd) (bytes : List ℕ) (f : CmdFault) →
 none-behind [] [] d bytes f stand silent ends (read, _) citing = no-command bytes d f ends read
 none-behind [] (e ∷ ds) d bytes f stand silent ends (read, _) citing = no-command bytes e f ends read
 none-behind (c ∷ cs) [] d bytes f (here, _) silent ends (read, _) citing =
-    All-head IsSilent c cs silent (subst IsCiting (one-command bytes d c read here) citing)
+    All-head IsSilent c cs silent (subst IsCiting (cmd-is bytes d c read here) citing)
 none-behind (c ∷ cs) (e ∷ ds) d bytes f (here, stand) silent ends (read, others) citing =
     none-behind cs ds d (drop c.len bytes) f stand (All-tail IsSilent c cs silent) (ap (λ bs. first_command bs) (drop-drop (length_of cs) c.len bytes) ∙ ends)
-    (subst (λ (z : Cmd). StandThere (drop z.len bytes) (ds ++ d ∷ [])) (one-command bytes e c read here) others) citing
+    (subst (λ (z : Cmd). StandThere (drop z.len bytes) (ds ++ d ∷ [])) (cmd-is bytes e c read here) others) citing
 
 pub passed-none : (bytes : List ℕ) (at : ℕ) (f : CmdFault) → Passed bytes at → first_command (drop at bytes) ≡ Err f → CiteNothing bytes
 passed-none bytes at f p ends row r =
@@ -122,13 +120,13 @@ first-is-cited bytes at row next h = record { before = h.before; command = h.com
 one-first : (cs ds : List Cmd) (c d : Cmd) (bytes : List ℕ) → StandThere bytes (cs ++ c ∷ []) → StandThere bytes (ds ++ d ∷ []) → All IsSilent cs → All IsSilent ds → IsCiting c → IsCiting d
     → (c ≡ d) × (length_of (cs ++ c ∷ []) ≡ length_of (ds ++ d ∷ []))
 one-first [] [] c d bytes (here, _) (there, _) cs-silent ds-silent c-cites d-cites =
-    let same = one-command bytes c d here there in (same, ap (λ (z : Cmd). length_of (z ∷ [])) same)
+    let same = cmd-is bytes c d here there in (same, ap (λ (z : Cmd). length_of (z ∷ [])) same)
 one-first [] (e ∷ ds) c d bytes (here, _) (there, _) cs-silent ds-silent c-cites d-cites =
-    absurd (All-head IsSilent e ds ds-silent (subst IsCiting (one-command bytes c e here there) c-cites))
+    absurd (All-head IsSilent e ds ds-silent (subst IsCiting (cmd-is bytes c e here there) c-cites))
 one-first (e ∷ cs) [] c d bytes (here, _) (there, _) cs-silent ds-silent c-cites d-cites =
-    absurd (All-head IsSilent e cs cs-silent (subst IsCiting (one-command bytes d e there here) d-cites))
+    absurd (All-head IsSilent e cs cs-silent (subst IsCiting (cmd-is bytes d e there here) d-cites))
 one-first (e ∷ cs) (g ∷ ds) c d bytes (here, stand) (there, others) cs-silent ds-silent c-cites d-cites =
-    let same = one-command bytes g e there here in
+    let same = cmd-is bytes g e there here in
     let rest = one-first cs ds c d (drop e.len bytes) stand (subst (λ (z : Cmd). StandThere (drop z.len bytes) (ds ++ d ∷ [])) same others)
     (All-tail IsSilent e cs cs-silent) (All-tail IsSilent g ds ds-silent) c-cites d-cites in
     let same-length : e.len ≡ g.len = ap (λ (z : Cmd). z.len) (sym same) in
@@ -174,11 +172,6 @@ behind-first (d ∷ cs) c bytes U (here, stand) silent cites T =
 
 -- ---- between two places of a file
 
-length-take-le : {A : Type 0} (n : ℕ) (xs : List A) → length (take n xs) ≤ n
-length-take-le zero xs = omega arith
-length-take-le (suc n) [] = omega arith
-length-take-le (suc n) (x ∷ xs) = let h = length-take-le n xs in omega (arith, h)
-
 rest-at : (file : List ℕ) (pos after next : ℕ) → pos < after → after ≤ next → drop (after - pos) (body_bytes file pos next) ≡ body_bytes file after next
 rest-at file pos after next lt le =
     ap (λ n. drop (after - pos) (take n (drop pos file))) (omega (arith, lt, le))
@@ -197,7 +190,7 @@ cited-between file pos end order (Some (U, after)) first =
     let bytes = body_bytes file pos end in
     let (some, within) = stand-long first.before bytes first.command first.stand in
     let ends = first.ends in
-    let short = length-take-le (end - pos) (drop pos file) in
+    let short = take-short (end - pos) (drop pos file) in
     let lt : pos < after = omega (arith, ends, some) in
     let le : after ≤ end = omega (arith, ends, within, short, order) in
     let behind : drop (length_of (first.before ++ first.command ∷ [])) bytes ≡ body_bytes file after end =

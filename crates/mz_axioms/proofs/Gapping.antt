@@ -2,6 +2,7 @@
 use Rattle.std.proofs.Common.{◌≡◌, ◌∙◌, ◌<◌, ℕ, zero, suc, Bool, true, false, List, [], ◌∷◌, ◌++◌, length, refl, sym, ap, subst, inl, inr, arith, append_assoc}
 use Rattle.std.specs.Prelude.{All, MatchBool}
 use Rattle.std.proofs.lemmas.List.Elements.{All-append}
+use Rattle.std.proofs.lemmas.Option.{slice_get_within}
 use Rattle.mz_files.specs.Gapped.{GappedIn}
 use Rattle.mz_logic.specs.Declaration.{Declaration, sort_decl, term_decl, assertion_decl, assertions}
 use Rattle.mz_logic.specs.LegalLists.{Statement, declarations}
@@ -12,7 +13,6 @@ use Rattle.mz_match.specs.Drafts.{IsGapOf, ListsGaps}
 use Rattle.mz_verdicts.specs.Match.{publics, Agrees}
 use Rattle.mz_verdicts.proofs.Offered.{length-env}
 use Rattle.mz_axioms.specs.Gaps.{AreGapsOf}
-use Rattle.mz_axioms.proofs.Increasing.{get-within}
 use Rattle.mz_axioms.proofs.Placing.{declared-at}
 
 abbrev Below : ℕ → List ℕ → Type 0
@@ -43,7 +43,7 @@ lists-below G ds before [] places agrees none = none-below (length ds) places no
 lists-below G ds before (s ∷ ss) places agrees (here, rest, is, gap, more) =
     let first : Below (length ds) here = of-statement s.is_local (length ds) here (IsGapOf G (length (publics before)) (length (assertions (declarations before))) s.decl here)
     (λ open_ one. let (d, there, same) = declared-at ds before ss s agrees open_ in
-    of-declared G (length ds) (length (publics before)) (length (assertions (declarations before))) s.decl here (get-within ds (length (publics before)) d there) one) gap in
+    of-declared G (length ds) (length (publics before)) (length (assertions (declarations before))) s.decl here (slice_get_within ds (length (publics before)) d there) one) gap in
     let later = lists-below G ds (before ++ s ∷ []) ss rest (subst (λ xs. Agrees ds (publics xs)) (sym (append_assoc before (s ∷ []) ss)) agrees) more in
     subst (Below (length ds)) (sym is) (All-append (λ k. k < length ds) here rest first later)
 

@@ -1,23 +1,18 @@
 -- Ascending lists of numbers.
-use Rattle.std.proofs.Common.{◌≡◌, ◌∙◌, ◌≤◌, ◌<◌, ◌+◌, ◌⊎◌, ℕ, zero, suc, List, [], ◌∷◌, ◌++◌, map, length, get_or, slice_get, Some, refl, ap, subst, inl, inr, arith}
+use Rattle.std.proofs.Common.{◌≡◌, ◌≤◌, ◌<◌, ◌+◌, ℕ, zero, suc, List, [], ◌∷◌, ◌++◌, map, length, get_or, inl, inr, arith}
 use Rattle.std.specs.Prelude.{All, Contains}
 use Rattle.std.specs.List.Sorted.{IsStrictlyIncreasing}
 use Rattle.std.proofs.lemmas.List.{get_or_append_left, get_or_push, length_push, length-map, get_or-map}
 use Rattle.std.proofs.lemmas.List.Elements.{Contains-get_or}
 use Rattle.std.proofs.lemmas.List.Kept.{AllPairs-from_increasing}
-use Rattle.mz_logic.proofs.Offered.{one_at, none_some}
-
-pub less-or : (a b : ℕ) → (a < b) ⊎ (b ≤ a)
-less-or a zero = inr (omega arith)
-less-or zero (suc b) = inl (omega arith)
-less-or (suc a) (suc b) = elim (less-or a b) [ inl l ↦ inl (omega (arith, l)) | inr g ↦ inr (omega (arith, g)) ]
+use Rattle.std.proofs.lemmas.Bool.{cases_lt}
 
 pub increasing-push : (xs : List ℕ) (x : ℕ) → IsStrictlyIncreasing xs → All (λ y. y < x) xs → IsStrictlyIncreasing (xs ++ x ∷ [])
 increasing-push xs x up below k lt =
     let long = length_push xs x in
     let first : k < length xs = omega (arith, lt, long) in
     let a = get_or_append_left xs (x ∷ []) 0 k first in
-    elim (less-or (k + 1) (length xs)) [
+    elim (cases_lt (k + 1) (length xs)) [
       | inl inside ↦ (let b = get_or_append_left xs (x ∷ []) 0 (k + 1) inside in let c = up k inside in omega (arith, a, b, c))
       | inr past ↦ (
           let b = get_or_push xs x 0 (k + 1) (omega (arith, past, first)) in
@@ -53,26 +48,3 @@ increasing-few (x ∷ xs) n up below =
     let a = at-least (x ∷ xs) (length xs) up (omega arith) in
     let b = below (length xs) 0 (omega arith) in
     omega (arith, a, b)
-
--- ---- elements by their places
-
-pub get-within : {A : Type 0} (xs : List A) (k : ℕ) (x : A) → slice_get xs k ≡ Some x → k < length xs
-get-within [] k x at = absurd (none_some at)
-get-within (y ∷ xs) zero x at = omega arith
-get-within (y ∷ xs) (suc k) x at = let h = get-within xs k x at in omega (arith, h)
-
-pub get-is : {A : Type 0} (xs : List A) (k : ℕ) (x d : A) → slice_get xs k ≡ Some x → get_or xs k d ≡ x
-get-is [] k x d at = absurd (none_some at)
-get-is (y ∷ xs) zero x d at = one_at refl at
-get-is (y ∷ xs) (suc k) x d at = get-is xs k x d at
-
-pub get-there : {A : Type 0} (xs : List A) (k : ℕ) (d : A) → k < length xs → slice_get xs k ≡ Some (get_or xs k d)
-get-there [] k d lt = absurd (omega (arith, lt))
-get-there (y ∷ xs) zero d lt = refl
-get-there (y ∷ xs) (suc k) d lt = get-there xs k d (omega (arith, lt))
-
-pub get-contained : {A : Type 0} (xs : List A) (k : ℕ) (x : A) → slice_get xs k ≡ Some x → Contains xs x
-get-contained xs k x at = subst (Contains xs) (get-is xs k x x at) (Contains-get_or xs k x (get-within xs k x at))
-
-pub contained-get : {A : Type 0} (xs : List A) (x : A) → Contains xs x → (k : ℕ) × (slice_get xs k ≡ Some x)
-contained-get xs x (k, lt, is) = (k, get-there xs k x lt ∙ ap (λ y. Some y) is)

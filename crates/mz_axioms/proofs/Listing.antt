@@ -3,9 +3,11 @@ use Rattle.std.proofs.Common.{◌≡◌, ◌∙◌, ◌<◌, ℕ, zero, suc, Boo
 use Rattle.std.specs.Prelude.{All, Contains, flat_map, if◌then◌else◌, not, ◌&&◌}
 use Rattle.std.proofs.lemmas.List.{map-append}
 use Rattle.std.proofs.lemmas.List.Elements.{All-nil, All-cons, All-append}
-use Rattle.mz_logic.specs.Declaration.{Declaration, Assertion, sort_decl, term_decl, assertion_decl}
-use Rattle.mz_logic.specs.LegalLists.{Statement, declarations, MayBeLocal, IsProvedBy, Legal, gap_free}
-use Rattle.mz_logic.proofs.Offered.{one_at, none_some, legal_at}
+use Rattle.std.proofs.lemmas.Option.{none-some, slice_get_within}
+use Rattle.mz_general.proofs.Offered.{slice_get-some, slice_get-map_back, slice_get-map_at, place-of as contained-get, contains_at}
+use Rattle.mz_logic.specs.Declaration.{Declaration, sort_decl, term_decl, assertion_decl}
+use Rattle.mz_logic.specs.LegalLists.{Statement, declarations, IsProvedBy, Legal, gap_free}
+use Rattle.mz_logic.proofs.Offered.{one_at, legal_at}
 use Rattle.mz_layout.specs.Tables.{list_at}
 use Rattle.mz_cmd.specs.StatementList.{statement_at}
 use Rattle.mz_files.specs.Good.{Good}
@@ -20,38 +22,24 @@ use Rattle.mz_axioms.specs.Places.{StandsFor, theorems_of, place_there, places_f
 use Rattle.mz_walk.specs.Walk.{past_public}
 use Rattle.mz_axioms.specs.Lists.{TheoremSupport, IsSupportOf, AreSupports}
 use Rattle.mz_axioms.specs.Rows.{Tells, TellsAll, number_at, number_in, support_of, supports_at, supports_of}
-use Rattle.mz_axioms.proofs.Increasing.{increasing-map, get-contained, contained-get, get-within}
+use Rattle.mz_axioms.proofs.Increasing.{increasing-map}
 use Rattle.mz_axioms.proofs.Supporting.{support-axiom, one-kind, kind-within}
 use Rattle.mz_axioms.proofs.Placing.{IsPlaceOf, place-of, numbers-grow, declared-at, publics-count, listed_number, listed_numbers, theorems-listed}
 use Rattle.mz_axioms.proofs.Resting.{rest-on-supports}
 use Rattle.mz_axioms.proofs.Telling.{rows-many}
 use Rattle.mz_files.specs.Standards.{strict_standard}
+use Rattle.mz_verdicts.proofs.Offered.{never-local}
 
 -- ---- lists
 
-get-map : {A B : Type 0} (f : A → B) (xs : List A) (k : ℕ) (x : A) → slice_get xs k ≡ Some x → slice_get (map f xs) k ≡ Some (f x)
-get-map f [] k x at = absurd (none_some at)
-get-map f (y ∷ xs) zero x at = ap (λ z. Some (f z)) (one_at refl at)
-get-map f (y ∷ xs) (suc k) x at = get-map f xs k x at
-
-get-some : {A : Type 0} (xs : List A) (k : ℕ) → k < length xs → (x : A) × (slice_get xs k ≡ Some x)
-get-some [] k lt = absurd (omega (arith, lt))
-get-some (x ∷ xs) zero lt = (x, refl)
-get-some (x ∷ xs) (suc k) lt = get-some xs k (omega (arith, lt))
-
-map-back : {A B : Type 0} (f : A → B) (xs : List A) (k : ℕ) (y : B) → slice_get (map f xs) k ≡ Some y → (x : A) × (slice_get xs k ≡ Some x) × (f x ≡ y)
-map-back f [] k y at = absurd (none_some at)
-map-back f (x ∷ xs) zero y at = (x, refl, one_at refl at)
-map-back f (x ∷ xs) (suc k) y at = map-back f xs k y at
-
 contains-map : {A B : Type 0} (f : A → B) (xs : List A) (x : A) → Contains xs x → Contains (map f xs) (f x)
-contains-map f xs x has = let (k, at) = contained-get xs x has in get-contained (map f xs) k (f x) (get-map f xs k x at)
+contains-map f xs x has = let (k, at) = contained-get xs x has in contains_at (map f xs) k (f x) (slice_get-map_at f xs k x at)
 
 map-contains : {A B : Type 0} (f : A → B) (xs : List A) (y : B) → Contains (map f xs) y → (x : A) × Contains xs x × (f x ≡ y)
 map-contains f xs y has =
     let (k, at) = contained-get (map f xs) y has in
-    let (x, there, is) = map-back f xs k y at in
-    (x, get-contained xs k x there, is)
+    let (x, there, is) = slice_get-map_back f xs k y at in
+    (x, contains_at xs k x there, is)
 
 all-flat : {A B : Type 0} (P : B → Type 0) (f : A → List B) (xs : List A) → ((k : ℕ) (x : A) → slice_get xs k ≡ Some x → All P (f x)) → All P (flat_map f xs)
 all-flat P f [] each = All-nil P
@@ -72,7 +60,7 @@ theorem-numbers whole (r ∷ rows) =
 
 -- a body and a place of one row are of one kind
 kinds-same : (file : List ℕ) (at k : ℕ) (ss : List Statement) (T : ℕ) (b : AssertionBody) (p : Place) → slice_get (bodies_from file at ss) T ≡ Some b → slice_get (places_from k ss) T ≡ Some p → b.is_axiom ≡ p.is_axiom
-kinds-same file at k [] T b p at-b at-p = absurd (none_some at-b)
+kinds-same file at k [] T b p at-b at-p = absurd (none-some _ at-b)
 kinds-same file at k (s ∷ ss) T b p at-b at-p = go s.decl T at-b at-p (λ U x y. kinds-same file (place_after (statement_at file at)) (past_public k s.is_local) ss U b p x y)
   where
     Bodies : List AssertionBody
@@ -91,11 +79,6 @@ kinds-same file at k (s ∷ ss) T b p at-b at-p = go s.decl T at-b at-p (λ U x 
         let p-is : record { number = k; is_axiom = a.is_axiom; is_local = s.is_local } ≡ p = one_at refl y in
         sym (ap (λ (z : AssertionBody). z.is_axiom) b-is) ∙ ap (λ (z : Place). z.is_axiom) p-is
 
--- no axiom is local
-never-local : (s : Statement) (b : Assertion) (local : Bool) → s.is_local ≡ local → (s.is_local ≡ true → MayBeLocal s.decl) → s.decl ≡ assertion_decl b → b.is_axiom ≡ true → s.is_local ≡ false
-never-local s b false is may says is_axiom = is
-never-local s b true is may says is_axiom = let theorem : b.is_axiom ≡ false = subst MayBeLocal says (may is) in absurd cc
-
 listed-is : (p : Place) (x y : Bool) → p.is_axiom ≡ x → p.is_local ≡ y → is_listed p ≡ true → (x ≡ false) × (y ≡ false)
 listed-is p true y is-x is-y is = absurd (let e : (not true && not y) ≡ true = ap (λ z. not z && not y) (sym is-x) ∙ ap (λ z. not p.is_axiom && not z) (sym is-y) ∙ is in cc)
 listed-is p false true is-x is-y is = absurd (let e : (not false && not true) ≡ true = ap (λ z. not z && not true) (sym is-x) ∙ ap (λ z. not p.is_axiom && not z) (sym is-y) ∙ is in cc)
@@ -103,7 +86,7 @@ listed-is p false false is-x is-y is = (refl, refl)
 
 module _ (file : List ℕ) (ds : List Declaration) (ss : List Statement) (rows : List Row) (good : Good strict_standard file ss) (agrees : Agrees ds (publics ss)) (told : TellsAll file ss rows) where
   place-there : (T : ℕ) (r : Row) → slice_get rows T ≡ Some r → slice_get (places_from 0 ss) T ≡ Some r.place
-  place-there T r at = subst (λ (ps : List Place). slice_get ps T ≡ Some r.place) told.places (get-map (λ (x : Row). x.place) rows T r at)
+  place-there T r at = subst (λ (ps : List Place). slice_get ps T ≡ Some r.place) told.places (slice_get-map_at (λ (x : Row). x.place) rows T r at)
 
   stands-for : (T : ℕ) (p : Place) (h : IsPlaceOf 0 ss T p) → h.statement.is_local ≡ false → StandsFor ds ss p.number T
   stands-for T p h public_ =
@@ -138,7 +121,7 @@ module _ (file : List ℕ) (ds : List Declaration) (ss : List Statement) (rows :
   axiom-row A kind =
       let many = rows-many file ss rows told in
       let inside : A < length rows = (let w = kind-within (bodies_of file ss) true A kind in omega (arith, w, many)) in
-      let (r, at) = get-some rows A inside in
+      let (r, at) = slice_get-some rows A inside in
       let place = place-there A r at in
       let h = place-of 0 ss A r.place place in
       let ax : r.place.is_axiom ≡ true = sym (kinds-same file (list_at file) 0 ss A kind.body r.place kind.there place) ∙ kind.is in
@@ -180,8 +163,8 @@ module _ (file : List ℕ) (ds : List Declaration) (ss : List Statement) (rows :
 
       kind : IsKind (bodies_of file ss) false T
       kind =
-          let inside : T < length (bodies_of file ss) = (let w = get-within rows T r at in let many = rows-many file ss rows told in omega (arith, w, many)) in
-          let (b, there) = get-some (bodies_of file ss) T inside in
+          let inside : T < length (bodies_of file ss) = (let w = slice_get_within rows T r at in let many = rows-many file ss rows told in omega (arith, w, many)) in
+          let (b, there) = slice_get-some (bodies_of file ss) T inside in
           record { body = b; there = there; is = kinds-same file (list_at file) 0 ss T b r.place there (place-there T r at) ∙ both.0 }
 
       all : (A : ℕ) → InSupport (bodies_of file ss) T A → (a : ℕ) × StandsFor ds ss a A × Contains (map (number_at rows) r.axioms.items) a

@@ -1,30 +1,24 @@
 -- The union of two ascending lists.
-use Rattle.std.proofs.Common.{◌≡◌, ◌∙◌, ◌≤◌, ◌<◌, ◌+◌, ◌-◌, ◌⊎◌, ℕ, zero, suc, List, [], ◌∷◌, ◌++◌, length, get_or, slice_get, Option, Some, None, refl, sym, ap, subst, inl, inr, arith}
+use Rattle.std.proofs.Common.{◌≡◌, ◌∙◌, ◌≤◌, ◌<◌, ◌+◌, ◌-◌, ◌⊎◌, ℕ, List, [], ◌∷◌, ◌++◌, length, get_or, slice_get, Some, sym, ap, subst, inl, inr, arith}
 use Rattle.std.specs.Prelude.{◌↔◌, All, Contains}
 use Rattle.std.specs.List.Sorted.{IsStrictlyIncreasing}
 use Rattle.std.proofs.lemmas.List.Elements.{Contains-push, Contains-push_cases, Contains-append_left, Contains-get_or}
-use Rattle.mz_logic.proofs.Offered.{one_at, none_some}
-use Rattle.mz_axioms.proofs.Increasing.{less-or, increasing-push, increasing-pair, get-within, get-is, get-there, get-contained, contained-get}
+use Rattle.std.proofs.lemmas.Option.{slice_get_within, get_or_from_slice_get, slice_get-get_or}
+use Rattle.std.proofs.lemmas.Bool.{cases_lt}
+use Rattle.mz_general.proofs.Offered.{contains_none, place-of, contains_at}
+use Rattle.mz_logic.proofs.Offered.{one_at}
+use Rattle.mz_verdicts.proofs.Offered.{row-decided}
+use Rattle.mz_axioms.proofs.Increasing.{increasing-push, increasing-pair}
 
 -- x stands in the list from the i-th place on
 abbrev pub StandsFrom : List ℕ → ℕ → ℕ → Type 0
 StandsFrom xs i x = (k : ℕ) × (i ≤ k) × (slice_get xs k ≡ Some x)
 
 pub from-first : (xs : List ℕ) (x : ℕ) → StandsFrom xs 0 x ↔ Contains xs x
-from-first xs x = (λ (k, le, at). get-contained xs k x at, λ has. let (k, at) = contained-get xs x has in (k, omega arith, at))
+from-first xs x = (λ (k, le, at). contains_at xs k x at, λ has. let (k, at) = place-of xs x has in (k, omega arith, at))
 
 pub from-past : (xs : List ℕ) (i x : ℕ) → length xs ≤ i → StandsFrom xs i x → ⊥
-from-past xs i x past (k, le, at) = let lt = get-within xs k x at in omega (arith, past, le, lt)
-
-same-or-not : (a b : ℕ) → (a ≡ b) ⊎ (a ≡ b → ⊥)
-same-or-not zero zero = inl refl
-same-or-not zero (suc b) = inr (λ e. omega (arith, e))
-same-or-not (suc a) zero = inr (λ e. omega (arith, e))
-same-or-not (suc a) (suc b) = elim (same-or-not a b) [ inl e ↦ inl (ap (λ n. suc n) e) | inr n ↦ inr (λ e. n (omega (arith, e))) ]
-
-is-or-not : (o : Option ℕ) (row : ℕ) → (o ≡ Some row) ⊎ (o ≡ Some row → ⊥)
-is-or-not None row = inr none_some
-is-or-not (Some x) row = elim (same-or-not x row) [ inl e ↦ inl (ap (λ y. Some y) e) | inr n ↦ inr (λ e. n (one_at refl e)) ]
+from-past xs i x past (k, le, at) = let lt = slice_get_within xs k x at in omega (arith, past, le, lt)
 
 -- one of the lists, before a row that is no more than its next, and after it
 pub record Side (xs : List ℕ) (i row i' : ℕ) : Type 0 where
@@ -35,20 +29,20 @@ pub record Side (xs : List ℕ) (i row i' : ℕ) : Type 0 where
 
 pub side : (xs : List ℕ) (i row i' : ℕ) → IsStrictlyIncreasing xs → (slice_get xs i ≡ Some row → i' ≡ i + 1) → ((slice_get xs i ≡ Some row → ⊥) → i' ≡ i)
     → ((a : ℕ) → slice_get xs i ≡ Some a → row ≤ a) → Side xs i row i'
-side xs i row i' up moves stays least = elim (is-or-not (slice_get xs i) row) [ inl here ↦ moved here (moves here) | inr other ↦ stayed other (stays other) ]
+side xs i row i' up moves stays least = elim (row-decided (slice_get xs i) row) [ inl here ↦ moved here (moves here) | inr other ↦ stayed other (stays other) ]
   where
     moved : slice_get xs i ≡ Some row → i' ≡ i + 1 → Side xs i row i'
     moved here is = record {
-      there = λ a (k, le, at). elim (less-or i k) [
+      there = λ a (k, le, at). elim (cases_lt i k) [
         | inl past ↦ inl (k, omega (arith, past, is), at)
         | inr low ↦ inr (let same : k ≡ i = omega (arith, le, low) in one_at (subst (λ n. slice_get xs n ≡ Some a) same at) here)
       ];
       back = λ a (k, le, at). (k, omega (arith, le, is), at);
       above = λ a (k, le, at). (
-          let lt = get-within xs k a at in
+          let lt = slice_get_within xs k a at in
           let pair = increasing-pair xs i k up (omega (arith, le, is)) lt in
-          let first = get-is xs i row 0 here in
-          let later = get-is xs k a 0 at in
+          let first = get_or_from_slice_get xs i row 0 here in
+          let later = get_or_from_slice_get xs k a 0 at in
           omega (arith, pair, first, later)
           );
       on = omega (arith, is);
@@ -57,15 +51,15 @@ side xs i row i' up moves stays least = elim (is-or-not (slice_get xs i) row) [ 
     -- the first of those left is more than the row, and no other one is less
     first-above : (slice_get xs i ≡ Some row → ⊥) → (a k : ℕ) → i ≤ k → slice_get xs k ≡ Some a → row < a
     first-above other a k le at =
-        let lt = get-within xs k a at in
-        let first = get-there xs i 0 (omega (arith, le, lt)) in
+        let lt = slice_get_within xs k a at in
+        let first = slice_get-get_or xs i 0 (omega (arith, le, lt)) in
         let low = least (get_or xs i 0) first in
-        let later = get-is xs k a 0 at in
-        let more : row < get_or xs i 0 = elim (less-or row (get_or xs i 0)) [
+        let later = get_or_from_slice_get xs k a 0 at in
+        let more : row < get_or xs i 0 = elim (cases_lt row (get_or xs i 0)) [
           | inl l ↦ l
           | inr ge ↦ absurd (other (first ∙ ap (λ n. Some n) (let e : get_or xs i 0 ≡ row = omega (arith, low, ge) in e)))
         ] in
-        elim (less-or i k) [
+        elim (cases_lt i k) [
           | inl past ↦ (let pair = increasing-pair xs i k up past lt in omega (arith, pair, later, more))
           | inr same ↦ (let e : get_or xs k 0 ≡ get_or xs i 0 = ap (λ n. get_or xs n 0) (omega (arith, le, same)) in omega (arith, e, later, more))
         ]
@@ -85,18 +79,15 @@ pub record Merged (left right : List ℕ) (i j : ℕ) (rows : List ℕ) : Type 0
   pub below_left : (x a : ℕ) → Contains rows x → StandsFrom left i a → x < a
   pub below_right : (x a : ℕ) → Contains rows x → StandsFrom right j a → x < a
 
-none-there : {A : Type 0} (x : A) → Contains [] x → ⊥
-none-there x (k, lt, is) = omega (arith, lt)
-
 pub merged-first : (left right : List ℕ) → Merged left right 0 0 []
 merged-first left right = record {
   all = λ a. (
-    λ h. elim h [ inl no_ ↦ absurd (none-there a no_) | inr r ↦ elim r [ inl l ↦ inl ((from-first left a).0 l) | inr q ↦ inr ((from-first right a).0 q) ] ],
+    λ h. elim h [ inl no_ ↦ absurd (contains_none a no_) | inr r ↦ elim r [ inl l ↦ inl ((from-first left a).0 l) | inr q ↦ inr ((from-first right a).0 q) ] ],
     λ h. elim h [ inl l ↦ inr (inl ((from-first left a).1 l)) | inr q ↦ inr (inr ((from-first right a).1 q)) ],
   );
   in_order = λ k lt. absurd (omega (arith, lt));
-  below_left = λ x a has. absurd (none-there x has);
-  below_right = λ x a has. absurd (none-there x has);
+  below_left = λ x a has. absurd (contains_none x has);
+  below_right = λ x a has. absurd (contains_none x has);
 }
 
 pub merged-last : (left right : List ℕ) (i j : ℕ) (rows : List ℕ) → Merged left right i j rows → length left ≤ i → length right ≤ j → (a : ℕ) → Contains rows a ↔ (Contains left a ⊎ Contains right a)
@@ -147,6 +138,6 @@ pub merged-less : (left right : List ℕ) (i j row i' j' : ℕ) → (slice_get l
     → (slice_get left i ≡ Some row → i' ≡ i + 1) → (slice_get right j ≡ Some row → j' ≡ j + 1) → Side left i row i' → Side right j row j'
     → (length left - i') + (length right - j') < (length left - i) + (length right - j)
 merged-less left right i j row i' j' is move-left move-right l r = elim is [
-  | inl at ↦ (let a = get-within left i row at in let b = move-left at in let c = r.on in omega (arith, a, b, c))
-  | inr at ↦ (let a = get-within right j row at in let b = move-right at in let c = l.on in omega (arith, a, b, c))
+  | inl at ↦ (let a = slice_get_within left i row at in let b = move-left at in let c = r.on in omega (arith, a, b, c))
+  | inr at ↦ (let a = slice_get_within right j row at in let b = move-right at in let c = l.on in omega (arith, a, b, c))
 ]

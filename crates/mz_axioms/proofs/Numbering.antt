@@ -3,17 +3,17 @@ use Rattle.std.proofs.Common.{◌≡◌, ◌∙◌, ◌≤◌, ◌<◌, ◌+◌,
 use Rattle.std.specs.Prelude.{All, flat_map, if◌then◌else◌}
 use Rattle.std.proofs.lemmas.List.{length-map, map_more}
 use Rattle.std.proofs.lemmas.List.Elements.{All-nil, All-cons, All-append, All-head, All-tail, All-take, All-weaker}
+use Rattle.std.proofs.lemmas.Option.{slice_get-get_or}
 use Rattle.mz_axioms.specs.declared.rows.Row.{Row}
 use Rattle.mz_axioms.specs.Lists.{TheoremSupport, AreSmall}
 use Rattle.mz_axioms.specs.Places.{is_listed}
 use Rattle.mz_axioms.specs.Rows.{number_in, number_at, support_of, supports_at, AreFew}
-use Rattle.mz_axioms.proofs.Increasing.{get-there}
 
 -- one number more
 pub numbers-more : (rows : List Row) (xs old new : List ℕ) (i A : ℕ) (r : Row) → i < length xs → A ≡ get_or xs i 0 → A < length rows → r ≡ get_or rows A r
     → new ≡ old ++ r.place.number ∷ [] → old ≡ map (number_at rows) (take i xs) → new ≡ map (number_at rows) (take (i + 1) xs)
 numbers-more rows xs old new i A r lt is inside read pushed so_far =
-    let at : slice_get rows A ≡ Some r = get-there rows A r inside ∙ ap (λ (x : Row). Some x) (sym read) in
+    let at : slice_get rows A ≡ Some r = slice_get-get_or rows A r inside ∙ ap (λ (x : Row). Some x) (sym read) in
     let number : r.place.number ≡ number_at rows (get_or xs i 0) = sym (ap number_in at) ∙ ap (number_at rows) is in
     pushed ∙ ap (λ ys. ys ++ r.place.number ∷ []) so_far ∙ ap (λ n. map (number_at rows) (take i xs) ++ n ∷ []) number ∙ sym (map_more (number_at rows) xs i 0 lt)
 

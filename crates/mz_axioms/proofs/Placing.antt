@@ -1,13 +1,14 @@
 -- The axioms and theorems of a list beside the declarations with which it agrees.
 use Rattle.std.proofs.Common.{◌≡◌, ◌∙◌, ◌≤◌, ◌<◌, ◌+◌, ◌⊎◌, ℕ, zero, suc, Bool, true, false, List, [], ◌∷◌, ◌++◌, length, slice_get, Some, refl, sym, ap, subst, inl, inr, arith, append_assoc, append-nil}
 use Rattle.std.specs.Prelude.{if◌then◌else◌, MatchBool, not, ◌&&◌, flat_map, option_to_list}
+use Rattle.std.proofs.lemmas.Option.{none-some}
 use Rattle.mz_checks.specs.Checks.{AllHold}
 use Rattle.mz_cmd.specs.declared.code.StatementCode.{StatementCode}
 use Rattle.mz_cmd.specs.declared.code.StatementCode.TheVariants as codes
 use Rattle.mz_cmd.specs.Codes.{statement_byte}
 use Rattle.mz_logic.specs.Declaration.{Declaration, sort_decl, term_decl, assertion_decl, Assertion, Form, plain_form, abstract_form, defined, assertions}
 use Rattle.mz_logic.specs.LegalLists.{Statement, declarations}
-use Rattle.mz_logic.proofs.Offered.{one_at, none_some}
+use Rattle.mz_logic.proofs.Offered.{one_at}
 use Rattle.mz_files.specs.Spelling.{IsKindOf, is_local_code, HasKind}
 use Rattle.mz_verdicts.specs.declared.kind.Kind.TheVariants as kinds
 use Rattle.mz_verdicts.specs.Match.{Partner, partner_of, publics, publics_after, kind_of, kind_of_form, match_checks, Agrees}
@@ -88,7 +89,7 @@ pub record IsPlaceOf (k : ℕ) (ss : List Statement) (T : ℕ) (p : Place) : Typ
   pub local_is : p.is_local ≡ statement.is_local
 
 pub place-of : (k : ℕ) (ss : List Statement) (T : ℕ) (p : Place) → slice_get (places_from k ss) T ≡ Some p → IsPlaceOf k ss T p
-place-of k [] T p at = absurd (none_some at)
+place-of k [] T p at = absurd (none-some _ at)
 place-of k (s ∷ ss) T p at = go s.decl refl T at (λ U on. place-of (past_public k s.is_local) ss U p on)
   where
     later : (U V : ℕ) → V ≡ length (assertions (s.decl ∷ [])) + U → IsPlaceOf (past_public k s.is_local) ss U p → IsPlaceOf k (s ∷ ss) V p
@@ -135,7 +136,7 @@ low-number : (k : ℕ) (ss : List Statement) (T : ℕ) (p : Place) → slice_get
 low-number k ss T p at = let h = place-of k ss T p at in let a = h.number in let b = publics-count k [] h.before in omega (arith, a, b)
 
 pub numbers-grow : (k : ℕ) (ss : List Statement) (T U : ℕ) (p q : Place) → slice_get (places_from k ss) T ≡ Some p → slice_get (places_from k ss) U ≡ Some q → T < U → p.is_local ≡ false → p.number < q.number
-numbers-grow k [] T U p q at-p at-q lt public_ = absurd (none_some at-p)
+numbers-grow k [] T U p q at-p at-q lt public_ = absurd (none-some _ at-p)
 numbers-grow k (s ∷ ss) T U p q at-p at-q lt public_ = go s.decl T U at-p at-q lt (λ V W a b c. numbers-grow (past_public k s.is_local) ss V W p q a b c public_)
   where
     Rest : List Place

@@ -1,12 +1,13 @@
 -- Each theorem of a good file has a derivation that cites only axioms of its support: it is proved by what its body cites,
 -- and such a list is, by the law of the logic, one by supports.
 use Rattle.std.proofs.Common.{◌≡◌, ◌∙◌, ℕ, zero, suc, Bool, true, false, List, [], ◌∷◌, ◌++◌, length, slice_get, Some, refl, sym, ap, subst, inl, inr, append_assoc, length-append, arith}
+use Rattle.std.proofs.lemmas.Option.{none-some}
 use Rattle.mz_cmd.specs.StatementList.{statement_at}
 use Rattle.mz_logic.specs.Declaration.{Assertion, Declaration, sort_decl, term_decl, assertion_decl, assertions}
 use Rattle.mz_logic.specs.Derivations.{without_gaps}
 use Rattle.mz_logic.specs.LegalLists.{Statement, declarations, IsProvedBy, IsProvedIfTheorem, LegalAfter, LegalBy, gap_free}
 use Rattle.mz_logic.specs.Closed.{AreSupports, by_number, on_support}
-use Rattle.mz_logic.proofs.Offered.{one_at, none_some, assertions-append, cites_more, legal_at, legal_by_supports}
+use Rattle.mz_logic.proofs.Offered.{one_at, assertions-append, cites_more, legal_at, legal_by_supports}
 use Rattle.mz_layout.specs.Tables.{list_at}
 use Rattle.mz_soundness.specs.Sound.{IsCited, used_by, cites_as}
 use Rattle.mz_layout.specs.Heads.{body_bytes}
@@ -55,7 +56,7 @@ module _ (file : List ℕ) where
   kind-behind at (assertion_decl b) ds tail a later (suc U) is = let r = later U is in record { body = r.body; there = r.there; is = r.is }
 
   kinds-from : (at : ℕ) (ss : List Statement) (a : Assertion) (U : ℕ) → slice_get (assertions (declarations ss)) U ≡ Some a → IsKind (bodies_from file at ss) a.is_axiom U
-  kinds-from at [] a U is = absurd (none_some is)
+  kinds-from at [] a U is = absurd (none-some _ is)
   kinds-from at (s ∷ ss) a U is =
       let next = place_after (statement_at file at) in
       kind-behind at s.decl (declarations ss) (bodies_from file next ss) a (λ V there. kinds-from next ss a V there) U is

@@ -1,11 +1,12 @@
 -- Supports, citation by citation, and as the list of bodies goes on.
-use Rattle.std.proofs.Common.{◌≡◌, ◌∙◌, ◌<◌, ◌+◌, ℕ, zero, suc, Bool, true, false, List, [], ◌∷◌, ◌++◌, length, slice_get, refl, sym, ap, subst, inl, inr, arith}
+use Rattle.std.proofs.Common.{◌≡◌, ◌∙◌, ◌<◌, ◌+◌, ℕ, Bool, true, false, List, [], ◌++◌, length, refl, sym, ap, subst, inl, inr, arith}
 use Rattle.std.specs.Prelude.{◌↔◌}
+use Rattle.std.proofs.lemmas.Option.{slice_get_within}
+use Rattle.mz_general.proofs.Offered.{slice_get-within}
 use Rattle.mz_logic.proofs.Offered.{one_at}
 use Rattle.mz_files.specs.Gapped.{AssertionBody}
 use Rattle.mz_axioms.specs.Supports.{Cites, IsKind, InSupport, by_axiom, by_theorem}
 use Rattle.mz_axioms.specs.Rows.{ComesTo}
-use Rattle.mz_axioms.proofs.Increasing.{get-within}
 
 pub support-step : (bodies : List AssertionBody) (T U A : ℕ) → Cites bodies T U → ComesTo bodies U A → InSupport bodies T A
 support-step bodies T U A cites (inl (kind, same)) = subst (λ n. InSupport bodies T n) (sym same) (by_axiom T U cites kind)
@@ -26,23 +27,18 @@ support-earlier bodies T A (by_theorem T0 U A0 cites kind on) = let a = support-
 
 -- ---- more bodies change nothing for those before
 
-get-first : {A : Type 0} (xs ys : List A) (i : ℕ) → i < length xs → slice_get (xs ++ ys) i ≡ slice_get xs i
-get-first [] ys i lt = absurd (omega (arith, lt))
-get-first (x ∷ xs) ys zero lt = refl
-get-first (x ∷ xs) ys (suc i) lt = get-first xs ys i (omega (arith, lt))
-
 module _ (bodies more : List AssertionBody) where
   pub kind-on : (kind : Bool) (U : ℕ) → IsKind bodies kind U → IsKind (bodies ++ more) kind U
-  kind-on kind U r = record { body = r.body; there = get-first bodies more U (get-within bodies U r.body r.there) ∙ r.there; is = r.is }
+  kind-on kind U r = record { body = r.body; there = slice_get-within bodies more U (slice_get_within bodies U r.body r.there) ∙ r.there; is = r.is }
 
   kind-back : (kind : Bool) (U : ℕ) → U < length bodies → IsKind (bodies ++ more) kind U → IsKind bodies kind U
-  kind-back kind U lt r = record { body = r.body; there = sym (get-first bodies more U lt) ∙ r.there; is = r.is }
+  kind-back kind U lt r = record { body = r.body; there = sym (slice_get-within bodies more U lt) ∙ r.there; is = r.is }
 
   cites-on : (T U : ℕ) → Cites bodies T U → Cites (bodies ++ more) T U
-  cites-on T U c = record { body = c.body; there = get-first bodies more T (get-within bodies T c.body c.there) ∙ c.there; cited = c.cited; earlier = c.earlier }
+  cites-on T U c = record { body = c.body; there = slice_get-within bodies more T (slice_get_within bodies T c.body c.there) ∙ c.there; cited = c.cited; earlier = c.earlier }
 
   cites-back : (T U : ℕ) → T < length bodies → Cites (bodies ++ more) T U → Cites bodies T U
-  cites-back T U lt c = record { body = c.body; there = sym (get-first bodies more T lt) ∙ c.there; cited = c.cited; earlier = c.earlier }
+  cites-back T U lt c = record { body = c.body; there = sym (slice_get-within bodies more T lt) ∙ c.there; cited = c.cited; earlier = c.earlier }
 
   support-on : (T A : ℕ) → InSupport bodies T A → InSupport (bodies ++ more) T A
   support-on T A (by_axiom T0 A0 cites kind) = by_axiom T A (cites-on T A cites) (kind-on true A kind)
@@ -66,7 +62,7 @@ pub one-kind : (bodies : List AssertionBody) (U : ℕ) (k l : Bool) → IsKind b
 one-kind bodies U k l r q = let same : r.body ≡ q.body = one_at r.there q.there in sym r.is ∙ ap (λ (x : AssertionBody). x.is_axiom) same ∙ q.is
 
 pub kind-within : (bodies : List AssertionBody) (k : Bool) (U : ℕ) → IsKind bodies k U → U < length bodies
-kind-within bodies k U r = get-within bodies U r.body r.there
+kind-within bodies k U r = slice_get_within bodies U r.body r.there
 
 -- that to which a citation comes is no later than what is cited
 pub comes-low : (bodies : List AssertionBody) (U A : ℕ) → ComesTo bodies U A → A < U + 1

@@ -4,12 +4,14 @@ use Rattle.std.specs.Prelude.{◌↔◌, Contains, MatchBool, IfOk, option_to_li
 use Rattle.std.specs.List.Sorted.{IsStrictlyIncreasing}
 use Rattle.std.proofs.lemmas.List.{length-map, map_push}
 use Rattle.std.proofs.lemmas.List.Elements.{Contains-push, Contains-push_cases}
+use Rattle.std.proofs.lemmas.Option.{none-some, slice_get_within, slice_get-get_or}
+use Rattle.mz_general.proofs.Offered.{contains_none, slice_get-some, contains_at}
 use Rattle.mz_checks.specs.Checks.{AllHold}
 use Rattle.mz_cmd.specs.Codes.{statement_byte}
 use Rattle.mz_cmd.specs.StatementList.{statement_at}
 use Rattle.mz_logic.specs.Declaration.{Declaration, sort_decl, term_decl, assertion_decl, assertions}
 use Rattle.mz_logic.specs.LegalLists.{Statement, declarations}
-use Rattle.mz_logic.proofs.Offered.{one_at, none_some, split_at}
+use Rattle.mz_logic.proofs.Offered.{one_at, split_at}
 use Rattle.mz_layout.specs.Tables.{list_at}
 use Rattle.mz_layout.specs.Heads.{body_bytes, head_checks}
 use Rattle.mz_layout.specs.declared.head.Head.{Head}
@@ -27,7 +29,7 @@ use Rattle.mz_axioms.specs.Supports.{InSupport}
 use Rattle.mz_axioms.specs.Places.{place_there, places_from, publics_past, place_by}
 use Rattle.mz_axioms.specs.Rows.{ComesTo, Tells, TellsAll, TellsFile, Gives, Reaches, IsNew, IsNoted, AreInOrder, AreWithin, AreFew}
 use Rattle.mz_axioms.proofs.Citing.{CitedBetween}
-use Rattle.mz_axioms.proofs.Increasing.{get-within, get-contained, increasing-few, get-there}
+use Rattle.mz_axioms.proofs.Increasing.{increasing-few}
 use Rattle.mz_axioms.proofs.Placing.{places-more, publics-more, places-many, by-code}
 use Rattle.mz_axioms.proofs.Resting.{at-seam}
 use Rattle.mz_axioms.proofs.Supporting.{support-step, support-inverts, comes-on, comes-low, one-kind}
@@ -41,9 +43,6 @@ if-more P Q (Err e) m h = h
 
 -- ---- citations of a body, one after another
 
-none-there : {A : Type 0} (x : A) → Contains [] x → ⊥
-none-there x (k, lt, is) = omega (arith, lt)
-
 module _ (file : List ℕ) (rows : List Row) (pos end : ℕ) where
   abbrev Whole : ℕ → Type 0
   Whole A = Reaches rows (body_bytes file pos end) A
@@ -53,7 +52,7 @@ module _ (file : List ℕ) (rows : List Row) (pos end : ℕ) where
   Reached at axioms = (A : ℕ) → (Contains axioms A ⊎ Reaches rows (body_bytes file at end) A) ↔ Reaches rows (body_bytes file pos end) A
 
   pub reached-first : Reached pos []
-  reached-first A = (λ h. elim h [ inl no_ ↦ absurd (none-there A no_) | inr on ↦ on ], λ on. inr on)
+  reached-first A = (λ h. elim h [ inl no_ ↦ absurd (contains_none A no_) | inr on ↦ on ], λ on. inr on)
 
   pub reached-more : (at U after : ℕ) (old new : List ℕ) → CitedBetween file at end (Some (U, after)) → ((A : ℕ) → Contains new A ↔ (Contains old A ⊎ Gives rows U A)) → Reached at old → Reached after new
   reached-more at U after old new (lt, le, said) union h A = (
@@ -80,13 +79,13 @@ pub gives-this : (rows : List Row) (U A : ℕ) (row : Row) → slice_get rows U 
 gives-this rows U A row at = (λ (r, is, has). subst (λ (x : Row). Contains x.axioms.items A) (one_at is at) has, λ has. (row, at, has))
 
 pub gives-past : (rows : List Row) (U A : ℕ) → length rows ≤ U → Gives rows U A → ⊥
-gives-past rows U A past (row, at, has) = let lt = get-within rows U row at in omega (arith, lt, past)
+gives-past rows U A past (row, at, has) = let lt = slice_get_within rows U row at in omega (arith, lt, past)
 
 -- what a row that was read gives
 pub with-read : (rows : List Row) (U : ℕ) (row : Row) (axioms new : List ℕ) → U < length rows → row ≡ get_or rows U row
     → ((A : ℕ) → Contains new A ↔ (Contains axioms A ⊎ Contains row.axioms.items A)) → (A : ℕ) → Contains new A ↔ (Contains axioms A ⊎ Gives rows U A)
 with-read rows U row axioms new lt is union A =
-    let at : slice_get rows U ≡ Some row = get-there rows U row lt ∙ ap (λ (r : Row). Some r) (sym is) in
+    let at : slice_get rows U ≡ Some row = slice_get-get_or rows U row lt ∙ ap (λ (r : Row). Some r) (sym is) in
     let gives = gives-this rows U A row at in (
       λ has. elim ((union A).0 has) [ inl was ↦ inl was | inr more_ ↦ inr (gives.1 more_) ],
       λ h. elim h [ inl was ↦ (union A).1 (inl was) | inr g ↦ (union A).1 (inr (gives.0 g)) ],
@@ -96,7 +95,7 @@ with-read rows U row axioms new lt is union A =
 
 contains-one : (row A : ℕ) → Contains (row ∷ []) A ↔ (A ≡ row)
 contains-one row A = (
-  λ has. elim (Contains-push_cases [] row A has) [ inl no_ ↦ absurd (none-there A no_) | inr same ↦ sym same ],
+  λ has. elim (Contains-push_cases [] row A has) [ inl no_ ↦ absurd (contains_none A no_) | inr same ↦ sym same ],
   λ same. subst (Contains (row ∷ [])) (sym same) (Contains-push [] row),
 )
 
@@ -118,11 +117,6 @@ noted-new o place bytes old new row is pushed h = subst (λ (x : Option Place). 
 
 -- ---- one row more
 
-get-some : {A : Type 0} (xs : List A) (k : ℕ) → k < length xs → (x : A) × (slice_get xs k ≡ Some x)
-get-some [] k lt = absurd (omega (arith, lt))
-get-some (x ∷ xs) zero lt = (x, refl)
-get-some (x ∷ xs) (suc k) lt = get-some xs k (omega (arith, lt))
-
 module _ (bodies : List AssertionBody) (rows : List Row) (many : length rows ≡ length bodies) (each : (U : ℕ) (row : Row) → slice_get rows U ≡ Some row → Tells bodies U row) (body : AssertionBody) where
   last-there : slice_get (bodies ++ body ∷ []) (length bodies) ≡ Some body
   last-there = at-seam bodies body [] (length bodies) refl
@@ -130,14 +124,14 @@ module _ (bodies : List AssertionBody) (rows : List Row) (many : length rows ≡
   reached-support : (A : ℕ) → Reaches rows body.bytes A ↔ InSupport (bodies ++ body ∷ []) (length bodies) A
   reached-support A = (
     λ (U, cited, (row, at, has)). (
-        let low : U < length bodies = (let w = get-within rows U row at in omega (arith, w, many)) in
+        let low : U < length bodies = (let w = slice_get_within rows U row at in omega (arith, w, many)) in
         support-step (bodies ++ body ∷ []) (length bodies) U A (record { body = body; there = last-there; cited = cited; earlier = low })
         ((comes-on bodies (body ∷ []) U A low).0 (((each U row at).axioms A).0 has))
         ),
     λ h. (
         let (U, cites, comes) = support-inverts (bodies ++ body ∷ []) (length bodies) A h in
         let same : cites.body ≡ body = one_at cites.there last-there in
-        let (row, at) = get-some rows U (let e = cites.earlier in omega (arith, e, many)) in (
+        let (row, at) = slice_get-some rows U (let e = cites.earlier in omega (arith, e, many)) in (
           U,
           subst (λ (b : AssertionBody). IsCitedIn b.bytes U) same cites.cited,
           (row, at, ((each U row at).axioms A).1 ((comes-on bodies (body ∷ []) U A cites.earlier).1 comes)),
@@ -167,7 +161,7 @@ module _ (bodies : List AssertionBody) (rows : List Row) (many : length rows ≡
   each-more place new kind is U row at = elim (split_at rows (new ∷ []) U row at) [
     | inl old ↦ (
         let told = each U row old in
-        let low : U < length bodies = (let w = get-within rows U row old in omega (arith, w, many)) in
+        let low : U < length bodies = (let w = slice_get_within rows U row old in omega (arith, w, many)) in
         record {
           in_order = told.in_order;
           axioms = λ A. (λ has. (comes-on bodies (body ∷ []) U A low).0 ((told.axioms A).0 has), λ c. (told.axioms A).1 ((comes-on bodies (body ∷ []) U A low).1 c));
@@ -189,7 +183,7 @@ module _ (bodies : List AssertionBody) (rows : List Row) (many : length rows ≡
 
       at-end : (k : ℕ) → U ≡ length rows + k → slice_get (new ∷ []) k ≡ Some row → Tells (bodies ++ body ∷ []) U row
       at-end zero e there = subst (Tells (bodies ++ body ∷ []) U) (one_at refl there) (subst (λ n. Tells (bodies ++ body ∷ []) n new) (omega (arith, e, many)) here)
-      at-end (suc k) e there = absurd (none_some there)
+      at-end (suc k) e there = absurd (none-some _ there)
 
 -- ---- the list
 
@@ -271,7 +265,7 @@ module _ (file : List ℕ) where
     after = ss;
     env = [];
     way = way-first file ss good;
-    tells = record { places = refl; each = λ U row at. absurd (none_some at) };
+    tells = record { places = refl; each = λ U row at. absurd (none-some _ at) };
     publics_are = refl;
     rows_low = omega arith;
   }
@@ -332,13 +326,13 @@ module _ (file : List ℕ) where
   pub told-within : (rows : List Row) → TellsFile file rows → AreWithin rows
   told-within rows (ss, good, t) U row at k d lt =
       let A = get_or row.axioms.items k d in
-      let has = get-contained row.axioms.items k A (get-there row.axioms.items k d lt) in
+      let has = contains_at row.axioms.items k A (slice_get-get_or row.axioms.items k d lt) in
       let low = comes-low (bodies_of file ss) U A (((t.each U row at).axioms A).0 has) in
-      let w = get-within rows U row at in
+      let w = slice_get_within rows U row at in
       omega (arith, low, w)
 
   pub told-few : (rows : List Row) → TellsFile file rows → AreFew rows
   told-few rows told k d lt =
       let row = get_or rows k d in
-      let at = get-there rows k d lt in
+      let at = slice_get-get_or rows k d lt in
       increasing-few row.axioms.items (length rows) ((told.2.each k row at).in_order) (told-within rows told k row at)

@@ -1,6 +1,7 @@
 -- The numbers that are told are those of declarations, however often the specification is read.
 use Rattle.std.proofs.Common.{◌≡◌, ◌∙◌, ℕ, List, All, length, get_or, ap, arith}
 use Rattle.std.proofs.lemmas.List.Elements.{Contains-get_or}
+use Rattle.std.proofs.lemmas.Option.{slice_get_within}
 use Rattle.mz_logic.specs.Declaration.{Declaration}
 use Rattle.mz_spec.specs.State.{Entry, env_of}
 use Rattle.mz_spec.specs.Spec.{SpecMakes}
@@ -8,7 +9,6 @@ use Rattle.mz_spec.proofs.Offered.{one-reading}
 use Rattle.mz_verdicts.proofs.Offered.{length-env}
 use Rattle.mz_axioms.specs.Lists.{TheoremSupport}
 use Rattle.mz_axioms.specs.Text.{IsNamed, AreOfSome}
-use Rattle.mz_axioms.proofs.Increasing.{get-within}
 
 pub named : (spec : List ℕ) (entries : List Entry) (supports : List TheoremSupport) → SpecMakes spec entries → AreOfSome spec supports → All (IsNamed entries) supports
 named spec entries supports makes (bin, are) k d lt =
@@ -17,8 +17,8 @@ named spec entries supports makes (bin, are) k d lt =
     let many : length are.accepts.declared ≡ length entries = ap (λ (ds : List Declaration). length ds) (declares ∙ ap env_of same) ∙ length-env entries in
     let h = are.each k d lt in
     record {
-      theorem = (let w = get-within are.accepts.declared (get_or supports k d).theorem h.theorem.declared h.theorem.there in omega (arith, w, many));
+      theorem = (let w = slice_get_within are.accepts.declared (get_or supports k d).theorem h.theorem.declared h.theorem.there in omega (arith, w, many));
       axioms = λ j e within.
           (let stands = h.only (get_or (get_or supports k d).axioms j e) (Contains-get_or (get_or supports k d).axioms j e within) in
-          let w = get-within are.accepts.declared (get_or (get_or supports k d).axioms j e) stands.1.declared stands.1.there in omega (arith, w, many));
+          let w = slice_get_within are.accepts.declared (get_or (get_or supports k d).axioms j e) stands.1.declared stands.1.there in omega (arith, w, many));
     }

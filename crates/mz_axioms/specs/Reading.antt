@@ -1,5 +1,5 @@
 -- What is said of a specification and a binary together (this project's own: `verify`'s refusals, or the supports).
-use Rattle.std.specs.Prelude.{◌≡◌, ◌+◌, ⊤, ℕ, false, List}
+use Rattle.std.specs.Prelude.{◌≡◌, ◌+◌, ⊤, ℕ, List}
 use Rattle.mz_files.specs.FileRun.{file_steps}
 use Rattle.mz_verdicts.specs.Verdict.{FirstRefusal, Ticks}
 use Rattle.mz_axioms.specs.Lists.{AreSupports}

@@ -1,6 +1,7 @@
 -- The citations of a body, one after another: whether one of them is of a marked theorem.
 use Rattle.std.proofs.Common.{◌≡◌, ◌≤◌, ◌⊎◌, ◌∙◌, ℕ, zero, suc, Bool, true, false, List, length, drop, slice_get, Option, Some, None, Ok, Err, refl, sym, ap, subst, inl, inr, arith}
 use Rattle.std.specs.Prelude.{◌↔◌, ◌&&◌}
+use Rattle.mz_general.proofs.Offered.{both-true as both}
 use Rattle.mz_cmd.specs.declared.command.Cmd.{Cmd}
 use Rattle.mz_cmd.specs.declared.command.CmdFault.{CmdFault}
 use Rattle.mz_cmd.specs.declared.code.ProofCode.{ProofCode}
@@ -30,10 +31,6 @@ cites-is (Some code.ConvCut) e = absurd cc
 cites-is (Some code.ConvSave) e = absurd cc
 cites-is (Some code.Save) e = absurd cc
 cites-is (Some code.Sorry) e = absurd cc
-
-both : (a b : Bool) → (a && b) ≡ true → (a ≡ true) × (b ≡ true)
-both true b e = (refl, e)
-both false b e = absurd cc
 
 marked-is : (o : Option Bool) → mark_in o ≡ true → o ≡ Some true
 marked-is None e = absurd cc

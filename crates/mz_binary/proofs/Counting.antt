@@ -6,13 +6,14 @@ use Rattle.mz_cmd.specs.declared.rule.K.{K}
 use Rattle.mz_layout.specs.Tables.{list_at}
 use Rattle.mz_layout.specs.Layout.{Layout, layout_checks}
 use Rattle.mz_soundness.specs.FileRows.{Taken, nothing_taken}
+use Rattle.mz_soundness.proofs.Offered.{times-grow, add-times}
 use Rattle.mz_earlier.specs.Before.{taken_before}
 use Rattle.mz_files.specs.FileRun.{Passing, test_layout, steps_after, file_steps, list_ends, stands_alone, Onward, ended, onward, find_at, run_place, found_steps, follow_steps, list_steps}
 use Rattle.mz_binary.specs.Progress.{Progress, next_steps, steps_left}
 use Rattle.mz_binary.specs.declared.checker.Next.{Next}
 use Rattle.mz_binary.specs.declared.checker.Next.TheVariants as next
 use Rattle.mz_binary.specs.Judging.{IfTold}
-use Rattle.mz_files.proofs.Offered.{layout-judged, times-grow, add-times, bound-never-ends}
+use Rattle.mz_files.proofs.Offered.{layout-judged, bound-never-ends}
 use Rattle.mz_files.specs.declared.standard.Standard.{Standard}
 
 -- of any answer, and so of one that is told

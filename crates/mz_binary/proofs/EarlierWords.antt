@@ -1,6 +1,6 @@
 -- The words of the rows before a statement were right in their turn.
-use Rattle.std.proofs.Common.{◌≡◌, ◌⊎◌, ◌<◌, ◌≤◌, ◌+◌, ℕ, List, [], ◌∷◌, ◌++◌, length, refl, sym, subst, inl, inr, arith}
-use Rattle.std.proofs.lemmas.Bool.{cases_eq}
+use Rattle.std.proofs.Common.{◌<◌, ◌≤◌, ◌+◌, ℕ, List, [], ◌∷◌, ◌++◌, length, refl, sym, subst, inl, inr, arith}
+use Rattle.mz_general.proofs.Offered.{below-or-last}
 use Rattle.mz_checks.specs.Checks.{AllHold}
 use Rattle.mz_logic.specs.Declaration.{Declaration, sort_decl, term_decl, assertion_decl, sorts, terms, assertions}
 use Rattle.mz_logic.specs.LegalLists.{Statement}
@@ -20,9 +20,6 @@ pub record WereRight (file : List ℕ) (many_sorts many_terms many_thms : ℕ) :
 abbrev WereRightIn : List ℕ → List Declaration → Type 0
 WereRightIn file env = WereRight file (length (sorts env)) (length (terms env)) (length (assertions env))
 
-at-last : (n many : ℕ) → n < many + 1 → (n < many) ⊎ (n ≡ many)
-at-last n many below = elim (cases_eq n many) [ inl e ↦ inr e | inr other ↦ inl (omega (arith, other)) ]
-
 module _ (file : List ℕ) (env : List Declaration) (so_far : HasSorts file env) (before : WereRightIn file env) where
   -- more sorts are declared after it
   more : (s t i : ℕ) → length (sorts env) ≤ s → (t ≤ length (terms env)) → (i ≤ length (assertions env)) → WereRight file s t i
@@ -37,7 +34,7 @@ module _ (file : List ℕ) (env : List Declaration) (so_far : HasSorts file env)
   one-more (term_decl d) right =
       let last : HasRightWords file (length (sorts env)) (length (terms env)) = subst (λ (ss : List SortMods). AllHold (word_checks ss (term_row file (length (terms env))))) so_far right in
       record {
-        of_terms = λ k below. elim (at-last k (length (terms env)) (omega (arith, terms-many env (term_decl d ∷ [])))) [
+        of_terms = λ k below. elim (below-or-last k (length (terms env)) (omega (arith, terms-many env (term_decl d ∷ [])))) [
           | inl earlier ↦ let (n, few, old) = before.of_terms k earlier in (n, omega (arith, few, sorts-many env (term_decl d ∷ [])), old)
           | inr is ↦ (length (sorts env), omega (arith, sorts-many env (term_decl d ∷ [])), subst (λ (z : ℕ). HasRightWords file (length (sorts env)) z) (sym is) last)
         ];
@@ -48,7 +45,7 @@ module _ (file : List ℕ) (env : List Declaration) (so_far : HasSorts file env)
       subst (λ (ss : List SortMods). AllHold (param_checks ss (thm_row file (length (assertions env))).words_at (thm_row file (length (assertions env))).params)) so_far right in
       record {
         of_terms = λ k below. let (n, few, old) = before.of_terms k (omega (arith, terms-many env (assertion_decl a ∷ []))) in (n, omega (arith, few, sorts-many env (assertion_decl a ∷ [])), old);
-        of_thms = λ k below. elim (at-last k (length (assertions env)) (omega (arith, assertions-many env (assertion_decl a ∷ [])))) [
+        of_thms = λ k below. elim (below-or-last k (length (assertions env)) (omega (arith, assertions-many env (assertion_decl a ∷ [])))) [
           | inl earlier ↦ let (n, few, old) = before.of_thms k earlier in (n, omega (arith, few, sorts-many env (assertion_decl a ∷ [])), old)
           | inr is ↦ (length (sorts env), omega (arith, sorts-many env (assertion_decl a ∷ [])), subst (λ (z : ℕ). HasRightParams file (length (sorts env)) z) (sym is) last)
         ];

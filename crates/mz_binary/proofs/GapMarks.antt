@@ -15,7 +15,7 @@ use Rattle.mz_soundness.specs.Sound.{HasGap}
 use Rattle.mz_soundness.specs.FileRows.{Taken, thm_of_file}
 use Rattle.mz_files.specs.Checking.{counts}
 use Rattle.mz_files.specs.FileRun.{test_params, test_row, Found, stands_alone, has_body, with_thm, find_thm_parts, find_parts, find_kind}
-use Rattle.mz_files.proofs.Offered.{then-ok, found-is, bodies-many, bodies-more, gapped-within, marks-with, new-gapped}
+use Rattle.mz_files.proofs.Offered.{then-ok, found-is, bodies-many, bodies-more, gapped-within, marks-with, new-gapped, no-assertion}
 use Rattle.mz_files.specs.Chains.{GoodTo}
 use Rattle.mz_files.specs.Gapped.{AssertionBody, body_there, body_of, bodies_of, IsGapped, GappedIn, IsMarked, AreMarks, CitesMarked}
 use Rattle.mz_binary.specs.Progress.{is_theorem_kind, is_assertion_kind, marks_past}
@@ -37,27 +37,16 @@ theorem-is : (n : ℕ) (b : Bool) → (n ≡ 0x02 → ⊥) → MatchBool b (n �
 theorem-is n true other h = absurd (other h)
 theorem-is n false other h = refl
 
-no-body : (n : ℕ) (b : Bool) → (n ≡ 0x04) ⊎ ((n ≡ 0x05) ⊎ (n ≡ 0x0D)) → MatchBool b (n ≡ 0x02) ((n ≡ 0x06) ⊎ (n ≡ 0x0E)) → ⊥
-no-body n true (inl e) h = omega (arith, e, h)
-no-body n true (inr (inl e)) h = omega (arith, e, h)
-no-body n true (inr (inr e)) h = omega (arith, e, h)
-no-body n false (inl e) (inl h) = omega (arith, e, h)
-no-body n false (inl e) (inr h) = omega (arith, e, h)
-no-body n false (inr (inl e)) (inl h) = omega (arith, e, h)
-no-body n false (inr (inl e)) (inr h) = omega (arith, e, h)
-no-body n false (inr (inr e)) (inl h) = omega (arith, e, h)
-no-body n false (inr (inr e)) (inr h) = omega (arith, e, h)
-
 pub kind-tells : (k : StatementCode) (d : Declaration) → IsKindOf (statement_byte k) d → KindTells k d
 kind-tells codes.Sort (sort_decl m) h = λ file at. refl
 kind-tells codes.Sort (term_decl t) h = λ file at. refl
-kind-tells codes.Sort (assertion_decl a) h = absurd (no-body 0x04 a.is_axiom (inl refl) h)
+kind-tells codes.Sort (assertion_decl a) h = absurd (no-assertion 0x04 a.is_axiom (inl refl) h)
 kind-tells codes.Term (sort_decl m) h = λ file at. refl
 kind-tells codes.Term (term_decl t) h = λ file at. refl
-kind-tells codes.Term (assertion_decl a) h = absurd (no-body 0x05 a.is_axiom (inr (inl refl)) h)
+kind-tells codes.Term (assertion_decl a) h = absurd (no-assertion 0x05 a.is_axiom (inr (inl refl)) h)
 kind-tells codes.LocalDefinition (sort_decl m) h = λ file at. refl
 kind-tells codes.LocalDefinition (term_decl t) h = λ file at. refl
-kind-tells codes.LocalDefinition (assertion_decl a) h = absurd (no-body 0x0D a.is_axiom (inr (inr refl)) h)
+kind-tells codes.LocalDefinition (assertion_decl a) h = absurd (no-assertion 0x0D a.is_axiom (inr (inr refl)) h)
 kind-tells codes.Axiom (sort_decl m) h = absurd (omega (arith, h))
 kind-tells codes.Axiom (term_decl t) (inl h) = absurd (omega (arith, h))
 kind-tells codes.Axiom (term_decl t) (inr h) = absurd (omega (arith, h))

@@ -22,7 +22,7 @@ use Rattle.mz_binary.specs.declared.place.Found.TheVariants as seen
 use Rattle.mz_layout.specs.declared.head.Head.{Head}
 use Rattle.mz_layout.specs.declared.taken.Rows.{Rows}
 use Rattle.mz_layout.specs.Heads.{IsHead, body_bytes, next_row, rows_after}
-use Rattle.mz_binary.specs.declared.statement.Statement.{Statement as Told}
+use Rattle.mz_files.specs.declared.statement.Statement.{Statement as Told}
 use Rattle.mz_soundness.specs.FileRows.{Taken, taken_by}
 use Rattle.mz_files.specs.Spelling.{IsKindOf, HasKind, IsSpelled, is_local_code}
 use Rattle.mz_files.specs.Checking.{kind_checks, place_checks}

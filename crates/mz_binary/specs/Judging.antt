@@ -6,7 +6,7 @@ use Rattle.mz_logic.specs.LegalLists.{Statement, Legal, DraftLegal, declarations
 use Rattle.mz_logic.specs.Closed.{TheoremsClosed}
 use Rattle.mz_layout.specs.Tables.{list_at}
 use Rattle.mz_layout.specs.Layout.{Layout}
-use Rattle.mz_binary.specs.declared.statement.Statement.{Statement as Told}
+use Rattle.mz_files.specs.declared.statement.Statement.{Statement as Told}
 use Rattle.mz_binary.specs.declared.checker.Next.{Next}
 use Rattle.mz_binary.specs.declared.checker.Next.TheVariants as next
 use Rattle.mz_binary.specs.declared.whole.Checked.{Checked}

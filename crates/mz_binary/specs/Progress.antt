@@ -14,7 +14,7 @@ use Rattle.mz_layout.specs.declared.taken.Rows.{Rows}
 use Rattle.mz_earlier.specs.OwnRow.{heading_of}
 use Rattle.mz_earlier.specs.Before.{taken_before}
 use Rattle.mz_files.specs.FileRun.{Found, list_ends, stands_alone, has_body, after_kind, find_at, found_steps, list_steps}
-use Rattle.mz_binary.specs.declared.statement.Statement.{Statement as Told}
+use Rattle.mz_files.specs.declared.statement.Statement.{Statement as Told}
 use Rattle.mz_binary.specs.declared.place.Found.{Found as Seen}
 use Rattle.mz_binary.specs.declared.place.Found.TheVariants as seen
 use Rattle.mz_soundness.specs.Sound.{HasGap}

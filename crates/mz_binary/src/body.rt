@@ -9,11 +9,10 @@ ghost use Rattle.mz_binary.specs.Judging.{IsBodyRun};
 ghost use Rattle.mz_files.specs.Standards.{profile_of};
 
 use crate::rooms::Rooms;
-use crate::statement::Rows;
 use mz_cmd::Steps;
 use mz_earlier::BodyKind;
 use mz_files::Standard;
-use mz_layout::Mmb;
+use mz_layout::{Mmb, Rows};
 use mz_machine::{BodyChecked, check_body_in};
 use mz_pmachine::check_portable_in;
 use std::alloc::Global;

@@ -11,10 +11,10 @@ mod gaps;
 mod line;
 mod place;
 mod rooms;
-mod statement;
 mod whole;
 
 pub use checker::{Checker, Next};
 pub use line::refusal_line;
-pub use statement::{Rows, Statement};
+pub use mz_files::Statement;
+pub use mz_layout::Rows;
 pub use whole::{Checked, check_all};

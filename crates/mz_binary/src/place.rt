@@ -7,9 +7,8 @@ ghost use Rattle.mz_earlier.specs.Before.{taken_before};
 ghost use Rattle.mz_files.specs.FileRun.{find_at, find_parts};
 ghost use Rattle.mz_binary.specs.Progress.{Finds, IsAssertionKind, IsOf, IsTermKind, StandsAt, is_local_kind};
 
-use crate::statement::Rows;
 use mz_cmd::{K, StatementCode};
-use mz_layout::{Fault, Head, HeadOrEnd, Mmb, head_at};
+use mz_layout::{Fault, Head, HeadOrEnd, Mmb, Rows, head_at};
 use mz_logic::Terms;
 use mz_words::{check_term_words, check_thm_words};
 

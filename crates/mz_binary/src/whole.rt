@@ -6,10 +6,9 @@ ghost use Rattle.mz_binary.specs.Progress.{HasPassed, most_left, steps_left};
 ghost use Rattle.mz_binary.specs.Judging.{IfJudged, IsChecked};
 
 use crate::checker::{Checker, Next};
-use crate::statement::Rows;
 use mz_cmd::{Refusal, Steps};
 use mz_files::Standard;
-use mz_layout::Mmb;
+use mz_layout::{Mmb, Rows};
 use mz_store::Seed;
 use std::alloc::Global;
 use std::sync::ledger::Ledger;

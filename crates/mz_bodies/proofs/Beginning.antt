@@ -19,22 +19,11 @@ use Rattle.mz_bodies.specs.Stages.{HasDummiesBehind, Begins}
 use Rattle.mz_bodies.proofs.Building.{nothing_built, none_of}
 use Rattle.mz_bodies.proofs.Using.{using_begun}
 use Rattle.mz_shared.proofs.Offered.{grows_self, variable_id}
-
--- the parameters in the heap, and those that are met
-heap_at : (j : ℕ) (ps : List Binder) (x : ℕ) → x < length ps → slice_get (map expr (variables_from j ps)) x ≡ Some (expr (var (j + x)))
-heap_at j [] x lt = absurd (omega (arith, lt))
-heap_at j (p ∷ ps) zero lt = ap (λ (k : ℕ). Some (expr (var k))) (omega arith)
-heap_at j (p ∷ ps) (suc x) lt = heap_at (suc j) ps x (omega (arith, lt)) ∙ ap (λ (k : ℕ). Some (expr (var k))) (omega arith)
+use Rattle.mz_steps.proofs.Offered.{has-place as meets, own-item-at}
 
 heap_long : (j : ℕ) (ps : List Binder) → length (map expr (variables_from j ps)) ≡ length ps
 heap_long j [] = refl
 heap_long j (p ∷ ps) = ap suc (heap_long (suc j) ps)
-
-meets : (j : ℕ) (ps : List Binder) (x : ℕ) → x < length ps → Contains (from_to j ps) (j + x)
-meets j [] x lt = absurd (omega (arith, lt))
-meets j (p ∷ ps) zero lt = (0, omega arith, omega arith)
-meets j (p ∷ ps) (suc x) lt = (let h = meets (suc j) ps x (omega (arith, lt)) in let e : suc j + x ≡ j + suc x = omega arith in
-    subst (Contains (j ∷ from_to (suc j) ps)) e (suc h.0, (let k = h.1 in omega (arith, k)), h.2))
 
 met_below : (j : ℕ) (ps : List Binder) (x : ℕ) → Contains (from_to j ps) x → x < j + length ps
 met_below j [] x (k, lt, is) = absurd (omega (arith, lt))
@@ -61,7 +50,7 @@ module _ (env : List Declaration) (o : Job) (s : Sharing) (vars : List Id) (plac
   expression_at i p at =
       let h = where_is i p at in
       let v = variable_held i (let e = h.0 in let lt = h.1 in omega (arith, e, lt)) in
-      (v.0, heap_at 0 o.params p (let lt = h.1 in let m = many in omega (arith, lt, m)) ∙ ap (λ (k : ℕ). Some (expr (var k))) (let e = h.0 in omega (arith, e)) ∙ ap (λ (e : Tree). Some (expr e)) (sym v.1))
+      (v.0, own-item-at 0 o.params p (let lt = h.1 in let m = many in omega (arith, lt, m)) ∙ ap (λ (k : ℕ). Some (expr (var k))) (let e = h.0 in omega (arith, e)) ∙ ap (λ (e : Tree). Some (expr e)) (sym v.1))
 
   places_begin : PlacesRight env (length o.params) o.hyps s vars places [] (from_to 0 o.params) (map expr (variables_from 0 o.params))
   places_begin = record {

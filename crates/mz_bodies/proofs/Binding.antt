@@ -2,6 +2,7 @@
 use Rattle.std.specs.Prelude.{ℕ, ◌≡◌, ◌<◌, ◌+◌, Bool, true, ◌||◌, List, [], ◌∷◌, ◌++◌, length, slice_get, Option, Some}
 use Rattle.std.proofs.Common.{zero, suc, sym, ap, ◌∙◌, subst, arith, inl, inr}
 use Rattle.std.proofs.lemmas.List.{length-append}
+use Rattle.std.proofs.lemmas.Bool.{cases_eq}
 use Rattle.mz_logic.specs.Tree.{Tree}
 use Rattle.mz_logic.specs.Declaration.{Declaration}
 use Rattle.mz_store.specs.Sharing.{Sharing}
@@ -15,7 +16,7 @@ use Rattle.mz_bodies.specs.Owes.{Task, prove, claims, claim_of, let_costs, Owes,
 use Rattle.mz_bodies.specs.Sight.{Part, links, parts, part_at, place_at, AreRight, IsThere}
 use Rattle.mz_bodies.specs.Going.{Job, still, IsGoing}
 use Rattle.mz_bodies.specs.declared.cells.Cell.{Cell}
-use Rattle.mz_bodies.proofs.Lists.{get_end, same_or_not}
+use Rattle.mz_bodies.proofs.Lists.{get_end}
 use Rattle.mz_bodies.proofs.Opening.{strict}
 use Rattle.mz_bodies.proofs.Scoping.{parts_long, outer_there, sight_new}
 use Rattle.mz_bodies.specs.Lengths.{begun, is_one_of, waits, IsOutside, IsClear}
@@ -73,7 +74,7 @@ module _ (env : List Declaration) (o : Job) (s : Sharing) (vars : List Id) (plac
       (kept : (c : ℕ) → c < length cells → place_at cells' c ≡ place_at cells c) where
     sound : (c : ℕ) → c < length cells' → IsSound o.gaps env s.context o.hyps (in_sight (claims env o.hyps (parts cells ++ record { proof = p; outer = chain } ∷ [])) (part_at (parts cells ++ record { proof = p; outer = chain } ∷ []) c).outer)
         (part_at (parts cells ++ record { proof = p; outer = chain } ∷ []) c).proof
-    sound c lt = elim (same_or_not c (length (parts cells))) [
+    sound c lt = elim (cases_eq c (length (parts cells))) [
       | inl is ↦ subst (λ (z : Part). IsSound o.gaps env s.context o.hyps (in_sight (claims env o.hyps (parts cells ++ record { proof = p; outer = chain } ∷ [])) z.outer) z.proof)
           (sym (ap (part_at (parts cells ++ record { proof = p; outer = chain } ∷ [])) is ∙ get_end Part (parts cells) (record { proof = p; outer = chain }) _))
           (subst (λ (L : List Tree). IsSound o.gaps env s.context o.hyps L p) (sym (claims_more o.gaps env s.context o.hyps s (parts cells) (record { proof = p; outer = chain }) outers chain g.owes.1.0)) g.owes.1.1.0)

@@ -1,6 +1,7 @@
 -- What commands build, and what is still to be made.
 use Rattle.std.specs.Prelude.{ℕ, ◌≡◌, ◌<◌, Bool, true, false, ◌||◌, ◌==◌, List, [], ◌∷◌, ◌++◌, slice_get, Option, Some, None}
 use Rattle.std.proofs.Common.{refl, sym, ap, ◌∙◌, subst, arith, append_assoc, append-nil, inl, inr, eq-eqb}
+use Rattle.std.proofs.lemmas.Bool.{cases_eq}
 use Rattle.mz_cmd.specs.declared.code.ProofCode.{ProofCode}
 use Rattle.mz_logic.specs.Tree.{Tree, size, trees_size}
 use Rattle.mz_logic.specs.Declaration.{Declaration}
@@ -20,7 +21,7 @@ use Rattle.mz_bodies.specs.Lengths.{is_one_of}
 use Rattle.mz_bodies.specs.Making.{to_make, IsUnder, IsRising, AreNew, IsFresh}
 use Rattle.mz_bodies.specs.Going.{HasPlace, HasBuilt}
 use Rattle.mz_shared.proofs.Offered.{in_grown, tree_grown}
-use Rattle.mz_bodies.proofs.Lists.{same_or_not, last_or_before}
+use Rattle.mz_bodies.proofs.Lists.{last_or_before}
 use Rattle.mz_bodies.proofs.Shortening.{one_or_rest}
 
 -- ---- one command more
@@ -112,7 +113,7 @@ none_some A q e = absurd (grind (arith, e))
 
 module _ (s : Sharing) (places places' : List (Option ℕ)) (i len : ℕ) (at : place_of places' i ≡ Some len) (others : (j : ℕ) → (j ≡ i → ⊥) → place_of places' j ≡ place_of places j) where
   pub put_keeps : (e : Tree) → HasPlace s places e → HasPlace s places' e
-  put_keeps e (j, p, holds, j-at) = elim (same_or_not j i) [ inl is ↦ (j, len, holds, ap (place_of places') is ∙ at) | inr other ↦ (j, p, holds, others j other ∙ j-at) ]
+  put_keeps e (j, p, holds, j-at) = elim (cases_eq j i) [ inl is ↦ (j, len, holds, ap (place_of places') is ∙ at) | inr other ↦ (j, p, holds, others j other ∙ j-at) ]
 
   -- what is larger stays new
   pub put_new : (us : List Task) → ((j : ℕ) → is_one_of j (to_make us) ≡ true → size (tree_of s i) < size (tree_of s j)) → AreNew places us → AreNew places' us

@@ -42,7 +42,6 @@ use Rattle.mz_bodies.proofs.Saving.{places_kept}
 use Rattle.mz_bodies.proofs.Standing.{may_last}
 use Rattle.mz_bodies.proofs.Using.{using_last}
 use Rattle.mz_bodies.proofs.Moves.{more_written, size_some}
-use Rattle.mz_bodies.proofs.Growing.{many_ids}
 
 -- ---- lists
 
@@ -285,9 +284,6 @@ assumes_all gaps kind ps s is before b same rests stand inside provable = record
   trees = refl;
   provable = λ k e at. provable_as before b.before s.context e same (provable k e at);
 }
-
-pub all_assumed : (s : Sharing) (is : List Id) → length is ≡ length (listed (trees_of s is))
-all_assumed s is = many_ids s is
 
 pub sound_as : (gaps : Bool) (b b' : Before) (ctx : List Binder) (hyps : List Tree) (p : Proof) → b' ≡ b → IsSound gaps b.env.now ctx hyps [] p → IsSound gaps b'.env.now ctx hyps [] p
 sound_as gaps b b' ctx hyps p is h = subst (λ (z : Before). IsSound gaps z.env.now ctx hyps [] p) (sym is) h

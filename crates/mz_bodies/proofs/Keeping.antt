@@ -2,6 +2,7 @@
 use Rattle.std.specs.Prelude.{Bool, ℕ, ◌≡◌, ◌<◌, ◌+◌, ◌^◌, List, [], ◌∷◌, ◌++◌, length, Option, Some, None}
 use Rattle.std.proofs.Common.{refl, sym, ap, ◌∙◌, subst, arith, inl, inr}
 use Rattle.std.proofs.lemmas.List.{length-append}
+use Rattle.std.proofs.lemmas.Bool.{cases_eq}
 use Rattle.mz_cmd.specs.declared.code.ProofCode.TheVariants as code
 use Rattle.mz_logic.specs.Tree.{Tree, var, app, listed}
 use Rattle.mz_logic.specs.Declaration.{Declaration, signatures}
@@ -21,7 +22,7 @@ use Rattle.mz_bodies.specs.Sight.{parts}
 use Rattle.mz_bodies.specs.Going.{Job, CellsRight, PlacesRight, IsGoing}
 use Rattle.mz_bodies.specs.declared.cells.Cell.{Cell}
 use Rattle.mz_bodies.proofs.Building.{one_more_built, put_keeps, put_new, no_place, next_new, rest_fresh}
-use Rattle.mz_bodies.proofs.Lists.{slice_last, same_or_not}
+use Rattle.mz_bodies.proofs.Lists.{slice_last}
 use Rattle.mz_bodies.proofs.Shortening.{command_short}
 use Rattle.mz_bodies.proofs.Using.{using_last}
 use Rattle.mz_bodies.proofs.Standing.{may_last, may_rest}
@@ -46,7 +47,7 @@ module _ (env : List Declaration) (n : ℕ) (hyps : List Tree) (s : Sharing) (va
     (i len : ℕ) (at : place_of places' i ≡ Some len) (others : (j : ℕ) → (j ≡ i → ⊥) → place_of places' j ≡ place_of places j) (long : length heap ≡ len) where
   pub places_put : IsIn s i → PlacesRight env n hyps s vars places hps met heap → PlacesRight env n hyps s vars places' hps met (heap ++ expr (tree_of s i) ∷ [])
   places_put inside h = record {
-    expressions = λ j p j-at. elim (same_or_not j i) [
+    expressions = λ j p j-at. elim (cases_eq j i) [
       | inl is ↦ (
         subst (IsIn s) (sym is) inside,
         (let p-is : len ≡ p = some_is len p (sym (ap (place_of places') is ∙ at) ∙ j-at) in
@@ -54,7 +55,7 @@ module _ (env : List Declaration) (n : ℕ) (hyps : List Tree) (s : Sharing) (va
       )
       | inr other ↦ (let k = h.expressions j p (sym (others j other) ∙ j-at) in (k.0, extends_append heap (expr (tree_of s i) ∷ []) p _ k.1))
     ];
-    variables = λ x k k-at has. elim (same_or_not k.0 i) [
+    variables = λ x k k-at has. elim (cases_eq k.0 i) [
       | inl is ↦ (len, ap (place_of places') is ∙ at)
       | inr other ↦ (let q = h.variables x k k-at has in (q.0, others k.0 other ∙ q.1))
     ];

@@ -16,4 +16,3 @@ mod Ends
 pub mod Paying
 mod Shortening
 pub mod Using
-pub mod Offered

@@ -60,12 +60,6 @@ pub get_end : (A : Type 0) (xs : List A) (y z : A) → get_or (xs ++ y ∷ []) (
 get_end A [] y z = refl
 get_end A (x ∷ xs) y z = get_end A xs y z
 
-pub same_or_not : (a b : ℕ) → (a ≡ b) ⊎ (a ≡ b → ⊥)
-same_or_not zero zero = inl refl
-same_or_not zero (suc b) = inr (λ is. absurd (omega (arith, is)))
-same_or_not (suc a) zero = inr (λ is. absurd (omega (arith, is)))
-same_or_not (suc a) (suc b) = elim (same_or_not a b) [ inl is ↦ inl (ap suc is) | inr other ↦ inr (λ is. other (omega (arith, is))) ]
-
 -- what stands behind the first
 pub rest_whole : (A : Type 0) (y : A) (ys : List A) → take (length (y ∷ ys) - 1) (drop 1 (y ∷ ys)) ≡ ys
 rest_whole A y ys = (let e : length (y ∷ ys) - 1 ≡ length ys = omega arith in ap (λ (n : ℕ). take n ys) e ∙ take-length ys)

@@ -32,24 +32,12 @@ use Rattle.mz_bodies.specs.declared.cells.Cell.{Cell}
 use Rattle.mz_bodies.proofs.Building.{nothing_more, rest_fresh, parts_fresh}
 use Rattle.mz_shared.proofs.Offered.{in_grown, tree_grown}
 use Rattle.std.proofs.lemmas.Option.{get_or_from_slice_get}
+use Rattle.mz_steps.proofs.Offered.{above-more, proofs-more}
 use Rattle.mz_bodies.proofs.Shortening.{command_short, pushes_bytes, pushes_begun, pushes_clear}
 use Rattle.mz_bodies.proofs.Lists.{rest_whole}
 use Rattle.mz_bodies.proofs.Standing.{MayBe, may_last, proving, may_rest, may_push, may_be}
 use Rattle.mz_bodies.proofs.Scoping.{sight_more, there_more}
 use Rattle.mz_bodies.proofs.Using.{or_assoc, or_turn, using_others, using_last, pushes_come}
-
--- one more operand under the others
-pub above_more : (e : Tree) (es : List Tree) (xs : List (Item Tree)) → above es (expr e ∷ xs) ≡ above (e ∷ es) xs
-above_more e es xs =
-    sym (ap (λ (z : List Tree). map expr z ++ xs) (reverse-append (e ∷ []) es)
-    ∙ ap (λ (z : List (Item Tree)). z ++ xs) (map-append expr (reverse es) (e ∷ []))
-    ∙ append_assoc (map expr (reverse es)) (expr e ∷ []) xs)
-
-pub proofs_more : (e : Tree) (es : List Tree) (xs : List (Item Tree)) → map proof (reverse es) ++ proof e ∷ xs ≡ map proof (reverse (e ∷ es)) ++ xs
-proofs_more e es xs =
-    sym (ap (λ (z : List Tree). map proof z ++ xs) (reverse-append (e ∷ []) es)
-    ∙ ap (λ (z : List (Item Tree)). z ++ xs) (map-append proof (reverse es) (e ∷ []))
-    ∙ append_assoc (map proof (reverse es)) (proof e ∷ []) xs)
 
 pub spelled_last : (cs : List (ProofCode × ℕ)) (c : ProofCode × ℕ) → spelled (cs ++ c ∷ []) ≡ spelled cs ++ command_bytes c
 spelled_last [] c = append-nil (command_bytes c)
@@ -75,7 +63,7 @@ module _ (gaps : Bool) (env : List Declaration) (ctx : List Binder) (hyps : List
     expr (tree_of s i.0) ∷ xs,
     (here, refl),
     pushes_owe is (expr (tree_of s i.0) ∷ xs) us goal inside
-        (subst (λ (z : List (Item Tree)). Owes gaps env ctx hyps s ps z us goal) (sym (above_more (tree_of s i.0) (listed (trees_of s is)) xs)) owes),
+        (subst (λ (z : List (Item Tree)). Owes gaps env ctx hyps s ps z us goal) (sym (above-more (tree_of s i.0) (listed (trees_of s is)) xs)) owes),
   )
 
   pub pushes_cost : (is : List Id) (us : List Task) → left env s ps (pushes is ++ us) ≡ 2 * trees_size (trees_of s is) + left env s ps us
@@ -341,7 +329,7 @@ module _ (env : List Declaration) (o : Job) (s : Sharing) (vars : List Id) (plac
         (
           map proof (reverse fs) ++ proof e ∷ g.work.stack,
           (g.owes.1.0, g.owes.1.1.1, refl),
-          subst (λ (z : List (Item Tree)). Owes o.gaps env s.context o.hyps s (parts cells) z us o.goal) (g.owes.1.2 ∙ sym (proofs_more e fs g.work.stack)) g.owes.2,
+          subst (λ (z : List (Item Tree)). Owes o.gaps env s.context o.hyps s (parts cells) z us o.goal) (g.owes.1.2 ∙ sym (proofs-more e fs g.work.stack)) g.owes.2,
         ),
       ) (g.clear.0, (g.clear.0, g.clear.1)) ((g.fresh.0.0, (g.fresh.0.0, g.fresh.0.1)), g.fresh.1)
       (λ u. (

@@ -1,6 +1,7 @@
 -- A name, and what it stands for.
 use Rattle.std.specs.Prelude.{ℕ, Bool, false, ◌||◌, ◌≡◌, ◌<◌, ◌≤◌, ◌+◌, ◌^◌, List, ◌∷◌, ◌++◌, length, Option, Some, None}
 use Rattle.std.proofs.Common.{refl, sym, ap, ◌∙◌, subst, arith, inl}
+use Rattle.std.proofs.lemmas.Bool.{or_left}
 use Rattle.mz_cmd.specs.declared.code.ProofCode.TheVariants as code
 use Rattle.mz_logic.specs.Tree.{Tree, app, none}
 use Rattle.mz_logic.specs.Declaration.{Declaration}
@@ -23,7 +24,7 @@ use Rattle.mz_bodies.specs.Lengths.{begun, IsOutside}
 use Rattle.mz_bodies.proofs.Shortening.{waits_begun, begun_clear, not_begun, sight_outside}
 use Rattle.mz_bodies.proofs.Standing.{proving}
 use Rattle.mz_bodies.proofs.Moves.{at_last, replaced, referred}
-use Rattle.mz_bodies.proofs.Using.{or_within, or_left}
+use Rattle.mz_bodies.proofs.Using.{or_within}
 
 module _ (env : List Declaration) (o : Job) (s : Sharing) (vars : List Id) (places : List (Option ℕ)) (len : ℕ) (hps : List ℕ) (cells : List Cell) (k c : ℕ) (us : List Task) (bs : List ℕ)
     (g : IsGoing env o s vars places len hps cells (prove (by_name k) (Some c) ∷ us) bs) where

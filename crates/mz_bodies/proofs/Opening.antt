@@ -2,9 +2,10 @@
 use Rattle.std.specs.Prelude.{ℕ, ◌≡◌, ◌≤◌, ◌<◌, ◌+◌, List, [], ◌∷◌, ◌++◌, length, Option, Some, None}
 use Rattle.std.proofs.Common.{zero, suc, refl, sym, ap, ◌∙◌, subst, arith, inl, inr}
 use Rattle.std.proofs.lemmas.List.{get_or_append_left, length-append, map-append}
+use Rattle.std.proofs.lemmas.Bool.{cases_eq}
 use Rattle.mz_bodies.specs.declared.cells.Cell.{Cell}
 use Rattle.mz_bodies.specs.Sight.{Link, link, links, link_at, InSight, here, out, IsRightAt, AreRight, IsThere, IsNext}
-use Rattle.mz_bodies.proofs.Lists.{get_end, same_or_not}
+use Rattle.mz_bodies.proofs.Lists.{get_end}
 use Rattle.mz_bodies.proofs.Scoping.{links_long}
 
 pub strict : (a b : ℕ) → a ≤ b → (a ≡ b → ⊥) → a < b
@@ -42,7 +43,7 @@ module _ (ls : List Link) (l : Link) (right : AreRight ls) where
       )
 
   pub right_more : IsRightAt (ls ++ l ∷ []) (length ls) l.outer → AreRight (ls ++ l ∷ [])
-  right_more new c lt = elim (same_or_not c (length ls)) [
+  right_more new c lt = elim (cases_eq c (length ls)) [
     | inl is ↦ subst (λ (k : ℕ). IsRightAt (ls ++ l ∷ []) k (link_at (ls ++ l ∷ []) k).outer) (sym is) (subst (λ (z : Link). IsRightAt (ls ++ l ∷ []) (length ls) z.outer) (sym last) new)
     | inr other ↦ (let lt' : c < length ls = strict c (length ls) (let n = one in omega (arith, n, lt)) other in
         subst (λ (z : Link). IsRightAt (ls ++ l ∷ []) c z.outer) (sym (before c lt')) (stays c (link_at ls c).outer lt' (right c lt')))

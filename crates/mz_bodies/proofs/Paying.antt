@@ -7,7 +7,7 @@ use Rattle.mz_cmd.specs.declared.code.ProofCode.TheVariants as code
 use Rattle.mz_logic.specs.Tree.{Tree, Trees, app, none, more, listed, instance, followed_by, variables, size}
 use Rattle.mz_logic.specs.Signature.{Signature}
 use Rattle.mz_logic.specs.Declaration.{Form, plain_form, abstract_form, defined, body_of, Term, Declaration, terms, signatures, body_tree}
-use Rattle.mz_logic.specs.Sorts.{HasSort, Fits, IsSorted}
+use Rattle.mz_logic.specs.Sorts.{HasSort, IsSorted}
 use Rattle.mz_logic.specs.Legality.{IsLegalEnv}
 use Rattle.mz_logic.specs.Conversions.{Conversion, Conversions, refl_conv, sym_conv, cong_conv, unfold_conv, gap_conv, no_convs, more_convs, IsDefined, AreFresh, Between, AllBetween}
 use Rattle.mz_logic.specs.declared.binder.Binder.{Binder}
@@ -15,7 +15,7 @@ use Rattle.mz_logic.proofs.Offered.{legal_env_is_right}
 use Rattle.mz_store.specs.Sharing.{Sharing, Holds, tree_of}
 use Rattle.mz_store.specs.declared.item.Id.{Id}
 use Rattle.mz_unification.specs.Profile.{Item, expr, obligation}
-use Rattle.mz_unification.proofs.Offered.{trees_of-listed}
+use Rattle.mz_unification.proofs.Offered.{trees_of-listed, count-fits}
 use Rattle.mz_soundness.specs.ProofMachine.{sides}
 use Rattle.mz_steps.specs.Works.{Work}
 use Rattle.mz_steps.specs.Steps.{stacked, Step, command_bytes}
@@ -57,12 +57,6 @@ form_body (defined dummies body) e is = ap first is
 pub body_found : (env : List Declaration) (t : ℕ) (d : Term) (e : Tree) → Some d ≡ slice_get (terms env) t → body_of d.form ≡ more e none → body_at env t ≡ e
 body_found env t d e at is = ap (λ (x : Term). body_tree x.form) (get_or_from_slice_get (terms env) t d _ (sym at)) ∙ form_body d.form e is
 
-pub fits_long : (sigs : List Signature) (ctx : List Binder) (es : Trees) (ps : List Binder) → Fits sigs ctx es ps → length (listed es) ≡ length ps
-fits_long sigs ctx none [] h = refl
-fits_long sigs ctx none (p ∷ ps) h = absurd h
-fits_long sigs ctx (more e es) [] h = absurd h
-fits_long sigs ctx (more e es) (p ∷ ps) (_, _, h) = ap suc (fits_long sigs ctx es ps h)
-
 fresh_long : (ctx : List Binder) (es : Trees) (ys : List ℕ) (bs : List Binder) → AreFresh ctx es ys bs → length ys ≡ length bs
 fresh_long ctx es [] [] h = refl
 fresh_long ctx es [] (b ∷ bs) h = absurd h
@@ -80,7 +74,7 @@ pub unfold_reach : (env : List Declaration) (ctx : List Binder) (t : ℕ) (es : 
     → Between env ctx (unfold_conv t es ys c) l r → n ≡ length (listed es) + length ys → InReach n (body_at env t)
 unfold_reach env ctx t es ys c l r n legal (_, _, _, (d, dummies, body, is, fits, fresh, _)) n-is =
     let right = (legal_env_is_right env legal).terms_right t d is.0 dummies body is.1 in
-    let a = fits_long (signatures env) ctx es d.signature.params fits in
+    let a = count-fits (signatures env) ctx es d.signature.params fits in
     let b = fresh_long ctx es ys dummies fresh in
     let c : length (d.signature.params ++ dummies) ≡ length d.signature.params + length dummies = length-append d.signature.params dummies in
     subst (λ (e : Tree). InReach n e) (sym (body_is env t d dummies body is))

@@ -2,6 +2,7 @@
 use Rattle.std.specs.Prelude.{Bool, ℕ, ◌≡◌, ◌+◌, List, [], ◌∷◌, ◌++◌, length, slice_get, Option, Some}
 use Rattle.std.proofs.Common.{refl, sym, ap, ◌∙◌, subst, arith, inl, inr}
 use Rattle.std.proofs.lemmas.List.{length-append}
+use Rattle.std.proofs.lemmas.Bool.{cases_eq}
 use Rattle.mz_cmd.specs.declared.code.ProofCode.TheVariants as code
 use Rattle.mz_logic.specs.Tree.{Tree}
 use Rattle.mz_logic.specs.Declaration.{Declaration}
@@ -22,7 +23,7 @@ use Rattle.mz_bodies.specs.Using.{IsUsing}
 use Rattle.mz_bodies.specs.Making.{IsFresh}
 use Rattle.mz_bodies.specs.declared.cells.Cell.{Cell}
 use Rattle.mz_bodies.proofs.Building.{nothing_more}
-use Rattle.mz_bodies.proofs.Lists.{slice_last, same_or_not}
+use Rattle.mz_bodies.proofs.Lists.{slice_last}
 use Rattle.mz_bodies.proofs.Keeping.{some_is}
 use Rattle.mz_bodies.specs.Lengths.{begun, waits, IsClear}
 use Rattle.mz_bodies.proofs.Shortening.{command_one, waits_saved}
@@ -48,7 +49,7 @@ module _ (gaps : Bool) (env : List Declaration) (ctx : List Binder) (hyps : List
     linked = subst AreRight (sym links-are) h.linked;
     sound = λ d lt. subst (λ (ps : List Part). IsSound gaps env ctx hyps (in_sight (claims env hyps ps) (part_at ps d).outer) (part_at ps d).proof) (sym parts-are) (h.sound d (omega (arith, lt, many)));
     placed = λ d p lt d-at. subst (λ (ps : List Part). slice_get (heap ++ proof (claim_of env hyps (parts cells) c) ∷ []) p ≡ Some (proof (claim_of env hyps ps d))) (sym parts-are)
-        (elim (same_or_not d c) [
+        (elim (cases_eq d c) [
           | inl is ↦ (let p-is : len ≡ p = some_is len p (sym (ap (place_at cells') is ∙ at) ∙ d-at) in
               slice_last (Item Tree) heap (proof (claim_of env hyps (parts cells) c)) p (sym p-is ∙ sym long) ∙ ap (λ (k : ℕ). Some (proof (claim_of env hyps (parts cells) k))) (sym is))
           | inr other ↦ extends_append heap (proof (claim_of env hyps (parts cells) c) ∷ []) p _ (h.placed d p (omega (arith, lt, many)) (sym (others d other) ∙ d-at))

@@ -3,7 +3,7 @@ use Rattle.std.specs.Prelude.{ℕ, ◌≡◌, ◌<◌, ◌≤◌, ◌+◌, ◌*�
 use Rattle.std.proofs.Common.{zero, suc, refl, sym, ap, ◌∙◌, subst, arith, inl, inr, cond}
 use Rattle.std.proofs.lemmas.List.{get_or_append_left}
 use Rattle.byteorder.specs.Numbers.{length-bytes_low_first}
-use Rattle.std.proofs.lemmas.Bool.{ne_eqb}
+use Rattle.std.proofs.lemmas.Bool.{ne_eqb, cases_eq, false_from_ne_true}
 use Rattle.std.proofs.Common.{eq-eqb}
 use Rattle.mz_cmd.specs.declared.code.ProofCode.{ProofCode}
 use Rattle.mz_cmd.specs.Spelling.{operand_len, shortest_size}
@@ -22,7 +22,7 @@ use Rattle.mz_bodies.specs.Pushing.{pushes}
 use Rattle.mz_bodies.specs.Lengths.{task_bytes, tasks_bytes, begun, is_one_of, waits_at, waits, IsOutside, itself, farther, IsSeen, Sees, IsClear}
 use Rattle.mz_shared.proofs.Offered.{tree_grown}
 use Rattle.mz_bodies.specs.declared.cells.Cell.{Cell}
-use Rattle.mz_bodies.proofs.Lists.{get_end, same_or_not}
+use Rattle.mz_bodies.proofs.Lists.{get_end}
 use Rattle.mz_bodies.proofs.Scoping.{outer_same, links_long}
 
 -- ---- a command
@@ -124,7 +124,7 @@ module _ (env : List Declaration) where
   pub waits_saved : (cs : List ℕ) (place place' : ℕ → Option ℕ) (c q : ℕ) (ps : List Part) → place' c ≡ Some q → ((d : ℕ) → (d ≡ c → ⊥) → place' d ≡ place d)
       → waits env cs place' 0 ps ≤ waits env (c ∷ cs) place 0 ps
   waits_saved cs place place' c q ps at others = waits_most (c ∷ cs) cs place place' 0 ps
-      (λ k p lt. elim (same_or_not k c) [
+      (λ k p lt. elim (cases_eq k c) [
         | inl is ↦ (let a = ap (λ (z : ℕ). waits_at env cs (place' z) k p) is ∙ ap (λ (o : Option ℕ). waits_at env cs o k p) at in omega (arith, a))
         | inr other ↦ (let a = ap (λ (o : Option ℕ). waits_at env cs o k p) (others k other) in let b = begins_at cs (place k) k c p other in omega (arith, a, b))
       ])
@@ -189,7 +189,7 @@ module _ (ps : List Part) (outers : (c : ℕ) → c < length ps → IsThere c (p
         ((λ c is seen. first c is (sees_back gaps env ctx hyps s t xs ys c turns seen)), clear_opened gaps env ctx hyps s ts ys goal h clear)
 
 pub one_or_rest : (d c : ℕ) (cs : List ℕ) → is_one_of c (d ∷ cs) ≡ true → (d ≡ c) ⊎ (is_one_of c cs ≡ true)
-one_or_rest d c cs is = elim (same_or_not d c) [
+one_or_rest d c cs is = elim (cases_eq d c) [
   | inl same ↦ inl same
   | inr other ↦ inr (sym (ap (λ (b : Bool). b || is_one_of c cs) (ne_eqb d c other)) ∙ is)
 ]
@@ -218,13 +218,9 @@ module _ (gaps : Bool) (env : List Declaration) (ctx : List Binder) (hyps : List
     | inr rest ↦ begun_there ts ys goal c h rest
   ]
 
-is_false : (b : Bool) → (b ≡ true → ⊥) → b ≡ false
-is_false true h = absurd (h refl)
-is_false false h = refl
-
 -- a let that is seen isn't begun
 pub not_begun : (ps : List Part) (t : Task) (us : List Task) (d : ℕ) → IsClear ps (t ∷ us) → Sees ps t d → is_one_of d (begun us) ≡ false
-not_begun ps t us d clear seen = is_false (is_one_of d (begun us)) (λ is. clear.0 d is seen)
+not_begun ps t us d clear seen = false_from_ne_true (is_one_of d (begun us)) (λ is. clear.0 d is seen)
 
 -- what a let's part sees, once it is begun
 module _ (ps : List Part) (outers : (c : ℕ) → c < length ps → IsThere c (part_at ps c).outer) (c d : ℕ) (us : List Task) (lt : d < length ps) (way : IsOutside ps c d)

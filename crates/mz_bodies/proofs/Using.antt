@@ -15,9 +15,9 @@ use Rattle.mz_bodies.specs.Pushing.{pushes}
 use Rattle.mz_bodies.specs.Uses.{Use, uses, some_use, command_uses, commands_use}
 use Rattle.mz_bodies.specs.Using.{let_uses, part_uses, task_uses, IsUsed, ComesTo, IsUsing}
 use Rattle.mz_bodies.specs.declared.cells.Cell.{Cell}
-use Rattle.mz_bodies.proofs.Lists.{same_or_not}
 use Rattle.mz_bodies.proofs.Scoping.{sight_more, there_more}
 use Rattle.std.proofs.lemmas.List.{get_or_append_left}
+use Rattle.std.proofs.lemmas.Bool.{cases_eq, or_right}
 
 -- ---- one or another
 
@@ -37,21 +37,9 @@ or_swap true false c = refl
 or_swap false true c = refl
 or_swap false false c = refl
 
-pub or_right : (a b : Bool) → b ≡ true → (a || b) ≡ true
-or_right true b is = refl
-or_right false b is = is
-
-pub or_left : (a b : Bool) → a ≡ true → (a || b) ≡ true
-or_left true b is = refl
-or_left false b is = absurd (grind (arith, is))
-
 pub or_within : (a b : Bool) → (a ≡ true → b ≡ true) → (a || b) ≡ b
 or_within true b within = sym (within refl)
 or_within false b within = refl
-
-pub or_none : (a : Bool) → (a || false) ≡ a
-or_none true = refl
-or_none false = refl
 
 -- ---- one command more
 
@@ -86,7 +74,7 @@ pub using_saved : (u : Use) (whole : Bool) (cells cells' : List Cell) (used : Bo
     → ((d : ℕ) → (d ≡ c → ⊥) → place_at cells' d ≡ place_at cells d) → IsUsing u whole cells used (save c ∷ us) → IsUsing u whole cells' used us
 using_saved u whole cells cells' used c us parts-are others h = record {
   placed = λ d p at is. (let is' : part_uses u (parts cells) d ≡ true = ap (λ (ps : List Part). part_uses u ps d) (sym parts-are) ∙ is in
-      elim (same_or_not d c) [
+      elim (cases_eq d c) [
         | inl same ↦ h.comes.0 (ap (part_uses u (parts cells)) (sym same) ∙ is')
         | inr other ↦ h.placed d p (sym (others d other) ∙ at) is'
       ]);

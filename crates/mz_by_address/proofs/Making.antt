@@ -4,6 +4,7 @@ use Rattle.std.specs.Prelude.{slice_get, drop}
 use Rattle.std.specs.Option.{option_map}
 use Rattle.std.proofs.lemmas.List.{map-append}
 use Rattle.std.proofs.lemmas.Option.{slice_get-map}
+use Rattle.mz_general.proofs.Offered.{slice_get-map_back}
 use Rattle.mz_cmd.specs.declared.rule.K.{K}
 use Rattle.mz_cmd.specs.declared.code.ProofCode.{ProofCode}
 use Rattle.mz_cmd.specs.declared.code.ProofCode.TheVariants as code
@@ -24,7 +25,6 @@ use Rattle.mz_steps.specs.Endings.{spelled_body, MayStand}
 use Rattle.mz_steps.specs.Laws.{AreRightTrees, IsRight}
 use Rattle.mz_steps.specs.SharedBodies.{top, built, Builds, AreDistinct}
 use Rattle.mz_steps.proofs.Offered.{drop-front}
-use Rattle.mz_streams.proofs.Offered.{map-back}
 use Rattle.mz_numbered.specs.Making.{portable_trees, made_of, row_makes, first_makes, and_then, makes_from, MadeOnce}
 use Rattle.mz_by_address.proofs.Turns.{turn-is, makes-is}
 use Rattle.mz_by_address.proofs.Names.{steps-keep-names, right-both, right-built, known-at, one-tree}
@@ -109,8 +109,8 @@ module _ (tables : RowsBefore) (env : List Declaration) (n : ℕ) (ctx : List Bi
 pub made-once : (sigs : List Signature) (ctx : List Binder) (met : List ℕ) (made : List (ℕ × Tree)) (bs : List Tree) → trees_made made ≡ map (renamed (name_in met)) bs → AreRightTrees sigs ctx met bs → AreDistinct bs → MadeOnce made
 made-once sigs ctx met made bs same right distinct i j p q e at at' =
     let g : ℕ → ℕ = name_in met in
-    let (a, a-at, a-is) = map-back (renamed g) bs i e (named i p at) in
-    let (b, b-at, b-is) = map-back (renamed g) bs j e (named j q at') in
+    let (a, a-at, a-is) = slice_get-map_back (renamed g) bs i e (named i p at) in
+    let (b, b-at, b-is) = slice_get-map_back (renamed g) bs j e (named j q at') in
     let one : a ≡ b = one-tree met a b (known-at sigs ctx met bs i a right a-at) (known-at sigs ctx met bs j b right b-at) (a-is ∙ sym b-is) in
     let index : i ≡ j = distinct i j a a-at (b-at ∙ ap (λ (z : Tree). Some z) (sym one)) in
     ap (λ (m : ℕ × Tree). m.0) (some_is at (ap (slice_get made) index ∙ at'))

@@ -9,6 +9,7 @@ use Rattle.mz_logic.specs.Signature.{Signature}
 use Rattle.mz_logic.specs.Declaration.{Declaration, signatures}
 use Rattle.mz_logic.specs.Variables.{Occurs, OccursIn}
 use Rattle.mz_logic.specs.declared.binder.Binder.{Binder}
+use Rattle.mz_logic.proofs.Offered.{same-variable, same-term, same-operands, same-first, same-rest, no-application, no-trees}
 use Rattle.mz_unification.specs.Profile.{Item, expr, proof, obligation, conversion}
 use Rattle.mz_unification.proofs.Offered.{some_is}
 use Rattle.mz_steps.specs.Works.{renamed, all_renamed, name_in, Work}
@@ -100,43 +101,22 @@ right-built sigs ctx c w h = tt
 
 -- ---- different names
 
-app-term : (t u : ℕ) (es fs : Trees) → app t es ≡ app u fs → t ≡ u
-app-term t u es fs e = cc
-
-app-operands : (t u : ℕ) (es fs : Trees) → app t es ≡ app u fs → es ≡ fs
-app-operands t u es fs e = cc
-
-more-first : (e f : Tree) (es fs : Trees) → more e es ≡ more f fs → e ≡ f
-more-first e f es fs is = cc
-
-more-rest : (e f : Tree) (es fs : Trees) → more e es ≡ more f fs → es ≡ fs
-more-rest e f es fs is = cc
-
-var-is : (x y : ℕ) → var x ≡ var y → x ≡ y
-var-is x y e = cc
-
-no-app : (x t : ℕ) (es : Trees) → var x ≡ app t es → ⊥
-no-app x t es e = cc
-
-no-more : (e : Tree) (es : Trees) → none ≡ more e es → ⊥
-no-more e es is = cc
-
 module _ (met : List ℕ) where
   abbrev g : ℕ → ℕ
   g = name_in met
 
   mutual
     pub one-tree : (a b : Tree) → ((y : ℕ) → Occurs y a → Contains met y) → ((y : ℕ) → Occurs y b → Contains met y) → renamed g a ≡ renamed g b → a ≡ b
-    one-tree (var x) (var y) in-a in-b is = ap var (one-name met x y (in-a x refl) (in-b y refl) (var-is (g x) (g y) is))
-    one-tree (var x) (app t es) in-a in-b is = absurd (no-app (g x) t (all_renamed g es) is)
-    one-tree (app t es) (var x) in-a in-b is = absurd (no-app (g x) t (all_renamed g es) (sym is))
+    one-tree (var x) (var y) in-a in-b is = ap var (one-name met x y (in-a x refl) (in-b y refl) (same-variable (g x) (g y) is))
+    one-tree (var x) (app t es) in-a in-b is = absurd (no-application (g x) t (all_renamed g es) is)
+    one-tree (app t es) (var x) in-a in-b is = absurd (no-application (g x) t (all_renamed g es) (sym is))
     one-tree (app t es) (app u fs) in-a in-b is =
-        ap₂ app (app-term t u (all_renamed g es) (all_renamed g fs) is) (one-list es fs in-a in-b (app-operands t u (all_renamed g es) (all_renamed g fs) is))
+        ap₂ app (same-term t u (all_renamed g es) (all_renamed g fs) is) (one-list es fs in-a in-b (same-operands t u (all_renamed g es) (all_renamed g fs) is))
 
     one-list : (es fs : Trees) → ((y : ℕ) → OccursIn y es → Contains met y) → ((y : ℕ) → OccursIn y fs → Contains met y) → all_renamed g es ≡ all_renamed g fs → es ≡ fs
     one-list none none in-a in-b is = refl
-    one-list none (more f fs) in-a in-b is = absurd (no-more (renamed g f) (all_renamed g fs) is)
-    one-list (more e es) none in-a in-b is = absurd (no-more (renamed g e) (all_renamed g es) (sym is))
+    one-list none (more f fs) in-a in-b is = absurd (no-trees (renamed g f) (all_renamed g fs) is)
+    one-list (more e es) none in-a in-b is = absurd (no-trees (renamed g e) (all_renamed g es) (sym is))
     one-list (more e es) (more f fs) in-a in-b is =
-        ap₂ more (one-tree e f (λ y o. in-a y (inl o)) (λ y o. in-b y (inl o)) (more-first (renamed g e) (renamed g f) (all_renamed g es) (all_renamed g fs) is))
-        (one-list es fs (λ y o. in-a y (inr o)) (λ y o. in-b y (inr o)) (more-rest (renamed g e) (renamed g f) (all_renamed g es) (all_renamed g fs) is))
+        ap₂ more (one-tree e f (λ y o. in-a y (inl o)) (λ y o. in-b y (inl o)) (same-first (renamed g e) (renamed g f) (all_renamed g es) (all_renamed g fs) is))
+        (one-list es fs (λ y o. in-a y (inr o)) (λ y o. in-b y (inr o)) (same-rest (renamed g e) (renamed g f) (all_renamed g es) (all_renamed g fs) is))

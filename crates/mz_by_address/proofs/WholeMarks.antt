@@ -4,11 +4,12 @@ use Rattle.std.proofs.Common.{◌≡◌, ℕ, zero, suc, ◌+◌, ◌<◌, ◌�
 use Rattle.std.specs.Prelude.{slice_get}
 use Rattle.std.proofs.lemmas.Bool.{ltb-true}
 use Rattle.std.proofs.lemmas.Option.{slice_get_within}
+use Rattle.mz_general.proofs.Offered.{slice_get-last, slice_get-append_add}
 use Rattle.mz_logic.specs.Tree.{Tree, Trees, var, app, none, more, followed_by, variables}
 use Rattle.mz_logic.specs.Signature.{Signature}
 use Rattle.mz_logic.specs.Variables.{Occurs}
 use Rattle.mz_logic.specs.declared.binder.Binder.{Binder}
-use Rattle.mz_logic.proofs.Offered.{extends_append, split_at, slice_get-append_add}
+use Rattle.mz_logic.proofs.Offered.{extends_append, split_at}
 use Rattle.mz_unification.specs.Profile.{strict}
 use Rattle.mz_unification.specs.Streams.{of_definition, UnifyCommand}
 use Rattle.mz_unification.specs.Spells.{trees_of, variables_from, dummy_of, Marks, marked, with_dummy, at_first}
@@ -17,10 +18,11 @@ use Rattle.mz_unification.specs.UnifyMachine.{UnifyState, unify}
 use Rattle.mz_unification.specs.Laws.{instances_of, unfolding_by}
 use Rattle.mz_unification.proofs.Offered.{unfoldings-exact, some_is, unfolding-is}
 use Rattle.mz_streams.specs.Sharing.{Built, Builds, BuildsAll, IsWhole}
-use Rattle.mz_streams.proofs.Offered.{building-spells, at-last}
+use Rattle.mz_streams.proofs.Offered.{building-spells}
 use Rattle.mz_numbered.specs.Making.{portable_trees}
 use Rattle.mz_numbered.specs.Saving.{AreWhole}
 use Rattle.mz_numbered.proofs.Offered.{whole-streams}
+use Rattle.mz_steps.proofs.Offered.{get-own}
 use Rattle.mz_by_address.specs.SharedRows.{SharesBody}
 
 -- the first of the parameters and dummies are marked
@@ -69,7 +71,7 @@ with-next n m s (known, whole) =
     let x : ℕ = n + length m.dummies in (
       (λ y lt. elim (below-or-last n (length m.dummies) y (let many = length-append m.dummies (dummy_of s ∷ []) in omega (arith, many))) [
         | inl before ↦ (let (i, at) = known y before in (i, extends_append m.trees (var x ∷ []) i (var y) at))
-        | inr is ↦ (length m.trees, at-last m.trees (var x) ∙ ap (λ (z : ℕ). Some (var z)) (sym is))
+        | inr is ↦ (length m.trees, slice_get-last m.trees (var x) ∙ ap (λ (z : ℕ). Some (var z)) (sym is))
       ]),
       whole-more m.trees (var x) whole λ u fs is. absurd cc,
     )
@@ -101,12 +103,6 @@ module _ (n : ℕ) (sigs : List Signature) where
         let saves' : SavesWhole n (cs ++ ds) = subst (SavesWhole n) is saves in
         all-good-after es mid m' rest us' ds others (saves-right n cs ds saves') (good-after e m mid us rest cs first (saves-left n cs ds saves') good)
 
--- at first
-first-marked : (j : ℕ) (ps : List Binder) (y : ℕ) → y < length ps → slice_get (variables_from j ps) y ≡ Some (var (j + y))
-first-marked j [] y lt = absurd (omega arith)
-first-marked j (p ∷ ps) zero lt = ap (λ (z : ℕ). Some (var z)) (let is : j ≡ j + 0 = omega arith in is)
-first-marked j (p ∷ ps) (suc y) lt = first-marked (suc j) ps y (omega arith) ∙ ap (λ (z : ℕ). Some (var z)) (let is : suc j + y ≡ j + suc y = omega arith in is)
-
 none-saved : (j : ℕ) (ps : List Binder) (i t : ℕ) (es : Trees) → slice_get (variables_from j ps) i ≡ Some (app t es) → ⊥
 none-saved j [] i t es at = cc
 none-saved j (p ∷ ps) zero t es at = no-var t es j (sym at)
@@ -114,7 +110,7 @@ none-saved j (p ∷ ps) (suc i) t es at = none-saved (suc j) ps i t es at
 
 good-first : (ps : List Binder) → IsGood (length ps) (at_first ps)
 good-first ps = (
-  (λ y lt. (y, first-marked 0 ps y (omega arith) ∙ ap (λ (z : ℕ). Some (var z)) (let is : 0 + y ≡ y = omega arith in is))),
+  (λ y lt. (y, get-own 0 ps y (omega arith) ∙ ap (λ (z : ℕ). Some (var z)) (let is : 0 + y ≡ y = omega arith in is))),
   λ j t y es at o. absurd (none-saved 0 ps j t es at),
 )
 

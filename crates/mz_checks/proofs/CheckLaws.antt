@@ -1,7 +1,7 @@
 -- Lemmas on all lists of checks.
-use Rattle.std.specs.Prelude.{◌≡◌, refl, ◌⊎◌, ⊤, List, [], ◌∷◌, Option, Some, None}
-use Rattle.std.proofs.Common.{inl, inr, ap, sym, ◌∙◌}
-use Rattle.mz_checks.specs.Checks.{Checks, nothing, ask, demand, ◌>>◌, retold, AllHold, FailsFirst, AreDecided}
+use Rattle.std.specs.Prelude.{◌≡◌, refl, ◌⊎◌, ⊤, []}
+use Rattle.std.proofs.Common.{inl, inr, sym, ◌∙◌}
+use Rattle.mz_checks.specs.Checks.{Checks, nothing, ask, AllHold, FailsFirst, AreDecided}
 
 -- at most one refusal belongs to the first that does not hold
 pub fails_first-unique : {R : Type 0} → (cs : Checks R) → (r s : R) → FailsFirst cs r → FailsFirst cs s → r ≡ s

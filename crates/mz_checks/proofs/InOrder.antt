@@ -1,11 +1,11 @@
 -- Checks one after another, and those of the rows of a table.
-use Rattle.std.proofs.Common.{◌≡◌, ◌<◌, ◌≤◌, ◌+◌, ◌-◌, ◌⊎◌, ℕ, zero, suc, List, [], ◌∷◌, Result, Ok, Err, inl, inr, sym, ap, ◌∙◌, subst, arith, add-one, refl}
+use Rattle.std.proofs.Common.{◌≡◌, ◌<◌, ◌≤◌, ◌+◌, ◌-◌, ◌⊎◌, ℕ, zero, suc, List, [], ◌∷◌, Result, Ok, Err, inl, inr, sym, ap, subst, arith, refl}
 use Rattle.std.specs.Prelude.{Bool, true, false, bytes_eq}
 use Rattle.std.specs.Bool.{Decides as IsDecidedBy}
 use Rattle.std.specs.List.{range_with_len}
 use Rattle.std.proofs.lemmas.Bool.{cases_lt}
 use Rattle.std.proofs.lemmas.Slice.Eq.{bytes_eq-Decides}
-use Rattle.mz_checks.specs.Checks.{Checks, nothing, ask, demand, ◌>>◌, each_in_order, AllHold, FailsFirst, Judges, AreDecided}
+use Rattle.mz_checks.specs.Checks.{Checks, nothing, ask, ◌>>◌, each_in_order, AllHold, FailsFirst, Judges, AreDecided}
 
 pub fails-before : {R : Type 0} → (bs cs : Checks R) → (r : R) → FailsFirst bs r → FailsFirst (bs >> cs) r
 fails-before nothing cs r f = absurd f

@@ -15,10 +15,10 @@ use Rattle.mz_forms.specs.Gaps.{LeavesOnly, AllLeaveOnly}
 use Rattle.mz_forms.specs.Proof.{Proof, Proofs, by_hyp, by_name, by_citation, by_conv, by_let, by_gap, no_proofs, more_proofs}
 use Rattle.mz_typing.specs.Names.{ProofThere, ProofsThere}
 use Rattle.mz_type.specs.Meaning.{then_deriv, derivation, derivations, LetsDerive, AllLetsDerive}
+use Rattle.mz_unification.proofs.Offered.{count-fits}
 use Rattle.mz_shared.specs.Instances.{InReach}
 use Rattle.mz_bodies.specs.Claims.{claim_at, conclusion_of, proved, all_proved, IsCitable, IsSound, AreSound}
 use Rattle.mz_shared.proofs.Offered.{reach_of_sort}
-use Rattle.mz_bodies.proofs.Offered.{fits_long}
 use Rattle.mz_claims.specs.Laws.{StatedProofsAreSound}
 
 module _ (env : List Declaration) (ctx : List Binder) (hyps : Trees) where
@@ -59,7 +59,7 @@ module _ (env : List Declaration) (ctx : List Binder) (hyps : Trees) where
           h.3,
           h.4,
           is,
-          subst (λ (n : ℕ). InReach n a.conclusion) (sym (fits_long (signatures env) ctx es a.params h.3)) (reach_of_sort (signatures env) a.params a.conclusion right.0 right.1),
+          subst (λ (n : ℕ). InReach n a.conclusion) (sym (count-fits (signatures env) ctx es a.params h.3)) (reach_of_sort (signatures env) a.params a.conclusion right.0 right.1),
           (right.0, sort_of_instance (signatures env) ctx a.params es h.3 a.conclusion right.0 right.1),
         )
 

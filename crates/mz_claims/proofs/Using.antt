@@ -1,19 +1,15 @@
 -- What a stated proof uses is what its derivation cites, and its gaps.
-use Rattle.std.specs.Prelude.{ℕ, zero, suc, ◌≡◌, ◌⊎◌, ⊤, Bool, true, false, ◌||◌, List, [], ◌∷◌, ◌++◌, map, get_or}
+use Rattle.std.specs.Prelude.{ℕ, zero, suc, ◌≡◌, ⊤, Bool, true, false, ◌||◌, List, [], ◌∷◌, ◌++◌, map, get_or}
 use Rattle.std.proofs.Common.{refl, sym, ap, ◌∙◌, arith, inl, inr, eq-eqb}
-use Rattle.std.proofs.lemmas.Bool.{eqb-true}
+use Rattle.std.proofs.lemmas.Bool.{eqb-true, or_right, or_left}
 use Rattle.std.proofs.lemmas.List.{map-append}
+use Rattle.mz_general.proofs.Offered.{or-cases}
 use Rattle.mz_logic.specs.Conversions.{Conversion, Conversions, refl_conv, sym_conv, cong_conv, unfold_conv, gap_conv, no_convs, more_convs, GapsOnly, AllGapsOnly}
 use Rattle.mz_logic.specs.Derivations.{Derivation, Derivations, no_derivs, more_derivs, CitesOnly, AllCiteOnly, derivation_at}
 use Rattle.mz_forms.specs.Proof.{Proof, Proofs, by_hyp, by_name, by_citation, by_conv, by_let, by_gap, no_proofs, more_proofs}
 use Rattle.mz_type.specs.Meaning.{then_deriv, derivation, derivations}
 use Rattle.mz_bodies.specs.Uses.{Use, a_gap, assertion, is_gap, is_assertion, conv_uses, convs_use, uses, some_use}
-use Rattle.mz_bodies.proofs.Offered.{or_left, or_right}
 use Rattle.mz_claims.specs.Laws.{may_use, allowing, StatedProofsUseWhatTheyMean}
-
-or_cases : (a b : Bool) → (a || b) ≡ true → (a ≡ true) ⊎ (b ≡ true)
-or_cases true b is = inl refl
-or_cases false b is = inr is
 
 no_use : (A : Type 0) → ◌≡◌ {A = Bool} false true → A
 no_use A is = absurd (grind (arith, is))
@@ -32,7 +28,7 @@ module _ (cites : ℕ → Bool) (gaps : Bool) where
   citation_allowed (assertion U) T is may = ap cites (eqb-true U T is) ∙ may
 
   both_allowed : (f f' : Use → Bool) → AreAllowed f → AreAllowed f' → AreAllowed (λ u. f u || f' u)
-  both_allowed f f' a b u is = elim (or_cases (f u) (f' u) is) [ inl one ↦ a u one | inr other ↦ b u other ]
+  both_allowed f f' a b u is = elim (or-cases (f u) (f' u) is) [ inl one ↦ a u one | inr other ↦ b u other ]
 
   -- ---- conversions
 

@@ -3,6 +3,7 @@ use Rattle.std.proofs.Common.{◌≡◌, ℕ, ◌+◌, Bool, true, false, cond, 
 use Rattle.std.specs.Prelude.{◌↔◌, IsTrue}
 use Rattle.std.proofs.lemmas.Bool.{ltb-false, ltb-true, eqb-true, eq-eqb, le-ltb}
 use Rattle.mz_checks.specs.Checks.{Judges}
+use Rattle.mz_cmd.proofs.SpellingLaws.{found-is}
 use Rattle.mz_cmd.specs.declared.command.Cmd.{Cmd}
 use Rattle.mz_cmd.specs.declared.command.CmdFault.{CmdFault}
 use Rattle.mz_cmd.specs.declared.statement.StmtAt.{StmtAt}
@@ -19,9 +20,6 @@ Reads bytes at r = (c : Cmd) → (r ≡ Ok c) ↔ StandsAt bytes at c
 
 abbrev found : Cmd → Result Cmd CmdFault
 found c = Ok c
-
-found-is : (c d : Cmd) → found c ≡ found d → c ≡ d
-found-is c d e = cc
 
 -- one command stands at a place
 one-stands : (bytes : List ℕ) (at : ℕ) (c d : Cmd) → Reads bytes at (Ok c) → StandsAt bytes at d → c ≡ d
@@ -73,7 +71,7 @@ listed-stands bytes at (Ok c) reads s e = go (eqb c.code 0) (begins_statement c.
         let head : IsHead bytes at c.code (at + c.len) (at + c.value) = record { command = c; stands = (reads c).0 refl; statement = f; leads_on = (ltb-false _ _ g, ltb-false _ _ h); kind_is = refl; body_is = refl; next_is = refl } in
         subst (IsListedAt bytes at) (found-place (Head c.code (at + c.len) (at + c.value)) s is) head
 
-not-ended : (code : ℕ) → IsTrue (begins_statement code) → eqb code 0 ≡ false
+pub not-ended : (code : ℕ) → IsTrue (begins_statement code) → eqb code 0 ≡ false
 not-ended code h = go (eqb code 0) refl
   where
     go : (z : Bool) → eqb code 0 ≡ z → z ≡ false

@@ -41,7 +41,7 @@ Spells-again bytes rest code value s =
 abbrev found : Cmd → Result Cmd CmdFault
 found c = Ok c
 
-found-is : (c d : Cmd) → found c ≡ found d → c ≡ d
+pub found-is : (c d : Cmd) → found c ≡ found d → c ≡ d
 found-is c d e = cc
 
 -- no command's spelling begins another's

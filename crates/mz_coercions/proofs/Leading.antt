@@ -4,9 +4,10 @@ use Rattle.std.specs.Prelude.{IsTrue, MatchOption}
 use Rattle.std.specs.Option.{is_some}
 use Rattle.std.proofs.lemmas.Bool.{true≢false}
 use Rattle.std.proofs.lemmas.List.{get_or_default}
-use Rattle.std.proofs.lemmas.Option.{get_or_from_slice_get}
+use Rattle.std.proofs.lemmas.Option.{get_or_from_slice_get, same_Some, none-some}
+use Rattle.std.proofs.lemmas.List.Elements.{Contains-push, Contains-push_cases, Contains-append_left}
+use Rattle.mz_general.proofs.Offered.{slice_get-last, same-head, all_so_far_more, all-members, contains_at, AllSoFar}
 use Rattle.mz_logic.specs.Tree.{Tree, app, none, more}
-use Rattle.mz_tokens.proofs.Offered.{AllSoFar, all_so_far_more, all-members, contains_at, contains_first, contains_last, contains_either, place_last}
 use Rattle.mz_coercions.specs.declared.coercion.Coercion.{Coercion}
 use Rattle.mz_coercions.specs.declared.firsts.Start.{Start}
 use Rattle.mz_coercions.specs.declared.steps.FirstSteps.{FirstSteps}
@@ -15,15 +16,6 @@ use Rattle.mz_coercions.specs.Answers.{AreEnds, AreStarts, HasLength, HasPath, I
 use Rattle.mz_coercions.specs.Firsts.{first_of, AreForgotten, AreLed, AreMet, IsChanged, IsForgotten, IsOfStart, IsOfStarts, IsPut, IsSame}
 use Rattle.mz_coercions.proofs.Paths.{path-join, path-more, clash-two, taken, no-return, last-end, contains-middle, never-reach, stays-one}
 
-some-one : {A : Type 0} {x y : A} → Some x ≡ Some y → x ≡ y
-some-one e = cc
-
-none-some : {A : Type 0} {y : A} → None ≡ Some y → ⊥
-none-some e = cc
-
-cons-one : {A : Type 0} {x y : A} {xs ys : List A} → x ∷ xs ≡ y ∷ ys → x ≡ y
-cons-one e = cc
-
 -- what a loop has in hand
 pub item-in : {X : Type 0} (xs : List X) (i : ℕ) (e : X) → i < length xs → Contains xs (get_or xs i e)
 item-in xs i e below = (i, below, get_or_default xs i (get_or xs i e) e below)
@@ -31,17 +23,17 @@ item-in xs i e below = (i, below, get_or_default xs i (get_or xs i e) e below)
 -- ---- reading
 
 pub no-first : (cs : List Coercion) (m : FirstSteps) (from to : ℕ) → AreLed cs m → first_of m from to ≡ None → (p : ℕ) (path : List ℕ) → IsPath cs from (p ∷ path) to → ⊥
-no-first cs m from to led gone p path on = none-some (sym gone ∙ (led from to).0 p path on)
+no-first cs m from to led gone p path on = none-some _ (sym gone ∙ (led from to).0 p path on)
 
 pub next-at : (cs : List Coercion) (m : FirstSteps) (from to place : ℕ) (o : Option Coercion) → AreLed cs m → first_of m from to ≡ Some place → o ≡ slice_get cs place
     → MatchOption o ((p : ℕ) (path : List ℕ) → IsPath cs from (p ∷ path) to → ⊥) (λ c. (p : ℕ) × IsNext cs from to p c)
 next-at cs m from to place None led some at =
     let (path, (d, at-d, begins, rest)) = (led from to).1 place some in
-    absurd (none-some (at ∙ at-d))
+    absurd (none-some _ (at ∙ at-d))
 next-at cs m from to place (Some c) led some at =
     let (path, (d, at-d, begins, rest)) = (led from to).1 place some in
-    let same : d ≡ c = some-one (sym at-d ∙ sym at) in
-    (place, (sym at, ap (λ x. x.from) (sym same) ∙ begins, (path, subst (λ x. IsPath cs x.to path to) same rest), λ q other on. some-one (sym ((led from to).0 q other on) ∙ some)))
+    let same : d ≡ c = same_Some _ _ (sym at-d ∙ sym at) in
+    (place, (sym at, ap (λ x. x.from) (sym same) ∙ begins, (path, subst (λ x. IsPath cs x.to path to) same rest), λ q other on. same_Some _ _ (sym ((led from to).0 q other on) ∙ some)))
 
 pub reach-next : (cs : List Coercion) (from to : ℕ) (o : Option Coercion) → MatchOption o ((p : ℕ) (path : List ℕ) → IsPath cs from (p ∷ path) to → ⊥) (λ c. (p : ℕ) × IsNext cs from to p c)
     → (from ≡ to → ⊥) → (b : Bool) → b ≡ is_some o → IsTrue b ↔ HasPath cs from to
@@ -60,7 +52,7 @@ pub next-reach : (cs : List Coercion) (most from to p : ℕ) (c : Coercion) → 
 next-reach cs most from to p c next other ([], on, le) = absurd (other on)
 next-reach cs most from to p c (at-p, begins-p, there, one) other (q ∷ path, (d, at, begins, rest), le) =
     let here : q ≡ p = one q path (d, at, begins, rest) in
-    let same : d ≡ c = some-one (sym at ∙ ap (slice_get cs) here ∙ at-p) in
+    let same : d ≡ c = same_Some _ _ (sym at ∙ ap (slice_get cs) here ∙ at-p) in
     (path, subst (λ x. IsPath cs x.to path to) same rest, omega (arith, le))
 
 -- what is known when so many coercions of a path have been taken, of at most so many
@@ -96,7 +88,7 @@ module _ (cs : List Coercion) (most from to sort many : ℕ) (along : IsAlong cs
 pub behind : (cs : List Coercion) (c : Coercion) (to : ℕ) (q : List ℕ) → OnePath (cs ++ c ∷ []) → IsPath (cs ++ c ∷ []) c.to q to → IsPath cs c.to q to
 behind cs c to q one on = elim (taken cs c c.to to q on) [
   | inl without ↦ without
-  | inr again ↦ absurd (no-return (cs ++ c ∷ []) one (length cs) c q to (place_last cs c) on (subst (λ x. Contains x (length cs)) (sym again.2) (contains-middle again.0 again.1 (length cs))))
+  | inr again ↦ absurd (no-return (cs ++ c ∷ []) one (length cs) c q to (slice_get-last cs c) on (subst (λ x. Contains x (length cs)) (sym again.2) (contains-middle again.0 again.1 (length cs))))
 ]
 
 pub before-here : (cs : List Coercion) (c : Coercion) (from : ℕ) → from ≡ c.from → IsBefore cs c from (length cs)
@@ -107,7 +99,7 @@ before-first cs c m from None led is other = λ has. go has.0 has.1
   where
     go : (path : List ℕ) → IsPath cs from path c.from → ⊥
     go [] on = other on
-    go (p ∷ path) on = none-some (is ∙ (led from c.from).0 p path on)
+    go (p ∷ path) on = none-some _ (is ∙ (led from c.from).0 p path on)
 before-first cs c m from (Some p) led is other =
     let (path, on) = (led from c.from).1 p (sym is) in
     (p ∷ path, path ++ length cs ∷ [], on, refl)
@@ -231,7 +223,7 @@ module _ (cs : List Coercion) (c : Coercion) (starts : List Start) (ends : List 
         let (front, rest, on, is) = from-there.0 f in-f in
         let (q, on-q) = to-there.0 t in-t in
         let all : IsPath (cs ++ c ∷ []) f.sort (front ++ length cs ∷ q) t =
-        path-join (cs ++ c ∷ []) f.sort c.from t front (length cs ∷ q) (path-more cs c f.sort c.from front on) (c, place_last cs c, refl, path-more cs c c.to t q on-q) in
+        path-join (cs ++ c ∷ []) f.sort c.from t front (length cs ∷ q) (path-more cs c f.sort c.from front on) (c, slice_get-last cs c, refl, path-more cs c c.to t q on-q) in
         (rest ++ q, subst (λ x. IsPath (cs ++ c ∷ []) f.sort x t) (append-mid front q (length cs) ∙ ap (λ zs. zs ++ q) is) all)
 
     module _ (n : Kept) (change : IsChanged m n (IsOfStarts starts ends)) (put : (f : Start) (t : ℕ) → Contains starts f → Contains ends t → IsOfStarts starts ends f.sort t (first_of n f.sort t)) where
@@ -240,7 +232,7 @@ module _ (cs : List Coercion) (c : Coercion) (starts : List Start) (ends : List 
       begins-at s t p q path on (f, in-f, (is, in-t, place)) =
           let (rest, way) = long f t in-f in-t in
           let same : q ∷ path ≡ f.place ∷ rest = one s t (q ∷ path) (f.place ∷ rest) on (subst (λ x. IsPath (cs ++ c ∷ []) x (f.place ∷ rest) t) is way) in
-          cons-one same ∙ sym (some-one place)
+          same-head same ∙ sym (same_Some _ _ place)
 
       new-first : (s t : ℕ) (p : ℕ) (path : List ℕ) → IsPath (cs ++ c ∷ []) s (p ∷ path) t → IsPath cs s (p ∷ path) t ⊎ (HasPath cs s c.from × HasPath cs c.to t) → first_of n s t ≡ Some p
       new-first s t p path on (inl old) = elim (change s t) [
@@ -268,7 +260,7 @@ module _ (cs : List Coercion) (c : Coercion) (starts : List Start) (ends : List 
           go : (f : Start) → Contains starts f → IsOfStart f ends s t (first_of n s t) → (path : List ℕ) × IsPath (cs ++ c ∷ []) s (p ∷ path) t
           go f in-f (from, in-t, place) =
               let (rest, on) = long f t in-f in-t in
-              (rest, subst (λ x. IsPath (cs ++ c ∷ []) s (x ∷ rest) t) (some-one (sym place ∙ is)) (subst (λ x. IsPath (cs ++ c ∷ []) x (f.place ∷ rest) t) from on))
+              (rest, subst (λ x. IsPath (cs ++ c ∷ []) s (x ∷ rest) t) (same_Some _ _ (sym place ∙ is)) (subst (λ x. IsPath (cs ++ c ∷ []) x (f.place ∷ rest) t) from on))
 
       pub led-more : AreLed (cs ++ c ∷ []) n
       led-more s t = (λ p path on. new-first s t p path on (way-of s t p path on), there-is s t)
@@ -288,16 +280,16 @@ StartsSoFar cs c sorts i starts = ((f : Start) → Contains starts f → IsBefor
 
 module _ (cs : List Coercion) (c : Coercion) (sorts : List ℕ) (i : ℕ) (starts : List Start) (below : i < length sorts) (seen : StartsSoFar cs c sorts i starts) where
   pub starts-one : (here : Start) → here.sort ≡ get_or sorts i 0 → IsBefore cs c here.sort here.place → StartsSoFar cs c sorts (i + 1) (starts ++ here ∷ [])
-  starts-one here is before = (sound, all_so_far_more (IsFound cs c (starts ++ here ∷ [])) sorts i 0 longer below (λ path. (here, contains_last starts here, is)))
+  starts-one here is before = (sound, all_so_far_more (IsFound cs c (starts ++ here ∷ [])) sorts i 0 longer below (λ path. (here, Contains-push starts here, is)))
     where
       sound : (f : Start) → Contains (starts ++ here ∷ []) f → IsBefore cs c f.sort f.place
-      sound f has = elim (contains_either starts here f has) [
+      sound f has = elim (Contains-push_cases starts here f has) [
         | inl there ↦ seen.0 f there
         | inr same ↦ subst (λ (g : Start). IsBefore cs c g.sort g.place) same before
       ]
 
       longer : AllSoFar (IsFound cs c (starts ++ here ∷ [])) sorts i
-      longer k d less path = let (f, has, same) = seen.1 k d less path in (f, contains_first starts (here ∷ []) f has, same)
+      longer k d less path = let (f, has, same) = seen.1 k d less path in (f, Contains-append_left starts (here ∷ []) f has, same)
 
   pub starts-skip : (HasPath cs (get_or sorts i 0) c.from → ⊥) → StartsSoFar cs c sorts (i + 1) starts
   starts-skip never = (seen.0, all_so_far_more (IsFound cs c starts) sorts i 0 seen.1 below (λ path. absurd (never path)))
@@ -309,8 +301,8 @@ starts-all cs c sorts i starts met seen done = (seen.0, λ s has. all s (at s ha
     all s has = all-members (IsFound cs c starts) sorts seen.1 done s has
 
     at : (s : ℕ) (path : List ℕ) → IsPath cs s path c.from → Contains sorts s
-    at s [] on = subst (Contains sorts) (sym on) (met c (contains_last cs c)).0
-    at s (p ∷ path) (d, at-d, begins, rest) = subst (Contains sorts) begins (met d (contains_first cs (c ∷ []) d (contains_at cs d p at-d))).0
+    at s [] on = subst (Contains sorts) (sym on) (met c (Contains-push cs c)).0
+    at s (p ∷ path) (d, at-d, begins, rest) = subst (Contains sorts) begins (met d (Contains-append_left cs (c ∷ []) d (contains_at cs p d at-d))).0
 
 -- and of the ends
 abbrev pub EndsSoFar : List Coercion → Coercion → List ℕ → ℕ → List ℕ → Type 0
@@ -318,13 +310,13 @@ EndsSoFar cs c sorts i ends = ((t : ℕ) → Contains ends t → HasPath cs c.to
 
 module _ (cs : List Coercion) (c : Coercion) (sorts : List ℕ) (i : ℕ) (ends : List ℕ) (below : i < length sorts) (seen : EndsSoFar cs c sorts i ends) where
   pub ends-one : (here : ℕ) → here ≡ get_or sorts i 0 → HasPath cs c.to here → EndsSoFar cs c sorts (i + 1) (ends ++ here ∷ [])
-  ends-one here is path = (reached, all_so_far_more (λ t. HasPath cs c.to t → Contains (ends ++ here ∷ []) t) sorts i 0 longer below (λ way. subst (Contains (ends ++ here ∷ [])) is (contains_last ends here)))
+  ends-one here is path = (reached, all_so_far_more (λ t. HasPath cs c.to t → Contains (ends ++ here ∷ []) t) sorts i 0 longer below (λ way. subst (Contains (ends ++ here ∷ [])) is (Contains-push ends here)))
     where
       reached : (t : ℕ) → Contains (ends ++ here ∷ []) t → HasPath cs c.to t
-      reached t has = elim (contains_either ends here t has) [ inl there ↦ seen.0 t there | inr same ↦ subst (HasPath cs c.to) same path ]
+      reached t has = elim (Contains-push_cases ends here t has) [ inl there ↦ seen.0 t there | inr same ↦ subst (HasPath cs c.to) same path ]
 
       longer : AllSoFar (λ t. HasPath cs c.to t → Contains (ends ++ here ∷ []) t) sorts i
-      longer k d less way = contains_first ends (here ∷ []) (get_or sorts k d) (seen.1 k d less way)
+      longer k d less way = Contains-append_left ends (here ∷ []) (get_or sorts k d) (seen.1 k d less way)
 
   pub ends-skip : (HasPath cs c.to (get_or sorts i 0) → ⊥) → EndsSoFar cs c sorts (i + 1) ends
   ends-skip never = (seen.0, all_so_far_more (λ t. HasPath cs c.to t → Contains ends t) sorts i 0 seen.1 below (λ path. absurd (never path)))
@@ -334,8 +326,8 @@ ends-all cs c sorts i ends met seen done = (seen.0, λ t has. all-members (λ t.
   where
     at : (t : ℕ) (path : List ℕ) → IsPath cs c.to path t → Contains sorts t
     at t path on = elim (last-end cs c.to t path on) [
-      | inl same ↦ subst (Contains sorts) same (met c (contains_last cs c)).1
-      | inr found ↦ subst (Contains sorts) found.3 (met found.1 (contains_first cs (c ∷ []) found.1 (contains_at cs found.1 found.0 found.2))).1
+      | inl same ↦ subst (Contains sorts) same (met c (Contains-push cs c)).1
+      | inr found ↦ subst (Contains sorts) found.3 (met found.1 (Contains-append_left cs (c ∷ []) found.1 (contains_at cs found.0 found.1 found.2))).1
     ]
 
 -- ---- sorts that are met
@@ -344,13 +336,13 @@ pub met-kept : (cs : List Coercion) (xs ys : List ℕ) → AreMet cs xs → ((s 
 met-kept cs xs ys met kept c has = (kept c.from (met c has).0, kept c.to (met c has).1)
 
 pub met-more : (cs : List Coercion) (c : Coercion) (xs : List ℕ) → AreMet cs xs → Contains xs c.from → Contains xs c.to → AreMet (cs ++ c ∷ []) xs
-met-more cs c xs met from-there to-there d has = elim (contains_either cs c d has) [
+met-more cs c xs met from-there to-there d has = elim (Contains-push_cases cs c d has) [
   | inl old ↦ met d old
   | inr same ↦ (subst (λ (e : Coercion). Contains xs e.from) same from-there, subst (λ (e : Coercion). Contains xs e.to) same to-there)
 ]
 
 no-path : (s to p : ℕ) (path : List ℕ) → IsPath [] s (p ∷ path) to → ⊥
-no-path s to p path (c, at, begins, rest) = none-some at
+no-path s to p path (c, at, begins, rest) = none-some _ at
 
 pub none-led : (cs : List Coercion) (xs : List ℕ) (m : FirstSteps) → cs ≡ [] → ((s to : ℕ) → first_of m s to ≡ None) → OnePath cs × AreMet cs xs × AreLed cs m
 none-led cs xs m is gone = subst (λ (ds : List Coercion). OnePath ds × AreMet ds xs × AreLed ds m) (sym is) (one, met, led)
@@ -364,7 +356,7 @@ none-led cs xs m is gone = subst (λ (ds : List Coercion). OnePath ds × AreMet 
     met c (k, below, at) = absurd (omega arith)
 
     led : AreLed [] m
-    led s to = (λ p path on. absurd (no-path s to p path on), λ p kept. absurd (none-some (sym (gone s to) ∙ kept)))
+    led s to = (λ p path on. absurd (no-path s to p path on), λ p kept. absurd (none-some _ (sym (gone s to) ∙ kept)))
 
 -- ---- an expression under the terms of a path
 

@@ -6,17 +6,11 @@ use Rattle.std.proofs.Math.Dec.{eqb}
 use Rattle.std.specs.List.{AllByRecursion, IsDistinct, list_any}
 use Rattle.std.proofs.lemmas.Bool.{true≢false, eqb-true}
 use Rattle.std.proofs.lemmas.Map.Steps.{length-le_from_distinct_below}
-use Rattle.std.proofs.lemmas.Option.{slice_get_within, get_or_from_slice_get}
+use Rattle.std.proofs.lemmas.Option.{slice_get_within, get_or_from_slice_get, same_Some}
+use Rattle.mz_general.proofs.Offered.{slice_get-last, slice_get-append, nil-cons, slice_get-push_cases}
 use Rattle.mz_coercions.specs.declared.coercion.Coercion.{Coercion}
 use Rattle.mz_coercions.specs.Coercions.{IsPath, OnePath, Reaches}
 use Rattle.mz_coercions.specs.Answers.{HasLength, MayStart, MayEnd, IsClashAt}
-use Rattle.mz_tokens.proofs.Offered.{place_first, place_last, place_either}
-
-some-same : {A : Type 0} {x y : A} → Some x ≡ Some y → x ≡ y
-some-same e = cc
-
-nil-cons : {A : Type 0} {x : A} {xs : List A} → [] ≡ x ∷ xs → ⊥
-nil-cons e = cc
 
 -- ---- one step
 
@@ -50,7 +44,7 @@ path-below cs s to q (p ∷ path) (c, at, begins, rest) (suc k, below, is) = pat
 pub path-before : (cs : List Coercion) (s to q : ℕ) (d : Coercion) (path : List ℕ) → slice_get cs q ≡ Some d → IsPath cs s path to → Contains path q → (front : List ℕ) × IsPath cs s front d.from
 path-before cs s to q d [] there on (k, below, is) = absurd (omega arith)
 path-before cs s to q d (p ∷ path) there (c, at, begins, rest) (zero, below, is) =
-    let same : c ≡ d = some-same (sym at ∙ ap (slice_get cs) is ∙ there) in
+    let same : c ≡ d = same_Some _ _ (sym at ∙ ap (slice_get cs) is ∙ there) in
     ([], sym begins ∙ ap (λ x. x.from) same)
 path-before cs s to q d (p ∷ path) there (c, at, begins, rest) (suc k, below, is) =
     let later = path-before cs c.to to q d path there rest (k, omega arith, is) in
@@ -106,7 +100,7 @@ path-join cs s m to (x ∷ p) q (c, at, begins, rest) on_q = (c, at, begins, pat
 
 pub path-more : (cs : List Coercion) (c : Coercion) (s to : ℕ) (p : List ℕ) → IsPath cs s p to → IsPath (cs ++ c ∷ []) s p to
 path-more cs c s to [] on = on
-path-more cs c s to (x ∷ p) (d, at, begins, rest) = (d, place_first cs (c ∷ []) x d at, begins, path-more cs c d.to to p rest)
+path-more cs c s to (x ∷ p) (d, at, begins, rest) = (d, slice_get-append cs (c ∷ []) x d at, begins, path-more cs c d.to to p rest)
 
 pub contains-middle : (p q : List ℕ) (n : ℕ) → Contains (p ++ n ∷ q) n
 contains-middle [] q n = (0, omega arith, refl)
@@ -119,7 +113,7 @@ pub clash-two : (cs : List Coercion) (c : Coercion) (from to : ℕ) → IsClashA
 clash-two cs c from to (p, q, r, on_p, on_q, on_r) one =
     let n = length cs in
     let long : IsPath (cs ++ c ∷ []) from (p ++ n ∷ q) to =
-    path-join (cs ++ c ∷ []) from c.from to p (n ∷ q) (path-more cs c from c.from p on_p) (c, place_last cs c, refl, path-more cs c c.to to q on_q) in
+    path-join (cs ++ c ∷ []) from c.from to p (n ∷ q) (path-more cs c from c.from p on_p) (c, slice_get-last cs c, refl, path-more cs c c.to to q on_q) in
     let same : p ++ n ∷ q ≡ r = one from to (p ++ n ∷ q) r long (path-more cs c from to r on_r) in
     let below : n < n = path-below cs from to n r on_r (subst (λ x. Contains x n) same (contains-middle p q n)) in
     absurd (omega arith)
@@ -130,7 +124,7 @@ Takes cs c s x to = (p : List ℕ) × (q : List ℕ) × (x ≡ p ++ length cs �
 
 pub taken : (cs : List Coercion) (c : Coercion) (s to : ℕ) (x : List ℕ) → IsPath (cs ++ c ∷ []) s x to → IsPath cs s x to ⊎ Takes cs c s x to
 taken cs c s to [] on = inl on
-taken cs c s to (y ∷ x) (d, at, begins, rest) = go (place_either cs c y d at) (taken cs c d.to to x rest)
+taken cs c s to (y ∷ x) (d, at, begins, rest) = go (slice_get-push_cases cs c y d at) (taken cs c d.to to x rest)
   where
     go : (slice_get cs y ≡ Some d) ⊎ ((y ≡ length cs) × (c ≡ d)) → IsPath cs d.to x to ⊎ Takes cs c d.to x to → IsPath cs s (y ∷ x) to ⊎ Takes cs c s (y ∷ x) to
     go (inl here) (inl on) = inl (d, here, begins, on)
@@ -138,8 +132,8 @@ taken cs c s to (y ∷ x) (d, at, begins, rest) = go (place_either cs c y d at) 
     go (inr (last, same)) _ = inr ([], x, ap (λ z. z ∷ x) last, sym begins ∙ ap (λ e. e.from) (sym same), subst (λ e. IsPath (cs ++ c ∷ []) e.to x to) (sym same) rest)
 
 pub may-start : (cs : List Coercion) (c : Coercion) (s : ℕ) (p : List ℕ) → IsPath cs s p c.from → (i : ℕ) × MayStart cs c i s
-may-start cs c s [] on = (length cs, (c, place_last cs c, sym on))
-may-start cs c s (x ∷ p) (d, at, begins, rest) = (x, (d, place_first cs (c ∷ []) x d at, begins))
+may-start cs c s [] on = (length cs, (c, slice_get-last cs c, sym on))
+may-start cs c s (x ∷ p) (d, at, begins, rest) = (x, (d, slice_get-append cs (c ∷ []) x d at, begins))
 
 pub last-end : (cs : List Coercion) (s to : ℕ) (p : List ℕ) → IsPath cs s p to → (s ≡ to) ⊎ ((j : ℕ) × (d : Coercion) × (slice_get cs j ≡ Some d) × (d.to ≡ to))
 last-end cs s to [] on = inl on
@@ -147,8 +141,8 @@ last-end cs s to (x ∷ p) (d, at, begins, rest) = elim (last-end cs d.to to p r
 
 pub may-end : (cs : List Coercion) (c : Coercion) (to : ℕ) (q : List ℕ) → IsPath cs c.to q to → (j : ℕ) × MayEnd cs c j to
 may-end cs c to q on = elim (last-end cs c.to to q on) [
-  | inl same ↦ (length cs, (c, place_last cs c, same))
-  | inr found ↦ (found.0, (found.1, place_first cs (c ∷ []) found.0 found.1 found.2, found.3))
+  | inl same ↦ (length cs, (c, slice_get-last cs c, same))
+  | inr found ↦ (found.0, (found.1, slice_get-append cs (c ∷ []) found.0 found.1 found.2, found.3))
 ]
 
 module _ (cs : List Coercion) (c : Coercion) (one : OnePath cs) (none : (i from j to : ℕ) → MayStart cs c i from → MayEnd cs c j to → IsClashAt cs c from to → ⊥) where
@@ -187,10 +181,10 @@ pub clash-made : (cs : List Coercion) (c : Coercion) (from to : ℕ) → (p : Li
 clash-made cs c from to (p, on_p) (q, on_q) (r, on_r) = (p, q, r, on_p, on_q, on_r)
 
 pub end-one : (cs : List Coercion) (c : Coercion) (j a b : ℕ) → MayEnd cs c j a → MayEnd cs c j b → a ≡ b
-end-one cs c j a b (d, at, is) (e, there, other) = sym is ∙ ap (λ x. x.to) (some-same (sym at ∙ there)) ∙ other
+end-one cs c j a b (d, at, is) (e, there, other) = sym is ∙ ap (λ x. x.to) (same_Some _ _ (sym at ∙ there)) ∙ other
 
 pub start-one : (cs : List Coercion) (c : Coercion) (j a b : ℕ) → MayStart cs c j a → MayStart cs c j b → a ≡ b
-start-one cs c j a b (d, at, is) (e, there, other) = sym is ∙ ap (λ x. x.from) (some-same (sym at ∙ there)) ∙ other
+start-one cs c j a b (d, at, is) (e, there, other) = sym is ∙ ap (λ x. x.from) (same_Some _ _ (sym at ∙ there)) ∙ other
 
 pub end-below : (cs : List Coercion) (c : Coercion) (j a : ℕ) → MayEnd cs c j a → j < length cs + 1
 end-below cs c j a (d, at, is) = let within = slice_get_within (cs ++ c ∷ []) j d at in omega (arith, within, length-append cs (c ∷ []))

@@ -1,5 +1,5 @@
 -- Statements that restate a good binary's stand in its list, one after another.
-use Rattle.std.proofs.Common.{◌≡◌, ◌∙◌, ◌⊎◌, ◌<◌, ◌≤◌, ◌+◌, ◌++◌, ℕ, suc, Bool, true, false, inl, inr, List, [], ◌∷◌, length, get_or, Option, Some, None, Ok, refl, sym, ap, subst, arith, append_assoc, length-append}
+use Rattle.std.proofs.Common.{◌≡◌, ◌∙◌, ◌⊎◌, ◌<◌, ◌≤◌, ◌+◌, ◌++◌, ℕ, Bool, true, false, inl, inr, List, [], ◌∷◌, length, get_or, Option, Some, None, Ok, refl, sym, ap, subst, arith, append_assoc, length-append}
 use Rattle.std.specs.Prelude.{Result, MatchBool}
 use Rattle.std.proofs.lemmas.List.{append-nil, get_or_at}
 use Rattle.std.proofs.lemmas.Option.{slice_get_within}
@@ -9,7 +9,7 @@ use Rattle.mz_cmd.specs.declared.code.StatementCode.TheVariants as codes
 use Rattle.mz_cmd.specs.declared.statement.StmtAt.{StmtAt}
 use Rattle.mz_cmd.specs.declared.statement.StmtAt.TheVariants as stands
 use Rattle.mz_cmd.specs.declared.statement.StmtFault.{StmtFault}
-use Rattle.mz_cmd.specs.Codes.{statement_byte, statement_code}
+use Rattle.mz_cmd.specs.Codes.{statement_byte}
 use Rattle.mz_cmd.specs.StatementList.{statement_at}
 use Rattle.mz_logic.specs.Signature.{Signature}
 use Rattle.mz_logic.specs.Declaration.{Term, Assertion, Declaration, sort_decl, term_decl, assertion_decl, sorts, terms, signatures, assertions}
@@ -17,6 +17,7 @@ use Rattle.mz_logic.specs.Legality.{IsLegalEnv}
 use Rattle.mz_logic.specs.LegalLists.{Statement as Marked}
 use Rattle.mz_logic.specs.declared.binder.Binder.{Binder}
 use Rattle.mz_logic.specs.declared.binder.SortMods.{SortMods}
+use Rattle.mz_logic.proofs.Offered.{length-binders, length-signatures}
 use Rattle.mz_layout.specs.Tables.{list_at, term_count, thm_count, term_row, thm_row, tables_of}
 use Rattle.mz_layout.proofs.Offered.{slice_get-rows, length-sorts}
 use Rattle.mz_unification.specs.Profile.{strict}
@@ -31,20 +32,19 @@ use Rattle.mz_earlier.specs.Before.{AreWithin, HasRightParams, taken_before}
 use Rattle.mz_earlier.specs.OwnRow.{MayRun, heading_of}
 use Rattle.mz_layout.specs.declared.taken.Rows.{Rows}
 use Rattle.mz_files.specs.Chains.{IsGoodStatement, GoodTo}
-use Rattle.mz_files.specs.Checking.{checks_of, counts as taken-counts, kind_checks}
+use Rattle.mz_files.specs.Checking.{checks_of, counts as taken-counts}
 use Rattle.mz_files.specs.Good.{Good}
 use Rattle.mz_files.specs.Spelling.{IsKindOf, SpellsRow, is_local_code}
 use Rattle.mz_files.specs.Standards.{strict_standard}
 use Rattle.mz_files.proofs.Offered.{sorts-many, terms-many, assertions-many, entry-good, same-taken, head-at, well-chain, HasRightRow, right-row, HasSorts, chain-sorts}
 use Rattle.mz_binary.proofs.Offered.{were-right}
-use Rattle.mz_verdicts.proofs.Offered.{length-binders}
 use Rattle.mz_forms.specs.Proof.{Proof}
 use Rattle.mz_statements.specs.Statements.{Statement}
-use Rattle.mz_wording.specs.Wording.{sort_name, term_name, sort_names, term_names}
+use Rattle.mz_statements.specs.DeclaredNames.{sort_name, term_name, sort_names, term_names, assertion_name, assertion_names}
 use Rattle.mz_tracing.specs.Laws.{BodiesMakeOne}
 use Rattle.mz_tracing.specs.Traces.{Made, under_lets}
 use Rattle.mz_phrasing.specs.Naming.{Naming, vocabulary_by}
-use Rattle.mz_naming.specs.Names.{assertion_name, assertion_names, naming_of}
+use Rattle.mz_naming.specs.Names.{naming_of}
 use Rattle.mz_unspell.specs.Rows.{AreArities}
 use Rattle.mz_restating.specs.Restated.{IsProofMade, IsRestated, AreRestated}
 use Rattle.mz_telling.specs.Naming.{next_name}
@@ -52,6 +52,7 @@ use Rattle.mz_telling.specs.Telling.{Counts, HasProof, MakesProof, Stands}
 use Rattle.mz_walk.specs.Walk.{nothing_passed, passed_with}
 use Rattle.mz_walk.specs.declared.passed.Passed.{Passed}
 use Rattle.mz_walk.proofs.Offered.{IsOnWay, one-code, way-asks, way-end, way-first, way-on}
+use Rattle.mz_restating.proofs.Offered.{theorem-asked}
 use Rattle.mz_decompile.specs.Standing.{AreStanding, AreAll}
 
 -- ---- names by their places
@@ -115,16 +116,10 @@ named prefix before t after env are = by t.decl refl
 
 -- ---- signatures
 
-signatures-many : (env : List Declaration) → length (signatures env) ≡ length (terms env)
-signatures-many [] = refl
-signatures-many (sort_decl m ∷ env) = signatures-many env
-signatures-many (term_decl d ∷ env) = ap suc (signatures-many env)
-signatures-many (assertion_decl a ∷ env) = signatures-many env
-
 arities : (file : List ℕ) (env : List Declaration) → Declares (rows_taken file (taken_by env)) env → length (terms env) ≤ term_count file → AreArities file (signatures env)
 arities file env declares few t d is =
     let within = slice_get_within (signatures env) t d is in
-    let many = signatures-many env in
+    let many = length-signatures env in
     let there : t < length (terms env) = omega (arith, within, many) in
     let sig = signature-at (rows_taken file (taken_by env)) env declares t (term_of_file file t) (slice_get-rows (term_of_file file) (length (terms env)) t there) in
     let both : Some (term_of_file file t).signature ≡ Some d = sym sig ∙ is in
@@ -147,12 +142,6 @@ byte-known n (assertion_decl a) is = by a.is_axiom is
     by true e = (codes.Axiom, e)
     by false (inl e) = (codes.Theorem, e)
     by false (inr e) = (codes.LocalTheorem, e)
-
-theorem-asked : (file : List ℕ) (env : List Declaration) (at code body next : ℕ) → (code ≡ 0x06) ⊎ (code ≡ 0x0E)
-    → AllHold (kind_checks strict_standard file (taken_by env) at body next (statement_code code))
-    → AllHold (kind_checks strict_standard file (taken_by env) at body next (Some codes.Theorem))
-theorem-asked file env at code body next (inl is) all = subst (λ (c : ℕ). AllHold (kind_checks strict_standard file (taken_by env) at body next (statement_code c))) is all
-theorem-asked file env at code body next (inr is) all = subst (λ (c : ℕ). AllHold (kind_checks strict_standard file (taken_by env) at body next (statement_code c))) is all
 
 module _ (one : BodiesMakeOne) (file : List ℕ) (env : List Declaration) (at : ℕ) (s : Marked) (next : ℕ) (good : IsGoodStatement strict_standard file env at s next)
     (done : List Marked) (chain : GoodTo strict_standard file [] (list_at file) done env at) (before : Rows) (counts : Counts env before) (within : AreWithin file before) where

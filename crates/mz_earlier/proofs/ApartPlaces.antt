@@ -5,6 +5,7 @@ use Rattle.std.specs.Int.{bit_at}
 use Rattle.std.proofs.lemmas.Bool.{eqb-true}
 use Rattle.std.proofs.lemmas.Nat.Bits.{bit_at_and, bit_at_or, bit_at-zero, same_from_bits}
 use Rattle.std.proofs.lemmas.Option.{slice_get_within}
+use Rattle.mz_general.proofs.Offered.{slice_get-some, drop-past}
 use Rattle.mz_cmd.specs.declared.rule.K.TheVariants as k
 use Rattle.mz_logic.specs.Tree.{Tree}
 use Rattle.mz_logic.specs.Signature.{Signature}
@@ -19,7 +20,7 @@ use Rattle.mz_unification.specs.Tests.{is_bound_var, var_within}
 use Rattle.mz_unification.proofs.Offered.{from_then, from_need, need_ok, some_is}
 use Rattle.mz_soundness.specs.Premises.{operands_fit, apart_from, apart_at}
 use Rattle.mz_soundness.proofs.Offered.{or-not}
-use Rattle.mz_earlier.proofs.FromPlaces.{next-at, none-left}
+use Rattle.mz_earlier.proofs.FromPlaces.{next-at}
 use Rattle.mz_store.proofs.Offered.{binder-at, next-binder}
 
 -- ---- operands of bound parameters
@@ -102,10 +103,10 @@ module _ (i j : ℕ) (ws : List Word) (v : Word) (at : slice_get ws j ≡ Some v
   next-left low = next-at (take i ws) j v (take-at ws i j v low at)
 
   none-now : i ≤ j → drop j (take i ws) ≡ []
-  none-now past = none-left (take i ws) j (let most = take-most ws i in omega (arith, most, past))
+  none-now past = drop-past (take i ws) j (let most = take-most ws i in omega (arith, most, past))
 
   none-later : i ≤ j → drop (suc j) (take i ws) ≡ []
-  none-later past = none-left (take i ws) (suc j) (let most = take-most ws i in omega (arith, most, past))
+  none-later past = drop-past (take i ws) (suc j) (let most = take-most ws i in omega (arith, most, past))
 
   abbrev rest : List ℕ
   rest = bound_places (suc j) (drop (suc j) (take i ws))
@@ -139,13 +140,6 @@ module _ (i j : ℕ) (ws : List Word) (v : Word) (at : slice_get ws j ≡ Some v
       go : (b : Bool) → nat_lt j i ≡ b → is_member m (deps_left i ws j bits) ≡ is_member m (deps_left i ws (suc j) bits)
       go true is = rw (next-left (leb-true (suc j) i is), reg) refl
       go false is = rw (none-now (omega (arith, leb-false (suc j) i is)), none-later (omega (arith, leb-false (suc j) i is))) refl
-
--- ---- the words and operands of a row
-
-pub is-there : {A : Type 0} (xs : List A) (i : ℕ) → i < length xs → (x : A) × (slice_get xs i ≡ Some x)
-is-there [] i low = absurd (omega arith)
-is-there (x ∷ xs) zero low = (x, refl)
-is-there (x ∷ xs) (suc i) low = is-there xs i (omega arith)
 
 -- ---- one operand beside the others
 
@@ -208,7 +202,7 @@ module _ (ws : List Word) (i : ℕ) (w : Word) (wat : slice_get ws i ≡ Some w)
   places-skip reg = ap (λ qs. ps ++ qs) (sym (rw (next-at ws i w wat, reg) refl)) ∙ so-far
 
 pub places-all : (ws : List Word) (i : ℕ) (ps all : List ℕ) → length ws ≤ i → ps ++ bound_places i (drop i ws) ≡ all → ps ≡ all
-places-all ws i ps all past so-far = sym (append-nil ps) ∙ ap (λ vs. ps ++ bound_places i vs) (sym (none-left ws i past)) ∙ so-far
+places-all ws i ps all past so-far = sym (append-nil ps) ∙ ap (λ vs. ps ++ bound_places i vs) (sym (drop-past ws i past)) ∙ so-far
 
 -- ---- bits that are shared
 
@@ -300,10 +294,10 @@ module _ (ctx : List Binder) (es : List Tree) (ws : List Word) where
 
   by-places : length es ≡ length ws → (i : ℕ) (w : Word) (e : Tree) (n j bits : ℕ) → n + j ≡ length ws → SaysLeft i ws w j bits
       → row_from i w e j ≡ apart_places ctx i e es bits (bound_places j (drop j ws))
-  by-places many i w e zero j bits all says = rw (none-left es j (omega (arith, all, many)), none-left ws j (omega (arith, all))) refl
+  by-places many i w e zero j bits all says = rw (drop-past es j (omega (arith, all, many)), drop-past ws j (omega (arith, all))) refl
   by-places many i w e (suc n) j bits all says =
-      let (v, vat) = is-there ws j (omega (arith, all)) in
-      let (f, at) = is-there es j (omega (arith, all, many)) in
+      let (v, vat) = slice_get-some ws j (omega (arith, all)) in
+      let (f, at) = slice_get-some es j (omega (arith, all, many)) in
       by-place i w e j bits v vat f at says (λ left left-says. by-places many i w e n (suc j) left (omega (arith, all)) left-says) (word_bound v) refl
 
   -- from the k-th place on the places decide whether the i-th operand is apart, by the bits that are left
@@ -316,7 +310,7 @@ module _ (ctx : List Binder) (es : List Tree) (ws : List Word) where
 
   module _ (i : ℕ) (w : Word) (e : Tree) (bits : ℕ) (places : List ℕ) (j : ℕ) (decides : Decides i w e bits (drop j places)) where
     pub decides-end : length places ≤ j → whole_row i w e ≡ true
-    decides-end past = sym decides ∙ ap (apart_places ctx i e es bits) (none-left places j past)
+    decides-end past = sym decides ∙ ap (apart_places ctx i e es bits) (drop-past places j past)
 
     module _ (p : ℕ) (f : Tree) (at : slice_get places j ≡ Some p) (there : slice_get es p ≡ Some f) (exempt test : Bool)
         (may : exempt ≡ (i == p || (nat_lt p i && bits % 2 == 1))) (found : test ≡ (exempt || not (var_within ctx f e))) where
@@ -355,6 +349,6 @@ module _ (ctx : List Binder) (es : List Tree) (ws : List Word) where
       → ((e : Tree) (p : Binder) → slice_get es i ≡ Some e → slice_get (binders_of ws) i ≡ Some p → test ≡ apart_from ctx i p.deps e 0 es (binders_of ws))
       → rows_from i ≡ (test && rows_from (suc i))
   rows-at many i low test h =
-      let (w, wat) = is-there ws i low in
-      let (e, at) = is-there es i (omega (arith, many, low)) in
+      let (w, wat) = slice_get-some ws i low in
+      let (e, at) = slice_get-some es i (omega (arith, many, low)) in
       rw (next-at es i e at, next-binder ws i w wat, add-one i, h e (binder_of (bound_places 0 (take i ws)) w) at (binder-at ws i w wat)) refl

@@ -2,6 +2,7 @@
 use Rattle.std.proofs.Common.{◌≡◌, ℕ, Bool, true, false, eqb, List, [], length, Some, Ok, refl, sym, ap, ◌∙◌, subst, arith, eq-eqb}
 use Rattle.std.specs.Prelude.{slice_get, not, bit_and, if◌then◌else◌}
 use Rattle.std.proofs.lemmas.Bool.{eqb-true}
+use Rattle.mz_general.proofs.Offered.{slice_get-some, not-true}
 use Rattle.mz_logic.specs.Tree.{Tree}
 use Rattle.mz_logic.specs.Signature.{Signature}
 use Rattle.mz_logic.specs.Sorts.{IsBoundVar}
@@ -17,7 +18,7 @@ use Rattle.mz_unification.specs.Tests.{is_bound_var, in_v, var_within}
 use Rattle.mz_unification.proofs.Offered.{some_is, bound-is, in-v-true, v-in}
 use Rattle.mz_soundness.specs.Premises.{operands_fit}
 use Rattle.mz_earlier.specs.OperandRows.{AreAmong}
-use Rattle.mz_earlier.proofs.ApartPlaces.{is-there, place-below, place-fits, apart-none, whole_row, decides-first}
+use Rattle.mz_earlier.proofs.ApartPlaces.{place-below, place-fits, apart-none, whole_row, decides-first}
 
 -- the word tells all variables of the expression
 abbrev pub TellsV : List Binder → ℕ → Tree → Type 0
@@ -48,10 +49,6 @@ apart-words ctx e f v w told own bd = go (bound-is ctx f bd)
         by x (λ some. v-in ctx x e (to some)) (λ has. from (in-v-true ctx x e has))
         ∙ ap (λ z. not (var_within ctx z e)) (sym is)
 
-not-true : (v : Bool) → not v ≡ true → v ≡ false
-not-true true h = absurd cc
-not-true false h = refl
-
 -- and it isn't where they share none
 apart-word : (ctx : List Binder) (e f : Tree) (v w : ℕ) → TellsV ctx v e → TellsV ctx w f → is_bound_var ctx f ≡ true → bit_and v w ≡ 0 → var_within ctx f e ≡ false
 apart-word ctx e f v w told own bd none = not-true (var_within ctx f e) (sym (apart-words ctx e f v w told own bd) ∙ eq-eqb (bit_and v w) 0 none)
@@ -69,7 +66,7 @@ module _ (sigs : List Signature) (ctx : List Binder) (ids : List Id) (es : List 
       sym (decides-first ctx es ws as-many i w (tree id) bits places are refl)
       ∙ apart-none ctx i (tree id) es bits places λ k p f pat there.
       let low = place-below ws places are k p pat in
-      let (g, gat) = is-there ids p (omega (arith, low, many)) in
+      let (g, gat) = slice_get-some ids p (omega (arith, low, many)) in
       let is : tree g ≡ f = some_is (tree-at p g gat) there in
       let bd = place-fits ctx es ws sigs tt fit places are k p pat (tree g) (tree-at p g gat) in
       subst (λ t. var_within ctx t (tree id) ≡ false) is

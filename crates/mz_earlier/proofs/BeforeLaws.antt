@@ -6,9 +6,9 @@ use Rattle.std.proofs.lemmas.Option.{slice_get_past}
 use Rattle.std.proofs.lemmas.List.FromFn.{length-map-range_with_len, get_or-map-range_with_len}
 use Rattle.mz_logic.specs.Words.{term_at, signature_of, binders_of}
 use Rattle.mz_logic.specs.declared.word.Word.{Word}
-use Rattle.mz_store.proofs.Offered.{binders-many}
 use Rattle.mz_logic.specs.Words.{signatures_of as signatures_by}
 use Rattle.mz_logic.specs.Signature.{Signature}
+use Rattle.mz_logic.proofs.Offered.{length-binders}
 use Rattle.mz_layout.specs.Rows.{IsRow}
 use Rattle.mz_layout.specs.Tables.{term_row, term_count, thm_count, term_words}
 use Rattle.mz_layout.specs.declared.row.Row.{Row}
@@ -84,4 +84,4 @@ pub ruleset own_facts = (row-in-file, row-of-file, drop-within)
 
 -- as many binders as words
 pub binders_many : (ws : List Word) → length (binders_of ws) ≡ length ws
-binders_many ws = binders-many 0 [] ws
+binders_many ws = length-binders 0 [] ws

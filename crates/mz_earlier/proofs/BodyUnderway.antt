@@ -3,6 +3,7 @@ use Rattle.std.proofs.Common.{◌≡◌, ℕ, zero, suc, ◌+◌, ◌≤◌, ◌
 use Rattle.std.specs.Prelude.{if◌then◌else◌}
 use Rattle.std.proofs.lemmas.Bool.{eqb-true}
 use Rattle.std.proofs.lemmas.List.{drop-drop}
+use Rattle.mz_general.proofs.Offered.{drop-past}
 use Rattle.mz_cmd.specs.declared.rule.K.{K}
 use Rattle.mz_cmd.specs.declared.rule.K.TheVariants as k
 use Rattle.mz_cmd.specs.declared.command.Cmd.{Cmd}
@@ -10,7 +11,6 @@ use Rattle.mz_cmd.specs.declared.command.CmdFault.{CmdFault}
 use Rattle.mz_cmd.specs.declared.code.ProofCode.{ProofCode}
 use Rattle.mz_cmd.specs.Codes.{proof_code}
 use Rattle.mz_cmd.specs.Reading.{first_command}
-use Rattle.mz_store.proofs.Offered.{drop-all}
 use Rattle.mz_unification.specs.Steps.{◌>>=◌, Turn, over, goes_on, goes_to}
 use Rattle.mz_unification.specs.Profile.{Profile}
 use Rattle.mz_unification.specs.UnifyMachine.{is_empty}
@@ -228,7 +228,7 @@ module _ {P : Profile} {tables : RowsBefore} {h : Heading} {base : ℕ} {bytes :
 -- ---- reading in place
 
 pub ends-there : (bytes : List ℕ) (at len : ℕ) → length bytes ≡ at + len → is_empty (drop len (drop at bytes)) ≡ true
-ends-there bytes at len is = ap is_empty (drop-drop len at bytes ∙ drop-all bytes (at + len) (omega (arith, is)))
+ends-there bytes at len is = ap is_empty (drop-drop len at bytes ∙ drop-past bytes (at + len) (omega (arith, is)))
 
 pub goes-further : (bytes : List ℕ) (at len : ℕ) → (length bytes ≡ at + len → ⊥) → at + len ≤ length bytes → is_empty (drop len (drop at bytes)) ≡ false
 goes-further bytes at len more le = ap is_empty (drop-drop len at bytes) ∙ some-left bytes (at + len) (omega (arith, le, more))

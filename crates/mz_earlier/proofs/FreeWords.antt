@@ -7,22 +7,23 @@ use Rattle.std.proofs.lemmas.Option.{slice_get_within, get_or_from_slice_get}
 use Rattle.std.proofs.lemmas.Bool.{eqb-true}
 use Rattle.std.proofs.Math.Nat.{min-le_right, min-eq_left}
 use Rattle.std.proofs.lemmas.List.Elements.{All-contains}
+use Rattle.mz_general.proofs.Offered.{slice_get-append, slice_get-front, slice_get-append_cases}
 use Rattle.mz_logic.specs.Tree.{Tree, Trees, var, app, none, more, operand}
 use Rattle.mz_logic.specs.Signature.{Signature}
-use Rattle.mz_logic.specs.Sorts.{HasSort, Fits, IsBoundVar}
+use Rattle.mz_logic.specs.Sorts.{HasSort, Fits}
 use Rattle.mz_logic.specs.Variables.{InV, InFV, InSomeFV, IsBoundAt, is_member}
 use Rattle.mz_logic.specs.Legality.{AreParams, IsDummy}
 use Rattle.mz_logic.specs.Words.{word_bound, word_deps, bound_places, places_set, binders_from, binders_of, result_of}
 use Rattle.mz_logic.specs.declared.binder.Binder.{Binder}
 use Rattle.mz_logic.specs.declared.binder.SortMods.{SortMods}
 use Rattle.mz_logic.specs.declared.word.Word.{Word}
-use Rattle.mz_logic.proofs.Offered.{one_at}
+use Rattle.mz_logic.proofs.Offered.{one_at, is_at, among-true, place_to}
 use Rattle.mz_checks.specs.Checks.{AllHold}
 use Rattle.mz_layout.specs.Tables.{term_row}
 use Rattle.mz_layout.specs.Tables.{TermRow}
 use Rattle.mz_store.specs.Bits.{Tells, bound_from, bound_vars}
-use Rattle.mz_store.proofs.Offered.{bound-once, set-to, set-from, bound-has}
-use Rattle.mz_unification.proofs.Offered.{contains-member, not-both}
+use Rattle.mz_store.proofs.Offered.{bound-once, set-from, bound-has, bound-at}
+use Rattle.mz_unification.proofs.Offered.{not-both}
 use Rattle.mz_soundness.specs.FreeVars.{in_fv, free_within}
 use Rattle.mz_earlier.specs.Before.{Before, signatures_of, HasRightWords}
 use Rattle.mz_words.specs.RowWords.{bound_count, first_sorts, word_checks}
@@ -39,27 +40,13 @@ v-bound : (ctx : List Binder) → DepsAreBound ctx → (x y : ℕ) → InV ctx x
 v-bound ctx deps x y (b, at, inl (bd, same)) = subst (IsBoundAt ctx) (sym same) (b, at, bd)
 v-bound ctx deps x y (b, at, inr (reg, has)) = All-contains (IsBoundAt ctx) b.deps x (deps y b at reg) has
 
--- the operand of a bound parameter is a bound variable
-bound-operand : (sigs : List Signature) (ctx : List Binder) (es : Trees) (ps : List Binder) → Fits sigs ctx es ps → (j : ℕ) (p : Binder) → slice_get ps j ≡ Some p → p.bound ≡ true → IsBoundVar ctx (operand es j)
-bound-operand sigs ctx none [] fit j p at bd = absurd cc
-bound-operand sigs ctx none (q ∷ qs) fit j p at bd = absurd fit
-bound-operand sigs ctx (more e es) [] fit j p at bd = absurd fit
-bound-operand sigs ctx (more e es) (q ∷ qs) fit zero p at bd = let same : q ≡ p = cc in fit.1 (ap (λ (b : Binder). b.bound) same ∙ bd)
-bound-operand sigs ctx (more e es) (q ∷ qs) fit (suc j) p at bd = bound-operand sigs ctx es qs fit.2 j p at bd
-
-var-is : (x y : ℕ) → var x ≡ var y → x ≡ y
-var-is x y e = cc
-
-is-bound-at : (ctx : List Binder) (x : ℕ) (e : Tree) → IsBoundVar ctx e → e ≡ var x → IsBoundAt ctx x
-is-bound-at ctx x e (y, b, is, at, bd) same = subst (IsBoundAt ctx) (var-is y x (sym is ∙ same)) (b, at, bd)
-
 mutual
   pub fv-bound : (sigs : List Signature) (ctx : List Binder) → DepsAreBound ctx → (x s : ℕ) (e : Tree) → HasSort sigs ctx e s → InFV sigs ctx x e → IsBoundAt ctx x
   fv-bound sigs ctx deps x s (var y) h free = v-bound ctx deps x y free
   fv-bound sigs ctx deps x s (app t es) (d, at, _, fit) (c, is, inl some) =
       some-bound sigs ctx deps x c.params es c.params es (subst (λ (q : Signature). Fits sigs ctx es q.params) (one_at at is) fit) some
   fv-bound sigs ctx deps x s (app t es) (d, at, _, fit) (c, is, inr (j, _, (b, there, bd), same)) =
-      is-bound-at ctx x (operand es j) (bound-operand sigs ctx es c.params (subst (λ (q : Signature). Fits sigs ctx es q.params) (one_at at is) fit) j b there bd) same
+      is_at ctx x (operand es j) (bound-at sigs ctx es c.params (subst (λ (q : Signature). Fits sigs ctx es q.params) (one_at at is) fit) j b there bd) same
 
   some-bound : (sigs : List Signature) (ctx : List Binder) → DepsAreBound ctx → (x : ℕ) (params : List Binder) (all : Trees) (ps : List Binder) (es : Trees) → Fits sigs ctx es ps → InSomeFV sigs ctx x params all ps es → IsBoundAt ctx x
   some-bound sigs ctx deps x params all ps none fit free = absurd free
@@ -69,26 +56,11 @@ mutual
 
 -- ---- of parameters and dummies
 
-front-item : {A : Type 0} (xs ys : List A) (k : ℕ) (x : A) → slice_get xs k ≡ Some x → slice_get (xs ++ ys) k ≡ Some x
-front-item [] ys k x h = absurd cc
-front-item (z ∷ zs) ys zero x h = h
-front-item (z ∷ zs) ys (suc k) x h = front-item zs ys k x h
-
-item-in-front : {A : Type 0} (xs ys : List A) (k : ℕ) (x : A) → k < length xs → slice_get (xs ++ ys) k ≡ Some x → slice_get xs k ≡ Some x
-item-in-front [] ys k x low h = absurd (omega (arith, low))
-item-in-front (z ∷ zs) ys zero x low h = h
-item-in-front (z ∷ zs) ys (suc k) x low h = item-in-front zs ys k x (omega (arith, low)) h
-
-either-item : {A : Type 0} (xs ys : List A) (k : ℕ) (x : A) → slice_get (xs ++ ys) k ≡ Some x → (slice_get xs k ≡ Some x) ⊎ ((j : ℕ) × (slice_get ys j ≡ Some x))
-either-item [] ys k x h = inr (k, h)
-either-item (z ∷ zs) ys zero x h = inl h
-either-item (z ∷ zs) ys (suc k) x h = either-item zs ys k x h
-
 pub deps-bound : (ss : List SortMods) (params dummies : List Binder) → AreParams ss params → All IsDummy dummies → DepsAreBound (params ++ dummies)
-deps-bound ss params dummies right all y b at reg = go (either-item params dummies y b at)
+deps-bound ss params dummies right all y b at reg = go (slice_get-append_cases params dummies y b at)
   where
     go : (slice_get params y ≡ Some b) ⊎ ((j : ℕ) × (slice_get dummies j ≡ Some b)) → All (IsBoundAt (params ++ dummies)) b.deps
-    go (inl here) k d below = let (c, is, bd) = ((right y b here).1 reg k d below).1 in (c, front-item params dummies _ c is, bd)
+    go (inl here) k d below = let (c, is, bd) = ((right y b here).1 reg k d below).1 in (c, slice_get-append params dummies _ c is, bd)
     go (inr (j, there)) k d below = let dummy : IsDummy b = subst IsDummy (get_or_from_slice_get dummies j b b there) (all j b (slice_get_within dummies j b there)) in absurd (let e : true ≡ false = sym dummy.0 ∙ reg in cc)
 
 -- ---- places of bound variables
@@ -115,7 +87,7 @@ within-free sigs ctx deps e (suc n) h = go (in_fv sigs ctx n e) refl (within-fre
   where
     go : (b : Bool) → in_fv sigs ctx n e ≡ b → free_within sigs ctx deps e n ≡ true → ((not b || is_member n deps) && free_within sigs ctx deps e n) ≡ true
     go false is rest = rest
-    go true is rest = rw (contains-member n deps (h n (omega arith) (in-fv-true sigs ctx n e is))) rest
+    go true is rest = rw (among-true n deps (h n (omega arith) (in-fv-true sigs ctx n e is))) rest
 
 from-zero : (x : ℕ) → 0 + x ≡ x
 from-zero x = omega arith
@@ -144,7 +116,7 @@ module _ (sigs : List Signature) (ss : List SortMods) (ws : List Word) (dummies 
         let both : min (bit_at told k) (bit_at allowed k) ≡ 1 = sym (bit_at_and told allowed k) ∙ (ap (λ m. bit_at m k) is ∙ one) in
         let also : bit_at allowed k ≡ 1 = one-bit (bit_at told k) (bit_at allowed k) both (bit_at-lt allowed k) in
         let (rest, front) = places-front in
-        set-to allowed (bound_places 0 ws) k x (item-in-front (bound_places 0 ws) rest k x (low k also) (ap (λ xs. slice_get xs k) (sym front) ∙ at-k)) also
+        place_to allowed (bound_places 0 ws) k x (slice_get-front (bound_places 0 ws) rest k x (low k also) (ap (λ xs. slice_get xs k) (sym front) ∙ at-k)) also
       where
         low : (k : ℕ) → bit_at allowed k ≡ 1 → k < length (bound_places 0 ws)
         low k also = go (nat_le (bound_count ws) k) refl
@@ -167,7 +139,7 @@ module _ (sigs : List Signature) (ss : List SortMods) (ws : List Word) (dummies 
             let (rest, front) = places-front in
             let (b, at-x, bd) = fv-bound sigs ctx (deps-bound ss (binders_of ws) dummies right all) x s e sorted free in
             let (j, at-j, bit) = set-from allowed (bound_places 0 ws) x (h x (slice_get_within ctx x b at-x) free) in
-            let same : j ≡ k = bound-once 0 ctx j k x (ap (λ xs. slice_get xs j) front ∙ front-item (bound_places 0 ws) rest j x at-j) at in
+            let same : j ≡ k = bound-once 0 ctx j k x (ap (λ xs. slice_get xs j) front ∙ slice_get-append (bound_places 0 ws) rest j x at-j) at in
             rw (one, subst (λ i. bit_at allowed i ≡ 1) same bit) refl
 
     -- the word's bits are among those that are allowed exactly where the free variables are at the places

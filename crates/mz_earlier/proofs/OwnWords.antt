@@ -65,12 +65,6 @@ take-next [] n w h = absurd cc
 take-next (x ∷ xs) zero w h = let same : x ≡ w = cc in rw same refl
 take-next (x ∷ xs) (suc n) w h = ap (λ (ys : List Word). x ∷ ys) (take-next xs n w h) ∙ ap (λ (m : ℕ). take m (x ∷ xs)) (let e : suc (n + 1) ≡ suc n + 1 = omega arith in e)
 
-pub take-all : (ws : List Word) (n : ℕ) → length ws ≤ n → take n ws ≡ ws
-take-all [] zero le = refl
-take-all [] (suc n) le = refl
-take-all (x ∷ xs) zero le = absurd (omega (arith, le))
-take-all (x ∷ xs) (suc n) le = ap (λ (ys : List Word). x ∷ ys) (take-all xs n (omega (arith, le)))
-
 pub words-are : (ws : List Word) (f file : List ℕ) (row : ℕ) (k kind : Kind) → ws ≡ own_words f row k → f ≡ file → k ≡ kind → ws ≡ own_words file row kind
 words-are ws f file row k kind is e1 e2 = is ∙ ap (λ (x : List ℕ). own_words x row k) e1 ∙ ap (own_words file row) e2
 

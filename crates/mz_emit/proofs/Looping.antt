@@ -54,11 +54,6 @@ pub record AreLeft (ss : List Statement) (env : List Declaration) (bs : List Bes
   pub many : length env ≡ place + length bs
   pub are : statements_of (drop place env) bs ≡ drop place ss
 
-pub as_many : (ds : List Declaration) (bs : List Beside) → length ds ≡ length bs → length (statements_of ds bs) ≡ length ds
-as_many [] bs h = refl
-as_many (d ∷ ds) [] h = absurd (omega (arith, h))
-as_many (d ∷ ds) (b ∷ bs) h = ap suc (as_many ds bs (omega (arith, h)))
-
 -- the first of them, and the others
 first_left : (ss : List Statement) (env : List Declaration) (b : Beside) (bs : List Beside) (place : ℕ) (d : Declaration) → length env ≡ place + suc (length bs)
     → statements_of (drop place env) (b ∷ bs) ≡ drop place ss → slice_get env place ≡ Some d

@@ -7,7 +7,7 @@ use Rattle.mz_logic.specs.Declaration.{Form, plain_form, abstract_form, defined,
 use Rattle.mz_logic.specs.Legality.{IsDummy}
 use Rattle.mz_logic.specs.declared.binder.Binder.{Binder}
 use Rattle.mz_logic.specs.declared.binder.SortMods.{SortMods}
-use Rattle.mz_logic.proofs.Offered.{sorts-append, each_from_all}
+use Rattle.mz_logic.proofs.Offered.{sorts-append, each_from_all, signatures-append}
 use Rattle.mz_forms.specs.Proof.{Proof}
 use Rattle.mz_statements.specs.Statements.{Statement}
 use Rattle.mz_type.specs.TypedText.{declared}
@@ -25,12 +25,6 @@ use Rattle.mz_emit.proofs.OneMore.{sort_next, plain_next, definition_next, asser
 pub declared_more : (ss : List Statement) (s : Statement) → declared (ss ++ s ∷ []) ≡ declared ss ++ s.decl ∷ []
 declared_more [] s = refl
 declared_more (t ∷ ss) s = ap (λ ds. t.decl ∷ ds) (declared_more ss s)
-
-signatures_both : (ds es : List Declaration) → signatures (ds ++ es) ≡ signatures ds ++ signatures es
-signatures_both [] es = refl
-signatures_both (sort_decl _ ∷ ds) es = signatures_both ds es
-signatures_both (term_decl d ∷ ds) es = ap (λ xs. d.signature ∷ xs) (signatures_both ds es)
-signatures_both (assertion_decl _ ∷ ds) es = signatures_both ds es
 
 -- a term that has no body is plain, and one that has a body is its definition
 pub plain_is : (f : Form) → IsConcrete f → body_of f ≡ none → f ≡ plain_form
@@ -58,7 +52,7 @@ module _ (gaps : Bool) (b : List Statement) (s : Statement) (follows : MayFollow
     next written more_sorts more_terms = record {
       written = written;
       sorts_are = more_sorts ∙ ap (λ xs. xs ++ sorts (s.decl ∷ [])) rows.sorts_are ∙ sym (sorts-append (declared b) (s.decl ∷ [])) ∙ ap sorts (sym (declared_more b s));
-      terms_are = more_terms ∙ ap (λ xs. xs ++ signatures (s.decl ∷ [])) rows.terms_are ∙ sym (signatures_both (declared b) (s.decl ∷ []))
+      terms_are = more_terms ∙ ap (λ xs. xs ++ signatures (s.decl ∷ [])) rows.terms_are ∙ sym (signatures-append (declared b) (s.decl ∷ []))
           ∙ ap signatures (sym (declared_more b s));
     }
 

@@ -4,6 +4,7 @@ use Rattle.std.specs.Prelude.{Some, None, count_by, cond, MatchBool}
 use Rattle.std.proofs.lemmas.List.Elements.{All-nil, All-append, All-weaker}
 use Rattle.std.proofs.lemmas.Option.{slice_get_within}
 use Rattle.std.proofs.lemmas.List.Sums.{sum_by-cons}
+use Rattle.std.proofs.lemmas.Bool.{false_from_ne_true}
 use Rattle.mz_logic.specs.Tree.{Tree, Trees, var, app, none, more, listed, size, trees_size}
 use Rattle.mz_logic.specs.Signature.{Signature}
 use Rattle.mz_logic.specs.Declaration.{Form, plain_form, defined, Assertion, Declaration, sort_decl, term_decl, assertion_decl, sorts, signatures, assertions}
@@ -30,6 +31,7 @@ use Rattle.mz_streams.specs.SpelledLists.{form_spelled}
 use Rattle.mz_streams.proofs.Offered.{bodies-same}
 use Rattle.mz_files.specs.Spelling.{HasKind, is_local_code}
 use Rattle.mz_writing.proofs.Offered.{words-say-signatures}
+use Rattle.mz_spec.proofs.Offered.{terms-few}
 use Rattle.mz_emit.specs.Emitting.{MayFollow, HasWords, AreReady, CanBeDefined, CanBeAsserted, definition_code, assertion_code}
 
 -- ---- counts
@@ -50,12 +52,6 @@ bound_both : (ps ds : List Binder) → bound_in (ps ++ ds) ≤ count_by (λ b. b
 bound_both [] ds = omega (arith, bound_most ds)
 bound_both (p ∷ ps) ds = rw (sum_by-cons (λ (b : Binder). cond b.bound 1 0) p ps) (one_both p.bound (bound_in (ps ++ ds)) (count_by (λ b. b.bound) ps) (length ds) (bound_both ps ds))
 
-few_terms : (ds : List Declaration) → length (signatures ds) ≤ length ds
-few_terms [] = omega arith
-few_terms (sort_decl _ ∷ ds) = omega (arith, few_terms ds)
-few_terms (term_decl _ ∷ ds) = omega (arith, few_terms ds)
-few_terms (assertion_decl _ ∷ ds) = omega (arith, few_terms ds)
-
 pub few_declared : (env : List Declaration) (ss : List Statement) → length (declared ss) ≤ weight_after env ss
 few_declared env [] = omega arith
 few_declared env (s ∷ ss) = omega (arith, few_declared (env ++ s.decl ∷ []) ss)
@@ -69,10 +65,6 @@ few_nodes none = omega arith
 few_nodes (more e es) = omega (arith, some_nodes e, few_nodes es)
 
 -- ---- codes
-
-not_local : (b : Bool) → (b ≡ true → ⊥) → b ≡ false
-not_local true h = absurd (h refl)
-not_local false h = refl
 
 pub definition_kind : (b : Bool) → ((definition_code b ≡ 0x05) ⊎ (definition_code b ≡ 0x0D)) × (b ≡ is_local_code (definition_code b))
 definition_kind true = (inr refl, refl)
@@ -104,7 +96,7 @@ module _ (gaps : Bool) (before : List Statement) (s : Statement) (h : MayFollow 
     few = omega (arith, bound_both params dummies, few);
     few_params = subst (λ (ps : List Binder). length ps ≤ 65535) (sym is) h.few_params;
     small = record {
-      terms = omega (arith, few_terms (declared before), env_short);
+      terms = omega (arith, terms-few (declared before), env_short);
       sorts = λ x b e. let below = each_from_all (λ (c : Binder). c.sort < length (sorts (declared before))) (params ++ dummies)
           (All-append (λ c. c.sort < length (sorts (declared before))) params dummies there dummies_there) x b e in omega (arith, below, h.words.few_sorts);
     };
@@ -149,10 +141,10 @@ module _ (gaps : Bool) (before : List Statement) (s : Statement) (h : MayFollow 
   thm_words a is = subst (λ d. CanBeWords (sorts (declared before)) (params_of d)) is h.words
 
   pub sort_unmarked : (m : SortMods) → s.decl ≡ sort_decl m → s.is_local ≡ false
-  sort_unmarked m is = not_local s.is_local (λ set. subst MayBeLocal is (h.whole.mark set))
+  sort_unmarked m is = false_from_ne_true s.is_local (λ set. subst MayBeLocal is (h.whole.mark set))
 
   pub plain_unmarked : (sg : Signature) → s.decl ≡ term_decl (record { signature = sg; form = plain_form }) → s.is_local ≡ false
-  plain_unmarked sg is = not_local s.is_local (λ set. subst MayBeLocal is (h.whole.mark set) refl)
+  plain_unmarked sg is = false_from_ne_true s.is_local (λ set. subst MayBeLocal is (h.whole.mark set) refl)
 
   pub thm_kind : (a : Assertion) → s.decl ≡ assertion_decl a → HasKind (assertion_code a.is_axiom s.is_local) (record { is_local = s.is_local; decl = assertion_decl a })
   thm_kind a is = kinds a a.is_axiom refl s.is_local (λ set. subst MayBeLocal is (h.whole.mark set))

@@ -10,17 +10,14 @@ use Rattle.mz_soundness.specs.MachineState.{Kind}
 use Rattle.mz_forms.specs.Proof.{Proof}
 use Rattle.mz_bodies.specs.Uses.{Use, a_gap, assertion, uses, command_uses, commands_use, IsBodyUsing}
 use Rattle.mz_writing.specs.Gaps.{LeaveGap, Cite, SaysItsGaps}
-use Rattle.mz_writing.proofs.Offered.{bodies-say-gaps}
+use Rattle.mz_writing.proofs.Offered.{bodies-say-gaps, in-none}
 use Rattle.mz_emit.specs.Gapped.{UsesAsStated}
-
-none_among : {A : Type 0} → (c : ProofCode × ℕ) → Contains [] c → A
-none_among c (k, below, is) = absurd (omega (arith, below))
 
 -- ---- commands that use something
 
 module _ (u : Use) where
   some_uses : (cs : List (ProofCode × ℕ)) (c : ProofCode × ℕ) → Contains cs c → command_uses u c.0 c.1 ≡ true → commands_use u cs ≡ true
-  some_uses [] c has is = none_among c has
+  some_uses [] c has is = in-none c has
   some_uses (d ∷ cs) c (zero, below, same) is =
       or_left (command_uses u d.0 d.1) (commands_use u cs) (subst (λ (z : ProofCode × ℕ). command_uses u z.0 z.1 ≡ true) (sym same) is)
   some_uses (d ∷ cs) c (suc k, below, same) is =

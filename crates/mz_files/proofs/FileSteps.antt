@@ -1,5 +1,5 @@
 -- The commands executed in a whole file are bounded.
-use Rattle.std.proofs.Common.{◌≡◌, ◌≤◌, ◌+◌, ◌-◌, ◌*◌, ℕ, zero, suc, Bool, true, false, cond, List, [], ◌∷◌, length, map, drop, Option, Some, None, Result, Ok, Err, refl, sym, ap, subst, ◌∙◌, arith, suc-mul, mul-suc}
+use Rattle.std.proofs.Common.{◌≡◌, ◌≤◌, ◌+◌, ◌-◌, ◌*◌, ℕ, zero, suc, Bool, true, false, cond, List, [], ◌∷◌, length, map, drop, Option, Some, None, Result, Ok, Err, refl, sym, ap, subst, ◌∙◌, arith, mul-suc}
 use Rattle.std.specs.Prelude.{slice_get}
 use Rattle.std.specs.List.{range_with_len}
 use Rattle.std.proofs.lemmas.List.{length-drop, length-take}
@@ -20,7 +20,7 @@ use Rattle.mz_soundness.specs.MachineState.{Heading}
 use Rattle.mz_soundness.specs.Bodies.{body_run, body_steps, body_start}
 use Rattle.mz_soundness.specs.Laws.{StreamsWithin}
 use Rattle.mz_soundness.specs.Lists.{assertion_of}
-use Rattle.mz_soundness.proofs.Offered.{steps-le}
+use Rattle.mz_soundness.proofs.Offered.{steps-le, times-grow, add-times}
 use Rattle.mz_soundness.specs.FileRows.{Taken, nothing_taken, stream_of, term_of_file, thm_of_file, rows_taken}
 use Rattle.mz_files.specs.Checking.{counts}
 use Rattle.mz_files.specs.FileRun.{Passing, test, test_params, test_words, is_empty_body, with_sort, with_term, with_thm, all_taken, test_row, Found, list_ends, stands_alone, has_body, onward, if_runs, run_found, find_empty, find_term_body, find_term_parts, find_thm_parts, find_parts, find_kind, find_of, find_at, test_layout, found_steps, follow_steps, list_steps, steps_after}
@@ -28,15 +28,6 @@ use Rattle.mz_files.specs.WholeLaws.{StepsOfAFile}
 use Rattle.mz_files.proofs.Heads.{head-at}
 use Rattle.mz_files.specs.declared.standard.Standard.{Standard}
 use Rattle.mz_files.specs.Standards.{profile_of}
-
-pub times-grow : (b m k : ℕ) → b ≤ m → b * k ≤ m * k
-times-grow zero m k le = omega arith
-times-grow (suc b) zero k le = absurd (omega arith)
-times-grow (suc b) (suc m) k le = omega (arith, suc-mul b k, suc-mul m k, times-grow b m k (omega arith))
-
-pub add-times : (a b k : ℕ) → (a + b) * k ≡ a * k + b * k
-add-times zero b k = let e : zero + b ≡ b = omega arith in ap (λ z. z * k) e ∙ omega arith
-add-times (suc a) b k = let e : suc a + b ≡ suc (a + b) = omega arith in ap (λ z. z * k) e ∙ omega (arith, suc-mul (a + b) k, suc-mul a k, add-times a b k)
 
 -- ---- streams lie within the file
 

@@ -12,6 +12,7 @@ use Rattle.mz_logic.specs.Declaration.{Declaration, sort_decl, term_decl, assert
 use Rattle.mz_logic.specs.Legality.{IsLegalEnv}
 use Rattle.mz_logic.specs.LegalLists.{Statement, IsProvedBy, IsLegalStatement, allowed_with}
 use Rattle.mz_logic.specs.declared.binder.SortMods.{SortMods}
+use Rattle.mz_logic.proofs.Offered.{sorts-append, terms-append, assertions-append}
 use Rattle.mz_layout.specs.Tables.{mods_of}
 use Rattle.mz_layout.proofs.Offered.{code-is, slice_get-sorts}
 use Rattle.mz_soundness.specs.MachineState.{RowsBefore, Declares}
@@ -23,7 +24,6 @@ use Rattle.mz_soundness.specs.FileRows.{Taken, taken_by, term_of_file, thm_of_fi
 use Rattle.mz_files.specs.Spelling.{IsKindOf, is_local_code, SpellsRow, IsSpelled}
 use Rattle.mz_files.specs.Checking.{kind_checks}
 use Rattle.mz_files.specs.FileRun.{with_sort, with_term, with_thm, after_kind}
-use Rattle.mz_files.proofs.Declared.{sorts-append, terms-append, assertions-append}
 use Rattle.mz_files.proofs.Entries.{body_of, entry_of, entry-good}
 use Rattle.mz_files.specs.declared.standard.Standard.{Standard}
 use Rattle.mz_files.specs.Standards.{lets_gaps}

@@ -1,21 +1,15 @@
 -- Distinct bound variables are no more than there are; and what stands in a definition's row and body.
-use Rattle.std.proofs.Common.{◌≡◌, ◌≤◌, ◌⊎◌, ◌∙◌, ℕ, suc, Bool, true, false, cond, List, [], ◌∷◌, ◌++◌, length, Ok, refl, sym, ap, subst, inl, inr, arith}
+use Rattle.std.proofs.Common.{◌≡◌, ◌≤◌, ◌⊎◌, ◌∙◌, ℕ, suc, Bool, true, false, cond, List, [], ◌∷◌, ◌++◌, length, refl, sym, ap, subst, inl, inr, arith}
 use Rattle.std.specs.Prelude.{if◌then◌else◌, Contains}
 use Rattle.std.specs.List.{filter}
 use Rattle.mz_logic.specs.Tree.{Tree}
-use Rattle.mz_logic.specs.Signature.{Signature}
 use Rattle.mz_logic.specs.Conversions.{AreFresh}
 use Rattle.mz_logic.specs.Words.{binders_from, word_bound}
 use Rattle.mz_logic.specs.declared.binder.Binder.{Binder}
 use Rattle.mz_logic.specs.declared.word.Word.{Word}
-use Rattle.mz_unification.specs.Spells.{trees_of, variables_from}
-use Rattle.mz_unification.specs.Profile.{Item, expr}
-use Rattle.mz_unification.specs.Sorted.{Sorted, ItemsSorted}
-use Rattle.mz_unification.proofs.Offered.{taken-is}
-use Rattle.mz_soundness.specs.MachineState.{is_definition}
+use Rattle.mz_unification.specs.Spells.{trees_of}
 use Rattle.mz_soundness.specs.Premises.{bound_count}
 use Rattle.mz_words.specs.RowWords.{bound_count as bound_words}
-use Rattle.mz_soundness.specs.ProofMachine.{last_item}
 
 abbrev pub Among : ℕ → List ℕ → Type 0
 Among y [] = ⊥
@@ -56,11 +50,3 @@ words-bound i places (w ∷ ws) = go (word_bound w) (words-bound (suc i) (if wor
     go : (b : Bool) → bound_count rest ≡ bound_words ws → cond b (suc (bound_count rest)) (bound_count rest) ≡ length (cond b (w ∷ filter word_bound ws) (filter word_bound ws))
     go true e = ap suc e
     go false e = e
-
-pub vars-long : (i : ℕ) (ps : List Binder) → length (variables_from i ps) ≡ length ps
-vars-long i [] = refl
-vars-long i (p ∷ ps) = ap suc (vars-long (suc i) ps)
-
-pub last-expr : (sigs : List Signature) (ctx : List Binder) (xs : List (Item Tree)) (e : Tree) → last_item is_definition xs ≡ Ok e → ItemsSorted sigs ctx xs → Sorted sigs ctx e
-last-expr sigs ctx (expr x ∷ []) e is (s, _) = subst (Sorted sigs ctx) (taken-is x e is) s
-last-expr sigs ctx _ e is h = absurd cc

@@ -1,10 +1,12 @@
 -- The bodies of a list of statements, and which of them are gapped, as the list goes on.
 use Rattle.std.proofs.Common.{◌≡◌, ◌∙◌, ◌<◌, ◌+◌, ◌⊎◌, ℕ, zero, suc, Bool, true, false, List, [], ◌∷◌, ◌++◌, length, slice_get, Some, refl, sym, ap, subst, inl, inr, arith, length-append, append_assoc, append-nil}
 use Rattle.std.specs.Prelude.{◌↔◌}
+use Rattle.std.proofs.lemmas.Option.{none-some, slice_get_within}
+use Rattle.mz_general.proofs.Offered.{slice_get-within}
 use Rattle.mz_cmd.specs.StatementList.{statement_at}
 use Rattle.mz_logic.specs.Declaration.{Declaration, sort_decl, term_decl, assertion_decl, assertions}
 use Rattle.mz_logic.specs.LegalLists.{Statement}
-use Rattle.mz_logic.proofs.Offered.{one_at, none_some, assertions-append}
+use Rattle.mz_logic.proofs.Offered.{one_at, assertions-append}
 use Rattle.mz_soundness.specs.Sound.{HasGap}
 use Rattle.mz_files.specs.Chains.{GoodTo}
 use Rattle.mz_files.specs.Gapped.{AssertionBody, place_after, body_of, bodies_from, IsTheoremBody, IsGapped, leaves_gap, rests_on, IsMarked, AreMarks, CitesMarked}
@@ -12,45 +14,35 @@ use Rattle.mz_files.specs.declared.standard.Standard.{Standard}
 
 -- ---- places of a list
 
-get-first : {A : Type 0} (xs ys : List A) (i : ℕ) → i < length xs → slice_get (xs ++ ys) i ≡ slice_get xs i
-get-first [] ys i lt = absurd (omega (arith, lt))
-get-first (x ∷ xs) ys zero lt = refl
-get-first (x ∷ xs) ys (suc i) lt = get-first xs ys i (omega (arith, lt))
-
 pub get-last : {A : Type 0} (xs : List A) (x : A) (ys : List A) → slice_get (xs ++ x ∷ ys) (length xs) ≡ Some x
 get-last [] x ys = refl
 get-last (y ∷ xs) x ys = get-last xs x ys
 
-get-within : {A : Type 0} (xs : List A) (i : ℕ) (x : A) → slice_get xs i ≡ Some x → i < length xs
-get-within [] i x is = absurd (none_some is)
-get-within (y ∷ xs) zero x is = omega arith
-get-within (y ∷ xs) (suc i) x is = let lt = get-within xs i x is in omega (arith, lt)
-
 -- ---- more bodies change nothing for those before
 
 pub gapped-within : (bodies : List AssertionBody) (T : ℕ) → IsGapped bodies T → T < length bodies
-gapped-within bodies T (leaves_gap T0 bytes there gap) = get-within bodies T _ there
-gapped-within bodies T (rests_on T0 U bytes there cited earlier on) = get-within bodies T _ there
+gapped-within bodies T (leaves_gap T0 bytes there gap) = slice_get_within bodies T _ there
+gapped-within bodies T (rests_on T0 U bytes there cited earlier on) = slice_get_within bodies T _ there
 
 -- before the first statement nothing is marked
 pub no-marks : (file : List ℕ) → AreMarks file [] []
 no-marks file = record {
   many = refl;
-  each = λ T. (λ marked. absurd (none_some marked), λ gapped. absurd (let lt = gapped-within [] T gapped in omega (arith, lt)));
+  each = λ T. (λ marked. absurd (none-some _ marked), λ gapped. absurd (let lt = gapped-within [] T gapped in omega (arith, lt)));
 }
 
 module _ (bodies more : List AssertionBody) where
   there-on : (T : ℕ) (bytes : List ℕ) → IsTheoremBody bodies T bytes → IsTheoremBody (bodies ++ more) T bytes
-  there-on T bytes is = get-first bodies more T (get-within bodies T _ is) ∙ is
+  there-on T bytes is = slice_get-within bodies more T (slice_get_within bodies T _ is) ∙ is
 
   pub gapped-on : (T : ℕ) → IsGapped bodies T → IsGapped (bodies ++ more) T
   gapped-on T (leaves_gap T0 bytes there gap) = leaves_gap T bytes (there-on T bytes there) gap
   gapped-on T (rests_on T0 U bytes there cited earlier on) = rests_on T U bytes (there-on T bytes there) cited earlier (gapped-on U on)
 
   pub gapped-back : (T : ℕ) → T < length bodies → IsGapped (bodies ++ more) T → IsGapped bodies T
-  gapped-back T lt (leaves_gap T0 bytes there gap) = leaves_gap T bytes (sym (get-first bodies more T lt) ∙ there) gap
+  gapped-back T lt (leaves_gap T0 bytes there gap) = leaves_gap T bytes (sym (slice_get-within bodies more T lt) ∙ there) gap
   gapped-back T lt (rests_on T0 U bytes there cited earlier on) =
-      rests_on T U bytes (sym (get-first bodies more T lt) ∙ there) cited earlier (gapped-back U (omega (arith, earlier, lt)) on)
+      rests_on T U bytes (sym (slice_get-within bodies more T lt) ∙ there) cited earlier (gapped-back U (omega (arith, earlier, lt)) on)
 
 -- ---- one body more
 
@@ -92,13 +84,13 @@ module _ (bodies : List AssertionBody) (marks : List Bool) (many : length marks 
   pub marks-with : (gap : Bool) → (gap ≡ true) ↔ IsGapped (bodies ++ b ∷ []) (length bodies) → (T : ℕ) → IsMarked (marks ++ gap ∷ []) T ↔ IsGapped (bodies ++ b ∷ []) T
   marks-with gap new T = elim (which T (length bodies)) [
     | inl lt ↦ (
-      λ m. gapped-on bodies (b ∷ []) T ((each T).0 (sym (get-first marks (gap ∷ []) T (omega (arith, lt, many))) ∙ m)),
-      λ g. get-first marks (gap ∷ []) T (omega (arith, lt, many)) ∙ (each T).1 (gapped-back bodies (b ∷ []) T lt g),
+      λ m. gapped-on bodies (b ∷ []) T ((each T).0 (sym (slice_get-within marks (gap ∷ []) T (omega (arith, lt, many))) ∙ m)),
+      λ g. slice_get-within marks (gap ∷ []) T (omega (arith, lt, many)) ∙ (each T).1 (gapped-back bodies (b ∷ []) T lt g),
     )
     | inr r ↦ elim r [
       | inl same ↦ at-end T (same ∙ sym many) same
       | inr gt ↦ (
-        λ m. absurd (let lt = get-within (marks ++ gap ∷ []) T true m in omega (arith, lt, gt, many, length-append marks (gap ∷ []))),
+        λ m. absurd (let lt = slice_get_within (marks ++ gap ∷ []) T true m in omega (arith, lt, gt, many, length-append marks (gap ∷ []))),
         λ g. absurd (let lt = gapped-within (bodies ++ b ∷ []) T g in omega (arith, lt, gt, length-append bodies (b ∷ []))),
       )
     ]

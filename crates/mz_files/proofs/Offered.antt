@@ -3,9 +3,8 @@ pub use Rattle.mz_files.proofs.ByTable.{good-by-table, lets-with, runs-by-table,
 pub use Rattle.mz_files.proofs.ChainLaws.{chain-declares, chain-more}
 pub use Rattle.mz_files.proofs.Declared.{assertions-many, sorts-many, terms-many}
 pub use Rattle.mz_files.proofs.Entries.{body_of, entry-good}
-pub use Rattle.mz_files.proofs.FileSteps.{add-times, times-grow}
 pub use Rattle.mz_files.proofs.Following.{FollowedBy, followed, rows-after, same-taken}
-pub use Rattle.mz_files.proofs.FreshCounts.{Among, fresh-fewer, last-expr, vars-long, words-bound}
+pub use Rattle.mz_files.proofs.FreshCounts.{Among, fresh-fewer, words-bound}
 pub use Rattle.mz_files.proofs.GapFree.{ungapped-free}
 pub use Rattle.mz_files.proofs.GappedBodies.{bodies-many, bodies-more, gapped-back, gapped-on, gapped-within, marks-with, new-gapped, no-marks}
 pub use Rattle.mz_files.proofs.Heads.{IsHeadAt, code-of, head-at}

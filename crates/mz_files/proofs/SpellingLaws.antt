@@ -6,12 +6,10 @@ use Rattle.mz_logic.specs.Declaration.{Declaration, sort_decl, term_decl, assert
 use Rattle.mz_logic.specs.LegalLists.{Statement}
 use Rattle.mz_unification.proofs.Offered.{one-assertion, one-term}
 use Rattle.mz_soundness.specs.FileRows.{term_of_file, thm_of_file}
+use Rattle.mz_soundness.proofs.Offered.{same-statement}
 use Rattle.mz_files.specs.Spelling.{IsSpelled, IsKindOf, SpellsRow, is_local_code}
 use Rattle.mz_files.specs.Chains.{IsGoodStatement}
 use Rattle.mz_files.specs.declared.standard.Standard.{Standard}
-
-same-statement : (s t : Statement) → s.is_local ≡ t.is_local → s.decl ≡ t.decl → s ≡ t
-same-statement s t l d = ap (λ x. record { is_local = x; decl = s.decl }) l ∙ ap (λ x. record { is_local = t.is_local; decl = x }) d
 
 -- the codes of an axiom and of a theorem
 abbrev AssertionCode : ℕ → Bool → Type 0

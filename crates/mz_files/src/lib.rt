@@ -8,11 +8,13 @@
 mod examples;
 mod laws;
 mod standard;
+mod statement;
 mod whole_laws;
 
 pub use examples::worked_files;
 pub use laws::good_statements_have_rows;
 pub use standard::Standard;
+pub use statement::Statement;
 pub use whole_laws::{
     steps_of_files_are_bounded, ungapped_theorems_are_free, whole_files_are_legal,
     whole_files_have_one_outcome, whole_files_spell_one_list,

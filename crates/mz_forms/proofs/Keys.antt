@@ -4,8 +4,10 @@ use Rattle.std.specs.Prelude.{bytes_eq}
 use Rattle.std.specs.List.{list_any}
 use Rattle.std.proofs.lemmas.Bool.Decides.{nat_tests}
 use Rattle.std.specs.Cmp.Lexicographic.{same_text}
+use Rattle.mz_general.proofs.Offered.{length-push}
 use Rattle.mz_names.proofs.Offered.{Tells}
 use Rattle.mz_names.specs.Identifiers.{is_name}
+use Rattle.mz_sexpr.proofs.Offered.{and_false}
 use Rattle.mz_forms.specs.Name.{IsName}
 use Rattle.mz_forms.specs.SpaceView.{Key, word_of_key, IsKeyAt, AreKeysFrom}
 
@@ -16,10 +18,6 @@ is_key w m y = bytes_eq w y.0.now && nat_eq m y.1
 and_true : (b : Bool) → (b && true) ≡ b
 and_true true = refl
 and_true false = refl
-
-and_false : (b : Bool) → (b && false) ≡ false
-and_false true = refl
-and_false false = refl
 
 found_here : (i : ℕ) (w : List ℕ) (k : Key) → IsKeyAt i k → IsName w → is_key w 0 k ≡ bytes_eq w (word_of_key k)
 found_here i w k (inl here) h = ap (λ m. bytes_eq w k.0.now && nat_eq 0 m) here.1 ∙ and_true (bytes_eq w k.0.now)
@@ -52,10 +50,6 @@ pub length-words : (ks : List Key) → length (map word_of_key ks) ≡ length ks
 length-words [] = refl
 length-words (x ∷ ks) = ap suc (length-words ks)
 
-pub length-more : {A : Type 0} (xs : List A) (x : A) → length (xs ++ x ∷ []) ≡ suc (length xs)
-length-more [] x = refl
-length-more (y ∷ xs) x = ap suc (length-more xs x)
-
 -- a place's own key stands at no place before it
 other_place : (i m : ℕ) (w : List ℕ) (k : Key) → IsKeyAt i k → i < m → is_key w (m + 1) k ≡ false
 other_place i m w k (inl here) less =
@@ -84,8 +78,8 @@ tail_of (x ∷ xs) = xs
 
 pub same-front : {A : Type 0} (xs ys : List A) (x y : A) → xs ++ x ∷ [] ≡ ys ++ y ∷ [] → xs ≡ ys
 same-front [] [] x y e = refl
-same-front [] (z ∷ ys) x y e = absurd (let n : 1 ≡ suc (length (ys ++ y ∷ [])) = ap length e in let m = length-more ys y in omega arith)
-same-front (z ∷ xs) [] x y e = absurd (let n : suc (length (xs ++ x ∷ [])) ≡ 1 = ap length e in let m = length-more xs x in omega arith)
+same-front [] (z ∷ ys) x y e = absurd (let n : 1 ≡ suc (length (ys ++ y ∷ [])) = ap length e in let m = length-push ys y in omega arith)
+same-front (z ∷ xs) [] x y e = absurd (let n : suc (length (xs ++ x ∷ [])) ≡ 1 = ap length e in let m = length-push xs x in omega arith)
 same-front (z ∷ xs) (v ∷ ys) x y e =
     let h : z ≡ v = cc in
     let t : xs ++ x ∷ [] ≡ ys ++ y ∷ [] = cc in

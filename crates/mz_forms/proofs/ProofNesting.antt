@@ -1,6 +1,7 @@
 -- Proofs within one another, and what a step makes of one.
 use Rattle.std.proofs.Common.{◌≡◌, ◌<◌, ◌+◌, ◌*◌, ◌^◌, ◌++◌, ◌∙◌, ℕ, List, [], ◌∷◌, length, Option, Result, IfOk, ap, sym, refl, subst, arith}
 use Rattle.std.specs.Prelude.{IfErr}
+use Rattle.mz_general.proofs.Offered.{length-push}
 use Rattle.mz_checks.specs.Checks.{Checks, ◌>>◌}
 use Rattle.mz_sexpr.specs.Node.{Node, Nodes, list, no_nodes, node, place, word}
 use Rattle.mz_sexpr.specs.Number.{node_at, node_count, nodes_after}
@@ -29,7 +30,6 @@ use Rattle.mz_forms.proofs.Cursors.{stepped, stands_there, node_size_positive}
 use Rattle.mz_forms.proofs.Hold.{known_holds, new_holds, new_name_is, new_name_word, expr_holds, expr_list_holds, conv_holds, proof_holds}
 use Rattle.mz_forms.proofs.ProofLists.{proofs_then_none, proofs_then_push}
 use Rattle.mz_forms.proofs.Dispatch.{if_ok, if_err, proof_by, proof_stops_by}
-use Rattle.mz_forms.proofs.Keys.{length-more}
 use Rattle.mz_forms.proofs.Stopping.{stops_before, stops_after}
 
 -- ---- what waits, when more is known of the kind
@@ -221,7 +221,7 @@ module _ (sc : Scope) (hyps : List (List ℕ)) (all : Nodes) (around : List (Lis
       × ((x : List ℕ) × (new ≡ around ++ x ∷ []) × WaitsForLast sc hyps Is asked (node_at all second) (around ++ x ∷ []) (by_let first))
   let_done new name second r first is pushed (same, w) read =
       let visible : new ≡ around ++ name ∷ [] = pushed ∙ ap (λ ls. ls ++ name ∷ []) same in
-      let lengths = ap length visible ∙ length-more around name in
+      let lengths = ap length visible ∙ length-push around name in
       let few = w.few in (
         w.there,
         omega (arith, lengths, few),

@@ -1,18 +1,15 @@
 -- The variables that are the operands of bound parameters, and which operands may name them.
-use Rattle.std.proofs.Common.{◌≡◌, ◌∙◌, ◌<◌, ◌≤◌, ◌+◌, ◌⊎◌, ◌↔◌, ℕ, Bool, true, false, List, [], ◌∷◌, length, zero, suc, slice_get, Some, Contains, All, IsTrue, ap, sym, refl, subst, inl, inr, arith, eq-or-lt_of_le, true≢false}
+use Rattle.std.proofs.Common.{◌≡◌, ◌∙◌, ◌<◌, ◌≤◌, ◌+◌, ◌⊎◌, ◌↔◌, ℕ, Bool, true, false, List, [], length, slice_get, Some, Contains, All, IsTrue, sym, refl, subst, inl, inr, arith, eq-or-lt_of_le, true≢false}
 use Rattle.std.specs.Prelude.{not}
 use Rattle.std.proofs.lemmas.Option.{slice_get_within}
-use Rattle.mz_logic.specs.Tree.{Trees, var, none, more, operand}
+use Rattle.mz_general.proofs.Offered.{contains_none, contains-decided}
+use Rattle.mz_logic.specs.Tree.{Trees, var, operand}
 use Rattle.mz_logic.specs.Signature.{Signature}
 use Rattle.mz_logic.specs.Sorts.{Fits, IsBoundVar}
 use Rattle.mz_logic.specs.Variables.{Apart, InV, IsBoundAt, IsOperandAt}
 use Rattle.mz_logic.specs.declared.binder.Binder.{Binder}
-use Rattle.mz_logic.proofs.Offered.{each_from_all, none_some, one_at}
+use Rattle.mz_logic.proofs.Offered.{each_from_all, one_at, bound_operand, same-variable}
 use Rattle.mz_free.proofs.Sharing.{IsOther}
-use Rattle.mz_free.proofs.Walking.{contains-decided, one-var}
-
-nothing-in : (x : ℕ) → Contains [] x → ⊥
-nothing-in x (k, below, _) = absurd (let e : k < 0 = below in omega (arith, e))
 
 -- ---- owners
 
@@ -32,12 +29,12 @@ module _ (params : List Binder) (es : Trees) where
     pub owns-more : (new : List ℕ) → ((y : ℕ) → Contains new y ↔ (Contains old y ⊎ (y ≡ x))) → (y : ℕ) → Contains new y ↔ (Contains old y ⊎ Owns j y)
     owns-more new grows y = (
       λ h. elim ((grows y).0 h) [ inl had ↦ inl had | inr same ↦ inr (bound, subst (λ z. operand es j ≡ var z) (sym same) is) ],
-      λ h. (grows y).1 (elim h [ inl had ↦ inl had | inr (_, at) ↦ inr (one-var y x (sym at ∙ is)) ]),
+      λ h. (grows y).1 (elim h [ inl had ↦ inl had | inr (_, at) ↦ inr (same-variable y x (sym at ∙ is)) ]),
     )
 
     pub fresh-by : (b : Bool) → IsTrue b ↔ Contains old x → IsTrue (not b) ↔ ((y : ℕ) → IsBoundAt params j → operand es j ≡ var y → Contains old y → ⊥)
     fresh-by true (to, from) = (λ no. absurd (true≢false (sym no)), λ out. absurd (out x bound is (to refl)))
-    fresh-by false (to, from) = (λ _ y _ at had. true≢false (sym (from (subst (Contains old) (one-var y x (sym at ∙ is)) had))), λ _. refl)
+    fresh-by false (to, from) = (λ _ y _ at had. true≢false (sym (from (subst (Contains old) (same-variable y x (sym at ∙ is)) had))), λ _. refl)
 
   -- ---- parameters one after another
 
@@ -54,7 +51,7 @@ module _ (params : List Binder) (es : Trees) where
   pub below-first : (owned : List ℕ) → owned ≡ [] → AreBelow owned 0
   below-first owned empty = (
     λ x. (
-      λ has. absurd (nothing-in x (subst (λ (ys : List ℕ). Contains ys x) empty has)),
+      λ has. absurd (contains_none x (subst (λ (ys : List ℕ). Contains ys x) empty has)),
       λ (k, below, _). absurd (let e : k < 0 = below in omega (arith, e)),
     ),
     λ j k x below _ _ _ _ _. absurd (let e : j < 0 = below in omega (arith, e)),
@@ -125,7 +122,7 @@ module _ (params : List Binder) (es : Trees) where
       → ((x : ℕ) → Contains its x ↔ (Contains first x ⊎ Owns i x)) → (x : ℕ) → Contains its x ↔ IsOwn p i x
   own-gathered i p old first its empty covers grows x = (
     λ has. elim ((grows x).0 has) [
-      | inl had ↦ elim ((covers x).0 had) [ inl absent ↦ absurd (nothing-in x (subst (λ (ys : List ℕ). Contains ys x) empty absent)) | inr op ↦ inl op ]
+      | inl had ↦ elim ((covers x).0 had) [ inl absent ↦ absurd (contains_none x (subst (λ (ys : List ℕ). Contains ys x) empty absent)) | inr op ↦ inl op ]
       | inr owns ↦ inr owns
     ],
     λ own. (grows x).1 (elim own [ inl op ↦ inl ((covers x).1 (inr op)) | inr owns ↦ inr owns ]),
@@ -184,21 +181,15 @@ module _ (params : List Binder) (es : Trees) where
 
 -- ---- one operand of two bound parameters
 
-bound-operand : (sigs : List Signature) (ctx params : List Binder) (es : Trees) → Fits sigs ctx es params → (i : ℕ) (p : Binder) → slice_get params i ≡ Some p → p.bound ≡ true → IsBoundVar ctx (operand es i)
-bound-operand sigs ctx [] es fits i p at bound = absurd (none_some at)
-bound-operand sigs ctx (q ∷ qs) none fits i p at bound = absurd fits
-bound-operand sigs ctx (q ∷ qs) (more e es) fits zero p at bound = fits.1 (ap (λ (b : Binder). b.bound) (one_at (let here : slice_get (q ∷ qs) zero ≡ Some q = refl in here) at) ∙ bound)
-bound-operand sigs ctx (q ∷ qs) (more e es) fits (suc i) p at bound = bound-operand sigs ctx qs es fits.2 i p at bound
-
 -- where bound parameters depend on none, operands that are apart differ
 pub apart-single : (sigs : List Signature) (ctx params : List Binder) (es : Trees) → Fits sigs ctx es params → All (λ (p : Binder). p.bound ≡ true → p.deps ≡ []) params → Apart ctx es params → Single params es
 apart-single sigs ctx params es fits alone apart j k x (p, at-p, bound-p) j-is (q, at-q, bound-q) k-is = elim (apart j k x p q at-p at-q bound-q k-is named) [
   | inl same ↦ same
-  | inr dep ↦ absurd (nothing-in k (subst (λ (ys : List ℕ). Contains ys k) (each_from_all (λ (b : Binder). b.bound ≡ true → b.deps ≡ []) params alone j p at-p bound-p) dep))
+  | inr dep ↦ absurd (contains_none k (subst (λ (ys : List ℕ). Contains ys k) (each_from_all (λ (b : Binder). b.bound ≡ true → b.deps ≡ []) params alone j p at-p bound-p) dep))
 ]
   where
     go : IsBoundVar ctx (operand es j) → InV ctx x (var x)
-    go (y, b, is, at, bound) = (b, subst (λ n. slice_get ctx n ≡ Some b) (one-var y x (sym is ∙ j-is)) at, inl (bound, refl))
+    go (y, b, is, at, bound) = (b, subst (λ n. slice_get ctx n ≡ Some b) (same-variable y x (sym is ∙ j-is)) at, inl (bound, refl))
 
     named : InV ctx x (operand es j)
-    named = subst (InV ctx x) (sym j-is) (go (bound-operand sigs ctx params es fits j p at-p bound-p))
+    named = subst (InV ctx x) (sym j-is) (go (bound_operand sigs ctx params es fits j p at-p bound-p))

@@ -1,12 +1,12 @@
 -- Whether expressions name one of many variables.
 use Rattle.std.proofs.Common.{◌≡◌, ◌∙◌, ◌<◌, ◌+◌, ◌⊎◌, ◌↔◌, ℕ, List, [], ◌∷◌, length, drop, get_or, slice_get, Some, None, Contains, Bool, true, false, IsTrue, ap, sym, subst, inl, inr, arith}
+use Rattle.mz_general.proofs.Offered.{drop-item, contains_tail, contains_head, contains_cases}
 use Rattle.mz_logic.specs.Tree.{Tree, Trees, var, none, more}
 use Rattle.mz_logic.specs.Variables.{InV, InSomeV}
 use Rattle.mz_logic.specs.View.{tree, trees}
 use Rattle.mz_logic.specs.declared.binder.Binder.{Binder}
 use Rattle.mz_logic.specs.declared.expr.Expr.{Expr}
-use Rattle.mz_logic.proofs.Offered.{contains_cases, contains_head, contains_tail, one_at}
-use Rattle.mz_free.proofs.Walking.{left-item}
+use Rattle.mz_logic.proofs.Offered.{one_at}
 
 -- of the variables that are sought, one is in V of one of the expressions
 abbrev pub SomeName : List Binder → (ℕ → Type 0) → Trees → Type 0
@@ -47,7 +47,7 @@ pub names-none : (ctx : List Binder) (P : ℕ → Type 0) (es : Trees) (W : Type
 names-none ctx P es W empty left w = (let (x, has, free) = (subst (λ ys. SomeName ctx P ys ↔ W) empty left).1 w in free)
 
 pub cut-trees : (xs : List Expr) (i : ℕ) (e : Expr) → i < length xs → e ≡ get_or xs i e → trees (drop i xs) ≡ more (tree e) (trees (drop (i + 1) xs))
-cut-trees xs i e within is = ap trees (left-item xs i e within is)
+cut-trees xs i e within is = ap trees (drop-item xs i e within is)
 
 -- where none is its own
 pub but-none : (ctx : List Binder) (xs own : List ℕ) → own ≡ [] → (es : Trees) (b : Bool) → IsTrue b ↔ SomeName ctx (IsOther xs own) es → IsTrue b ↔ SomeName ctx (Contains xs) es

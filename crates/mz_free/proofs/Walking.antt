@@ -1,14 +1,14 @@
 -- What a walk over an expression has to cover.
 use Rattle.std.proofs.Common.{◌≡◌, ◌∙◌, ◌<◌, ◌+◌, ◌++◌, ◌⊎◌, ◌↔◌, ℕ, suc, List, [], ◌∷◌, length, drop, get_or, slice_get, Bool, true, false, Some, Contains, All, IsTrue, ap, sym, refl, subst, inl, inr, arith, drop-cons}
-use Rattle.std.specs.Prelude.{◌||◌, eqb, if◌then◌else◌}
+use Rattle.std.specs.Prelude.{◌||◌, if◌then◌else◌}
 use Rattle.std.specs.List.{list_any}
-use Rattle.std.proofs.lemmas.Bool.{eqb-true, eqb-false}
 use Rattle.std.proofs.lemmas.List.Elements.{All-contains, All-contains_itself, Contains-append_left, Contains-append_right, Contains-append_cases}
+use Rattle.mz_general.proofs.Offered.{contains_tail, contains_head, contains_cases, contains-decided}
 use Rattle.mz_logic.specs.Tree.{Tree, Trees, var, app, more, operand}
 use Rattle.mz_logic.specs.Signature.{Signature}
 use Rattle.mz_logic.specs.Variables.{InFV, InSomeFV, IsBoundAt, IsFreeOperand, IsOperandAt}
 use Rattle.mz_logic.specs.declared.binder.Binder.{Binder}
-use Rattle.mz_logic.proofs.Offered.{contains_cases, contains_head, contains_tail, one_at}
+use Rattle.mz_logic.proofs.Offered.{one_at}
 
 -- x is what one of the places leads to
 abbrev pub Reaches : (ℕ → ℕ → Type 0) → List ℕ → ℕ → Type 0
@@ -22,9 +22,6 @@ reaches-cases P p xs x (j, has, at) = elim (contains_cases p j xs has) [
 
 pub left-at : {X : Type 0} → (xs : List X) (i : ℕ) (d : X) → i < length xs → drop i xs ≡ get_or xs i d ∷ drop (i + 1) xs
 left-at xs i d within = let on : suc i ≡ i + 1 = omega arith in drop-cons xs i d within ∙ ap (λ n. get_or xs i d ∷ drop n xs) on
-
-pub left-item : {X : Type 0} → (xs : List X) (i : ℕ) (x : X) → i < length xs → x ≡ get_or xs i x → drop i xs ≡ x ∷ drop (i + 1) xs
-left-item xs i x within is = left-at xs i x within ∙ ap (λ y. y ∷ drop (i + 1) xs) (sym is)
 
 -- what one more place leads to is there too
 module _ (P : ℕ → ℕ → Type 0) (Old New W : ℕ → Type 0) (xs : List ℕ) (i d : ℕ) (within : i < length xs) (so_far : (x : ℕ) → (Old x ⊎ Reaches P (drop i xs) x) ↔ W x) where
@@ -99,15 +96,6 @@ insert-has x p is ks new made y = go (list_any p ks) refl made
       ]),
     )
 
-pub contains-decided : (xs : List ℕ) (y : ℕ) → Contains xs y ⊎ (Contains xs y → ⊥)
-contains-decided [] y = inr (λ (k, below, _). omega (arith, below))
-contains-decided (x ∷ xs) y = go (eqb x y) refl (contains-decided xs y)
-  where
-    go : (b : Bool) → eqb x y ≡ b → Contains xs y ⊎ (Contains xs y → ⊥) → Contains (x ∷ xs) y ⊎ (Contains (x ∷ xs) y → ⊥)
-    go true is rest = inl (subst (Contains (x ∷ xs)) (eqb-true x y is) (contains_head x xs))
-    go false is (inl h) = inl (contains_tail x y xs h)
-    go false is (inr out) = inr (λ h. elim (contains_cases x y xs h) [ inl same ↦ absurd (eqb-false x y is same) | inr h ↦ out h ])
-
 -- ---- an application
 
 module _ (params : List Binder) (es : Trees) (covered : List ℕ) where
@@ -143,9 +131,6 @@ operand-in sigs ctx params es p e old new has regular b (to, from) = (
     | inr out ↦ absurd (out ((has x).1 (inl (all x (regular, free, λ op. out ((has x).1 (inr op)))))))
   ]),
 )
-
-pub one-var : (x y : ℕ) → var x ≡ var y → x ≡ y
-one-var x y e = cc
 
 -- what is covered is covered by one more place that leads to one variable, or to none
 module _ (P : ℕ → ℕ → Type 0) (Old New : ℕ → Type 0) (j : ℕ) where

@@ -3,17 +3,18 @@ use Rattle.std.proofs.Common.{◌≡◌, ◌∙◌, ◌++◌, List, [], ◌∷�
 use Rattle.std.specs.Prelude.{◌||◌, ⊤, not, codes, if◌then◌else◌}
 use Rattle.std.proofs.lemmas.Bool.{true≢false}
 use Rattle.std.proofs.lemmas.List.{append-nil}
+use Rattle.std.proofs.lemmas.Option.{same_Some}
 use Rattle.mz_lex.specs.Lexemes.{Lexeme}
 use Rattle.mz_grammar.specs.declared.kind.Kind.{Kind}
 use Rattle.mz_grammar.specs.declared.kind.Kind.TheVariants.{Term, Assert, Definition, Notation}
 use Rattle.mz_grammar.specs.Statement.{Modifiers, Head, TypeText, Source, type_source, formula_source, LiteralText, Level, number_level, max_level, Statement, Sign, keyword, symbol, name, name_or_blank, formula, number, only_if, IsSign, AreSigns, each, modifier_signs, type_signs, takes_dummies, takes_formulas, opening_of, closing_of, name_signs, group_source_signs, group_signs, keyword_of, head_signs, argument_signs, premise_signs, fixity_keyword, level_sign, literal_signs, tail_signs, statement_signs, Spells}
 use Rattle.mz_grammar.specs.Tests.{the_symbol, fits}
 use Rattle.mz_grammar.specs.Progress.{OpenGroup, OpenNotation, Slot, group_slot, argument_slot, premise_slot, definition_slot, notation_slot, Progress, opening, sort_opened, sort_named, head_opened, headed, group_opened, group_dotted, wanted, typed, hypothesis, claimed, body_opened, defined, operator_opened, operator_named, constant_wanted, constant_read, level_wanted, level_read, coercion_opened, coercion_named, from_wanted, from_read, to_wanted, to_read, delimiter_opened, left_read, right_read, literal_wanted, literal_read, literal_opened, literal_constant, literal_colon, literal_level, tail_opened, tail_level, tail_read, whole, start, Row, is_bare, beginnings, slot_of, formula_rows, type_rows, level_rows, literal_rows, with_dep, with_name, group_of, closed, with_literal, notation_of, moves, choose, next, Leads}
-use Rattle.mz_grammar.proofs.Fitting.{IsFit, fits-is, some-one, none-some}
+use Rattle.mz_grammar.proofs.Fitting.{IsFit, fits-is, none-some}
 
 -- ---- lists
 
-are_signs-append : (xs ys : List Sign) (ls ms : List Lexeme) → AreSigns xs ls → AreSigns ys ms → AreSigns (xs ++ ys) (ls ++ ms)
+pub are_signs-append : (xs ys : List Sign) (ls ms : List Lexeme) → AreSigns xs ls → AreSigns ys ms → AreSigns (xs ++ ys) (ls ++ ms)
 are_signs-append [] ys [] ms a b = b
 are_signs-append [] ys (l ∷ ls) ms a b = absurd a
 are_signs-append (x ∷ xs) ys [] ms a b = absurd a
@@ -98,17 +99,13 @@ choose-adds p q (row ∷ rows) l (adds, all) e = go (fits row.0 l.kind l.text) r
   where
     go : (b : Bool) → fits row.0 l.kind l.text ≡ b → (if b then Some (row.1 l) else choose rows l.kind l.text l) ≡ Some q
         → (choose rows l.kind l.text l ≡ Some q → Adds p l q) → Adds p l q
-    go true is here more = subst (Adds p l) (some-one (row.1 l) q here) (adds l (fits-is row.0 l.kind l.text is))
+    go true is here more = subst (Adds p l) (same_Some (row.1 l) q here) (adds l (fits-is row.0 l.kind l.text is))
     go false is here more = more here
 
 -- ---- modifiers
 
 mods : Bool → Bool → Bool → Bool → Progress
 mods p s v f = opening (record { is_pure = p; is_strict = s; is_provable = v; is_free = f })
-
-none-of : (b : Bool) → not b ≡ true → b ≡ false
-none-of true e = absurd (true≢false (sym e))
-none-of false e = refl
 
 pure-more : (p s v f : Bool) → not (p || s || v || f) ≡ true → signs_of (mods true s v f) ≡ signs_of (mods p s v f) ++ keyword (codes "pure") ∷ []
 unfolding mods

@@ -1,8 +1,8 @@
 -- What a lexeme that passes a test is.
-use Rattle.std.proofs.Common.{◌≡◌, ◌⊎◌, ℕ, List, Bool, true, false, Some, None, sym, refl, inl, inr}
-use Rattle.std.specs.Prelude.{◌&&◌, codes, bytes_eq}
+use Rattle.std.proofs.Common.{◌≡◌, ◌⊎◌, ℕ, List, true, false, Some, None, sym, refl, inl, inr}
+use Rattle.std.specs.Prelude.{codes}
 use Rattle.std.proofs.lemmas.Bool.{true≢false}
-use Rattle.std.proofs.lemmas.Slice.Eq.{bytes_eq-Decides}
+use Rattle.mz_general.proofs.Offered.{both-true as both, same-bytes as same}
 use Rattle.mz_lex.specs.declared.token.TokenKind.{TokenKind}
 use Rattle.mz_lex.specs.declared.token.TokenKind.TheVariants as kinds
 use Rattle.mz_grammar.specs.Tests.{Test, the_keyword, the_symbol, a_name, a_name_or_blank, a_formula, a_number, only, fits}
@@ -16,15 +16,8 @@ IsFit a_formula kind bytes = kind ≡ kinds.Math
 IsFit a_number kind bytes = kind ≡ kinds.Number
 IsFit (only b t) kind bytes = (b ≡ true) × IsFit t kind bytes
 
-same : (text other : List ℕ) → bytes_eq text other ≡ true → text ≡ other
-same text other e = (bytes_eq-Decides text other).0 e
-
 not-so : {A : Type 0} → false ≡ true → A
 not-so e = absurd (true≢false (sym e))
-
-both : (a b : Bool) → (a && b) ≡ true → (a ≡ true) × (b ≡ true)
-both true b e = (refl, e)
-both false b e = not-so e
 
 pub fits-is : (t : Test) (kind : TokenKind) (bytes : List ℕ) → fits t kind bytes ≡ true → IsFit t kind bytes
 fits-is (the_keyword text) kinds.Name bytes e = (refl, same bytes text e)
@@ -52,9 +45,6 @@ fits-is a_number kinds.Symbol bytes e = not-so e
 fits-is a_number kinds.Number bytes e = refl
 fits-is a_number kinds.Math bytes e = not-so e
 fits-is (only b t) kind bytes e = let parts = both (fits t kind bytes) b e in (parts.1, fits-is t kind bytes parts.0)
-
-pub some-one : {A : Type 0} → (x y : A) → Some x ≡ Some y → x ≡ y
-some-one x y e = cc
 
 pub none-some : {A : Type 0} → (x : A) → None ≡ Some x → ⊥
 none-some x e = cc

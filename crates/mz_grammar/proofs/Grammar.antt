@@ -2,6 +2,7 @@
 -- a statement begins with them.
 use Rattle.std.proofs.Common.{◌≡◌, ◌∙◌, ◌++◌, List, [], ◌∷◌, true, false, Some, None, ◌⊎◌, ap, ap₂, sym, refl, subst, inl, inr}
 use Rattle.std.specs.Prelude.{ℕ, codes}
+use Rattle.std.proofs.lemmas.Option.{same_Some}
 use Rattle.mz_lex.specs.declared.token.TokenKind.{TokenKind}
 use Rattle.mz_lex.specs.declared.token.TokenKind.TheVariants as kinds
 use Rattle.mz_lex.specs.Lexemes.{Lexeme}
@@ -11,7 +12,7 @@ use Rattle.mz_grammar.specs.declared.kind.Kind.TheVariants.{Term, Assert, Defini
 use Rattle.mz_grammar.specs.declared.kind.Fixity.{Fixity}
 use Rattle.mz_grammar.specs.Statement.{Modifiers, TypeText, Source, type_source, formula_source, Head, Level, max_level, LiteralText, name_literal, constant_literal, TailText, Statement, sort_statement, term_statement, assert_statement, definition_statement, operator_statement, coercion_statement, delimiter_statement, notation_statement, closing_of, Spells, IsStatement, IsPrefix}
 use Rattle.mz_grammar.specs.Progress.{OpenGroup, OpenNotation, Slot, group_slot, argument_slot, premise_slot, definition_slot, notation_slot, Progress, opening, sort_opened, sort_named, head_opened, headed, group_opened, group_dotted, wanted, typed, hypothesis, claimed, body_opened, defined, operator_opened, operator_named, constant_wanted, constant_read, level_wanted, level_read, coercion_opened, coercion_named, from_wanted, from_read, to_wanted, to_read, delimiter_opened, left_read, right_read, literal_wanted, literal_read, literal_opened, literal_constant, literal_colon, literal_level, tail_opened, tail_level, tail_read, whole, start, bare, without_deps, with_name, closed, open_notation, slot_of, moves, choose, next, Leads}
-use Rattle.mz_grammar.proofs.Fitting.{some-one, none-some}
+use Rattle.mz_grammar.proofs.Fitting.{none-some}
 use Rattle.mz_grammar.proofs.Adding.{leads-spells}
 use Rattle.mz_grammar.proofs.Leading.{leads-append, spells-leads, closes}
 
@@ -23,7 +24,7 @@ leads-front p r (l ∷ ls) ms (s, e, rest) = let found = leads-front s r ls ms r
 
 pub leads-one : (p q r : Progress) (ls : List Lexeme) → Leads p ls q → Leads p ls r → q ≡ r
 leads-one p q r [] a b = a ∙ sym b
-leads-one p q r (l ∷ ls) (s, e, a) (t, f, b) = leads-one s q r ls a (subst (λ x. Leads x ls r) (sym (some-one s t (sym e ∙ f))) b)
+leads-one p q r (l ∷ ls) (s, e, a) (t, f, b) = leads-one s q r ls a (subst (λ x. Leads x ls r) (sym (same_Some s t (sym e ∙ f))) b)
 
 -- ---- each progress can be finished
 
@@ -284,7 +285,7 @@ fronts-one p s r [] us (y ∷ ys) vs a (q, e, b) same = absurd (whole-next p s y
 fronts-one p s r (x ∷ xs) us [] vs (q, e, a) b same = absurd (whole-next p r x q b e)
 fronts-one p s r (x ∷ xs) us (y ∷ ys) vs (q, e, a) (t, f, b) same =
     let x_is = head-same x y (xs ++ us) (ys ++ vs) same in
-    let q_is : t ≡ q = some-one t q (sym f ∙ ap (next p) (sym x_is) ∙ e) in
+    let q_is : t ≡ q = same_Some t q (sym f ∙ ap (next p) (sym x_is) ∙ e) in
     let rest = fronts-one q s r xs us ys vs a (subst (λ u. Leads u ys (whole r)) q_is b) (tail-same x y (xs ++ us) (ys ++ vs) same) in
     (rest.0, ap₂ ◌∷◌ x_is rest.1, rest.2)
 

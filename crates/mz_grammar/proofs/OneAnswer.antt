@@ -55,11 +55,11 @@ fault-or-blank text from fault stops blank = go (stops [] None blank)
 
 -- ---- how much of the text a statement takes
 
-lexemes-long : (text : List ℕ) (from to : ℕ) (ls : List Lexeme) → LexemesTo text from ls to → from + length ls ≤ to
+pub lexemes-long : (text : List ℕ) (from to : ℕ) (ls : List Lexeme) → LexemesTo text from ls to → from + length ls ≤ to
 lexemes-long text from to [] lexes = omega (arith, lexes)
 lexemes-long text from to (l ∷ ls) (is, lexes) = omega (arith, lexemes-long text l.to to ls lexes, is.some, blank-forward text from l.from is.blank)
 
-signs-long : (ss : List Sign) (ls : List Lexeme) → AreSigns ss ls → length ls ≡ length ss
+pub signs-long : (ss : List Sign) (ls : List Lexeme) → AreSigns ss ls → length ls ≡ length ss
 signs-long [] [] are = refl
 signs-long [] (l ∷ ls) are = absurd are
 signs-long (s ∷ ss) [] are = absurd are

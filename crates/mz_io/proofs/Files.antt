@@ -10,6 +10,7 @@ use Rattle.std.proofs.lemmas.Option.{cond_some, slice_get_past, slice_get_cases,
 use Rattle.std.proofs.lemmas.List.Folds.{find_at, find-set, find_past, find-append}
 use Rattle.std.proofs.lemmas.List.Quantifiers.{position-Some}
 use Rattle.std.proofs.lemmas.Slice.Eq.{bytes_eq-Decides}
+use Rattle.mz_general.proofs.Offered.{empty-list}
 use Rattle.mz_io.specs.Memory.{is_named, bytes_of, file_of, left_in, left_at}
 use Rattle.mz_io.specs.declared.entry.Entry.{Entry}
 
@@ -107,10 +108,6 @@ left_at-later files (Some i) offset n = left_in-later (option_map bytes_of (slic
 pub front-rest : (n : ℕ) (left front : List ℕ) → take n front ≡ take n left → left ≡ take n front ++ drop n left
 front-rest n left front e = rw e (sym (take-append-drop n left))
 
-is_empty : (xs : List ℕ) → length xs ≡ 0 → xs ≡ []
-is_empty [] e = refl
-is_empty (x ∷ xs) e = absurd (omega arith)
-
 -- what a read of the front leaves
 pub left_at-read : (files : List Entry) (place : Option ℕ) (offset taken after : ℕ) (left buf : List ℕ) →
     left ≡ left_at files place offset → (0 < length left → offset + length left < 2 ^ 64) →
@@ -123,7 +120,7 @@ left_at-read files place offset taken after left buf e fits count front sum smal
     let rest : left_at files place after ≡ drop taken left =
     ap (left_at files place) same ∙ left_at-later files place offset taken ∙ ap (drop taken) (sym e) in (
       sym e ∙ front-rest taken left buf front ∙ ap (λ ys. take taken buf ++ ys) (sym rest),
-      λ none some. rest ∙ ap (drop taken) (is_empty left (omega arith)) ∙ drop-nil taken,
+      λ none some. rest ∙ ap (drop taken) (empty-list left (omega arith)) ∙ drop-nil taken,
     )
 
 -- a name that no file has

@@ -1,8 +1,9 @@
 -- What is asked of a place of the list can be found out.
-use Rattle.std.proofs.Common.{◌≡◌, ◌<◌, ◌⊎◌, ℕ, suc, Bool, true, false, List, [], ◌∷◌, Option, Some, None, Result, Ok, Err, refl, inl, inr}
+use Rattle.std.proofs.Common.{◌≡◌, ◌⊎◌, ℕ, Bool, true, false, List, [], ◌∷◌, Option, Some, None, Result, Ok, Err, refl, inl, inr}
 use Rattle.std.proofs.lemmas.Bool.{cases_eq}
+use Rattle.mz_general.proofs.Offered.{below-decided}
 use Rattle.mz_checks.specs.Checks.{AreDecided}
-use Rattle.mz_checks.proofs.Offered.{at_most-decided, bytes-decided}
+use Rattle.mz_checks.proofs.Offered.{bytes-decided}
 use Rattle.mz_cmd.specs.declared.code.StatementCode.{StatementCode}
 use Rattle.mz_cmd.specs.declared.code.StatementCode.TheVariants as codes
 use Rattle.mz_cmd.specs.declared.statement.StmtAt.{StmtAt}
@@ -37,9 +38,6 @@ suits-decided file rows at codes.LocalDefinition = (bool-decided (term_row file 
 suits-decided file rows at codes.Axiom = tt
 suits-decided file rows at codes.Theorem = tt
 suits-decided file rows at codes.LocalTheorem = tt
-
-below-decided : (m n : ℕ) → (m < n) ⊎ (m < n → ⊥)
-below-decided m n = at_most-decided (suc m) n
 
 kind-decided : (file : List ℕ) (rows : Rows) (at : ℕ) (o : Option StatementCode) → AreDecided (kind_checks file rows at o)
 kind-decided file rows at None = (inr (λ never. never), λ _. tt)

@@ -2,9 +2,8 @@
 pub use Rattle.mz_layout.proofs.Decided.{layout-decided}
 pub use Rattle.mz_layout.proofs.HeadPlaces.{code-is, command-takes, head-ahead}
 pub use Rattle.mz_layout.proofs.HeadsDecided.{empty-decided, head-decided}
-pub use Rattle.mz_layout.proofs.LayoutHolds.{layout-holds}
+pub use Rattle.mz_layout.proofs.LayoutHolds.{layout-holds, rows-hold}
 pub use Rattle.mz_layout.proofs.LengthBound.{file-bound}
-pub use Rattle.mz_layout.proofs.ListLaws.{slice_get-left}
 pub use Rattle.mz_layout.proofs.ListRead.{all-listed}
 pub use Rattle.mz_layout.proofs.Parts.{parts-of_layout}
 pub use Rattle.mz_layout.proofs.PartsStand.{SaysCounts, counts-said, file-length}

@@ -3,4 +3,5 @@ pub use Rattle.mz_lex.proofs.Blanks.{blank-forward}
 pub use Rattle.mz_lex.proofs.Lexing.{begun, comparable, ended, one-lexing, one-more, some-lexing}
 pub use Rattle.mz_lex.proofs.MathStrings.{has-inside}
 pub use Rattle.mz_lex.proofs.Names.{among, longest-name, longest-symbol, slice-empty, slice-first, starts-no_digit, two-bytes}
-pub use Rattle.mz_lex.proofs.OneLexeme.{math-once, part-at}
+pub use Rattle.mz_lex.proofs.OneLexeme.{part-at}
+pub use Rattle.mz_lex.proofs.OtherKinds.{longest-math}

@@ -80,7 +80,7 @@ ends-math [] all = refl
 ends-math (x ∷ []) all = let parts = and_parts (is_math_byte x) true all in and_from (is_math_byte x) _ parts.0 refl
 ends-math (x ∷ y ∷ ys) all = let parts = and_parts (is_math_byte x) (list_all is_math_byte (y ∷ ys)) all in and_from (is_math_byte x) _ parts.0 (ends-math (y ∷ ys) parts.1)
 
-longest-math : (kind : TokenKind) (cs : List ℕ) (d : ℕ) → ends_math cs ≡ true → is_of_kind kind (36 ∷ (cs ++ d ∷ [])) ≡ false
+pub longest-math : (kind : TokenKind) (cs : List ℕ) (d : ℕ) → ends_math cs ≡ true → is_of_kind kind (36 ∷ (cs ++ d ∷ [])) ≡ false
 longest-math kinds.Symbol cs d is = longest-symbol 36 d cs
 longest-math kinds.Name cs d is = refl
 longest-math kinds.Number cs d is = refl

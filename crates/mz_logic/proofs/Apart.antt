@@ -1,12 +1,14 @@
 -- The variables of an instance, and that operands stay apart.
-use Rattle.std.proofs.Common.{ℕ, zero, suc, ◌≡◌, ◌⊎◌, Bool, true, false, List, [], ◌∷◌, slice_get, Contains, Some, refl, sym, ap, ◌∙◌, subst, inl, inr, not-suc-le-zero}
+use Rattle.std.proofs.Common.{ℕ, zero, suc, ◌≡◌, ◌⊎◌, Bool, true, false, List, [], ◌∷◌, slice_get, Contains, Some, refl, sym, ap, ◌∙◌, subst, inl, inr}
+use Rattle.std.proofs.lemmas.Option.{none-some}
+use Rattle.mz_general.proofs.Offered.{contains_none}
 use Rattle.mz_logic.specs.Tree.{Tree, Trees, var, app, none, more, operand, instance, instances}
 use Rattle.mz_logic.specs.Signature.{Signature}
 use Rattle.mz_logic.specs.Sorts.{IsBoundVar, HasSort, Fits}
 use Rattle.mz_logic.specs.Variables.{Occurs, OccursIn, InV, InSomeV, Apart}
 use Rattle.mz_logic.specs.Laws.{BoundArePlain}
 use Rattle.mz_logic.specs.declared.binder.Binder.{Binder}
-use Rattle.mz_logic.proofs.Instance.{one_at, none_some, bound_operand}
+use Rattle.mz_logic.proofs.Instance.{one_at, bound_operand}
 
 -- V of an instance is the union of the V of what is put in for the variables that occur
 mutual
@@ -64,20 +66,17 @@ operand-instances f (more e es) (suc i) = operand-instances f es i
 -- the operand of a parameter has its sort
 pub operand_has_sort : (sigs : List Signature) (ctx : List Binder) (es : Trees) (ps : List Binder) → Fits sigs ctx es ps
     → (i : ℕ) (p : Binder) → slice_get ps i ≡ Some p → HasSort sigs ctx (operand es i) p.sort
-operand_has_sort sigs ctx es [] fits i p at = absurd (none_some at)
+operand_has_sort sigs ctx es [] fits i p at = absurd (none-some _ at)
 operand_has_sort sigs ctx none (q ∷ ps) fits i p at = absurd fits
 operand_has_sort sigs ctx (more e es) (q ∷ ps) fits zero p at = subst (λ r. HasSort sigs ctx e r.sort) (one_at refl at) fits.0
 operand_has_sort sigs ctx (more e es) (q ∷ ps) fits (suc i) p at = operand_has_sort sigs ctx es ps fits.2 i p at
-
-none_contained : (x : ℕ) → Contains [] x → ⊥
-none_contained x (k, below, _) = not-suc-le-zero below
 
 -- a regular variable's dependencies are its V
 pub in_v_of_dep : (ctx : List Binder) → BoundArePlain ctx → (x y : ℕ) (b : Binder) → slice_get ctx y ≡ Some b → Contains b.deps x → InV ctx x (var y)
 in_v_of_dep ctx no_deps x y b at has = go b.bound refl
   where
     go : (v : Bool) → b.bound ≡ v → InV ctx x (var y)
-    go true is = absurd (none_contained x (subst (λ ds. Contains ds x) (no_deps y b at is) has))
+    go true is = absurd (contains_none x (subst (λ ds. Contains ds x) (no_deps y b at is) has))
     go false is = (b, at, inr (is, has))
 
 -- where the bound variable y of the parameters is replaced by x, and x is in V of an instance of e, y is in V of e

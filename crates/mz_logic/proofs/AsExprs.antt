@@ -1,10 +1,11 @@
 -- Trees as a list of the code's expressions.
 use Rattle.std.proofs.Common.{ℕ, zero, suc, ◌≡◌, ◌<◌, ◌∙◌, List, [], ◌∷◌, length, get_or, slice_get, Some, ap, ap₂, arith, refl, sym, le_of_suc-le-suc, not-suc-le-zero}
+use Rattle.std.proofs.lemmas.Option.{none-some}
 use Rattle.mz_logic.specs.Tree.{Tree, Trees, var, app, none, more, listed}
 use Rattle.mz_logic.specs.View.{tree, trees}
 use Rattle.mz_logic.specs.declared.expr.Expr.{Expr}
 use Rattle.mz_logic.specs.declared.expr.Expr.TheVariants.{Var, App}
-use Rattle.mz_logic.proofs.Instance.{none_some, one_at}
+use Rattle.mz_logic.proofs.Instance.{one_at}
 
 abbrev pub expr_of : Tree → Expr
 expr_of (var x) = Var x
@@ -36,7 +37,7 @@ exprs-within es i n is below = let many = length-exprs es in omega (arith, many,
 
 -- what is read of the trees stands in the list
 pub expr-read : (es : Trees) (i : ℕ) (e : Expr) → slice_get (listed es) i ≡ Some (tree e) → e ≡ get_or (exprs_of es) i e
-expr-read none i e at = absurd (none_some at)
+expr-read none i e at = absurd (none-some _ at)
 expr-read (more d es) zero e at = sym (ap expr_of (one_at refl at) ∙ expr-tree e)
 expr-read (more d es) (suc i) e at = expr-read es i e at
 

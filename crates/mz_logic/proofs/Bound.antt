@@ -1,6 +1,7 @@
 -- Free variables are bound ones, where regular variables depend on bound ones alone.
-use Rattle.std.proofs.Common.{ℕ, zero, suc, ◌≡◌, ◌<◌, ◌++◌, true≢false, All, List, [], ◌∷◌, slice_get, Some, length, sym, ◌∙◌, subst, inl, inr}
+use Rattle.std.proofs.Common.{ℕ, ◌≡◌, ◌<◌, ◌++◌, true≢false, All, List, [], ◌∷◌, slice_get, Some, length, sym, ◌∙◌, subst, inl, inr}
 use Rattle.std.proofs.lemmas.List.Elements.{All-contains}
+use Rattle.mz_general.proofs.Offered.{slice_get-append}
 use Rattle.mz_logic.specs.Tree.{Tree, Trees, var, app, none, more, operand}
 use Rattle.mz_logic.specs.Signature.{Signature}
 use Rattle.mz_logic.specs.Sorts.{HasSort, Fits, IsBoundVar}
@@ -10,7 +11,7 @@ use Rattle.mz_logic.specs.Legality.{DependOnBound, AreParams, NamesThere, SortsR
 use Rattle.mz_logic.specs.declared.binder.Binder.{Binder}
 use Rattle.mz_logic.specs.declared.binder.SortMods.{SortMods}
 use Rattle.mz_logic.proofs.Fresh.{split_at}
-use Rattle.mz_logic.proofs.Instance.{one_at, none_some, bound_operand}
+use Rattle.mz_logic.proofs.Instance.{one_at, bound_operand}
 use Rattle.mz_logic.proofs.Lists.{each_from_all}
 use Rattle.mz_logic.proofs.Rules.{sort_by_rules}
 
@@ -18,7 +19,7 @@ var_bound : (ctx : List Binder) → DependOnBound ctx → (x y : ℕ) → InV ct
 var_bound ctx deps x y (b, at, inl (bound, is)) = (b, subst (λ z. slice_get ctx z ≡ Some b) (sym is) at, bound)
 var_bound ctx deps x y (b, at, inr (regular, has)) = deps y b at regular x has
 
-is_at : (ctx : List Binder) (x : ℕ) (e : Tree) → IsBoundVar ctx e → e ≡ var x → IsBoundAt ctx x
+pub is_at : (ctx : List Binder) (x : ℕ) (e : Tree) → IsBoundVar ctx e → e ≡ var x → IsBoundAt ctx x
 is_at ctx x e (y, b, is, at, bound) v = (b, subst (λ z. slice_get ctx z ≡ Some b) (let p : var y ≡ var x = sym is ∙ v in cc) at, bound)
 
 mutual
@@ -36,11 +37,6 @@ mutual
   some_free_is_bound sigs ctx deps x params all (p ∷ ps) (more e es) fits (inl (_, h, _)) = free_is_bound sigs ctx deps x e p.sort fits.0 h
   some_free_is_bound sigs ctx deps x params all (p ∷ ps) (more e es) fits (inr h) = some_free_is_bound sigs ctx deps x params all ps es fits.2 h
 
-slice_get-left : {A : Type 0} (xs ys : List A) (i : ℕ) (x : A) → slice_get xs i ≡ Some x → slice_get (xs ++ ys) i ≡ Some x
-slice_get-left [] ys i x at = absurd (none_some at)
-slice_get-left (a ∷ xs) ys zero x at = at
-slice_get-left (a ∷ xs) ys (suc i) x at = slice_get-left xs ys i x at
-
 -- a context of parameters and dummies
 pub depends_on_bound : (ss : List SortMods) (ps ds : List Binder) → AreParams ss ps → All IsDummy ds → DependOnBound (ps ++ ds)
 depends_on_bound ss ps ds params dummies i b at regular x has = elim (split_at ps ds i b at) [
@@ -49,7 +45,7 @@ depends_on_bound ss ps ds params dummies i b at regular x has = elim (split_at p
 ]
   where
     longer : IsBoundAt ps x → IsBoundAt (ps ++ ds) x
-    longer (c, cat, bound) = (c, slice_get-left ps ds x c cat, bound)
+    longer (c, cat, bound) = (c, slice_get-append ps ds x c cat, bound)
 
 -- a body that meets the rules before that on its free variables has a sort
 pub body_has_sort : (env : List Declaration) (d : Term) → NamesThere env (term_decl d) → SortsRight env (term_decl d) → BoundRight env (term_decl d)

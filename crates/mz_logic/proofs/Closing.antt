@@ -2,6 +2,8 @@
 -- a legal list has a derivation over the axioms of its support, and a closed one.
 use Rattle.std.proofs.Common.{ℕ, zero, suc, ◌≡◌, ◌<◌, ◌+◌, Bool, true, false, List, [], ◌∷◌, ◌++◌, slice_get, Contains, length, Some, refl, sym, ap₂, ◌∙◌, subst, inl, inr, append_assoc, append-nil, arith}
 use Rattle.std.proofs.lemmas.List.Elements.{All-contains}
+use Rattle.std.proofs.lemmas.Option.{none-some}
+use Rattle.mz_general.proofs.Offered.{slice_get-append_add}
 use Rattle.mz_logic.specs.Tree.{Tree, Trees, none, more, instance, instances, followed_by}
 use Rattle.mz_logic.specs.Declaration.{Assertion, Declaration, sort_decl, term_decl, assertion_decl, sorts, signatures, assertions}
 use Rattle.mz_logic.specs.Sorts.{Fits, AreProvable}
@@ -12,7 +14,7 @@ use Rattle.mz_logic.specs.LegalLists.{AreDummies, IsProvedBy, IsProvedIfTheorem,
 use Rattle.mz_logic.specs.Closed.{by_citing, AreSupports, by_number, on_support, IsAxiomIn, CitesAxioms, TheoremsClosed}
 use Rattle.mz_logic.specs.declared.binder.Binder.{Binder}
 use Rattle.mz_logic.specs.declared.binder.SortMods.{SortMods}
-use Rattle.mz_logic.proofs.Instance.{one_at, none_some}
+use Rattle.mz_logic.proofs.Instance.{one_at}
 use Rattle.mz_logic.specs.Laws.{BoundArePlain}
 use Rattle.mz_logic.proofs.Extend.{Extends, extends_append, extends_itself, EnvExtends, env_extends_append, fits_extends, apart_extends, between_extends, derives_extends, all_derive_extends, assertions-append}
 use Rattle.mz_logic.proofs.Sound.{AssertionRight, RightEnv, fits_followed_by}
@@ -21,7 +23,7 @@ use Rattle.mz_logic.proofs.Lists.{each_from_all}
 use Rattle.mz_logic.proofs.EightRules.{names_there, binders_right}
 use Rattle.mz_logic.proofs.Compose.{instance_first}
 use Rattle.mz_logic.proofs.Graft.{graft, derives_graft, cites_graft, cites_more}
-use Rattle.mz_logic.proofs.Fresh.{IsScoped, AreAllDummies, slice_get-append_add, fresh, fresh_fits, scoped_with_dummies, apart_fresh, split_at}
+use Rattle.mz_logic.proofs.Fresh.{IsScoped, AreAllDummies, fresh, fresh_fits, scoped_with_dummies, apart_fresh, split_at}
 
 -- ---- a list of dummies
 
@@ -138,7 +140,7 @@ module _ (env : List Declaration) (right : RightEnv env) (P Q : ℕ → Type 0) 
 
   mutual
     closes : (d : Derivation) → CitesOnly (without_gaps P) d → (ctx : List Binder) → IsScoped ctx → (e : Tree) → Derives env ctx hyps d e → Closes ctx e
-    closes (hypothesis i) only ctx scoped e at = ([], λ k b is. absurd (none_some is), (hypothesis i, tt, at))
+    closes (hypothesis i) only ctx scoped e at = ([], λ k b is. absurd (none-some _ is), (hypothesis i, tt, at))
     closes (cite T es ds) (may, only) ctx scoped e (a, at, is, fits, apart, h) =
         subst (Closes ctx) (sym is) (cite_either ctx scoped T a at may es fits apart (all_close ds only ctx scoped (instances es a.hyps) h))
     closes (convert x c d) (c_free, only) ctx scoped e (is, (g, h, k)) =
@@ -147,7 +149,7 @@ module _ (env : List Declaration) (right : RightEnv env) (P Q : ℕ → Type 0) 
     closes (gap x) only ctx scoped e h = absurd only
 
     all_close : (ds : Derivations) → AllCiteOnly (without_gaps P) ds → (ctx : List Binder) → IsScoped ctx → (es : Trees) → AllDerive env ctx hyps ds es → AllClose ctx es
-    all_close no_derivs only ctx scoped none h = ([], λ k b is. absurd (none_some is), (no_derivs, tt, tt))
+    all_close no_derivs only ctx scoped none h = ([], λ k b is. absurd (none-some _ is), (no_derivs, tt, tt))
     all_close no_derivs only ctx scoped (more e es) h = absurd h
     all_close (more_derivs d ds) only ctx scoped none h = absurd h
     all_close (more_derivs d ds) (first, only) ctx scoped (more e es) (h, rest) =
@@ -230,9 +232,9 @@ module _ (cited support : ℕ → ℕ → Type 0) where
 
       new_one : (d' : Declaration) → IsProvedIfTheorem (on_support support) env d' → (j : ℕ) → T ≡ length (assertions env) + j
           → slice_get (assertions (d' ∷ [])) j ≡ Some a → IsProvedBy (by_citing (Allowed env T)) env a
-      new_one (sort_decl _) p j e new = absurd (none_some new)
-      new_one (term_decl _) p j e new = absurd (none_some new)
-      new_one (assertion_decl a') p (suc j) e new = absurd (none_some new)
+      new_one (sort_decl _) p j e new = absurd (none-some _ new)
+      new_one (term_decl _) p j e new = absurd (none-some _ new)
+      new_one (assertion_decl a') p (suc j) e new = absurd (none-some _ new)
       new_one (assertion_decl a') p zero e new =
           let same : a' ≡ a = one_at refl new in
           let place : length (assertions env) ≡ T = omega (arith, e) in
@@ -263,7 +265,7 @@ pub legal_by_supports : (list : List Statement) (cited support : ℕ → ℕ →
     → LegalBy (by_number cited) list → LegalBy (on_support support) list
 legal_by_supports list cited support supports h =
     supported_after cited support (declarations list) [] list supports refl
-    (record { terms_right = λ t d at. absurd (none_some at); assertions_right = λ t a at. absurd (none_some at) }) (λ T a at is. absurd (none_some at)) h
+    (record { terms_right = λ t d at. absurd (none-some _ at); assertions_right = λ t a at. absurd (none-some _ at) }) (λ T a at is. absurd (none-some _ at)) h
 
 -- what is allowed by one is by the other
 pub legal_by_more : (Q R : List Declaration → Derivation → Type 0) → ((env : List Declaration) (d : Derivation) → Q env d → R env d)

@@ -1,10 +1,11 @@
 -- Substitutions one after another, and what an expression's sort says of the places that it reads.
-use Rattle.std.proofs.Common.{ℕ, zero, suc, ◌≡◌, ◌⊎◌, ◌+◌, List, [], ◌∷◌, map, slice_get, Contains, length, Some, refl, sym, ap, ap₂, ◌∙◌, inl, inr, arith, not-suc-le-zero, le_of_suc-le-suc, suc-le-suc, zero-le}
+use Rattle.std.proofs.Common.{ℕ, zero, suc, ◌≡◌, ◌+◌, List, [], ◌∷◌, map, slice_get, Contains, length, Some, refl, sym, ap, ap₂, ◌∙◌, inl, inr, arith, not-suc-le-zero}
+use Rattle.std.proofs.lemmas.Option.{none-some}
+use Rattle.mz_general.proofs.Offered.{contains_tail, contains_head, contains_cases}
 use Rattle.mz_logic.specs.Tree.{Tree, Trees, var, app, none, more, operand, instance, instances, followed_by}
 use Rattle.mz_logic.specs.Signature.{Signature}
 use Rattle.mz_logic.specs.Sorts.{HasSort, Fits}
 use Rattle.mz_logic.specs.declared.binder.Binder.{Binder}
-use Rattle.mz_logic.proofs.Instance.{none_some}
 use Rattle.mz_logic.proofs.Apart.{operand-instances}
 
 mutual
@@ -24,7 +25,7 @@ instances-followed_by f (more e es) fs = ap (more (instance f e)) (instances-fol
 
 pub operand_first : (sigs : List Signature) (ctx : List Binder) (es fs : Trees) (ps : List Binder) → Fits sigs ctx es ps
     → (i : ℕ) (p : Binder) → slice_get ps i ≡ Some p → operand (followed_by es fs) i ≡ operand es i
-operand_first sigs ctx es fs [] fits i p at = absurd (none_some at)
+operand_first sigs ctx es fs [] fits i p at = absurd (none-some _ at)
 operand_first sigs ctx none fs (q ∷ ps) fits i p at = absurd fits
 operand_first sigs ctx (more e es) fs (q ∷ ps) fits zero p at = refl
 operand_first sigs ctx (more e es) fs (q ∷ ps) fits (suc i) p at = operand_first sigs ctx es fs ps fits.2 i p at
@@ -53,16 +54,6 @@ mutual
       ap₂ more (instance_first sigs ctx es fs ps fits g q.sort h) (instances_first sigs ctx es fs ps fits gs qs rest)
 
 -- ---- membership
-
-pub contains_cases : (y x : ℕ) (ys : List ℕ) → Contains (y ∷ ys) x → (y ≡ x) ⊎ Contains ys x
-contains_cases y x ys (zero, below, is) = inl is
-contains_cases y x ys (suc k, below, is) = inr (k, le_of_suc-le-suc below, is)
-
-pub contains_head : (y : ℕ) (ys : List ℕ) → Contains (y ∷ ys) y
-contains_head y ys = (zero, suc-le-suc zero-le, refl)
-
-pub contains_tail : (y x : ℕ) (ys : List ℕ) → Contains ys x → Contains (y ∷ ys) x
-contains_tail y x ys (k, below, is) = (suc k, suc-le-suc below, is)
 
 pub contains_map : (g : ℕ → ℕ) (ys : List ℕ) (x : ℕ) → Contains (map g ys) x → (z : ℕ) × Contains ys z × (g z ≡ x)
 contains_map g [] x (k, below, is) = absurd (not-suc-le-zero below)

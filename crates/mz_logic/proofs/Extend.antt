@@ -1,5 +1,6 @@
 -- What holds over an environment and a context holds over longer ones.
-use Rattle.std.proofs.Common.{ℕ, zero, suc, ◌≡◌, List, [], ◌∷◌, ◌++◌, slice_get, Some, refl, sym, ap, subst, inl, inr}
+use Rattle.std.proofs.Common.{ℕ, zero, suc, ◌≡◌, List, [], ◌∷◌, ◌++◌, slice_get, length, Some, refl, sym, ap, ◌∙◌, subst, inl, inr, append-nil}
+use Rattle.std.proofs.lemmas.Option.{none-some}
 use Rattle.mz_logic.specs.Tree.{Tree, Trees, var, app, none, more, operand, instance, instances, followed_by, variables}
 use Rattle.mz_logic.specs.Signature.{Signature}
 use Rattle.mz_logic.specs.Declaration.{Declaration, sort_decl, term_decl, assertion_decl, sorts, terms, signatures, assertions}
@@ -9,7 +10,7 @@ use Rattle.mz_logic.specs.Variables.{InV, InSomeV, Apart}
 use Rattle.mz_logic.specs.Conversions.{Conversion, Conversions, refl_conv, sym_conv, cong_conv, unfold_conv, gap_conv, no_convs, more_convs, IsBoundOf, AreFresh, Between, AllBetween}
 use Rattle.mz_logic.specs.Derivations.{Derivation, Derivations, hypothesis, cite, convert, gap, no_derivs, more_derivs, Derives, AllDerive}
 use Rattle.mz_logic.specs.declared.binder.Binder.{Binder}
-use Rattle.mz_logic.proofs.Instance.{one_at, none_some}
+use Rattle.mz_logic.proofs.Instance.{one_at}
 use Rattle.mz_logic.proofs.Apart.{operand_has_sort}
 
 -- ys has what xs has, at the same places
@@ -17,7 +18,7 @@ abbrev pub Extends : {A : Type 0} → List A → List A → Type 0
 Extends {A} xs ys = (i : ℕ) (x : A) → slice_get xs i ≡ Some x → slice_get ys i ≡ Some x
 
 pub extends_append : {A : Type 0} (xs ys : List A) → Extends xs (xs ++ ys)
-extends_append [] ys i x at = absurd (none_some at)
+extends_append [] ys i x at = absurd (none-some _ at)
 extends_append (a ∷ xs) ys zero x at = at
 extends_append (a ∷ xs) ys (suc i) x at = extends_append xs ys i x at
 
@@ -91,11 +92,24 @@ terms-append (sort_decl _ ∷ a) b = terms-append a b
 terms-append (term_decl d ∷ a) b = ap (λ xs. d ∷ xs) (terms-append a b)
 terms-append (assertion_decl _ ∷ a) b = terms-append a b
 
-signatures-append : (a b : List Declaration) → signatures (a ++ b) ≡ signatures a ++ signatures b
+pub signatures-append : (a b : List Declaration) → signatures (a ++ b) ≡ signatures a ++ signatures b
 signatures-append [] b = refl
 signatures-append (sort_decl _ ∷ a) b = signatures-append a b
 signatures-append (term_decl d ∷ a) b = ap (λ xs. d.signature ∷ xs) (signatures-append a b)
 signatures-append (assertion_decl _ ∷ a) b = signatures-append a b
+
+pub length-signatures : (env : List Declaration) → length (signatures env) ≡ length (terms env)
+length-signatures [] = refl
+length-signatures (sort_decl _ ∷ env) = length-signatures env
+length-signatures (term_decl d ∷ env) = ap suc (length-signatures env)
+length-signatures (assertion_decl _ ∷ env) = length-signatures env
+
+-- a declaration of another kind
+pub same-sorts : (env : List Declaration) (d : Declaration) → sorts (d ∷ []) ≡ [] → sorts (env ++ d ∷ []) ≡ sorts env
+same-sorts env d is = sorts-append env (d ∷ []) ∙ ap (λ ds. sorts env ++ ds) is ∙ append-nil (sorts env)
+
+pub same-signatures : (env : List Declaration) (d : Declaration) → signatures (d ∷ []) ≡ [] → signatures (env ++ d ∷ []) ≡ signatures env
+same-signatures env d is = signatures-append env (d ∷ []) ∙ ap (λ ds. signatures env ++ ds) is ∙ append-nil (signatures env)
 
 pub assertions-append : (a b : List Declaration) → assertions (a ++ b) ≡ assertions a ++ assertions b
 assertions-append [] b = refl

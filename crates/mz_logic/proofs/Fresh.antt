@@ -1,13 +1,14 @@
 -- Fresh variables at the end of a context, and operands followed by them.
 use Rattle.std.proofs.Common.{ℕ, zero, suc, ◌≡◌, ◌⊎◌, ◌<◌, ◌+◌, true≢false, List, [], ◌∷◌, ◌++◌, slice_get, Contains, length, Some, refl, sym, ap, ◌∙◌, subst, inl, inr, arith, not-suc-le-zero, length-append}
-use Rattle.std.proofs.lemmas.Option.{slice_get_within}
+use Rattle.std.proofs.lemmas.Option.{slice_get_within, none-some}
+use Rattle.mz_general.proofs.Offered.{slice_get-append_add}
 use Rattle.mz_logic.specs.Tree.{Tree, Trees, var, app, none, more, operand, followed_by}
 use Rattle.mz_logic.specs.Signature.{Signature}
 use Rattle.mz_logic.specs.Sorts.{Fits}
 use Rattle.mz_logic.specs.Variables.{InV, InSomeV, Apart}
 use Rattle.mz_logic.specs.Legality.{Each, IsDummy}
 use Rattle.mz_logic.specs.declared.binder.Binder.{Binder}
-use Rattle.mz_logic.proofs.Instance.{one_at, none_some, bound_operand}
+use Rattle.mz_logic.proofs.Instance.{one_at, bound_operand}
 use Rattle.mz_logic.proofs.Apart.{operand_has_sort}
 use Rattle.mz_logic.specs.Laws.{BoundArePlain}
 use Rattle.mz_logic.proofs.Extend.{extends_append, in_v_back}
@@ -18,13 +19,6 @@ use Rattle.mz_logic.proofs.Graft.{place_of}
 pub record IsScoped (ctx : List Binder) : Type 0 where
   pub no_deps : BoundArePlain ctx
   pub inside : (i : ℕ) (b : Binder) → slice_get ctx i ≡ Some b → (x : ℕ) → Contains b.deps x → x < length ctx
-
-pub slice_get-append_add : {A : Type 0} (xs ys : List A) (k : ℕ) → slice_get (xs ++ ys) (length xs + k) ≡ slice_get ys k
-slice_get-append_add [] ys k = ap (slice_get ys) (omega arith)
-slice_get-append_add (x ∷ xs) ys k = ap (slice_get (x ∷ (xs ++ ys))) shift ∙ slice_get-append_add xs ys k
-  where
-    shift : suc (length xs) + k ≡ suc (length xs + k)
-    shift = omega arith
 
 pub split_at : {A : Type 0} (xs ys : List A) (i : ℕ) (x : A) → slice_get (xs ++ ys) i ≡ Some x
     → (slice_get xs i ≡ Some x) ⊎ ((k : ℕ) × (i ≡ length xs + k) × (slice_get ys k ≡ Some x))
@@ -52,7 +46,7 @@ fresh n [] = none
 fresh n (b ∷ bs) = more (var n) (fresh (suc n) bs)
 
 pub fresh_at : (n : ℕ) (bs : List Binder) (k : ℕ) (b : Binder) → slice_get bs k ≡ Some b → operand (fresh n bs) k ≡ var (n + k)
-fresh_at n [] k b at = absurd (none_some at)
+fresh_at n [] k b at = absurd (none-some _ at)
 fresh_at n (c ∷ bs) zero b at = ap var (omega arith)
 fresh_at n (c ∷ bs) (suc k) b at = fresh_at (suc n) bs k b at ∙ ap var (omega arith)
 

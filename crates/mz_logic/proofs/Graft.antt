@@ -1,5 +1,6 @@
 -- Conversions and derivations under a substitution, with derivations in place of the hypotheses.
 use Rattle.std.proofs.Common.{ℕ, zero, suc, ◌≡◌, List, [], ◌∷◌, map, slice_get, Contains, Some, refl, sym, ap, ap₂, ◌∙◌, subst, inl, inr, not-suc-le-zero, le_of_suc-le-suc}
+use Rattle.std.proofs.lemmas.Option.{none-some}
 use Rattle.mz_logic.specs.Tree.{Tree, Trees, var, app, none, more, listed, operand, instance, instances, followed_by, variables}
 use Rattle.mz_logic.specs.Declaration.{Declaration, signatures}
 use Rattle.mz_logic.specs.Sorts.{IsBoundVar, HasSort, Fits, IsSorted}
@@ -7,7 +8,7 @@ use Rattle.mz_logic.specs.Variables.{InV, InSomeV, Apart}
 use Rattle.mz_logic.specs.Conversions.{Conversion, Conversions, refl_conv, sym_conv, cong_conv, unfold_conv, gap_conv, no_convs, more_convs, IsBoundOf, AreFresh, Between, AllBetween, GapsOnly, AllGapsOnly}
 use Rattle.mz_logic.specs.Derivations.{Derivation, Derivations, hypothesis, cite, convert, gap, no_derivs, more_derivs, Derives, AllDerive, Uses, CitesOnly, AllCiteOnly, derivation_at}
 use Rattle.mz_logic.specs.declared.binder.Binder.{Binder}
-use Rattle.mz_logic.proofs.Instance.{one_at, none_some, bound_operand, sort_of_operand, sort_of_instance, fits_of_instances}
+use Rattle.mz_logic.proofs.Instance.{one_at, bound_operand, sort_of_operand, sort_of_instance, fits_of_instances}
 use Rattle.mz_logic.proofs.Apart.{in_v_of_pattern, apart_of_instances}
 use Rattle.mz_logic.specs.Laws.{BoundArePlain}
 use Rattle.mz_logic.proofs.Compose.{instance-instance, instances-instances, instances-followed_by, contains_map}
@@ -157,7 +158,7 @@ module _ (env : List Declaration) (ctx params : List Binder) (no_deps : BoundAre
   module _ (hyps hyps' : Trees) (given : Derivations) (they_derive : AllDerive env ctx hyps' given (instances f hyps)) where
     derives_at : (ds : Derivations) (es : Trees) → AllDerive env ctx hyps' ds (instances f es) → (i : ℕ) (e : Tree) → slice_get (listed es) i ≡ Some e
         → Derives env ctx hyps' (derivation_at ds i) (instance f e)
-    derives_at ds none h i e at = absurd (none_some at)
+    derives_at ds none h i e at = absurd (none-some _ at)
     derives_at no_derivs (more e' es) h i e at = absurd h
     derives_at (more_derivs d ds) (more e' es) h zero e at = subst (λ x. Derives env ctx hyps' d (instance f x)) (one_at refl at) h.0
     derives_at (more_derivs d ds) (more e' es) h (suc i) e at = derives_at ds es h.1 i e at

@@ -4,12 +4,13 @@ use Rattle.std.specs.List.Sorted.{IsBinarySearchResult, IsNonDecreasingBy, IsPar
 use Rattle.std.proofs.lemmas.Bool.{false≢true}
 use Rattle.std.proofs.lemmas.List.{get_or_default}
 use Rattle.std.proofs.lemmas.List.Sorted.{searched}
+use Rattle.std.proofs.lemmas.Option.{none-some}
 use Rattle.mz_logic.specs.Tree.{Tree, Trees, app, none, more, listed, operand, followed_by, copies}
 use Rattle.mz_logic.specs.Groups.{up_to, Rise, AreEnds, Repeats}
 use Rattle.mz_logic.specs.View.{tree}
 use Rattle.mz_logic.specs.declared.expr.Expr.{Expr}
 use Rattle.mz_logic.proofs.Follow.{followed_by_none, followed_by_assoc}
-use Rattle.mz_logic.proofs.Instance.{none_some, one_at}
+use Rattle.mz_logic.proofs.Instance.{one_at}
 
 pub repeats : (from : ℕ) (es : Trees) (ends : List ℕ) → length (listed es) ≡ length ends → Rise from ends → Repeats es (up_to from es ends)
 repeats from none ends many rise = refl
@@ -48,7 +49,7 @@ last-read x [] y at = one_at refl at
 last-read x (next ∷ xs) y at = last-read next xs y at
 
 last-there : (x : ℕ) (xs : List ℕ) → slice_get (x ∷ xs) (length xs) ≡ None → ⊥
-last-there x [] at = none_some (sym at)
+last-there x [] at = none-some _ (sym at)
 last-there x (next ∷ xs) at = last-there next xs at
 
 before-last : (x : ℕ) (xs : List ℕ) → length (x ∷ xs) - 1 ≡ length xs
@@ -56,7 +57,7 @@ before-last x xs = omega arith
 
 -- the last end, as it is read
 pub final-read : (from x : ℕ) (ends : List ℕ) → slice_get ends (length ends - 1) ≡ Some x → final from ends ≡ x
-final-read from x [] at = absurd (none_some at)
+final-read from x [] at = absurd (none-some _ at)
 final-read from x (end ∷ ends) at = last-read end ends x (subst (λ k. slice_get (end ∷ ends) k ≡ Some x) (before-last end ends) at)
 
 pub final-none : (from : ℕ) (ends : List ℕ) → slice_get ends (length ends - 1) ≡ None → final from ends ≡ from
@@ -64,10 +65,6 @@ final-none from [] at = refl
 final-none from (end ∷ ends) at = absurd (last-there end ends (subst (λ k. slice_get (end ∷ ends) k ≡ None) (before-last end ends) at))
 
 -- ---- one group more
-
-pub length-end : (xs : List ℕ) (x : ℕ) → length (xs ++ x ∷ []) ≡ suc (length xs)
-length-end [] x = refl
-length-end (y ∷ xs) x = ap suc (length-end xs x)
 
 pub length-push : (es : Trees) (e : Tree) → length (listed (followed_by es (more e none))) ≡ suc (length (listed es))
 length-push none e = refl
@@ -184,11 +181,11 @@ shared_formula es hs ends xs i (Err g) is (many, rise) same some found missed =
 
 operand-past : (es : Trees) (i : ℕ) → slice_get (listed es) i ≡ None → operand es i ≡ app 0 none
 operand-past none i at = refl
-operand-past (more e es) zero at = absurd (none_some (sym at))
+operand-past (more e es) zero at = absurd (none-some _ (sym at))
 operand-past (more e es) (suc i) at = operand-past es i at
 
 operand-there : (es : Trees) (i : ℕ) (e : Tree) → slice_get (listed es) i ≡ Some e → operand es i ≡ e
-operand-there none i e at = absurd (none_some at)
+operand-there none i e at = absurd (none-some _ at)
 operand-there (more d es) zero e at = one_at refl at
 operand-there (more d es) (suc i) e at = operand-there es i e at
 

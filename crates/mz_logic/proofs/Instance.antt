@@ -1,5 +1,6 @@
 -- The sort and the variables of an instance.
-use Rattle.std.proofs.Common.{ℕ, zero, suc, ◌≡◌, true, List, [], ◌∷◌, slice_get, Some, None, Option, refl, sym, ap, ◌∙◌, subst}
+use Rattle.std.proofs.Common.{ℕ, zero, suc, ◌≡◌, true, List, [], ◌∷◌, slice_get, Some, Option, refl, sym, ap, ◌∙◌, subst}
+use Rattle.std.proofs.lemmas.Option.{none-some}
 use Rattle.mz_logic.specs.Tree.{Tree, Trees, var, app, none, more, operand, instance, instances}
 use Rattle.mz_logic.specs.Signature.{Signature}
 use Rattle.mz_logic.specs.Sorts.{IsBoundVar, HasSort, Fits}
@@ -9,20 +10,17 @@ use Rattle.mz_logic.specs.declared.binder.Binder.{Binder}
 pub one_at : {A : Type 0} {x y : A} {o : Option A} → o ≡ Some x → o ≡ Some y → x ≡ y
 one_at p q = cc
 
-pub none_some : {A : Type 0} {x : A} → None ≡ Some x → ⊥
-none_some p = cc
-
 -- the operand of a parameter has its sort, and is a bound variable where it is bound
 pub sort_of_operand : (sigs : List Signature) (ctx params : List Binder) (es : Trees) → Fits sigs ctx es params
     → (i : ℕ) (b : Binder) → slice_get params i ≡ Some b → HasSort sigs ctx (operand es i) b.sort
-sort_of_operand sigs ctx [] es h i b at = absurd (none_some at)
+sort_of_operand sigs ctx [] es h i b at = absurd (none-some _ at)
 sort_of_operand sigs ctx (p ∷ ps) none h i b at = absurd h
 sort_of_operand sigs ctx (p ∷ ps) (more e es) h zero b at = subst (λ q. HasSort sigs ctx e q.sort) (one_at refl at) h.0
 sort_of_operand sigs ctx (p ∷ ps) (more e es) h (suc i) b at = sort_of_operand sigs ctx ps es h.2 i b at
 
 pub bound_operand : (sigs : List Signature) (ctx params : List Binder) (es : Trees) → Fits sigs ctx es params
     → (i : ℕ) (b : Binder) → slice_get params i ≡ Some b → b.bound ≡ true → IsBoundVar ctx (operand es i)
-bound_operand sigs ctx [] es h i b at bd = absurd (none_some at)
+bound_operand sigs ctx [] es h i b at bd = absurd (none-some _ at)
 bound_operand sigs ctx (p ∷ ps) none h i b at bd = absurd h
 bound_operand sigs ctx (p ∷ ps) (more e es) h zero b at bd = h.1 (ap (λ q. q.bound) (one_at refl at) ∙ bd)
 bound_operand sigs ctx (p ∷ ps) (more e es) h (suc i) b at bd = bound_operand sigs ctx ps es h.2 i b at bd

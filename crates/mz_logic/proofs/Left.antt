@@ -1,8 +1,5 @@
 -- A fact of the expressions that a loop has left, with one of them more.
-use Rattle.std.proofs.Common.{◌≡◌, ◌∙◌, ◌<◌, ◌+◌, ◌⊎◌, ◌↔◌, ℕ, List, ◌∷◌, length, drop, drop-cons, add-one, get_or, ap, ap₂, sym, inl, inr}
-
-pub left_at : {X : Type 0} (xs : List X) (i : ℕ) (e : X) → i < length xs → e ≡ get_or xs i e → drop i xs ≡ e ∷ drop (i + 1) xs
-left_at xs i e within is = drop-cons xs i e within ∙ ap₂ ◌∷◌ (sym is) (ap (λ k. drop k xs) (sym (add-one i)))
+use Rattle.std.proofs.Common.{◌⊎◌, ◌↔◌, ℕ, inl, inr}
 
 -- A of what is left is B of the first one and C of the others; or one of these
 module _ {A B C W : Type 0} (so_far : A ↔ W) where

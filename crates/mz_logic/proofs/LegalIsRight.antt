@@ -1,5 +1,7 @@
 -- A legal environment has what derivations rest on: bodies of their result's sort, and provable claims.
-use Rattle.std.proofs.Common.{ℕ, zero, suc, ◌≡◌, ◌⊎◌, List, [], ◌∷◌, ◌++◌, slice_get, length, Some, refl, sym, subst, inl, inr, append_assoc, append-nil, All}
+use Rattle.std.proofs.Common.{ℕ, zero, suc, ◌≡◌, List, [], ◌∷◌, ◌++◌, slice_get, length, Some, refl, sym, subst, inl, inr, append_assoc, append-nil, All}
+use Rattle.std.proofs.lemmas.Option.{none-some}
+use Rattle.mz_general.proofs.Offered.{slice_get-append_cases}
 use Rattle.mz_logic.specs.Tree.{Tree, Trees, none, more}
 use Rattle.mz_logic.specs.Declaration.{Term, Assertion, Declaration, sort_decl, term_decl, assertion_decl, sorts, terms, signatures, assertions, dummies_of, body_of}
 use Rattle.mz_logic.specs.Modifiers.{MayBeClaimSort}
@@ -8,7 +10,7 @@ use Rattle.mz_logic.specs.Legality.{sort_of, EachTree, IsDummy, IsLegalDecl, Leg
 use Rattle.mz_logic.proofs.Lists.{each_from_all}
 use Rattle.mz_logic.proofs.EightRules.{names_there, binders_right, sorts_right, bound_right, claims_provable}
 use Rattle.mz_logic.specs.declared.binder.Binder.{Binder}
-use Rattle.mz_logic.proofs.Instance.{one_at, none_some}
+use Rattle.mz_logic.proofs.Instance.{one_at}
 use Rattle.mz_logic.proofs.Extend.{EnvExtends, env_extends_append, extends_itself, sort_extends, terms-append, assertions-append}
 use Rattle.mz_logic.proofs.Rules.{sort_by_rules}
 use Rattle.mz_logic.proofs.Sound.{TermRight, AssertionRight, RightEnv}
@@ -54,7 +56,7 @@ legal_term_is_right env d legal dummies body form = (
 
 claims_right : (env : List Declaration) (ctx : List Binder) (es : Trees) → AllInRange (signatures env) (length ctx) es
     → EachTree (HasOperandSorts (signatures env) ctx) es → EachTree (HasBoundOperands (signatures env) ctx) es → EachTree (IsClaim env ctx) es → AreProvable env ctx es
-claims_right env ctx none h k l m i e at = absurd (none_some at)
+claims_right env ctx none h k l m i e at = absurd (none-some _ at)
 claims_right env ctx (more c es) (h, hs) (k, ks) (l, ls) (m, ms) zero e at =
     subst (HasProvable env ctx) (one_at refl at) (sort_of (signatures env) ctx c, sort_by_rules (signatures env) ctx c h k l, m)
 claims_right env ctx (more c es) (h, hs) (k, ks) (l, ls) (m, ms) (suc i) e at = claims_right env ctx es hs ks ls ms i e at
@@ -72,11 +74,6 @@ legal_assertion_is_right env a legal = (
 
 -- ---- environments
 
-pub append_cases : {A : Type 0} (xs ys : List A) (i : ℕ) (x : A) → slice_get (xs ++ ys) i ≡ Some x → (slice_get xs i ≡ Some x) ⊎ ((j : ℕ) × (slice_get ys j ≡ Some x))
-append_cases [] ys i x at = inr (i, at)
-append_cases (a ∷ xs) ys zero x at = inl at
-append_cases (a ∷ xs) ys (suc i) x at = append_cases xs ys i x at
-
 pub right_step : (env : List Declaration) (d : Declaration) → RightEnv env → IsLegalDecl env d → RightEnv (env ++ d ∷ [])
 right_step env d right legal = record { terms_right = terms_go; assertions_right = assertions_go }
   where
@@ -84,25 +81,25 @@ right_step env d right legal = record { terms_right = terms_go; assertions_right
     m = env_extends_append env (d ∷ [])
 
     new_term : (d' : Declaration) → IsLegalDecl env d' → (j : ℕ) (c : Term) → slice_get (terms (d' ∷ [])) j ≡ Some c → TermRight env c
-    new_term (sort_decl _) l j c at = absurd (none_some at)
-    new_term (assertion_decl _) l j c at = absurd (none_some at)
+    new_term (sort_decl _) l j c at = absurd (none-some _ at)
+    new_term (assertion_decl _) l j c at = absurd (none-some _ at)
     new_term (term_decl c') l zero c at = subst (TermRight env) (one_at refl at) (legal_term_is_right env c' l)
-    new_term (term_decl c') l (suc j) c at = absurd (none_some at)
+    new_term (term_decl c') l (suc j) c at = absurd (none-some _ at)
 
     new_assertion : (d' : Declaration) → IsLegalDecl env d' → (j : ℕ) (a : Assertion) → slice_get (assertions (d' ∷ [])) j ≡ Some a → AssertionRight env a
-    new_assertion (sort_decl _) l j a at = absurd (none_some at)
-    new_assertion (term_decl _) l j a at = absurd (none_some at)
+    new_assertion (sort_decl _) l j a at = absurd (none-some _ at)
+    new_assertion (term_decl _) l j a at = absurd (none-some _ at)
     new_assertion (assertion_decl a') l zero a at = subst (AssertionRight env) (one_at refl at) (legal_assertion_is_right env a' l)
-    new_assertion (assertion_decl a') l (suc j) a at = absurd (none_some at)
+    new_assertion (assertion_decl a') l (suc j) a at = absurd (none-some _ at)
 
     terms_go : (t : ℕ) (c : Term) → slice_get (terms (env ++ d ∷ [])) t ≡ Some c → TermRight (env ++ d ∷ []) c
-    terms_go t c at = elim (append_cases (terms env) (terms (d ∷ [])) t c (subst (λ xs. slice_get xs t ≡ Some c) (terms-append env (d ∷ [])) at)) [
+    terms_go t c at = elim (slice_get-append_cases (terms env) (terms (d ∷ [])) t c (subst (λ xs. slice_get xs t ≡ Some c) (terms-append env (d ∷ [])) at)) [
       | inl old ↦ term_right_extends env (env ++ d ∷ []) m c (right.terms_right t c old)
       | inr new ↦ term_right_extends env (env ++ d ∷ []) m c (new_term d legal new.0 c new.1)
     ]
 
     assertions_go : (t : ℕ) (a : Assertion) → slice_get (assertions (env ++ d ∷ [])) t ≡ Some a → AssertionRight (env ++ d ∷ []) a
-    assertions_go t a at = elim (append_cases (assertions env) (assertions (d ∷ [])) t a (subst (λ xs. slice_get xs t ≡ Some a) (assertions-append env (d ∷ [])) at)) [
+    assertions_go t a at = elim (slice_get-append_cases (assertions env) (assertions (d ∷ [])) t a (subst (λ xs. slice_get xs t ≡ Some a) (assertions-append env (d ∷ [])) at)) [
       | inl old ↦ assertion_right_extends env (env ++ d ∷ []) m a (right.assertions_right t a old)
       | inr new ↦ assertion_right_extends env (env ++ d ∷ []) m a (new_assertion d legal new.0 a new.1)
     ]
@@ -112,7 +109,7 @@ right_after env [] right h = subst RightEnv (sym (append-nil env)) right
 right_after env (d ∷ ds) right (h, rest) = subst RightEnv (append_assoc env (d ∷ []) ds) (right_after (env ++ d ∷ []) ds (right_step env d right h) rest)
 
 pub legal_env_is_right : (env : List Declaration) → IsLegalEnv env → RightEnv env
-legal_env_is_right env h = right_after [] env (record { terms_right = λ t d at. absurd (none_some at); assertions_right = λ t a at. absurd (none_some at) }) h
+legal_env_is_right env h = right_after [] env (record { terms_right = λ t d at. absurd (none-some _ at); assertions_right = λ t a at. absurd (none-some _ at) }) h
 
 -- a legal environment with a legal declaration more is one
 pub legal_after_push : (env ds : List Declaration) (d : Declaration) → LegalEnvAfter env ds → IsLegalDecl (env ++ ds) d → LegalEnvAfter env (ds ++ d ∷ [])

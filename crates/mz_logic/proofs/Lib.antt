@@ -27,4 +27,5 @@ pub mod WordsAsParams
 pub mod WordBits
 pub mod WordsWritten
 pub mod NearMisses
+mod Constructors
 pub mod Offered

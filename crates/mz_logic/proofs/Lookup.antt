@@ -1,7 +1,7 @@
 -- What stands at a kept place.
 use Rattle.std.proofs.Common.{ℕ, zero, suc, ◌≡◌, ◌+◌, ◌≤◌, ◌<◌, List, [], ◌∷◌, map, length, get_or, option_map, slice_get, Some, None, refl, sym, ap, ◌∙◌, subst, arith}
 use Rattle.std.proofs.lemmas.List.{length-map}
-use Rattle.std.proofs.lemmas.Option.{slice_get-map, slice_get_within, slice_get_past, slice_get_read}
+use Rattle.std.proofs.lemmas.Option.{slice_get-map, slice_get_within, slice_get_past, slice_get_read, none-some}
 use Rattle.mz_logic.specs.Declaration.{Term, Assertion, Declaration, sort_decl, term_decl, assertion_decl, terms, assertions, signatures}
 use Rattle.mz_logic.specs.Places.{places_of_terms, places_of_assertions}
 use Rattle.mz_logic.specs.DeclView.{declaration, signature, term_view, assertion_view}
@@ -9,7 +9,7 @@ use Rattle.mz_logic.specs.declared.decl.Decl.{Decl}
 use Rattle.mz_logic.specs.declared.decl.Decl.TheVariants.{Sort, Term as ATerm, Thm}
 use Rattle.mz_logic.specs.declared.decl.TermDecl.{TermDecl}
 use Rattle.mz_logic.specs.declared.decl.ThmDecl.{ThmDecl}
-use Rattle.mz_logic.proofs.Instance.{one_at, none_some}
+use Rattle.mz_logic.proofs.Instance.{one_at}
 use Rattle.mz_logic.proofs.Sound.{signature_of_term}
 
 -- nothing stands there
@@ -33,7 +33,7 @@ term_later : (n : ℕ) (d : Declaration) (ds : List Declaration) (i j p : ℕ) (
 term_later n d ds i j p h is = let e = h.at in record { k = suc h.k; at = omega arith; term = h.term; stands = h.stands; is = is }
 
 pub term_place : (n : ℕ) (ds : List Declaration) (i p : ℕ) → slice_get (places_of_terms n ds) i ≡ Some p → IsTermPlace n ds i p
-term_place n [] i p at = absurd (none_some at)
+term_place n [] i p at = absurd (none-some _ at)
 term_place n (sort_decl m ∷ ds) i p at = let h = term_place (suc n) ds i p at in term_later n (sort_decl m) ds i i p h h.is
 term_place n (term_decl d ∷ ds) zero p at = let e : p ≡ n = one_at at refl in record { k = 0; at = omega arith; term = d; stands = refl; is = refl }
 term_place n (term_decl d ∷ ds) (suc i) p at = let h = term_place (suc n) ds i p at in term_later n (term_decl d) ds i (suc i) p h h.is
@@ -42,7 +42,7 @@ term_place n (assertion_decl a ∷ ds) i p at = let h = term_place (suc n) ds i 
 pub no_term_place : (n : ℕ) (ds : List Declaration) (i : ℕ) → slice_get (places_of_terms n ds) i ≡ None → (slice_get (terms ds) i ≡ None) × (slice_get (signatures ds) i ≡ None)
 no_term_place n [] i at = (refl, refl)
 no_term_place n (sort_decl m ∷ ds) i at = no_term_place (suc n) ds i at
-no_term_place n (term_decl d ∷ ds) zero at = absurd (none_some (sym at))
+no_term_place n (term_decl d ∷ ds) zero at = absurd (none-some _ (sym at))
 no_term_place n (term_decl d ∷ ds) (suc i) at = no_term_place (suc n) ds i at
 no_term_place n (assertion_decl a ∷ ds) i at = no_term_place (suc n) ds i at
 
@@ -112,7 +112,7 @@ assertion_later : (n : ℕ) (d : Declaration) (ds : List Declaration) (i j p : �
 assertion_later n d ds i j p h is = let e = h.at in record { k = suc h.k; at = omega arith; assertion = h.assertion; stands = h.stands; is = is }
 
 pub assertion_place : (n : ℕ) (ds : List Declaration) (i p : ℕ) → slice_get (places_of_assertions n ds) i ≡ Some p → IsAssertionPlace n ds i p
-assertion_place n [] i p at = absurd (none_some at)
+assertion_place n [] i p at = absurd (none-some _ at)
 assertion_place n (sort_decl m ∷ ds) i p at = let h = assertion_place (suc n) ds i p at in assertion_later n (sort_decl m) ds i i p h h.is
 assertion_place n (term_decl d ∷ ds) i p at = let h = assertion_place (suc n) ds i p at in assertion_later n (term_decl d) ds i i p h h.is
 assertion_place n (assertion_decl a ∷ ds) zero p at = let e : p ≡ n = one_at at refl in record { k = 0; at = omega arith; assertion = a; stands = refl; is = refl }
@@ -122,7 +122,7 @@ pub no_assertion_place : (n : ℕ) (ds : List Declaration) (i : ℕ) → slice_g
 no_assertion_place n [] i at = refl
 no_assertion_place n (sort_decl m ∷ ds) i at = no_assertion_place (suc n) ds i at
 no_assertion_place n (term_decl d ∷ ds) i at = no_assertion_place (suc n) ds i at
-no_assertion_place n (assertion_decl a ∷ ds) zero at = absurd (none_some (sym at))
+no_assertion_place n (assertion_decl a ∷ ds) zero at = absurd (none-some _ (sym at))
 no_assertion_place n (assertion_decl a ∷ ds) (suc i) at = no_assertion_place (suc n) ds i at
 
 pub record IsAssertionAt (decls : List Decl) (env : List Declaration) (i p : ℕ) : Type 0 where

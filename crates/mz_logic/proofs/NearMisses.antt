@@ -1,5 +1,6 @@
 -- The examples of the rules on variables hold.
-use Rattle.std.proofs.Common.{ℕ, zero, ◌≡◌, ◌⊎◌, true, false, true≢false, List, [], ◌∷◌, slice_get, Some, refl, sym, ap, ◌∙◌, subst, inl, inr, not-suc-le-zero, zero-lt-suc, arith}
+use Rattle.std.proofs.Common.{ℕ, zero, ◌≡◌, ◌⊎◌, true, true≢false, List, [], ◌∷◌, slice_get, Some, refl, sym, ap, ◌∙◌, subst, inl, inr, not-suc-le-zero, zero-lt-suc, arith}
+use Rattle.std.proofs.lemmas.Option.{none-some}
 use Rattle.mz_logic.specs.Tree.{Tree, var, app, none, more}
 use Rattle.mz_logic.specs.Declaration.{Term, defined, signatures}
 use Rattle.mz_logic.specs.Modifiers.{IsFree}
@@ -11,8 +12,8 @@ use Rattle.mz_logic.specs.Examples.{wff, wff_sort, nat, wff_x, y_and_q}
 use Rattle.mz_logic.specs.NearMisses.{NotApartThoughLater, of_nat, at_y, FreeByTheResult, BoundByTheTerm, generalized, CitesWhereItDepends, CitesNotApart, rel, relation, result_wff, UnfoldsWithFresh, UnfoldsWithOperand, UnfoldsWithOneForTwo, NoSortNoConversion, FreeDummy, CitesItself}
 use Rattle.mz_logic.specs.declared.binder.Binder.{Binder}
 use Rattle.mz_logic.specs.declared.binder.SortMods.{SortMods}
-use Rattle.mz_logic.proofs.Instance.{one_at, none_some}
-use Rattle.mz_logic.proofs.WorkedExamples.{apart_where_it_depends, not_apart}
+use Rattle.mz_logic.proofs.Instance.{one_at}
+use Rattle.mz_logic.proofs.WorkedExamples.{apart_where_it_depends, not_apart, reg}
 
 pub not_apart_though_later : NotApartThoughLater
 not_apart_though_later h = elim (h 0 1 0 wff nat refl refl refl refl (wff_x, refl, inr (refl, (zero, zero-lt-suc 0, refl)))) [
@@ -35,9 +36,6 @@ bound_by_the_term = (not_free, inl (nat, refl, inl (refl, refl)))
     not_free (d, at, h) = go (subst (λ s. InSomeFV (of_nat [] ∷ []) (nat ∷ []) 0 s.params (more (var 0) none) s.params (more (var 0) none) ⊎ IsOperandAt s.params (more (var 0) none) s.result.deps 0) (one_at at refl) h)
 
 -- ---- citations
-
-reg : {A : Type 0} → false ≡ true → A
-reg h = absurd (true≢false (sym h))
 
 pub cites_where_it_depends : CitesWhereItDepends
 cites_where_it_depends = (
@@ -104,7 +102,7 @@ unfolds_with_one_for_two (_, _, _, (d, dummies, body, (at, form), fits, fresh, _
 -- ---- what doesn't hold
 
 pub no_sort_no_conversion : NoSortNoConversion
-no_sort_no_conversion (left, _, _, _) = none_some left.1.1
+no_sort_no_conversion (left, _, _, _) = none-some _ left.1.1
 
 pub free_dummy : FreeDummy
 free_dummy h = let (m, at, strict, free) = (h 0 (record { sort = 0; bound = true; deps = [] }) refl).1 in
@@ -112,8 +110,8 @@ free_dummy h = let (m, at, strict, free) = (h 0 (record { sort = 0; bound = true
 
 -- from no hypotheses and no assertions nothing is derived
 nothing_derived : (ctx : List Binder) (d : Derivation) (e : Tree) → IsGapFree d → Derives (wff_sort ∷ []) ctx none d e → ⊥
-nothing_derived ctx (hypothesis i) e free at = none_some at
-nothing_derived ctx (cite T es ds) e free (a, at, _, _, _, _) = none_some at
+nothing_derived ctx (hypothesis i) e free at = none-some _ at
+nothing_derived ctx (cite T es ds) e free (a, at, _, _, _, _) = none-some _ at
 nothing_derived ctx (convert f c d) e (_, free) (_, (g, _, derives)) = nothing_derived ctx d g free derives
 nothing_derived ctx (gap f) e free h = free
 

@@ -2,15 +2,15 @@
 pub use Rattle.mz_logic.proofs.Apart.{in_instance, operand_has_sort}
 pub use Rattle.mz_logic.proofs.AsExprs.{expr-at, expr-read, exprs-within, exprs_of, length-exprs, trees-exprs}
 pub use Rattle.mz_logic.proofs.Closing.{legal_at, legal_by_supports, legal_list_is_closed}
-pub use Rattle.mz_logic.proofs.Compose.{contains_cases, contains_head, contains_tail, instance-instance, instances-followed_by}
+pub use Rattle.mz_logic.proofs.Compose.{instance-instance, instances-followed_by}
 pub use Rattle.mz_logic.proofs.EightRules.{legal_by_rules}
-pub use Rattle.mz_logic.proofs.Extend.{Extends, apart_extends, assertions-append, env_extends_append, extends_append, extends_itself, fits_extends, fresh_extends, in_v_back, in_v_extends, sort_extends, sorts-append, terms-append}
-pub use Rattle.mz_logic.proofs.Follow.{followed_by_none, followed_by_push}
-pub use Rattle.mz_logic.proofs.Fresh.{slice_get-append_add, split_at}
+pub use Rattle.mz_logic.proofs.Extend.{apart_extends, assertions-append, env_extends_append, Extends, extends_append, extends_itself, fits_extends, fresh_extends, in_v_back, in_v_extends, signatures-append, sort_extends, sorts-append, terms-append}
+pub use Rattle.mz_logic.proofs.Follow.{followed_by_assoc, followed_by_none, followed_by_push}
+pub use Rattle.mz_logic.proofs.Fresh.{split_at}
 pub use Rattle.mz_logic.proofs.Graft.{cites_more}
-pub use Rattle.mz_logic.proofs.Instance.{none_some, one_at, sort_of_instance}
+pub use Rattle.mz_logic.proofs.Instance.{bound_operand, one_at, sort_of_instance}
 pub use Rattle.mz_logic.proofs.LegalIsRight.{legal_env_is_right, legal_push}
-pub use Rattle.mz_logic.proofs.Lists.{AllSoFar, all_at_end, all_from_each, all_so_far_more, each_from_all}
+pub use Rattle.mz_logic.proofs.Lists.{all_at_end, all_from_each, each_from_all}
 pub use Rattle.mz_logic.proofs.Longer.{derived_has_provable, keep_sorts}
 pub use Rattle.mz_logic.proofs.Lookup.{none_read}
 pub use Rattle.mz_logic.proofs.PlainLegality.{assertions_are_sorted, terms_are_sorted}
@@ -18,6 +18,11 @@ pub use Rattle.mz_logic.proofs.Repeated.{each_repeated}
 pub use Rattle.mz_logic.proofs.Rules.{many_of_fits, range_of_sort, ranges_of_fits, signature_is, sort_by_rules, sort_is}
 pub use Rattle.mz_logic.proofs.Scoped.{DepsInside, free_below}
 pub use Rattle.mz_logic.proofs.Sound.{signature_of_term}
-pub use Rattle.mz_logic.proofs.Trees.{length-trees}
+pub use Rattle.mz_logic.proofs.Trees.{length-trees, operand_in, operand_past}
 pub use Rattle.mz_logic.proofs.WordsAsParams.{words_say_parameters, words_say_results}
-pub use Rattle.mz_logic.proofs.WordsWritten.{After, at-first, bits-few, here, next, params-back, places-same, result-says, results-back, says}
+pub use Rattle.mz_logic.proofs.WordsWritten.{After, among-true, at-first, bits-few, here, next, params-back, places-same, result-says, results-back, says}
+pub use Rattle.mz_logic.proofs.Bound.{is_at}
+pub use Rattle.mz_logic.proofs.WordBits.{length-binders, place_to, set_cases}
+pub use Rattle.mz_logic.proofs.WorkedExamples.{nothing_in}
+pub use Rattle.mz_logic.proofs.Constructors.{no-application, no-trees, same-first, same-operands, same-rest, same-term, same-variable, trees_size-followed}
+pub use Rattle.mz_logic.proofs.Extend.{length-signatures, same-signatures, same-sorts}

@@ -1,5 +1,5 @@
 -- Free variables are places of the context.
-use Rattle.std.proofs.Common.{ℕ, zero, suc, ◌≡◌, ◌<◌, All, List, [], ◌∷◌, Contains, length, sym, subst, inl, inr, not-suc-le-zero}
+use Rattle.std.proofs.Common.{ℕ, zero, suc, ◌≡◌, ◌<◌, All, List, [], ◌∷◌, Contains, length, sym, subst, inl, inr}
 use Rattle.std.proofs.lemmas.Option.{slice_get_within}
 use Rattle.std.proofs.lemmas.List.Elements.{All-contains}
 use Rattle.mz_logic.specs.Tree.{Tree, Trees, var, app, none, more, operand}
@@ -13,9 +13,6 @@ use Rattle.mz_logic.proofs.Lists.{each_from_all}
 
 abbrev pub DepsInside : List Binder → Type 0
 DepsInside ctx = Each ctx (λ _ b. (x : ℕ) → Contains b.deps x → x < length ctx)
-
-none_in : (x : ℕ) → Contains [] x → ⊥
-none_in x (k, below, _) = not-suc-le-zero below
 
 var_below : (ctx : List Binder) → DepsInside ctx → (x y : ℕ) → InV ctx x (var y) → x < length ctx
 var_below ctx inside x y (b, at, inl (bd, is)) = subst (λ z. z < length ctx) (sym is) (slice_get_within ctx y b at)

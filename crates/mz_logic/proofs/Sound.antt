@@ -1,5 +1,6 @@
 -- In a legal environment the sides of a conversion have one sort, and what is derived has a provable sort.
 use Rattle.std.proofs.Common.{ℕ, zero, suc, ◌≡◌, List, [], ◌∷◌, ◌++◌, slice_get, Some, refl, sym, ap, ◌∙◌, subst}
+use Rattle.std.proofs.lemmas.Option.{none-some}
 use Rattle.mz_logic.specs.Tree.{Tree, Trees, app, none, more, instance, followed_by, variables}
 use Rattle.mz_logic.specs.Signature.{Signature}
 use Rattle.mz_logic.specs.Declaration.{defined, Term, Assertion, Declaration, sort_decl, term_decl, assertion_decl, sorts, terms, signatures, assertions}
@@ -9,7 +10,7 @@ use Rattle.mz_logic.specs.Legality.{Each, IsDummy}
 use Rattle.mz_logic.specs.Conversions.{Conversion, refl_conv, sym_conv, cong_conv, unfold_conv, gap_conv, AreFresh, Between}
 use Rattle.mz_logic.specs.Derivations.{Derivation, hypothesis, cite, convert, gap, Derives}
 use Rattle.mz_logic.specs.declared.binder.Binder.{Binder}
-use Rattle.mz_logic.proofs.Instance.{one_at, none_some, sort_of_instance}
+use Rattle.mz_logic.proofs.Instance.{one_at, sort_of_instance}
 use Rattle.mz_logic.specs.Laws.{BoundArePlain}
 use Rattle.mz_logic.proofs.Rules.{one_sort}
 
@@ -26,7 +27,7 @@ pub record RightEnv (env : List Declaration) : Type 0 where
   pub assertions_right : (T : ℕ) (a : Assertion) → slice_get (assertions env) T ≡ Some a → AssertionRight env a
 
 pub signature_of_term : (env : List Declaration) (t : ℕ) (d : Term) → slice_get (terms env) t ≡ Some d → slice_get (signatures env) t ≡ Some d.signature
-signature_of_term [] t d at = absurd (none_some at)
+signature_of_term [] t d at = absurd (none-some _ at)
 signature_of_term (sort_decl _ ∷ env) t d at = signature_of_term env t d at
 signature_of_term (term_decl c ∷ env) zero d at = ap (λ x. Some x.signature) (one_at refl at)
 signature_of_term (term_decl c ∷ env) (suc t) d at = signature_of_term env t d at

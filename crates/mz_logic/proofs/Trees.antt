@@ -27,12 +27,12 @@ pub listed_of_get : (o : Option (Bor Expr)) (es : List Expr) (i : ℕ)
 listed_of_get None es i past = sym (past_none es i past)
 listed_of_get (Some x) es i (below, holds) = ap (λ y. Some (tree y)) (holds x.now) ∙ sym (within_some es i x.now below)
 
-operand_past : (es : List Expr) (i : ℕ) → length es ≤ i → operand (trees es) i ≡ app 0 none
+pub operand_past : (es : List Expr) (i : ℕ) → length es ≤ i → operand (trees es) i ≡ app 0 none
 operand_past [] i past = refl
 operand_past (e ∷ es) zero past = absurd (omega arith)
 operand_past (e ∷ es) (suc i) past = operand_past es i (le_of_suc-le-suc past)
 
-operand_in : (es : List Expr) (i : ℕ) (d : Expr) → i < length es → operand (trees es) i ≡ tree (get_or es i d)
+pub operand_in : (es : List Expr) (i : ℕ) (d : Expr) → i < length es → operand (trees es) i ≡ tree (get_or es i d)
 operand_in [] i d below = absurd (not-suc-le-zero below)
 operand_in (e ∷ es) zero d below = refl
 operand_in (e ∷ es) (suc i) d below = operand_in es i d (le_of_suc-le-suc below)

@@ -1,7 +1,7 @@
 -- What words say of binders: right parameters, and results that depend on bound ones.
 use Rattle.std.proofs.Common.{ℕ, zero, suc, ◌≡◌, ◌<◌, ◌+◌, ◌%◌, ◌/◌, ◌==◌, Bool, true, false, List, [], ◌∷◌, ◌++◌, slice_get, length, All, Some, refl, sym, ap, ◌∙◌, subst, inl, inr, arith, append_assoc, append-nil, not-suc-le-zero, le_of_suc-le-suc, if◌then◌else◌}
 use Rattle.std.specs.Bool.{⊤}
-use Rattle.std.proofs.lemmas.Option.{slice_get_within}
+use Rattle.std.proofs.lemmas.Option.{slice_get_within, none-some}
 use Rattle.mz_logic.specs.Modifiers.{MayBeBoundSort}
 use Rattle.mz_logic.specs.Variables.{IsBoundAt}
 use Rattle.mz_logic.specs.Legality.{IsParam, AreParams}
@@ -10,7 +10,7 @@ use Rattle.mz_logic.specs.Laws.{BoundWordsMayBeBound, WordsSayParameters, WordsS
 use Rattle.mz_logic.specs.declared.binder.Binder.{Binder}
 use Rattle.mz_logic.specs.declared.binder.SortMods.{SortMods}
 use Rattle.mz_logic.specs.declared.word.Word.{Word}
-use Rattle.mz_logic.proofs.Instance.{one_at, none_some}
+use Rattle.mz_logic.proofs.Instance.{one_at}
 use Rattle.mz_logic.proofs.Extend.{extends_append}
 use Rattle.mz_logic.proofs.Fresh.{split_at}
 
@@ -89,7 +89,7 @@ params_more ss pre places w h right may i c at = elim (split_at pre (binder_of p
     new zero is here =
         let place : length pre ≡ i = omega (arith, is) in
         subst (λ n. IsParam ss (pre ++ binder_of places w ∷ []) n c) place (subst (IsParam ss (pre ++ binder_of places w ∷ []) (length pre)) (one_at refl here) this)
-    new (suc k) is here = absurd (none_some here)
+    new (suc k) is here = absurd (none-some _ here)
 
 -- ---- all of them
 
@@ -125,7 +125,7 @@ bounds_from pre i places (w ∷ ws) same =
     (bounds_from (pre ++ binder_of places w ∷ []) (suc i) (if word_bound w then places ++ i ∷ [] else places) ws (ap suc same ∙ sym (one_longer pre (binder_of places w))))
 
 pub words_say_parameters : WordsSayParameters
-words_say_parameters ss ws may = params_from ss [] 0 [] ws refl tt (λ i c at. absurd (none_some at)) may
+words_say_parameters ss ws may = params_from ss [] 0 [] ws refl tt (λ i c at. absurd (none-some _ at)) may
 
 pub words_say_results : WordsSayResults
 words_say_results t =

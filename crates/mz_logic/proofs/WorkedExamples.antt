@@ -1,5 +1,6 @@
 -- The worked examples hold.
 use Rattle.std.proofs.Common.{ℕ, zero, suc, ◌≡◌, ◌<◌, ◌⊎◌, true, false, true≢false, List, [], ◌∷◌, slice_get, Some, Contains, All, length, refl, sym, ap, ◌∙◌, subst, inl, inr, not-suc-le-zero, zero-lt-suc, arith}
+use Rattle.std.proofs.lemmas.Option.{none-some}
 use Rattle.mz_logic.specs.Tree.{Tree, Trees, var, app, none, more, instances}
 use Rattle.mz_logic.specs.Signature.{Signature}
 use Rattle.mz_logic.specs.Declaration.{Declaration, assertion_decl, signatures, sorts}
@@ -13,18 +14,18 @@ use Rattle.mz_logic.specs.Laws.{SortsThere}
 use Rattle.mz_logic.specs.Examples.{wff, two, im, im_declared, im_term, wff_sort, ax_1, ax_mp, implication, A1iDerives, A1iTurnedFails, same_twice, FourAreLegal, LocalAxiomFails, nat, wff_x, all_signature, quantifier, y_and_q, NotApart, ApartWhereItDepends, all_y_q, NotApartThoughNotFree, wff_y, plain_term, MissingDependency, LaterDependency, neg, one_param, negation, NnUnfolds}
 use Rattle.mz_logic.specs.declared.binder.Binder.{Binder}
 use Rattle.mz_logic.specs.declared.binder.SortMods.{SortMods}
-use Rattle.mz_logic.proofs.Instance.{one_at, none_some}
+use Rattle.mz_logic.proofs.Instance.{one_at}
 use Rattle.mz_logic.proofs.PlainLegality.{terms_are_sorted, assertions_are_sorted}
 
 -- ---- parameters of the sort wff
 
 -- nothing is asked of the operand of a regular parameter
-reg : {A : Type 0} → false ≡ true → A
+pub reg : {A : Type 0} → false ≡ true → A
 reg h = absurd (true≢false (sym h))
 
 one_is_wff : (i : ℕ) (b : Binder) → slice_get (wff ∷ []) i ≡ Some b → wff ≡ b
 one_is_wff zero b at = one_at refl at
-one_is_wff (suc i) b at = absurd (none_some at)
+one_is_wff (suc i) b at = absurd (none-some _ at)
 
 two_are_wff : (i : ℕ) (b : Binder) → slice_get two i ≡ Some b → wff ≡ b
 two_are_wff zero b at = one_at refl at
@@ -93,14 +94,14 @@ two_there ss below zero d h = below
 two_there ss below (suc zero) d h = below
 two_there ss below (suc (suc k)) d h = absurd (omega arith)
 
-nothing_in : {X : Type 0} (P : X → Type 0) → All P []
+pub nothing_in : {X : Type 0} (P : X → Type 0) → All P []
 nothing_in P k d below = absurd (not-suc-le-zero below)
 
 provable : MayBeClaimSort (record { 0 = 4 } ∷ []) 0
 provable = (record { 0 = 4 }, refl, λ is. (let e : 4 ≡ 0 = is in absurd (omega (arith, e))))
 
 no_claims : (env : List Declaration) (ctx : List Binder) → AreProvable env ctx none
-no_claims env ctx i e at = absurd (none_some at)
+no_claims env ctx i e at = absurd (none-some _ at)
 
 pub four_are_legal : FourAreLegal
 four_are_legal = (
@@ -146,7 +147,7 @@ four_are_legal = (
     proved : IsProvedBy gap_free (wff_sort ∷ im_term ∷ assertion_decl ax_1 ∷ []) same_twice
     proved = (
       [],
-      (λ i b at. absurd (none_some at)),
+      (λ i b at. absurd (none-some _ at)),
       (
         cite 0 (more (var 0) (more (var 0) none)) no_derivs,
         (tt, tt),
@@ -175,11 +176,11 @@ not_apart h = elim (h 1 0 0 wff nat refl refl refl refl (wff_x, refl, inr (refl,
 pub apart_where_it_depends : ApartWhereItDepends
 apart_where_it_depends zero zero x p q at_i at_j bd is has = inl refl
 apart_where_it_depends zero (suc zero) x p q at_i at_j bd is has = absurd (true≢false (sym bd ∙ ap (λ r. r.bound) (one_at at_j refl)))
-apart_where_it_depends zero (suc (suc j)) x p q at_i at_j bd is has = absurd (none_some at_j)
+apart_where_it_depends zero (suc (suc j)) x p q at_i at_j bd is has = absurd (none-some _ at_j)
 apart_where_it_depends (suc zero) zero x p q at_i at_j bd is has = inr (subst (λ r. Contains r.deps 0) (one_at refl at_i) (zero, zero-lt-suc 0, refl))
 apart_where_it_depends (suc zero) (suc zero) x p q at_i at_j bd is has = inl refl
-apart_where_it_depends (suc zero) (suc (suc j)) x p q at_i at_j bd is has = absurd (none_some at_j)
-apart_where_it_depends (suc (suc i)) j x p q at_i at_j bd is has = absurd (none_some at_i)
+apart_where_it_depends (suc zero) (suc (suc j)) x p q at_i at_j bd is has = absurd (none-some _ at_j)
+apart_where_it_depends (suc (suc i)) j x p q at_i at_j bd is has = absurd (none-some _ at_i)
 
 y_in_all : InV y_and_q 0 all_y_q
 y_in_all = inl (nat, refl, inl (refl, refl))

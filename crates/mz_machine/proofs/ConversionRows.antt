@@ -1,12 +1,12 @@
 -- The rows on conversions in any machine, case by case.
-use Rattle.std.proofs.Common.{◌≡◌, ◌≤◌, ◌⊎◌, inl, inr, ℕ, zero, suc, Bool, true, false, List, [], ◌∷◌, length, map, drop, Option, Some, None, Result, Ok, Err, slice_get, refl, sym, ap, ◌∙◌, eq-eqb}
+use Rattle.std.proofs.Common.{◌≡◌, ◌≤◌, ◌⊎◌, inl, inr, ℕ, suc, Bool, true, false, List, [], ◌∷◌, length, map, drop, Option, Some, None, Result, Ok, Err, slice_get, refl, sym, ap, ◌∙◌, eq-eqb}
 use Rattle.std.specs.Prelude.{⊤, if◌then◌else◌, ◌==◌, OnOk, MatchResult}
 use Rattle.std.proofs.lemmas.Bool.{eqb-true}
+use Rattle.mz_general.proofs.Offered.{drop-past}
 use Rattle.mz_cmd.specs.declared.rule.K.{K}
 use Rattle.mz_cmd.specs.declared.rule.K.TheVariants as k
 use Rattle.mz_cmd.specs.declared.code.ProofCode.TheVariants as code
 use Rattle.mz_store.specs.declared.item.Id.{Id}
-use Rattle.mz_store.proofs.Offered.{drop-all}
 use Rattle.mz_unification.specs.Steps.{◌>>=◌, want}
 use Rattle.mz_unification.specs.Profile.{Profile, Item, obligation}
 use Rattle.mz_unification.specs.UnifyMachine.{in_definition, Matching, UnifyState, unify, unify_steps}
@@ -18,6 +18,7 @@ use Rattle.mz_soundness.specs.MachineState.{RowsBefore, State, signatures_in}
 use Rattle.mz_soundness.specs.Premises.{pop_expr, pop_obligation, pop_sides}
 use Rattle.mz_soundness.specs.ProofMachine.{proof_row, sides, same_term, stream_of, unfolding_of}
 use Rattle.mz_soundness.specs.Bodies.{row_steps}
+use Rattle.mz_earlier.proofs.Offered.{next-at}
 use Rattle.mz_machine.specs.OverStore.{Gives}
 
 -- ---- Refl and Cong
@@ -63,12 +64,6 @@ module _ {P : Profile} {head : P.T → Option ℕ} {operands : P.T → List P.T}
 
 -- ---- the sides of operands
 
--- from an item on there are those from the next on, and it before them
-drop-next : {A : Type 0} (xs : List A) (n : ℕ) (x : A) → slice_get xs n ≡ Some x → drop n xs ≡ x ∷ drop (suc n) xs
-drop-next [] n x h = absurd cc
-drop-next (y ∷ ys) zero x h = let is : y ≡ x = cc in rw is refl
-drop-next (y ∷ ys) (suc n) x h = drop-next ys n x h
-
 no-right : {T : Type 0} (es : List T) (xs : List (Item T)) → sides es [] xs ≡ xs
 no-right [] xs = refl
 no-right (e ∷ es) xs = refl
@@ -79,11 +74,11 @@ module _ {T : Type 0} (expr : Id → T) (ls rs : List Id) (xs : List (Item T)) w
   sides_from n = sides (map expr (drop n ls)) (map expr (drop n rs)) xs
 
   pub no-sides : (n : ℕ) → (length ls ≤ n) ⊎ (length rs ≤ n) → sides_from n ≡ xs
-  no-sides n (inl h) = rw (drop-all ls n h) refl
-  no-sides n (inr h) = rw (drop-all rs n h) (no-right (map expr (drop n ls)) xs)
+  no-sides n (inl h) = rw (drop-past ls n h) refl
+  no-sides n (inr h) = rw (drop-past rs n h) (no-right (map expr (drop n ls)) xs)
 
   pub next-side : (n : ℕ) (l r : Id) → slice_get ls n ≡ Some l → slice_get rs n ≡ Some r → sides_from n ≡ obligation (expr l) (expr r) ∷ sides_from (suc n)
-  next-side n l r at bt = rw (drop-next ls n l at, drop-next rs n r bt) refl
+  next-side n l r at bt = rw (next-at ls n l at, next-at rs n r bt) refl
 
 -- ---- what an unfolding takes
 

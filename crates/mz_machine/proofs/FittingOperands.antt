@@ -1,6 +1,7 @@
 -- Operands beside the parameters of their row, one after another, in any machine.
 use Rattle.std.proofs.Common.{◌≡◌, ◌≤◌, ℕ, suc, Bool, true, false, List, [], ◌∷◌, length, take, drop, Some, Result, Ok, refl, ap, ◌∙◌}
 use Rattle.std.specs.Prelude.{slice_get, ◌==◌, not, ◌||◌}
+use Rattle.mz_general.proofs.Offered.{drop-past}
 use Rattle.mz_cmd.specs.declared.rule.K.{K}
 use Rattle.mz_cmd.specs.declared.rule.K.TheVariants as k
 use Rattle.mz_logic.specs.Tree.{Tree}
@@ -13,7 +14,7 @@ use Rattle.mz_unification.specs.Steps.{◌>>◌, need}
 use Rattle.mz_unification.specs.Tests.{is_bound_var}
 use Rattle.mz_soundness.specs.Premises.{operands_fit}
 use Rattle.mz_store.proofs.Offered.{next-binder}
-use Rattle.mz_earlier.proofs.Offered.{next-at, none-left}
+use Rattle.mz_earlier.proofs.Offered.{next-at}
 
 -- ---- one operand
 
@@ -40,4 +41,4 @@ fit-step sigs ctx es ws j e w r at wat h =
 
 -- where none is left nothing fails
 pub fit-end : (sigs : List Signature) (ctx : List Binder) (es : List Tree) (ps : List Binder) (j : ℕ) → length es ≤ j → operands_fit sigs ctx (drop j es) ps ≡ Ok tt
-fit-end sigs ctx es ps j past = ap (λ xs. operands_fit sigs ctx xs ps) (none-left es j past)
+fit-end sigs ctx es ps j past = ap (λ xs. operands_fit sigs ctx xs ps) (drop-past es j past)

@@ -13,4 +13,4 @@ pub use Rattle.mz_machine.proofs.ReadExprs.{ItemsOf, exprs-are, exprs-many, oper
 pub use Rattle.mz_machine.proofs.RowResults.{count-is, dummy-many, dummy-row, dummy-sort-fails, hyp-err, hyp-other, hyp-row, pay-left, pay-right, pay-row, provable, ref-none, ref-row, save-none, save-other, save-row, sorry-row}
 pub use Rattle.mz_machine.proofs.Stopping.{stopped, stops-as}
 pub use Rattle.mz_machine.proofs.TermRows.{built-few, built-none, built-row, built-unfit, can-stand, takes-its-own, term-of, term-save-of}
-pub use Rattle.mz_machine.proofs.Unfoldings.{no-more, no-stream, row-there, so-many, stream-there, unless-mem, unless-more}
+pub use Rattle.mz_machine.proofs.Unfoldings.{as-many, no-more, no-stream, row-there, so-many, stream-there, unless-mem, unless-more}

@@ -9,6 +9,7 @@ use Rattle.mz_logic.specs.Sorts.{Fits}
 use Rattle.mz_logic.specs.Words.{signature_of, binders_of}
 use Rattle.mz_logic.specs.Words.{signatures_of as signatures_by}
 use Rattle.mz_logic.specs.declared.binder.Binder.{Binder}
+use Rattle.mz_logic.proofs.Offered.{length-binders}
 use Rattle.mz_layout.specs.Tables.{term_row}
 use Rattle.mz_store.specs.Sharing.{CanTake}
 use Rattle.mz_unification.specs.Spells.{SpelledTerm, trees_of}
@@ -22,7 +23,6 @@ use Rattle.mz_earlier.specs.Before.{Before, signatures_of, words_before}
 use Rattle.mz_soundness.specs.FileRows.{term_of_file}
 use Rattle.mz_soundness.proofs.Offered.{fits-from}
 use Rattle.mz_earlier.proofs.Offered.{length-words, words-at, signatures-before}
-use Rattle.mz_store.proofs.Offered.{binders-many}
 
 module _ (P : Profile) (tables : RowsBefore) (at t : ℕ) (st : State P.T) where
   -- ---- what is made decides
@@ -58,7 +58,7 @@ module _ (P : Profile) (tables : RowsBefore) (at t : ℕ) (st : State P.T) where
 pub takes-its-own : {T : Type 0} (b : Before) (t : ℕ) (st : State T) (xs : List (Item T)) (n : ℕ) (r : Result (List T × List (Item T)) K)
     → n ≡ length (term_row b.file t).words.params → st.stack ≡ xs → pop_operands n xs ≡ r → pop_operands (length (term_of_file b.file t).signature.params) st.stack ≡ r
 takes-its-own b t st xs n r many is h =
-    ap (λ m. pop_operands m st.stack) (binders-many 0 [] (term_row b.file t).words.params ∙ sym many) ∙ ap (pop_operands n) is ∙ h
+    ap (λ m. pop_operands m st.stack) (length-binders 0 [] (term_row b.file t).words.params ∙ sym many) ∙ ap (pop_operands n) is ∙ h
 
 -- operands that fit can stand under the term
 pub can-stand : (b : Before) (ctx : List Binder) (t : ℕ) (es : List Tree) (operands : Trees) → t < b.rows.terms → AllSorted (signatures_of b) ctx es
@@ -66,7 +66,7 @@ pub can-stand : (b : Before) (ctx : List Binder) (t : ℕ) (es : List Tree) (ope
     → trees_of es ≡ operands → CanTake (words_before b) ctx t operands
 can-stand b ctx t es operands below sorted many fit are =
     let there : t < length (words_before b) = omega (arith, length-words b, below) in
-    let same : length es ≡ length (binders_of (term_row b.file t).words.params) = many ∙ sym (binders-many 0 [] (term_row b.file t).words.params) in
+    let same : length es ≡ length (binders_of (term_row b.file t).words.params) = many ∙ sym (length-binders 0 [] (term_row b.file t).words.params) in
     let fits : Fits (signatures_of b) ctx (trees_of es) (binders_of (term_row b.file t).words.params) = fits-from (signatures_of b) ctx es _ tt fit same sorted in (
       there,
       subst (λ d. Fits (signatures_by (words_before b)) ctx operands (signature_of d).params) (sym (words-at b t there))

@@ -32,7 +32,7 @@ head-there : (sigs : List Signature) (ctx : List Binder) (e : Tree) (s t : ℕ) 
 head-there sigs ctx (var x) s t h is = absurd cc
 head-there sigs ctx (app u es) s t h is = let same : u ≡ t = cc in slice_get_within sigs t _ (subst (λ n. slice_get sigs n ≡ Some h.0) same h.1)
 
-as-many : (ws : List TermWords) → length (signatures_by ws) ≡ length ws
+pub as-many : (ws : List TermWords) → length (signatures_by ws) ≡ length ws
 as-many ws = length-map ws signature_of
 
 -- the term of an expression is one of those before

@@ -3,7 +3,7 @@ use Rattle.std.proofs.Common.{◌≡◌, ◌∙◌, ℕ, Bool, true, false, List
 use Rattle.std.specs.Prelude.{IsTrue, ◌↔◌, MatchBool}
 use Rattle.std.proofs.lemmas.List.{reverse-reverse}
 use Rattle.std.proofs.lemmas.Bool.{true≢false, false≢true}
-use Rattle.mz_logic.specs.Tree.{Tree, Trees, none, more, listed}
+use Rattle.mz_logic.specs.Tree.{Tree, Trees, listed}
 use Rattle.mz_checks.specs.Checks.{AllHold, FailsFirst}
 use Rattle.mz_logic.specs.Declaration.{Assertion, Term, Form, plain_form, abstract_form, defined, is_defined}
 use Rattle.mz_logic.specs.DeclView.{form}
@@ -15,6 +15,7 @@ use Rattle.mz_layout.specs.Tables.{term_row}
 use Rattle.mz_verdicts.specs.declared.rule.M.TheVariants as rules
 use Rattle.mz_verdicts.specs.Match.{form_checks}
 use Rattle.mz_unification.specs.Spells.{Marks, trees_of}
+use Rattle.mz_unification.proofs.Offered.{trees_of-listed}
 use Rattle.mz_match.specs.declared.compare.Sides.{Sides}
 use Rattle.mz_verdicts.specs.Trees.{SameTrees, SameBody}
 use Rattle.mz_match.specs.TellsRow.{SaysFirst, SaysForm, SaysClaims, IsTermRow}
@@ -27,13 +28,9 @@ first-stream s m f says kept = record { within = says.within; marks = says.marks
 pub claims-plain : (s : Sides) (a : Assertion) (says : SaysClaims s.mmb.now s.params s.start a) → s.dummies.now ≡ [] → AreKept s.mmb.now s.start s.places.items → IsPlainStream s says.marks
 claims-plain s a says none-beside kept = record { stream = record { within = says.conclusion.within; marks = says.conclusion.marks; kept = kept }; no_dummies = says.no_dummies; none_beside = none-beside }
 
-listed-back : (es : Trees) → trees_of (listed es) ≡ es
-listed-back none = refl
-listed-back (more e es) = ap (more e) (listed-back es)
-
 pub turned-twice : (rows : List ℕ) (es fs : Trees) (S : Type 0) → S ↔ SameTrees rows es (trees_of (reverse (reverse (listed fs)))) → S ↔ SameTrees rows es fs
 turned-twice rows es fs S both =
-    let is : trees_of (reverse (reverse (listed fs))) ≡ fs = ap trees_of (reverse-reverse (listed fs)) ∙ listed-back fs in
+    let is : trees_of (reverse (reverse (listed fs))) ≡ fs = ap trees_of (reverse-reverse (listed fs)) ∙ trees_of-listed fs in
     subst (λ (gs : Trees). S ↔ SameTrees rows es gs) is both
 
 pub exact-no : (b : Bool) (P : Type 0) → IsTrue b ↔ P → b ≡ false → P → ⊥

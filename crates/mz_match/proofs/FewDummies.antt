@@ -25,7 +25,7 @@ use Rattle.mz_unification.specs.Streams.{of_definition}
 use Rattle.mz_unification.specs.Spells.{trees_of, dummy_of, variables_from, SpellsForm}
 use Rattle.mz_unification.specs.Profile.{plain, strict, Item, expr, proof, obligation, conversion}
 use Rattle.mz_unification.specs.UnifyMachine.{in_definition, is_empty}
-use Rattle.mz_unification.proofs.Offered.{from_bind, from_need, from_want, taken, taken-is, place-ok, place_from, renamed, definition-spelled, unfolding-is, one-text}
+use Rattle.mz_unification.proofs.Offered.{from_bind, from_need, from_want, taken, taken-is, place-ok, place_from, renamed, definition-spelled, unfolding-is, one-text, length-params}
 use Rattle.mz_soundness.specs.MachineState.{RowsBefore, signatures_in, State, Kind, is_definition, Heading, Declares}
 use Rattle.mz_logic.specs.Legality.{sort_of}
 use Rattle.mz_soundness.specs.FreeVars.{free_within}
@@ -36,13 +36,13 @@ use Rattle.mz_layout.specs.Heads.{body_bytes}
 use Rattle.mz_soundness.specs.FileRows.{taken_by, rows_taken, term_of_file}
 use Rattle.mz_soundness.specs.ProofMachine.{ends_with, matched_by, built, referred, proof_row, proof_end, last_item, ending, own_stream}
 use Rattle.mz_soundness.specs.Bodies.{BodyCommand, ends, proves, stands_in, if_allowed, body_command, body_turn, body_turn_by, body_from, body_start, Runs}
-use Rattle.mz_soundness.proofs.Offered.{bodies-checked, body-fact, end-ran, own-run}
+use Rattle.mz_soundness.proofs.Offered.{bodies-checked, body-fact, end-ran, own-run, last-expr}
 use Rattle.mz_words.proofs.Offered.{right-words}
 use Rattle.mz_files.specs.Chains.{IsGoodStatement, GoodTo}
 use Rattle.mz_files.specs.Checking.{checks_of, kind_checks, term_checks, term_body_checks}
 use Rattle.mz_files.specs.Laws.{HasRow}
 use Rattle.mz_files.specs.Spelling.{IsKindOf, SpellsRow}
-use Rattle.mz_files.proofs.Offered.{well-chain, good-rows, runs-by-table, Among, fresh-fewer, words-bound, vars-long, last-expr}
+use Rattle.mz_files.proofs.Offered.{well-chain, good-rows, runs-by-table, Among, fresh-fewer, words-bound}
 use Rattle.mz_files.specs.Standards.{lets_gaps, profile_of}
 use Rattle.mz_files.specs.declared.standard.Standard.{Standard}
 
@@ -202,7 +202,7 @@ run-few gaps tables env declares h at bytes kind few (last, run-is) ds body text
     let sorted = last-expr (signatures env) last.ctx last.stack e (subst (λ (z : Kind). last_item z last.stack ≡ Ok e) kind e-is) fact.stack_sorted in
     let own = own-run tables env declares h last.ctx in_definition e [] m u (taken-is (own_stream strict h in_definition e []) m e2) ran in
     let (met, spelled) = definition-spelled (signatures env) last.ctx h.params h.stream e u own sorted in
-    let (ys, _, _, (fresh, _)) = unfolding-is (signatures env) last.ctx h.params h.stream met (renamed (place_from 0 u.apart) e) (variables_from 0 h.params) e u spelled (vars-long 0 h.params) sorted own in
+    let (ys, _, _, (fresh, _)) = unfolding-is (signatures env) last.ctx h.params h.stream met (renamed (place_from 0 u.apart) e) (variables_from 0 h.params) e u spelled (length-params 0 h.params) sorted own in
     let same : met ≡ ds = (one-text of_definition (signatures env) h.params h.stream none none (renamed (place_from 0 u.apart) e) body met ds spelled text).2 in
     let enough = fresh-few last.ctx (variables_from 0 h.params) ys met fresh in
     subst (λ (bs : List Binder). length bs ≤ 55) same (omega (arith, enough, last-few))

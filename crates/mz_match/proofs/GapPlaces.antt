@@ -5,7 +5,7 @@ use Rattle.mz_logic.specs.Declaration.{Declaration, Assertion, sort_decl, term_d
 use Rattle.mz_logic.specs.LegalLists.{Statement, declarations}
 use Rattle.mz_logic.proofs.Offered.{assertions-append}
 use Rattle.mz_layout.specs.Tables.{list_at}
-use Rattle.mz_binary.specs.declared.statement.Statement.{Statement as Told}
+use Rattle.mz_files.specs.declared.statement.Statement.{Statement as Told}
 use Rattle.mz_files.specs.Chains.{IsGoodStatement}
 use Rattle.mz_files.specs.Gapped.{body_of, bodies_of, IsGapped, GappedIn}
 use Rattle.mz_binary.specs.Judging.{Passes}

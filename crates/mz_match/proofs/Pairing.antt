@@ -1,6 +1,7 @@
 -- One statement more, beside the declarations.
 use Rattle.std.proofs.Common.{◌≡◌, ◌<◌, ◌≤◌, ◌+◌, ◌^◌, ◌∙◌, ℕ, zero, suc, Bool, true, false, List, [], ◌∷◌, ◌++◌, length, drop, Ok, refl, sym, ap, subst, inl, inr, arith, length-append}
 use Rattle.std.specs.Prelude.{if◌then◌else◌}
+use Rattle.std.proofs.lemmas.List.{append-nil}
 use Rattle.mz_checks.specs.Checks.{AllHold, FailsFirst}
 use Rattle.mz_cmd.specs.declared.rule.Refusal.{Refusal}
 use Rattle.mz_cmd.specs.declared.statement.StmtAt.TheVariants.{End}
@@ -14,7 +15,7 @@ use Rattle.mz_layout.specs.Heads.{AllTaken}
 use Rattle.mz_files.specs.Checking.{counts, checks_of}
 use Rattle.mz_files.specs.Chains.{IsGoodStatement, GoodTo}
 use Rattle.mz_files.specs.Good.{Good, FailsAfter}
-use Rattle.mz_binary.specs.declared.statement.Statement.{Statement as Told}
+use Rattle.mz_files.specs.declared.statement.Statement.{Statement as Told}
 use Rattle.mz_binary.specs.Progress.{Progress, HasPassed, Tells, kind_code, row_after}
 use Rattle.mz_binary.specs.Judging.{Passes}
 use Rattle.mz_files.specs.FileRun.{file_steps}
@@ -30,7 +31,7 @@ use Rattle.mz_verdicts.specs.Match.{partner_of, publics_after, publics, term_row
 use Rattle.mz_match.specs.Drafts.{ListsGapsOf, IsJudged}
 use Rattle.mz_match.specs.Told.{IsTold, IsMatched}
 use Rattle.mz_verdicts.specs.Verdict.{IsDifference, TicksBy, counts_of, IsSoundIfAccepted, IsVerdict, IsVerdictBy}
-use Rattle.mz_verdicts.proofs.Offered.{append-nil, publics-append, publics-local, publics-public, term_rows-append, drop-further, drop-past, kinds-total, length-declarations, length-env, leaves-nothing, leaves-local, leaves-public, partner-there, accepted-sound}
+use Rattle.mz_verdicts.proofs.Offered.{publics-append, publics-local, publics-public, term_rows-append, drop-further, drop-past, kinds-total, length-declarations, length-env, leaves-nothing, leaves-local, leaves-public, partner-there, accepted-sound}
 use Rattle.mz_files.specs.declared.standard.Standard.{Standard}
 use Rattle.mz_files.specs.Standards.{lets_gaps}
 

@@ -10,15 +10,15 @@ use Rattle.mz_logic.specs.Signature.{Signature}
 use Rattle.mz_logic.specs.declared.binder.SortMods.{SortMods}
 use Rattle.mz_logic.specs.Declaration.{Declaration, sort_decl, term_decl, assertion_decl, Term, Assertion, Form, plain_form, abstract_form, defined, is_defined}
 use Rattle.mz_logic.specs.Words.{signature_of}
+use Rattle.mz_logic.proofs.Offered.{length-binders}
 use Rattle.mz_layout.specs.Tables.{sort_count, mods_of, term_row}
-use Rattle.mz_binary.specs.declared.statement.Statement.{Statement as Told}
+use Rattle.mz_files.specs.declared.statement.Statement.{Statement as Told}
 use Rattle.mz_verdicts.specs.declared.kind.Kind.{Kind}
 use Rattle.mz_verdicts.specs.declared.kind.Kind.TheVariants as kinds
 use Rattle.mz_verdicts.specs.declared.rule.M.{M}
 use Rattle.mz_verdicts.specs.declared.rule.M.TheVariants as rules
 use Rattle.mz_verdicts.specs.Match.{Partner, kind_of_form, is_plain, match_checks, partner_checks, signature_checks, form_checks, assertion_checks}
 use Rattle.mz_match.specs.TellsRow.{SaysForm, IsTermRow, IsThmRow, IsRowOf, assertion_code}
-use Rattle.mz_verdicts.proofs.Offered.{length-binders}
 
 -- the declaration at hand is the partner's
 pub judges-partner : {A : Type 0} → (ds rest : List Declaration) (d : Declaration) (p : Partner) (r : Result A M) → ds ≡ d ∷ rest → Judges r (match_checks d p) → Judges r (partner_checks ds p)

@@ -1,6 +1,7 @@
 -- What a stream spells, it says at places of the file.
 use Rattle.std.proofs.Common.{◌≡◌, ◌<◌, ◌+◌, ◌-◌, ℕ, zero, suc, Bool, true, false, cond, ltb, eqb, List, [], ◌∷◌, ◌++◌, length, drop, Option, Some, None, slice_get, refl, ap, sym, ◌∙◌, subst, arith, inl, inr, append_assoc, length-append}
 use Rattle.std.proofs.lemmas.Bool.{ltb-true, ltb-false, eqb-true}
+use Rattle.mz_general.proofs.Offered.{slice_get-last, slice_get-append}
 use Rattle.mz_cmd.specs.declared.code.UnifyCode.{UnifyCode}
 use Rattle.mz_cmd.specs.declared.code.UnifyCode.TheVariants as codes
 use Rattle.mz_cmd.specs.Codes.{unify_code}
@@ -112,21 +113,11 @@ module _ (n : ℕ) (sigs : List Signature) where
     all-grow m us none m' us' (same, _) = grows-same m m' same
     all-grow m us (more e es) m' us' (mid, rest, one, all) = grows-on m mid m' (grows m us e mid rest one) (all-grow mid rest es m' us' all)
 
--- what is marked stays
-get-front : {A : Type 0} → (xs ys : List A) (i : ℕ) (x : A) → slice_get xs i ≡ Some x → slice_get (xs ++ ys) i ≡ Some x
-get-front [] ys i x at = absurd cc
-get-front (y ∷ xs) ys zero x at = at
-get-front (y ∷ xs) ys (suc i) x at = get-front xs ys i x at
-
-get-last : {A : Type 0} → (xs : List A) (x : A) → slice_get (xs ++ x ∷ []) (length xs) ≡ Some x
-get-last [] x = refl
-get-last (y ∷ xs) x = get-last xs x
-
 stays : (m m' : Marks) (i : ℕ) (f : Tree) → Grows m m' → slice_get m.trees i ≡ Some f → slice_get m'.trees i ≡ Some f
-stays m m' i f (ts, ds, t, d) at = ap (λ xs. slice_get xs i) t ∙ get-front m.trees ts i f at
+stays m m' i f (ts, ds, t, d) at = ap (λ xs. slice_get xs i) t ∙ slice_get-append m.trees ts i f at
 
 stays-dummy : (m m' : Marks) (i : ℕ) (b : Binder) → Grows m m' → slice_get m.dummies i ≡ Some b → slice_get m'.dummies i ≡ Some b
-stays-dummy m m' i b (ts, ds, t, d) at = ap (λ xs. slice_get xs i) d ∙ get-front m.dummies ds i b at
+stays-dummy m m' i b (ts, ds, t, d) at = ap (λ xs. slice_get xs i) d ∙ slice_get-append m.dummies ds i b at
 
 -- ---- segments of a stream, and the marks that they make
 
@@ -258,7 +249,7 @@ module _ (file : List ℕ) (n : ℕ) (last : Marks) where
         let s = stands file kind at (u_dummy v) us' (subst (StreamIs kind (drop at file)) us-is stream) in
         let says : Says file at codes.Dummy v s.next = subst (λ (w : ℕ). Says file at codes.Dummy w s.next) s.is.1 (subst (λ (k : UnifyCode). Says file at k s.value s.next) s.is.0 s.says) in
         let kept : slice_get last.dummies (length m.dummies) ≡ Some (dummy_of v) =
-        stays-dummy (with_dummy m x v) last (length m.dummies) (dummy_of v) (subst (λ (y : Marks). Grows y last) same on) (get-last m.dummies (dummy_of v)) in
+        stays-dummy (with_dummy m x v) last (length m.dummies) (dummy_of v) (subst (λ (y : Marks). Grows y last) same on) (slice_get-last m.dummies (dummy_of v)) in
         let more-dummies : length (m.dummies ++ dummy_of v ∷ []) ≡ suc (length m.dummies) = omega (arith, length-append m.dummies (dummy_of v ∷ [])) in
         let made : IsMade file n last at (length m.dummies) (var x) s.next (suc (length m.dummies)) = (v, says, x-is, kept, refl) in
         subst (λ (y : Marks). SaidFrom m at (var x) y us') (sym same) (record {

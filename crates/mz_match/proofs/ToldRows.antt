@@ -1,6 +1,7 @@
 -- What the row of a good statement says.
 use Rattle.std.proofs.Common.{◌≡◌, ◌≤◌, ◌<◌, ◌+◌, ◌∙◌, ◌⊎◌, ℕ, zero, suc, Bool, true, false, List, [], ◌∷◌, ◌++◌, length, drop, reverse, Option, Some, None, slice_get, refl, sym, ap, subst, inl, inr, arith, append_assoc}
 use Rattle.std.specs.Prelude.{if◌then◌else◌}
+use Rattle.mz_general.proofs.Offered.{slice_get-within, slice_get-append_add}
 use Rattle.mz_cmd.specs.Codes.{statement_byte}
 use Rattle.mz_logic.specs.Tree.{Tree, Trees, var, none, listed}
 use Rattle.mz_logic.specs.Signature.{Signature}
@@ -8,12 +9,14 @@ use Rattle.mz_logic.specs.Declaration.{Declaration, sort_decl, term_decl, assert
 use Rattle.mz_logic.specs.LegalLists.{Statement}
 use Rattle.mz_logic.specs.Words.{binders_of}
 use Rattle.mz_logic.specs.declared.binder.Binder.{Binder}
+use Rattle.mz_logic.proofs.Offered.{signatures-append, length-binders, length-signatures}
 use Rattle.mz_layout.specs.Tables.{list_at, term_count, mods_of, term_row, thm_row}
 use Rattle.mz_unification.specs.Streams.{StreamKind, of_assertion, of_definition, UnifyCommand, StreamIs}
 use Rattle.mz_unification.specs.Spells.{Marks, SpellsText, Text, SpellsForm, at_first, variables_from}
 use Rattle.mz_words.proofs.Offered.{right-words}
+use Rattle.mz_unification.proofs.Offered.{length-params}
 use Rattle.mz_soundness.specs.FileRows.{stream_of, term_of_file}
-use Rattle.mz_binary.specs.declared.statement.Statement.{Statement as Told}
+use Rattle.mz_files.specs.declared.statement.Statement.{Statement as Told}
 use Rattle.mz_files.specs.Chains.{GoodTo}
 use Rattle.mz_files.specs.Laws.{HasRow, SaysTerm}
 use Rattle.mz_binary.specs.Progress.{kind_code, row_after}
@@ -23,7 +26,6 @@ use Rattle.mz_match.specs.Streams.{AreMarks, HypsAreSaid}
 use Rattle.mz_match.specs.TellsRow.{SaysFirst, SaysForm, SaysClaims, IsTermRow, IsThmRow, IsRowOf, assertion_code}
 use Rattle.mz_match.specs.Told.{IsTold}
 use Rattle.mz_match.proofs.Steps.{command-takes}
-use Rattle.mz_verdicts.proofs.Offered.{length-binders}
 use Rattle.mz_match.proofs.FewDummies.{few-dummies}
 use Rattle.mz_match.proofs.SaidStreams.{joined, Grows, Segment, append-none, grows-not, hyps-grow, spelled-said, hyps-said}
 use Rattle.mz_files.specs.declared.standard.Standard.{Standard}
@@ -32,18 +34,6 @@ use Rattle.mz_files.specs.declared.standard.Standard.{Standard}
 
 abbrev Arities : List ℕ → List Declaration → Type 0
 Arities file env = (t : ℕ) (s : Signature) → slice_get (signatures env) t ≡ Some s → (t < term_count file) × (length s.params ≡ length (term_row file t).words.params)
-
-signatures-append : (env more : List Declaration) → signatures (env ++ more) ≡ signatures env ++ signatures more
-signatures-append [] more = refl
-signatures-append (sort_decl m ∷ env) more = signatures-append env more
-signatures-append (term_decl d ∷ env) more = ap (λ xs. d.signature ∷ xs) (signatures-append env more)
-signatures-append (assertion_decl a ∷ env) more = signatures-append env more
-
-length-signatures : (env : List Declaration) → length (signatures env) ≡ length (terms env)
-length-signatures [] = refl
-length-signatures (sort_decl m ∷ env) = length-signatures env
-length-signatures (term_decl d ∷ env) = ap suc (length-signatures env)
-length-signatures (assertion_decl a ∷ env) = length-signatures env
 
 get-in-two : (xs : List Signature) (s x : Signature) (t : ℕ) → slice_get (xs ++ s ∷ []) t ≡ Some x → (slice_get xs t ≡ Some x) ⊎ ((t ≡ length xs) × (s ≡ x))
 get-in-two [] s x zero at = inr (refl, cc)
@@ -78,23 +68,10 @@ within-is : (file : List ℕ) (kind : StreamKind) (at : ℕ) (us : List UnifyCom
 within-is file kind at [] (c, read, is) = let t = command-takes file at c read in omega (arith, t.0, t.1)
 within-is file kind at (u ∷ us) (c, read, is, going, rest) = let t = command-takes file at c read in omega (arith, t.0, t.1)
 
-length-variables : (i : ℕ) (ps : List Binder) → length (variables_from i ps) ≡ length ps
-length-variables i [] = refl
-length-variables i (p ∷ ps) = ap suc (length-variables (suc i) ps)
-
 variable-at : (i j : ℕ) (ps : List Binder) → j < length ps → slice_get (variables_from i ps) j ≡ Some (var (i + j))
 variable-at i j [] below = absurd (omega arith)
 variable-at i zero (p ∷ ps) below = ap (λ (x : ℕ). Some (var x)) (let e : i ≡ i + 0 = omega arith in e)
 variable-at i (suc j) (p ∷ ps) below = variable-at (suc i) j ps (omega arith) ∙ ap (λ (x : ℕ). Some (var x)) (let e : suc i + j ≡ i + suc j = omega arith in e)
-
-get-front : (xs ys : List Tree) (i : ℕ) → i < length xs → slice_get (xs ++ ys) i ≡ slice_get xs i
-get-front [] ys i below = absurd (omega arith)
-get-front (x ∷ xs) ys zero below = refl
-get-front (x ∷ xs) ys (suc i) below = get-front xs ys i (omega arith)
-
-get-back : (xs ys : List Tree) (j : ℕ) → slice_get (xs ++ ys) (length xs + j) ≡ slice_get ys j
-get-back [] ys j = ap (slice_get ys) (let e : 0 + j ≡ j = omega arith in e)
-get-back (x ∷ xs) ys j = ap (slice_get (x ∷ (xs ++ ys))) (let e : suc (length xs) + j ≡ suc (length xs + j) = omega arith in e) ∙ get-back xs ys j
 
 module _ (file : List ℕ) (sigs : List Signature) (params : List Binder) (start : ℕ)
     (arities : (t : ℕ) (s : Signature) → slice_get sigs t ≡ Some s → (t < term_count file) × (length s.params ≡ length (term_row file t).words.params)) where
@@ -105,12 +82,12 @@ module _ (file : List ℕ) (sigs : List Signature) (params : List Binder) (start
   whole-marks : (last : Marks) (to d' : ℕ) (made : List Tree) → last.trees ≡ variables_from 0 params ++ made → length last.dummies ≤ 55 → Segment file n last start 0 to d' made → AreMarks file n start last
   whole-marks last to d' made trees_are few seg = record {
     params = λ i below.
-        let many = length-variables 0 params in
-        ap (λ xs. slice_get xs i) trees_are ∙ get-front (variables_from 0 params) made i (omega (arith, below, many)) ∙ variable-at 0 i params below ∙ ap (λ (x : ℕ). Some (var x)) (let e : 0 + i ≡ i = omega arith in e);
+        let many = length-params 0 params in
+        ap (λ xs. slice_get xs i) trees_are ∙ slice_get-within (variables_from 0 params) made i (omega (arith, below, many)) ∙ variable-at 0 i params below ∙ ap (λ (x : ℕ). Some (var x)) (let e : 0 + i ≡ i = omega arith in e);
     made = λ j f at.
-        let many = length-variables 0 params in
+        let many = length-params 0 params in
         let there : length (variables_from 0 params) + j ≡ n + j = omega (arith, many) in
-        let h = seg.holds j f (sym (get-back (variables_from 0 params) made j) ∙ ap (slice_get (variables_from 0 params ++ made)) there ∙ ap (λ xs. slice_get xs (n + j)) (sym trees_are) ∙ at) in
+        let h = seg.holds j f (sym (slice_get-append_add (variables_from 0 params) made j) ∙ ap (slice_get (variables_from 0 params ++ made)) there ∙ ap (λ xs. slice_get xs (n + j)) (sym trees_are) ∙ at) in
         record { many = h.many; place = h.place; end = h.end; found = h.found; made = h.made };
     few = few;
   }

@@ -3,7 +3,7 @@ use Rattle.std.specs.Prelude.{◌≡◌, ◌≤◌, ◌+◌, ℕ, List, [], leng
 use Rattle.mz_logic.specs.Declaration.{Declaration}
 use Rattle.mz_logic.specs.LegalLists.{Statement}
 use Rattle.mz_layout.specs.Tables.{list_at}
-use Rattle.mz_binary.specs.declared.statement.Statement.{Statement as Told}
+use Rattle.mz_files.specs.declared.statement.Statement.{Statement as Told}
 use Rattle.mz_files.specs.Chains.{IsGoodStatement, GoodTo}
 use Rattle.mz_binary.specs.Progress.{Progress, HasPassed, Tells}
 use Rattle.mz_binary.specs.Judging.{Passes}

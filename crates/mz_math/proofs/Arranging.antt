@@ -1,16 +1,13 @@
 -- Operands that stand in the order of their parameters.
-use Rattle.std.proofs.Common.{◌≡◌, ◌≤◌, ◌<◌, ◌+◌, ◌++◌, ◌∙◌, ℕ, zero, suc, List, [], ◌∷◌, false, length, drop, get_or, drop-cons, append_assoc, ap, ap₂, sym, refl, subst, inl, inr, arith}
+use Rattle.std.proofs.Common.{◌≡◌, ◌≤◌, ◌<◌, ◌+◌, ◌++◌, ◌∙◌, ℕ, zero, suc, List, [], ◌∷◌, false, length, drop, get_or, drop-cons, append_assoc, ap, ap₂, sym, refl, subst, arith}
 use Rattle.std.specs.Prelude.{◌==◌}
 use Rattle.std.proofs.lemmas.Bool.{cond-true, cond-false, eq-eqb}
-use Rattle.std.proofs.lemmas.Bool.Decides.{eqb_tells}
 use Rattle.mz_logic.specs.Tree.{Tree, Trees, none, more, listed}
 use Rattle.mz_notation.specs.Notation.{slots, places}
 use Rattle.mz_notation.specs.declared.notation.Element.{Element}
 use Rattle.mz_notation.specs.declared.notation.Element.TheVariants.{Fixed as fixed, Slot as slot}
+use Rattle.mz_notation.proofs.Offered.{apart as unequal}
 use Rattle.mz_math.specs.Grammar.{operand_for, arranged}
-
-unequal : (j i : ℕ) → (j ≡ i → ⊥) → (j == i) ≡ false
-unequal j i differ = elim (eqb_tells j i) [ inl same ↦ absurd (differ same.1) | inr differs ↦ differs.0 ]
 
 other : (j i : ℕ) → j < i → (j == i) ≡ false
 other j i below = unequal j i (λ is. omega (arith, is, below))

@@ -1,6 +1,7 @@
 -- A list of tokens has a tree or none.
-use Rattle.std.proofs.Common.{◌≡◌, ◌≢◌, ◌≤◌, ◌⊎◌, ◌++◌, ◌∙◌, ℕ, zero, suc, List, [], ◌∷◌, length, Bool, true, false, not, Some, None, Option, slice_get, drop, ap, ap₂, sym, refl, subst, inl, inr, arith, Contains, length-append}
+use Rattle.std.proofs.Common.{◌≡◌, ◌≢◌, ◌≤◌, ◌⊎◌, ◌++◌, ◌∙◌, ℕ, zero, suc, List, [], ◌∷◌, length, Bool, true, false, not, Some, slice_get, drop, ap, ap₂, sym, refl, subst, inl, inr, arith, Contains, length-append}
 use Rattle.std.specs.Prelude.{codes}
+use Rattle.mz_general.proofs.Offered.{same-head, same-tail, nil-cons, either-decided, three-decided, some-decided, Decided}
 use Rattle.mz_checks.proofs.Offered.{at_most-decided, both-decided, bytes-decided}
 use Rattle.mz_logic.specs.Tree.{Tree, Trees, var, app, none, more, followed_by}
 use Rattle.mz_logic.specs.Signature.{Signature}
@@ -14,11 +15,7 @@ use Rattle.mz_math.specs.Answers.{MayLead}
 use Rattle.mz_math.specs.Grammar.{Item, token, expr, items, level_before, operands_at_max, variable, applied, end, word, head_level, Words, Exp, IsTermName, last_level, notated_tree, tokens_of, part_tokens}
 use Rattle.mz_math.specs.Readable.{IsReadable}
 use Rattle.mz_math.specs.Reading.{NoReading, IsBegun, ArePartsRead, NoParts, IsRead}
-use Rattle.mz_math.proofs.Unique.{cons_head, cons_tail, empty_cons}
 use Rattle.mz_math.proofs.Readings.{no-items, no-tokens, no-expr, no-rest, one-operand, one-token, no-token, one-slot, variable-begun, none-begins, leading-never, leading-begun, leading-low, applied-never, applied-begun, applied-low, parens-never, parens-open, parens-begun, not-infix, low-infix, begun-read, joined-stuck, joined-never, joined-more, head-low, parens-low, all-read, never-read, some-left}
-
-abbrev pub Decided : Type 0 → Type 0
-Decided P = P ⊎ (P → ⊥)
 
 -- ---- lists
 
@@ -59,27 +56,11 @@ equal-decided m n = elim (both-decided (at_most-decided m n) (at_most-decided n 
   | inr out ↦ inr (λ e. out (omega (arith, e), omega (arith, e)))
 ]
 
-pub not-decided : {P : Type 0} → Decided P → Decided (P → ⊥)
-not-decided (inl p) = inr (λ f. f p)
-not-decided (inr out) = inl out
-
-pub either-decided : {P Q : Type 0} → Decided P → Decided Q → Decided (P ⊎ Q)
-either-decided (inl p) d = inl (inl p)
-either-decided (inr out) (inl q) = inl (inr q)
-either-decided (inr out) (inr never) = inr (λ h. elim h [ inl p ↦ out p | inr q ↦ never q ])
-
 pub true-decided : (b c : Bool) → Decided (b ≡ c)
 true-decided true true = inl refl
 true-decided true false = inr (λ e. cc)
 true-decided false true = inr (λ e. cc)
 true-decided false false = inl refl
-
-pub some-decided : {A : Type 0} → (o : Option A) → Decided ((x : A) × (o ≡ Some x))
-some-decided {A} None = inr (λ h. go h.0 h.1)
-  where
-    go : (x : A) → None ≡ Some x → ⊥
-    go x e = cc
-some-decided (Some x) = inl (x, refl)
 
 -- ---- the constants of a notation
 
@@ -102,12 +83,6 @@ led-decided w k = go k.elements refl
       | inl both ↦ inl (es, e ∙ ap₂ (λ x y. fixed x y ∷ es) both.0 both.1)
       | inr out ↦ inr (λ h. out (same v q es h.0 (sym e ∙ h.1)))
     ]
-
-pub three-decided : {P Q R : Type 0} → Decided P → Decided Q → Decided R → Decided (P × Q × R)
-three-decided (inl p) (inl q) (inl r) = inl (p, q, r)
-three-decided (inr out) q r = inr (λ h. out h.0)
-three-decided (inl p) (inr out) r = inr (λ h. out h.1)
-three-decided (inl p) (inl q) (inr out) = inr (λ h. out h.2)
 
 pub joined-decided : (w : List ℕ) (k : Notation) → Decided (JoinedBy k w)
 joined-decided w k = go k.elements refl
@@ -146,7 +121,7 @@ module _ (ws : Words) (right : IsReadable ws) where
   variable-decided : (w : List ℕ) → ((w ≢ []) × (x : ℕ) × (slice_get ws.variables x ≡ Some w)) ⊎ NoVariable ws w
   variable-decided [] = inr (λ is. is.0 refl)
   variable-decided (c ∷ cs) = elim (placed (c ∷ cs) ws.variables) [
-    | inl at ↦ inl ((λ e. empty_cons (sym e)), at.0, at.1)
+    | inl at ↦ inl ((λ e. nil-cons (sym e)), at.0, at.1)
     | inr never ↦ inr (λ is. never is.1)
   ]
 
@@ -202,12 +177,12 @@ module _ (ws : Words) (right : IsReadable ws) where
 
     token-then : (c : List ℕ) (its : List Item) (w : List ℕ) (xs : List (List ℕ)) (before : Trees) → Decided (w ≡ c) → GotParts its xs before → GotParts (token c ∷ its) (w ∷ xs) before
     token-then c its w xs before (inl same) (inl (rest, es, read)) = inl (rest, es, one-token ws right c its (w ∷ xs) xs rest before es (ap (λ v. v ∷ xs) same) read)
-    token-then c its w xs before (inl same) (inr never) = inr (no-token ws right c its (w ∷ xs) (λ ys e. subst (NoParts ws its) (cons_tail e) never))
-    token-then c its w xs before (inr other) read = inr (no-token ws right c its (w ∷ xs) (λ ys e. absurd (other (cons_head e))))
+    token-then c its w xs before (inl same) (inr never) = inr (no-token ws right c its (w ∷ xs) (λ ys e. subst (NoParts ws its) (same-tail e) never))
+    token-then c its w xs before (inr other) read = inr (no-token ws right c its (w ∷ xs) (λ ys e. absurd (other (same-head e))))
 
     parts-got : (ls : List Element) (last : ℕ) (tokens : List (List ℕ)) (before : Trees) → length tokens ≤ m → GotParts (items ls last) tokens before
     parts-got [] last tokens before le = inl (tokens, before, no-items ws right tokens before)
-    parts-got (fixed c q ∷ ls) last [] before le = inr (no-token ws right c (items ls last) [] (λ xs e. absurd (empty_cons e)))
+    parts-got (fixed c q ∷ ls) last [] before le = inr (no-token ws right c (items ls last) [] (λ xs e. absurd (nil-cons e)))
     parts-got (fixed c q ∷ ls) last (w ∷ xs) before le = token-then c (items ls last) w xs before (bytes-decided w c) (parts-got ls last xs before (omega (arith, le)))
     parts-got (slot i ∷ ls) last tokens before le =
         expr-then (level_before ls last) (items ls last) tokens before le (λ mid tree less. parts-got ls last mid (followed_by before (more tree none)) less)
@@ -243,14 +218,14 @@ module _ (ws : Words) (right : IsReadable ws) where
           inr (applied-low ws right level tokens xs rest w t n (head_level (applied [] 0 n)) es refl name no_variable no_leading read refl (omega (arith, out)))
 
       closed-got : (open_ : w ≡ codes "(") (tree : Tree) (mid : List (List ℕ)) → IsRead ws 0 xs mid tree → Decided (level ≤ max_level) → Begun level tokens
-      closed-got open_ tree [] read d = inr (parens-open ws right level tokens xs [] tree (ap (λ v. v ∷ xs) open_) read (λ ys e. empty_cons e))
+      closed-got open_ tree [] read d = inr (parens-open ws right level tokens xs [] tree (ap (λ v. v ∷ xs) open_) read (λ ys e. nil-cons e))
       closed-got open_ tree (v ∷ after) read d = close (bytes-decided v (codes ")")) d
         where
           first : tokens ≡ codes "(" ∷ xs
           first = ap (λ u. u ∷ xs) open_
 
           close : Decided (v ≡ codes ")") → Decided (level ≤ max_level) → Begun level tokens
-          close (inr other) e = inr (parens-open ws right level tokens xs (v ∷ after) tree first read (λ ys same. other (cons_head same)))
+          close (inr other) e = inr (parens-open ws right level tokens xs (v ∷ after) tree first read (λ ys same. other (same-head same)))
           close (inl same) (inl enough) = inl (after, tree, max_level, false, parens-begun ws right level tokens xs (v ∷ after) after tree first read (ap (λ u. u ∷ after) same) enough)
           close (inl same) (inr out) = inr (parens-low ws right level tokens xs (v ∷ after) after tree first read (ap (λ u. u ∷ after) same) (omega (arith, out)))
 
@@ -325,5 +300,5 @@ module _ (ws : Words) (right : IsReadable ws) where
     where
       go : Got 0 tokens → Decided ((t : Tree) × Exp ws 0 t tokens)
       go (inl ([], tree, read)) = inl (tree, all-read ws right tokens tree read)
-      go (inl (w ∷ rest, tree, read)) = inr (λ h. some-left ws right tokens (w ∷ rest) tree read (λ e. empty_cons (sym e)) h.0 h.1)
+      go (inl (w ∷ rest, tree, read)) = inr (λ h. some-left ws right tokens (w ∷ rest) tree read (λ e. nil-cons (sym e)) h.0 h.1)
       go (inr never) = inr (λ h. never-read ws right tokens never h.0 h.1)

@@ -2,6 +2,7 @@
 use Rattle.std.proofs.Common.{Some, slice_get, ◌≡◌, ◌≢◌, ◌≤◌, ◌<◌, ◌+◌, ◌-◌, ◌⊎◌, ◌∙◌, ℕ, zero, suc, List, [], ◌∷◌, length, Bool, true, false, IsTrue, ap, sym, refl, subst, inl, inr, arith, Contains, eq-or-lt_of_le}
 use Rattle.std.specs.Prelude.{codes, slice_index}
 use Rattle.std.proofs.lemmas.Option.{slice_get_within, get_or_from_slice_get}
+use Rattle.mz_general.proofs.Offered.{either-decided, Decided, contains-decided}
 use Rattle.mz_checks.specs.Checks.{AreDecided, AllHold, FailsFirst}
 use Rattle.mz_checks.proofs.Offered.{all_hold-or_fails, at_most-decided, bytes-decided, both-decided, are_decided-both, are_decided-rows, all_hold-rest}
 use Rattle.mz_lex.specs.Kinds.{is_space}
@@ -25,16 +26,10 @@ use Rattle.mz_math.specs.Answers.{settled}
 use Rattle.mz_math.proofs.Readable.{table-readable}
 use Rattle.mz_tokens.proofs.Offered.{next-first, whole-first, whole-more, whole-piece}
 use Rattle.mz_math.proofs.Judging.{parts, stands, same}
-use Rattle.mz_math.proofs.Deciding.{Decided, found, placed, equal-decided, either-decided, tree-decided}
+use Rattle.mz_math.proofs.Deciding.{found, placed, equal-decided, tree-decided}
 use Rattle.mz_math.proofs.Standing.{path-decided, coerced-decided, claimed-decided}
 
 -- ---- tokens
-
-byte-decided : (xs : List ℕ) (x : ℕ) → Decided (Contains xs x)
-byte-decided xs x = elim (found (λ y. y ≡ x) (λ y. equal-decided y x) xs) [
-  | inl h ↦ inl (subst (Contains xs) h.2 h.1)
-  | inr never ↦ inr (λ in_x. never x in_x refl)
-]
 
 is_true-decided : (b : Bool) → Decided (IsTrue b)
 is_true-decided true = inl refl
@@ -69,7 +64,7 @@ module _ (d : Delimiters) (text : List ℕ) where
       go true space rest below = let more = rest (omega (arith, below)) in (more.0, one-more from more.0 space more.1, more.2)
 
   ends-decided : (at : ℕ) → Decided (EndsAt d text at)
-  ends-decided at = either-decided (is_true-decided (is_space (slice_index text at))) (either-decided (byte-decided d.left (slice_index text (at - 1))) (byte-decided d.right (slice_index text at)))
+  ends-decided at = either-decided (is_true-decided (is_space (slice_index text at))) (either-decided (contains-decided d.left (slice_index text (at - 1))) (contains-decided d.right (slice_index text at)))
 
   -- a token from a place on
   abbrev Whole : ℕ → Type 0

@@ -1,6 +1,7 @@
 -- Tokens that make a tree are known.
-use Rattle.std.proofs.Common.{◌++◌, ℕ, zero, suc, List, [], ◌∷◌, inl, inr, refl, sym, subst, arith, Contains}
+use Rattle.std.proofs.Common.{◌++◌, ℕ, zero, suc, List, [], ◌∷◌, inl, inr, refl, sym, subst, Contains}
 use Rattle.std.specs.Prelude.{⊤}
+use Rattle.mz_general.proofs.Offered.{contains_at, contains_head, contains_tail}
 use Rattle.mz_checks.specs.Checks.{AllHold}
 use Rattle.mz_logic.specs.Tree.{Tree}
 use Rattle.mz_notation.specs.declared.notation.Element.{Element}
@@ -8,16 +9,15 @@ use Rattle.mz_notation.specs.declared.notation.Element.TheVariants.{Fixed as fix
 use Rattle.mz_notation.specs.declared.notation.Notation.{Notation}
 use Rattle.mz_tokens.specs.Pieces.{piece_texts}
 use Rattle.mz_tokens.specs.declared.pieces.Piece.{Piece}
-use Rattle.mz_tokens.proofs.Offered.{contains_at}
 use Rattle.mz_math.specs.Formula.{known_checks}
 use Rattle.mz_math.specs.Grammar.{Item, token, expr, items, operands_at_max, Head, variable, parens, applied, notated, head_items, behind_first, last_level, infix_items, Parse, Parts, headed, joined, end, word, part, tokens_of, part_tokens, Words, IsHead, IsExp, AreParts, Exp, IsKnown}
 use Rattle.mz_math.proofs.Knowing.{known-constant, known-name}
 
-abbrev AllKnown : Words → List (List ℕ) → Type 0
+abbrev pub AllKnown : Words → List (List ℕ) → Type 0
 AllKnown ws [] = ⊤
 AllKnown ws (w ∷ tokens) = IsKnown ws w × AllKnown ws tokens
 
-known-both : (ws : Words) (ts us : List (List ℕ)) → AllKnown ws ts → AllKnown ws us → AllKnown ws (ts ++ us)
+pub known-both : (ws : Words) (ts us : List (List ℕ)) → AllKnown ws ts → AllKnown ws us → AllKnown ws (ts ++ us)
 known-both ws [] us a b = b
 known-both ws (t ∷ ts) us a b = (a.0, known-both ws ts us a.1 b)
 
@@ -28,15 +28,9 @@ AreKnown ws [] = ⊤
 AreKnown ws (token w ∷ its) = IsKnown ws w × AreKnown ws its
 AreKnown ws (expr l ∷ its) = AreKnown ws its
 
-first-there : {A : Type 0} (x : A) (xs : List A) → Contains (x ∷ xs) x
-first-there x xs = (0, omega arith, refl)
-
-later-there : {A : Type 0} (x y : A) (xs : List A) → Contains xs y → Contains (x ∷ xs) y
-later-there x y xs (k, below, is) = (suc k, omega arith, is)
-
 behind-there : (ls : List Element) (l : Element) → Contains (behind_first ls) l → Contains ls l
 behind-there [] l there = there
-behind-there (k ∷ ls) l there = later-there k l ls there
+behind-there (k ∷ ls) l there = contains_tail k l ls there
 
 operands-known : (ws : Words) (n : ℕ) → AreKnown ws (operands_at_max n)
 operands-known ws zero = tt
@@ -45,13 +39,13 @@ operands-known ws (suc n) = operands-known ws n
 items-known : (ws : Words) (ls : List Element) (last : ℕ) → ((w : List ℕ) (q : ℕ) → Contains ls (fixed w q) → IsKnown ws w) → AreKnown ws (items ls last)
 items-known ws [] last known = tt
 items-known ws (fixed w q ∷ ls) last known = (
-  known w q (first-there (fixed w q) ls),
-  items-known ws ls last (λ v p there. known v p (later-there (fixed w q) (fixed v p) ls there)),
+  known w q (contains_head (fixed w q) ls),
+  items-known ws ls last (λ v p there. known v p (contains_tail (fixed w q) (fixed v p) ls there)),
 )
-items-known ws (slot i ∷ ls) last known = items-known ws ls last (λ v p there. known v p (later-there (slot i) (fixed v p) ls there))
+items-known ws (slot i ∷ ls) last known = items-known ws ls last (λ v p there. known v p (contains_tail (slot i) (fixed v p) ls there))
 
 head-known : (ws : Words) (h : Head) → IsHead ws h → AreKnown ws (head_items h)
-head-known ws (variable name x) is = (inl (is.0, contains_at ws.variables name x is.1), tt)
+head-known ws (variable name x) is = (inl (is.0, contains_at ws.variables x name is.1), tt)
 head-known ws parens is = (inr (inl refl), (inr (inr (inl refl)), tt))
 head-known ws (applied name t n) is = (known-name ws name (is.0.0, is.0.1, is.0.2), operands-known ws n)
 head-known ws (notated k) is = items-known ws k.elements k.level (λ w q there. known-constant ws w (q, inl (k, is.0, there)))
@@ -82,7 +76,7 @@ mutual
 
 -- ---- the pieces of a string
 
-checks-hold : (ws : Words) (text : List ℕ) (ps : List Piece) → AllKnown ws (piece_texts text ps) → AllHold (known_checks ws text ps)
+pub checks-hold : (ws : Words) (text : List ℕ) (ps : List Piece) → AllKnown ws (piece_texts text ps) → AllHold (known_checks ws text ps)
 checks-hold ws text [] known = tt
 checks-hold ws text (p ∷ ps) known = (known.0, checks-hold ws text ps known.1)
 

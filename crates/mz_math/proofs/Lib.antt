@@ -1,4 +1,3 @@
-pub mod TreeLists
 pub mod Readable
 pub mod Arranging
 pub mod Picking

@@ -2,7 +2,8 @@
 use Rattle.std.proofs.Common.{◌≡◌, ◌≢◌, ◌<◌, ◌⊎◌, ◌∙◌, ℕ, zero, suc, List, [], ◌∷◌, Option, Some, None, Bool, true, length, ap, ap₂, sym, refl, subst, inl, inr, arith, slice_get}
 use Rattle.std.specs.Prelude.{⊤, ◌==◌, codes, slice_range}
 use Rattle.std.specs.List.{count_by}
-use Rattle.std.proofs.lemmas.Option.{slice_get_within}
+use Rattle.std.proofs.lemmas.Option.{slice_get_within, same_Some, none-some}
+use Rattle.mz_general.proofs.Offered.{same-head as heads, same-tail as tails, nil-cons, not-decided, three-decided, some-decided, Decided}
 use Rattle.mz_checks.specs.Checks.{AllHold, FailsFirst}
 use Rattle.mz_checks.proofs.Offered.{all_hold-or_fails, at_most-decided, both-decided, bytes-decided}
 use Rattle.mz_logic.specs.Signature.{Signature}
@@ -24,20 +25,20 @@ use Rattle.mz_notation.specs.declared.form.Tail.{Tail}
 use Rattle.mz_notation.specs.declared.table.NoteFault.{NoteFault}
 use Rattle.mz_notation.specs.Answers.{IsClearTable}
 use Rattle.mz_tokens.proofs.Offered.{pieces-one}
-use Rattle.mz_notation.proofs.Offered.{none-some, some-same, constant-one, infix-one, prefix-one, begins-one}
-use Rattle.mz_math.proofs.Deciding.{Decided, equal-decided, not-decided, true-decided, three-decided, some-decided}
+use Rattle.mz_notation.proofs.Offered.{constant-one, infix-one, prefix-one, begins-one}
+use Rattle.mz_math.proofs.Deciding.{equal-decided, true-decided}
 use Rattle.mz_math.proofs.Existing.{some-pieces}
 use Rattle.mz_math.proofs.StayingClear.{clear-decided}
 
 -- ---- options, numbers and lists
 
-some-with : {A : Type 0} → (Q : A → Type 0) → ((x : A) → Decided (Q x)) → (o : Option A) → Decided ((x : A) × (o ≡ Some x) × Q x)
-some-with Q d None = inr (λ h. none-some h.1)
-some-with Q d (Some x) = elim (d x) [ inl q ↦ inl (x, refl, q) | inr out ↦ inr (λ h. out (subst Q (sym (some-same h.1)) h.2)) ]
+pub some-with : {A : Type 0} → (Q : A → Type 0) → ((x : A) → Decided (Q x)) → (o : Option A) → Decided ((x : A) × (o ≡ Some x) × Q x)
+some-with Q d None = inr (λ h. none-some _ h.1)
+some-with Q d (Some x) = elim (d x) [ inl q ↦ inl (x, refl, q) | inr out ↦ inr (λ h. out (subst Q (sym (same_Some _ _ h.1)) h.2)) ]
 
 some-equal : {A : Type 0} → (x : A) → ((y : A) → Decided (y ≡ x)) → (o : Option A) → Decided (o ≡ Some x)
-some-equal x d None = inr none-some
-some-equal x d (Some y) = elim (d y) [ inl same ↦ inl (ap Some same) | inr out ↦ inr (λ e. out (some-same e)) ]
+some-equal x d None = inr (none-some _)
+some-equal x d (Some y) = elim (d y) [ inl same ↦ inl (ap Some same) | inr out ↦ inr (λ e. out (same_Some _ _ e)) ]
 
 -- one that has the fact, of two that are the same
 one-with : {A : Type 0} → (P Q : A → Type 0) → ((x y : A) → P x → P y → x ≡ y) → ((x : A) → Decided (Q x)) → Decided ((x : A) × P x) → Decided ((x : A) × P x × Q x)
@@ -64,15 +65,6 @@ all-below P d n = elim (some-below (λ i. P i → ⊥) (λ i. not-decided (d i))
   | inl h ↦ inr (λ all. h.2 (all h.0 h.1))
   | inr none ↦ inl (λ i below. elim (d i) [ inl p ↦ p | inr out ↦ absurd (none (i, below, out)) ])
 ]
-
-heads : {A : Type 0} {x y : A} {xs ys : List A} → x ∷ xs ≡ y ∷ ys → x ≡ y
-heads e = cc
-
-tails : {A : Type 0} {x y : A} {xs ys : List A} → x ∷ xs ≡ y ∷ ys → xs ≡ ys
-tails e = cc
-
-nil-cons : {A : Type 0} {x : A} {xs : List A} → [] ≡ x ∷ xs → ⊥
-nil-cons e = cc
 
 lists-decided : {A : Type 0} → ((x y : A) → Decided (x ≡ y)) → (xs ys : List A) → Decided (xs ≡ ys)
 lists-decided d [] [] = inl refl

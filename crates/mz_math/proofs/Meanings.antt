@@ -3,12 +3,14 @@ use Rattle.std.proofs.Common.{◌≡◌, ◌<◌, ◌≤◌, ◌+◌, ◌-◌, �
 use Rattle.std.proofs.lemmas.List.{drop_all}
 use Rattle.std.specs.Prelude.{IsTrue, max}
 use Rattle.std.proofs.lemmas.Bool.{true≢false}
+use Rattle.std.proofs.lemmas.Option.{same_Some}
 use Rattle.mz_logic.specs.Tree.{Tree, Trees, var, app, none, more, listed, followed_by, size, trees_size}
 use Rattle.mz_logic.specs.View.{tree, trees}
 use Rattle.mz_logic.specs.Signature.{Signature}
 use Rattle.mz_logic.specs.Sorts.{IsBoundVar}
 use Rattle.mz_logic.specs.declared.binder.Binder.{Binder}
 use Rattle.mz_logic.specs.declared.expr.Expr.{Expr}
+use Rattle.mz_logic.proofs.Offered.{followed_by_push}
 use Rattle.mz_coercions.specs.declared.coercion.Coercion.{Coercion}
 use Rattle.mz_coercions.specs.Coercions.{IsPath, OnePath, wrapped}
 use Rattle.mz_math.specs.Meaning.{Coerced, CoercedAll, height, trees_height}
@@ -18,10 +20,6 @@ use Rattle.mz_math.specs.declared.meaning.Added.TheVariants as added
 use Rattle.mz_coercions.specs.Answers.{HasLength}
 use Rattle.mz_math.proofs.OneMeaning.{coerced-one, coerced-all}
 use Rattle.mz_coercions.proofs.Offered.{length-one}
-use Rattle.mz_math.proofs.TreeLists.{followed_by_push}
-
-some-same : {A : Type 0} {x y : A} → Some x ≡ Some y → x ≡ y
-some-same e = cc
 
 app-var : {t x : ℕ} {es : Trees} → app t es ≡ var x → ⊥
 app-var e = cc
@@ -168,7 +166,7 @@ app-coerced sigs cs ctx t es d fs at all = (d, fs, at, refl, refl, all)
 
 pub coerced-app : (sigs : List Signature) (cs : List Coercion) (ctx : List Binder) (t : ℕ) (es : Trees) (d : Signature) (e : Tree) (s : ℕ) → slice_get sigs t ≡ Some d → Coerced sigs cs ctx (app t es) e s
     → (fs : Trees) × (e ≡ app t fs) × CoercedAll sigs cs ctx es d.params fs
-coerced-app sigs cs ctx t es d e s at (c, fs, there, sort, is, all) = (fs, is, subst (λ (x : Signature). CoercedAll sigs cs ctx es x.params fs) (some-same (sym there ∙ at)) all)
+coerced-app sigs cs ctx t es d e s at (c, fs, there, sort, is, all) = (fs, is, subst (λ (x : Signature). CoercedAll sigs cs ctx es x.params fs) (same_Some _ _ (sym there ∙ at)) all)
 
 -- ---- building one operand
 

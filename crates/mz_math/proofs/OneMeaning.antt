@@ -1,5 +1,6 @@
 -- Each tree stands for one expression.
-use Rattle.std.proofs.Common.{◌≡◌, ◌∙◌, ℕ, List, [], ◌∷◌, Some, ap, ap₂, sym, refl, subst, inl, inr}
+use Rattle.std.proofs.Common.{◌≡◌, ◌∙◌, ℕ, List, [], ◌∷◌, ap, ap₂, sym, refl, subst, inl, inr}
+use Rattle.std.proofs.lemmas.Option.{same_Some}
 use Rattle.mz_logic.specs.Tree.{Tree, Trees, var, app, none, more}
 use Rattle.mz_logic.specs.Signature.{Signature}
 use Rattle.mz_logic.specs.Declaration.{Declaration}
@@ -10,9 +11,6 @@ use Rattle.mz_math.specs.Meaning.{Coerced, CoercedAll, Wanted, of_sort, provable
 
 -- ---- coercions
 
-some-same : {A : Type 0} {x y : A} → Some x ≡ Some y → x ≡ y
-some-same e = cc
-
 module _ (sigs : List Signature) (cs : List Coercion) (ctx : List Binder) (one : OnePath cs) where
   wrapped-one : (s r to : ℕ) (path other : List ℕ) (f g : Tree) → f ≡ g → s ≡ r → IsPath cs s path to → IsPath cs r other to → wrapped cs path f ≡ wrapped cs other g
   wrapped-one s r to path other f g same sorts is_p is_q =
@@ -21,10 +19,10 @@ module _ (sigs : List Signature) (cs : List Coercion) (ctx : List Binder) (one :
   mutual
     pub coerced-one : (tree e f : Tree) (s r : ℕ) → Coerced sigs cs ctx tree e s → Coerced sigs cs ctx tree f r → (e ≡ f) × (s ≡ r)
     coerced-one (var x) e f s r (is_e, b, at, sort_s) (is_f, c, at_c, sort_r) =
-        let same : b ≡ c = some-same (sym at ∙ at_c) in
+        let same : b ≡ c = same_Some _ _ (sym at ∙ at_c) in
         (is_e ∙ sym is_f, sym sort_s ∙ ap (λ q. q.sort) same ∙ sort_r)
     coerced-one (app t es) e f s r (d, fs, at, sort_s, is_e, all) (c, gs, at_c, sort_r, is_f, all_c) =
-        let same : d ≡ c = some-same (sym at ∙ at_c) in
+        let same : d ≡ c = same_Some _ _ (sym at ∙ at_c) in
         let operands = coerced-all es d.params fs gs all (subst (λ q. CoercedAll sigs cs ctx es q.params gs) (sym same) all_c) in
         (is_e ∙ ap (app t) operands ∙ sym is_f, sym sort_s ∙ ap (λ q. q.result.sort) same ∙ sort_r)
 

@@ -4,18 +4,13 @@ use Rattle.std.specs.Prelude.{◌==◌, if◌then◌else◌, option_map}
 use Rattle.std.proofs.lemmas.Bool.{cond-true, cond-false}
 use Rattle.std.proofs.lemmas.Bool.Decides.{eqb_tells}
 use Rattle.std.proofs.lemmas.List.{drop_all, get_or-set_same, get_or-set_other}
+use Rattle.std.proofs.lemmas.Option.{same_Some, none-some}
 use Rattle.mz_logic.specs.Tree.{Tree, Trees, app, none, more, operand, followed_by}
-use Rattle.mz_logic.specs.View.{tree, trees}
+use Rattle.mz_logic.specs.View.{trees}
 use Rattle.mz_logic.specs.declared.expr.Expr.{Expr}
+use Rattle.mz_logic.proofs.Offered.{followed_by_none, followed_by_push}
 use Rattle.mz_math.specs.Arrange.{AreDistinct, Differs, earlier_or, first_of, picked, picked_one}
 use Rattle.mz_math.specs.Grammar.{operand_for, arranged}
-use Rattle.mz_math.proofs.TreeLists.{followed_by_push, followed_by_none}
-
-none-some : {A : Type 0} {x : A} → None ≡ Some x → ⊥
-none-some e = cc
-
-some-same : {A : Type 0} {x y : A} → Some x ≡ Some y → x ≡ y
-some-same e = cc
 
 -- ---- what is noted gives the operands in order
 
@@ -50,18 +45,18 @@ module _ (js : List ℕ) (os : List (Option ℕ)) (many : ℕ) (long : length os
 -- ---- no operand is noted twice
 
 first-once : (js : List ℕ) (a b k : ℕ) → first_of js a ≡ Some k → first_of js b ≡ Some k → a ≡ b
-first-once [] a b k one other = absurd (none-some one)
+first-once [] a b k one other = absurd (none-some _ one)
 first-once (j ∷ js) a b k one other = go (eqb_tells j a) (eqb_tells j b) (λ l p q. first-once js a b l p q)
   where
     at : (i : ℕ) → (j == i) ≡ true → first_of (j ∷ js) i ≡ Some k → 0 ≡ k
-    at i is found = some-same (sym (cond-true (j == i) (Some 0) (option_map suc (first_of js i)) is) ∙ found)
+    at i is found = same_Some _ _ (sym (cond-true (j == i) (Some 0) (option_map suc (first_of js i)) is) ∙ found)
 
     behind : (i : ℕ) → (j == i) ≡ false → first_of (j ∷ js) i ≡ Some k → (l : ℕ) × (k ≡ suc l) × (first_of js i ≡ Some l)
     behind i is found = later (first_of js i) refl (sym (cond-false (j == i) (Some 0) (option_map suc (first_of js i)) is) ∙ found)
       where
         later : (o : Option ℕ) → first_of js i ≡ o → option_map suc o ≡ Some k → (l : ℕ) × (k ≡ suc l) × (first_of js i ≡ Some l)
-        later None known e = absurd (none-some e)
-        later (Some l) known e = (l, sym (some-same e), known)
+        later None known e = absurd (none-some _ e)
+        later (Some l) known e = (l, sym (same_Some _ _ e), known)
 
     go : (((j == a) ≡ true) × (j ≡ a)) ⊎ (((j == a) ≡ false) × (j ≡ a → ⊥)) → (((j == b) ≡ true) × (j ≡ b)) ⊎ (((j == b) ≡ false) × (j ≡ b → ⊥))
         → ((l : ℕ) → first_of js a ≡ Some l → first_of js b ≡ Some l → a ≡ b) → a ≡ b
@@ -151,16 +146,6 @@ with-more s i next old now js is = ap (λ o. first_with o (next + 1) (first_of j
     go false (Some k) f = refl
 
 -- ---- operands that are taken
-
-pub operand-is : (xs : List Expr) (k : ℕ) (d : Expr) → k < length xs → operand (trees xs) k ≡ tree (get_or xs k d)
-operand-is [] k d below = absurd (omega (arith, below))
-operand-is (x ∷ xs) zero d below = refl
-operand-is (x ∷ xs) (suc k) d below = operand-is xs k d (omega (arith, below))
-
-pub operand-past : (xs : List Expr) (k : ℕ) → length xs ≤ k → operand (trees xs) k ≡ app 0 none
-operand-past [] k past = refl
-operand-past (x ∷ xs) zero past = absurd (omega (arith, past))
-operand-past (x ∷ xs) (suc k) past = operand-past xs k (omega (arith, past))
 
 pub operand-other : (xs : List Expr) (k j : ℕ) (x : Expr) → (j ≡ k → ⊥) → operand (trees (slice_set xs k x)) j ≡ operand (trees xs) j
 operand-other [] k j x other = refl

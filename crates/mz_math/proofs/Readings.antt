@@ -4,8 +4,9 @@ use Rattle.std.specs.Prelude.{codes}
 use Rattle.std.proofs.lemmas.Bool.{false≢true, not-true}
 use Rattle.std.proofs.lemmas.List.{append-nil}
 use Rattle.mz_logic.specs.Tree.{Tree, Trees, var, app, none, more, followed_by}
-use Rattle.mz_math.proofs.TreeLists.{followed_by_none, followed_by_push}
 use Rattle.std.proofs.lemmas.Option.{slice_get_within, get_or_from_slice_get}
+use Rattle.mz_logic.proofs.Offered.{followed_by_none, followed_by_push}
+use Rattle.mz_general.proofs.Offered.{same-head as cons_head, same-tail, nil-cons}
 use Rattle.mz_math.specs.Lookups.{NoVariable, NoLeading, NoTermName, NoInfix}
 use Rattle.mz_math.specs.Answers.{MayLead}
 use Rattle.mz_math.specs.Steps.{IsMaxBefore}
@@ -18,7 +19,7 @@ use Rattle.mz_math.specs.Grammar.{Item, token, expr, items, level_before, operan
 use Rattle.mz_math.specs.Readable.{IsReadable}
 use Rattle.mz_math.specs.Reading.{NotJoined, Before, Spaced, Step, build, step_tokens, Reads, NoReading, GoesOn, IsBegun, ArePartsRead, NoParts, IsRead}
 use Rattle.mz_math.proofs.Chains.{base, base_parts, steps_of, rebuilt, tokens-build, inner, level-falls}
-use Rattle.mz_math.proofs.Unique.{cons_head, cons_tail, empty_cons, one-notation, behind, spaced-head, spaced-infix, parts-same, head-begins, step-begins, same-head, follows, all-unique, good-inside, unique, BeginsWith}
+use Rattle.mz_math.proofs.Unique.{one-notation, behind, spaced-head, spaced-infix, parts-same, head-begins, step-begins, same-head, follows, all-unique, good-inside, unique, BeginsWith}
 
 module _ (ws : Words) (right : IsReadable ws) where
   -- ---- parts
@@ -125,7 +126,7 @@ module _ (ws : Words) (right : IsReadable ws) where
       }
 
   pub no-tokens : (level : ℕ) → NoReading ws level []
-  no-tokens level p xs reads = let first = first-of level [] p xs reads in empty_cons first.tokens_are
+  no-tokens level p xs reads = let first = first-of level [] p xs reads in nil-cons first.tokens_are
 
   -- never form begins with the token
   pub no-word : (level : ℕ) (w : List ℕ) (rest : List (List ℕ)) → ((h : Head) → IsHead ws h → BeginsWith ws right h w → ⊥) → NoReading ws level (w ∷ rest)
@@ -288,7 +289,7 @@ module _ (ws : Words) (right : IsReadable ws) where
   leading-never level tokens rest k w is in_k by other never =
       subst (NoReading ws level) (sym is) (no-head level (notated k) w rest (leading-head k w in_k by other) by
       (subst (λ its. NoParts ws its (w ∷ rest)) (leading-items k w by) (no-token w (items (drop 1 k.elements) k.level) (w ∷ rest)
-      (λ xs e. subst (NoParts ws (items (drop 1 k.elements) k.level)) (cons_tail e) never))))
+      (λ xs e. subst (NoParts ws (items (drop 1 k.elements) k.level)) (same-tail e) never))))
 
   leading-parts : (k : Notation) (w : List ℕ) (tokens rest after : List (List ℕ)) (es : Trees) → tokens ≡ w ∷ rest → LedBy k w
       → ArePartsRead ws (items (drop 1 k.elements) k.level) rest after none es → ArePartsRead ws (head_items (notated k)) (w ∷ rest) after none es
@@ -315,7 +316,7 @@ module _ (ws : Words) (right : IsReadable ws) where
       → NoParts ws (operands_at_max n) rest → NoReading ws level tokens
   applied-never level tokens rest w t n is name variables leading never =
       subst (NoReading ws level) (sym is) (no-head level (applied w t n) w rest (term-head w t n name variables leading) refl
-      (no-token w (operands_at_max n) (w ∷ rest) (λ xs e. subst (NoParts ws (operands_at_max n)) (cons_tail e) never)))
+      (no-token w (operands_at_max n) (w ∷ rest) (λ xs e. subst (NoParts ws (operands_at_max n)) (same-tail e) never)))
 
   same-level : (w : List ℕ) (t n : ℕ) → head_level (applied [] 0 n) ≡ head_level (applied w t n)
   same-level w t zero = refl
@@ -342,13 +343,13 @@ module _ (ws : Words) (right : IsReadable ws) where
   parens-never level tokens rest is never =
       subst (NoReading ws level) (sym is) (no-head level parens (codes "(") rest tt refl
       (no-token (codes "(") (expr 0 ∷ token (codes ")") ∷ []) (codes "(" ∷ rest)
-      (λ xs e. no-expr 0 (token (codes ")") ∷ []) xs (subst (NoReading ws 0) (cons_tail e) never))))
+      (λ xs e. no-expr 0 (token (codes ")") ∷ []) xs (subst (NoReading ws 0) (same-tail e) never))))
 
   pub parens-open : (level : ℕ) (tokens rest mid : List (List ℕ)) (tree : Tree) → tokens ≡ codes "(" ∷ rest → IsRead ws 0 rest mid tree → ((xs : List (List ℕ)) → mid ≡ codes ")" ∷ xs → ⊥) → NoReading ws level tokens
   parens-open level tokens rest mid tree is read never =
       subst (NoReading ws level) (sym is) (no-head level parens (codes "(") rest tt refl
       (no-token (codes "(") (expr 0 ∷ token (codes ")") ∷ []) (codes "(" ∷ rest)
-      (λ xs e. no-rest 0 (token (codes ")") ∷ []) xs mid tree (subst (λ ts. IsRead ws 0 ts mid tree) (cons_tail e) read)
+      (λ xs e. no-rest 0 (token (codes ")") ∷ []) xs mid tree (subst (λ ts. IsRead ws 0 ts mid tree) (same-tail e) read)
       (no-token (codes ")") [] mid (λ ys f. absurd (never ys f))))))
 
   pub parens-begun : (level : ℕ) (tokens rest mid after : List (List ℕ)) (tree : Tree) → tokens ≡ codes "(" ∷ rest → IsRead ws 0 rest mid tree → mid ≡ codes ")" ∷ after → level ≤ max_level
@@ -402,7 +403,7 @@ module _ (ws : Words) (right : IsReadable ws) where
       let begun' = subst (λ ts. IsBegun ws level tokens ts tree at left) is begun in
       begun-parts level tokens rest tree at left k w begun' in_k by le
       (subst (λ its. NoParts ws its (w ∷ rest)) (infix-all k w by) (no-token w (items (drop 2 k.elements) (last_level k)) (w ∷ rest)
-      (λ xs e. subst (NoParts ws (items (drop 2 k.elements) (last_level k))) (cons_tail e) never)))
+      (λ xs e. subst (NoParts ws (items (drop 2 k.elements) (last_level k))) (same-tail e) never)))
 
   pub joined-more : (level : ℕ) (tokens here rest after : List (List ℕ)) (tree : Tree) (at : ℕ) (left : Bool) (k : Notation) (w : List ℕ) (es : Trees) (made : Tree)
       → IsBegun ws level tokens here tree at left → here ≡ w ∷ rest → Contains ws.infixes k → JoinedBy k w → level ≤ k.level → MayLead k at left

@@ -1,6 +1,7 @@
 -- Each statement on delimiters and each on coercions is of its form or not, and leaves one path or not.
 use Rattle.std.proofs.Common.{◌≡◌, ◌⊎◌, ◌++◌, ◌∙◌, ℕ, List, [], ◌∷◌, Option, Some, None, false, ap, sym, refl, subst, inl, inr, map, slice_get, Contains}
 use Rattle.std.proofs.lemmas.Option.{slice_get_within, get_or_from_slice_get}
+use Rattle.mz_general.proofs.Offered.{some-decided, Decided}
 use Rattle.mz_checks.specs.Checks.{AllHold, FailsFirst}
 use Rattle.mz_checks.proofs.Offered.{all_hold-or_fails, both-decided}
 use Rattle.mz_logic.specs.Signature.{Signature}
@@ -17,7 +18,7 @@ use Rattle.mz_notation.specs.declared.table.NoteFault.{NoteFault}
 use Rattle.mz_coercions.specs.Answers.{MayStart, MayEnd, IsClashAt}
 use Rattle.mz_tokens.proofs.Offered.{pieces-one}
 use Rattle.mz_coercions.proofs.Offered.{stays-one, clash-two, clash-parts, clash-made}
-use Rattle.mz_math.proofs.Deciding.{Decided, found, equal-decided, some-decided, true-decided}
+use Rattle.mz_math.proofs.Deciding.{found, equal-decided, true-decided}
 use Rattle.mz_math.proofs.Standing.{path-decided}
 use Rattle.mz_math.proofs.Existing.{some-pieces}
 

@@ -1,6 +1,7 @@
 -- Whether a table stays clear with one more notation is decided.
 use Rattle.std.proofs.Common.{◌≡◌, ◌<◌, ◌++◌, ℕ, List, [], ◌∷◌, Bool, true, false, sym, refl, subst, inl, inr, arith, Contains}
 use Rattle.std.specs.Prelude.{⊤, if◌then◌else◌}
+use Rattle.mz_general.proofs.Offered.{not-decided, three-decided, Decided}
 use Rattle.mz_checks.proofs.Offered.{at_most-decided, implied-decided, bytes-decided}
 use Rattle.mz_notation.specs.Notation.{max_level, Table, begins_with_slot, with_leading, with_infix, with_notation}
 use Rattle.mz_notation.specs.declared.notation.Element.{Element}
@@ -9,7 +10,7 @@ use Rattle.mz_notation.specs.declared.notation.Notation.{Notation}
 use Rattle.mz_notation.specs.Clear.{LedBy, JoinedBy, IsClear}
 use Rattle.mz_notation.specs.Answers.{IsClearTable, KeepsLevels, KeepsOwnLevels, GroupsWith}
 use Rattle.mz_notation.proofs.Offered.{with-leading-clear, with-infix-clear, leading-kept, leading-other, infix-kept, infix-other, infix-groups, infix-level}
-use Rattle.mz_math.proofs.Deciding.{Decided, found, equal-decided, not-decided, true-decided, three-decided, led-decided, joined-decided}
+use Rattle.mz_math.proofs.Deciding.{found, equal-decided, true-decided, led-decided, joined-decided}
 
 -- a fact that is decided of each element is decided of all
 pub all-decided : {A : Type 0} → (P : A → Type 0) → ((x : A) → Decided (P x)) → (xs : List A) → Decided ((x : A) → Contains xs x → P x)

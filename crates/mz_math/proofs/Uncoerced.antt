@@ -1,6 +1,7 @@
 -- Without coercions a tree stands for itself.
-use Rattle.std.proofs.Common.{◌≡◌, ◌∙◌, ◌<◌, ◌≤◌, ℕ, List, [], ◌∷◌, Some, None, ap, refl, subst, inl, inr, arith}
+use Rattle.std.proofs.Common.{◌≡◌, ◌∙◌, ◌<◌, ◌≤◌, ℕ, List, [], ◌∷◌, ap, refl, subst, inl, inr, arith}
 use Rattle.std.proofs.lemmas.Bool.{cases_lt}
+use Rattle.std.proofs.lemmas.Option.{none-some}
 use Rattle.mz_logic.specs.Signature.{Signature}
 use Rattle.mz_logic.specs.Tree.{Tree, Trees, var, app, none, more}
 use Rattle.mz_logic.specs.declared.binder.Binder.{Binder}
@@ -8,12 +9,9 @@ use Rattle.mz_coercions.specs.declared.coercion.Coercion.{Coercion}
 use Rattle.mz_coercions.specs.Coercions.{IsPath, wrapped}
 use Rattle.mz_math.specs.Meaning.{Coerced, CoercedAll, height}
 
-none-there : {A : Type 0} {x : A} → None ≡ Some x → ⊥
-none-there e = cc
-
 nowhere : (s to : ℕ) (path : List ℕ) (e : Tree) → IsPath [] s path to → wrapped [] path e ≡ e
 nowhere s to [] e on = refl
-nowhere s to (p ∷ path) e (c, at, from, rest) = absurd (none-there at)
+nowhere s to (p ∷ path) e (c, at, from, rest) = absurd (none-some _ at)
 
 module _ (sigs : List Signature) (ctx : List Binder) where
   mutual

@@ -1,7 +1,8 @@
 -- Each token list is at most one expression.
 use Rattle.std.proofs.Common.{◌≡◌, ◌≤◌, ◌<◌, ◌⊎◌, ◌++◌, ◌∙◌, ℕ, zero, suc, List, [], ◌∷◌, Some, ap, ap₂, sym, refl, subst, inl, inr, arith, append_assoc, Contains, slice_get, length}
 use Rattle.std.specs.Prelude.{codes, ⊤}
-use Rattle.std.proofs.lemmas.Option.{slice_get_within, get_or_from_slice_get}
+use Rattle.std.proofs.lemmas.Option.{slice_get_within, get_or_from_slice_get, same_Some}
+use Rattle.mz_general.proofs.Offered.{same-head as cons_head, same-tail, place-of}
 use Rattle.mz_notation.specs.Notation.{max_level}
 use Rattle.mz_notation.specs.declared.notation.Element.{Element}
 use Rattle.mz_notation.specs.declared.notation.Element.TheVariants.{Fixed as fixed, Slot as slot}
@@ -11,30 +12,17 @@ use Rattle.mz_math.specs.Grammar.{Item, token, expr, items, level_before, operan
 use Rattle.mz_math.specs.Readable.{IsReadable}
 use Rattle.mz_math.specs.Reading as Reading
 use Rattle.mz_math.specs.Reading.{Step, build, step_tokens}
-use Rattle.mz_tokens.proofs.Offered.{at_of}
 use Rattle.mz_math.proofs.Chains.{base, base_parts, steps_of, rebuilt, tokens-build, above-more, le_last, last_left, inner, level-falls}
 
 -- ---- lists
 
-pub cons_head : {A : Type 0} {x y : A} {xs ys : List A} → x ∷ xs ≡ y ∷ ys → x ≡ y
-cons_head e = cc
-
-pub cons_tail : {A : Type 0} {x y : A} {xs ys : List A} → x ∷ xs ≡ y ∷ ys → xs ≡ ys
-cons_tail e = cc
-
-pub empty_cons : {A : Type 0} {x : A} {xs : List A} → [] ≡ x ∷ xs → ⊥
-empty_cons e = cc
-
-some_same : {A : Type 0} {x y : A} → Some x ≡ Some y → x ≡ y
-some_same e = cc
-
 -- the notation of a constant
 pub one-notation : (By : Notation → List ℕ → Type 0) (ks : List Notation) (k l : Notation) (w : List ℕ) → IsOne By ks → Contains ks k → Contains ks l → By k w → By l w → k ≡ l
 one-notation By ks k l w one in_k in_l by_k by_l =
-    let at = at_of ks k in_k in
-    let there = at_of ks l in_l in
+    let at = place-of ks k in_k in
+    let there = place-of ks l in_l in
     let same : at.0 ≡ there.0 = one at.0 there.0 k l w at.1 there.1 by_k by_l in
-    some_same (sym at.1 ∙ ap (slice_get ks) same ∙ there.1)
+    same_Some _ _ (sym at.1 ∙ ap (slice_get ks) same ∙ there.1)
 
 -- ---- what follows an expression
 
@@ -138,7 +126,7 @@ module _ (ws : Words) (right : IsReadable ws) where
   parts-same (token c ∷ its) (word w ps) end xs ys one are_p are_q sp_x sp_y e = absurd are_q
   parts-same (token c ∷ its) (word w ps) (part q qs) xs ys one are_p are_q sp_x sp_y e = absurd are_q
   parts-same (token c ∷ its) (word w ps) (word v qs) xs ys one (w_is, are_p) (v_is, are_q) sp_x sp_y e =
-      let rest = parts-same its ps qs xs ys one are_p are_q sp_x sp_y (cons_tail e) in
+      let rest = parts-same its ps qs xs ys one are_p are_q sp_x sp_y (same-tail e) in
       (ap₂ word (w_is ∙ sym v_is) rest.0, rest.1)
   parts-same (expr l ∷ its) end qs xs ys one are_p are_q sp_x sp_y e = absurd are_p
   parts-same (expr l ∷ its) (word w ps) qs xs ys one are_p are_q sp_x sp_y e = absurd are_p
@@ -190,7 +178,7 @@ module _ (ws : Words) (right : IsReadable ws) where
 
   same-arity : (v w : List ℕ) (t u n m : ℕ) → IsTermName ws v t n → IsTermName ws w u m → t ≡ u → n ≡ m
   same-arity v w t u n m (a, in_a, name_a, term_a, (d, at_d, many_d)) (b, in_b, name_b, term_b, (e, at_e, many_e)) place =
-      let same : d ≡ e = some_same (sym at_d ∙ ap (slice_get ws.signatures) place ∙ at_e) in
+      let same : d ≡ e = same_Some _ _ (sym at_d ∙ ap (slice_get ws.signatures) place ∙ at_e) in
       sym many_d ∙ ap (λ s. length s.params) same ∙ many_e
 
   -- a token is first a variable, then a leading constant, then a term's name

@@ -1,6 +1,7 @@
 -- Expressions within one another, and what a step makes of one.
 use Rattle.std.proofs.Common.{◌≡◌, ◌≤◌, ◌<◌, ◌+◌, ◌-◌, ◌*◌, ◌++◌, ◌∙◌, ℕ, List, [], ◌∷◌, Bool, false, not, length, drop, length-append, sym, refl, subst, ap, arith}
 use Rattle.std.specs.Prelude.{Contains}
+use Rattle.mz_general.proofs.Offered.{same-tail}
 use Rattle.mz_logic.specs.Tree.{Tree, Trees, app, none, more, followed_by}
 use Rattle.mz_logic.specs.View.{tree}
 use Rattle.mz_notation.specs.declared.notation.Notation.{Notation}
@@ -16,7 +17,6 @@ use Rattle.mz_math.specs.declared.parser.Step.{Step}
 use Rattle.mz_math.specs.declared.parser.Step.TheVariants as steps
 use Rattle.mz_math.specs.declared.parser.Outer.{Outer}
 use Rattle.mz_math.specs.declared.parser.Outer.TheVariants as outers
-use Rattle.mz_math.proofs.Unique.{cons_tail}
 use Rattle.mz_math.proofs.Readings.{no-items, no-expr, no-rest, one-part, one-token, no-token, parens-never}
 use Rattle.mz_math.proofs.Readings.{leading-never, leading-begun, leading-low, applied-never, applied-begun, applied-low, joined-never, joined-more}
 
@@ -70,7 +70,7 @@ module _ (ws : Words) (right : IsReadable ws) where
     constant-next c its xs is so_far = record {
       begun = λ rest fs read le. so_far.begun rest fs (one-token ws right c its here xs rest es fs is read) le;
       low = λ rest fs read less. so_far.low rest fs (one-token ws right c its here xs rest es fs is read) less;
-      never = λ no. so_far.never (no-token ws right c its here (λ ys e. subst (NoParts ws its) (cons_tail (sym is ∙ e)) no));
+      never = λ no. so_far.never (no-token ws right c its here (λ ys e. subst (NoParts ws its) (same-tail (sym is ∙ e)) no));
     }
 
     pub no-constant : (c : List ℕ) (its : List Item) → ((xs : List (List ℕ)) → here ≡ c ∷ xs → ⊥) → IsUnderWay ws level from here (token c ∷ its) es make own left → NoReading ws level from

@@ -4,21 +4,16 @@ use Rattle.std.specs.List.{AllPairs}
 use Rattle.std.specs.List.Sorted.{IsStrictlyIncreasing}
 use Rattle.std.proofs.lemmas.Bool.{cases_order}
 use Rattle.std.proofs.lemmas.List.Kept.{AllPairs-from_increasing, AllPairs-cons}
-use Rattle.std.proofs.lemmas.List.Elements.{All-weaker, All-contains_itself, Contains-append_left, Contains-append_right, Contains-append_cases}
+use Rattle.std.proofs.lemmas.List.Elements.{All-weaker, All-contains_itself, Contains-append_right, Contains-append_cases}
+use Rattle.mz_general.proofs.Offered.{contains_none, contains_head}
 use Rattle.mz_forms.specs.Expressions.{IsAscending}
 
 abbrev Rise : List ℕ → Type 0
 Rise zs = AllPairs (λ x y. x < y) zs
 
-in_none : (x : ℕ) → Contains [] x → ⊥
-in_none x (k, within, is) = not-suc-le-zero within
-
 in_one : (a x : ℕ) → Contains (a ∷ []) x → a ≡ x
 in_one a x (zero, within, is) = is
 in_one a x (suc k, within, is) = absurd (let below : suc k < 1 = within in omega (arith, below))
-
-is_first : (a : ℕ) (xs : List ℕ) → Contains (a ∷ xs) a
-is_first a xs = Contains-append_left (a ∷ []) xs a (0, let below : 0 < 1 = omega arith in below, refl)
 
 is_later : (a : ℕ) (xs : List ℕ) (x : ℕ) → Contains xs x → Contains (a ∷ xs) x
 is_later a xs x h = Contains-append_right (a ∷ []) xs x h
@@ -44,9 +39,9 @@ AreIn xs ys = (x : ℕ) → Contains xs x → Contains ys x
 
 module _ (a b : ℕ) (xs ys : List ℕ) (rise : Rise (a ∷ xs)) (rise' : Rise (b ∷ ys)) (there : AreIn (a ∷ xs) (b ∷ ys)) (back : AreIn (b ∷ ys) (a ∷ xs)) where
   same_first : a ≡ b
-  same_first = elim (first_or_later b ys a (there a (is_first a xs))) [
+  same_first = elim (first_or_later b ys a (there a (contains_head a xs))) [
     | inl is ↦ sym is
-    | inr later ↦ elim (first_or_later a xs b (back b (is_first b ys))) [
+    | inr later ↦ elim (first_or_later a xs b (back b (contains_head b ys))) [
       | inl is ↦ is
       | inr later' ↦ absurd (let p = below_later b ys a rise' later in let q = below_later a xs b rise later' in omega (arith, p, q))
     ]
@@ -66,8 +61,8 @@ module _ (a b : ℕ) (xs ys : List ℕ) (rise : Rise (a ∷ xs)) (rise' : Rise (
 
 same_numbers : (xs ys : List ℕ) → Rise xs → Rise ys → AreIn xs ys → AreIn ys xs → xs ≡ ys
 same_numbers [] [] rise rise' there back = refl
-same_numbers [] (b ∷ ys) rise rise' there back = absurd (in_none b (back b (is_first b ys)))
-same_numbers (a ∷ xs) [] rise rise' there back = absurd (in_none a (there a (is_first a xs)))
+same_numbers [] (b ∷ ys) rise rise' there back = absurd (contains_none b (back b (contains_head b ys)))
+same_numbers (a ∷ xs) [] rise rise' there back = absurd (contains_none a (there a (contains_head a xs)))
 same_numbers (a ∷ xs) (b ∷ ys) rise rise' there back =
     ap (λ x. x ∷ xs) (same_first a b xs ys rise rise' there back)
     ∙ ap (λ zs. b ∷ zs) (same_numbers xs ys (later_rise a xs rise) (later_rise b ys rise') (later_in a b xs ys rise rise' there back) (later_back a b xs ys rise rise' there back))
@@ -87,7 +82,7 @@ abbrev IsWith : ℕ → List ℕ → List ℕ → Type 0
 IsWith a xs ys = (x : ℕ) → (Contains ys x → (a ≡ x) ⊎ Contains xs x) × ((a ≡ x) ⊎ Contains xs x → Contains ys x)
 
 with_first : (a : ℕ) (xs : List ℕ) → IsWith a xs (a ∷ xs)
-with_first a xs x = (first_or_later a xs x, λ h. elim h [ inl is ↦ subst (Contains (a ∷ xs)) is (is_first a xs) | inr later ↦ is_later a xs x later ])
+with_first a xs x = (first_or_later a xs x, λ h. elim h [ inl is ↦ subst (Contains (a ∷ xs)) is (contains_head a xs) | inr later ↦ is_later a xs x later ])
 
 with_there : (a : ℕ) (xs : List ℕ) → Contains xs a → IsWith a xs xs
 with_there a xs there x = (inr, λ h. elim h [ inl is ↦ subst (Contains xs) is there | inr later ↦ later ])
@@ -95,22 +90,22 @@ with_there a xs there x = (inr, λ h. elim h [ inl is ↦ subst (Contains xs) is
 with_later : (a b : ℕ) (xs ys : List ℕ) → IsWith a xs ys → IsWith a (b ∷ xs) (b ∷ ys)
 with_later a b xs ys is x = (
   λ h. elim (first_or_later b ys x h) [
-    | inl first ↦ inr (subst (Contains (b ∷ xs)) first (is_first b xs))
+    | inl first ↦ inr (subst (Contains (b ∷ xs)) first (contains_head b xs))
     | inr later ↦ elim ((is x).0 later) [ inl one ↦ inl one | inr there ↦ inr (is_later b xs x there) ]
   ],
   λ h. elim h [
     | inl one ↦ is_later b ys x ((is x).1 (inl one))
     | inr there ↦ elim (first_or_later b xs x there) [
-      | inl first ↦ subst (Contains (b ∷ ys)) first (is_first b ys)
+      | inl first ↦ subst (Contains (b ∷ ys)) first (contains_head b ys)
       | inr later ↦ is_later b ys x ((is x).1 (inr later))
     ]
   ],
 )
 
 rise_with : (a : ℕ) (xs : List ℕ) → Rise xs → (ys : List ℕ) × Rise ys × IsWith a xs ys
-rise_with a [] rise = (a ∷ [], rise_more a [] (λ x h. absurd (in_none x h)) rise, with_first a [])
+rise_with a [] rise = (a ∷ [], rise_more a [] (λ x h. absurd (contains_none x h)) rise, with_first a [])
 rise_with a (b ∷ xs) rise = elim (cases_order a b) [
-  | inl is ↦ (b ∷ xs, rise, with_there a (b ∷ xs) (subst (Contains (b ∷ xs)) (sym is) (is_first b xs)))
+  | inl is ↦ (b ∷ xs, rise, with_there a (b ∷ xs) (subst (Contains (b ∷ xs)) (sym is) (contains_head b xs)))
   | inr (inl below) ↦ (
     a ∷ b ∷ xs,
     rise_more a (b ∷ xs) (λ x h. elim (first_or_later b xs x h) [ inl is ↦ omega (arith, below, is) | inr later ↦ let p = below_later b xs x rise later in omega (arith, below, p) ]) rise,
@@ -130,7 +125,7 @@ rise_found (a ∷ zs) =
     let s = rise_with a r.0 r.1 in (
       s.0,
       s.1,
-      λ x h. elim ((s.2 x).0 h) [ inl is ↦ subst (Contains (a ∷ zs)) is (is_first a zs) | inr later ↦ is_later a zs x (r.2 x later) ],
+      λ x h. elim ((s.2 x).0 h) [ inl is ↦ subst (Contains (a ∷ zs)) is (contains_head a zs) | inr later ↦ is_later a zs x (r.2 x later) ],
       λ x h. elim (first_or_later a zs x h) [ inl is ↦ (s.2 x).1 (inl is) | inr later ↦ (s.2 x).1 (inr (r.3 x later)) ],
     )
 

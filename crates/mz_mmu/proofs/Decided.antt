@@ -1,6 +1,7 @@
 -- Each fact that is asked of a text's forms and names holds or fails.
-use Rattle.std.proofs.Common.{ℕ, suc, ◌≡◌, ◌⊎◌, inl, inr, Bool, true, false, true≢false, List, [], ◌∷◌, ◌++◌, Option, Some, None, refl, sym}
+use Rattle.std.proofs.Common.{ℕ, suc, ◌≡◌, inl, inr, Bool, true, false, true≢false, List, [], ◌∷◌, ◌++◌, Option, Some, None, refl, sym}
 use Rattle.std.specs.Prelude.{⊤, IsTrue, unwrap_or}
+use Rattle.mz_general.proofs.Offered.{either-decided, some-decided, Decided}
 use Rattle.mz_checks.specs.Checks.{Checks, ◌>>◌, retold, AreDecided}
 use Rattle.mz_checks.proofs.Offered.{are_decided-both, bytes-decided, retold-decided}
 use Rattle.mz_sexpr.specs.Node.{Node, Nodes, atom, list, no_nodes, node, word, parts}
@@ -17,27 +18,15 @@ use Rattle.mz_statements.specs.Statements.{kind_of, is_local_word, Modifiers, no
 use Rattle.mz_forms.specs.Order.{known_asked, new_asked, param_name_asked, expr_asked, exprs_asked, expr_list_asked, variables_asked, variable_list_asked, param_asked, dummy_asked, names_of, first_word, binders_asked, params_asked, dummies_asked, result_asked, conv_asked, conv_asked_by, convs_asked, proof_asked, proof_asked_by, proofs_asked}
 use Rattle.mz_statements.specs.Order.{modifiers_asked, hyp_asked, hyps_asked, declared_asked, local_asked, marked_asked, statement_asked, in_statement, names_after, statements_asked}
 
-abbrev Decided : Type 0 → Type 0
-Decided P = P ⊎ (P → ⊥)
-
 -- ---- facts
 
 true-decided : (b : Bool) → Decided (IsTrue b)
 true-decided true = inl refl
 true-decided false = inr (λ h. true≢false (sym h))
 
-some-decided : {A : Type 0} (o : Option A) → Decided ((x : A) × (o ≡ Some x))
-some-decided None = inr (λ h. let f : None ≡ Some h.0 = h.1 in cc)
-some-decided (Some x) = inl (x, refl)
-
 none-decided : {A : Type 0} (o : Option A) → Decided (o ≡ None)
 none-decided None = inl refl
 none-decided (Some x) = inr (λ h. let f : Some x ≡ None = h in cc)
-
-either-decided : {P Q : Type 0} → Decided P → Decided Q → Decided (P ⊎ Q)
-either-decided (inl p) q = inl (inl p)
-either-decided (inr out) (inl q) = inl (inr q)
-either-decided (inr out) (inr out') = inr (λ h. elim h [ inl p ↦ out p | inr q ↦ out' q ])
 
 -- what no text meets
 no-decided : Decided ⊥ × (⊥ → ⊤)

@@ -1,6 +1,7 @@
 -- Statements, one after another.
 use Rattle.std.proofs.Common.{ℕ, suc, ◌≡◌, ◌≤◌, ◌<◌, ◌+◌, ◌-◌, ◌∙◌, Bool, true, false, List, [], ◌∷◌, ◌++◌, length, Some, None, sym, ap, refl, subst, arith, append_assoc, append-nil}
 use Rattle.std.specs.Prelude.{bytes_eq, if◌then◌else◌}
+use Rattle.mz_general.proofs.Offered.{length-push}
 use Rattle.mz_checks.specs.Checks.{Checks, retold, FailsFirst}
 use Rattle.mz_checks.proofs.Offered.{Decides, decides-after, fails-before, retold-fails, retold-holds}
 use Rattle.mz_sexpr.specs.Node.{Node, Nodes, no_nodes, node, atom, list}
@@ -26,7 +27,6 @@ use Rattle.mz_forms.specs.NamesMore.{AreFew}
 use Rattle.mz_mmu.specs.EntryView.{AreNumbers}
 use Rattle.mz_statements.specs.Statements.{Statement, IsStatement, AreStatements}
 use Rattle.mz_statements.specs.Order.{statement_asked, statements_asked, in_statement, names_after}
-use Rattle.mz_forms.proofs.Offered.{length-more}
 use Rattle.mz_mmu.proofs.Declared.{Agrees, statement_says}
 
 module _ (names later : Names) (left ns : Nodes) (n : Node) (is : left ≡ node n ns) (s : Statement) (h : IsStatement names n s) (after : later ≡ names_with names s.name s.decl) where
@@ -57,11 +57,11 @@ numbers_more all left ns k is within P sofar now pushed read ks r =
 -- ---- names
 
 few_with : (names : Names) (w : List ℕ) (d : Declaration) (n : ℕ) → AreFew names n → AreFew (names_with names w d) (suc n)
-few_with names w (sort_decl m) n few = let k = length-more names.sorts w in
+few_with names w (sort_decl m) n few = let k = length-push names.sorts w in
     record { sorts = omega (arith, k, few.sorts); terms = omega (arith, few.terms); constants = omega (arith, few.constants); assertions = omega (arith, few.assertions) }
-few_with names w (term_decl t) n few = let k = length-more names.terms w in let j = length-more names.constants (constant_name t.signature.params w) in
+few_with names w (term_decl t) n few = let k = length-push names.terms w in let j = length-push names.constants (constant_name t.signature.params w) in
     record { sorts = omega (arith, few.sorts); terms = omega (arith, k, few.terms); constants = omega (arith, j, few.constants); assertions = omega (arith, few.assertions) }
-few_with names w (assertion_decl a) n few = let k = length-more names.assertions w in
+few_with names w (assertion_decl a) n few = let k = length-push names.assertions w in
     record { sorts = omega (arith, few.sorts); terms = omega (arith, few.terms); constants = omega (arith, few.constants); assertions = omega (arith, k, few.assertions) }
 
 pub few_more : (names later : Names) (w : List ℕ) (d : Declaration) (n m : ℕ) → later ≡ names_with names w d → m ≡ suc n → AreFew names n → AreFew later m

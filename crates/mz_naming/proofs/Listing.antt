@@ -2,8 +2,8 @@
 use Rattle.std.proofs.Common.{◌≡◌, ◌∙◌, ◌≤◌, ◌-◌, ◌++◌, ◌<◌, ◌⊎◌, ℕ, List, [], ◌∷◌, length, take, drop, refl, sym, ap, inl, inr, arith, length-append}
 use Rattle.std.proofs.lemmas.List.{take-append-le, drop-append-le, length-drop, map-append}
 use Rattle.std.proofs.lemmas.Bool.{cases_lt}
-use Rattle.std.proofs.Math.Seq.{take-length, drop-append_seam}
 use Rattle.std.specs.Prelude.{slice_range}
+use Rattle.mz_general.proofs.Offered.{slice_range-end}
 use Rattle.mz_naming.specs.declared.list.Span.{Span}
 use Rattle.mz_naming.specs.Spans.{name_at, names_at, AreWithin}
 
@@ -32,11 +32,6 @@ names-on bytes more [] are = refl
 names-on bytes more (s ∷ ss) (here, are) =
     ap (λ (n : List ℕ). n ∷ names_at (bytes ++ more) ss) (between-on bytes more s.from s.to here) ∙ ap (λ (ns : List (List ℕ)). name_at bytes s ∷ ns) (names-on bytes more ss are)
 
-name-last : (bytes name : List ℕ) → slice_range (bytes ++ name) (length bytes) (length (bytes ++ name)) ≡ name
-name-last bytes name =
-    let many : length (bytes ++ name) - length bytes ≡ length name = (let e = length-append bytes name in omega (arith, e)) in
-    ap (λ (n : ℕ). take n (drop (length bytes) (bytes ++ name))) many ∙ ap (take (length name)) (drop-append_seam bytes name) ∙ take-length name
-
 module _ (bytes name : List ℕ) (spans : List Span) (span : Span) (from : span.from ≡ length bytes) (to : span.to ≡ length (bytes ++ name)) (are : AreWithin (length bytes) spans) where
   pub still-within : AreWithin (length (bytes ++ name)) (spans ++ span ∷ [])
   still-within =
@@ -46,7 +41,7 @@ module _ (bytes name : List ℕ) (spans : List Span) (span : Span) (from : span.
   pub one-name-more : names_at (bytes ++ name) (spans ++ span ∷ []) ≡ names_at bytes spans ++ name ∷ []
   one-name-more =
       let last-is : name_at (bytes ++ name) span ≡ name =
-      ap (λ (k : ℕ). slice_range (bytes ++ name) k span.to) from ∙ ap (slice_range (bytes ++ name) (length bytes)) to ∙ name-last bytes name in
+      ap (λ (k : ℕ). slice_range (bytes ++ name) k span.to) from ∙ ap (slice_range (bytes ++ name) (length bytes)) to ∙ slice_range-end bytes name in
       map-append (name_at (bytes ++ name)) spans (span ∷ [])
       ∙ ap (λ (ns : List (List ℕ)). ns ++ name_at (bytes ++ name) span ∷ []) (names-on bytes name spans are)
       ∙ ap (λ (n : List ℕ). names_at bytes spans ++ n ∷ []) last-is

@@ -3,9 +3,8 @@ use Rattle.std.proofs.Common.{◌≡◌, ◌∙◌, ◌++◌, ℕ, List, [], ◌
 use Rattle.mz_logic.specs.Declaration.{Declaration}
 use Rattle.mz_logic.specs.LegalLists.{Statement as Marked}
 use Rattle.mz_statements.specs.Statements.{Statement}
-use Rattle.mz_wording.specs.Wording.{sort_name, term_name, sort_names, term_names}
+use Rattle.mz_statements.specs.DeclaredNames.{sort_name, term_name, sort_names, term_names, assertion_name, assertion_names}
 use Rattle.mz_phrasing.specs.Naming.{Naming}
-use Rattle.mz_naming.specs.Names.{assertion_name, assertion_names}
 use Rattle.mz_naming.specs.Accepted.{names_of, AreNamed, NamedStatementsName}
 
 abbrev of-parts : List (List ℕ) → List (List ℕ) → List (List ℕ) → List ℕ → Naming

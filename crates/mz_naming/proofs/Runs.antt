@@ -1,16 +1,11 @@
--- Runs of underscores, and the names of declarations one after another.
-use Rattle.std.proofs.Common.{◌≡◌, ◌∙◌, ◌≤◌, ◌<◌, ◌+◌, ◌++◌, ℕ, zero, suc, max, List, [], ◌∷◌, length, drop, get_or, replicate, refl, sym, ap, add-one, append_assoc, arith}
-use Rattle.std.proofs.lemmas.List.{drop_all, replicate-append-replicate}
+-- The names of declarations, one after another, and the longest run of underscores with which they begin.
+use Rattle.std.proofs.Common.{◌≡◌, ◌∙◌, ◌≤◌, ◌<◌, ◌+◌, ℕ, zero, suc, max, List, [], ◌∷◌, length, drop, get_or, refl, sym, ap, add-one, arith}
+use Rattle.std.proofs.lemmas.List.{drop_all}
 use Rattle.std.proofs.lemmas.Option.{slice_get_past}
 use Rattle.mz_spec.specs.State.{Entry}
 use Rattle.mz_spec_names.specs.Names.{name_at, name_in}
-use Rattle.mz_wording.specs.Wording.{underscores}
-use Rattle.mz_naming.specs.Names.{longest_run, names_from, declared_names}
-
--- one underscore more
-pub underscore-on : (old out new : List ℕ) (n : ℕ) → out ≡ old ++ replicate n 95 → new ≡ out ++ 95 ∷ [] → new ≡ old ++ replicate (n + 1) 95
-underscore-on old out new n so_far added =
-    added ∙ ap (λ o. o ++ 95 ∷ []) so_far ∙ append_assoc old (replicate n 95) (95 ∷ []) ∙ ap (λ t. old ++ t) (replicate-append-replicate n 1 95)
+use Rattle.mz_statements.specs.DeclaredNames.{underscores, longest_run}
+use Rattle.mz_naming.specs.Names.{names_from, declared_names}
 
 drop-more : {A : Type 0} (xs : List A) (k : ℕ) → k < length xs → (x : A) × (drop k xs ≡ x ∷ drop (suc k) xs)
 drop-more [] k lt = absurd (omega (arith, lt))

@@ -21,9 +21,9 @@ use Rattle.mz_spec.specs.State.{Entry}
 use Rattle.mz_spec.specs.Spec.{SpecMakes}
 use Rattle.mz_spec.proofs.Offered.{one-reading}
 use Rattle.mz_spec_names.specs.Names.{name_at}
-use Rattle.mz_wording.specs.Wording.{sort_name, term_name}
+use Rattle.mz_statements.specs.DeclaredNames.{sort_name, term_name, assertion_name, prefix_beside}
 use Rattle.mz_phrasing.specs.Naming.{Naming}
-use Rattle.mz_naming.specs.Names.{assertion_name, prefix_beside, declared_names, statement_names}
+use Rattle.mz_naming.specs.Names.{declared_names, statement_names}
 use Rattle.mz_naming.specs.Accepted.{names_of, naming_by, IsNamingOf}
 use Rattle.mz_naming.specs.Adding.{next_name, as_sort, as_term, as_assertion, IsAdded, AreGathered}
 use Rattle.mz_naming.proofs.Named.{same-naming}

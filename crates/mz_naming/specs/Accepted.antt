@@ -7,9 +7,9 @@ use Rattle.mz_statements.specs.Statements.{Statement}
 use Rattle.mz_spec.specs.State.{Entry}
 use Rattle.mz_spec.specs.Spec.{SpecMakes}
 use Rattle.mz_verdicts.specs.Verdict.{Accepts}
-use Rattle.mz_wording.specs.Wording.{sort_name, term_name}
+use Rattle.mz_statements.specs.DeclaredNames.{sort_name, term_name, assertion_name, prefix_beside}
 use Rattle.mz_phrasing.specs.Naming.{Naming}
-use Rattle.mz_naming.specs.Names.{prefix_beside, declared_names, statement_names, assertion_name, naming_of}
+use Rattle.mz_naming.specs.Names.{declared_names, statement_names, naming_of}
 
 -- the names of the statements of one kind, where each has one of the names
 abbrev pub names_of : (Declaration → List ℕ → List (List ℕ)) → List Marked → List (List ℕ) → List (List ℕ)

@@ -1,22 +1,12 @@
 -- The names of the text that states what a binary proves (this project's own).
-use Rattle.std.specs.Prelude.{ℕ, suc, max, ◌++◌, List, [], ◌∷◌, get_or, replicate, if◌then◌else◌, codes, decimal}
-use Rattle.mz_logic.specs.Declaration.{Declaration, sort_decl, term_decl, assertion_decl}
+use Rattle.std.specs.Prelude.{ℕ, suc, ◌++◌, List, [], ◌∷◌, get_or, if◌then◌else◌, codes, decimal}
 use Rattle.mz_logic.specs.LegalLists.{Statement as Marked}
 use Rattle.mz_statements.specs.Statements.{Statement}
 use Rattle.mz_spec.specs.State.{Entry}
 use Rattle.mz_spec_names.specs.Names.{name_at}
-use Rattle.mz_wording.specs.Wording.{underscores, sort_names, term_names}
+use Rattle.mz_statements.specs.DeclaredNames.{sort_names, term_names, assertion_names}
 use Rattle.mz_phrasing.specs.Phrasing.{Vocabulary}
 use Rattle.mz_phrasing.specs.Naming.{Naming, vocabulary_by}
-
--- the longest run of underscores with which one of these begins
-abbrev pub longest_run : List (List ℕ) → ℕ
-longest_run [] = 0
-longest_run (w ∷ ws) = max (underscores w) (longest_run ws)
-
--- one underscore more: none of these begins with it
-abbrev pub prefix_beside : List (List ℕ) → List ℕ
-prefix_beside names = replicate (suc (longest_run names)) 95
 
 -- the names of a specification's declarations, in order
 abbrev pub names_from : List ℕ → List Entry → ℕ → List Entry → List (List ℕ)
@@ -34,16 +24,6 @@ statement_names names prefix k number (s ∷ ss) =
     if s.is_local
     then (prefix ++ (codes "l" ++ decimal number)) ∷ statement_names names prefix k (suc number) ss
     else get_or names k [] ∷ statement_names names prefix (suc k) (suc number) ss
-
--- the name, where an axiom or theorem is declared
-abbrev pub assertion_name : Declaration → List ℕ → List (List ℕ)
-assertion_name (sort_decl _) name = []
-assertion_name (term_decl _) name = []
-assertion_name (assertion_decl _) name = name ∷ []
-
-abbrev pub assertion_names : List Statement → List (List ℕ)
-assertion_names [] = []
-assertion_names (s ∷ ss) = assertion_name s.decl s.name ++ assertion_names ss
 
 -- the statements' own names, by number
 abbrev pub naming_of : List ℕ → List Statement → Naming

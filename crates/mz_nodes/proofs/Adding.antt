@@ -1,14 +1,15 @@
 -- One more variable, and one more term over expressions.
 use Rattle.std.proofs.Common.{ℕ, zero, suc, ◌≡◌, ◌<◌, ◌≤◌, ◌+◌, Bool, true, false, List, [], ◌∷◌, ◌++◌, length, slice_get, Option, Some, None, refl, ap, sym, ◌∙◌, subst, arith, if◌then◌else◌}
 use Rattle.std.proofs.lemmas.List.{length-append}
-use Rattle.std.proofs.lemmas.Option.{slice_get_within}
+use Rattle.std.proofs.lemmas.Option.{slice_get_within, none-some}
+use Rattle.mz_general.proofs.Offered.{slice_get-last}
 use mir.Val.{bool_byte}
 use Rattle.mz_logic.specs.Signature.{Signature}
-use Rattle.mz_logic.proofs.Offered.{none_some, DepsInside}
+use Rattle.mz_logic.proofs.Offered.{DepsInside}
 use Rattle.mz_store.specs.Bits.{bound_vars}
 use Rattle.mz_store.specs.Nodes.{binder_after, IsVariableWord}
 use Rattle.mz_store.specs.declared.item.DepsMode.{DepsMode}
-use Rattle.mz_store.proofs.Offered.{bound-push, inside-grown}
+use Rattle.mz_store.proofs.Offered.{bound-push, inside-grown, byte-is}
 use Rattle.mz_numbered.specs.Numbered.{Numbered, Operands, a_variable, an_application}
 use Rattle.mz_nodes.specs.Numbering.{Entry, Numbering, expr_of, exprs_of, IsIn, IsMadeBefore, IsOver}
 use Rattle.mz_nodes.specs.Entering.{entered, context_with, expr_with, next_with, numbering_of, no_expressions, IsNewIn}
@@ -29,10 +30,6 @@ pub pushed-kept : (mode : DepsMode) (nodes nodes' : List Node) (n : Node) (count
 pushed-kept mode nodes nodes' n count is kept =
     subst (λ s. IsKept s count nodes') (sym (pushed-view mode nodes nodes' n is)) (subst (λ ns. IsKept (entered (numbering_of mode nodes) n) count ns) (sym is) kept)
 
-last-at : {A : Type 0} (xs : List A) (x : A) → slice_get (xs ++ x ∷ []) (length xs) ≡ Some x
-last-at [] x = refl
-last-at (y ∷ xs) x = last-at xs x
-
 -- ---- the node of an expression
 
 pub node-at : (s : Numbering) (count : ℕ) (nodes : List Node) → IsKept s count nodes → (i : ℕ) → IsIn s i → (n : Node) × (slice_get nodes i ≡ Some n) × Shows s i n
@@ -44,7 +41,7 @@ node-at s count nodes kept i inside = go (slice_get nodes i) refl
       where
         none_past : (ns : List Node) (j : ℕ) → j < length ns → slice_get ns j ≡ None → ⊥
         none_past [] j less nope = omega arith
-        none_past (m ∷ ns) zero less nope = absurd (none_some (sym nope))
+        none_past (m ∷ ns) zero less nope = absurd (none-some _ (sym nope))
         none_past (m ∷ ns) (suc j) less nope = none_past ns j (omega arith) nope
 
 var-app : (x n t : ℕ) (es : Operands) → a_variable x ≡ an_application n t es → ⊥
@@ -78,7 +75,7 @@ variable-kept s count nodes sort deps bound kept word count' count-is =
     small false _ is = omega (arith, kept.small)
 
     form : Forms (entered s n) (length s.entries) (Variable bound)
-    form = (length s.context, binder_after s.context sort deps bound, ap (λ (e : Entry). e.expr) (entry-new s n), last-at s.context (binder_after s.context sort deps bound), refl)
+    form = (length s.context, binder_after s.context sort deps bound, ap (λ (e : Entry). e.expr) (entry-new s n), slice_get-last s.context (binder_after s.context sort deps bound), refl)
 
     fresh : (i : ℕ) → IsIn s i → expr_of s i ≡ a_variable (length s.context) → ⊥
     fresh i in_i same = go (node-at s count nodes kept i in_i)
@@ -125,10 +122,6 @@ application-kept s count nodes n kept new =
     other (Application number head operands) (there, late) i in_i same = later (expr_of s i) number head (exprs_of s operands.items) (kept.before i in_i) late same
 
 -- ---- the calls that add
-
-byte-is : (v : Bool) → bool_byte v ≡ (if v then 1 else 0)
-byte-is true = refl
-byte-is false = refl
 
 pub enter-kept : (mode : DepsMode) (nodes nodes' : List Node) (count sort deps : ℕ) (bound : Bool) (v : Numbering) (m : ℕ)
     → IsKept (numbering_of mode nodes) count nodes → numbering_of mode nodes ≡ v → IsVariableWord (length (bound_vars v.context)) deps bound → m ≡ bool_byte bound

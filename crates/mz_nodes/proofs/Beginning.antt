@@ -1,5 +1,6 @@
 -- Expressions after the variables of a list of words.
 use Rattle.std.proofs.Common.{ℕ, zero, suc, ◌≡◌, ◌<◌, ◌≤◌, ◌+◌, Bool, List, [], ◌∷◌, ◌++◌, length, map, drop, get_or, refl, ap, sym, ◌∙◌, arith, append-nil, append_assoc}
+use Rattle.mz_general.proofs.Offered.{drop-past, length-push}
 use Rattle.mz_logic.specs.Words.{word_sort, word_deps, word_bound, binders_from}
 use Rattle.mz_logic.specs.declared.word.Word.{Word}
 use Rattle.mz_store.specs.Bits.{bound_vars}
@@ -9,7 +10,7 @@ use Rattle.mz_nodes.specs.Numbering.{Entry, Numbering, expr_of}
 use Rattle.mz_nodes.specs.Entering.{entered, entered_all, variable_node}
 use Rattle.mz_nodes.specs.declared.node.Node.{Node}
 use Rattle.mz_nodes.specs.declared.node.Form.TheVariants.{Variable}
-use Rattle.mz_store.proofs.Offered.{context-after, context_after, drop-all, next-word, one-longer}
+use Rattle.mz_store.proofs.Offered.{context-after, context_after, next-word}
 use Rattle.mz_nodes.proofs.Growing.{Begins, entry_with, entry-new, entry-kept, last-in}
 
 pub node-is : (w : Word) (sort deps : ℕ) (bound : Bool) → sort ≡ word_sort w → deps ≡ word_deps w → bound ≡ word_bound w
@@ -23,7 +24,7 @@ pub rest-entered : (s s' : Numbering) (ws : List Word) (i : ℕ) → i < length 
 rest-entered s s' ws i less is = ap (λ t. entered_all t (map variable_node (drop (i + 1) ws))) is ∙ sym (ap (λ vs. entered_all s (map variable_node vs)) (next-word ws i less))
 
 pub all-entered : (s t : Numbering) (ws : List Word) (i : ℕ) → length ws ≤ i → entered_all s (map variable_node (drop i ws)) ≡ t → s ≡ t
-all-entered s t ws i past is = sym (ap (λ vs. entered_all s (map variable_node vs)) (drop-all ws i past)) ∙ is
+all-entered s t ws i past is = sym (ap (λ vs. entered_all s (map variable_node vs)) (drop-past ws i past)) ∙ is
 
 -- ---- what there is then
 
@@ -36,7 +37,7 @@ begun-context s ws = go s ws ∙ context-after s.context ws
 
 pub begun-many : (s : Numbering) (ws : List Word) → length (entered_all s (map variable_node ws)).entries ≡ length s.entries + length ws
 begun-many s [] = omega arith
-begun-many s (w ∷ ws) = begun-many (entered s (variable_node w)) ws ∙ ap (λ m. m + length ws) (one-longer s.entries _) ∙ (let e : suc (length s.entries) + length ws ≡ length s.entries + suc (length ws) = omega arith in e)
+begun-many s (w ∷ ws) = begun-many (entered s (variable_node w)) ws ∙ ap (λ m. m + length ws) (length-push s.entries _) ∙ (let e : suc (length s.entries) + length ws ≡ length s.entries + suc (length ws) = omega arith in e)
 
 all-begins : (s : Numbering) (ns : List Node) → Begins s (entered_all s ns)
 all-begins s [] = ([], sym (append-nil s.entries))
@@ -51,9 +52,9 @@ begun-exprs s (w ∷ ws) zero less =
     (length s.entries) (last-in s (variable_node w)))
     ∙ ap (λ (e : Entry). e.expr) (entry-new s (variable_node w)) ∙ ap a_variable (omega arith)
 begun-exprs s (w ∷ ws) (suc i) less =
-    ap (expr_of (entered_all s (map variable_node (w ∷ ws)))) (let e : length s.entries + suc i ≡ length (entered s (variable_node w)).entries + i = omega (arith, one-longer s.entries (entry_with s (variable_node w))) in e)
+    ap (expr_of (entered_all s (map variable_node (w ∷ ws)))) (let e : length s.entries + suc i ≡ length (entered s (variable_node w)).entries + i = omega (arith, length-push s.entries (entry_with s (variable_node w))) in e)
     ∙ begun-exprs (entered s (variable_node w)) ws i (omega arith)
-    ∙ ap a_variable (omega (arith, one-longer s.context (binder_after s.context (word_sort w) (word_deps w) (word_bound w))))
+    ∙ ap a_variable (omega (arith, length-push s.context (binder_after s.context (word_sort w) (word_deps w) (word_bound w))))
 
 pub begun-next : (s : Numbering) (ws : List Word) → (entered_all s (map variable_node ws)).next ≡ s.next
 begun-next s [] = refl

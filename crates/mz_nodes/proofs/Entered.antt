@@ -1,5 +1,6 @@
 -- The words of expressions stay right when a variable is entered.
 use Rattle.std.proofs.Common.{ℕ, ◌∷◌, [], ◌++◌, Bool, List, length, refl, sym, subst, inl, inr}
+use Rattle.mz_general.proofs.Offered.{slice_get-last}
 use Rattle.mz_logic.specs.Tree.{var}
 use Rattle.mz_logic.specs.Signature.{Signature}
 use Rattle.mz_logic.specs.Variables.{InV}
@@ -8,7 +9,7 @@ use Rattle.mz_logic.proofs.Offered.{Extends, extends_append, DepsInside}
 use Rattle.mz_store.specs.Bits.{Tells, bound_vars}
 use Rattle.mz_store.specs.Nodes.{binder_after, IsVariableWord}
 use Rattle.mz_store.specs.declared.item.DepsMode.TheVariants as of
-use Rattle.mz_store.proofs.Offered.{last-at, tells-longer, told-of-var, tells-variable, adds-past}
+use Rattle.mz_store.proofs.Offered.{tells-longer, told-of-var, tells-variable, adds-past}
 use Rattle.mz_nodes.specs.Numbering.{Numbering, entry_of, by_vars, by_deps, IsRightEntry, IsOver}
 use Rattle.mz_nodes.specs.Entering.{entered}
 use Rattle.mz_nodes.specs.declared.node.Node.{Node}
@@ -23,8 +24,8 @@ over-entered s sort deps bound inside word sigs over i in_i = elim (in-cases s n
     tells-longer of.All sigs s.context ctx' longer (adds-past s.context b) inside (by_vars (entry_of s i)) (over i before).1,
   )
   | inr last ↦ subst (λ j. IsRightEntry s.mode sigs ctx' (entry_of (entered s n) j)) (sym last) (subst (IsRightEntry s.mode sigs ctx') (sym (entry-new s n)) (
-    ((b, last-at s.context b, refl), told-of-var s.mode sigs ctx' (bound_vars ctx') deps (length s.context) its-own),
-    ((b, last-at s.context b, refl), its-own),
+    ((b, slice_get-last s.context b, refl), told-of-var s.mode sigs ctx' (bound_vars ctx') deps (length s.context) its-own),
+    ((b, slice_get-last s.context b, refl), its-own),
   ))
 ]
   where

@@ -1,13 +1,14 @@
 -- Expressions with one more node.
 use Rattle.std.proofs.Common.{ℕ, suc, ◌≡◌, ◌≤◌, ◌+◌, ◌⊎◌, List, [], ◌∷◌, ◌++◌, length, get_or, slice_get, Some, refl, ap, sym, ◌∙◌, subst, inl, inr, arith}
 use Rattle.std.proofs.lemmas.List.{get_or_append_left, length-append}
-use Rattle.std.proofs.lemmas.Option.{slice_get_within}
+use Rattle.std.proofs.lemmas.Option.{slice_get_within, none-some}
 use Rattle.std.proofs.Math.Seq.{get_or-append_seam}
+use Rattle.mz_general.proofs.Offered.{length-push}
 use Rattle.mz_logic.specs.declared.binder.Binder.{Binder}
-use Rattle.mz_logic.proofs.Offered.{none_some, extends_append, split_at, DepsInside}
+use Rattle.mz_logic.proofs.Offered.{extends_append, split_at, DepsInside}
 use Rattle.mz_store.specs.Bits.{bound_vars}
 use Rattle.mz_store.specs.Nodes.{binder_after}
-use Rattle.mz_store.proofs.Offered.{one-longer, only-last}
+use Rattle.mz_store.proofs.Offered.{only-last}
 use Rattle.mz_store.specs.declared.item.Id.{Id}
 use Rattle.mz_numbered.specs.Numbered.{Numbered, a_variable, an_application, one_more}
 use Rattle.mz_nodes.specs.Numbering.{Entry, Numbering, entry_of, expr_of, exprs_of, IsIn, AreIn, IsMadeBefore}
@@ -105,7 +106,7 @@ pub kept-grown : (s : Numbering) (count count' : ℕ) (nodes : List Node) (n : N
     → IsKept (entered s n) count' (nodes ++ n ∷ [])
 kept-grown s count count' nodes n kept counted small form fresh rises inside = record {
   inside = inside;
-  many = one-longer s.entries _ ∙ ap suc kept.many ∙ sym (one-longer nodes n);
+  many = length-push s.entries _ ∙ ap suc kept.many ∙ sym (length-push nodes n);
   count = counted;
   small = small;
   shown = shown;
@@ -157,8 +158,8 @@ kept-empty s nodes no-entries no-context no-nodes = record {
   many = ap length no-entries ∙ sym (ap length no-nodes);
   count = sym (ap (λ (ctx : List Binder). length (bound_vars ctx)) no-context);
   small = omega arith;
-  inside = λ i b at. absurd (none_some (sym (ap (λ (ctx : List Binder). slice_get ctx i) no-context) ∙ at));
-  shown = λ i n at. absurd (none_some (sym (ap (λ (ns : List Node). slice_get ns i) no-nodes) ∙ at));
+  inside = λ i b at. absurd (none-some _ (sym (ap (λ (ctx : List Binder). slice_get ctx i) no-context) ∙ at));
+  shown = λ i n at. absurd (none-some _ (sym (ap (λ (ns : List Node). slice_get ns i) no-nodes) ∙ at));
   before = λ i in_i. absurd (let e : length s.entries ≡ 0 = ap length no-entries in omega arith);
   once = λ i j in_i in_j same. absurd (let e : length s.entries ≡ 0 = ap length no-entries in omega arith);
 }

@@ -1,39 +1,40 @@
 -- One more notation, and clear tables.
 use Rattle.std.proofs.Common.{◌≡◌, ◌<◌, ◌⊎◌, ◌++◌, ◌∙◌, ℕ, List, [], ◌∷◌, length, Some, slice_get, ap, sym, subst, inl, inr, arith, Contains}
 use Rattle.std.proofs.lemmas.Option.{slice_get_within}
+use Rattle.std.proofs.lemmas.List.Elements.{Contains-push, Contains-push_cases, Contains-append_left}
+use Rattle.mz_general.proofs.Offered.{slice_get-last, slice_get-append, place-of, slice_get-push_cases, contains_at}
 use Rattle.mz_notation.specs.Notation.{max_level, fixed, Notation}
 use Rattle.mz_notation.specs.Clear.{HasConstant, LedBy, JoinedBy, IsOne, IsClear}
 use Rattle.mz_notation.specs.Answers.{KeepsLevels, KeepsOwnLevels, GroupsWith, NoOtherLed, NoOtherJoined}
-use Rattle.mz_tokens.proofs.Offered.{at_of, contains_at, contains_first, contains_last, contains_either, place_first, place_last, place_either}
 
 -- ---- one notation a constant
 
 pub one-more : (By : Notation → List ℕ → Type 0) (ks : List Notation) (k : Notation) → IsOne By ks → ((l : Notation) (w : List ℕ) → Contains ks l → By k w → By l w → ⊥) → IsOne By (ks ++ k ∷ [])
-one-more By ks k one other i j a b w at_i at_j by_a by_b = go (place_either ks k i a at_i) (place_either ks k j b at_j)
+one-more By ks k one other i j a b w at_i at_j by_a by_b = go (slice_get-push_cases ks k i a at_i) (slice_get-push_cases ks k j b at_j)
   where
     go : (slice_get ks i ≡ Some a) ⊎ ((i ≡ length ks) × (k ≡ a)) → (slice_get ks j ≡ Some b) ⊎ ((j ≡ length ks) × (k ≡ b)) → i ≡ j
     go (inl x) (inl y) = one i j a b w x y by_a by_b
-    go (inl x) (inr y) = absurd (other a w (contains_at ks a i x) (subst (λ n. By n w) (sym y.1) by_b) by_a)
-    go (inr x) (inl y) = absurd (other b w (contains_at ks b j y) (subst (λ n. By n w) (sym x.1) by_a) by_b)
+    go (inl x) (inr y) = absurd (other a w (contains_at ks i a x) (subst (λ n. By n w) (sym y.1) by_b) by_a)
+    go (inr x) (inl y) = absurd (other b w (contains_at ks j b y) (subst (λ n. By n w) (sym x.1) by_a) by_b)
     go (inr x) (inr y) = x.0 ∙ sym y.0
 
 pub one-first : (By : Notation → List ℕ → Type 0) (ks : List Notation) (k : Notation) → IsOne By (ks ++ k ∷ []) → (l : Notation) (w : List ℕ) → Contains ks l → By k w → By l w → ⊥
 one-first By ks k one l w in_l by_k by_l =
-    let at = at_of ks l in_l in
-    let same : at.0 ≡ length ks = one at.0 (length ks) l k w (place_first ks (k ∷ []) at.0 l at.1) (place_last ks k) by_l by_k in
+    let at = place-of ks l in_l in
+    let same : at.0 ≡ length ks = one at.0 (length ks) l k w (slice_get-append ks (k ∷ []) at.0 l at.1) (slice_get-last ks k) by_l by_k in
     let below : at.0 < length ks = slice_get_within ks at.0 l at.1 in
     absurd (omega arith)
 
 -- ---- levels
 
 pub constant-first : (ks ls : List Notation) (w : List ℕ) (q : ℕ) → HasConstant ks w q → HasConstant (ks ++ ls) w q
-constant-first ks ls w q (k, in_k, at) = (k, contains_first ks ls k in_k, at)
+constant-first ks ls w q (k, in_k, at) = (k, Contains-append_left ks ls k in_k, at)
 
 pub constant-last : (ks : List Notation) (k : Notation) (w : List ℕ) (q : ℕ) → Contains k.elements (fixed w q) → HasConstant (ks ++ k ∷ []) w q
-constant-last ks k w q at = (k, contains_last ks k, at)
+constant-last ks k w q at = (k, Contains-push ks k, at)
 
 pub constant-either : (ks : List Notation) (k : Notation) (w : List ℕ) (q : ℕ) → HasConstant (ks ++ k ∷ []) w q → HasConstant ks w q ⊎ Contains k.elements (fixed w q)
-constant-either ks k w q (l, in_l, at) = elim (contains_either ks k l in_l) [ inl there ↦ inl (l, there, at) | inr same ↦ inr (subst (λ n. Contains n.elements (fixed w q)) (sym same) at) ]
+constant-either ks k w q (l, in_l, at) = elim (Contains-push_cases ks k l in_l) [ inl there ↦ inl (l, there, at) | inr same ↦ inr (subst (λ n. Contains n.elements (fixed w q)) (sym same) at) ]
 
 module _ (ls is : List Notation) (k : Notation) (clear : IsClear ls is) (own : KeepsOwnLevels k.elements) (keeps_l : KeepsLevels k.elements ls) (keeps_i : KeepsLevels k.elements is) where
   abbrev InTable : List ℕ → ℕ → Type 0
@@ -67,7 +68,7 @@ module _ (ls is : List Notation) (k : Notation) (clear : IsClear ls is) (own : K
   }
 
   groups : GroupsWith is k → (a b : Notation) → Contains (is ++ k ∷ []) a → Contains (is ++ k ∷ []) b → a.level ≡ b.level → a.is_right ≡ b.is_right
-  groups with_k a b in_a in_b e = go (contains_either is k a in_a) (contains_either is k b in_b)
+  groups with_k a b in_a in_b e = go (Contains-push_cases is k a in_a) (Contains-push_cases is k b in_b)
     where
       go : Contains is a ⊎ (k ≡ a) → Contains is b ⊎ (k ≡ b) → a.is_right ≡ b.is_right
       go (inl x) (inl y) = clear.groups a b x y e
@@ -81,7 +82,7 @@ module _ (ls is : List Notation) (k : Notation) (clear : IsClear ls is) (own : K
     levels = λ w q p first second. one-level w q p (in-infixes w q first) (in-infixes w p second);
     led = clear.led;
     joined = one-more JoinedBy is k clear.joined other;
-    not_max = λ l in_l. elim (contains_either is k l in_l) [ inl there ↦ clear.not_max l there | inr same ↦ subst (λ n. n.level < max_level) same less ];
+    not_max = λ l in_l. elim (Contains-push_cases is k l in_l) [ inl there ↦ clear.not_max l there | inr same ↦ subst (λ n. n.level < max_level) same less ];
   }
 
 -- ---- back
@@ -108,7 +109,7 @@ module _ (ls is : List Notation) (k : Notation) where
   infix-other clear = one-first JoinedBy is k clear.joined
 
   pub infix-groups : IsClear ls (is ++ k ∷ []) → GroupsWith is k
-  infix-groups clear l in_l e = clear.groups l k (contains_first is (k ∷ []) l in_l) (contains_last is k) e
+  infix-groups clear l in_l e = clear.groups l k (Contains-append_left is (k ∷ []) l in_l) (Contains-push is k) e
 
   pub infix-level : IsClear ls (is ++ k ∷ []) → k.level < max_level
-  infix-level clear = clear.not_max k (contains_last is k)
+  infix-level clear = clear.not_max k (Contains-push is k)

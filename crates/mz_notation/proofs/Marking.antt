@@ -1,10 +1,9 @@
 -- Parameters that are marked where they are named, so that none is marked twice and all are in the end.
-use Rattle.std.proofs.Common.{◌≡◌, ◌∙◌, ◌<◌, ◌≤◌, ◌+◌, ℕ, zero, suc, List, [], ◌∷◌, length, Bool, true, false, get_or, slice_set, drop, drop-cons, replicate, add-one, ap, ap₂, sym, refl, inl, inr, arith}
+use Rattle.std.proofs.Common.{◌≡◌, ◌∙◌, ◌<◌, ◌≤◌, ◌+◌, ℕ, List, [], ◌∷◌, length, Bool, true, false, get_or, slice_set, drop, drop-cons, add-one, ap, ap₂, sym, refl, inl, inr, arith}
 use Rattle.std.specs.Prelude.{◌==◌, if◌then◌else◌}
 use Rattle.std.proofs.lemmas.Bool.Decides.{eqb_tells}
 use Rattle.std.proofs.lemmas.List.{drop_all, get_or-set_same, get_or-set_other}
 use Rattle.std.proofs.lemmas.List.Sums.{sum_by-cons}
-use Rattle.mz_notation.specs.Forms.{EachOnce}
 use Rattle.mz_notation.specs.Notation.{Element, fixed, slot, places}
 use Rattle.mz_notation.specs.Once.{one_if, times}
 
@@ -13,7 +12,7 @@ use Rattle.mz_notation.specs.Once.{one_if, times}
 plus-none : (n : ℕ) (b : Bool) → b ≡ false → n ≡ n + one_if b
 plus-none n b is = let e : n ≡ n + 0 = omega arith in e ∙ ap (λ c. n + one_if c) (sym is)
 
-apart : (j i : ℕ) → (j ≡ i → ⊥) → (j == i) ≡ false
+pub apart : (j i : ℕ) → (j ≡ i → ⊥) → (j == i) ≡ false
 apart j i differ = elim (eqb_tells j i) [ inl same ↦ absurd (differ same.1) | inr differs ↦ differs.0 ]
 
 -- at a place past the end no mark changes
@@ -68,8 +67,3 @@ module _ (es : List Element) (k : ℕ) (done : length es ≤ k) (i : ℕ) (b : B
       go : (c : Bool) → one_if c ≡ 1 → c ≡ true
       go true one = refl
       go false one = absurd (omega (arith, one))
-
-pub none-set : (n i : ℕ) → get_or (replicate n false) i false ≡ false
-none-set zero i = refl
-none-set (suc n) zero = refl
-none-set (suc n) (suc i) = none-set n i

@@ -1,20 +1,21 @@
 -- Whether a variable or a term has a name.
-use Rattle.std.proofs.Common.{◌≡◌, ◌≢◌, ◌∙◌, ◌↔◌, ◌⊎◌, ◌<◌, ◌++◌, ◌∷◌, ℕ, zero, suc, List, [], Bool, true, false, Some, None, Option, slice_get, ap, sym, refl, subst, inl, inr, arith, Contains, map}
+use Rattle.std.proofs.Common.{◌≡◌, ◌≢◌, ◌∙◌, ◌↔◌, ◌⊎◌, ◌++◌, ◌∷◌, ℕ, zero, suc, List, [], Bool, true, false, Some, None, Option, slice_get, ap, sym, refl, subst, inl, inr, arith, Contains}
 use Rattle.std.specs.Prelude.{IsTrue, MatchOption, bytes_eq, if◌then◌else◌}
 use Rattle.std.specs.Bool.{Decides}
 use Rattle.std.specs.Map.{lookup}
 use Rattle.std.specs.Option.{is_some}
 use Rattle.std.proofs.lemmas.Bool.{false_from_ne_true, true≢false}
 use Rattle.std.proofs.lemmas.Slice.Eq.{bytes_eq-Decides}
+use Rattle.std.proofs.lemmas.List.Elements.{Contains-push_cases}
+use Rattle.mz_general.proofs.Offered.{contains_at}
 use Rattle.indexmap.specs.IndexMap.{insert_entry}
-use Rattle.mz_tokens.proofs.Offered.{contains_at, contains_either}
 use Rattle.mz_notation.specs.Notation.{TermName}
 use Rattle.mz_notation.specs.Names.{AreOnce, IsFoundAs, all_named, name_with}
 
 pub named-decides : (names : List (List ℕ)) (w : List ℕ) (o : Option ℕ) → MatchOption o (w ≢ [] → Contains names w → ⊥) (λ x. (w ≢ []) × (slice_get names x ≡ Some w)) → (b : Bool) → b ≡ is_some o
     → IsTrue b ↔ ((w ≢ []) × Contains names w)
 named-decides names w None m b e = (λ t. absurd (true≢false (sym t ∙ e)), λ h. absurd (m h.0 h.1))
-named-decides names w (Some x) (some, at) b e = (λ t. (some, contains_at names w x at), λ h. e)
+named-decides names w (Some x) (some, at) b e = (λ t. (some, contains_at names x w at), λ h. e)
 
 pub found-decides : (names : List TermName) (w : List ℕ) (o : Option ℕ) → MatchOption o ((n : TermName) → Contains names n → n.name ≡ w → ⊥) (λ t. (n : TermName) × IsFoundAs names w n × (n.term ≡ t)) → (b : Bool) → b ≡ is_some o
     → IsTrue b ↔ ((n : TermName) × Contains names n × (n.name ≡ w))
@@ -82,7 +83,7 @@ module _ {K : Type 0} (f : K → List ℕ) where
       later n (j, below, is) = (suc j, omega (arith, below), is)
 
 pub once-more : (ns : List TermName) (n : TermName) → AreOnce ns → ((m : TermName) → Contains ns m → m.name ≡ n.name → ⊥) → AreOnce (ns ++ n ∷ [])
-once-more ns n once new a b in_a in_b = go (contains_either ns n a in_a) (contains_either ns n b in_b)
+once-more ns n once new a b in_a in_b = go (Contains-push_cases ns n a in_a) (Contains-push_cases ns n b in_b)
   where
     go : Contains ns a ⊎ (n ≡ a) → Contains ns b ⊎ (n ≡ b) → a.name ≡ b.name → a ≡ b
     go (inl x) (inl y) e = once a b x y e

@@ -4,15 +4,14 @@ use Rattle.std.specs.Prelude.{◌==◌, bytes_eq, if◌then◌else◌}
 use Rattle.std.specs.Bool.{Decides}
 use Rattle.std.proofs.lemmas.Bool.{true≢false}
 use Rattle.std.proofs.lemmas.Bool.Decides.{eqb_tells}
-use Rattle.std.proofs.lemmas.Option.{slice_get_within, slice_get-get_or}
+use Rattle.std.proofs.lemmas.Option.{slice_get_within, slice_get-get_or, same_Some, none-some}
 use Rattle.std.proofs.lemmas.Slice.Eq.{bytes_eq-Decides}
+use Rattle.mz_general.proofs.Offered.{place-of}
 use Rattle.mz_tokens.specs.Places.{place_of}
-use Rattle.mz_tokens.proofs.Offered.{at_of}
 use Rattle.mz_notation.specs.Answers.{KeepsOwnLevels}
 use Rattle.mz_notation.specs.Levels.{IsLevelNoted}
 use Rattle.mz_notation.specs.Notation.{Element, fixed, slot}
 use Rattle.mz_notation.proofs.Constants.{fixed-same}
-use Rattle.mz_notation.proofs.Tables.{none-some, some-same}
 
 -- ---- one constant
 
@@ -31,8 +30,8 @@ module _ (old : List (List ℕ × ℕ)) (w : List ℕ) (q : ℕ) where
     where
       go : (b : Bool) → Decides b (w ≡ v) → place_of new v ≡ (if b then Some q else place_of old v) → (place_of new v ≡ Some p) ↔ ((place_of old v ≡ Some p) ⊎ (fixed w q ≡ fixed v p))
       go true tells is = (
-        λ h. inr (ap₂ fixed (tells.0 refl) (some-same (sym is ∙ h))),
-        λ h. elim h [ inl there ↦ absurd (none-some (sym none ∙ ap (place_of old) (tells.0 refl) ∙ there)) | inr same ↦ is ∙ ap Some (fixed-same same).1 ],
+        λ h. inr (ap₂ fixed (tells.0 refl) (same_Some _ _ (sym is ∙ h))),
+        λ h. elim h [ inl there ↦ absurd (none-some _ (sym none ∙ ap (place_of old) (tells.0 refl) ∙ there)) | inr same ↦ is ∙ ap Some (fixed-same same).1 ],
       )
       go false tells is = (λ h. inl (sym is ∙ h), λ h. elim h [ inl there ↦ is ∙ there | inr same ↦ absurd (true≢false (sym (tells.1 (fixed-same same).0))) ])
 
@@ -51,7 +50,7 @@ AreNoted levels es k = ((w : List ℕ) (q : ℕ) → place_of levels w ≡ Some 
     × ((i : ℕ) → i < k → (w : List ℕ) (q : ℕ) → slice_get es i ≡ Some (fixed w q) → place_of levels w ≡ Some q)
 
 pub none-noted : (levels : List (List ℕ × ℕ)) (es : List Element) → levels ≡ [] → AreNoted levels es 0
-none-noted levels es is = (λ w q at. absurd (none-some (sym (ap (λ ps. place_of ps w) is) ∙ at)), λ i below w q at. absurd (omega (arith, below)))
+none-noted levels es is = (λ w q at. absurd (none-some _ (sym (ap (λ ps. place_of ps w) is) ∙ at)), λ i below w q at. absurd (omega (arith, below)))
 
 module _ (es : List Element) (k : ℕ) (e : Element) (within : k < length es) (item : e ≡ get_or es k e) (old new : List (List ℕ × ℕ)) where
   here : slice_get es k ≡ Some e
@@ -68,7 +67,7 @@ module _ (es : List Element) (k : ℕ) (e : Element) (within : k < length es) (i
     where
       seen : (i : ℕ) → i < k + 1 → (w : List ℕ) (q : ℕ) → slice_get es i ≡ Some (fixed w q) → (place_of old w ≡ Some q) ⊎ (e ≡ fixed w q)
       seen i below w q at = elim (eq-or-lt_of_le (let le : i ≤ k = omega (arith, below) in le)) [
-        | inl last ↦ inr (some-same (sym here ∙ ap (slice_get es) (sym last) ∙ at))
+        | inl last ↦ inr (same_Some _ _ (sym here ∙ ap (slice_get es) (sym last) ∙ at))
         | inr before ↦ inl (back i before w q at)
       ]
 
@@ -77,9 +76,9 @@ module _ (es : List Element) (k : ℕ) (e : Element) (within : k < length es) (i
 
 pub all-noted : (levels : List (List ℕ × ℕ)) (es : List Element) (k : ℕ) → length es ≤ k → AreNoted levels es k → KeepsOwnLevels es
 all-noted levels es k done (forth, back) w q p one other =
-    let (i, at) = at_of es (fixed w q) one in
-    let (j, there) = at_of es (fixed w p) other in
-    some-same (sym (back j (early j (fixed w p) there) w p there) ∙ back i (early i (fixed w q) at) w q at)
+    let (i, at) = place-of es (fixed w q) one in
+    let (j, there) = place-of es (fixed w p) other in
+    same_Some _ _ (sym (back j (early j (fixed w p) there) w p there) ∙ back i (early i (fixed w q) at) w q at)
   where
     early : (i : ℕ) (e : Element) → slice_get es i ≡ Some e → i < k
     early i e at = let below = slice_get_within es i e at in omega (arith, below, done)

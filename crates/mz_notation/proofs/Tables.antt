@@ -1,6 +1,9 @@
 -- Tables: what each statement keeps of them.
 use Rattle.std.proofs.Common.{◌≡◌, ◌≢◌, ◌⊎◌, ◌++◌, ◌∙◌, ℕ, zero, suc, List, [], ◌∷◌, length, Bool, true, false, Some, None, Option, slice_get, ap, ap₂, sym, refl, subst, inl, inr, arith, Contains, Result, Ok, Err}
 use Rattle.std.specs.Prelude.{codes, IsTrue, MatchBool, slice_range, ◌+◌, IsErrAnd, OnOk, OnErr, if◌then◌else◌}
+use Rattle.std.proofs.lemmas.Option.{same_Some, none-some}
+use Rattle.std.proofs.lemmas.List.Elements.{Contains-push_cases}
+use Rattle.mz_general.proofs.Offered.{contains_none, same-head, slice_get-push_cases, contains_at}
 use Rattle.mz_names.specs.Identifiers.{is_name}
 use Rattle.mz_logic.specs.Signature.{Signature}
 use Rattle.mz_tokens.specs.Pieces.{piece_text, no_delimiters, AreDelimiters}
@@ -15,43 +18,31 @@ use Rattle.mz_notation.specs.declared.table.NoteFault.TheVariants as faults
 use Rattle.mz_notation.specs.Answers.{IsShaped, IsAdded, IsMade, IsClearTable}
 use Rattle.mz_notation.proofs.Constants.{fixed-same}
 use Rattle.mz_notation.proofs.Clearing.{constant-either}
-use Rattle.mz_tokens.proofs.Offered.{pieces-one, contains_either, contains_at, place_either}
-
-no-member : {A : Type 0} {x : A} → Contains [] x → ⊥
-no-member (k, below, is) = absurd (omega (arith, below))
-
-pub none-some : {A : Type 0} {x : A} → None ≡ Some x → ⊥
-none-some e = cc
-
-pub some-same : {A : Type 0} {x y : A} → Some x ≡ Some y → x ≡ y
-some-same e = cc
-
-cons-same : {A : Type 0} {x y : A} {xs ys : List A} → x ∷ xs ≡ y ∷ ys → x ≡ y
-cons-same e = cc
+use Rattle.mz_tokens.proofs.Offered.{pieces-one}
 
 -- ---- the empty table
 
 pub empty-is : IsTable empty_table
 empty-is = record {
   clear = record {
-    groups = λ k l in_k in_l e. absurd (no-member in_k);
-    levels = λ w q p first second. elim first [ inl h ↦ absurd (no-member h.1) | inr h ↦ absurd (no-member h.1) ];
-    led = λ i j k l w at there by_k by_l. absurd (none-some at);
-    joined = λ i j k l w at there by_k by_l. absurd (none-some at);
-    not_max = λ k in_k. absurd (no-member in_k);
+    groups = λ k l in_k in_l e. absurd (contains_none _ in_k);
+    levels = λ w q p first second. elim first [ inl h ↦ absurd (contains_none _ h.1) | inr h ↦ absurd (contains_none _ h.1) ];
+    led = λ i j k l w at there by_k by_l. absurd (none-some _ at);
+    joined = λ i j k l w at there by_k by_l. absurd (none-some _ at);
+    not_max = λ k in_k. absurd (contains_none _ in_k);
   };
-  led = λ k in_k. absurd (no-member in_k);
-  joined = λ k in_k. absurd (no-member in_k);
-  no_parentheses = λ w q has. elim has [ inl h ↦ absurd (no-member h.1) | inr h ↦ absurd (no-member h.1) ];
-  one_term_each = λ a b in_a in_b e. absurd (no-member in_a);
-  identifiers = λ a in_a. absurd (no-member in_a);
+  led = λ k in_k. absurd (contains_none _ in_k);
+  joined = λ k in_k. absurd (contains_none _ in_k);
+  no_parentheses = λ w q has. elim has [ inl h ↦ absurd (contains_none _ h.1) | inr h ↦ absurd (contains_none _ h.1) ];
+  one_term_each = λ a b in_a in_b e. absurd (contains_none _ in_a);
+  identifiers = λ a in_a. absurd (contains_none _ in_a);
   one_path = alone;
 }
   where
     alone : OnePath []
     alone s to [] [] on other = refl
-    alone s to [] (q ∷ path) on (c, at, begins, rest) = absurd (none-some at)
-    alone s to (p ∷ path) other (c, at, begins, rest) on = absurd (none-some at)
+    alone s to [] (q ∷ path) on (c, at, begins, rest) = absurd (none-some _ at)
+    alone s to (p ∷ path) other (c, at, begins, rest) on = absurd (none-some _ at)
 
 -- ---- one more notation
 
@@ -59,7 +50,7 @@ module _ (t : Table) (k : Notation) (is : IsTable t) (no_paren : (w : List ℕ) 
   pub leading-is : IsClearTable (with_leading t k) → (w : List ℕ) × LedBy k w → IsTable (with_leading t k)
   leading-is clear led = record {
     clear = clear;
-    led = λ l in_l. elim (contains_either t.leading k l in_l) [ inl there ↦ is.led l there | inr same ↦ subst (λ n. (w : List ℕ) × LedBy n w) same led ];
+    led = λ l in_l. elim (Contains-push_cases t.leading k l in_l) [ inl there ↦ is.led l there | inr same ↦ subst (λ n. (w : List ℕ) × LedBy n w) same led ];
     joined = is.joined;
     no_parentheses = λ w q has. go w q has;
     one_term_each = is.one_term_each;
@@ -75,7 +66,7 @@ module _ (t : Table) (k : Notation) (is : IsTable t) (no_paren : (w : List ℕ) 
   infix-is clear joined = record {
     clear = clear;
     led = is.led;
-    joined = λ l in_l. elim (contains_either t.infixes k l in_l) [ inl there ↦ is.joined l there | inr same ↦ subst (λ n. (w : List ℕ) × JoinedBy n w) same joined ];
+    joined = λ l in_l. elim (Contains-push_cases t.infixes k l in_l) [ inl there ↦ is.joined l there | inr same ↦ subst (λ n. (w : List ℕ) × JoinedBy n w) same joined ];
     no_parentheses = λ w q has. go w q has;
     one_term_each = is.one_term_each;
     identifiers = is.identifiers;
@@ -92,8 +83,8 @@ name-is t n is ident other = record {
   led = is.led;
   joined = is.joined;
   no_parentheses = is.no_parentheses;
-  one_term_each = λ a b in_a in_b e. go a b (contains_either t.names n a in_a) (contains_either t.names n b in_b) e;
-  identifiers = λ a in_a. elim (contains_either t.names n a in_a) [ inl there ↦ is.identifiers a there | inr same ↦ subst (λ m. IsTrue (is_name m.name)) same ident ];
+  one_term_each = λ a b in_a in_b e. go a b (Contains-push_cases t.names n a in_a) (Contains-push_cases t.names n b in_b) e;
+  identifiers = λ a in_a. elim (Contains-push_cases t.names n a in_a) [ inl there ↦ is.identifiers a there | inr same ↦ subst (λ m. IsTrue (is_name m.name)) same ident ];
   one_path = is.one_path;
 }
   where
@@ -112,7 +103,7 @@ delimiters-is t d is = record { clear = is.clear; led = is.led; joined = is.join
 -- ---- a statement makes one notation at most
 
 pub constant-one : (d : Delimiters) (text v w : List ℕ) → IsConstant d text v → IsConstant d text w → v ≡ w
-constant-one d text v w (p, all, is, o, c) (q, all_q, is_q, o', c') = is ∙ ap (piece_text text) (cons-same (pieces-one d text 0 (p ∷ []) (q ∷ []) all all_q)) ∙ sym is_q
+constant-one d text v w (p, all, is, o, c) (q, all_q, is_q, o', c') = is ∙ ap (piece_text text) (same-head (pieces-one d text 0 (p ∷ []) (q ∷ []) all all_q)) ∙ sym is_q
 
 pub infix-one : (sigs : List Signature) (d : Delimiters) (term : ℕ) (text : List ℕ) (level : Option ℕ) (right : Bool) (k l : Notation) → IsInfix sigs d term text level right k → IsInfix sigs d term text level right l → k ≡ l
 infix-one sigs d term text level right k l (w, s, con, at, many, is) (v, r, con_v, at_r, many_r, is_l) =
@@ -120,7 +111,7 @@ infix-one sigs d term text level right k l (w, s, con, at, many, is) (v, r, con_
 
 pub prefix-one : (sigs : List Signature) (d : Delimiters) (term : ℕ) (text : List ℕ) (level : Option ℕ) (k l : Notation) → IsPrefix sigs d term text level k → IsPrefix sigs d term text level l → k ≡ l
 prefix-one sigs d term text level k l (w, s, con, at, is) (v, r, con_v, at_r, is_l) =
-    let same : s ≡ r = some-same (sym at ∙ at_r) in
+    let same : s ≡ r = same_Some _ _ (sym at ∙ at_r) in
     is ∙ ap₂ (λ x y. prefixed term (length y.params) x (level_of level)) (constant-one d text w v con con_v) same ∙ sym is_l
 
 pub element-one : (d : Delimiters) (names : List (List ℕ)) → AreDistinct names → (text : List ℕ) (l : Literal) (e f : Element) → IsElement d names text l e → IsElement d names text l f → e ≡ f
@@ -174,7 +165,7 @@ slot-fixed : {i q : ℕ} {w : List ℕ} → slot i ≡ fixed w q → ⊥
 slot-fixed e = cc
 
 slots-free : (from n : ℕ) (w : List ℕ) (q : ℕ) → Contains (slots from n) (fixed w q) → ⊥
-slots-free from zero w q has = no-member has
+slots-free from zero w q has = contains_none _ has
 slots-free from (suc n) w q (zero, below, e) = slot-fixed e
 slots-free from (suc n) w q (suc k, below, e) = slots-free (from + 1) n w q (k, omega (arith, below), e)
 
@@ -187,7 +178,7 @@ prefix-shaped sigs d term text level k (w, s, (p, all, is_w, no_open, no_close),
 
 elements-plain : (d : Delimiters) (names : List (List ℕ)) (text : List ℕ) (ls : List Literal) (es : List Element) → AreElements d names text ls es
     → (v : List ℕ) (q : ℕ) → Contains es (fixed v q) → (v ≢ codes "(") × (v ≢ codes ")")
-elements-plain d names text [] [] are v q has = absurd (no-member has)
+elements-plain d names text [] [] are v q has = absurd (contains_none _ has)
 elements-plain d names text [] (e ∷ es) are v q has = absurd are
 elements-plain d names text (l ∷ ls) [] are v q has = absurd are
 elements-plain d names text (l ∷ ls) (e ∷ es) (here, rest) v q (suc n, below, is) = elements-plain d names text ls es rest v q (n, omega (arith, below), is)
@@ -288,14 +279,14 @@ delimiter-answer A left right faults.CoercionClash never = absurd never
 
 pub variables-more : (names : List (List ℕ)) (w : List ℕ) → AreVariables names → (w ≡ []) ⊎ IsTrue (is_name w) → (w ≢ [] → Contains names w → ⊥) → AreVariables (names ++ w ∷ [])
 variables-more names w vs ident other = record {
-  distinct = λ i j v some at_i at_j. go i j v some (place_either names w i v at_i) (place_either names w j v at_j);
-  identifiers = λ v some has. elim (contains_either names w v has) [ inl there ↦ vs.identifiers v some there | inr same ↦ last v some same ident ];
+  distinct = λ i j v some at_i at_j. go i j v some (slice_get-push_cases names w i v at_i) (slice_get-push_cases names w j v at_j);
+  identifiers = λ v some has. elim (Contains-push_cases names w v has) [ inl there ↦ vs.identifiers v some there | inr same ↦ last v some same ident ];
 }
   where
     go : (i j : ℕ) (v : List ℕ) → v ≢ [] → (slice_get names i ≡ Some v) ⊎ ((i ≡ length names) × (w ≡ v)) → (slice_get names j ≡ Some v) ⊎ ((j ≡ length names) × (w ≡ v)) → i ≡ j
     go i j v some (inl a) (inl b) = vs.distinct i j v some a b
-    go i j v some (inl a) (inr b) = absurd (other (λ e. some (sym b.1 ∙ e)) (subst (Contains names) (sym b.1) (contains_at names v i a)))
-    go i j v some (inr a) (inl b) = absurd (other (λ e. some (sym a.1 ∙ e)) (subst (Contains names) (sym a.1) (contains_at names v j b)))
+    go i j v some (inl a) (inr b) = absurd (other (λ e. some (sym b.1 ∙ e)) (subst (Contains names) (sym b.1) (contains_at names i v a)))
+    go i j v some (inr a) (inl b) = absurd (other (λ e. some (sym a.1 ∙ e)) (subst (Contains names) (sym a.1) (contains_at names j v b)))
     go i j v some (inr a) (inr b) = a.0 ∙ sym b.0
 
     last : (v : List ℕ) → v ≢ [] → w ≡ v → (w ≡ []) ⊎ IsTrue (is_name w) → IsTrue (is_name v)

@@ -1,6 +1,7 @@
 -- Where no application is made by two commands, numbers can be given to trees, and what runs over trees runs by address.
 use Rattle.std.proofs.Common.{◌≡◌, ℕ, zero, suc, ◌+◌, Bool, true, false, cond, List, [], ◌∷◌, ◌++◌, length, drop, map, Option, Some, None, Result, Ok, Err, refl, sym, ap, ap₂, subst, ◌∙◌}
 use Rattle.std.specs.Prelude.{slice_get}
+use Rattle.std.proofs.lemmas.Option.{same_Some}
 use Rattle.mz_cmd.specs.declared.rule.K.{K}
 use Rattle.mz_cmd.specs.declared.command.Cmd.{Cmd}
 use Rattle.mz_cmd.specs.declared.command.CmdFault.{CmdFault}
@@ -118,9 +119,6 @@ abbrev number_in : List (ℕ × Tree) → Tree → ℕ
 number_in [] e = 0
 number_in (m ∷ made) e = cond (same_tree m.1 e) m.0 (number_in made e)
 
-entry-is : {A : Type 0} (x y : A) → Some x ≡ Some y → x ≡ y
-entry-is x y e = cc
-
 -- it is one of its places
 abbrev Found : List (ℕ × Tree) → Tree → Type 0
 Found made e = (j : ℕ) × (q : ℕ) × (slice_get made j ≡ Some (q, e)) × (number_in made e ≡ q)
@@ -128,7 +126,7 @@ Found made e = (j : ℕ) × (q : ℕ) × (slice_get made j ≡ Some (q, e)) × (
 found-by : (m : ℕ × Tree) (made : List (ℕ × Tree)) (e : Tree) (b : Bool) → same_tree m.1 e ≡ b → (i p : ℕ) → slice_get (m ∷ made) i ≡ Some (p, e)
     → ((i : ℕ) → slice_get made i ≡ Some (p, e) → Found made e) → Found (m ∷ made) e
 found-by m made e true is i p at later = (0, m.0, ap (λ (z : Tree). Some (m.0, z)) (same_tree-true m.1 e is), ap (λ (c : Bool). cond c m.0 (number_in made e)) is)
-found-by m made e false is zero p at later = absurd (let self : same_tree m.1 e ≡ true = ap (λ (z : ℕ × Tree). same_tree z.1 e) (entry-is m (p, e) at) ∙ same_tree-refl e in cc)
+found-by m made e false is zero p at later = absurd (let self : same_tree m.1 e ≡ true = ap (λ (z : ℕ × Tree). same_tree z.1 e) (same_Some m (p, e) at) ∙ same_tree-refl e in cc)
 found-by m made e false is (suc i) p at later =
     let (j, q, there, number) = later i at in
     (suc j, q, there, ap (λ (c : Bool). cond c m.0 (number_in made e)) is ∙ number)

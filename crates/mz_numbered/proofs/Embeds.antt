@@ -1,7 +1,7 @@
 -- One machine's expressions as another's: so that what the one lets through the other does.
 use Rattle.std.proofs.Common.{◌≡◌, ℕ, Bool, true, false, cond, List, [], ◌∷◌, map, Option, Some, None, refl, ap, ap₂, ◌∙◌}
-use Rattle.std.specs.Prelude.{slice_get, option_map, ◌==◌}
-use Rattle.std.proofs.lemmas.Option.{slice_get-map}
+use Rattle.std.specs.Prelude.{◌==◌}
+use Rattle.std.proofs.lemmas.Option.{same_Some}
 use Rattle.mz_logic.specs.Tree.{Tree}
 use Rattle.mz_unification.specs.Profile.{Profile}
 use Rattle.mz_unification.specs.UnifyMachine.{operands_of}
@@ -18,19 +18,13 @@ pub record Embeds (P Q : Profile) (f : P.T → Q.T) (Right : ℕ → P.T → Typ
   pub gaps_too : P.gaps ≡ true → Q.gaps ≡ true
   pub asks_less : Q.portable ≡ true → P.portable ≡ true
 
-pub get-mapped : {A B : Type 0} (f : A → B) (xs : List A) (i : ℕ) (x : A) → slice_get xs i ≡ Some x → slice_get (map f xs) i ≡ Some (f x)
-get-mapped f xs i x at = slice_get-map f xs i ∙ ap (option_map f) at
-
-some-is : {A : Type 0} (x y : A) → Some x ≡ Some y → x ≡ y
-some-is x y e = cc
-
 module _ (P Q : Profile) (f : P.T → Q.T) (Right : ℕ → P.T → Type 0) (embeds : Embeds P Q f Right) where
   pub trees-same : (es : List P.T) → map Q.tree (map f es) ≡ map P.tree es
   trees-same [] = refl
   trees-same (e ∷ es) = ap₂ (λ (x : Tree) (xs : List Tree). x ∷ xs) (embeds.tree_is e) (trees-same es)
 
   taken-operands : (b : Bool) (es fs : List P.T) → cond b (Some es) None ≡ Some fs → cond b (Some (map f es)) None ≡ Some (map f fs)
-  taken-operands true es fs e = ap (λ (z : List P.T). Some (map f z)) (some-is es fs e)
+  taken-operands true es fs e = ap (λ (z : List P.T). Some (map f z)) (same_Some es fs e)
   taken-operands false es fs e = absurd cc
 
   operands-mapped : (t : ℕ) (o : Option (ℕ × List P.T)) (q : Option (ℕ × List Q.T)) (es : List P.T) → ((p : ℕ × List P.T) → o ≡ Some p → q ≡ Some (p.0, map f p.1))
@@ -45,7 +39,7 @@ module _ (P Q : Profile) (f : P.T → Q.T) (Right : ℕ → P.T → Type 0) (emb
   both_onto z = (map f z.0, map f z.1)
 
   taken-both : (b : Bool) (es fs : List P.T) (z : List P.T × List P.T) → cond b (Some (es, fs)) None ≡ Some z → cond b (Some (map f es, map f fs)) None ≡ Some (both_onto z)
-  taken-both true es fs z e = ap (λ (w : List P.T × List P.T). Some (both_onto w)) (some-is (es, fs) z e)
+  taken-both true es fs z e = ap (λ (w : List P.T × List P.T). Some (both_onto w)) (same_Some (es, fs) z e)
   taken-both false es fs z e = absurd cc
 
   both-mapped : (o o' : Option (ℕ × List P.T)) (q q' : Option (ℕ × List Q.T)) (z : List P.T × List P.T)

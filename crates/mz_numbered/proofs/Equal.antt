@@ -2,7 +2,7 @@
 use Rattle.std.proofs.Common.{◌≡◌, true, eqb, refl, sym, ap, ◌∙◌, eq-eqb}
 use Rattle.std.specs.Prelude.{◌&&◌}
 use Rattle.std.proofs.lemmas.Bool.{eqb-true}
-use Rattle.mz_unification.proofs.Offered.{both-true}
+use Rattle.mz_general.proofs.Offered.{both-true}
 use Rattle.mz_numbered.specs.Numbered.{Numbered, Operands, a_variable, an_application, no_more, one_more, equal, all_equal}
 use Rattle.mz_numbered.specs.Laws.{EqualIsSame}
 

@@ -2,6 +2,7 @@
 use Rattle.std.proofs.Common.{◌≡◌, ℕ, zero, suc, Bool, true, false, not, cond, List, [], ◌∷◌, ◌++◌, length, map, Ok, Err, refl, ap, ap₂, ◌∙◌}
 use Rattle.std.specs.Prelude.{⊤, slice_get, nat_le, nat_lt, ◌&&◌, ◌==◌}
 use Rattle.std.proofs.lemmas.List.{map-append, length-map}
+use Rattle.mz_general.proofs.Offered.{both-true, slice_get-map_at}
 use Rattle.mz_cmd.specs.declared.rule.K.TheVariants as k
 use Rattle.mz_cmd.specs.declared.code.ProofCode.{ProofCode}
 use Rattle.mz_cmd.specs.declared.code.ProofCode.TheVariants as code
@@ -12,13 +13,12 @@ use Rattle.mz_unification.specs.Steps.{◌>>=◌}
 use Rattle.mz_unification.specs.Spells.{dummy_of}
 use Rattle.mz_unification.specs.Profile.{Profile, Item, expr, proof, obligation, conversion}
 use Rattle.mz_unification.specs.UnifyMachine.{in_citation, in_definition, Matching, UnifyState, unify}
-use Rattle.mz_unification.proofs.Offered.{both-true}
 use Rattle.mz_soundness.specs.MachineState.{RowsBefore, signatures_in, State}
 use Rattle.mz_soundness.specs.Premises.{pop, pop_expr, pop_proof, pop_obligation, pop_conversion, pop_exprs, pop_operands, pop_sides, is_conversion, is_obligation, may_be_dummy_sort, is_provable_sort, bound_count, operands_fit, are_apart}
 use Rattle.mz_soundness.specs.ProofMachine.{push, saved, built, citation, matched_by, cited, referred, sides, same_term, stream_of, unfolding_of, gapped, has_provable_sort, proof_row}
 use Rattle.mz_numbered.specs.Mapping.{item_onto, items_onto, state_onto, matching_onto}
 use Rattle.mz_numbered.proofs.Going.{Goes, Is, goes-to, goes-bind, goes-known, goes-on, goes-need, goes-want, goes-after, goes-rule}
-use Rattle.mz_numbered.proofs.Embeds.{Embeds, get-mapped, both-are, trees-same}
+use Rattle.mz_numbered.proofs.Embeds.{Embeds, both-are, trees-same}
 use Rattle.mz_numbered.proofs.UnifyGoes.{Shows, unify-goes}
 
 module _ (P Q : Profile) (f : P.T → Q.T) (Right : ℕ → P.T → Type 0) (embeds : Embeds P Q f Right) where
@@ -248,10 +248,10 @@ module _ (P Q : Profile) (f : P.T → Q.T) (Right : ℕ → P.T → Type 0) (emb
     row-goes at code.TermSave n st right =
         on-built at n st (λ x. saved (expr x.0) (push (expr x.0) x.1 st)) (λ x. saved (expr x.0) (push (expr x.0) x.1 (state_onto f st))) right λ x. heap-is (push (expr x.0) x.1 st) (expr x.0)
     row-goes at code.Ref n st right =
-        goes-want (item_onto f) StateIs (slice_get st.heap n) (slice_get (items_onto f st.heap) n) k.HeapIndex _ _ (get-mapped (item_onto f) st.heap n) λ x.
+        goes-want (item_onto f) StateIs (slice_get st.heap n) (slice_get (items_onto f st.heap) n) k.HeapIndex _ _ (slice_get-map_at (item_onto f) st.heap n) λ x.
         referred-goes x st
     row-goes at code.ConvRef n st right =
-        goes-want (item_onto f) StateIs (slice_get st.heap n) (slice_get (items_onto f st.heap) n) k.HeapIndex _ _ (get-mapped (item_onto f) st.heap n) λ x.
+        goes-want (item_onto f) StateIs (slice_get st.heap n) (slice_get (items_onto f st.heap) n) k.HeapIndex _ _ (slice_get-map_at (item_onto f) st.heap n) λ x.
         goes-need StateIs (is_conversion x) (is_conversion (item_onto f x)) k.Kind _ _ (conversion-too x) (referred-goes x st)
     row-goes at code.Dummy n st right =
         goes-need StateIs (may_be_dummy_sort (slice_get tables.sorts n)) (may_be_dummy_sort (slice_get tables.sorts n)) k.DummySort _ _ (λ h. h)

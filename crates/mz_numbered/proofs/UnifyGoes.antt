@@ -3,6 +3,8 @@
 use Rattle.std.proofs.Common.{◌≡◌, ℕ, zero, suc, ◌+◌, Bool, true, false, not, cond, List, [], ◌∷◌, ◌++◌, length, drop, map, Option, Some, None, Result, Ok, Err, refl, ap, ap₂, subst, ◌∙◌}
 use Rattle.std.specs.Prelude.{slice_get, ◌||◌, ◌&&◌, ◌==◌}
 use Rattle.std.proofs.lemmas.List.{map-append}
+use Rattle.std.proofs.lemmas.Bool.{and_from}
+use Rattle.mz_general.proofs.Offered.{both-true, slice_get-map_at}
 use Rattle.mz_cmd.specs.declared.rule.K.TheVariants as k
 use Rattle.mz_cmd.specs.declared.command.Cmd.{Cmd}
 use Rattle.mz_cmd.specs.declared.command.CmdFault.{CmdFault}
@@ -16,10 +18,10 @@ use Rattle.mz_unification.specs.Streams.{UnifyCommand, u_term, u_term_save, u_re
 use Rattle.mz_unification.specs.Tests.{var_within, is_bound_var}
 use Rattle.mz_unification.specs.Profile.{Profile, Item, expr, proof, obligation, conversion}
 use Rattle.mz_unification.specs.UnifyMachine.{UnifyMode, in_citation, at_end, in_definition, kind_of, Matching, UnifyState, top_target, is_empty, proved_by, next_hypothesis, operands_of, within_any, is_fresh, nothing_left, unify_row, unify_turn_by, unify_turn, unify_from, at_start, unify}
-use Rattle.mz_unification.proofs.Offered.{both-true, neither-of}
+use Rattle.mz_unification.proofs.Offered.{neither-of}
 use Rattle.mz_numbered.specs.Mapping.{item_onto, items_onto, matching_onto}
 use Rattle.mz_numbered.proofs.Going.{Goes, Is, TurnIs, goes-to, goes-on, goes-need, goes-want, goes-over, goes-further, goes-follow}
-use Rattle.mz_numbered.proofs.Embeds.{Embeds, get-mapped, operands-are}
+use Rattle.mz_numbered.proofs.Embeds.{Embeds, operands-are}
 
 pub or-neither : (a b : Bool) → a ≡ false → b ≡ false → (a || b) ≡ false
 or-neither true b p q = absurd cc
@@ -34,10 +36,6 @@ fresh-too false b within less none e = absurd cc
 empty-mapped : {A B : Type 0} (f : A → B) (xs : List A) → is_empty xs ≡ true → is_empty (map f xs) ≡ true
 empty-mapped f [] e = refl
 empty-mapped f (x ∷ xs) e = absurd cc
-
-and-both : (a b : Bool) → a ≡ true → b ≡ true → (a && b) ≡ true
-and-both true b p q = q
-and-both false b p q = absurd cc
 
 -- a variable in V of none of these, and of one more
 module _ (P : Profile) (ctx : List Binder) where
@@ -122,7 +120,7 @@ module _ (P Q : Profile) (f : P.T → Q.T) (Right : ℕ → P.T → Type 0) (emb
   ends-too : (mode : UnifyMode) (es : List P.T) (xs : List (Item P.T)) → (is_empty es && nothing_left mode xs) ≡ true → (is_empty (map f es) && nothing_left mode (items_onto f xs)) ≡ true
   ends-too mode es xs h =
       let (a, b) = both-true (is_empty es) (nothing_left mode xs) h in
-      and-both (is_empty (map f es)) (nothing_left mode (items_onto f xs)) (empty-mapped f es a) (nothing-left mode xs b)
+      and_from (is_empty (map f es)) (nothing_left mode (items_onto f xs)) (empty-mapped f es a) (nothing-left mode xs b)
 
   stays-fresh : (s : ℕ) (e : P.T) (xs : List P.T) (ys : List Q.T) → Covers xs ys → is_fresh P sigs ctx s e xs ≡ true → is_fresh Q sigs ctx s (f e) ys ≡ true
   stays-fresh s e xs ys covers h =
@@ -149,7 +147,7 @@ module _ (P Q : Profile) (f : P.T → Q.T) (Right : ℕ → P.T → Type 0) (emb
         )
     row-goes (u_ref i) u ys covers =
         goes-on top_onto Shows (top_target u.targets) (top_target (map f u.targets)) _ _ (top-goes u.targets) λ top.
-        goes-want f Shows (slice_get u.heap i) (slice_get (map f u.heap) i) k.UnifyReference _ _ (get-mapped f u.heap i) λ e.
+        goes-want f Shows (slice_get u.heap i) (slice_get (map f u.heap) i) k.UnifyReference _ _ (slice_get-map_at f u.heap i) λ e.
         goes-need Shows (P.same e top.0) (Q.same (f e) (f top.0)) k.UnifyReference _ _ (embeds.same_is e top.0)
         (goes-to Shows (record u { targets = top.1 }) (record (shown u ys) { targets = map f top.1 }) (ys, covers, refl))
     row-goes (u_dummy s) u ys covers =

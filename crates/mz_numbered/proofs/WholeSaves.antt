@@ -1,7 +1,9 @@
 -- A definition's stream that saves no application before its dummies are met: what a dummy stands for is in V of nothing
 -- that is saved, once it is in V of no operand and no earlier dummy.
-use Rattle.std.proofs.Common.{◌≡◌, ℕ, zero, suc, ◌+◌, ◌<◌, ◌⊎◌, Bool, true, false, List, [], ◌∷◌, ◌++◌, length, drop, map, Option, Some, None, Result, Ok, Err, refl, sym, ap, subst, ◌∙◌, inl, inr, arith, append_assoc, append-nil}
+use Rattle.std.proofs.Common.{◌≡◌, ℕ, zero, suc, ◌+◌, ◌⊎◌, Bool, true, false, List, [], ◌∷◌, ◌++◌, length, drop, map, Option, Some, None, Result, Ok, Err, refl, sym, ap, subst, ◌∙◌, inl, inr, append_assoc, append-nil}
 use Rattle.std.specs.Prelude.{slice_get, ◌&&◌, ◌==◌}
+use Rattle.std.proofs.lemmas.Option.{same_Some}
+use Rattle.mz_general.proofs.Offered.{slice_get-map_back, slice_get-map_at, slice_get-front}
 use Rattle.mz_cmd.specs.declared.rule.K.{K}
 use Rattle.mz_cmd.specs.declared.rule.K.TheVariants as k
 use Rattle.mz_cmd.specs.declared.command.Cmd.{Cmd}
@@ -23,7 +25,6 @@ use Rattle.mz_unification.proofs.Offered.{from_bind, from_need, from_want, taken
 use Rattle.mz_numbered.specs.Making.{portable_trees}
 use Rattle.mz_numbered.specs.Saving.{AreWhole}
 use Rattle.mz_numbered.specs.Laws.{WholeStreamsRunToo}
-use Rattle.mz_numbered.proofs.Embeds.{get-mapped}
 use Rattle.mz_numbered.proofs.UnifyGoes.{or-neither, fresh-too}
 
 from-follow : {S G : Type 0} (at : ℕ) (r : Result (Turn S) K) (rest : ℕ → S → Result S (ℕ × K)) (y : S) → follow (at_place at r) rest ≡ Ok y
@@ -34,22 +35,9 @@ from-follow at (Ok (goes_on len s)) rest y e ended went = went len s refl e
 
 -- ---- lists of expressions and their variables
 
-some-one : {A : Type 0} (x y : A) → Some x ≡ Some y → x ≡ y
-some-one x y e = cc
-
 next-is : {A : Type 0} (xs : List A) (x : A) (ys : List A) → slice_get ((xs ++ x ∷ []) ++ ys) (length xs) ≡ Some x
 next-is [] x ys = refl
 next-is (z ∷ xs) x ys = next-is xs x ys
-
-before-is : {A : Type 0} (xs ys : List A) (i : ℕ) (x : A) → i < length xs → slice_get (xs ++ ys) i ≡ Some x → slice_get xs i ≡ Some x
-before-is [] ys i x lt at = absurd (omega arith)
-before-is (z ∷ xs) ys zero x lt at = at
-before-is (z ∷ xs) ys (suc i) x lt at = before-is xs ys i x (omega arith) at
-
-mapped-from : {A B : Type 0} (g : A → B) (xs : List A) (i : ℕ) (y : B) → slice_get (map g xs) i ≡ Some y → (x : A) × (slice_get xs i ≡ Some x) × (g x ≡ y)
-mapped-from g [] i y at = absurd cc
-mapped-from g (x ∷ xs) zero y at = (x, refl, some-one (g x) y at)
-mapped-from g (x ∷ xs) (suc i) y at = mapped-from g xs i y at
 
 -- ---- what is in V of a list
 
@@ -190,14 +178,14 @@ module _ (sigs : List Signature) (ctx : List Binder) (mode : UnifyMode) where
     covered-by u t h fs extra x (app g ps) t-is all covered p-at p-is has =
         let (y, occurs, y-has) = in_instance ctx x put (app g ps) (subst (InV ctx x) (sym p-is) has) in
         let (i, lt, i-at) = whole (length u.heap) g y ps p-at occurs in
-        let there : slice_get (u.heap ++ (t ∷ [] ++ extra)) i ≡ Some (operand put y) = ap (λ (z : List Tree). slice_get z i) (sym (all ∙ append_assoc u.heap (t ∷ []) extra)) ∙ get-mapped (instance put) marks i (var y) i-at in
-        covered.heap i x (operand put y) (before-is u.heap (t ∷ [] ++ extra) i (operand put y) lt there) y-has
+        let there : slice_get (u.heap ++ (t ∷ [] ++ extra)) i ≡ Some (operand put y) = ap (λ (z : List Tree). slice_get z i) (sym (all ∙ append_assoc u.heap (t ∷ []) extra)) ∙ slice_get-map_at (instance put) marks i (var y) i-at in
+        covered.heap i x (operand put y) (slice_get-front u.heap (t ∷ [] ++ extra) i (operand put y) lt there) y-has
 
     -- an application that is saved
     saved-covered : (u : UnifyState Tree) (t : Tree) (h : ℕ) (fs : Trees) (extra : List Tree) → t ≡ app h fs → final ≡ (u.heap ++ t ∷ []) ++ extra → Covered u
         → (x : ℕ) → InV ctx x t → InSomeV ctx x (trees_of u.apart)
     saved-covered u t h fs extra t-is all covered x has =
-        let (p, p-at, p-is) = mapped-from (instance put) marks (length u.heap) t (ap (λ (z : List Tree). slice_get z (length u.heap)) all ∙ next-is u.heap t extra) in
+        let (p, p-at, p-is) = slice_get-map_back (instance put) marks (length u.heap) t (ap (λ (z : List Tree). slice_get z (length u.heap)) all ∙ next-is u.heap t extra) in
         covered-by u t h fs extra x p t-is all covered p-at p-is has
 
     is-applied : (t : ℕ) (e : Tree) (ts : List Tree) → operands_of t (tree_parts e) ≡ Some ts → (h : ℕ) × (fs : Trees) × (e ≡ app h fs)
@@ -211,7 +199,7 @@ module _ (sigs : List Signature) (ctx : List Binder) (mode : UnifyMode) where
       where
         go : (slice_get u.heap i ≡ Some e) ⊎ ((j : ℕ) × (i ≡ length u.heap + j) × (slice_get (t ∷ []) j ≡ Some e)) → InSomeV ctx x (trees_of apart)
         go (inl here) = wider x (covered.heap i x e here has)
-        go (inr (zero, _, there)) = last x (subst (InV ctx x) (sym (some-one t e there)) has)
+        go (inr (zero, _, there)) = last x (subst (InV ctx x) (sym (same_Some t e there)) has)
         go (inr (suc j, _, there)) = absurd cc
 
     abbrev Beside : UnifyCommand → UnifyState Tree → UnifyState Tree → Type 0

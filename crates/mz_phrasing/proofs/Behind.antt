@@ -1,11 +1,12 @@
 -- The names of what was declared before have their numbers, and so with one declaration more.
 use Rattle.std.proofs.Common.{ℕ, suc, ◌≡◌, ◌<◌, ◌∙◌, false, List, [], ◌∷◌, ◌++◌, length, Some, refl, sym, ap, subst, arith, length-append, append-nil}
 use Rattle.std.proofs.lemmas.List.{get_or_append_left, get_or_push}
+use Rattle.mz_general.proofs.Offered.{length-push}
 use Rattle.mz_logic.specs.Signature.{Signature}
 use Rattle.mz_logic.specs.Declaration.{Declaration, sort_decl, term_decl, assertion_decl, sorts, signatures, assertions}
 use Rattle.mz_logic.specs.Legality.{signature_at}
 use Rattle.mz_logic.specs.declared.binder.Binder.{Binder}
-use Rattle.mz_logic.proofs.Offered.{sorts-append, assertions-append}
+use Rattle.mz_logic.proofs.Offered.{sorts-append, assertions-append, signatures-append}
 use Rattle.mz_names.specs.Names.{number_of, IsNew}
 use Rattle.mz_names.proofs.Offered.{number-last, number-more}
 use Rattle.mz_forms.specs.Name.{Names, IsName, no_names, constant_name, names_with}
@@ -94,15 +95,6 @@ module _ (v : Vocabulary) (n : ℕ) (ss : ℕ) (sigs : List Signature) (fs : ℕ
 
 -- ---- a declaration more
 
-signatures-append : (a b : List Declaration) → signatures (a ++ b) ≡ signatures a ++ signatures b
-signatures-append [] b = refl
-signatures-append (sort_decl _ ∷ a) b = signatures-append a b
-signatures-append (term_decl d ∷ a) b = ap (λ xs. d.signature ∷ xs) (signatures-append a b)
-signatures-append (assertion_decl _ ∷ a) b = signatures-append a b
-
-more-than : {A : Type 0} (xs : List A) (x : A) → length (xs ++ x ∷ []) ≡ suc (length xs)
-more-than xs x = let e = length-append xs (x ∷ []) in omega arith
-
 abbrev pub Declares : Vocabulary → ℕ → List Declaration → Names → Type 0
 Declares v n env names = Behind v n (length (sorts env)) (signatures env) (length (assertions env)) names
 
@@ -126,7 +118,7 @@ module _ (v : Vocabulary) (n : ℕ) (env : List Declaration) (names : Names) (be
   pub behind-more : (w : List ℕ) (d : Declaration) → IsName w → HasNewName v n env names w d → Declares v n (env ++ d ∷ []) (names_with names w d)
   behind-more w (sort_decl m) name (is, new) =
       over (sort_decl m) (names_with names w (sort_decl m)) (suc (length (sorts env))) (signatures env) (length (assertions env))
-      (ap length (sorts-append env (sort_decl m ∷ [])) ∙ more-than (sorts env) m) (same-signatures (sort_decl m) refl) (same-facts (sort_decl m) refl)
+      (ap length (sorts-append env (sort_decl m ∷ [])) ∙ length-push (sorts env) m) (same-signatures (sort_decl m) refl) (same-facts (sort_decl m) refl)
       (subst (λ u. Behind v n (suc (length (sorts env))) (signatures env) (length (assertions env)) (names_with names u (sort_decl m))) (sym is)
       (one-sort-more v n (length (sorts env)) (signatures env) (length (assertions env)) names behind (subst IsName is name) (subst (IsNew names.sorts) is new)))
   behind-more w (term_decl d) name (is, new, other) =
@@ -137,6 +129,6 @@ module _ (v : Vocabulary) (n : ℕ) (env : List Declaration) (names : Names) (be
       (subst (IsNew names.constants) is (agrees w name new)) (λ x less same. other x less (same ∙ sym is))))
   behind-more w (assertion_decl a) name (is, new) =
       over (assertion_decl a) (names_with names w (assertion_decl a)) (length (sorts env)) (signatures env) (suc (length (assertions env)))
-      (same-sorts (assertion_decl a) refl) (same-signatures (assertion_decl a) refl) (ap length (assertions-append env (assertion_decl a ∷ [])) ∙ more-than (assertions env) a)
+      (same-sorts (assertion_decl a) refl) (same-signatures (assertion_decl a) refl) (ap length (assertions-append env (assertion_decl a ∷ [])) ∙ length-push (assertions env) a)
       (subst (λ u. Behind v n (length (sorts env)) (signatures env) (suc (length (assertions env))) (names_with names u (assertion_decl a))) (sym is)
       (one-fact-more v n (length (sorts env)) (signatures env) (length (assertions env)) names behind (subst IsName is name) (subst (IsNew names.assertions) is new)))

@@ -3,6 +3,7 @@ use Rattle.std.proofs.Common.{ℕ, suc, ◌≡◌, ◌<◌, ◌≤◌, ◌+◌, 
 use Rattle.std.specs.Prelude.{if◌then◌else◌}
 use Rattle.std.specs.List.Sorted.{IsStrictlyIncreasing}
 use Rattle.std.proofs.lemmas.List.Elements.{All-weaker}
+use Rattle.mz_general.proofs.Offered.{one-further}
 use Rattle.mz_sexpr.specs.Node.{Node}
 use Rattle.mz_logic.specs.Tree.{Trees, none, more, listed}
 use Rattle.mz_logic.specs.Declaration.{DepsAscend}
@@ -22,9 +23,6 @@ use Rattle.mz_phrasing.proofs.Saying.{Says, AllSay, a-word, a-list, take, done, 
 use Rattle.mz_phrasing.proofs.Numbers.{Numbered, AreOwn, upto, new-next, numbered-upto}
 use Rattle.mz_phrasing.proofs.Atoms.{name-atom}
 use Rattle.mz_phrasing.proofs.Exprs.{a-number, a-new-name, variable-list, Known, expr-said}
-
-next-place : (x k : ℕ) → suc x + k ≡ x + suc k
-next-place x k = omega arith
 
 deps-said : (v : Vocabulary) (k : ℕ) (vars : List (List ℕ)) → Numbered v.variable k vars → (xs : List ℕ) → All (λ j. j < k) xs → IsStrictlyIncreasing xs
     → Says (variable_names v xs) (λ m. AreDeps vars m xs)
@@ -71,7 +69,7 @@ module _ (v : Vocabulary) (n : ℕ) (own : AreOwn v.variable n) (names : Names) 
     binders-said x (b ∷ bs) few good =
         take (one x b (omega arith) (subst (λ y. Good y b) (let same : x + 0 ≡ x = omega arith in same) (good 0 b refl)))
         (all-so (binders-said (suc x) bs (omega arith) (λ i c at. subst (λ y. Good y c) (let same : x + suc i ≡ suc x + i = omega arith in same) (good (suc i) c at)))
-        (λ ns are m is. (v.variable x, b, bs, is, subst (λ y. AreBinders Is (vars_of (suc x)) ns bs (vars_of y)) (next-place x (length bs)) are, refl)))
+        (λ ns are m is. (v.variable x, b, bs, is, subst (λ y. AreBinders Is (vars_of (suc x)) ns bs (vars_of y)) (one-further x (length bs)) are, refl)))
 
   pub params-said : (ps : List Binder) → length ps ≤ n → ((i : ℕ) (b : Binder) → slice_get ps i ≡ Some b → IsGoodParam many i b)
       → Says (a_list (binders v 0 ps)) (λ m. AreParams names m ps (vars_of (length ps)))
@@ -115,7 +113,7 @@ module _ (v : Vocabulary) (n : ℕ) (own : AreOwn v.hypothesis n) (names : Names
         e,
         es,
         is,
-        subst (λ y. AreHyps (scope_of names vars) (upto v.hypothesis (suc i)) ns es (upto v.hypothesis y)) (next-place i (length (listed es))) are,
+        subst (λ y. AreHyps (scope_of names vars) (upto v.hypothesis (suc i)) ns es (upto v.hypothesis y)) (one-further i (length (listed es))) are,
         refl,
       )))
 

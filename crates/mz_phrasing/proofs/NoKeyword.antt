@@ -1,12 +1,12 @@
 -- No identifier is a literal word with a colon.
 use Rattle.std.proofs.Common.{ℕ, ◌≡◌, ◌∙◌, Bool, false, List, ap, sym, refl, true≢false}
 use Rattle.std.specs.Prelude.{codes, bytes_eq, if◌then◌else◌}
+use Rattle.mz_general.proofs.Offered.{other-bytes}
 use Rattle.mz_names.specs.Identifiers.{is_name}
 use Rattle.mz_forms.specs.Name.{IsName}
 use Rattle.mz_forms.specs.declared.keyword.Keyword.{Keyword}
 use Rattle.mz_forms.specs.declared.keyword.Keyword.TheVariants.{Conv as conv_word, Let as let_word, Refl as refl_word, Sym as sym_word, Unfold as unfold_word, Sorry as sorry_word, Other as no_word}
 use Rattle.mz_forms.specs.Proofs.{conv_keyword_of, proof_keyword_of}
-use Rattle.mz_phrasing.proofs.Numbers.{other-bytes}
 
 not-this : (w u : List ℕ) → is_name u ≡ false → IsName w → bytes_eq w u ≡ false
 not-this w u not_ name = other-bytes w u (λ is. true≢false (sym name ∙ ap is_name is ∙ not_))

@@ -1,14 +1,9 @@
 -- Names that are numbered: each has the number at which it stands.
-use Rattle.std.proofs.Common.{ℕ, zero, suc, ◌≡◌, ◌<◌, ◌≤◌, ◌∙◌, inl, inr, false, List, [], ◌∷◌, ◌++◌, length, Some, sym, ap, subst, refl, arith, length-append}
-use Rattle.std.specs.Prelude.{bytes_eq}
-use Rattle.std.proofs.lemmas.Bool.{cases_eq, false_from_ne_true}
-use Rattle.std.proofs.lemmas.Slice.Eq.{bytes_eq-Decides}
+use Rattle.std.proofs.Common.{ℕ, zero, suc, ◌≡◌, ◌<◌, ◌≤◌, ◌∙◌, inl, inr, List, [], ◌∷◌, ◌++◌, length, Some, sym, ap, subst, refl, arith, length-append}
+use Rattle.std.proofs.lemmas.Bool.{cases_eq}
 use Rattle.mz_names.specs.Names.{number_of, IsNew}
 use Rattle.mz_names.proofs.Offered.{new-more, number-last, number-more}
 use Rattle.mz_forms.specs.Name.{IsName}
-
-pub other-bytes : (a b : List ℕ) → (a ≡ b → ⊥) → bytes_eq a b ≡ false
-other-bytes a b not_ = false_from_ne_true (bytes_eq a b) (λ is. not_ ((bytes_eq-Decides a b).0 is))
 
 -- ---- names that a vocabulary has by number
 

@@ -35,5 +35,3 @@ goes-on file kind row before s s' heap stack heap' stack' hyps hyps' was grows i
   hyps_in = in-hyps;
   few_hyps = few;
 }
-
--- ---- answers

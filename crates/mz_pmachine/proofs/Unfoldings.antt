@@ -2,10 +2,8 @@
 use Rattle.std.proofs.Common.{◌≡◌, ◌<◌, ℕ, List, [], ◌∷◌, ◌++◌, length, drop, Some, Result, Ok, Err, slice_get, refl, sym, ap, ◌∙◌, subst}
 use Rattle.std.specs.Prelude.{OnOk}
 use Rattle.std.proofs.lemmas.Option.{slice_get_within}
-use Rattle.std.proofs.lemmas.List.{length-map}
 use Rattle.mz_logic.specs.Signature.{Signature}
 use Rattle.mz_logic.specs.Sorts.{HasSort}
-use Rattle.mz_logic.specs.Words.{TermWords, signature_of}
 use Rattle.mz_logic.specs.Words.{signatures_of as signatures_by}
 use Rattle.mz_logic.specs.declared.binder.Binder.{Binder}
 use Rattle.mz_layout.specs.Tables.{term_row}
@@ -19,6 +17,7 @@ use Rattle.mz_punify.proofs.Offered.{items-push}
 use Rattle.mz_unify.specs.declared.unified.UnifyMode.TheVariants.{Body}
 use Rattle.mz_earlier.specs.Before.{Before, signatures_of, words_before}
 use Rattle.mz_earlier.proofs.Offered.{signatures-before}
+use Rattle.mz_machine.proofs.Offered.{as-many}
 use Rattle.mz_pmachine.proofs.Converting.{put_in}
 
 -- ---- terms of expressions
@@ -26,9 +25,6 @@ use Rattle.mz_pmachine.proofs.Converting.{put_in}
 head-there : (sigs : List Signature) (ctx : List Binder) (e : Numbered) (s t : ℕ) → HasSort sigs ctx (tree_of e) s → head_of e ≡ Some t → t < length sigs
 head-there sigs ctx (a_variable x) s t h is = absurd cc
 head-there sigs ctx (an_application n u es) s t h is = let same : u ≡ t = cc in slice_get_within sigs t _ (subst (λ m. slice_get sigs m ≡ Some h.0) same h.1)
-
-as-many : (ws : List TermWords) → length (signatures_by ws) ≡ length ws
-as-many ws = length-map ws signature_of
 
 -- the term of an expression is one of those before
 pub term-there : (b : Before) (s : Numbering) → IsOver (signatures_of b) s → (i t : ℕ) → IsIn s i → head_of (expr_of s i) ≡ Some t → t < length (words_before b)

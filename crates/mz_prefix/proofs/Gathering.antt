@@ -1,13 +1,14 @@
 -- The names of statements, gathered one statement after another.
 use Rattle.std.specs.Prelude.{slice_get, option_map}
-use Rattle.std.proofs.Common.{◌≡◌, ◌≤◌, ◌<◌, ◌+◌, ◌++◌, ◌∙◌, ℕ, zero, suc, max, Bool, List, [], ◌∷◌, length, drop, replicate, Some, None, refl, sym, ap, append_assoc, append-nil, add-one, arith}
+use Rattle.std.proofs.Common.{◌≡◌, ◌≤◌, ◌<◌, ◌+◌, ◌++◌, ◌∙◌, ℕ, zero, suc, max, Bool, List, [], ◌∷◌, length, drop, Some, None, refl, sym, ap, append_assoc, append-nil, add-one, arith}
 use Rattle.std.proofs.Math.Seq.{drop-cons}
-use Rattle.std.proofs.lemmas.List.{drop_all, replicate-append-replicate}
+use Rattle.std.proofs.lemmas.List.{drop_all}
 use Rattle.mz_logic.specs.Declaration.{Declaration}
 use Rattle.mz_publics.specs.PublicPart.{mark_of}
 use Rattle.mz_statements.specs.Statements.{Statement}
 use Rattle.mz_type.specs.TypedText.{statement_at}
-use Rattle.mz_wording.specs.Wording.{sort_name, term_name, sort_names, term_names, local_terms, variable_prefix, underscores, longest_run}
+use Rattle.mz_statements.specs.DeclaredNames.{sort_name, term_name, sort_names, term_names, underscores, longest_run, text_names}
+use Rattle.mz_wording.specs.Wording.{local_terms, variable_prefix}
 use Rattle.mz_prefix.specs.declared.names.Names.{Names}
 use Rattle.mz_prefix.specs.Names.{texts, AreNamesOf}
 
@@ -67,19 +68,14 @@ max-on run u rest whole is = omega (arith, is)
 
 -- one name more
 pub run-on : (ss : List Statement) (i run u new : ℕ) (name : List ℕ) → i < length ss → (statement_at ss i).name ≡ name → u ≡ underscores name → new ≡ max run u
-    → max run (longest_run (drop i ss)) ≡ longest_run ss → max new (longest_run (drop (i + 1) ss)) ≡ longest_run ss
+    → max run (longest_run (text_names (drop i ss))) ≡ longest_run (text_names ss) → max new (longest_run (text_names (drop (i + 1) ss))) ≡ longest_run (text_names ss)
 run-on ss i run u new name below is-name is is-new so_far =
-    let rest = longest_run (drop (i + 1) ss) in
-    let here : longest_run (drop i ss) ≡ max (underscores (statement_at ss i).name) rest = ap longest_run (from-there ss i below) in
+    let rest = longest_run (text_names (drop (i + 1) ss)) in
+    let here : longest_run (text_names (drop i ss)) ≡ max (underscores (statement_at ss i).name) rest = ap (λ (ss : List Statement). longest_run (text_names ss)) (from-there ss i below) in
     let found : underscores (statement_at ss i).name ≡ u = ap underscores is-name ∙ sym is in
-    ap (λ n. max n rest) is-new ∙ max-on run u rest (longest_run ss) (sym (ap (λ r. max run r) (here ∙ ap (λ n. max n rest) found)) ∙ so_far)
+    ap (λ n. max n rest) is-new ∙ max-on run u rest (longest_run (text_names ss)) (sym (ap (λ r. max run r) (here ∙ ap (λ n. max n rest) found)) ∙ so_far)
 
-pub run-end : (ss : List Statement) (i run : ℕ) → length ss ≤ i → max run (longest_run (drop i ss)) ≡ longest_run ss → run ≡ longest_run ss
+pub run-end : (ss : List Statement) (i run : ℕ) → length ss ≤ i → max run (longest_run (text_names (drop i ss))) ≡ longest_run (text_names ss) → run ≡ longest_run (text_names ss)
 run-end ss i run past so_far =
-    let nothing : longest_run (drop i ss) ≡ 0 = ap longest_run (drop_all i ss past) in
+    let nothing : longest_run (text_names (drop i ss)) ≡ 0 = ap (λ (ss : List Statement). longest_run (text_names ss)) (drop_all i ss past) in
     omega (arith, nothing, so_far)
-
--- one underscore more
-pub underscore-on : (old out new : List ℕ) (n : ℕ) → out ≡ old ++ replicate n 95 → new ≡ out ++ 95 ∷ [] → new ≡ old ++ replicate (n + 1) 95
-underscore-on old out new n so_far added =
-    added ∙ ap (λ o. o ++ 95 ∷ []) so_far ∙ append_assoc old (replicate n 95) (95 ∷ []) ∙ ap (λ t. old ++ t) (replicate-append-replicate n 1 95)

@@ -11,13 +11,13 @@ use Rattle.mz_grammar.specs.declared.kind.Kind.{Kind}
 use Rattle.mz_grammar.specs.declared.kind.Kind.TheVariants.{Term, Assert, Definition}
 use Rattle.mz_printing.specs.Words.{Word, written}
 use Rattle.mz_printing.specs.Lines.{PlainBinder, PlainType, spaced_name, spaced_mark, math_word, type_words, head_words, colon_words, end_words, hyps_words, sort_words, line_text}
+use Rattle.mz_printing.proofs.Offered.{written-append}
 use Rattle.mz_publics.specs.PublicPart.{renamed, all_renamed}
 use Rattle.mz_readback.specs.Declared.{Vocabulary, plain_type, plain_binders, formula_of, formulas_of, kind_of, line_of_decl, term_line_of, modifiers_of}
 use Rattle.mz_wording.specs.Wording.{is_hidden}
 use Rattle.mz_prefix.specs.declared.names.Names.{Names}
 use Rattle.mz_prefix.specs.Names.{spoken}
 use Rattle.mz_prefix.specs.Writing.{modifier_text, head_text, bare_text, told}
-use Rattle.mz_prefix.proofs.Parts.{written-append}
 
 -- ---- sorts
 

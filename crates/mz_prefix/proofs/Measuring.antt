@@ -1,7 +1,7 @@
 -- How long prefix forms are.
 use Rattle.std.specs.Prelude.{nat_le, codes}
-use Rattle.std.proofs.Common.{◌≡◌, ◌≤◌, ◌<◌, ◌+◌, ◌++◌, ◌∙◌, ℕ, suc, Bool, true, false, List, [], ◌∷◌, length, Option, Some, None, MatchOption, is_some, refl, sym, ap, arith, length-append}
-use Rattle.std.proofs.lemmas.Bool.{leb-true, le-leb, and_from, and_parts}
+use Rattle.std.proofs.Common.{◌≡◌, ◌≤◌, ◌<◌, ◌+◌, ◌++◌, ◌∙◌, ℕ, suc, true, List, [], ◌∷◌, length, Option, Some, None, MatchOption, is_some, refl, sym, ap, arith, length-append}
+use Rattle.std.proofs.lemmas.Bool.{leb-true, le-leb, and_from, and_parts, false_from_ne_true}
 use Rattle.mz_logic.specs.Tree.{Tree, Trees, var, app, none, more}
 use Rattle.mz_math.specs.Meaning.{height}
 use Rattle.mz_math.specs.Formula.{most}
@@ -39,10 +39,6 @@ mutual
       let tokens : length inner ≡ operand_count (more e es) = operands-count term variable (more e es) in
       ap (λ n. suc (suc n)) (whole ∙ ap (λ n. n + 1) tokens ∙ one-more (operand_count (more e es))) ∙ two-more (suc (operand_count (more e es)))
 
-not-true : (b : Bool) → (b ≡ true → ⊥) → b ≡ false
-not-true true never = absurd (never refl)
-not-true false never = refl
-
 pub short-is : (v : Vocabulary) (e : Tree) → is_short v e ≡ true → IsShort (formula_of v e) e
 short-is v e is =
     let (few, low) = and_parts (nat_le (length (formula_of v e)) most) (nat_le (height e) most) is in
@@ -55,7 +51,7 @@ is-short v e short =
 -- where it is low, the room that is left tells
 pub measured : (v : Vocabulary) (e : Tree) (o : Option ℕ) → height e ≤ most → MatchOption o (most < token_count e) (λ left. left + token_count e ≡ most) → is_some o ≡ is_short v e
 measured v e None low many =
-    sym (not-true (is_short v e) (λ is. let few : length (formula_of v e) ≤ most = (short-is v e is).few in
+    sym (false_from_ne_true (is_short v e) (λ is. let few : length (formula_of v e) ≤ most = (short-is v e is).few in
     let count : length (formula_of v e) ≡ token_count e = count-is v.term v.variable e in
     omega (arith, few, count, many)))
 measured v e (Some left) low room =

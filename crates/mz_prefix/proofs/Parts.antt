@@ -2,14 +2,16 @@
 use Rattle.std.proofs.Common.{◌≡◌, ◌≤◌, ◌<◌, ◌+◌, ◌++◌, ◌∙◌, ℕ, suc, true, false, List, [], ◌∷◌, length, get_or, drop, map, refl, sym, ap, append_assoc, append-nil, add-one, arith}
 use Rattle.std.specs.Prelude.{codes}
 use Rattle.std.proofs.lemmas.List.{drop_more, drop_all}
+use Rattle.mz_general.proofs.Offered.{one-further}
 use Rattle.mz_logic.specs.Tree.{Tree, var, app, none, more}
 use Rattle.mz_logic.specs.View.{tree, trees}
 use Rattle.mz_logic.specs.declared.expr.Expr.{Expr}
 use Rattle.mz_logic.specs.declared.binder.Binder.{Binder}
 use Rattle.mz_grammar.specs.Statement.{opening_of, closing_of}
-use Rattle.mz_printing.specs.Words.{Word, written}
+use Rattle.mz_printing.specs.Words.{written}
 use Rattle.mz_printing.specs.Lines.{Tokens, spaced, mark, spaced_mark, dep_words, type_words, binder_words, binders_words, hyp_words, hyps_words, math_word}
 use Rattle.mz_printing.specs.Prefix.{enclosed, operand_tokens}
+use Rattle.mz_printing.proofs.Offered.{written-append}
 use Rattle.mz_prefix.specs.Measures.{has_operands}
 use Rattle.mz_readback.specs.Declared.{Vocabulary, formula_of, formulas_of, plain_type, plain_param, plain_dummy, plain_binders, plain_dummies}
 
@@ -27,10 +29,6 @@ module _ {A : Type 0} (text : ℕ → List A → List ℕ) (part : ℕ → A →
       sym (append-nil out) ∙ sym (ap (λ t. out ++ t) (ap (text i) (drop_all i xs past) ∙ nothing)) ∙ so_far
 
 -- ---- words
-
-pub written-append : (ws vs : List Word) → written (ws ++ vs) ≡ written ws ++ written vs
-written-append [] vs = refl
-written-append (w ∷ ws) vs = ap (λ t. w.gap ++ (w.text ++ t)) (written-append ws vs) ∙ ap (λ t. w.gap ++ t) (sym (append_assoc w.text (written ws) (written vs))) ∙ sym (append_assoc w.gap (w.text ++ written ws) (written vs))
 
 pub spaced-append : (ts us : Tokens) → spaced (ts ++ us) ≡ spaced ts ++ spaced us
 spaced-append [] us = refl
@@ -129,14 +127,8 @@ six-parts old a b c d e f name type o k is-a is-b is-c is-d is-e is-f = is-f ∙
 
 -- ---- binders
 
-pub both-parts : (old a b p q : List ℕ) → a ≡ old ++ p → b ≡ a ++ q → b ≡ old ++ (p ++ q)
-both-parts old a b p q is-a is-b = is-b ∙ ap (λ t. t ++ q) is-a ∙ append_assoc old p q
-
 no-more : (n : ℕ) → n ≡ n + 0
 no-more n = omega arith
-
-one-on : (m n : ℕ) → suc m + n ≡ m + suc n
-one-on m n = omega arith
 
 none-before : (n : ℕ) → 0 + n ≡ n
 none-before n = omega arith
@@ -153,7 +145,7 @@ module _ (v : Vocabulary) where
       let param = binder_words (plain_param v x p) in
       written-append param (binders_words (plain_binders v (suc x) ps ds))
       ∙ joined _ (written (binders_words (plain_binders v (suc x) ps []))) (written (binders_words (plain_dummies v (suc x + length ps) ds))) (written param) (binders-split (suc x) ps ds)
-      ∙ ap (λ n. (written param ++ written (binders_words (plain_binders v (suc x) ps []))) ++ written (binders_words (plain_dummies v n ds))) (one-on x (length ps))
+      ∙ ap (λ n. (written param ++ written (binders_words (plain_binders v (suc x) ps []))) ++ written (binders_words (plain_dummies v n ds))) (one-further x (length ps))
       ∙ ap (λ w. w ++ written (binders_words (plain_dummies v (x + suc (length ps)) ds))) (sym (written-append param (binders_words (plain_binders v (suc x) ps []))))
 
   pub binders-are : (ps ds : List Binder)

@@ -1,58 +1,34 @@
 // The names of a text, gathered statement by statement.
-ghost use Rattle.std.specs.Prelude.{◌≡◌, ◌++◌, replicate, IfOk, OnOk};
+ghost use Rattle.std.specs.Prelude.{◌≡◌, ◌++◌, IfOk, OnOk};
 ghost use Rattle.mz_logic.specs.DeclView.{declaration};
 ghost use Rattle.mz_publics.specs.PublicPart.{mark_of};
 ghost use Rattle.mz_wording.specs.Wording;
-ghost use Rattle.mz_wording.specs.Wording.{sort_name, term_name};
+ghost use Rattle.mz_statements.specs.DeclaredNames;
+ghost use Rattle.mz_statements.specs.DeclaredNames.{sort_name, term_name, text_names};
 ghost use Rattle.mz_prefix.specs.Names.{AreNamesOf, texts};
 
 use crate::names::Names;
 use mz_logic::Decl;
+use mz_statements::{leading_underscores, one_underscore_more};
 use mz_type::Typed;
 use std::alloc::{AllocError, Global};
 
-/// With how many underscores the name begins.
-fn underscores(name: &[u8]) -> usize
-    ensures { result ≡ Wording.underscores name.now }
-{
-    let mut count: usize = 0;
-    for byte in name {
-        if *byte != b'_' {
-            return count;
-        }
-        count += 1;
-    }
-    count
-}
-
 /// The longest run of underscores with which a name of the text begins.
 fn longest_run(text: &Typed) -> usize
-    ensures { result ≡ Wording.longest_run text.now.statements }
+    ensures { result ≡ DeclaredNames.longest_run (text_names text.now.statements) }
 {
     let mut run: usize = 0;
     for i in 0..text.len() {
-        run = run.max(underscores(text.name(i)));
+        run = run.max(leading_underscores(text.name(i)));
     }
     run
-}
-
-/// Appends so many underscores.
-fn put_underscores(count: usize, out: &mut Vec<u8>) -> Result<(), AllocError>
-    ensures { OnOk result (out.new.items ≡ out.old.items ++ replicate count 95) }
-{
-    for i in 0..count {
-        out.push(b'_')?;
-    }
-    Ok(())
 }
 
 /// What stands before the number of a variable: with it no variable is named as anything else.
 fn variable_prefix(alloc: Global, text: &Typed) -> Result<Vec<u8>, AllocError>
     ensures { IfOk result (λ prefix. prefix.items ≡ Wording.variable_prefix text.now.statements) }
 {
-    let mut prefix: Vec<u8> = Vec::new(alloc);
-    prefix.push(b'_')?;
-    put_underscores(longest_run(text), &mut prefix)?;
+    let mut prefix = one_underscore_more(alloc, longest_run(text))?;
     prefix.push(b'v')?;
     Ok(prefix)
 }

@@ -8,7 +8,7 @@ use Rattle.mz_names.specs.Identifiers.{is_digit, is_name_start, is_name_byte}
 use Rattle.mz_lex.specs.Kinds.{is_space, is_number_start, is_symbol_byte, is_of_kind, ends_math}
 use Rattle.mz_lex.specs.declared.token.TokenKind.{TokenKind}
 use Rattle.mz_lex.specs.declared.token.TokenKind.TheVariants as kinds
-use Rattle.mz_lex.proofs.Offered.{among, longest-symbol, longest-name, two-bytes, starts-no_digit, math-once}
+use Rattle.mz_lex.proofs.Offered.{among, longest-symbol, longest-name, two-bytes, starts-no_digit, longest-math}
 use Rattle.mz_printing.specs.Words.{ends}
 
 -- a test that each symbol but `_` fails
@@ -59,12 +59,6 @@ number-ends kinds.Name a cs d is end = and_left _ _ (and_left _ _ (digit-no_name
 number-ends kinds.Number a cs d is end = or_from _ _ (two-bytes a d 48 cs []) (and_right _ _ (list_all-append is_digit cs (d ∷ []) ∙ and_right _ _ (and_left _ _ end)))
 number-ends kinds.Math a cs d is end = and_left _ _ (digit-no_math a is)
 
-math-ends : (k : TokenKind) (cs : List ℕ) (d : ℕ) → ends_math cs ≡ true → is_of_kind k (36 ∷ (cs ++ d ∷ [])) ≡ false
-math-ends kinds.Symbol cs d is = longest-symbol 36 d cs
-math-ends kinds.Name cs d is = refl
-math-ends kinds.Number cs d is = refl
-math-ends kinds.Math cs d is = math-once cs d [] is
-
 pub word-ends : (kind k : TokenKind) (text : List ℕ) (d : ℕ) → is_of_kind kind text ≡ true → bytes_eq text (codes "_") ≡ false → ends kind d ≡ true → is_of_kind k (text ++ d ∷ []) ≡ false
 word-ends kinds.Symbol k [] d is other end = absurd (false≢true is)
 word-ends kinds.Symbol k (a ∷ []) d is other end = symbol-ends k a d is (elim (and_cases (a == 95) true other) [ inl is ↦ is | inr no_ ↦ absurd (false≢true (sym no_)) ])
@@ -77,4 +71,4 @@ word-ends kinds.Math k [] d is other end = absurd (false≢true is)
 word-ends kinds.Math k (a ∷ cs) d is other end =
     let parts = and_parts (a == 36) (ends_math cs) is in
     let P : ℕ → Type 0 = λ b. is_of_kind k (b ∷ (cs ++ d ∷ [])) ≡ false in
-    subst P (sym (eqb-true a 36 parts.0)) (math-ends k cs d parts.1)
+    subst P (sym (eqb-true a 36 parts.0)) (longest-math k cs d parts.1)

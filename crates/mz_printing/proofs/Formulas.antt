@@ -13,7 +13,6 @@ use Rattle.mz_logic.specs.Legality.{InRange, AllInRange}
 use Rattle.mz_logic.specs.declared.binder.Binder.{Binder}
 use Rattle.mz_logic.proofs.Offered.{range_of_sort}
 use Rattle.mz_coercions.specs.declared.coercion.Coercion.{Coercion}
-use Rattle.mz_tokens.specs.declared.pieces.Piece.{Piece}
 use Rattle.mz_tokens.specs.declared.pieces.Delimiters.{Delimiters}
 use Rattle.mz_math.specs.declared.formula.Wanted.{Wanted}
 use Rattle.mz_math.specs.declared.formula.Wanted.TheVariants.{Provable as provable, Sort as of_sort}
@@ -21,6 +20,7 @@ use Rattle.mz_tokens.specs.Pieces.{Pieces, piece_texts}
 use Rattle.mz_math.specs.Grammar.{Words, IsKnown}
 use Rattle.mz_math.specs.Meaning.{Coerced, CoercedAll, IsSettled, IsClaimed}
 use Rattle.mz_math.specs.Formula.{Reader, words, StandsFor, Means, known_checks, token_checks}
+use Rattle.mz_math.proofs.Offered.{AllKnown, known-both, checks-hold}
 use Rattle.mz_printing.specs.Lines.{Tokens, math_text}
 use Rattle.mz_printing.specs.Plain.{pieces_at}
 use Rattle.mz_printing.specs.Prefix.{tokens_of, operand_tokens, enclosed, IsSpoken, IsOfWanted}
@@ -43,14 +43,6 @@ mutual
 
 -- ---- all tokens are known
 
-abbrev AllKnown : Words → Tokens → Type 0
-AllKnown ws [] = ⊤
-AllKnown ws (t ∷ ts) = IsKnown ws t × AllKnown ws ts
-
-known-append : (ws : Words) (ts us : Tokens) → AllKnown ws ts → AllKnown ws us → AllKnown ws (ts ++ us)
-known-append ws [] us a b = b
-known-append ws (t ∷ ts) us a b = (a.0, known-append ws ts us a.1 b)
-
 module _ (ws : Words) (term name : ℕ → List ℕ) (spoken : IsSpoken ws term name) where
   variable-known : (x : ℕ) → x < length ws.variables → IsKnown ws (name x)
   variable-known x less = let (some, at) = spoken.variables x less in inl (some, (x, slice_get_within ws.variables x (name x) at, get_or_from_slice_get ws.variables x (name x) (name x) at))
@@ -65,7 +57,7 @@ module _ (ws : Words) (term name : ℕ → List ℕ) (spoken : IsSpoken ws term 
 
     operands-known : (es : Trees) → AllInRange ws.signatures (length ws.variables) es → AllKnown ws (operand_tokens term name es)
     operands-known none range = tt
-    operands-known (more e es) range = known-append ws (enclosed term name e) (operand_tokens term name es) (enclosed-known e range.0) (operands-known es range.1)
+    operands-known (more e es) range = known-both ws (enclosed term name e) (operand_tokens term name es) (enclosed-known e range.0) (operands-known es range.1)
 
     enclosed-known : (e : Tree) → InRange ws.signatures (length ws.variables) e → AllKnown ws (enclosed term name e)
     enclosed-known (var x) range = (variable-known x range, tt)
@@ -74,14 +66,10 @@ module _ (ws : Words) (term name : ℕ → List ℕ) (spoken : IsSpoken ws term 
       inr (inl refl),
       (
         term-known t range.0,
-        known-append ws (enclosed term name e ++ operand_tokens term name es) (codes ")" ∷ [])
-            (known-append ws (enclosed term name e) (operand_tokens term name es) (enclosed-known e range.2.0) (operands-known es range.2.1)) (inr (inr (inl refl)), tt),
+        known-both ws (enclosed term name e ++ operand_tokens term name es) (codes ")" ∷ [])
+            (known-both ws (enclosed term name e) (operand_tokens term name es) (enclosed-known e range.2.0) (operands-known es range.2.1)) (inr (inr (inl refl)), tt),
       ),
     )
-
-pieces-known : (ws : Words) (text : List ℕ) (ps : List Piece) → AllKnown ws (piece_texts text ps) → AllHold (known_checks ws text ps)
-pieces-known ws text [] known = tt
-pieces-known ws text (p ∷ ps) known = (known.0, pieces-known ws text ps known.1)
 
 -- ---- the whole
 
@@ -111,7 +99,7 @@ prefix-meant r wanted term name e s bare spoken many sorted fits tokens short =
       pieces_at 1 ts,
       subst D (sym bare.delimiters) pieces,
       all_hold-both (known_checks (words r) text (pieces_at 1 ts)) (token_checks r wanted (piece_texts text (pieces_at 1 ts)))
-          (pieces-known (words r) text (pieces_at 1 ts) (subst K (sym same) (tokens-known (words r) term name spoken e range)))
+          (checks-hold (words r) text (pieces_at 1 ts) (subst K (sym same) (tokens-known (words r) term name spoken e range)))
           (subst C (sym same) checks),
       subst M (sym same) means,
     )

@@ -6,7 +6,7 @@ use Rattle.mz_logic.specs.Tree.{Tree, Trees, var, app, none, more, listed}
 use Rattle.mz_logic.specs.Legality.{InRange, AllInRange, signature_at}
 use Rattle.mz_notation.specs.Notation.{max_level}
 use Rattle.mz_notation.specs.declared.notation.Notation.{Notation}
-use Rattle.mz_math.specs.Grammar.{Words, Item, token, expr, Head, variable, parens, applied, Parse, Parts, headed, end, word, part, operands_at_max, level_of, part_tokens, tree_of, part_trees, IsTermName, IsLeading, IsExp, AreParts, Exp}
+use Rattle.mz_math.specs.Grammar.{Words, variable, parens, applied, Parse, Parts, headed, end, word, part, operands_at_max, level_of, part_tokens, tree_of, part_trees, IsLeading, IsExp, AreParts}
 use Rattle.mz_math.specs.Grammar as grammar
 use Rattle.mz_printing.specs.Prefix.{tokens_of, operand_tokens, enclosed, IsSpoken}
 use Rattle.mz_printing.specs.Laws.{PrefixFormsAreRead}

@@ -7,17 +7,12 @@ use Rattle.mz_lex.specs.declared.token.TokenKind.TheVariants as kinds
 use Rattle.mz_grammar.specs.declared.kind.Kind.{Kind}
 use Rattle.mz_grammar.specs.declared.kind.Kind.TheVariants.{Term, Assert, Definition}
 use Rattle.mz_grammar.specs.Statement.{Sign, keyword, symbol, name, formula, AreSigns, optional, each, modifier_signs, Modifiers, type_signs, name_signs, group_signs, premise_signs, body_signs, head_signs, end_signs, takes_dummies, opening_of, closing_of}
+use Rattle.mz_grammar.proofs.Offered.{are_signs-append}
 use Rattle.mz_printing.specs.Words.{Word, lexeme_at, lexemes_at, stop}
 use Rattle.mz_printing.specs.Lines.{PlainType, PlainBinder, Tokens, sort_line, term_line, assert_line, definition_line, mark, spaced_mark, name_word, spaced_name, math_word, hyp_words, dep_words, type_words, type_at, dot_words, opening_words, naming_words, binder_words, binder_at, binders_words, binders_at, title_words, head_words, head_at, colon_words, end_words, hyps_words, hyps_at, body_words, body_at, modifier_names, sort_keywords, keyword_words, sort_words, colon_at, HaveNoDummies}
 use Rattle.mz_printing.specs.Laws.{LinesSpellStatements}
 
 -- ---- one after the other
-
-signs-append : (ss ts : List Sign) (ls ms : List Lexeme) → AreSigns ss ls → AreSigns ts ms → AreSigns (ss ++ ts) (ls ++ ms)
-signs-append [] ts [] ms a b = b
-signs-append [] ts (l ∷ ls) ms a b = absurd a
-signs-append (s ∷ ss) ts [] ms a b = absurd a
-signs-append (s ∷ ss) ts (l ∷ ls) ms a b = (a.0, signs-append ss ts ls ms a.1 b)
 
 pub lexemes-append : (p : ℕ) (ws vs : List Word) → lexemes_at p (ws ++ vs) ≡ lexemes_at p ws ++ lexemes_at (stop p ws) vs
 lexemes-append p [] vs = refl
@@ -28,7 +23,7 @@ abbrev Make : ℕ → List Word → List Sign → Type 0
 Make p ws ss = AreSigns ss (lexemes_at p ws)
 
 make-append : (p : ℕ) (ws vs : List Word) (ss ts : List Sign) → Make p ws ss → Make (stop p ws) vs ts → Make p (ws ++ vs) (ss ++ ts)
-make-append p ws vs ss ts a b = let P : List Lexeme → Type 0 = λ ls. AreSigns (ss ++ ts) ls in subst P (sym (lexemes-append p ws vs)) (signs-append ss ts _ _ a b)
+make-append p ws vs ss ts a b = let P : List Lexeme → Type 0 = λ ls. AreSigns (ss ++ ts) ls in subst P (sym (lexemes-append p ws vs)) (are_signs-append ss ts _ _ a b)
 
 -- ---- types and binders
 

@@ -1,9 +1,10 @@
 -- The tokens of a math string that is written.
-use Rattle.std.proofs.Common.{◌≡◌, ◌<◌, ◌∙◌, ◌+◌, ◌++◌, ◌∷◌, [], ℕ, List, length, true, get_or, ap, ap₂, sym, refl, subst, inl, inr, arith, append_assoc, length-append}
-use Rattle.std.specs.Prelude.{codes, not, Contains}
+use Rattle.std.proofs.Common.{◌≡◌, ◌∙◌, ◌+◌, ◌++◌, ◌∷◌, [], ℕ, List, length, true, get_or, ap, ap₂, sym, refl, subst, inl, inr, arith, append_assoc, length-append}
+use Rattle.std.specs.Prelude.{codes, not}
 use Rattle.std.specs.List.{list_all}
 use Rattle.std.proofs.lemmas.List.{append_cancel_left, append_cancel_right}
 use Rattle.std.proofs.lemmas.Bool.{and_parts, and_from, not-true}
+use Rattle.mz_general.proofs.Offered.{contains_none, some-length}
 use Rattle.mz_lex.specs.Kinds.{is_space, is_math_byte, inside_of}
 use Rattle.mz_lex.proofs.Offered.{has-inside, part-at}
 use Rattle.mz_tokens.specs.Pieces.{IsSpaces, IsPiece, PiecesFrom, Pieces, no_delimiters, piece_texts}
@@ -22,13 +23,6 @@ no-space : (t : List ℕ) → list_all is_token_byte t ≡ true → list_all (λ
 no-space [] all = refl
 no-space (c ∷ cs) all = let parts = and_parts (is_token_byte c) (list_all is_token_byte cs) all in and_from _ _ (and_parts (is_math_byte c) (not (is_space c)) parts.0).1 (no-space cs parts.1)
 
-none-contains : {A : Type 0} (x : A) → Contains [] x → ⊥
-none-contains x (k, less, is) = absurd (omega arith)
-
-some-length : (t : List ℕ) → (t ≡ [] → ⊥) → 0 < length t
-some-length [] some = absurd (some refl)
-some-length (c ∷ cs) some = omega arith
-
 -- a token behind other bytes and before a space
 piece-is : (text before t rest : List ℕ) (at : ℕ) → IsToken t → Stands text before t (32 ∷ rest) at → IsPiece no_delimiters text (record { from = at; to = at + length t })
 piece-is text before t rest at (some, bytes) stands =
@@ -37,8 +31,8 @@ piece-is text before t rest at (some, bytes) stands =
       some = omega (arith, some-length t some);
       within = omega (arith, there.size);
       solid = λ i le less. not-true (is_space (get_or text i 0)) (part-at (λ c. not (is_space c)) text at (at + length t) i (ap (list_all (λ c. not (is_space c))) there.slice ∙ no-space t bytes) le less (omega (arith, there.size)));
-      no_left = λ i le less among. none-contains (get_or text i 0) among;
-      no_right = λ i le less among. none-contains (get_or text i 0) among;
+      no_left = λ i le less among. contains_none (get_or text i 0) among;
+      no_right = λ i le less among. contains_none (get_or text i 0) among;
       cut = inr (inl (ap is_space (there.next 32 rest refl)));
     }
 

@@ -1,32 +1,17 @@
 -- The statements so far, and their public part.
-use Rattle.std.proofs.Common.{◌≡◌, ◌<◌, ◌∙◌, ◌++◌, ℕ, suc, List, [], ◌∷◌, length, Bool, true, false, Some, ap, sym, refl, subst, subst₂, inl, inr, arith, append-nil, length-append}
+use Rattle.std.proofs.Common.{◌≡◌, ◌<◌, ◌∙◌, ◌++◌, ℕ, suc, List, [], ◌∷◌, length, Bool, true, false, ap, sym, refl, subst, subst₂, inl, inr, arith, length-append}
 use Rattle.std.specs.Prelude.{slice_get}
 use Rattle.std.proofs.lemmas.Bool.{false≢true, or_parts, cases_order}
+use Rattle.mz_general.proofs.Offered.{slice_get-last}
 use Rattle.mz_logic.specs.Tree.{Tree, Trees, var, app, none, more}
 use Rattle.mz_logic.specs.Signature.{Signature}
 use Rattle.mz_logic.specs.Declaration.{Term, Assertion, Declaration, sort_decl, term_decl, assertion_decl, sorts, signatures}
 use Rattle.mz_logic.specs.Legality.{InRange, AllInRange}
 use Rattle.mz_logic.specs.declared.binder.SortMods.{SortMods}
-use Rattle.mz_logic.proofs.Offered.{extends_append, sorts-append}
+use Rattle.mz_logic.proofs.Offered.{extends_append, sorts-append, signatures-append, same-sorts, same-signatures}
 use Rattle.mz_publics.specs.PublicPart.{public_number, is_local_term, mentions_local, any_mentions_local}
 use Rattle.mz_publics.proofs.Numbers.{local-number, public-number}
 use Rattle.mz_publics.proofs.Renaming.{AllTerms, AllTermsIn, IsKept, Kept, AllKept}
-
-pub signatures-append : (a b : List Declaration) → signatures (a ++ b) ≡ signatures a ++ signatures b
-signatures-append [] b = refl
-signatures-append (sort_decl _ ∷ a) b = signatures-append a b
-signatures-append (term_decl d ∷ a) b = ap (λ ds. d.signature ∷ ds) (signatures-append a b)
-signatures-append (assertion_decl _ ∷ a) b = signatures-append a b
-
-pub same-signatures : (env : List Declaration) (d : Declaration) → signatures (d ∷ []) ≡ [] → signatures (env ++ d ∷ []) ≡ signatures env
-same-signatures env d is = signatures-append env (d ∷ []) ∙ ap (λ ds. signatures env ++ ds) is ∙ append-nil (signatures env)
-
-pub same-sorts : (env : List Declaration) (d : Declaration) → sorts (d ∷ []) ≡ [] → sorts (env ++ d ∷ []) ≡ sorts env
-same-sorts env d is = sorts-append env (d ∷ []) ∙ ap (λ ds. sorts env ++ ds) is ∙ append-nil (sorts env)
-
-last-at : {A : Type 0} (xs : List A) (x : A) → slice_get (xs ++ x ∷ []) (length xs) ≡ Some x
-last-at [] x = refl
-last-at (y ∷ xs) x = last-at xs x
 
 -- these sorts and signatures are those of the others, where terms that are not local are numbered anew
 pub record IsBeside (ls : List Bool) (ss ss' : List SortMods) (sigs sigs' : List Signature) : Type 0 where
@@ -72,7 +57,7 @@ module _ (ls : List Bool) (ss ss' : List SortMods) (sigs sigs' : List Signature)
   public-kept public t less is =
       elim (cases_order t (length sigs)) [
         | inl same ↦ (let P : ℕ → Type 0 = λ i. IsKept (public_number ls) (sigs ++ d ∷ []) (sigs' ++ d ∷ []) i in
-            subst P (sym same) (d, last-at sigs d, ap (slice_get (sigs' ++ d ∷ [])) beside.next ∙ last-at sigs' d))
+            subst P (sym same) (d, slice_get-last sigs d, ap (slice_get (sigs' ++ d ∷ [])) beside.next ∙ slice_get-last sigs' d))
         | inr other ↦ elim other [
           | inl before ↦ (let (e, here, kept) = beside.kept t before is in (e, extends_append sigs (d ∷ []) t e here, extends_append sigs' (d ∷ []) (public_number ls t) e kept))
           | inr behind ↦ absurd (omega (arith, length-append sigs (d ∷ [])))

@@ -13,10 +13,11 @@ use Rattle.mz_logic.specs.Legality.{AreBindersThere, AreParams, IsParam, IsClaim
 use Rattle.mz_logic.specs.LegalLists.{Statement, LegalAfter, MayBeLocal, gap_free}
 use Rattle.mz_logic.specs.declared.binder.Binder.{Binder}
 use Rattle.mz_logic.specs.declared.binder.SortMods.{SortMods}
+use Rattle.mz_logic.proofs.Offered.{signatures-append, same-signatures}
 use Rattle.mz_publics.specs.PublicPart.{public_number, is_local_term, mark_of, marks_of, renamed, mentions_local, shown, renamed_assertion, public_decl, public_decls, Hides, IsSayable, AreSayable}
 use Rattle.mz_publics.specs.Laws.{PublicPartsAreLegal}
 use Rattle.mz_publics.proofs.Renaming.{Kept, in-range, all-in-range, same-sort, operands-kept, sort-fits, bound-fits, each-kept, free-back}
-use Rattle.mz_publics.proofs.Beside.{AreBeside, signatures-append, same-signatures, none-beside, with-sort, with-assertion, with-local_assertion, with-term, with-local_term, none-mentioned, none-mentioned-in}
+use Rattle.mz_publics.proofs.Beside.{AreBeside, none-beside, with-sort, with-assertion, with-local_assertion, with-term, with-local_term, none-mentioned, none-mentioned-in}
 
 pub pick : {A : Type 0} (P : A → Type 0) (b : Bool) (x y : A) → (b ≡ true → P x) → (b ≡ false → P y) → P (if b then x else y)
 pick P true x y yes_ no_ = yes_ refl

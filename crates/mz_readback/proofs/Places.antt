@@ -3,8 +3,9 @@ use Rattle.std.proofs.Common.{◌≡◌, ◌∙◌, ◌<◌, ◌≤◌, ◌+◌,
 use Rattle.std.specs.Prelude.{⊤, ◌==◌, ◌||◌, bytes_eq, if◌then◌else◌, All}
 use Rattle.std.specs.List.{list_any}
 use Rattle.std.specs.List.Sorted.{IsStrictlyIncreasing}
-use Rattle.std.proofs.lemmas.Bool.{cases_eq, false_from_ne_true, ne_eqb, eq-eqb, or_from, or_left}
+use Rattle.std.proofs.lemmas.Bool.{cases_eq, ne_eqb, eq-eqb, or_from, or_left}
 use Rattle.std.proofs.lemmas.Slice.Eq.{bytes_eq-Decides}
+use Rattle.mz_general.proofs.Offered.{other-bytes}
 use Rattle.mz_lex.specs.Lexemes.{Lexeme}
 use Rattle.mz_logic.specs.declared.binder.Binder.{Binder}
 use Rattle.mz_variables.specs.View.{Variable, is_among}
@@ -45,9 +46,6 @@ not-in (j ∷ js) low k (le, above) less = or_from (j == k) (list_any (λ i. i =
 
 same-bytes : (a b : List ℕ) → a ≡ b → bytes_eq a b ≡ true
 same-bytes a b is = (bytes_eq-Decides a b).1 is
-
-other-bytes : (a b : List ℕ) → (a ≡ b → ⊥) → bytes_eq a b ≡ false
-other-bytes a b not_ = false_from_ne_true (bytes_eq a b) (λ is. not_ ((bytes_eq-Decides a b).0 is))
 
 module _ (v : Vocabulary) (n : ℕ) (variables : HasVariables v n) where
   same-test : (x k : ℕ) (l : Lexeme) → x < n → k < n → l.text ≡ v.variable x → bytes_eq l.text (v.variable k) ≡ (x == k)

@@ -3,7 +3,7 @@ use Rattle.std.proofs.Common.{◌≡◌, ◌∙◌, ◌<◌, ◌≤◌, ◌+◌,
 use Rattle.std.specs.Prelude.{⊤, All, IsTrue, Contains, codes, ◌==◌}
 use Rattle.std.proofs.Math.Seq.{get_or-append_seam}
 use Rattle.std.proofs.lemmas.List.{get_or_append_left}
-use Rattle.std.proofs.lemmas.List.Elements.{All-nil}
+use Rattle.std.proofs.lemmas.List.Elements.{All-nil, Contains-push}
 use Rattle.std.proofs.lemmas.Bool.{cases_order}
 use Rattle.mz_lex.specs.Lexemes.{Lexeme}
 use Rattle.mz_names.specs.Identifiers.{is_name}
@@ -14,7 +14,7 @@ use Rattle.mz_logic.specs.Modifiers.{MayBeDummySort}
 use Rattle.mz_logic.specs.Legality.{AreBindersThere, IsBinderThere, IsDummy, IsClaim, EachTree, AllInRange, InRange, HasOperandSorts, HasBoundOperands}
 use Rattle.mz_logic.specs.declared.binder.Binder.{Binder}
 use Rattle.mz_logic.specs.declared.binder.SortMods.{SortMods}
-use Rattle.mz_logic.proofs.Offered.{sorts-append}
+use Rattle.mz_logic.proofs.Offered.{sorts-append, signatures-append, same-sorts, same-signatures}
 use Rattle.mz_notation.specs.Notation.{TermName}
 use Rattle.mz_grammar.specs.declared.kind.AssertKind.{AssertKind}
 use Rattle.mz_grammar.specs.declared.kind.Kind.TheVariants.{Term as TermKind, Assert, Definition}
@@ -58,18 +58,6 @@ bits-are k less = omega (arith, bit-is k, bit-is (k / 2), bit-is (k / 4), bit-is
 
 -- ---- one more declaration
 
-signatures-append : (a b : List Declaration) → signatures (a ++ b) ≡ signatures a ++ signatures b
-signatures-append [] b = refl
-signatures-append (sort_decl _ ∷ a) b = signatures-append a b
-signatures-append (term_decl d ∷ a) b = ap (λ ds. d.signature ∷ ds) (signatures-append a b)
-signatures-append (assertion_decl _ ∷ a) b = signatures-append a b
-
-same-signatures : (env : List Declaration) (d : Declaration) → signatures (d ∷ []) ≡ [] → signatures (env ++ d ∷ []) ≡ signatures env
-same-signatures env d is = signatures-append env (d ∷ []) ∙ ap (λ ds. signatures env ++ ds) is ∙ append-nil (signatures env)
-
-same-sorts : (env : List Declaration) (d : Declaration) → sorts (d ∷ []) ≡ [] → sorts (env ++ d ∷ []) ≡ sorts env
-same-sorts env d is = sorts-append env (d ∷ []) ∙ ap (λ ds. sorts env ++ ds) is ∙ append-nil (sorts env)
-
 at-last : (f : ℕ → List ℕ) (xs : List (List ℕ)) (x : List ℕ) → ((i : ℕ) → i < length xs → get_or xs i [] ≡ f i) → x ≡ f (length xs) → (i : ℕ) → i < length (xs ++ x ∷ []) → get_or (xs ++ x ∷ []) i [] ≡ f i
 at-last f xs x are is i less =
     elim (cases_order i (length xs)) [
@@ -82,9 +70,6 @@ at-last f xs x are is i less =
 
 contains-left : {A : Type 0} (xs : List A) (y x : A) → Contains xs x → Contains (xs ++ y ∷ []) x
 contains-left xs y x (k, less, is) = (k, (omega (arith, length-append xs (y ∷ []))), get_or_append_left xs (y ∷ []) x k less ∙ is)
-
-contains-last : {A : Type 0} (xs : List A) (x : A) → Contains (xs ++ x ∷ []) x
-contains-last xs x = (length xs, (omega (arith, length-append xs (x ∷ []))), get_or-append_seam xs x [] x)
 
 -- formulas over a context are right
 abbrev pub RightIn : Vocabulary → State → List Binder → Trees → Type 0
@@ -174,7 +159,7 @@ module _ (v : Vocabulary) (n : ℕ) (variables : HasVariables v n) where
               let P : TermName → Type 0 = λ a. Contains (σ.table.names ++ record { name = l.text; term = length σ.term_names } ∷ []) a in
               let Q : List ℕ → Type 0 = λ w. P (record { name = w; term = i }) in
               let R : ℕ → Type 0 = λ k. P (record { name = l.text; term = k }) in
-              subst Q (is ∙ ap v.term (sym same)) (subst R (behind.terms_many ∙ sym same) (contains-last σ.table.names (record { name = l.text; term = length σ.term_names }))))
+              subst Q (is ∙ ap v.term (sym same)) (subst R (behind.terms_many ∙ sym same) (Contains-push σ.table.names (record { name = l.text; term = length σ.term_names }))))
           | inr other ↦ elim other [
             | inl earlier ↦ contains-left σ.table.names _ _ (behind.term_found i earlier)
             | inr later ↦ absurd (omega (arith, many))

@@ -1,7 +1,8 @@
 -- What the rules see of binders that are printed.
 use Rattle.std.proofs.Common.{◌≡◌, ◌∙◌, ◌<◌, ◌≤◌, ◌++◌, ◌+◌, ℕ, zero, suc, List, [], ◌∷◌, length, map, Bool, true, false, Some, None, ap, sym, refl, subst, arith}
-use Rattle.std.specs.Prelude.{⊤, bytes_eq, codes, if◌then◌else◌, IsTrue, slice_get, ◌||◌}
+use Rattle.std.specs.Prelude.{⊤, bytes_eq, codes, if◌then◌else◌, IsTrue, slice_get}
 use Rattle.std.proofs.lemmas.Bool.{and_parts, not-true}
+use Rattle.mz_general.proofs.Offered.{or-false}
 use Rattle.mz_names.specs.Identifiers.{is_name}
 use Rattle.mz_lex.specs.Lexemes.{Lexeme}
 use Rattle.mz_logic.specs.declared.binder.Binder.{Binder}
@@ -60,10 +61,6 @@ not-blank (c ∷ cs) is = not-true _ (and_parts _ _ is).1
 
 named-at : (l : Lexeme) → is_name l.text ≡ true → name_of l ≡ Some l
 named-at l is = ap (λ b. if b then None else Some l) (not-blank l.text is)
-
-or-false : (b : Bool) → (b || false) ≡ b
-or-false true = refl
-or-false false = refl
 
 module _ (v : Vocabulary) (n : ℕ) (names : (x : ℕ) → x < n → IsTrue (is_name (v.variable x))) where
   dummies-shown : (ds : List Binder) (x p : ℕ) → x + length ds ≤ n → ((i : ℕ) (d : Binder) → slice_get ds i ≡ Some d → IsDummy d)

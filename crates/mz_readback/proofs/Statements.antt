@@ -26,11 +26,12 @@ use Rattle.mz_grammar.specs.Statement.{TypeText}
 use Rattle.mz_printing.specs.Words.{lexeme_at, stop}
 use Rattle.mz_printing.specs.Lines.{PlainBinder, Tokens, math_word, math_text, hyp_words, binders_at, type_at, hyps_at}
 use Rattle.mz_names.specs.Names.{IsKnown}
-use Rattle.mz_variables.specs.View.{Named as NamedIn, Variable, Formula, claim, body, variables_of, types_of, group_types, group_stated, premise_stated, Stated, stated_claim, params_of, dummies_of, names_of}
+use Rattle.mz_variables.specs.View.{Named as NamedIn, Variable, Formula, claim, body, variables_of, types_of, group_types, group_stated, premise_stated, stated_claim, params_of, dummies_of, names_of}
 use Rattle.mz_spec.specs.State.{State, param_binders, dummy_binders, signature_of, reader_of, sort_number}
 use Rattle.mz_spec.specs.Formulas.{IsMeant, AreHyps, AreTokens, strings_checks, free_checks, CoversFreeVariables}
 use Rattle.mz_spec.specs.Rules.{is_new, are_others, type_checks, binder_rules, body_rules, HaveBinders, IsResult, IsDummySort, IsNotPure, AreBinders}
 use Rattle.mz_variables.specs.Dependencies.{Every}
+use Rattle.mz_spec.proofs.Offered.{free-none}
 use Rattle.mz_readback.specs.Declared.{Vocabulary, HasVariables, formula_of, formulas_of, plain_type, plain_binders}
 use Rattle.mz_printing.specs.Prefix.{IsShort}
 use Rattle.mz_readback.proofs.Shown.{AreShown, AllShown, typed-at, binders-shown, params-shown, dummies-apart, names_from, names-join, bytes-are, all-names}
@@ -67,10 +68,6 @@ no-stated (b ∷ bs) p = no-stated bs _
 pub no-types : (hs : List Tokens) (p : ℕ) → types_of (hyps_at p hs) ≡ []
 no-types [] p = refl
 no-types (h ∷ hs) p = no-types hs (stop p (hyp_words h))
-
-claims-free : (σ : State) (place : ℕ) (vs : List Variable) (hs : List Stated) (c : Lexeme) → AllHold (each_in_order (free_checks σ place vs) (map stated_claim hs ++ claim c ∷ []))
-claims-free σ place vs [] c = tt
-claims-free σ place vs (h ∷ hs) c = claims-free σ place vs hs c
 
 bound-there : (ps : List Binder) (j : ℕ) → IsBoundAt ps j → j < length ps
 bound-there ps j (b, at, bound) = slice_get_within ps j b at
@@ -227,4 +224,4 @@ module _ (v : Vocabulary) (n : ℕ) (variables : HasVariables v n) (σ : State) 
       → GoodBy σ place names shown_vs (group_types (binders_at q (plain_binders v 0 ps ds)) ++ []) [] (map stated_claim (premise_stated (hyps_at p (formulas_of v es))) ++ claim l ∷ [])
   good-claims place names es e p l new (range, fits, bounds, is, short, right) text =
       good-by σ place names shown_vs _ [] _ new others (types [] tt) (have-binders [] tt) no-strict tt
-      (all-meant es p (claim l ∷ []) right ((e, meant-claim e l text range fits bounds is short), tt)) (claims-free σ place shown_vs (premise_stated (hyps_at p (formulas_of v es))) l)
+      (all-meant es p (claim l ∷ []) right ((e, meant-claim e l text range fits bounds is short), tt)) (free-none σ place shown_vs (premise_stated (hyps_at p (formulas_of v es))) l)

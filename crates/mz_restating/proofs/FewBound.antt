@@ -23,16 +23,15 @@ use Rattle.mz_unification.specs.Streams.{of_definition}
 use Rattle.mz_unification.specs.Spells.{trees_of, dummy_of, variables_from, SpellsForm}
 use Rattle.mz_unification.specs.Profile.{strict, tree_parts, Item, expr, proof, obligation, conversion}
 use Rattle.mz_unification.specs.UnifyMachine.{in_definition, is_empty}
-use Rattle.mz_unification.proofs.Offered.{from_bind, from_need, from_want, taken, taken-is, place-ok, place_from, renamed, definition-spelled, unfolding-is, one-text}
+use Rattle.mz_unification.proofs.Offered.{from_bind, from_need, from_want, taken, taken-is, place-ok, place_from, renamed, definition-spelled, unfolding-is, one-text, length-params}
 use Rattle.mz_soundness.specs.MachineState.{RowsBefore, signatures_in, State, Kind, is_definition, Heading, Declares}
 use Rattle.mz_soundness.specs.FreeVars.{free_within}
 use Rattle.mz_soundness.specs.Premises.{bound_count, pop, pop_expr, pop_proof, pop_obligation, pop_conversion, is_conversion, is_obligation, may_be_dummy_sort}
 use Rattle.mz_soundness.specs.ProofMachine.{ends_with, matched_by, built, cited, referred, same_term, unfolding_of, has_provable_sort, proof_row, proof_end, last_item, ending, own_stream}
 use Rattle.mz_soundness.specs.Bodies.{BodyCommand, ends, proves, body_command, body_turn, body_turn_by, body_from, body_start, Runs}
-use Rattle.mz_soundness.proofs.Offered.{body-fact, end-ran, own-run}
+use Rattle.mz_soundness.proofs.Offered.{body-fact, end-ran, own-run, last-expr, from_follow}
 use Rattle.mz_tracing.specs.Traces.{Trace, traced, trace_turn, trace_command, trace_from, trace_start, Made}
-use Rattle.mz_tracing.proofs.Offered.{from_follow}
-use Rattle.mz_files.proofs.Offered.{Among, fresh-fewer, vars-long, last-expr}
+use Rattle.mz_files.proofs.Offered.{Among, fresh-fewer}
 
 -- ---- a command adds at most one bound variable, where there are fewer than 55
 
@@ -239,7 +238,7 @@ definition-few tables env declares h at bytes kind few (last, run-is) ds body te
     let (met, spelled) = definition-spelled (signatures env) last.ctx h.params h.stream e u own sorted in
     let own-vars = variables_from 0 h.params in
     let (ys, _, _, (fresh, _)) =
-    unfolding-is (signatures env) last.ctx h.params h.stream met (renamed (place_from 0 u.apart) e) own-vars e u spelled (vars-long 0 h.params) sorted own in
+    unfolding-is (signatures env) last.ctx h.params h.stream met (renamed (place_from 0 u.apart) e) own-vars e u spelled (length-params 0 h.params) sorted own in
     let same : met ≡ ds = (one-text of_definition (signatures env) h.params h.stream none none (renamed (place_from 0 u.apart) e) body met ds spelled text).2 in
     let fewer = fresh-fewer last.ctx (variables_from 0 h.params) ys met (numbers (length h.params) (length made)) fresh (fresh-behind last.ctx h.params (length made) many ys met fresh) in
     subst (λ (bs : List Binder). bound_count h.params + length bs ≤ 55) same (omega (arith, fewer, numbers-many (length h.params) (length made), all-few))

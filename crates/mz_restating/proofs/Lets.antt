@@ -19,9 +19,9 @@ use Rattle.mz_soundness.specs.MachineState.{RowsBefore, State, Heading}
 use Rattle.mz_soundness.specs.Premises.{pop_expr, pop_proof, pop_obligation, pop_sides}
 use Rattle.mz_soundness.specs.ProofMachine.{citation, matched_by, unfolding_of, proof_row}
 use Rattle.mz_soundness.specs.Bodies.{BodyCommand, ends, proves, body_command}
+use Rattle.mz_soundness.proofs.Offered.{from_follow}
 use Rattle.mz_tracing.specs.Parts.{Part, expression, proved, owed, converted, for_proof, for_turned, for_operand, for_unfolded, for_cut, then_conv, paid, by_operands, proofs_above}
 use Rattle.mz_tracing.specs.Traces.{Trace, stacked, kept, named, saved, referred, conversion_saved, to_convert, below_sides, cited, traced, trace_turn, trace_command, trace_from, trace_start, under_lets, Made}
-use Rattle.mz_tracing.proofs.Offered.{from_follow}
 use Rattle.mz_phrasing.specs.Phrasable.{SeesLets, AllSeeLets}
 
 -- ---- one proof

@@ -13,3 +13,4 @@ pub mod Rows
 pub mod Stated
 pub mod Phrasable
 pub mod Texts
+pub mod Offered

@@ -9,8 +9,7 @@ use Rattle.mz_names.specs.Identifiers.{is_name_byte}
 use Rattle.mz_names.proofs.Offered.{digits-named}
 use Rattle.mz_forms.specs.Name.{IsName}
 use Rattle.mz_variables.specs.Dependencies.{Every}
-use Rattle.mz_wording.specs.Wording.{underscores}
-use Rattle.mz_naming.specs.Names.{longest_run}
+use Rattle.mz_statements.specs.DeclaredNames.{underscores, longest_run}
 
 -- ---- how a prefixed name begins
 

@@ -15,7 +15,8 @@ use Rattle.mz_files.specs.Chains.{IsGoodStatement, GoodTo}
 use Rattle.mz_files.specs.Standards.{strict_standard}
 use Rattle.mz_tracing.specs.Laws.{BodiesMakeProofs}
 use Rattle.mz_tracing.specs.Traces.{under_lets}
-use Rattle.mz_naming.specs.Names.{prefix_beside, declared_names, statement_names}
+use Rattle.mz_statements.specs.DeclaredNames.{prefix_beside}
+use Rattle.mz_naming.specs.Names.{declared_names, statement_names}
 use Rattle.mz_restating.specs.Restated.{IsProofMade, IsRestated, AreRestated}
 use Rattle.mz_restating.specs.Laws.{AcceptedAreRestated}
 use Rattle.mz_restating.proofs.Theorems.{next_heading, IsProofBy, theorem-runs, one-more}

@@ -1,5 +1,5 @@
 -- What the row of a good statement says of the size and the form of its declaration.
-use Rattle.std.proofs.Common.{◌≡◌, ◌≤◌, ◌<◌, ◌+◌, ◌⊎◌, ◌++◌, ℕ, suc, Bool, true, false, List, [], ◌∷◌, length, get_or, drop, Option, Some, None, refl, sym, ap, subst, inl, inr, arith, length-drop}
+use Rattle.std.proofs.Common.{◌≡◌, ◌≤◌, ◌<◌, ◌+◌, ◌⊎◌, ℕ, Bool, true, false, List, [], length, get_or, drop, Option, Some, None, refl, sym, subst, inl, inr, arith, length-drop}
 use Rattle.std.specs.Prelude.{Result, if◌then◌else◌}
 use Rattle.std.specs.List.Sorted.{IsStrictlyIncreasing}
 use Rattle.std.proofs.lemmas.List.{get_or-drop}
@@ -12,10 +12,11 @@ use Rattle.mz_logic.specs.Tree.{listed}
 use Rattle.mz_logic.specs.Signature.{Signature}
 use Rattle.mz_logic.specs.Declaration.{Form, plain_form, abstract_form, defined, dummies_of, Declaration, sort_decl, term_decl, assertion_decl, Term, Assertion, sorts, terms, signatures, assertions, DepsAscend}
 use Rattle.mz_logic.specs.LegalLists.{Statement}
-use Rattle.mz_logic.specs.Words.{word_bound, binders_from, binders_of, signature_of}
+use Rattle.mz_logic.specs.Words.{binders_of, signature_of}
 use Rattle.mz_logic.specs.declared.binder.Binder.{Binder}
 use Rattle.mz_logic.specs.declared.binder.SortMods.{SortMods}
 use Rattle.mz_logic.specs.declared.word.Word.{Word}
+use Rattle.mz_logic.proofs.Offered.{length-binders}
 use Rattle.mz_layout.specs.Numbers.{number_at}
 use Rattle.mz_layout.specs.Tables.{param_count, params_of, term_record, thm_record, term_row, thm_row}
 use Rattle.mz_layout.proofs.Offered.{length-params}
@@ -50,10 +51,6 @@ IsModest n (assertion_decl a) = (length a.params ≤ 65535) × (bound_count a.pa
 
 -- ---- parameters
 
-binders-many : (i : ℕ) (places : List ℕ) (ws : List Word) → length (binders_from i places ws) ≡ length ws
-binders-many i places [] = refl
-binders-many i places (w ∷ ws) = ap suc (binders-many (suc i) (if word_bound w then places ++ i ∷ [] else places) ws)
-
 -- they are counted in two bytes
 count-small : (file : List ℕ) (at : ℕ) → AreBytes file → param_count file at ≤ 65535
 unfolding number_at
@@ -63,7 +60,7 @@ count-small file at bytes =
     omega (arith, low, high)
 
 params-few : (file : List ℕ) (at : ℕ) → AreBytes file → length (binders_of (params_of file at)) ≤ 65535
-params-few file at bytes = omega (arith, binders-many 0 [] (params_of file at), length-params file at, count-small file at bytes)
+params-few file at bytes = omega (arith, length-binders 0 [] (params_of file at), length-params file at, count-small file at bytes)
 
 bound-few : (ss : List SortMods) (ws : List Word) → AreParamWords ss ws → bound_count (binders_of ws) ≤ 55
 bound-few ss ws right = omega (arith, (right-words ss ws right).3, words-bound 0 [] ws)

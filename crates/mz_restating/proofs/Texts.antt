@@ -28,7 +28,8 @@ use Rattle.mz_phrasing.specs.Laws.{StatedTextsAreRead}
 use Rattle.mz_phrasing.specs.Phrasing.{Vocabulary, text_of}
 use Rattle.mz_phrasing.specs.Phrasable.{HasNames}
 use Rattle.mz_restating.specs.Laws.{PlainTextsAreTexts}
-use Rattle.mz_naming.specs.Names.{longest_run, declared_names, statement_names, vocabulary_of}
+use Rattle.mz_statements.specs.DeclaredNames.{longest_run}
+use Rattle.mz_naming.specs.Names.{declared_names, statement_names, vocabulary_of}
 use Rattle.mz_wording.specs.Wording.{longest}
 use Rattle.mz_restating.specs.Restated.{depth_checks, stating_checks, greater_length}
 use Rattle.mz_restating.proofs.Prefixed.{prefix_of, prefixed-named, same-number, same-letter}

@@ -44,7 +44,7 @@ pub record RunsAs (file : List ℕ) (env : List Declaration) (body next : ℕ) (
   pub spells : SpellsThm (signatures env) (thm_row (next_heading file env)) a
 
 -- both codes of a theorem ask the same
-theorem-asked : (file : List ℕ) (env : List Declaration) (at code body next : ℕ) → (code ≡ 0x06) ⊎ (code ≡ 0x0E)
+pub theorem-asked : (file : List ℕ) (env : List Declaration) (at code body next : ℕ) → (code ≡ 0x06) ⊎ (code ≡ 0x0E)
     → AllHold (kind_checks strict_standard file (taken_by env) at body next (statement_code code))
     → AllHold (kind_checks strict_standard file (taken_by env) at body next (Some codes.Theorem))
 theorem-asked file env at code body next (inl is) all = subst (λ (c : ℕ). AllHold (kind_checks strict_standard file (taken_by env) at body next (statement_code c))) is all

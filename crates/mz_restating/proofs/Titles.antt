@@ -3,19 +3,19 @@ use Rattle.std.proofs.Common.{◌≡◌, ◌≤◌, ◌<◌, ◌+◌, ◌^◌, �
 use Rattle.std.specs.Prelude.{⊤, if◌then◌else◌}
 use Rattle.mz_logic.specs.Declaration.{Form, plain_form, abstract_form, defined, Declaration, sort_decl, term_decl, assertion_decl, sorts, signatures, assertions}
 use Rattle.mz_logic.specs.LegalLists.{Statement as Marked}
-use Rattle.mz_logic.proofs.Offered.{assertions-append}
+use Rattle.mz_logic.proofs.Offered.{assertions-append, sorts-append, signatures-append}
 use Rattle.mz_forms.specs.Name.{Names, IsName, no_names, names_with}
 use Rattle.mz_statements.specs.Statements.{Statement}
 use Rattle.mz_type.specs.Meaning.{marked}
 use Rattle.mz_variables.specs.Dependencies.{Every}
-use Rattle.mz_spec.proofs.Offered.{every-front, every-join, sorts-more, signatures-more}
+use Rattle.mz_spec.proofs.Offered.{every-front, every-join}
 use Rattle.mz_verdicts.specs.declared.kind.Kind.{Kind}
 use Rattle.mz_verdicts.specs.declared.kind.Kind.TheVariants as kinds
 use Rattle.mz_verdicts.specs.Match.{partner_of, publics_after, publics, kind_of, kind_of_form, Agrees}
-use Rattle.mz_wording.specs.Wording.{underscores, sort_name, term_name, sort_names, term_names}
+use Rattle.mz_statements.specs.DeclaredNames.{underscores, sort_name, term_name, sort_names, term_names, assertion_name, assertion_names, longest_run}
 use Rattle.mz_phrasing.specs.Phrasing.{Vocabulary}
 use Rattle.mz_phrasing.specs.Phrasable.{HasNewName}
-use Rattle.mz_naming.specs.Names.{longest_run, statement_names, assertion_name, assertion_names, vocabulary_of}
+use Rattle.mz_naming.specs.Names.{statement_names, vocabulary_of}
 use Rattle.mz_restating.proofs.Seen.{Seen, none_seen, seen_in, seen_with, IsOther, AreNew, seen_of, seen-with, other-new}
 use Rattle.mz_restating.proofs.Prefixed.{prefix_of, prefixed, all-short, prefixed-named, not-short, same-number, same-letter}
 
@@ -224,24 +224,24 @@ module _ (whole : List Statement) (env : List Declaration) (names : Names) (ss t
   Before d w = Stands whole env names (sort_name d w ++ ss) (term_name d w ++ ts) (assertion_name d w ++ as_)
 
   same-sorts : (d : Declaration) → sorts (d ∷ []) ≡ [] → length (sorts (env ++ d ∷ [])) ≡ length (sorts env)
-  same-sorts d none = ap length (sorts-more env (d ∷ []) ∙ ap (λ xs. sorts env ++ xs) none ∙ append-nil (sorts env))
+  same-sorts d none = ap length (sorts-append env (d ∷ []) ∙ ap (λ xs. sorts env ++ xs) none ∙ append-nil (sorts env))
 
   same-terms : (d : Declaration) → signatures (d ∷ []) ≡ [] → length (signatures (env ++ d ∷ [])) ≡ length (signatures env)
-  same-terms d none = ap length (signatures-more env (d ∷ []) ∙ ap (λ xs. signatures env ++ xs) none ∙ append-nil (signatures env))
+  same-terms d none = ap length (signatures-append env (d ∷ []) ∙ ap (λ xs. signatures env ++ xs) none ∙ append-nil (signatures env))
 
   same-assertions : (d : Declaration) → assertions (d ∷ []) ≡ [] → length (assertions (env ++ d ∷ [])) ≡ length (assertions env)
   same-assertions d none = ap length (assertions-append env (d ∷ []) ∙ ap (λ xs. assertions env ++ xs) none ∙ append-nil (assertions env))
 
   stands-next : (d : Declaration) (w : List ℕ) → Before d w → Stands whole (env ++ d ∷ []) (names_with names w d) ss ts as_
   stands-next (sort_decl m) w h = record {
-    sorts = front-more (sort_names whole) names.sorts ss w (length (sorts env)) _ (omega (arith, ap length (sorts-more env (sort_decl m ∷ [])), length-append (sorts env) (m ∷ []))) h.sorts;
+    sorts = front-more (sort_names whole) names.sorts ss w (length (sorts env)) _ (omega (arith, ap length (sorts-append env (sort_decl m ∷ [])), length-append (sorts env) (m ∷ []))) h.sorts;
     terms = front-same (term_names whole) names.terms ts (length (signatures env)) _ (same-terms (sort_decl m) refl) h.terms;
     assertions = front-same (assertion_names whole) names.assertions as_ (length (assertions env)) _ (same-assertions (sort_decl m) refl) h.assertions;
   }
   stands-next (term_decl d) w h = record {
     sorts = front-same (sort_names whole) names.sorts ss (length (sorts env)) _ (same-sorts (term_decl d) refl) h.sorts;
     terms = front-more (term_names whole) names.terms ts w (length (signatures env)) _
-        (omega (arith, ap length (signatures-more env (term_decl d ∷ [])), length-append (signatures env) (d.signature ∷ []))) h.terms;
+        (omega (arith, ap length (signatures-append env (term_decl d ∷ [])), length-append (signatures env) (d.signature ∷ []))) h.terms;
     assertions = front-same (assertion_names whole) names.assertions as_ (length (assertions env)) _ (same-assertions (term_decl d) refl) h.assertions;
   }
   stands-next (assertion_decl a) w h = record {

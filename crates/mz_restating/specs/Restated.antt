@@ -19,7 +19,8 @@ use Rattle.mz_spec.specs.State.{Entry}
 use Rattle.mz_spec.specs.Spec.{SpecMakes}
 use Rattle.mz_verdicts.specs.Verdict.{Accepts}
 use Rattle.mz_wording.specs.Wording.{longest}
-use Rattle.mz_naming.specs.Names.{prefix_beside, declared_names, statement_names}
+use Rattle.mz_statements.specs.DeclaredNames.{prefix_beside}
+use Rattle.mz_naming.specs.Names.{declared_names, statement_names}
 use Rattle.mz_tracing.specs.Traces.{Made, under_lets}
 use Rattle.mz_phrasing.specs.Phrases.{depth}
 use Rattle.mz_phrasing.specs.Phrasing.{Vocabulary, statement, text_of}

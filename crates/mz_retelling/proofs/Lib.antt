@@ -5,3 +5,4 @@ mod Progress
 mod Behind
 mod Lowering
 mod Wholes
+pub mod Offered

@@ -1,11 +1,7 @@
 -- Lines, put together and appended.
-use Rattle.std.proofs.Common.{ℕ, ◌≡◌, ◌++◌, List, Bool, cond, codes, decimal, ap, sym, ◌∙◌, append_assoc}
+use Rattle.std.proofs.Common.{ℕ, ◌≡◌, ◌++◌, List, Bool, cond, codes, decimal, ap, sym}
 use Rattle.std.proofs.lemmas.Bool.{ne_eqb}
 use Rattle.mz_sample.specs.Samples.{body_proof}
-
--- one more was appended
-pub appended : (first before now rest line : List ℕ) → before ≡ first ++ rest → now ≡ before ++ line → now ≡ first ++ (rest ++ line)
-appended first before now rest line e f = f ∙ ap (λ (t : List ℕ). t ++ line) e ∙ append_assoc first rest line
 
 -- the proof of what each further definition stands for
 abbrev pub further-proof : ℕ → List ℕ

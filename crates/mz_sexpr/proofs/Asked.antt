@@ -3,13 +3,13 @@ use Rattle.std.proofs.Common.{ℕ, zero, suc, ◌≡◌, ◌<◌, ◌+◌, ◌-�
 use Rattle.std.specs.Prelude.{All}
 use Rattle.std.proofs.lemmas.List.Elements.{All-cons, All-head, All-tail}
 use Rattle.mz_checks.specs.Checks.{AllHold}
+use Rattle.mz_checks.proofs.Offered.{all_hold-both, all_hold-first, all_hold-rest}
 use Rattle.mz_sexpr.specs.declared.scan.Class.{Class}
 use Rattle.mz_sexpr.specs.declared.scan.Class.TheVariants.{Space, Note, Opening, Closing, Letter}
 use Rattle.mz_sexpr.specs.declared.scan.Seen.{Seen}
 use Rattle.mz_sexpr.specs.Token.{Token, close}
 use Rattle.mz_sexpr.specs.Grammar.{IsAllowed}
 use Rattle.mz_sexpr.specs.Scan.{class_after, class_checks, checks_at, byte_checks, seen_with, tokens, token_of}
-use Rattle.mz_sexpr.proofs.Deciding.{all_of_both, all_before, all_after}
 use Rattle.mz_sexpr.proofs.ByteSteps.{last_seen}
 use Rattle.mz_sexpr.proofs.Nesting.{Nested}
 
@@ -17,8 +17,8 @@ pub allowed_by_checks : (i : ℕ) (s : Seen) (bs : List ℕ) → AllHold (byte_c
 allowed_by_checks i s [] all = λ k d h. absurd (omega arith)
 allowed_by_checks i s (b ∷ bs) all =
     let c = class_after s.last b bs in
-    All-cons IsAllowed b bs (all_before (checks_at i s b c) (byte_checks (i + 1) (seen_with s c) bs) all).0
-    (allowed_by_checks (i + 1) (seen_with s c) bs (all_after (checks_at i s b c) (byte_checks (i + 1) (seen_with s c) bs) all))
+    All-cons IsAllowed b bs (all_hold-first (checks_at i s b c) (byte_checks (i + 1) (seen_with s c) bs) all).0
+    (allowed_by_checks (i + 1) (seen_with s c) bs (all_hold-rest (checks_at i s b c) (byte_checks (i + 1) (seen_with s c) bs) all))
 
 nested_close : (d : ℕ) (ts : List Token) → 0 < d → Nested (d - 1) ts → Nested d (close ∷ ts)
 nested_close zero ts h k = omega arith
@@ -60,8 +60,8 @@ pub nested_by_checks : (i : ℕ) (s : Seen) (bs : List ℕ) → AllHold (byte_ch
 nested_by_checks i s [] all = all.0
 nested_by_checks i s (b ∷ bs) all =
     let c = class_after s.last b bs in
-    let k = nested_by_checks (i + 1) (seen_with s c) bs (all_after (checks_at i s b c) (byte_checks (i + 1) (seen_with s c) bs) all) in
-    nested_with i s (b ∷ bs) (tokens (i + 1) c bs) c (all_before (checks_at i s b c) (byte_checks (i + 1) (seen_with s c) bs) all).1
+    let k = nested_by_checks (i + 1) (seen_with s c) bs (all_hold-rest (checks_at i s b c) (byte_checks (i + 1) (seen_with s c) bs) all) in
+    nested_with i s (b ∷ bs) (tokens (i + 1) c bs) c (all_hold-first (checks_at i s b c) (byte_checks (i + 1) (seen_with s c) bs) all).1
     (subst (λ l. Nested (seen_with s c).depth (tokens (i + 1) l bs)) (last_seen s c) k)
 
 pub checks_by_nested : (i : ℕ) (s : Seen) (bs : List ℕ) → All IsAllowed bs → Nested s.depth (tokens i s.last bs) → AllHold (byte_checks i s bs)
@@ -69,6 +69,6 @@ checks_by_nested i s [] allowed h = (h, tt)
 checks_by_nested i s (b ∷ bs) allowed h =
     let c = class_after s.last b bs in
     let k = with_nested i s (b ∷ bs) (tokens (i + 1) c bs) c h in
-    all_of_both (checks_at i s b c) (byte_checks (i + 1) (seen_with s c) bs) (All-head IsAllowed b bs allowed, k.0)
+    all_hold-both (checks_at i s b c) (byte_checks (i + 1) (seen_with s c) bs) (All-head IsAllowed b bs allowed, k.0)
     (checks_by_nested (i + 1) (seen_with s c) bs (All-tail IsAllowed b bs allowed)
     (subst (λ l. Nested (seen_with s c).depth (tokens (i + 1) l bs)) (sym (last_seen s c)) k.1))

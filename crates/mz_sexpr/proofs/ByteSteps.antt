@@ -9,11 +9,12 @@ use Rattle.mz_sexpr.specs.declared.scan.Seen.{Seen}
 use Rattle.mz_sexpr.specs.declared.sexprs.Row.{Row}
 use Rattle.mz_sexpr.specs.declared.rule.TextRefusal.{TextRefusal}
 use Rattle.mz_checks.specs.Checks.{Checks, AllHold, FailsFirst, ◌>>◌}
+use Rattle.mz_checks.proofs.Offered.{fails-before}
 use Rattle.mz_sexpr.specs.Token.{Token}
 use Rattle.mz_sexpr.specs.Scan.{class_after, plain_class, checks_at, byte_checks, seen_with, tokens, token_of}
 use Rattle.mz_sexpr.specs.Rows.{Entry, entry, option_entry, entries, word_from}
 use Rattle.mz_sexpr.specs.Grammar.{is_letter, begins_comment}
-use Rattle.mz_sexpr.proofs.Deciding.{Decides, decides_after, fails_before}
+use Rattle.mz_sexpr.proofs.Deciding.{Decides, decides_after}
 
 pub last_seen : (s : Seen) (c : Class) → (seen_with s c).last ≡ c
 last_seen s Space = refl
@@ -129,7 +130,7 @@ module _ (text : List ℕ) (i : ℕ) (s : Seen) (below : i < length text) where
   byte_fails c cs r is fails h =
       let k : Decides (byte_checks i s (byte_of ∷ rest_of)) cs = subst (λ bs. Decides (byte_checks i s bs) cs) cut h in
       k.0 r (subst (λ k. FailsFirst (checks_at i s byte_of k >> byte_checks (i + 1) (seen_with s k) rest_of) r) is
-      (fails_before (checks_at i s byte_of c) (byte_checks (i + 1) (seen_with s c) rest_of) r fails))
+      (fails-before (checks_at i s byte_of c) (byte_checks (i + 1) (seen_with s c) rest_of) r fails))
 
   pub byte_rows : (c : Class) (rows more_rows : List Row) (o : Option Row) (all : List Entry) → c ≡ class_after s.last byte_of rest_of
       → more_rows ≡ rows ++ option_to_list o

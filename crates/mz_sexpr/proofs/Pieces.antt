@@ -77,7 +77,7 @@ no_dash_next (closing ∷ ps) h = refl
 no_dash_next (comment cs ∷ ps) h = absurd h
 no_dash_next (letters w ∷ ps) h = absurd h
 
-and_false : (p : Bool) → (p && false) ≡ false
+pub and_false : (p : Bool) → (p && false) ≡ false
 and_false true = refl
 and_false false = refl
 

@@ -1,8 +1,10 @@
 -- A text has nodes exactly where all holds that is asked of its bytes.
-use Rattle.std.proofs.Common.{ℕ, zero, suc, ◌≡◌, ◌<◌, ◌≤◌, ◌+◌, ◌-◌, List, [], ◌∷◌, length, length-append, sym, ap, ◌∙◌, subst, arith, inl, inr}
+use Rattle.std.proofs.Common.{ℕ, suc, ◌≡◌, ◌≤◌, ◌+◌, ◌-◌, List, [], ◌∷◌, length, length-append, sym, ap, ◌∙◌, subst, arith, inl, inr}
 use Rattle.std.specs.Prelude.{◌⊎◌}
+use Rattle.std.proofs.lemmas.Bool.{cases_eq}
+use Rattle.mz_general.proofs.Offered.{below-decided}
 use Rattle.mz_checks.specs.Checks.{Checks, nothing, ask, AllHold, FailsFirst, AreDecided, ◌>>◌}
-use Rattle.mz_checks.proofs.Offered.{fails_first-unique, all_hold-excludes, all_hold-or_fails}
+use Rattle.mz_checks.proofs.Offered.{fails_first-unique, all_hold-excludes, all_hold-or_fails, at_most-decided}
 use Rattle.mz_sexpr.specs.declared.scan.Class.{Class}
 use Rattle.mz_sexpr.specs.declared.scan.Class.TheVariants.{Space, Note, Opening, Closing, Letter}
 use Rattle.mz_sexpr.specs.declared.scan.Seen.{Seen}
@@ -50,32 +52,8 @@ decided_both : {R : Type 0} (bs cs : Checks R) → AreDecided bs → AreDecided 
 decided_both nothing cs b c = c
 decided_both (ask r P bs) cs b c = (b.0, λ p. decided_both bs cs (b.1 p) c)
 
-le_decided : (a b : ℕ) → (a ≤ b) ⊎ (a ≤ b → ⊥)
-le_decided zero b = inl (omega arith)
-le_decided (suc a) zero = inr (λ h. omega arith)
-le_decided (suc a) (suc b) = go (le_decided a b)
-  where
-    go : (a ≤ b) ⊎ (a ≤ b → ⊥) → (suc a ≤ suc b) ⊎ (suc a ≤ suc b → ⊥)
-    go (inl h) = inl (omega arith)
-    go (inr h) = inr (λ k. h (omega arith))
-
-less_decided : (a b : ℕ) → (a < b) ⊎ (a < b → ⊥)
-less_decided a b = go (le_decided (a + 1) b)
-  where
-    go : (a + 1 ≤ b) ⊎ (a + 1 ≤ b → ⊥) → (a < b) ⊎ (a < b → ⊥)
-    go (inl h) = inl (omega arith)
-    go (inr h) = inr (λ k. h (omega arith))
-
-equal_decided : (a b : ℕ) → (a ≡ b) ⊎ (a ≡ b → ⊥)
-equal_decided a b = go (le_decided a b) (le_decided b a)
-  where
-    go : (a ≤ b) ⊎ (a ≤ b → ⊥) → (b ≤ a) ⊎ (b ≤ a → ⊥) → (a ≡ b) ⊎ (a ≡ b → ⊥)
-    go (inl h) (inl k) = inl (omega arith)
-    go (inr h) k = inr (λ e. h (omega arith))
-    go (inl h) (inr k) = inr (λ e. k (omega arith))
-
 allowed_decided : (b : ℕ) → IsAllowed b ⊎ (IsAllowed b → ⊥)
-allowed_decided b = go (le_decided 32 b) (le_decided b 126) (equal_decided b 10)
+allowed_decided b = go (at_most-decided 32 b) (at_most-decided b 126) (cases_eq b 10)
   where
     refused : (32 ≤ b → b ≤ 126 → ⊥) → (b ≡ 10 → ⊥) → IsAllowed b → ⊥
     refused h k (inl p) = h p.0 p.1
@@ -90,12 +68,12 @@ allowed_decided b = go (le_decided 32 b) (le_decided b 126) (equal_decided b 10)
 class_decided : (i : ℕ) (s : Seen) (c : Class) → AreDecided (class_checks i s c)
 class_decided i s Space = tt
 class_decided i s Note = tt
-class_decided i s Opening = (less_decided s.depth 4096, λ p. tt)
-class_decided i s Closing = (less_decided 0 s.depth, λ p. tt)
+class_decided i s Opening = (below-decided s.depth 4096, λ p. tt)
+class_decided i s Closing = (below-decided 0 s.depth, λ p. tt)
 class_decided i s Letter = tt
 
 bytes_decided : (i : ℕ) (s : Seen) (bs : List ℕ) → AreDecided (byte_checks i s bs)
-bytes_decided i s [] = (equal_decided s.depth 0, λ p. tt)
+bytes_decided i s [] = (cases_eq s.depth 0, λ p. tt)
 bytes_decided i s (b ∷ bs) =
     let c = class_after s.last b bs in
     decided_both (checks_at i s b c) (byte_checks (i + 1) (seen_with s c) bs)

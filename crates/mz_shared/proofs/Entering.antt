@@ -1,12 +1,13 @@
 -- Variables that are entered: the parameters, and dummies behind them.
 use Rattle.std.proofs.Common.{ℕ, zero, suc, ◌≡◌, ◌<◌, ◌+◌, Bool, true, false, List, [], ◌∷◌, ◌++◌, length, slice_get, Some, refl, ap, sym, ◌∙◌, subst, inl, inr, arith, if◌then◌else◌}
+use Rattle.std.proofs.lemmas.Option.{none-some}
 use Rattle.mz_logic.specs.Tree.{Tree, Trees, var, none, more, followed_by}
 use Rattle.mz_logic.specs.Signature.{Signature}
 use Rattle.mz_logic.specs.Legality.{Each, IsDummy}
-use Rattle.mz_logic.specs.Words.{binders_from, binders_of}
+use Rattle.mz_logic.specs.Words.{binders_of}
 use Rattle.mz_logic.specs.declared.binder.Binder.{Binder}
 use Rattle.mz_logic.specs.declared.word.Word.{Word}
-use Rattle.mz_logic.proofs.Offered.{one_at, none_some, split_at}
+use Rattle.mz_logic.proofs.Offered.{one_at, split_at, length-binders}
 use Rattle.mz_store.specs.Bits.{bound_from, bound_vars}
 use Rattle.mz_store.specs.Sharing.{Sharing, AreIn, Holds, IsOver, KeepsIds, tree_of, trees_of, dummy_binder}
 use Rattle.mz_store.specs.declared.item.DepsMode.TheVariants as of
@@ -14,10 +15,6 @@ use Rattle.mz_store.specs.declared.item.Id.{Id}
 use Rattle.mz_unification.specs.Spells.{trees_of as operands_of, variables_from}
 use Rattle.mz_shared.specs.Variables.{IsShared}
 use Rattle.mz_shared.proofs.Making.{trees_push, in_push, are_in_grown, trees_grown}
-
-pub append_nil : {A : Type 0} (xs : List A) → xs ++ [] ≡ xs
-append_nil {A} [] = refl
-append_nil {A} (x ∷ xs) = ap (λ (ys : List A). x ∷ ys) (append_nil xs)
 
 -- ---- numbers in order
 
@@ -29,13 +26,9 @@ number_push is i h new k id at = elim (split_at is (i ∷ []) k id at) [
   where
     last : (j : ℕ) → k ≡ length is + j → slice_get (i ∷ []) j ≡ Some id → id.0 ≡ k
     last zero is at = (let same : i ≡ id = one_at refl at in let e : i.0 ≡ id.0 = ap (λ (z : Id). z.0) same in omega (arith, is, new, e))
-    last (suc j) is at = absurd (none_some at)
+    last (suc j) is at = absurd (none-some _ at)
 
 -- ---- the variables of a context
-
-pub binders_long : (i : ℕ) (places : List ℕ) (ws : List Word) → length (binders_from i places ws) ≡ length ws
-binders_long i places [] = refl
-binders_long i places (w ∷ ws) = ap suc (binders_long (suc i) _ ws)
 
 -- ids whose trees are the variables from the j-th on
 from_numbers : (s : Sharing) (j : ℕ) (vars : List Id) (ctx : List Binder) → length vars ≡ length ctx → ((i : ℕ) (id : Id) → slice_get vars i ≡ Some id → Holds s id.0 (var (j + i)))
@@ -54,11 +47,11 @@ pub parameters_shared : (s : Sharing) (ws : List Word) (vars : List Id) → s.co
     → (sigs : List Signature) → IsShared sigs s vars
 parameters_shared s ws vars context mode many trees over long numbers sigs =
     let both : AreIn s vars × (trees_of s vars ≡ operands_of (variables_from 0 s.context)) =
-    from_numbers s 0 vars s.context (long ∙ sym (ap length context ∙ binders_long 0 [] ws)) (λ i id at. held i id at) in
+    from_numbers s 0 vars s.context (long ∙ sym (ap length context ∙ length-binders 0 [] ws)) (λ i id at. held i id at) in
     record { over = over sigs; all = mode; inside = both.0; trees = both.1; numbers = numbers }
   where
     within : (xs : List Id) (i : ℕ) (id : Id) → slice_get xs i ≡ Some id → i < length xs
-    within [] i id at = absurd (none_some at)
+    within [] i id at = absurd (none-some _ at)
     within (x ∷ xs) zero id at = omega arith
     within (x ∷ xs) (suc i) id at = (let lt = within xs i id at in omega (arith, lt))
 

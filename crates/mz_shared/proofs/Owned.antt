@@ -9,6 +9,7 @@ use Rattle.mz_logic.specs.declared.binder.Binder.{Binder}
 use Rattle.mz_unification.specs.Spells.{trees_of as operands_of, variables_from}
 use Rattle.mz_store.specs.Sharing.{Sharing, AreIn, IsIn, IsOver, tree_of, trees_of}
 use Rattle.mz_store.specs.declared.item.Id.{Id}
+use Rattle.mz_unification.proofs.Offered.{length-params}
 use Rattle.mz_shared.specs.Instances.{Grows, InReach, AllInReach, AreSorted}
 use Rattle.mz_shared.specs.Variables.{IsShared}
 use Rattle.mz_shared.proofs.Making.{are_in_grown, trees_grown}
@@ -20,10 +21,6 @@ own_at : (j : ℕ) (ctx : List Binder) (x : ℕ) → x < length ctx → operand 
 own_at j [] x lt = absurd (omega (arith, lt))
 own_at j (b ∷ ctx) zero lt = ap var (omega arith)
 own_at j (b ∷ ctx) (suc x) lt = own_at (suc j) ctx x (omega (arith, lt)) ∙ ap var (omega arith)
-
-own_long : (j : ℕ) (ctx : List Binder) → length (variables_from j ctx) ≡ length ctx
-own_long j [] = refl
-own_long j (b ∷ ctx) = ap suc (own_long (suc j) ctx)
 
 module _ (ctx : List Binder) where
   mutual
@@ -77,7 +74,7 @@ ids_long s is es h = go is es h
         others (more e gs) = gs
 
 pub shared_long : (sigs : List Signature) (s : Sharing) (vars : List Id) → IsShared sigs s vars → length vars ≡ length s.context
-shared_long sigs s vars h = ids_long s vars (variables_from 0 s.context) h.trees ∙ own_long 0 s.context
+shared_long sigs s vars h = ids_long s vars (variables_from 0 s.context) h.trees ∙ length-params 0 s.context
 
 -- ---- the id of a variable
 

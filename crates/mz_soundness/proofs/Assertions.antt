@@ -55,7 +55,7 @@ own-run tables env declares h ctx mode e items m u is ran =
 
 -- ---- claims
 
-claims-sorted : (env : List Declaration) (ctx : List Binder) (es : List Tree) → AreProvableClaims env ctx es → AllSorted (signatures env) ctx es
+pub claims-sorted : (env : List Declaration) (ctx : List Binder) (es : List Tree) → AreProvableClaims env ctx es → AllSorted (signatures env) ctx es
 claims-sorted env ctx [] h = tt
 claims-sorted env ctx (e ∷ es) ((s, has, _), hs) = ((s, has), claims-sorted env ctx es hs)
 

@@ -18,7 +18,7 @@ pairs-long R [] (y ∷ ys) h = absurd h
 pairs-long R (x ∷ xs) [] h = absurd h
 pairs-long R (x ∷ xs) (y ∷ ys) (_, h) = ap suc (pairs-long R xs ys h)
 
-signatures-of : (env : List Declaration) → signatures env ≡ map (λ d. d.signature) (terms env)
+pub signatures-of : (env : List Declaration) → signatures env ≡ map (λ d. d.signature) (terms env)
 signatures-of [] = refl
 signatures-of (sort_decl m ∷ env) = signatures-of env
 signatures-of (term_decl d ∷ env) = ap (λ (z : List Signature). d.signature ∷ z) (signatures-of env)

@@ -4,6 +4,7 @@ use Rattle.std.specs.Prelude.{slice_get, Contains, All, ◌==◌}
 use Rattle.std.proofs.lemmas.Bool.{eqb-true}
 use Rattle.std.proofs.lemmas.Option.{slice_get_within}
 use Rattle.std.proofs.lemmas.List.Elements.{All-contains}
+use Rattle.mz_general.proofs.Offered.{slice_get-append, slice_get-some as there, slice_get-append_add}
 use Rattle.mz_cmd.specs.declared.rule.K.TheVariants as k
 use Rattle.mz_logic.specs.Tree.{Tree, Trees, var, app, none, instance}
 use Rattle.mz_logic.specs.Signature.{Signature}
@@ -16,13 +17,13 @@ use Rattle.mz_logic.specs.Conversions.{IsBoundOf, AreFresh}
 use Rattle.mz_logic.specs.LegalLists.{AreDummies}
 use Rattle.mz_logic.specs.declared.binder.Binder.{Binder}
 use Rattle.mz_logic.specs.declared.binder.SortMods.{SortMods}
-use Rattle.mz_logic.proofs.Offered.{extends_append, split_at, slice_get-append_add, all_from_each, terms_are_sorted, sort_is, range_of_sort, DepsInside, free_below}
+use Rattle.mz_logic.proofs.Offered.{split_at, all_from_each, terms_are_sorted, sort_is, range_of_sort, DepsInside, free_below}
 use Rattle.mz_unification.specs.Streams.{of_definition}
 use Rattle.mz_unification.specs.Spells.{trees_of, dummy_of, variables_from, SpellsTerm}
 use Rattle.mz_unification.specs.Profile.{plain, strict, Item, expr}
 use Rattle.mz_unification.specs.Sorted.{Sorted, ItemsSorted}
 use Rattle.mz_unification.specs.UnifyMachine.{in_definition, UnifyState, unify}
-use Rattle.mz_unification.proofs.Offered.{from_need, some_is, taken-is, operand-trees_of, followed-by-variables, fresh-at, distinct, in-some, get-mapped, FreshList, unfolding-is, place_from, renamed, definition-spelled, Below, text-met}
+use Rattle.mz_unification.proofs.Offered.{from_need, some_is, taken-is, operand-trees_of, followed-by-variables, fresh-at, distinct, in-some, get-mapped, FreshList, unfolding-is, place_from, renamed, definition-spelled, Below, text-met, length-params}
 use Rattle.mz_soundness.specs.MachineState.{RowsBefore, signatures_in, State, Kind, is_definition, Heading, Declares}
 use Rattle.mz_soundness.specs.FreeVars.{free_within}
 use Rattle.mz_soundness.specs.ProofMachine.{last_item, ending, own_stream}
@@ -31,7 +32,7 @@ use Rattle.mz_soundness.specs.Sound.{AreRowParams, IsRowResult, term_row}
 use Rattle.mz_soundness.proofs.Declared.{signatures-are}
 use Rattle.mz_soundness.proofs.FreeVarLaws.{free-within}
 use Rattle.mz_soundness.proofs.WholeBody.{body-fact}
-use Rattle.mz_soundness.proofs.Renaming.{Renames, there, sort-back, fv-forward}
+use Rattle.mz_soundness.proofs.Renaming.{Renames, sort-back, fv-forward}
 use Rattle.mz_soundness.proofs.Assertions.{end-ran, own-run}
 
 -- ---- names
@@ -45,13 +46,6 @@ vars-at : (j : ℕ) (ps : List Binder) (x : ℕ) (b : Binder) → slice_get ps x
 vars-at j [] x b at = absurd cc
 vars-at j (p ∷ ps) zero b at = ap (λ (z : ℕ). Some (var z)) (omega arith)
 vars-at j (p ∷ ps) (suc x) b at = vars-at (suc j) ps x b at ∙ ap (λ (z : ℕ). Some (var z)) (omega arith)
-
-vars-long : (j : ℕ) (ps : List Binder) → length (variables_from j ps) ≡ length ps
-vars-long j [] = refl
-vars-long j (p ∷ ps) = ap suc (vars-long (suc j) ps)
-
-in-front : {A : Type 0} (xs ys : List A) (i : ℕ) (x : A) → slice_get xs i ≡ Some x → slice_get (xs ++ ys) i ≡ Some x
-in-front xs ys i x at = extends_append xs ys i x at
 
 dummies-are : (sigs : List Signature) (ctx : List Binder) (es : List Tree) (ys : List ℕ) (bs : List Binder) → FreshList sigs ctx es ys bs → (k : ℕ) (b : Binder) → slice_get bs k ≡ Some b → b ≡ dummy_of b.sort
 dummies-are sigs ctx es [] [] h k b at = absurd cc
@@ -81,10 +75,10 @@ module _ (sigs : List Signature) (ss : List SortMods) (params mds : List Binder)
   g x = var-of (slice_get names x)
 
   first : (x : ℕ) (b : Binder) → slice_get params x ≡ Some b → slice_get names x ≡ Some (var x)
-  first x b at = in-front vars (map var ys) x (var x) (vars-at 0 params x b at ∙ ap (λ (z : ℕ). Some (var z)) (omega arith))
+  first x b at = slice_get-append vars (map var ys) x (var x) (vars-at 0 params x b at ∙ ap (λ (z : ℕ). Some (var z)) (omega arith))
 
   later : (k y : ℕ) → slice_get ys k ≡ Some y → slice_get names (length params + k) ≡ Some (var y)
-  later k y at = ap (slice_get names) (ap (λ (n : ℕ). n + k) (sym (vars-long 0 params))) ∙ slice_get-append_add vars (map var ys) k ∙ get-mapped ys k y at
+  later k y at = ap (slice_get names) (ap (λ (n : ℕ). n + k) (sym (length-params 0 params))) ∙ slice_get-append_add vars (map var ys) k ∙ get-mapped ys k y at
 
   g-first : (x : ℕ) (b : Binder) → slice_get params x ≡ Some b → g x ≡ x
   unfolding var-of
@@ -108,7 +102,7 @@ module _ (sigs : List Signature) (ss : List SortMods) (params mds : List Binder)
   renames-at : (x : ℕ) (b : Binder) → slice_get spelled-ctx x ≡ Some b → Place x b → Renames built spelled-ctx (trees_of names) g x
   renames-at x b at (inl here) = (
     operand-trees_of names x (var x) (first x b here) ∙ ap var (sym (g-first x b here)),
-    (b, b, ap (slice_get built) (g-first x b here) ∙ in-front params mds x b here, at, refl, refl),
+    (b, b, ap (slice_get built) (g-first x b here) ∙ slice_get-append params mds x b here, at, refl, refl),
   )
   renames-at x b at (inr (j, x-is, at-j)) =
       let (y, y-at, (c, c-at, bound, sort-is), _) = fresh-at built (trees_of vars) ys ds fresh j b at-j in
@@ -145,7 +139,7 @@ module _ (sigs : List Signature) (ss : List SortMods) (params mds : List Binder)
   regular-dep : (x z : ℕ) (b : Binder) → Place z b → b.bound ≡ false → Contains b.deps x → InV built (g x) (var (g z))
   regular-dep x z b (inl at-z) regular has =
       let (_, (c, at-x, _)) = All-contains (λ j. (j < z) × IsBoundAt params j) b.deps x ((right z b at-z).1 regular) has in
-      (b, ap (slice_get built) (g-first z b at-z) ∙ in-front params mds z b at-z, inr (regular, subst (Contains b.deps) (sym (g-first x c at-x)) has))
+      (b, ap (slice_get built) (g-first z b at-z) ∙ slice_get-append params mds z b at-z, inr (regular, subst (Contains b.deps) (sym (g-first x c at-x)) has))
   regular-dep x z b (inr (j, _, at-j)) regular has = absurd (true≢false (sym (ap (λ (y : Binder). y.bound) (plain-ds j b at-j)) ∙ regular))
 
   v-forward : (x z : ℕ) → x < length spelled-ctx → z < length spelled-ctx → InV spelled-ctx x (var z) → InV built (g x) (var (g z))
@@ -206,7 +200,7 @@ module _ (sigs : List Signature) (ss : List SortMods) (params mds : List Binder)
 
 -- ---- definitions
 
-last-expr : (sigs : List Signature) (ctx : List Binder) (xs : List (Item Tree)) (e : Tree) → last_item is_definition xs ≡ Ok e → ItemsSorted sigs ctx xs → Sorted sigs ctx e
+pub last-expr : (sigs : List Signature) (ctx : List Binder) (xs : List (Item Tree)) (e : Tree) → last_item is_definition xs ≡ Ok e → ItemsSorted sigs ctx xs → Sorted sigs ctx e
 last-expr sigs ctx (expr x ∷ []) e is (s, _) = subst (Sorted sigs ctx) (taken-is x e is) s
 last-expr sigs ctx _ e is h = absurd cc
 
@@ -222,7 +216,7 @@ built-legal env h mds e u (sorts-there, right) (result-sort, result-deps) are e-
     let ctx : List Binder = h.params ++ mds in
     let p : Tree = renamed (place_from 0 u.apart) e in
     let (ds, text) = definition-spelled sigs ctx h.params h.stream e u ran (h.result.sort, e-sort) in
-    let (ys, _, fresh-list, (fresh, e-is)) = unfolding-is sigs ctx h.params h.stream ds p (variables_from 0 h.params) e u text (vars-long 0 h.params) (h.result.sort, e-sort) ran in
+    let (ys, _, fresh-list, (fresh, e-is)) = unfolding-is sigs ctx h.params h.stream ds p (variables_from 0 h.params) e u text (length-params 0 h.params) (h.result.sort, e-sort) ran in
     let plain-ds = dummies-are sigs ctx (variables_from 0 h.params) ys ds fresh-list in
     let e-named : e ≡ instance (trees_of (variables_from 0 h.params ++ map var ys)) p = e-is ∙ ap (λ (z : Trees). instance z p) (sym (followed-by-variables (variables_from 0 h.params) ys)) in
     let below : Below (length (h.params ++ ds)) p = subst (λ (n : ℕ). Below n p) (sym (length-append h.params ds)) (text-met of_definition sigs h.params h.stream none p ds text).0 in

@@ -1,18 +1,15 @@
 -- The test of free variables decides them.
 use Rattle.std.proofs.Common.{◌≡◌, ◌<◌, ℕ, zero, suc, Bool, true, false, eqb, List, [], ◌∷◌, Option, Some, None, refl, sym, ap, subst, ◌∙◌, ◌⊎◌, inl, inr, arith, eq-eqb, not-suc-le-zero}
 use Rattle.std.specs.Prelude.{slice_get, Contains, ◌||◌, ◌&&◌, not}
-use Rattle.std.proofs.lemmas.Bool.{eqb-true}
+use Rattle.std.proofs.lemmas.Bool.{eqb-true, and_from, or_right, or_left}
+use Rattle.mz_general.proofs.Offered.{both-true, not-true, or-cases}
 use Rattle.mz_logic.specs.Tree.{Tree, Trees, var, app, none, more, operand}
 use Rattle.mz_logic.specs.Signature.{Signature}
 use Rattle.mz_logic.specs.Variables.{InFV, InSomeFV, IsBoundAt, IsOperandAt, is_member}
 use Rattle.mz_logic.specs.declared.binder.Binder.{Binder}
 use Rattle.mz_unification.specs.Tests.{is_bound_at}
-use Rattle.mz_unification.proofs.Offered.{both-true, or-cases, or-left, or-right, not-true, not-both, member-contains, in-v-true, v-in}
+use Rattle.mz_unification.proofs.Offered.{not-both, member-contains, in-v-true, v-in}
 use Rattle.mz_soundness.specs.FreeVars.{is_var, named_at, in_result, params_of, in_fv, in_some_fv, free_within}
-
-and-true : (a b : Bool) → a ≡ true → b ≡ true → (a && b) ≡ true
-and-true true b p q = q
-and-true false b p q = absurd cc
 
 is-var-true : (x : ℕ) (e : Tree) → is_var x e ≡ true → e ≡ var x
 is-var-true x (var y) h = ap var (sym (eqb-true _ _ h))
@@ -38,10 +35,10 @@ named-true params all (j ∷ js) x h = elim (or-cases (is_bound_at (slice_get pa
 named-in : (params : List Binder) (all : Trees) (js : List ℕ) (x : ℕ) → IsOperandAt params all js x → named_at params all js x ≡ true
 named-in params all [] x (j, (k, lt, is), _, _) = absurd (not-suc-le-zero lt)
 named-in params all (i ∷ js) x (j, (zero, lt, is), (b, at, bound), v) =
-    or-left (is_bound_at (slice_get params i) && is_var x (operand all i)) (named_at params all js x)
-    (and-true (is_bound_at (slice_get params i)) (is_var x (operand all i)) (ap is_bound_at (ap (slice_get params) is ∙ at) ∙ bound) (var-is-var x (operand all i) (ap (operand all) is ∙ v)))
+    or_left (is_bound_at (slice_get params i) && is_var x (operand all i)) (named_at params all js x)
+    (and_from (is_bound_at (slice_get params i)) (is_var x (operand all i)) (ap is_bound_at (ap (slice_get params) is ∙ at) ∙ bound) (var-is-var x (operand all i) (ap (operand all) is ∙ v)))
 named-in params all (i ∷ js) x (j, (suc k, lt, is), b, v) =
-    or-right (is_bound_at (slice_get params i) && is_var x (operand all i)) (named_at params all js x) (named-in params all js x (j, (k, omega arith, is), b, v))
+    or_right (is_bound_at (slice_get params i) && is_var x (operand all i)) (named_at params all js x) (named-in params all js x (j, (k, omega arith, is), b, v))
 
 not-false : (b : Bool) → b ≡ false → not b ≡ true
 not-false b h = ap not h
@@ -54,15 +51,15 @@ mutual
   pub fv-in : (sigs : List Signature) (ctx : List Binder) (x : ℕ) (e : Tree) → InFV sigs ctx x e → in_fv sigs ctx x e ≡ true
   fv-in sigs ctx x (var y) h = v-in ctx x (var y) h
   fv-in sigs ctx x (app t es) (d, at, inl some) =
-      or-left (in_some_fv sigs ctx x (params_of (slice_get sigs t)) es (params_of (slice_get sigs t)) es) (in_result (slice_get sigs t) es x) (rw at (some-fv-in sigs ctx x d.params es d.params es some))
+      or_left (in_some_fv sigs ctx x (params_of (slice_get sigs t)) es (params_of (slice_get sigs t)) es) (in_result (slice_get sigs t) es x) (rw at (some-fv-in sigs ctx x d.params es d.params es some))
   fv-in sigs ctx x (app t es) (d, at, inr named) =
-      or-right (in_some_fv sigs ctx x (params_of (slice_get sigs t)) es (params_of (slice_get sigs t)) es) (in_result (slice_get sigs t) es x) (rw at (named-in d.params es d.result.deps x named))
+      or_right (in_some_fv sigs ctx x (params_of (slice_get sigs t)) es (params_of (slice_get sigs t)) es) (in_result (slice_get sigs t) es x) (rw at (named-in d.params es d.result.deps x named))
 
   some-fv-in : (sigs : List Signature) (ctx : List Binder) (x : ℕ) (params : List Binder) (all : Trees) (ps : List Binder) (es : Trees) → InSomeFV sigs ctx x params all ps es → in_some_fv sigs ctx x params all ps es ≡ true
   some-fv-in sigs ctx x params all ps none h = absurd h
   some-fv-in sigs ctx x params all [] (more e es) h = absurd h
   some-fv-in sigs ctx x params all (p ∷ ps) (more e es) (inl (regular, free, out)) =
-      or-left (not p.bound && in_fv sigs ctx x e && not (named_at params all p.deps x)) (in_some_fv sigs ctx x params all ps es)
+      or_left (not p.bound && in_fv sigs ctx x e && not (named_at params all p.deps x)) (in_some_fv sigs ctx x params all ps es)
       (three (not p.bound) (in_fv sigs ctx x e) (not (named_at params all p.deps x)) (not-false p.bound regular) (fv-in sigs ctx x e free) (open-one (decided (named_at params all p.deps x))))
     where
       three : (a b c : Bool) → a ≡ true → b ≡ true → c ≡ true → (a && b && c) ≡ true
@@ -74,7 +71,7 @@ mutual
       open-one (inl t) = absurd (out (named-true params all p.deps x t))
       open-one (inr f) = not-false (named_at params all p.deps x) f
   some-fv-in sigs ctx x params all (p ∷ ps) (more e es) (inr h) =
-      or-right (not p.bound && in_fv sigs ctx x e && not (named_at params all p.deps x)) (in_some_fv sigs ctx x params all ps es) (some-fv-in sigs ctx x params all ps es h)
+      or_right (not p.bound && in_fv sigs ctx x e && not (named_at params all p.deps x)) (in_some_fv sigs ctx x params all ps es) (some-fv-in sigs ctx x params all ps es h)
 
 mutual
   pub in-fv-true : (sigs : List Signature) (ctx : List Binder) (x : ℕ) (e : Tree) → in_fv sigs ctx x e ≡ true → InFV sigs ctx x e

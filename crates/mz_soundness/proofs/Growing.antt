@@ -14,7 +14,7 @@ pairs-kept R S f [] (y ∷ ys) h = absurd h
 pairs-kept R S f (x ∷ xs) [] h = absurd h
 pairs-kept R S f (x ∷ xs) (y ∷ ys) (r, h) = (f x y r, pairs-kept R S f xs ys h)
 
-pairs-push : {A B : Type 0} (R : A → B → Type 0) (xs : List A) (ys : List B) (x : A) (y : B) → Pairwise R xs ys → R x y → Pairwise R (xs ++ x ∷ []) (ys ++ y ∷ [])
+pub pairs-push : {A B : Type 0} (R : A → B → Type 0) (xs : List A) (ys : List B) (x : A) (y : B) → Pairwise R xs ys → R x y → Pairwise R (xs ++ x ∷ []) (ys ++ y ∷ [])
 pairs-push R [] [] x y h r = (r, tt)
 pairs-push R [] (b ∷ ys) x y h r = absurd h
 pairs-push R (a ∷ xs) [] x y h r = absurd h

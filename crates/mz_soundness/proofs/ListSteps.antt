@@ -12,7 +12,7 @@ use Rattle.mz_soundness.proofs.BodyRuns.{steps-le}
 
 -- ---- products
 
-add-times : (c d k : ℕ) → (c + d) * k ≡ c * k + d * k
+pub add-times : (c d k : ℕ) → (c + d) * k ≡ c * k + d * k
 add-times zero d k = ap (λ (z : ℕ). z * k) (front d) ∙ omega arith
   where
     front : (e : ℕ) → zero + e ≡ e
@@ -22,7 +22,7 @@ add-times (suc c) d k = ap (λ (z : ℕ). z * k) (next c d) ∙ omega (arith, su
     next : (a b : ℕ) → suc a + b ≡ suc (a + b)
     next a b = omega arith
 
-times-grow : (b m k : ℕ) → b ≤ m → b * k ≤ m * k
+pub times-grow : (b m k : ℕ) → b ≤ m → b * k ≤ m * k
 times-grow zero m k le = omega arith
 times-grow (suc b) zero k le = absurd (omega arith)
 times-grow (suc b) (suc m) k le = omega (arith, suc-mul b k, suc-mul m k, times-grow b m k (omega arith))

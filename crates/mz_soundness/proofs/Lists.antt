@@ -4,8 +4,8 @@ use Rattle.mz_logic.specs.Tree.{Tree, none, more}
 use Rattle.mz_logic.specs.Signature.{Signature}
 use Rattle.mz_logic.specs.Declaration.{Form, plain_form, abstract_form, defined, Term, Assertion, Declaration, sort_decl, term_decl, assertion_decl, body_of, sorts, signatures}
 use Rattle.mz_logic.specs.Legality.{IsLegalDecl, IsLegalEnv}
-use Rattle.mz_logic.specs.Derivations.{Derivation, without_gaps}
-use Rattle.mz_logic.specs.LegalLists.{Statement, IsProvedBy, IsLegalStatement, LegalAfter, LegalBy, gap_free, any_derivation, allowed_with}
+use Rattle.mz_logic.specs.Derivations.{without_gaps}
+use Rattle.mz_logic.specs.LegalLists.{Statement, IsProvedBy, IsLegalStatement, LegalAfter, LegalBy, allowed_with}
 use Rattle.mz_logic.specs.declared.binder.Binder.{Binder}
 use Rattle.mz_logic.specs.declared.binder.SortMods.{SortMods}
 use Rattle.mz_logic.proofs.Offered.{cites_more, legal_push, terms_are_sorted}
@@ -106,7 +106,7 @@ good-legal gaps es good = all-follow gaps no_tables [] tt (record { sorts_are = 
 
 -- ---- one list
 
-same-statement : (s t : Statement) → s.is_local ≡ t.is_local → s.decl ≡ t.decl → s ≡ t
+pub same-statement : (s t : Statement) → s.is_local ≡ t.is_local → s.decl ≡ t.decl → s ≡ t
 same-statement s t p q = ap (λ (z : Bool). record { is_local = z; decl = s.decl }) p ∙ ap (λ (z : Declaration). record { is_local = t.is_local; decl = z }) q
 
 pub one-entry : (sigs : List Signature) (e : Entry) (s t : Statement) → SpellsEntry sigs e s → SpellsEntry sigs e t → s ≡ t

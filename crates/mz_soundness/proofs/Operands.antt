@@ -3,6 +3,7 @@ use Rattle.std.proofs.Common.{◌≡◌, ℕ, zero, suc, ◌+◌, ◌<◌, Bool,
 use Rattle.std.specs.Prelude.{slice_get, ◌==◌, ◌||◌, not}
 use Rattle.std.proofs.lemmas.Bool.{eqb-true}
 use Rattle.std.proofs.lemmas.Option.{slice_get_within}
+use Rattle.mz_general.proofs.Offered.{both-true, not-true}
 use Rattle.mz_cmd.specs.declared.rule.K.TheVariants as k
 use Rattle.mz_logic.specs.Tree.{Tree, var, operand}
 use Rattle.mz_logic.specs.Signature.{Signature}
@@ -17,7 +18,7 @@ use Rattle.mz_unification.specs.Steps.{◌>>◌, need}
 use Rattle.mz_unification.specs.Spells.{trees_of}
 use Rattle.mz_unification.specs.Sorted.{AllSorted}
 use Rattle.mz_unification.specs.Tests.{has_bit, is_bound_var, in_v, var_within}
-use Rattle.mz_unification.proofs.Offered.{from_then, from_need, need_ok, both-true, member-contains, bit-set, bit-not-set, bound-is, v-in, not-true}
+use Rattle.mz_unification.proofs.Offered.{from_then, from_need, need_ok, member-contains, bit-set, bit-not-set, bound-is, v-in}
 use Rattle.mz_soundness.specs.Premises.{may_be_dummy_sort, is_provable_sort, operands_fit, apart_from, apart_at, are_apart}
 
 -- ---- sorts

@@ -1,5 +1,5 @@
 -- Each row but the gap's is the same whether gaps are let through or not.
-use Rattle.std.proofs.Common.{◌≡◌, ℕ, suc, Bool, List, [], ◌∷◌, length, Result, Ok, Err, refl, ap, ap₂, ◌∙◌}
+use Rattle.std.proofs.Common.{◌≡◌, ℕ, suc, Bool, List, [], ◌∷◌, length, Result, Ok, refl, ap, ◌∙◌}
 use Rattle.std.specs.Prelude.{◌==◌, slice_get}
 use Rattle.mz_cmd.specs.declared.rule.K.{K}
 use Rattle.mz_cmd.specs.declared.rule.K.TheVariants as k
@@ -10,7 +10,7 @@ use Rattle.mz_logic.specs.Legality.{sort_of}
 use Rattle.mz_logic.specs.declared.binder.Binder.{Binder}
 use Rattle.mz_unification.specs.Steps.{◌>>=◌, ◌>>◌, need, want, rule_of}
 use Rattle.mz_unification.specs.Profile.{plain, strict, Item, expr, proof, obligation, conversion}
-use Rattle.mz_unification.specs.UnifyMachine.{UnifyMode, Matching, UnifyState}
+use Rattle.mz_unification.specs.UnifyMachine.{UnifyMode, Matching}
 use Rattle.mz_unification.proofs.Offered.{bind-same, bind-first, unify-plain}
 use Rattle.mz_soundness.specs.MachineState.{RowsBefore, signatures_in, State, Kind, is_axiom, is_theorem, is_definition, Heading}
 use Rattle.mz_soundness.specs.FreeVars.{free_within}

@@ -1,24 +1,17 @@
 -- Sorts and free variables go back from an expression to the one that it renames.
 use Rattle.std.proofs.Common.{◌≡◌, ℕ, zero, suc, ◌+◌, ◌<◌, List, [], ◌∷◌, ◌++◌, length, Some, refl, sym, ap, subst, ◌∙◌, inl, inr, arith}
 use Rattle.std.specs.Prelude.{slice_get}
+use Rattle.mz_general.proofs.Offered.{slice_get-some as there}
 use Rattle.mz_logic.specs.Tree.{Tree, Trees, var, app, none, more, operand, instance, instances}
 use Rattle.mz_logic.specs.Signature.{Signature}
 use Rattle.mz_logic.specs.Sorts.{IsBoundVar, HasSort, Fits}
 use Rattle.mz_logic.specs.Variables.{InV, InFV, InSomeFV, IsOperandAt}
 use Rattle.mz_logic.specs.declared.binder.Binder.{Binder}
-use Rattle.mz_logic.proofs.Offered.{extends_append}
+use Rattle.mz_logic.proofs.Offered.{extends_append, same-variable}
 use Rattle.mz_unification.specs.Spells.{trees_of, variables_from}
 use Rattle.mz_unification.proofs.Offered.{some_is, Below, AllBelow}
 
-pub there : {A : Type 0} (xs : List A) (i : ℕ) → i < length xs → (x : A) × (slice_get xs i ≡ Some x)
-there [] i lt = absurd (omega arith)
-there (x ∷ xs) zero lt = (x, refl)
-there (x ∷ xs) (suc i) lt = there xs i (omega arith)
-
-var-is : (x y : ℕ) → var x ≡ var y → x ≡ y
-var-is x y e = cc
-
-no-app : (t : ℕ) (es : Trees) (x : ℕ) → app t es ≡ var x → ⊥
+pub no-app : (t : ℕ) (es : Trees) (x : ℕ) → app t es ≡ var x → ⊥
 no-app t es x e = cc
 
 -- the variable x of ctx' is put for by a variable of ctx with the same sort and binding
@@ -29,7 +22,7 @@ module _ (sigs : List Signature) (ctx ctx' : List Binder) (f : Trees) (g : ℕ �
   bound-back : (e : Tree) → Below top e → IsBoundVar ctx (instance f e) → IsBoundVar ctx' e
   bound-back (var x) lt (z, c, is, at, bound) =
       let (put, (b, b', b-at, b'-at, sort-is, bound-is)) = renames x lt in
-      let same : g x ≡ z = var-is (g x) z (sym put ∙ is) in
+      let same : g x ≡ z = same-variable (g x) z (sym put ∙ is) in
       let c-is : c ≡ b = some_is (ap (slice_get ctx) same ∙ at) b-at in
       (x, b', refl, b'-at, sym bound-is ∙ ap (λ (y : Binder). y.bound) (sym c-is) ∙ bound)
   bound-back (app t es) lt (z, c, is, at, bound) = absurd (no-app t (instances f es) z is)
@@ -53,7 +46,7 @@ module _ (sigs : List Signature) (ctx ctx' : List Binder) (f : Trees) (g : ℕ �
   module _ (injective : (x z : ℕ) → x < top → z < top → g x ≡ g z → x ≡ z)
       (v-forward : (x z : ℕ) → x < top → z < top → InV ctx' x (var z) → InV ctx (g x) (var (g z))) where
     name-back : (x : ℕ) (e : Tree) → x < top → Below top e → instance f e ≡ var (g x) → e ≡ var x
-    name-back x (var z) lt below is = ap var (injective z x below lt (var-is (g z) (g x) (sym (renames z below).0 ∙ is)))
+    name-back x (var z) lt below is = ap var (injective z x below lt (same-variable (g z) (g x) (sym (renames z below).0 ∙ is)))
     name-back x (app t es) lt below is = absurd (no-app t (instances f es) (g x) is)
 
     operand-below : (es : Trees) (j : ℕ) → AllBelow top es → Below top (operand es j)

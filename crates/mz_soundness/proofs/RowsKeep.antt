@@ -3,6 +3,7 @@ use Rattle.std.proofs.Common.{◌≡◌, ℕ, zero, suc, ◌+◌, ◌<◌, Bool,
 use Rattle.std.specs.Prelude.{slice_get, reverse, ◌&&◌, not}
 use Rattle.std.proofs.lemmas.Bool.{eqb-true}
 use Rattle.std.proofs.lemmas.Option.{slice_get_within}
+use Rattle.mz_general.proofs.Offered.{slice_get-last, both-true}
 use Rattle.mz_cmd.specs.declared.rule.K.TheVariants as k
 use Rattle.mz_cmd.specs.declared.code.ProofCode.{ProofCode}
 use Rattle.mz_cmd.specs.declared.code.ProofCode.TheVariants as code
@@ -24,7 +25,7 @@ use Rattle.mz_unification.specs.Profile.{plain, strict, tree_parts, Item, expr, 
 use Rattle.mz_unification.specs.Sorted.{Sorted, ItemSorted, ItemsSorted}
 use Rattle.mz_unification.specs.Tests.{same_tree}
 use Rattle.mz_unification.specs.UnifyMachine.{in_citation, in_definition, Matching, UnifyState, unify}
-use Rattle.mz_unification.proofs.Offered.{from_bind, from_then, from_need, from_want, rule_of-ok, some_is, taken, taken-is, both-true, same_tree-true, parts-are, operands-sorted, citation-is, unfolding-is}
+use Rattle.mz_unification.proofs.Offered.{from_bind, from_then, from_need, from_want, rule_of-ok, some_is, taken, taken-is, same_tree-true, parts-are, operands-sorted, citation-is, unfolding-is}
 use Rattle.mz_soundness.specs.MachineState.{RowsBefore, signatures_in, State, Declares}
 use Rattle.mz_soundness.specs.Premises.{pop, pop_expr, pop_proof, pop_obligation, pop_conversion, pop_operands, pop_sides, is_conversion, is_obligation, may_be_dummy_sort, is_provable_sort, bound_count, operands_fit, are_apart}
 use Rattle.mz_soundness.specs.ProofMachine.{built, citation, matched_by, cited, referred, sides, same_term, stream_of, unfolding_of, gapped, has_provable_sort, proof_row}
@@ -34,7 +35,7 @@ use Rattle.mz_soundness.proofs.Operands.{provable-sort, dummy-sort, fits-from, a
 use Rattle.mz_soundness.proofs.PlainRows.{row-plain}
 use Rattle.mz_soundness.proofs.Stacks.{item-at, holds-at, sorted-push, holds-push, claims-push, expr-top, proof-top, obligation-top, conversion-top, sides-top, operands-top, heap-hyps, stack-hyps, each-reverse, derive-all, proofs-below, sorted-below, sides-sorted, sides-hold}
 
-same-trees : (es : List Tree) → map (λ e. e) es ≡ es
+pub same-trees : (es : List Tree) → map (λ e. e) es ≡ es
 same-trees [] = refl
 same-trees (e ∷ es) = ap (λ (fs : List Tree). e ∷ fs) (same-trees es)
 
@@ -43,11 +44,7 @@ get-more [] y i x e = absurd cc
 get-more (z ∷ xs) y zero x e = e
 get-more (z ∷ xs) y (suc i) x e = get-more xs y i x e
 
-get-last : {A : Type 0} (xs : List A) (y : A) → slice_get (xs ++ y ∷ []) (length xs) ≡ Some y
-get-last [] y = refl
-get-last (z ∷ xs) y = get-last xs y
-
-pop-is : (xs : List (Item Tree)) (r : Item Tree × List (Item Tree)) → pop xs ≡ Ok r → xs ≡ r.0 ∷ r.1
+pub pop-is : (xs : List (Item Tree)) (r : Item Tree × List (Item Tree)) → pop xs ≡ Ok r → xs ≡ r.0 ∷ r.1
 pop-is [] r e = absurd cc
 pop-is (x ∷ xs) r e = let same : (x, xs) ≡ r = taken-is (x, xs) r e in ap (λ (p : Item Tree × List (Item Tree)). p.0 ∷ p.1) same
 
@@ -348,7 +345,7 @@ module _ (P : Uses) (tables : RowsBefore) (env : List Declaration) (declares : D
       step-is st (record { ctx = st.ctx ++ b ∷ []; heap = st.heap ++ expr x ∷ []; stack = expr x ∷ st.stack; hyps = st.hyps }) st' e2 λ front. (
         (λ y c at. front y c (longer y c at)),
         λ fact.
-            let sorted : Sorted Sigs (st.ctx ++ b ∷ []) x = (s, (b, get-last st.ctx b, refl)) in
+            let sorted : Sorted Sigs (st.ctx ++ b ∷ []) x = (s, (b, slice_get-last st.ctx b, refl)) in
             let (dummies, ctx-is, are) = fact.context in
             record {
               context = (

@@ -1,5 +1,5 @@
 -- A body that runs by the published table runs where gaps are let through, to the same end.
-use Rattle.std.proofs.Common.{◌≡◌, ℕ, zero, suc, ◌+◌, ◌⊎◌, Bool, List, [], ◌∷◌, length, drop, map, cond, eqb, Option, Some, None, Result, Ok, Err, refl, sym, ap, ◌∙◌, subst, inl, inr}
+use Rattle.std.proofs.Common.{◌≡◌, ℕ, zero, suc, ◌+◌, ◌⊎◌, Bool, List, [], length, drop, map, cond, eqb, Option, Some, None, Result, Ok, Err, refl, ap, ◌∙◌, subst, inl, inr}
 use Rattle.mz_cmd.specs.declared.rule.K.{K}
 use Rattle.mz_cmd.specs.declared.rule.K.TheVariants as k
 use Rattle.mz_cmd.specs.declared.command.Cmd.{Cmd}
@@ -12,10 +12,10 @@ use Rattle.mz_logic.specs.Tree.{Tree}
 use Rattle.mz_unification.specs.Steps.{◌>>=◌, ◌>>◌, need, at_place, Turn, over, goes_on, follow}
 use Rattle.mz_unification.specs.Profile.{plain, strict, expr}
 use Rattle.mz_unification.specs.UnifyMachine.{is_empty}
-use Rattle.mz_unification.proofs.Offered.{from_bind, place-ok}
+use Rattle.mz_unification.proofs.Offered.{from_bind}
 use Rattle.mz_soundness.specs.MachineState.{RowsBefore, State, Kind, is_axiom, is_theorem, is_definition, Heading}
-use Rattle.mz_soundness.specs.ProofMachine.{proof_row, proof_end, own_variables}
-use Rattle.mz_soundness.specs.Bodies.{BodyCommand, ends, proves, stands_in, if_allowed, body_command, body_turn, body_turn_by, body_from, body_run, body_start}
+use Rattle.mz_soundness.specs.ProofMachine.{proof_row}
+use Rattle.mz_soundness.specs.Bodies.{BodyCommand, ends, proves, stands_in, if_allowed, body_command, body_turn, body_turn_by, body_from, body_start}
 use Rattle.mz_soundness.specs.Laws.{StrictRunsWithGaps}
 use Rattle.mz_soundness.proofs.PlainRows.{own-plain, row-plain, end-plain}
 

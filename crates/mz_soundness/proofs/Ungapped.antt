@@ -1,5 +1,5 @@
 -- A theorem that isn't gapped has a derivation without gaps that cites no gapped theorem.
-use Rattle.std.proofs.Common.{◌≡◌, ℕ, Bool, true, false, List, [], ◌∷◌, ◌++◌, length, subst, inl, inr}
+use Rattle.std.proofs.Common.{ℕ, Bool, List, [], ◌∷◌, ◌++◌, length, subst, inl, inr}
 use Rattle.std.specs.Prelude.{◌<◌}
 use Rattle.mz_logic.specs.Declaration.{Assertion, Declaration, sort_decl, term_decl, assertion_decl, assertions}
 use Rattle.mz_logic.specs.Derivations.{without_gaps}

@@ -21,7 +21,7 @@ use Rattle.mz_soundness.specs.MachineState.{RowsBefore, State, Heading, Declares
 use Rattle.mz_soundness.specs.ProofMachine.{proof_row, proof_end, ends_with, matched_by, own_variables}
 use Rattle.mz_soundness.specs.Bodies.{BodyCommand, ends, proves, stands_in, if_allowed, body_command, body_turn, body_turn_by, body_from, body_run, body_start}
 use Rattle.mz_soundness.specs.Facts.{HeapHolds, Fact, Keeps}
-use Rattle.mz_soundness.specs.Sound.{IsCitation, CitesWithin, IsCited, GapsWithin, used_by}
+use Rattle.mz_soundness.specs.Sound.{IsCitation, CitesWithin, GapsWithin, used_by}
 use Rattle.mz_soundness.proofs.PlainRows.{end-plain}
 use Rattle.mz_soundness.proofs.RowsKeep.{keeps}
 
@@ -48,7 +48,7 @@ citing c b is (inr save) = (inr (is ∙ ap (λ (z : ProofCode). Some z) save), r
 
 -- ---- what a turn did
 
-from_follow : {S F G : Type 0} (r : Result (Turn S) F) (rest : ℕ → S → Result S F) (y : S) → follow r rest ≡ Ok y
+pub from_follow : {S F G : Type 0} (r : Result (Turn S) F) (rest : ℕ → S → Result S F) (y : S) → follow r rest ≡ Ok y
     → ((s : S) → r ≡ Ok (over s) → s ≡ y → G) → ((len : ℕ) (s : S) → r ≡ Ok (goes_on len s) → rest len s ≡ Ok y → G) → G
 from_follow (Err f) rest y e ended went = absurd cc
 from_follow (Ok (over s)) rest y e ended went = ended s refl cc

@@ -11,7 +11,7 @@ use Rattle.mz_variables.specs.View.{Variable}
 use Rattle.mz_spec.specs.Rules.{IsBinder, AreBinders}
 use Rattle.mz_spec.specs.State.{State}
 use Rattle.std.proofs.lemmas.List.{map-append}
-use Rattle.mz_spec.proofs.Loops.{left-at}
+use Rattle.mz_general.proofs.Offered.{drop-item}
 
 take-next : {X : Type 0} → (xs : List X) (i : ℕ) (x : X) → i < length xs → x ≡ get_or xs i x → take (suc i) xs ≡ take i xs ++ x ∷ []
 take-next [] i x below is = absurd (omega (arith, below))
@@ -25,7 +25,7 @@ seen-next xs i x below is = sym (map-append variable (take i xs) (x ∷ [])) ∙
 module _ (σ : State) (xs : List VariableRead) (i : ℕ) (x : VariableRead) (below : i < length xs) (is : x ≡ get_or xs i x) (W : Type 0)
     (left : AreBinders σ (map variable (take i xs)) (map variable (drop i xs)) ↔ W) where
   cut : AreBinders σ (map variable (take i xs)) (variable x ∷ map variable (drop (i + 1) xs)) ↔ W
-  cut = subst (λ ys. AreBinders σ (map variable (take i xs)) (map variable ys) ↔ W) (left-at xs i x below is) left
+  cut = subst (λ ys. AreBinders σ (map variable (take i xs)) (map variable ys) ↔ W) (drop-item xs i x below is) left
 
   pub binders-step : IsBinder σ (map variable (take i xs)) (variable x) → AreBinders σ (map variable (take (i + 1) xs)) (map variable (drop (i + 1) xs)) ↔ W
   binders-step here = subst (λ ys. AreBinders σ ys (map variable (drop (i + 1) xs)) ↔ W) (seen-next xs i x below is) ((λ rest. cut.0 (here, rest)), (λ w. (cut.1 w).1))

@@ -1,58 +1,20 @@
 -- Whether a result depends on each free variable of a body is decided.
-use Rattle.std.proofs.Common.{◌≡◌, ◌⊎◌, ◌++◌, ℕ, zero, suc, List, [], ◌∷◌, Bool, true, false, Option, Some, None, slice_get, Contains, ap, sym, refl, subst, inl, inr, arith}
+use Rattle.std.proofs.Common.{◌≡◌, ◌⊎◌, ◌++◌, ℕ, zero, suc, List, [], ◌∷◌, true, false, Option, Some, None, slice_get, Contains, ap, sym, subst, inl, inr, arith}
+use Rattle.mz_general.proofs.Offered.{contains-decided, either-decided, not-decided, three-decided, Decided, true-decided, false-decided}
 use Rattle.mz_checks.proofs.Offered.{both-decided, implied-decided}
 use Rattle.mz_logic.specs.Tree.{Tree, Trees, var, app, none, more, operand}
 use Rattle.mz_logic.specs.Signature.{Signature}
 use Rattle.mz_logic.specs.Variables.{InV, InFV, InSomeFV, IsBoundAt, IsOperandAt}
 use Rattle.mz_logic.specs.declared.binder.Binder.{Binder}
-use Rattle.mz_math.proofs.Offered.{Decided, found, equal-decided, not-decided}
+use Rattle.mz_math.proofs.Offered.{found, equal-decided, some-with}
 use Rattle.mz_variables.specs.Dependencies.{Every}
 use Rattle.mz_spec.proofs.Naming.{every-front}
-use Rattle.mz_spec.proofs.Tokens.{contains-decided}
 
 -- ---- facts
-
-pub either-decided : {P Q : Type 0} → Decided P → Decided Q → Decided (P ⊎ Q)
-either-decided (inl p) q = inl (inl p)
-either-decided (inr out) (inl q) = inl (inr q)
-either-decided {P} {Q} (inr out) (inr off) = inr go
-  where
-    go : P ⊎ Q → ⊥
-    go (inl p) = out p
-    go (inr q) = off q
 
 pub every-decided : {A : Type 0} → (P : A → Type 0) → ((x : A) → Decided (P x)) → (xs : List A) → Decided (Every P xs)
 every-decided P d [] = inl tt
 every-decided P d (x ∷ xs) = both-decided (d x) (every-decided P d xs)
-
-pub three-decided : {P Q R : Type 0} → Decided P → Decided Q → Decided R → Decided (P × Q × R)
-three-decided (inl p) (inl q) (inl r) = inl (p, q, r)
-three-decided (inl p) (inl q) (inr out) = inr (λ h. out h.2)
-three-decided (inl p) (inr out) r = inr (λ h. out h.1)
-three-decided (inr out) q r = inr (λ h. out h.0)
-
-pub bool-decided : (b : Bool) → Decided (b ≡ true)
-bool-decided true = inl refl
-bool-decided false = inr (λ e. cc)
-
-false-decided : (b : Bool) → Decided (b ≡ false)
-false-decided true = inr (λ e. cc)
-false-decided false = inl refl
-
--- the element at a place, of which a fact holds
-pub at-decided : {A : Type 0} → (P : A → Type 0) → ((x : A) → Decided (P x)) → (o : Option A) → Decided ((x : A) × (o ≡ Some x) × P x)
-at-decided {A} P d None = inr (λ h. no h.0 h.1)
-  where
-    no : (x : A) → None ≡ Some x → ⊥
-    no x e = cc
-at-decided {A} P d (Some y) = go (d y)
-  where
-    one : (x : A) → Some y ≡ Some x → y ≡ x
-    one x e = cc
-
-    go : Decided (P y) → Decided ((x : A) × (Some y ≡ Some x) × P x)
-    go (inl p) = inl (y, refl, p)
-    go (inr out) = inr (λ h. out (subst P (sym (one h.0 h.1)) h.2))
 
 -- ---- free variables
 
@@ -67,14 +29,14 @@ var-decided (app t es) x = inr (λ e. cc)
 module _ (sigs : List Signature) (ctx : List Binder) (x : ℕ) where
   in_v-decided : (y : ℕ) → Decided (InV ctx x (var y))
   in_v-decided y =
-      at-decided (λ b. ((b.bound ≡ true) × (x ≡ y)) ⊎ ((b.bound ≡ false) × Contains b.deps x))
-      (λ b. either-decided (both-decided (bool-decided b.bound) (equal-decided x y)) (both-decided (false-decided b.bound) (contains-decided b.deps x))) (slice_get ctx y)
+      some-with (λ b. ((b.bound ≡ true) × (x ≡ y)) ⊎ ((b.bound ≡ false) × Contains b.deps x))
+      (λ b. either-decided (both-decided (true-decided b.bound) (equal-decided x y)) (both-decided (false-decided b.bound) (contains-decided b.deps x))) (slice_get ctx y)
 
   operand-decided : (params : List Binder) (es : Trees) (places : List ℕ) → Decided (IsOperandAt params es places x)
   operand-decided params es places = go (found (λ j. IsBoundAt params j × (operand es j ≡ var x)) each places)
     where
       each : (j : ℕ) → Decided (IsBoundAt params j × (operand es j ≡ var x))
-      each j = both-decided (at-decided (λ b. b.bound ≡ true) (λ b. bool-decided b.bound) (slice_get params j)) (var-decided (operand es j) x)
+      each j = both-decided (some-with (λ b. b.bound ≡ true) (λ b. true-decided b.bound) (slice_get params j)) (var-decided (operand es j) x)
 
       go : ((j : ℕ) × Contains places j × (IsBoundAt params j × (operand es j ≡ var x))) ⊎ ((j : ℕ) → Contains places j → (IsBoundAt params j × (operand es j ≡ var x)) → ⊥) → Decided (IsOperandAt params es places x)
       go (inl (j, has, (bound, is))) = inl (j, has, bound, is)
@@ -84,7 +46,7 @@ module _ (sigs : List Signature) (ctx : List Binder) (x : ℕ) where
     in_fv-decided : (e : Tree) → Decided (InFV sigs ctx x e)
     in_fv-decided (var y) = in_v-decided y
     in_fv-decided (app t es) =
-        at-decided (λ d. InSomeFV sigs ctx x d.params es d.params es ⊎ IsOperandAt d.params es d.result.deps x)
+        some-with (λ d. InSomeFV sigs ctx x d.params es d.params es ⊎ IsOperandAt d.params es d.result.deps x)
         (λ d. either-decided (some_fv-decided d.params es d.params es) (operand-decided d.params es d.result.deps)) (slice_get sigs t)
 
     some_fv-decided : (params : List Binder) (all : Trees) (ps : List Binder) (es : Trees) → Decided (InSomeFV sigs ctx x params all ps es)

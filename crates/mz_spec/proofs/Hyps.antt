@@ -1,8 +1,10 @@
 -- The hypotheses that formulas make, one after another.
 use Rattle.std.proofs.Common.{◌≡◌, ◌∙◌, ◌<◌, ◌+◌, ℕ, List, [], ◌∷◌, length, map, drop, get_or, ap, sym, refl, subst}
+use Rattle.mz_general.proofs.Offered.{drop-item}
 use Rattle.mz_checks.specs.Checks.{Checks, AllHold, FailsFirst}
 use Rattle.mz_checks.proofs.Offered.{Decides, decides-after, fails-before}
-use Rattle.mz_logic.specs.Tree.{Tree, Trees, none, more, followed_by}
+use Rattle.mz_logic.specs.Tree.{Tree, Trees, none, followed_by}
+use Rattle.mz_logic.proofs.Offered.{followed_by_assoc, followed_by_none}
 use Rattle.mz_tokens.specs.declared.pieces.Piece.{Piece}
 use Rattle.mz_tokens.specs.Pieces.{Pieces}
 use Rattle.mz_grammar.specs.Reading.{OnFault}
@@ -12,18 +14,9 @@ use Rattle.mz_grammar.specs.declared.refusal.Halt.TheVariants as halts
 use Rattle.mz_spec.specs.declared.formulas.Stated.{Stated as StatedRead}
 use Rattle.mz_spec.specs.Code.{stated}
 use Rattle.mz_variables.specs.Dependencies.{Every}
-use Rattle.mz_spec.proofs.Loops.{left-at}
 use Rattle.mz_variables.specs.View.{Variable, Formula, claim, Stated, stated_claim}
 use Rattle.mz_spec.specs.State.{State}
 use Rattle.mz_spec.specs.Formulas.{AreHyps, AreTokens, IsMeant, copies, inner, math_of, string_checks, strings_checks}
-
-pub followed-assoc : (es fs gs : Trees) → followed_by (followed_by es fs) gs ≡ followed_by es (followed_by fs gs)
-followed-assoc none fs gs = refl
-followed-assoc (more e es) fs gs = ap (more e) (followed-assoc es fs gs)
-
-pub followed-none : (es : Trees) → followed_by es none ≡ es
-followed-none none = refl
-followed-none (more e es) = ap (more e) (followed-none es)
 
 -- ---- strings
 
@@ -51,16 +44,16 @@ pub hyps-step : (σ : State) (vs : List Variable) (h : Stated) (hs all : List St
     → ((rest : Trees) → AreHyps σ vs (h ∷ hs) rest → AreHyps σ vs all (followed_by hyps rest)) → IsMeant σ vs (claim h.math) e → now ≡ followed_by hyps (copies h.times e)
     → (rest : Trees) → AreHyps σ vs hs rest → AreHyps σ vs all (followed_by now rest)
 hyps-step σ vs h hs all hyps now e so_far meant is rest are =
-    subst (AreHyps σ vs all) (sym (ap (λ x. followed_by x rest) is ∙ followed-assoc hyps (copies h.times e) rest)) (so_far (followed_by (copies h.times e) rest) (e, rest, meant, are, refl))
+    subst (AreHyps σ vs all) (sym (ap (λ x. followed_by x rest) is ∙ followed_by_assoc hyps (copies h.times e) rest)) (so_far (followed_by (copies h.times e) rest) (e, rest, meant, are, refl))
 
 pub hyps-end : (σ : State) (vs : List Variable) (all : List Stated) (hyps : Trees) → ((rest : Trees) → AreHyps σ vs [] rest → AreHyps σ vs all (followed_by hyps rest)) → AreHyps σ vs all hyps
-hyps-end σ vs all hyps so_far = subst (AreHyps σ vs all) (followed-none hyps) (so_far none refl)
+hyps-end σ vs all hyps so_far = subst (AreHyps σ vs all) (followed_by_none hyps) (so_far none refl)
 
 -- ---- one more formula of a list
 
 module _ (σ : State) (vs : List Variable) (xs : List StatedRead) (i : ℕ) (x : StatedRead) (within : i < length xs) (is : x ≡ get_or xs i x) where
   at : map stated (drop i xs) ≡ stated x ∷ map stated (drop (i + 1) xs)
-  at = ap (map stated) (left-at xs i x within is)
+  at = ap (map stated) (drop-item xs i x within is)
 
   abbrev Left : ℕ → Checks Fault → Type 0
   Left j whole = (rest : List (List Piece)) × AreTokens σ (map stated_claim (map stated (drop j xs))) rest × Decides (strings_checks σ vs (map stated_claim (map stated (drop j xs))) rest) whole

@@ -54,7 +54,7 @@ sorts-few (sort_decl m ∷ ds) = omega (arith, sorts-few ds)
 sorts-few (term_decl d ∷ ds) = omega (arith, sorts-few ds)
 sorts-few (assertion_decl a ∷ ds) = omega (arith, sorts-few ds)
 
-terms-few : (ds : List Declaration) → length (signatures ds) ≤ length ds
+pub terms-few : (ds : List Declaration) → length (signatures ds) ≤ length ds
 terms-few [] = omega arith
 terms-few (sort_decl m ∷ ds) = omega (arith, terms-few ds)
 terms-few (term_decl d ∷ ds) = omega (arith, terms-few ds)

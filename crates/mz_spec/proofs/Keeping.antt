@@ -1,11 +1,13 @@
 -- What holds of the state behind good statements holds of the state behind one more.
 use Rattle.std.proofs.Common.{◌≡◌, ◌≢◌, ◌∙◌, ◌++◌, ◌+◌, ℕ, zero, suc, List, [], ◌∷◌, length, Bool, true, false, Option, Some, slice_get, Contains, ap, sym, refl, subst, inl, inr, arith, length-append}
 use Rattle.std.specs.Prelude.{IsTrue, if◌then◌else◌}
+use Rattle.std.proofs.lemmas.List.Elements.{Contains-push_cases}
+use Rattle.mz_general.proofs.Offered.{slice_get-append}
 use Rattle.mz_names.specs.Identifiers.{is_name}
 use Rattle.mz_lex.specs.Lexemes.{Lexeme}
-use Rattle.mz_logic.specs.Declaration.{Declaration, sort_decl, term_decl, assertion_decl, sorts, signatures}
+use Rattle.mz_logic.specs.Declaration.{Declaration, sorts, signatures}
 use Rattle.mz_logic.specs.Legality.{IsLegalDecl}
-use Rattle.mz_logic.proofs.Offered.{legal_push}
+use Rattle.mz_logic.proofs.Offered.{legal_push, sorts-append, signatures-append}
 use Rattle.mz_tokens.specs.declared.pieces.Delimiters.{Delimiters}
 use Rattle.mz_notation.specs.declared.notation.Element.{Element}
 use Rattle.mz_notation.specs.declared.notation.Notation.{Notation}
@@ -21,7 +23,6 @@ use Rattle.mz_tokens.specs.Pieces.{IsConstant}
 use Rattle.mz_math.specs.Laws.{IsNoted}
 use Rattle.mz_notation.specs.Kept.{IsTable, AreVariables}
 use Rattle.mz_math.proofs.Offered.{notations-keep}
-use Rattle.mz_tokens.proofs.Offered.{place_first, contains_either}
 use Rattle.mz_notation.proofs.Offered.{empty-is, name-is, coercion-is, delimiters-is, infix-one, prefix-one, general-one}
 use Rattle.mz_grammar.specs.declared.kind.Fixity.TheVariants as fixities
 use Rattle.mz_grammar.specs.Statement.{TypeText, Head, LiteralText, constant_literal, name_literal, TailText, Statement, sort_statement, term_statement, assert_statement, definition_statement, operator_statement, coercion_statement, delimiter_statement, notation_statement}
@@ -41,25 +42,13 @@ use Rattle.mz_spec.proofs.Legal.{legal-written}
 
 -- ---- lists of declarations
 
-pub sorts-more : (ds es : List Declaration) → sorts (ds ++ es) ≡ sorts ds ++ sorts es
-sorts-more [] es = refl
-sorts-more (sort_decl m ∷ ds) es = ap (λ xs. m ∷ xs) (sorts-more ds es)
-sorts-more (term_decl d ∷ ds) es = sorts-more ds es
-sorts-more (assertion_decl a ∷ ds) es = sorts-more ds es
-
-pub signatures-more : (ds es : List Declaration) → signatures (ds ++ es) ≡ signatures ds ++ signatures es
-signatures-more [] es = refl
-signatures-more (sort_decl m ∷ ds) es = signatures-more ds es
-signatures-more (term_decl d ∷ ds) es = ap (λ xs. d.signature ∷ xs) (signatures-more ds es)
-signatures-more (assertion_decl a ∷ ds) es = signatures-more ds es
-
 one-longer : {X : Type 0} → (xs : List X) (x : X) → length (xs ++ x ∷ []) ≡ length xs + 1
 one-longer xs x = length-append xs (x ∷ [])
 
 -- a coercion stays one over more terms
 coercion-more : (env : List Declaration) (d : Declaration) (c : Coercion) → IsCoercion (signatures env) c → IsCoercion (signatures (env ++ d ∷ [])) c
 coercion-more env d c (s, b, at, params, regular, from, to) =
-    (s, b, ap (λ sigs. slice_get sigs c.term) (signatures-more env (d ∷ [])) ∙ place_first (signatures env) (signatures (d ∷ [])) c.term s at, params, regular, from, to)
+    (s, b, ap (λ sigs. slice_get sigs c.term) (signatures-append env (d ∷ [])) ∙ slice_get-append (signatures env) (signatures (d ∷ [])) c.term s at, params, regular, from, to)
 
 -- ---- names of terms
 
@@ -79,8 +68,8 @@ numbered-new i (n ∷ ns) t new m (suc k, below, is) same = numbered-new (i + 1)
 
 kept-sort : (σ : State) (place : ℕ) (n : Lexeme) (d : Declaration) → IsKept σ → IsLegalDecl σ.env d → length (sorts (d ∷ [])) ≡ 1 → length (signatures (d ∷ [])) ≡ 0 → IsKept (with_sort σ place n d)
 kept-sort σ place n d kept legal one none = record {
-  sorts = let a = one-longer σ.sort_names n.text in let b = ap length (sorts-more σ.env (d ∷ [])) in let c = length-append (sorts σ.env) (sorts (d ∷ [])) in let k = kept.sorts in omega (arith, a, b, c, k, one);
-  terms = let b = ap length (signatures-more σ.env (d ∷ [])) in let c = length-append (signatures σ.env) (signatures (d ∷ [])) in let k = kept.terms in omega (arith, b, c, k, none);
+  sorts = let a = one-longer σ.sort_names n.text in let b = ap length (sorts-append σ.env (d ∷ [])) in let c = length-append (sorts σ.env) (sorts (d ∷ [])) in let k = kept.sorts in omega (arith, a, b, c, k, one);
+  terms = let b = ap length (signatures-append σ.env (d ∷ [])) in let c = length-append (signatures σ.env) (signatures (d ∷ [])) in let k = kept.terms in omega (arith, b, c, k, none);
   marks = let a = length-append σ.marks (mark_at place n ∷ []) in let b = one-longer σ.env d in let k = kept.marks in omega (arith, a, b, k);
   legal = legal_push σ.env d kept.legal legal;
   table = kept.table;
@@ -90,8 +79,8 @@ kept-sort σ place n d kept legal one none = record {
 
 kept-assertion : (σ : State) (place : ℕ) (n : Lexeme) (d : Declaration) → IsKept σ → IsLegalDecl σ.env d → length (sorts (d ∷ [])) ≡ 0 → length (signatures (d ∷ [])) ≡ 0 → IsKept (with_assertion σ place n d)
 kept-assertion σ place n d kept legal none also = record {
-  sorts = let b = ap length (sorts-more σ.env (d ∷ [])) in let c = length-append (sorts σ.env) (sorts (d ∷ [])) in let k = kept.sorts in omega (arith, b, c, k, none);
-  terms = let b = ap length (signatures-more σ.env (d ∷ [])) in let c = length-append (signatures σ.env) (signatures (d ∷ [])) in let k = kept.terms in omega (arith, b, c, k, also);
+  sorts = let b = ap length (sorts-append σ.env (d ∷ [])) in let c = length-append (sorts σ.env) (sorts (d ∷ [])) in let k = kept.sorts in omega (arith, b, c, k, none);
+  terms = let b = ap length (signatures-append σ.env (d ∷ [])) in let c = length-append (signatures σ.env) (signatures (d ∷ [])) in let k = kept.terms in omega (arith, b, c, k, also);
   marks = let a = length-append σ.marks (mark_at place n ∷ []) in let b = one-longer σ.env d in let k = kept.marks in omega (arith, a, b, k);
   legal = legal_push σ.env d kept.legal legal;
   table = kept.table;
@@ -102,8 +91,8 @@ kept-assertion σ place n d kept legal none also = record {
 kept-term : (σ : State) (place : ℕ) (n : Lexeme) (d : Declaration) → IsKept σ → IsLegalDecl σ.env d → IsTrue (is_name n.text) → IsNew σ.term_names n.text
     → length (sorts (d ∷ [])) ≡ 0 → length (signatures (d ∷ [])) ≡ 1 → IsKept (with_term σ place n d)
 kept-term σ place n d kept legal named new none one = record {
-  sorts = let b = ap length (sorts-more σ.env (d ∷ [])) in let c = length-append (sorts σ.env) (sorts (d ∷ [])) in let k = kept.sorts in omega (arith, b, c, k, none);
-  terms = let a = one-longer σ.term_names n.text in let b = ap length (signatures-more σ.env (d ∷ [])) in let c = length-append (signatures σ.env) (signatures (d ∷ [])) in let k = kept.terms in omega (arith, a, b, c, k, one);
+  sorts = let b = ap length (sorts-append σ.env (d ∷ [])) in let c = length-append (sorts σ.env) (sorts (d ∷ [])) in let k = kept.sorts in omega (arith, b, c, k, none);
+  terms = let a = one-longer σ.term_names n.text in let b = ap length (signatures-append σ.env (d ∷ [])) in let c = length-append (signatures σ.env) (signatures (d ∷ [])) in let k = kept.terms in omega (arith, a, b, c, k, one);
   marks = let a = length-append σ.marks (mark_at place n ∷ []) in let b = one-longer σ.env d in let k = kept.marks in omega (arith, a, b, k);
   legal = legal_push σ.env d kept.legal legal;
   table = name-is σ.table (record { name = n.text; term = length σ.term_names }) kept.table named (λ m has same. numbered-new 0 σ.term_names n.text new m (subst (λ xs. Contains xs m) kept.names has) same);
@@ -205,7 +194,7 @@ module _ (σ : State) (place : ℕ) (kept : IsKept σ) where
   kept-coercion : (c : Coercion) → IsCoercion (signatures σ.env) c → OnePath (σ.table.coercions ++ c ∷ []) → IsKept (with_table σ (with_coercion σ.table c))
   kept-coercion c is one =
       kept-table σ (with_coercion σ.table c) kept (coercion-is σ.table c kept.table one) refl
-      (λ e has. elim (contains_either σ.table.coercions c e has) [ inl old ↦ kept.coercions e old | inr same ↦ subst (IsCoercion (signatures σ.env)) same is ])
+      (λ e has. elim (Contains-push_cases σ.table.coercions c e has) [ inl old ↦ kept.coercions e old | inr same ↦ subst (IsCoercion (signatures σ.env)) same is ])
 
   pub kept-written : (s : Statement) (τ : State) → IsWritten s → IsGood σ place s → After σ place s τ → IsKept τ
   kept-written (sort_statement m n) τ spelled (tokens, cut, good) (d, is, same) =

@@ -4,6 +4,7 @@ use Rattle.std.proofs.lemmas.List.{append-nil}
 use Rattle.std.proofs.lemmas.List.Elements.{All-nil}
 use Rattle.std.proofs.lemmas.Option.{slice_get_within}
 use Rattle.std.specs.Prelude.{◌||◌, unwrap_or, option_and_then}
+use Rattle.mz_general.proofs.Offered.{slice_get-some, slice_get-map_at}
 use Rattle.mz_lex.specs.Lexemes.{Lexeme}
 use Rattle.mz_checks.specs.Checks.{AllHold, each_in_order}
 use Rattle.mz_checks.proofs.Offered.{all_hold-rest}
@@ -34,7 +35,7 @@ use Rattle.mz_spec.specs.Declaring.{Declares, IsForm, is_axiom}
 use Rattle.mz_spec.specs.Kept.{IsKept, IsSpelled}
 use Rattle.mz_spec.proofs.Naming.{every-front, every-join, IsWritten, spelled-written, plain-written, variables-written}
 use Rattle.mz_spec.proofs.Places.{one-param, param-at, dummy-at, binder-at, split-variables}
-use Rattle.mz_variables.proofs.Offered.{every-text, among, all-places, no-deps, get-map, get-back, get-within, get-take}
+use Rattle.mz_variables.proofs.Offered.{every-text, among, all-places, no-deps, get-back, get-take}
 use Rattle.mz_spec.proofs.Sorted.{claim-sorted, body-sorted}
 use Rattle.mz_spec.proofs.Good.{good-others, good-types, good-binders, good-dummies, good-results, good-free}
 
@@ -47,7 +48,7 @@ Named σ = length σ.sort_names ≡ length (sorts σ.env)
 sort-there : (σ : State) (t : TypeText) → Named σ → IsKnown σ.sort_names t.sort.text → (m : SortMods) × (slice_get (sorts σ.env) (sort_number σ t) ≡ Some m) × (mods_of σ t ≡ Some m)
 sort-there σ t names (n, is) =
     let within = number-within σ.sort_names t.sort.text n is in
-    let found = get-within (sorts σ.env) n (omega (arith, within, names)) in
+    let found = slice_get-some (sorts σ.env) n (omega (arith, within, names)) in
     (found.0, ap (λ o. slice_get (sorts σ.env) (unwrap_or o 0)) is ∙ found.1, ap (option_and_then (λ k. slice_get (sorts σ.env) k)) is ∙ found.1)
 
 sort-allowed : (σ : State) (t : TypeText) (P : SortMods → Type 0) → Named σ → IsKnown σ.sort_names t.sort.text → (HasSortThat σ P t → ⊥)
@@ -122,7 +123,7 @@ module _ (σ : State) (vs : List Variable) (results : List TypeText) (names : Na
   ss = sorts σ.env
 
   bound-at : (k : ℕ) (w : Variable) → slice_get ps k ≡ Some w → w.is_bound ≡ true → IsBoundAt params k
-  bound-at k w at is = (binder_of σ ps w, get-map (binder_of σ ps) ps k w at, is)
+  bound-at k w at is = (binder_of σ ps w, slice_get-map_at (binder_of σ ps) ps k w at, is)
 
   param-sorted : (i : ℕ) (v : Variable) → slice_get ps i ≡ Some v → IsSorted σ v
   param-sorted i v at = let found = param-at vs i v at in every-at (IsSorted σ) vs found.0 v sorted found.1

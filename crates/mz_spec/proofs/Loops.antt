@@ -1,8 +1,9 @@
 -- What a loop has seen of a list, and what is left of it.
-use Rattle.std.proofs.Common.{◌≡◌, ◌∙◌, ◌<◌, ◌≤◌, ◌+◌, ◌++◌, ◌⊎◌, ℕ, zero, suc, List, [], ◌∷◌, length, map, drop, get_or, Bool, true, false, ap, sym, subst, inl, inr, arith, drop-cons, append_assoc, Result, Ok, Err}
+use Rattle.std.proofs.Common.{◌≡◌, ◌∙◌, ◌<◌, ◌≤◌, ◌+◌, ◌++◌, ◌⊎◌, ℕ, zero, suc, List, [], ◌∷◌, length, map, drop, get_or, Bool, true, false, ap, sym, subst, inl, inr, arith, append_assoc, Result, Ok, Err}
 use Rattle.std.specs.Prelude.{◌↔◌, ◌||◌, IsTrue, refl}
 use Rattle.std.specs.List.{list_any}
-use Rattle.std.proofs.lemmas.List.{drop_all, append-nil}
+use Rattle.std.proofs.lemmas.List.{append-nil}
+use Rattle.mz_general.proofs.Offered.{drop-item, drop-past}
 use Rattle.mz_checks.specs.Checks.{Checks, nothing, ask, each_in_order, ◌>>◌, AllHold, FailsFirst, Judges}
 use Rattle.mz_checks.proofs.Offered.{Decides, decides-after, fails-before, fails-after, judges-after, all_hold-first, all_hold-rest, all_hold-both}
 use Rattle.mz_grammar.specs.declared.refusal.Fault.{Fault}
@@ -10,12 +11,6 @@ use Rattle.mz_grammar.specs.declared.refusal.Halt.{Halt}
 use Rattle.mz_grammar.specs.declared.refusal.Halt.TheVariants as halts
 use Rattle.mz_grammar.specs.Reading.{OnFault}
 use Rattle.mz_variables.specs.Dependencies.{Every}
-
--- the element at hand, and what is left behind it
-pub left-at : {X : Type 0} → (xs : List X) (i : ℕ) (x : X) → i < length xs → x ≡ get_or xs i x → drop i xs ≡ x ∷ drop (i + 1) xs
-left-at xs i x within is =
-    let on : suc i ≡ i + 1 = omega arith in
-    drop-cons xs i x within ∙ ap (λ y. y ∷ drop (suc i) xs) (sym is) ∙ ap (λ n. x ∷ drop n xs) on
 
 -- whatever stands for a missing one
 pub item-is : {X : Type 0} → (xs : List X) (i : ℕ) (d : X) → i < length xs → get_or xs i d ≡ get_or xs i (get_or xs i d)
@@ -28,22 +23,19 @@ item-is (x ∷ xs) (suc i) d within = same xs i d (get_or xs i d) (omega (arith,
     same (x ∷ xs) zero d e within = refl
     same (x ∷ xs) (suc i) d e within = same xs i d e (omega (arith, within))
 
-pub left-none : {X : Type 0} → (xs : List X) (i : ℕ) → length xs ≤ i → drop i xs ≡ []
-left-none xs i past = drop_all i xs past
-
 module _ {X Y : Type 0} (f : X → Y) (xs : List X) (i : ℕ) where
   -- ---- a fact on each
   module _ (P : Y → Type 0) (W : Type 0) where
     pub every-step : (x : X) → i < length xs → x ≡ get_or xs i x → (Every P (map f (drop i xs)) ↔ W) → P (f x) → Every P (map f (drop (i + 1) xs)) ↔ W
     every-step x within is (to, from) p =
-        let at = left-at xs i x within is in
+        let at = drop-item xs i x within is in
         (λ all. to (subst (λ ys. Every P (map f ys)) (sym at) (p, all)), λ w. (subst (λ ys. Every P (map f ys)) at (from w)).1)
 
     pub every-out : (x : X) → i < length xs → x ≡ get_or xs i x → (Every P (map f (drop i xs)) ↔ W) → (P (f x) → ⊥) → W → ⊥
-    every-out x within is (to, from) out w = out (subst (λ ys. Every P (map f ys)) (left-at xs i x within is) (from w)).0
+    every-out x within is (to, from) out w = out (subst (λ ys. Every P (map f ys)) (drop-item xs i x within is) (from w)).0
 
     pub every-end : length xs ≤ i → (Every P (map f (drop i xs)) ↔ W) → W
-    every-end past (to, from) = to (subst (λ ys. Every P (map f ys)) (sym (left-none xs i past)) tt)
+    every-end past (to, from) = to (subst (λ ys. Every P (map f ys)) (sym (drop-past xs i past)) tt)
 
   -- ---- a fact on one
   module _ (One : List Y → Type 0) (P : Y → Type 0) (W : Type 0) where
@@ -53,7 +45,7 @@ module _ {X Y : Type 0} (f : X → Y) (xs : List X) (i : ℕ) where
 
     pub one-step : IsOneOf → (x : X) → i < length xs → x ≡ get_or xs i x → (One (map f (drop i xs)) ↔ W) → (P (f x) → ⊥) → One (map f (drop (i + 1) xs)) ↔ W
     one-step (parts, none) x within is (to, from) out =
-        let at = left-at xs i x within is in
+        let at = drop-item xs i x within is in
         (λ one. to (subst (λ ys. One (map f ys)) (sym at) ((parts (f x) (map f (drop (i + 1) xs))).1 (inr one))), λ w. go ((parts (f x) (map f (drop (i + 1) xs))).0 (subst (λ ys. One (map f ys)) at (from w))))
       where
         go : P (f x) ⊎ One (map f (drop (i + 1) xs)) → One (map f (drop (i + 1) xs))
@@ -62,10 +54,10 @@ module _ {X Y : Type 0} (f : X → Y) (xs : List X) (i : ℕ) where
 
     pub one-found : IsOneOf → (x : X) → i < length xs → x ≡ get_or xs i x → (One (map f (drop i xs)) ↔ W) → P (f x) → W
     one-found (parts, none) x within is (to, from) p =
-        to (subst (λ ys. One (map f ys)) (sym (left-at xs i x within is)) ((parts (f x) (map f (drop (i + 1) xs))).1 (inl p)))
+        to (subst (λ ys. One (map f ys)) (sym (drop-item xs i x within is)) ((parts (f x) (map f (drop (i + 1) xs))).1 (inl p)))
 
     pub one-end : IsOneOf → length xs ≤ i → (One (map f (drop i xs)) ↔ W) → W → ⊥
-    one-end (parts, none) past (to, from) w = none (subst (λ ys. One (map f ys)) (left-none xs i past) (from w))
+    one-end (parts, none) past (to, from) w = none (subst (λ ys. One (map f ys)) (drop-past xs i past) (from w))
 
 -- ---- checks of each
 
@@ -75,7 +67,7 @@ module _ {X Y R : Type 0} (F : List X → List Y) (h : X → Y) (row : Y → Che
   GoesOver = ((x : X) (ys : List X) → F (x ∷ ys) ≡ h x ∷ F ys) × (F [] ≡ [])
 
   next-left : GoesOver → (x : X) → i < length xs → x ≡ get_or xs i x → each_in_order row (F (drop i xs)) ≡ (row (h x) >> each_in_order row (F (drop (i + 1) xs)))
-  next-left (over, none) x within is = ap (each_in_order row) (ap F (left-at xs i x within is) ∙ over x (drop (i + 1) xs))
+  next-left (over, none) x within is = ap (each_in_order row) (ap F (drop-item xs i x within is) ∙ over x (drop (i + 1) xs))
 
   pub rows-step : GoesOver → (x : X) → i < length xs → x ≡ get_or xs i x → Decides (each_in_order row (F (drop i xs))) whole → AllHold (row (h x))
       → Decides (each_in_order row (F (drop (i + 1) xs))) whole
@@ -85,7 +77,7 @@ module _ {X Y R : Type 0} (F : List X → List Y) (h : X → Y) (row : Y → Che
   rows-fail over x r within is d f = d.fails r (subst (λ cs. FailsFirst cs r) (sym (next-left over x within is)) (fails-before (row (h x)) _ r f))
 
   pub rows-done : GoesOver → length xs ≤ i → Decides (each_in_order row (F (drop i xs))) whole → AllHold whole
-  rows-done (over, none) past d = d.holds (subst (λ ys. AllHold (each_in_order row ys)) (sym (ap F (left-none xs i past) ∙ none)) tt)
+  rows-done (over, none) past d = d.holds (subst (λ ys. AllHold (each_in_order row ys)) (sym (ap F (drop-past xs i past) ∙ none)) tt)
 
 -- ---- what is made of each
 
@@ -96,10 +88,10 @@ module _ {X Y : Type 0} (F : List X → List Y) (g : X → List Y) (xs : List X)
 
   pub made-step : Joins → (made whole : List Y) (x : X) → i < length xs → x ≡ get_or xs i x → made ++ F (drop i xs) ≡ whole → (made ++ g x) ++ F (drop (i + 1) xs) ≡ whole
   made-step (joins, none) made whole x within is so_far =
-      append_assoc made (g x) (F (drop (i + 1) xs)) ∙ ap (λ ys. made ++ ys) (sym (ap F (left-at xs i x within is) ∙ joins x (drop (i + 1) xs))) ∙ so_far
+      append_assoc made (g x) (F (drop (i + 1) xs)) ∙ ap (λ ys. made ++ ys) (sym (ap F (drop-item xs i x within is) ∙ joins x (drop (i + 1) xs))) ∙ so_far
 
   pub made-end : Joins → (made whole : List Y) → length xs ≤ i → made ++ F (drop i xs) ≡ whole → made ≡ whole
-  made-end (joins, none) made whole past so_far = sym (append-nil made) ∙ ap (λ ys. made ++ ys) (sym (ap F (left-none xs i past) ∙ none)) ∙ so_far
+  made-end (joins, none) made whole past so_far = sym (append-nil made) ∙ ap (λ ys. made ++ ys) (sym (ap F (drop-past xs i past) ∙ none)) ∙ so_far
 
 -- one more is made, of the element at hand
 module _ {X Y Z : Type 0} (f : X → Y) (h : Y → Z) (xs : List X) (i : ℕ) where
@@ -107,16 +99,16 @@ module _ {X Y Z : Type 0} (f : X → Y) (h : Y → Z) (xs : List X) (i : ℕ) wh
       → new ++ map h (map f (drop (i + 1) xs)) ≡ whole
   item-step x within is made new whole z pushed same so_far =
       let rest = map h (map f (drop (i + 1) xs)) in
-      ap (λ zs. zs ++ rest) (pushed ∙ ap (λ y. made ++ y ∷ []) same) ∙ append_assoc made (h (f x) ∷ []) rest ∙ ap (λ ys. made ++ map h (map f ys)) (sym (left-at xs i x within is)) ∙ so_far
+      ap (λ zs. zs ++ rest) (pushed ∙ ap (λ y. made ++ y ∷ []) same) ∙ append_assoc made (h (f x) ∷ []) rest ∙ ap (λ ys. made ++ map h (map f ys)) (sym (drop-item xs i x within is)) ∙ so_far
 
   pub items-end : (made whole : List Z) → length xs ≤ i → made ++ map h (map f (drop i xs)) ≡ whole → made ≡ whole
-  items-end made whole past so_far = sym (append-nil made) ∙ ap (λ ys. made ++ map h (map f ys)) (sym (left-none xs i past)) ∙ so_far
+  items-end made whole past so_far = sym (append-nil made) ∙ ap (λ ys. made ++ map h (map f ys)) (sym (drop-past xs i past)) ∙ so_far
 
 -- ---- a test on one
 
 module _ {X Y : Type 0} (f : X → Y) (p : Y → Bool) (b : Bool) (xs : List X) (i : ℕ) where
   any-at : (x : X) → i < length xs → x ≡ get_or xs i x → list_any p (map f (drop i xs)) ≡ (p (f x) || list_any p (map f (drop (i + 1) xs)))
-  any-at x within is = ap (λ ys. list_any p (map f ys)) (left-at xs i x within is)
+  any-at x within is = ap (λ ys. list_any p (map f ys)) (drop-item xs i x within is)
 
   pub any-step : (x : X) → i < length xs → x ≡ get_or xs i x → list_any p (map f (drop i xs)) ≡ b → p (f x) ≡ false → list_any p (map f (drop (i + 1) xs)) ≡ b
   any-step x within is so_far differs = sym (any-at x within is ∙ ap (λ c. c || list_any p (map f (drop (i + 1) xs))) differs) ∙ so_far
@@ -125,7 +117,7 @@ module _ {X Y : Type 0} (f : X → Y) (p : Y → Bool) (b : Bool) (xs : List X) 
   any-found x within is so_far found = sym so_far ∙ any-at x within is ∙ ap (λ c. c || list_any p (map f (drop (i + 1) xs))) found
 
   pub any-end : length xs ≤ i → list_any p (map f (drop i xs)) ≡ b → b ≡ false
-  any-end past so_far = sym so_far ∙ ap (λ ys. list_any p (map f ys)) (left-none xs i past)
+  any-end past so_far = sym so_far ∙ ap (λ ys. list_any p (map f ys)) (drop-past xs i past)
 
 -- ---- checks of two lists, one after the other
 

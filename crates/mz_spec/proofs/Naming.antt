@@ -12,6 +12,7 @@ use Rattle.mz_grammar.specs.declared.kind.Kind.{Kind}
 use Rattle.mz_grammar.specs.declared.kind.Kind.TheVariants.{Term, Assert, Definition, Notation}
 use Rattle.mz_grammar.specs.declared.kind.AssertKind.{AssertKind}
 use Rattle.mz_grammar.specs.Statement.{TypeText, Source, type_source, formula_source, NameText, Group, Head, Statement, sort_statement, term_statement, assert_statement, definition_statement, operator_statement, coercion_statement, delimiter_statement, notation_statement, Spells, Sign, keyword, symbol, name, name_or_blank, formula, number, only_if, IsSign, AreSigns, each, end_signs, modifier_signs, type_signs, takes_dummies, closing_of, dot_signs, name_signs, group_source_signs, group_signs, argument_signs, premise_signs, body_signs, literal_signs, tail_signs, statement_signs}
+use Rattle.mz_grammar.proofs.Offered.{signs-long}
 use Rattle.mz_spec.specs.Code.{EndsSmall}
 use Rattle.mz_spec.specs.Kept.{AreOfText, IsSpelled, bytes_of}
 pub use Rattle.mz_variables.proofs.Offered.{every-join}
@@ -294,12 +295,6 @@ body-small h t c is =
     let all = spelled-small (definition_statement h t (Some c)) is in
     let groups = every-front SmallHolds (each (group_signs Definition) h.groups) (symbol (codes ":") ∷ (type_signs t ++ (body_signs (Some c) ++ end_signs))) all.1.1 in
     (every-front SmallHolds (type_signs t) (body_signs (Some c) ++ end_signs) groups.1.1).1.1.0
-
-signs-long : (ss : List Sign) (ls : List Lexeme) → AreSigns ss ls → length ls ≡ length ss
-signs-long [] [] are = refl
-signs-long [] (l ∷ ls) are = absurd are
-signs-long (s ∷ ss) [] are = absurd are
-signs-long (s ∷ ss) (l ∷ ls) (is, are) = ap suc (signs-long ss ls are)
 
 variables-few : (s : Statement) → length (view s).variables ≤ length (statement_signs s)
 variables-few (sort_statement m n) = omega arith

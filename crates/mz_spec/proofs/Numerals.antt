@@ -1,5 +1,5 @@
 -- The levels of a statement that lexemes of a text spell are written in digits.
-use Rattle.std.proofs.Common.{◌≡◌, ◌∙◌, ◌++◌, ◌<◌, ◌+◌, ◌*◌, ◌-◌, take, ℕ, List, [], ◌∷◌, length, get_or, Bool, true, false, Option, Some, None, ap, sym, refl, subst, arith}
+use Rattle.std.proofs.Common.{◌≡◌, ◌++◌, ◌<◌, ◌+◌, ◌*◌, ◌-◌, take, ℕ, List, [], ◌∷◌, length, get_or, Bool, true, false, Option, Some, None, sym, refl, subst, arith}
 use Rattle.std.specs.Prelude.{⊤, ◌||◌, ◌&&◌, IsTrue, codes, bytes_eq}
 use Rattle.std.specs.List.{list_all}
 use Rattle.std.specs.Bool.{Decides}
@@ -8,6 +8,8 @@ use Rattle.std.proofs.lemmas.Str.{digit_value_digit}
 use Rattle.std.proofs.lemmas.Int.Digits.{digits_value_more}
 use Rattle.std.proofs.lemmas.Bool.Decides.{nat_tests}
 use Rattle.std.proofs.lemmas.Slice.Eq.{bytes_eq-Decides}
+use Rattle.std.proofs.lemmas.Bool.{and_from}
+use Rattle.mz_general.proofs.Offered.{both-true}
 use Rattle.mz_names.specs.Identifiers.{is_digit}
 use Rattle.mz_names.proofs.Offered.{digit-at, digit-between}
 use Rattle.mz_lex.specs.Kinds.{is_number_start, is_number, is_of_kind}
@@ -24,20 +26,13 @@ use Rattle.mz_spec.proofs.Naming.{every-front}
 start-digit : (c : ℕ) → is_number_start c ≡ true → is_digit c ≡ true
 start-digit c is = grind (arith, nat_tests)
 
-both-true : (a b : Bool) → (a && b) ≡ true → (a ≡ true) × (b ≡ true)
-both-true true b is = (refl, is)
-both-true false b is = absurd cc
-
-joined-true : (a b : Bool) → a ≡ true → b ≡ true → (a && b) ≡ true
-joined-true a b x y = ap (λ c. c && b) x ∙ y
-
 number-digits : (t : List ℕ) → IsTrue (is_number t) → IsTrue (list_all is_digit t)
 number-digits [] is = absurd cc
 number-digits (c ∷ cs) is = go (bytes_eq (c ∷ cs) (codes "0")) (bytes_eq-Decides (c ∷ cs) (codes "0")) is
   where
     go : (b : Bool) → Decides b ((c ∷ cs) ≡ codes "0") → (b || (is_number_start c && list_all is_digit cs)) ≡ true → IsTrue (list_all is_digit (c ∷ cs))
     go true by e = subst (λ t. IsTrue (list_all is_digit t)) (sym (by.0 refl)) refl
-    go false by e = let both = both-true (is_number_start c) (list_all is_digit cs) e in joined-true (is_digit c) (list_all is_digit cs) (start-digit c both.0) both.1
+    go false by e = let both = both-true (is_number_start c) (list_all is_digit cs) e in and_from (is_digit c) (list_all is_digit cs) (start-digit c both.0) both.1
 
 -- one more digit
 pub next-value : (ds : List ℕ) (i value : ℕ) → i < length ds → IsTrue (list_all is_digit ds) → value ≡ digits_value 10 (take i ds) → digits_value 10 (take (i + 1) ds) ≡ value * 10 + (get_or ds i 0 - 48)

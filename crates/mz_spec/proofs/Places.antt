@@ -2,12 +2,13 @@
 use Rattle.std.proofs.Common.{◌≡◌, ◌≢◌, ◌∙◌, ◌++◌, ◌<◌, ◌≤◌, ◌+◌, ◌⊎◌, ℕ, zero, suc, List, [], ◌∷◌, length, map, take, Bool, true, false, Option, Some, None, slice_get, Contains, ap, sym, refl, subst, inl, inr, arith, append_assoc}
 use Rattle.std.proofs.lemmas.List.{append-nil, length-map}
 use Rattle.std.specs.Prelude.{◌-◌, IsTrue, if◌then◌else◌}
+use Rattle.std.proofs.lemmas.List.Elements.{Contains-append_left}
+use Rattle.mz_general.proofs.Offered.{slice_get-append, place-of, contains_at}
 use Rattle.mz_names.specs.Identifiers.{is_name}
 use Rattle.mz_lex.specs.Lexemes.{Lexeme}
 use Rattle.mz_checks.specs.Checks.{AllHold}
 use Rattle.mz_checks.proofs.Offered.{all_hold-first, all_hold-rest}
 use Rattle.mz_notation.specs.Kept.{AreVariables}
-use Rattle.mz_tokens.proofs.Offered.{at_of, contains_at, contains_first, place_first}
 use Rattle.mz_names.specs.Names.{IsNew}
 use Rattle.mz_names.proofs.Offered.{new-last, new-parts}
 use Rattle.mz_variables.specs.View.{Variable, name_texts, params_of, dummies_of}
@@ -162,7 +163,7 @@ bytes-named v w named some is = go v.name (λ l e. named l e) is
 pub split-variables : (vs : List Variable) → AllHold (are_others [] vs) → Every IsNamed vs → AreVariables (map variable_bytes (params_of vs) ++ map variable_bytes (dummies_of vs))
 split-variables vs others named = record {
   distinct = λ i j w some at_i at_j. distinct vs others i j w some (name-at vs i w at_i) (name-at vs j w at_j);
-  identifiers = λ w some has. let found = at_of (map variable_bytes (params_of vs) ++ map variable_bytes (dummies_of vs)) w has in go w some found.0 (name-at vs found.0 w found.1);
+  identifiers = λ w some has. let found = place-of (map variable_bytes (params_of vs) ++ map variable_bytes (dummies_of vs)) w has in go w some found.0 (name-at vs found.0 w found.1);
 }
   where
     go : (w : List ℕ) → w ≢ [] → (i : ℕ) → IsNameAt vs i w → IsTrue (is_name w)
@@ -172,8 +173,8 @@ split-variables vs others named = record {
 -- those of the first part alone
 pub front-variables : (xs ys : List (List ℕ)) → AreVariables (xs ++ ys) → AreVariables xs
 front-variables xs ys are = record {
-  distinct = λ i j w some at_i at_j. are.distinct i j w some (place_first xs ys i w at_i) (place_first xs ys j w at_j);
-  identifiers = λ w some has. are.identifiers w some (contains_first xs ys w has);
+  distinct = λ i j w some at_i at_j. are.distinct i j w some (slice_get-append xs ys i w at_i) (slice_get-append xs ys j w at_j);
+  identifiers = λ w some has. are.identifiers w some (Contains-append_left xs ys w has);
 }
 
 -- ---- one more name
@@ -191,7 +192,7 @@ module _ (names : List (List ℕ)) (w : List ℕ) (rest : List (List ℕ)) (are 
   empty-decided (c ∷ cs) = inr (λ e. cc)
 
   pub next-named : (w ≡ []) ⊎ IsTrue (is_name w)
-  next-named = elim (empty-decided w) [ inl none ↦ inl none | inr some ↦ inr (are.identifiers w some (contains_at (names ++ w ∷ rest) w (length names) here)) ]
+  next-named = elim (empty-decided w) [ inl none ↦ inl none | inr some ↦ inr (are.identifiers w some (contains_at (names ++ w ∷ rest) (length names) w here)) ]
 
   get-front : (ns ms : List (List ℕ)) (i : ℕ) → slice_get ns i ≡ Some w → (slice_get (ns ++ ms) i ≡ Some w) × (i < length ns)
   get-front [] ms i at = absurd cc
@@ -200,7 +201,7 @@ module _ (names : List (List ℕ)) (w : List ℕ) (rest : List (List ℕ)) (are 
 
   pub next-other : w ≢ [] → Contains names w → ⊥
   next-other some has =
-      let found = at_of names w has in
+      let found = place-of names w has in
       let front = get-front names (w ∷ rest) found.0 found.1 in
       let same = are.distinct found.0 (length names) w some front.0 here in
       omega (arith, same, front.1)

@@ -1,20 +1,21 @@
 -- Each rule on names, levels and binders holds or fails.
 use Rattle.std.proofs.Common.{◌≡◌, ◌⊎◌, ◌++◌, ℕ, zero, suc, List, [], ◌∷◌, Option, Some, None, refl, inl, inr, arith}
 use Rattle.std.specs.Prelude.{IsBitSet, bit_and, ◌^◌, ◌≢◌}
+use Rattle.mz_general.proofs.Offered.{either-decided, not-decided, three-decided, Decided, true-decided}
 use Rattle.mz_lex.specs.Lexemes.{Lexeme}
 use Rattle.mz_checks.specs.Checks.{AreDecided, each_in_order}
 use Rattle.mz_checks.proofs.Offered.{are_decided-both, are_decided-rows, both-decided, implied-decided, bytes-decided, at_most-decided}
 use Rattle.mz_logic.specs.Modifiers.{IsPure, IsStrict, IsFree}
 use Rattle.mz_logic.specs.declared.binder.SortMods.{SortMods}
-use Rattle.mz_math.proofs.Offered.{Decided, not-decided}
 use Rattle.mz_grammar.specs.Statement.{TypeText, Level, number_level, max_level}
 use Rattle.mz_names.specs.Names.{number_of}
+use Rattle.mz_math.proofs.Offered.{some-with}
 use Rattle.mz_variables.specs.View.{Variable, View, names_of, name_texts, params_of, dummies_of}
 use Rattle.mz_spec.specs.State.{State, names_in}
 use Rattle.mz_spec.specs.Forms.{number_in, highest_level}
 use Rattle.mz_spec.specs.Rules.{is_level, is_new, is_other, are_others, is_known, type_checks, mods_of, HasSortThat, IsBinder, AreBinders, DependsOnNothing, IsResult, IsDummySort, IsNotPure, name_rules, use_rules, binder_rules}
 use Rattle.mz_variables.specs.Dependencies.{IsCalled, IsBoundAmong}
-use Rattle.mz_spec.proofs.FreeDecided.{three-decided, either-decided, every-decided, bool-decided, at-decided}
+use Rattle.mz_spec.proofs.FreeDecided.{every-decided}
 
 new-decided : (o : Option ℕ) → Decided (o ≡ None)
 new-decided None = inl refl
@@ -70,7 +71,7 @@ called-decided (Some l) text = bytes-decided l.text text
 
 bound-decided : (vs : List Variable) (l : Lexeme) → Decided (IsBoundAmong vs l)
 bound-decided [] l = inr (λ e. e)
-bound-decided (v ∷ vs) l = either-decided (both-decided (bool-decided v.is_bound) (called-decided v.name l.text)) (bound-decided vs l)
+bound-decided (v ∷ vs) l = either-decided (both-decided (true-decided v.is_bound) (called-decided v.name l.text)) (bound-decided vs l)
 
 bit-decided : (n k : ℕ) → Decided (IsBitSet n k)
 bit-decided n k = go (bit_and n (2 ^ k))
@@ -80,11 +81,11 @@ bit-decided n k = go (bit_and n (2 ^ k))
     go (suc m) = inl (λ e. absurd (omega (arith, e)))
 
 sort-decided : (σ : State) (P : SortMods → Type 0) → ((m : SortMods) → Decided (P m)) → (t : TypeText) → Decided (HasSortThat σ P t)
-sort-decided σ P d t = at-decided P d (mods_of σ t)
+sort-decided σ P d t = some-with P d (mods_of σ t)
 
 binder-decided : (σ : State) (before : List Variable) (v : Variable) → Decided (IsBinder σ before v)
 binder-decided σ before v =
-    both-decided (implied-decided (bool-decided v.is_bound) (both-decided (empty-decided v.type.deps) (not-decided (sort-decided σ IsStrict (λ m. bit-decided m.0 1) v.type))))
+    both-decided (implied-decided (true-decided v.is_bound) (both-decided (empty-decided v.type.deps) (not-decided (sort-decided σ IsStrict (λ m. bit-decided m.0 1) v.type))))
     (every-decided (IsBoundAmong before) (bound-decided before) v.type.deps)
 
 binders-decided : (σ : State) (before vs : List Variable) → Decided (AreBinders σ before vs)

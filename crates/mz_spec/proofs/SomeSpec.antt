@@ -1,5 +1,6 @@
 -- Each text has a reading or a first fault.
 use Rattle.std.proofs.Common.{◌≡◌, ◌⊎◌, ◌++◌, ◌+◌, ◌≤◌, ℕ, zero, suc, List, [], ◌∷◌, length, map, Option, Some, None, sym, refl, subst, inl, inr, Contains, arith, length-append}
+use Rattle.mz_general.proofs.Offered.{Decided}
 use Rattle.mz_lex.specs.declared.token.LexFault.{LexFault}
 use Rattle.mz_lex.specs.Lexemes.{Lexeme, LexesFrom}
 use Rattle.mz_lex.proofs.Offered.{some-lexing}
@@ -13,7 +14,7 @@ use Rattle.mz_tokens.specs.Pieces.{Pieces}
 use Rattle.mz_notation.specs.Notation.{with_notation, with_coercion, with_delimiters}
 use Rattle.mz_math.specs.Formula.{Misreading, IsFormula, Misreads, formula_checks}
 use Rattle.mz_notation.specs.Kept.{AreVariables}
-use Rattle.mz_math.proofs.Offered.{Decided, some-reading, one-meaning, one-reading as one-string}
+use Rattle.mz_math.proofs.Offered.{some-reading, one-meaning, one-reading as one-string}
 use Rattle.mz_tokens.proofs.Offered.{pieces-one}
 use Rattle.mz_grammar.specs.declared.refusal.Fault.{Fault}
 use Rattle.mz_grammar.specs.Statement.{TypeText, Statement, sort_statement, term_statement, assert_statement, definition_statement, operator_statement, coercion_statement, delimiter_statement, notation_statement, Spells}

@@ -1,5 +1,7 @@
 -- An expression for which a formula stands has its sort.
-use Rattle.std.proofs.Common.{◌≡◌, ◌∙◌, ℕ, zero, suc, List, [], ◌∷◌, true, false, Some, slice_get, get_or, Contains, ap, sym, subst, inl, inr}
+use Rattle.std.proofs.Common.{◌≡◌, ◌∙◌, ℕ, List, [], ◌∷◌, true, false, Some, slice_get, Contains, ap, sym, subst, inl, inr}
+use Rattle.std.proofs.lemmas.Option.{get_or_from_slice_get}
+use Rattle.mz_general.proofs.Offered.{contains_at}
 use Rattle.mz_logic.specs.Tree.{Tree, Trees, var, app, none, more}
 use Rattle.mz_logic.specs.Signature.{Signature}
 use Rattle.mz_logic.specs.Declaration.{signatures, sorts}
@@ -12,20 +14,14 @@ use Rattle.mz_coercions.specs.Coercions.{IsPath, coercion_term, wrapped}
 use Rattle.mz_notation.specs.Forms.{IsCoercion}
 use Rattle.mz_math.specs.Formula.{Reader, IsFormula}
 use Rattle.mz_math.specs.Meaning.{Coerced, CoercedAll, IsGoal}
-use Rattle.mz_tokens.proofs.Offered.{contains_at}
-
-get-at : {X : Type 0} → (xs : List X) (i : ℕ) (x d : X) → slice_get xs i ≡ Some x → get_or xs i d ≡ x
-get-at [] i x d at = absurd cc
-get-at (y ∷ xs) zero x d at = cc
-get-at (y ∷ xs) (suc i) x d at = get-at xs i x d at
 
 module _ (sigs : List Signature) (cs : List Coercion) (ctx : List Binder) (typed : (c : Coercion) → Contains cs c → IsCoercion sigs c) where
   -- a coercion's term over an expression of the sort from which it leads
   step-sorted : (p : ℕ) (c : Coercion) (e : Tree) → slice_get cs p ≡ Some c → HasSort sigs ctx e c.from → HasSort sigs ctx (app (coercion_term cs p) (more e none)) c.to
-  step-sorted p c e at has = go (typed c (contains_at cs c p at))
+  step-sorted p c e at has = go (typed c (contains_at cs p c at))
     where
       term : coercion_term cs p ≡ c.term
-      term = ap (λ x. x.term) (get-at cs p c _ at)
+      term = ap (λ x. x.term) (get_or_from_slice_get cs p c _ at)
 
       go : IsCoercion sigs c → HasSort sigs ctx (app (coercion_term cs p) (more e none)) c.to
       go (s, b, there, params, regular, from, to) = (

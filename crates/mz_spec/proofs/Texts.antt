@@ -10,7 +10,7 @@ use Rattle.mz_grammar.specs.declared.refusal.Halt.{Halt}
 use Rattle.mz_grammar.specs.declared.refusal.Halt.TheVariants as halts
 use Rattle.mz_grammar.specs.declared.reader.StatementRead.{StatementRead}
 use Rattle.mz_grammar.specs.Code.{statement}
-use Rattle.mz_grammar.specs.Statement.{Statement, sort_statement, term_statement, assert_statement, definition_statement, operator_statement, coercion_statement, delimiter_statement, notation_statement, Sign, keyword, name, AreSigns, end_signs, modifier_signs, statement_signs, Spells}
+use Rattle.mz_grammar.specs.Statement.{Statement, sort_statement, term_statement, assert_statement, definition_statement, operator_statement, coercion_statement, delimiter_statement, notation_statement, keyword, name, end_signs, modifier_signs, statement_signs, Spells}
 use Rattle.mz_grammar.specs.Reading.{place_of_first, IsRead, StopsFrom, OnFault}
 use Rattle.mz_spec.specs.Answers.{IsAnswer, halted}
 use Rattle.mz_spec.specs.Code.{EndsSmall}
@@ -22,6 +22,7 @@ use Rattle.mz_spec.specs.Spec.{Stand, SpecMakes, SpecFault, IsGood, Fails}
 use Rattle.mz_spec.specs.Reading.{StandTo}
 use Rattle.mz_checks.specs.Checks.{AllHold, FailsFirst}
 use Rattle.mz_tokens.specs.declared.pieces.Piece.{Piece}
+use Rattle.mz_grammar.proofs.Offered.{lexemes-long, signs-long}
 use Rattle.mz_spec.specs.Formulas.{AreTokens}
 use Rattle.mz_spec.specs.Rules.{statement_checks}
 use Rattle.mz_spec.proofs.Tokens.{formulas-tokens}
@@ -110,10 +111,6 @@ spec-breaks text count at σ read fault (ls, ss, lexes, stand, many) (front, lex
 
 -- ---- the lexemes of a statement
 
-lexemes-long : (text : List ℕ) (from to : ℕ) (ls : List Lexeme) → LexemesTo text from ls to → from + length ls ≤ to
-lexemes-long text from to [] lexes = omega (arith, lexes)
-lexemes-long text from to (l ∷ ls) (is, lexes) = omega (arith, lexemes-long text l.to to ls lexes, is.some, blank-forward text from l.from is.blank)
-
 range-length : (text : List ℕ) (from to : ℕ) → from < to → to ≤ length text → length (slice_range text from to) ≡ to - from
 range-length text from to some within = taken (to - from) (drop from text) (let long = drop-length from text in omega (arith, some, within, long))
   where
@@ -158,12 +155,6 @@ signs-two (operator_statement f n c l) = omega arith
 signs-two (coercion_statement n from to) = omega arith
 signs-two (delimiter_statement left right) = omega arith
 signs-two (notation_statement h t ls l tail) = omega arith
-
-signs-long : (ss : List Sign) (ls : List Lexeme) → AreSigns ss ls → length ls ≡ length ss
-signs-long [] [] are = refl
-signs-long [] (l ∷ ls) are = absurd are
-signs-long (s ∷ ss) [] are = absurd are
-signs-long (s ∷ ss) (l ∷ ls) (is, are) = ap suc (signs-long ss ls are)
 
 pub read-two : (text : List ℕ) (from : ℕ) (read : StatementRead) → IsRead text from read → from + 2 ≤ read.end
 read-two text from read (front, lexes, spells, _) =

@@ -1,7 +1,8 @@
 -- Each string has tokens, and one list of them.
 use Rattle.std.proofs.Common.{◌≡◌, ◌<◌, ◌≤◌, ◌+◌, ◌-◌, ◌⊎◌, ℕ, zero, suc, List, [], ◌∷◌, length, Bool, true, false, ap₂, sym, refl, subst, inl, inr, arith, Contains}
 use Rattle.std.specs.Prelude.{slice_index, IsTrue}
-use Rattle.std.proofs.lemmas.Bool.{cases_eq, cases_lt}
+use Rattle.std.proofs.lemmas.Bool.{cases_lt}
+use Rattle.mz_general.proofs.Offered.{contains-decided}
 use Rattle.mz_lex.specs.Kinds.{is_space}
 use Rattle.mz_tokens.specs.declared.pieces.Delimiters.{Delimiters}
 use Rattle.mz_tokens.specs.declared.pieces.Piece.{Piece}
@@ -14,19 +15,9 @@ use Rattle.mz_spec.specs.Formulas.{AreTokens, inner, math_of}
 
 -- ---- where a token ends
 
-later : (x y : ℕ) (xs : List ℕ) → Contains xs y → Contains (x ∷ xs) y
-later x y xs (k, below, is) = (suc k, omega (arith, below), is)
-
 cases : (x y : ℕ) (xs : List ℕ) → (x ≡ y → ⊥) → Contains (x ∷ xs) y → Contains xs y
 cases x y xs differs (zero, below, is) = absurd (differs is)
 cases x y xs differs (suc k, below, is) = (k, omega (arith, below), is)
-
-pub contains-decided : (xs : List ℕ) (y : ℕ) → Contains xs y ⊎ (Contains xs y → ⊥)
-contains-decided [] y = inr (λ (k, below, _). omega (arith, below))
-contains-decided (x ∷ xs) y = elim (cases_eq x y) [
-  | inl same ↦ inl (0, omega arith, same)
-  | inr differs ↦ elim (contains-decided xs y) [ inl has ↦ inl (later x y xs has) | inr out ↦ inr (λ has. out (cases x y xs differs has)) ]
-]
 
 true-decided : (b : Bool) → IsTrue b ⊎ (b ≡ false)
 true-decided true = inl refl

@@ -1,5 +1,6 @@
 -- What reading a math string answers, told at its places in the text.
-use Rattle.std.proofs.Common.{◌≡◌, ◌<◌, ◌≤◌, ◌+◌, ◌-◌, ◌^◌, ℕ, zero, suc, List, [], ◌∷◌, length, take, drop, ap, subst, inl, inr, arith}
+use Rattle.std.proofs.Common.{◌≡◌, ◌<◌, ◌≤◌, ◌+◌, ◌-◌, ◌^◌, ℕ, List, [], ◌∷◌, length, drop, ap, subst, inl, inr, arith}
+use Rattle.mz_general.proofs.Offered.{take-short}
 use Rattle.mz_lex.specs.Lexemes.{Lexeme}
 use Rattle.mz_lex.specs.declared.rule.S.{S}
 use Rattle.mz_checks.specs.Checks.{Checks, ◌>>◌, retold, AllHold, FailsFirst}
@@ -44,14 +45,9 @@ tokens-first r w tokens m (inr (_, inr (_, inr (_, inl (out, same))))) = ap (λ 
 tokens-first r w tokens m (inr (_, inr (_, inr (_, inr (_, inl (out, same)))))) = ap (λ x. x.at) same
 tokens-first r w tokens m (inr (_, inr (_, inr (_, inr (_, inr (_, rest)))))) = absurd rest
 
-take-few : (n : ℕ) (xs : List ℕ) → length (take n xs) ≤ n
-take-few zero xs = omega arith
-take-few (suc n) [] = omega arith
-take-few (suc n) (x ∷ xs) = let e = take-few n xs in omega (arith, e)
-
 pub misread-small : (r : Reader) (w : Wanted) (l : Lexeme) (at : ℕ) (rule : S) → EndsSmall l → Misreads r w (inner l) (record { at = at; rule = rule }) → l.from + 1 + at < 2 ^ 32
 misread-small r w l at rule (some, small) (ps, cut, fails) =
     let within = known-within (words r) (inner l) r 0 ps (token_checks r w (piece_texts (inner l) ps)) (record { at = at; rule = rule }) cut
     (λ rest. let zero_at = tokens-first r w (piece_texts (inner l) ps) (record { at = at; rule = rule }) rest in omega (arith, zero_at)) fails in
-    let few = take-few ((length l.text - 1) - 1) (drop 1 l.text) in
+    let few = take-short ((length l.text - 1) - 1) (drop 1 l.text) in
     omega (arith, some, small, within, few)

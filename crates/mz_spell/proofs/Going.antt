@@ -4,7 +4,7 @@ use Rattle.std.specs.Prelude.{IsTrue}
 use Rattle.std.specs.Int.{bit_at}
 use Rattle.std.proofs.lemmas.List.{map-append, reverse-append}
 use Rattle.std.proofs.lemmas.List.Elements.{Contains-append_left, Contains-append_cases, Contains-push}
-use Rattle.std.proofs.lemmas.Option.{slice_get-get_or}
+use Rattle.std.proofs.lemmas.Option.{slice_get-get_or, none-some}
 use Rattle.mz_cmd.specs.Spelling.{shortest}
 use Rattle.mz_logic.specs.Tree.{Tree, Trees, var, app, none, more, followed_by, size, trees_size}
 use Rattle.mz_logic.specs.Legality.{binder_at}
@@ -12,7 +12,7 @@ use Rattle.mz_logic.specs.Signature.{Signature}
 use Rattle.mz_logic.specs.Sorts.{HasSort}
 use Rattle.mz_logic.specs.Variables.{InV, IsBoundAt}
 use Rattle.mz_logic.specs.declared.binder.Binder.{Binder}
-use Rattle.mz_logic.proofs.Offered.{extends_append, one_at, none_some}
+use Rattle.mz_logic.proofs.Offered.{extends_append, one_at, trees_size-followed}
 use Rattle.mz_store.specs.Bits.{Tells, bound_vars}
 use Rattle.mz_store.specs.Sharing.{AreIn, Sharing, IsIn, IsOver, IsTold, head_of as head_term, operands_of, tree_of, trees_of}
 use Rattle.mz_store.specs.declared.item.Id.{Id}
@@ -21,6 +21,7 @@ use Rattle.mz_unification.specs.Streams.{UnifyCommand, u_ref, u_dummy, u_hyp}
 use Rattle.mz_streams.specs.Writing.{Writing, Written, are_met, head_of, headed, marked_if, meeting, place_in, referred, unify_bytes, write, write_all, write_hyps, and_then}
 use Rattle.mz_shared.specs.Instances.{InReach, AllInReach}
 use Rattle.mz_shared.specs.Places.{place_of}
+use Rattle.mz_shared.proofs.Offered.{in_push}
 use Rattle.mz_spell.specs.declared.stream.Stream.{Stream}
 use Rattle.mz_spell.specs.Going.{Going, HasWritten, IsGoing, IsMarked, IsReady, IsStatement, Job, behind, hyps_written, met_so_far, own, scope, spelled, to_do}
 use Rattle.mz_spell.proofs.Marking.{mark_put, same_place}
@@ -31,10 +32,6 @@ use Rattle.mz_spell.proofs.Telling.{bits_tell, bound_later, one_bit, own_is, rea
 pub behind_push : (s : Sharing) (is : List Id) (i : Id) (es : Trees) → behind s (is ++ i ∷ []) es ≡ more (tree_of s i.0) (behind s is es)
 behind_push s [] i es = refl
 behind_push s (j ∷ is) i es = behind_push s is i (more (tree_of s j.0) es)
-
-pub in_push : (s : Sharing) (is : List Id) (i : Id) → AreIn s is → IsIn s i.0 → AreIn s (is ++ i ∷ [])
-in_push s [] i h inside = (inside, tt)
-in_push s (j ∷ is) i (h, hs) inside = (h, in_push s is i hs inside)
 
 pub in_last : (s : Sharing) (is : List Id) (i : Id) → AreIn s (is ++ i ∷ []) → AreIn s is × IsIn s i.0
 in_last s [] i (inside, _) = (tt, inside)
@@ -54,16 +51,12 @@ turned_in s old [] h k = subst (AreIn s) (sym (append-nil old)) k
 turned_in s old (i ∷ is) (inside, rest) k = subst (AreIn s) (append_assoc old (reverse is) (i ∷ []) ∙ ap (λ (js : List Id). old ++ js) (sym (reverse-append (i ∷ []) is)))
     (in_push s (old ++ reverse is) i (turned_in s old is rest k) inside)
 
-pub size_join : (es fs : Trees) → trees_size (followed_by es fs) ≡ trees_size es + trees_size fs
-size_join none fs = omega arith
-size_join (more e es) fs = (let h = size_join es fs in omega (arith, h))
-
 pub size_some : (e : Tree) → 0 < size e
 size_some (var x) = omega arith
 size_some (app t es) = omega arith
 
 pub size_head : (e : Tree) (t : ℕ) → head_term e ≡ Some t → size e ≡ suc (trees_size (operands_of e))
-size_head (var x) t h = absurd (none_some h)
+size_head (var x) t h = absurd (none-some _ h)
 size_head (app u es) t h = refl
 
 -- what is to do after operands were put there
@@ -73,7 +66,7 @@ turned s old ids new es trees is = ap (to_do s) is ∙ turned_to_do s old ids �
 pub less_after : (s : Sharing) (old ids new : List Id) (e : Tree) (t : ℕ) → head_term e ≡ Some t → trees_of s ids ≡ operands_of e → new ≡ old ++ reverse ids
     → trees_size (to_do s new) < size e + trees_size (to_do s old)
 less_after s old ids new e t head trees is =
-    let a = ap trees_size (turned s old ids new (operands_of e) trees is) ∙ size_join (operands_of e) (to_do s old) in
+    let a = ap trees_size (turned s old ids new (operands_of e) trees is) ∙ trees_size-followed (operands_of e) (to_do s old) in
     let b = size_head e t head in
     omega (arith, a, b)
 
@@ -143,10 +136,10 @@ module _ (own' : List ℕ) (ctx : List Binder) where
 
 is_var : (e : Tree) → head_term e ≡ None → (x : ℕ) × (e ≡ var x)
 is_var (var x) h = (x, refl)
-is_var (app t es) h = absurd (none_some (sym h))
+is_var (app t es) h = absurd (none-some _ (sym h))
 
 is_app : (e : Tree) (t : ℕ) → head_term e ≡ Some t → e ≡ app t (operands_of e)
-is_app (var x) t h = absurd (none_some h)
+is_app (var x) t h = absurd (none-some _ h)
 is_app (app u es) t h = ap (λ (z : ℕ). app z es) (one_at refl h)
 
 module _ (o : Job) (s : Sharing) (places : List (Option ℕ)) (len met : ℕ) (out : List ℕ) where
@@ -188,7 +181,7 @@ module _ (o : Job) (s : Sharing) (places : List (Option ℕ)) (len met : ℕ) (o
       let here = binder_there st x lt in
       let not_first : x < length o.params → ⊥ = λ below. (let (p, p-at) = g.marked.parameters x below in
       let (j, holds, j-at) = g.marked.found p (var x) p-at in
-      none_some (sym fresh ∙ ap (place_of places) (st.once i j inside holds.0 (v.1 ∙ sym holds.1)) ∙ j-at)) in
+      none-some _ (sym fresh ∙ ap (place_of places) (st.once i j inside holds.0 (v.1 ∙ sym holds.1)) ∙ j-at)) in
       let bd : IsBoundAt s.context x = bound_later (length o.params) s.context st.regular (own o) (λ y less. own_is o.params y less) x (binder_at (scope o) x) here (past x (length o.params) not_first) in
       let sort-is : (binder_at (scope o) x).sort ≡ sort = (let h = subst (λ (e : Tree). HasSort st.sigs s.context e sort) v.1 (sorted st.sigs st.over) in
       ap (λ (b : Binder). b.sort) (one_at here h.1) ∙ h.2) in

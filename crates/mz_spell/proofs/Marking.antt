@@ -1,9 +1,11 @@
 -- Marks of expressions, and where they stand.
-use Rattle.std.proofs.Common.{ℕ, zero, suc, ◌≡◌, ◌+◌, ◌⊎◌, List, [], ◌∷◌, ◌++◌, length, slice_get, Contains, Option, Some, None, refl, ap, sym, ◌∙◌, subst, inl, inr, arith}
+use Rattle.std.proofs.Common.{ℕ, zero, suc, ◌≡◌, ◌+◌, List, [], ◌∷◌, ◌++◌, length, slice_get, Contains, Option, Some, None, refl, ap, sym, ◌∙◌, subst, inl, inr, arith}
 use Rattle.std.proofs.lemmas.List.{length-append}
+use Rattle.std.proofs.lemmas.Option.{none-some}
+use Rattle.std.proofs.lemmas.Bool.{cases_eq}
 use Rattle.mz_logic.specs.Tree.{Tree}
 use Rattle.mz_logic.specs.declared.binder.Binder.{Binder}
-use Rattle.mz_logic.proofs.Offered.{extends_append, split_at, one_at, none_some}
+use Rattle.mz_logic.proofs.Offered.{extends_append, split_at, one_at}
 use Rattle.mz_store.specs.Bits.{Tells, bound_vars}
 use Rattle.mz_store.specs.Sharing.{Sharing, Holds, IsIn, tree_of}
 use Rattle.mz_steps.specs.Works.{from_to}
@@ -11,12 +13,6 @@ use Rattle.mz_streams.specs.Writing.{Writing, place_in}
 use Rattle.mz_streams.proofs.Offered.{place-found, place-missing}
 use Rattle.mz_shared.specs.Places.{place_of}
 use Rattle.mz_spell.specs.Going.{IsMarked, IsStatement}
-
-pub same_or_not : (a b : ℕ) → (a ≡ b) ⊎ (a ≡ b → ⊥)
-same_or_not zero zero = inl refl
-same_or_not zero (suc b) = inr (λ is. absurd (omega (arith, is)))
-same_or_not (suc a) zero = inr (λ is. absurd (omega (arith, is)))
-same_or_not (suc a) (suc b) = elim (same_or_not a b) [ inl is ↦ inl (ap suc is) | inr other ↦ inr (λ is. other (omega (arith, is))) ]
 
 slice_last : (xs : List Tree) (y : Tree) (n : ℕ) → n ≡ length xs → slice_get (xs ++ y ∷ []) n ≡ Some y
 slice_last [] y zero is = refl
@@ -46,7 +42,7 @@ module _ (params dummies : List Binder) (s : Sharing) (st : IsStatement params d
       → IsMarked params s places' len' met' (record { trees = w.trees ++ tree_of s i ∷ []; dummies = ds })
   mark_put i inside fresh places' len' at others more-len ds met' told = record {
     long = (let l = length-append w.trees (tree_of s i ∷ []) in let k = m.long in omega (arith, l, k, more-len));
-    placed = λ j p j-at. elim (same_or_not j i) [
+    placed = λ j p j-at. elim (cases_eq j i) [
       | inl is ↦ (
         subst (IsIn s) (sym is) inside,
         (let p-is : len ≡ p = one_at at (ap (place_of places') (sym is) ∙ j-at) in
@@ -55,7 +51,7 @@ module _ (params dummies : List Binder) (s : Sharing) (st : IsStatement params d
       | inr other ↦ (let k = m.placed j p (sym (others j other) ∙ j-at) in (k.0, extends_append w.trees (tree_of s i ∷ []) p _ k.1))
     ];
     found = λ p e p-at. elim (split_at w.trees (tree_of s i ∷ []) p e p-at) [
-      | inl before ↦ (let (j, holds, j-at) = m.found p e before in (j, holds, others j (λ is. absurd (none_some (sym fresh ∙ ap (place_of places) (sym is) ∙ j-at))) ∙ j-at))
+      | inl before ↦ (let (j, holds, j-at) = m.found p e before in (j, holds, others j (λ is. absurd (none-some _ (sym fresh ∙ ap (place_of places) (sym is) ∙ j-at))) ∙ j-at))
       | inr later ↦ last p e later.0 later.1 later.2
     ];
     parameters = λ x lt. (let (p, p-at) = m.parameters x lt in (p, extends_append w.trees (tree_of s i ∷ []) p _ p-at));
@@ -64,4 +60,4 @@ module _ (params dummies : List Binder) (s : Sharing) (st : IsStatement params d
     where
       last : (p : ℕ) (e : Tree) (k : ℕ) → p ≡ length w.trees + k → slice_get (tree_of s i ∷ []) k ≡ Some e → (j : ℕ) × Holds s j e × (place_of places' j ≡ Some p)
       last p e zero is e-at = (i, (inside, one_at refl e-at), at ∙ ap (λ (n : ℕ). Some n) (let l = m.long in omega (arith, l, is)))
-      last p e (suc k) is e-at = absurd (none_some e-at)
+      last p e (suc k) is e-at = absurd (none-some _ e-at)

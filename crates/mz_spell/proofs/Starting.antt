@@ -1,16 +1,17 @@
 -- What is marked at the start.
-use Rattle.std.proofs.Common.{true, false, ◌⊎◌, ◌≤◌, inl, inr, bit_or, map, reverse, append_assoc, ℕ, zero, suc, ◌≡◌, ◌<◌, ◌+◌, List, [], ◌∷◌, ◌++◌, length, slice_get, Contains, Option, Some, refl, ap, sym, ◌∙◌, subst, arith, append-nil, not-suc-le-zero}
+use Rattle.std.proofs.Common.{true, false, ◌⊎◌, ◌≤◌, inl, inr, bit_or, map, reverse, append_assoc, ℕ, zero, suc, ◌≡◌, ◌<◌, ◌+◌, List, [], ◌∷◌, ◌++◌, length, slice_get, Contains, Option, Some, refl, ap, sym, ◌∙◌, subst, arith, append-nil}
 use Rattle.std.specs.Prelude.{All}
 use Rattle.std.proofs.lemmas.List.{length-append, map-append, reverse-append}
 use Rattle.std.proofs.lemmas.List.Elements.{All-contains}
-use Rattle.std.proofs.lemmas.Option.{get_or_from_slice_get, slice_get_within}
+use Rattle.std.proofs.lemmas.Option.{get_or_from_slice_get, slice_get_within, none-some}
+use Rattle.std.proofs.lemmas.Bool.{cases_eq}
 use Rattle.mz_logic.specs.Tree.{Tree, var, listed}
 use Rattle.mz_logic.specs.Legality.{AreParams, IsDummy}
 use Rattle.mz_logic.specs.Signature.{Signature}
 use Rattle.mz_logic.specs.Variables.{InV, IsBoundAt}
 use Rattle.mz_logic.specs.declared.binder.SortMods.{SortMods}
 use Rattle.mz_logic.specs.declared.binder.Binder.{Binder}
-use Rattle.mz_logic.proofs.Offered.{split_at, one_at, none_some}
+use Rattle.mz_logic.proofs.Offered.{split_at, one_at}
 use Rattle.mz_store.specs.Bits.{Tells, bound_vars}
 use Rattle.mz_store.specs.Sharing.{Sharing, Holds, IsIn, IsOver, IsTold, tree_of, trees_of}
 use Rattle.mz_store.specs.declared.item.Id.{Id}
@@ -20,23 +21,15 @@ use Rattle.mz_shared.proofs.Offered.{variable_id}
 use Rattle.mz_steps.specs.Works.{from_to}
 use Rattle.mz_streams.specs.Writing.{Written, and_then, assertion_written, stream_of, unify_bytes, write, write_hyps, writing_start}
 use Rattle.mz_unification.specs.Spells.{variables_from}
+use Rattle.mz_unification.proofs.Offered.{length-params}
 use Rattle.mz_shared.specs.Places.{place_of}
+use Rattle.mz_steps.proofs.Offered.{get-own}
 use Rattle.mz_spell.specs.Going.{IsMarked, IsStatement, spelled}
 use Rattle.mz_spell.proofs.Telling.{RegularFirst, first_bits, own_in, own_is, tells_as, tells_or}
-use Rattle.mz_spell.proofs.Marking.{same_or_not}
 use Rattle.mz_spell.proofs.Going.{spelled_join}
 
-variables_long : (j : ℕ) (ps : List Binder) → length (variables_from j ps) ≡ length ps
-variables_long j [] = refl
-variables_long j (p ∷ ps) = ap suc (variables_long (suc j) ps)
-
-variable_at : (j : ℕ) (ps : List Binder) (x : ℕ) → x < length ps → slice_get (variables_from j ps) x ≡ Some (var (j + x))
-variable_at j [] x lt = absurd (not-suc-le-zero lt)
-variable_at j (p ∷ ps) zero lt = ap (λ (n : ℕ). Some (var n)) (omega arith)
-variable_at j (p ∷ ps) (suc x) lt = variable_at (suc j) ps x (omega (arith, lt)) ∙ ap (λ (n : ℕ). Some (var n)) (omega arith)
-
 within : (xs : List Tree) (p : ℕ) (e : Tree) → slice_get xs p ≡ Some e → p < length xs
-within [] p e at = absurd (none_some at)
+within [] p e at = absurd (none-some _ at)
 within (x ∷ xs) zero e at = omega arith
 within (x ∷ xs) (suc p) e at = (let lt = within xs p e at in omega (arith, lt))
 
@@ -44,10 +37,10 @@ pub marked_first : (params dummies : List Binder) (s : Sharing) (st : IsStatemen
     → ((i p : ℕ) → place_of places i ≡ Some p → (i ≡ p) × (p < n)) → ((i : ℕ) → i < n → place_of places i ≡ Some i) → Tells (bound_vars s.context) met (λ y. y < n)
     → IsMarked params s places len met (writing_start params)
 marked_first params dummies s st n places len met many len-is placed all told = record {
-  long = variables_long 0 params ∙ many ∙ sym len-is;
+  long = length-params 0 params ∙ many ∙ sym len-is;
   placed = λ i p at. (let (is, lt) = placed i p at in let held = st.variables i (omega (arith, is, lt, many)) in
       (held.0, variable_here p (omega (arith, lt, many)) ∙ ap (λ (e : Tree). Some e) (ap var (sym is) ∙ sym held.1)));
-  found = λ p e at. (let lt : p < length params = (let l = within (variables_from 0 params) p e at in let k = variables_long 0 params in omega (arith, l, k)) in
+  found = λ p e at. (let lt : p < length params = (let l = within (variables_from 0 params) p e at in let k = length-params 0 params in omega (arith, l, k)) in
       let held = st.variables p lt in (p, (held.0, held.1 ∙ one_at (variable_here p lt) at), all p (omega (arith, lt, many))));
   parameters = λ x lt. (x, variable_here x lt);
   told = tells_as (bound_vars s.context) met (λ y. y < n) (Contains (from_to 0 params ++ []))
@@ -57,7 +50,7 @@ marked_first params dummies s st n places len met many len-is placed all told = 
 }
   where
     variable_here : (x : ℕ) → x < length params → slice_get (variables_from 0 params) x ≡ Some (var x)
-    variable_here x lt = variable_at 0 params x lt ∙ ap (λ (n : ℕ). Some (var n)) (omega arith)
+    variable_here x lt = get-own 0 params x lt ∙ ap (λ (n : ℕ). Some (var n)) (omega arith)
 
 -- ---- the bits of the parameters
 
@@ -73,7 +66,7 @@ bits_more ctx i met word so-far this =
     to y (inr h) = (i, omega arith, h)
 
     from : (y : ℕ) → (z : ℕ) × (z < i + 1) × InV ctx y (var z) → ((z : ℕ) × (z < i) × InV ctx y (var z)) ⊎ InV ctx y (var i)
-    from y (z, lt, h) = elim (same_or_not z i) [
+    from y (z, lt, h) = elim (cases_eq z i) [
       | inl is ↦ inr (subst (λ (x : ℕ). InV ctx y (var x)) is h)
       | inr other ↦ inl (z, less z i (omega (arith, lt)) other, h)
     ]

@@ -3,26 +3,22 @@ use Rattle.std.proofs.Common.{ℕ, zero, suc, ◌≡◌, ◌<◌, ◌≤◌, ◌
 use Rattle.std.specs.Prelude.{IsTrue}
 use Rattle.std.specs.Int.{bit_at, bit_not}
 use Rattle.std.proofs.lemmas.Nat.Bits.{bit_at_or, bit_at_and, bit_at_not, bit_at_above, bit_at-zero, bit_at-lt, same_from_bits}
+use Rattle.std.proofs.lemmas.Option.{none-some}
+use Rattle.std.proofs.lemmas.Bool.{cases_lt}
+use Rattle.mz_general.proofs.Offered.{contains_cases}
 use Rattle.mz_logic.specs.Tree.{Tree, Trees, var, app, none, more}
 use Rattle.mz_logic.specs.Variables.{InV, InSomeV, IsBoundAt, Occurs, OccursIn}
 use Rattle.mz_logic.specs.declared.binder.Binder.{Binder}
-use Rattle.mz_logic.proofs.Offered.{one_at, none_some, contains_cases, contains_head, contains_tail}
+use Rattle.mz_logic.proofs.Offered.{one_at}
 use Rattle.mz_store.specs.Bits.{HasAt, Tells, bound_from, bound_vars}
-use Rattle.mz_store.proofs.Offered.{bound-has}
+use Rattle.mz_store.proofs.Offered.{bound-has, zero-or-one}
 use Rattle.mz_steps.specs.Works.{from_to}
 use Rattle.mz_streams.specs.Writing.{are_met}
 use Rattle.mz_streams.proofs.Offered.{all-met, met-all}
 use Rattle.mz_shared.specs.Instances.{InReach, AllInReach}
+use Rattle.mz_steps.proofs.Offered.{has-place}
 
 -- ---- words
-
-zero_or_one : (n k : ℕ) → (bit_at n k ≡ 0) ⊎ (bit_at n k ≡ 1)
-zero_or_one n k = grind (arith, bit_at-lt n k)
-
-less_or : (a b : ℕ) → (a < b) ⊎ (b ≤ a)
-less_or a zero = inr (omega arith)
-less_or zero (suc b) = inl (omega arith)
-less_or (suc a) (suc b) = elim (less_or a b) [ inl lt ↦ inl (omega (arith, lt)) | inr le ↦ inr (omega (arith, le)) ]
 
 pub tells_or : (places : List ℕ) (a b : ℕ) (P Q : ℕ → Type 0) → Tells places a P → Tells places b Q → Tells places (bit_or a b) (λ x. P x ⊎ Q x)
 tells_or places a b P Q in-a in-b k = (to, from)
@@ -31,7 +27,7 @@ tells_or places a b P Q in-a in-b k = (to, from)
     both = bit_at_or a b k
 
     to : bit_at (bit_or a b) k ≡ 1 → HasAt places (λ x. P x ⊎ Q x) k
-    to bit = elim (zero_or_one a k) [
+    to bit = elim (zero-or-one a k) [
       | inr one ↦ (let (x, at, p) = (in-a k).0 one in (x, at, inl p))
       | inl off ↦ (let on : bit_at b k ≡ 1 = omega (arith, both, bit, off, bit_at-lt b k) in let (x, at, q) = (in-b k).0 on in (x, at, inr q))
     ]
@@ -55,7 +51,7 @@ module _ (a b : ℕ) (small-a : a < 2 ^ 64) (small-b : b < 2 ^ 64) where
   left_at k = bit_at_and a (bit_not w64 b) k
 
   below : (k : ℕ) → bit_at a k ≡ 1 → k < 64
-  below k bit = elim (less_or k 64) [ inl less ↦ less | inr past ↦ absurd (let e : bit_at a k ≡ 0 = bit_at_above a 64 k small-a past in omega (arith, e, bit)) ]
+  below k bit = elim (cases_lt k 64) [ inl less ↦ less | inr past ↦ absurd (let e : bit_at a k ≡ 0 = bit_at_above a 64 k small-a past in omega (arith, e, bit)) ]
 
   other : (k : ℕ) → k < 64 → bit_at (bit_not w64 b) k ≡ 1 - bit_at b k
   other k less = bit_at_not w64 b k small-b less
@@ -70,7 +66,7 @@ module _ (a b : ℕ) (small-a : a < 2 ^ 64) (small-b : b < 2 ^ 64) where
   within_to all = same_from_bits (bit_and a (bit_not w64 b)) 0 each
     where
       each : (k : ℕ) → bit_at (bit_and a (bit_not w64 b)) k ≡ bit_at 0 k
-      each k = elim (zero_or_one a k) [
+      each k = elim (zero-or-one a k) [
         | inl off ↦ (let left = left_at k in let none : bit_at 0 k ≡ 0 = bit_at-zero k in omega (arith, left, off, none))
         | inr on ↦ (let left = left_at k in let none : bit_at 0 k ≡ 0 = bit_at-zero k in let not = other k (below k on) in let in-b = all k on in omega (arith, left, none, not, in-b))
       ]
@@ -78,7 +74,7 @@ module _ (a b : ℕ) (small-a : a < 2 ^ 64) (small-b : b < 2 ^ 64) where
 -- ---- the places of variables
 
 pub bound_back : (i : ℕ) (bs : List Binder) (k x : ℕ) → slice_get (bound_from i bs) k ≡ Some x → (y : ℕ) × (x ≡ i + y) × IsBoundAt bs y
-bound_back i [] k x at = absurd (none_some at)
+bound_back i [] k x at = absurd (none-some _ at)
 bound_back i (b ∷ bs) k x at = go (λ j here. bound_back (suc i) bs j x here) b.bound refl k at
   where
     further : (y : ℕ) × (x ≡ suc i + y) × IsBoundAt bs y → (y : ℕ) × (x ≡ i + y) × IsBoundAt (b ∷ bs) y
@@ -93,11 +89,6 @@ bound_back i (b ∷ bs) k x at = go (λ j here. bound_back (suc i) bs j x here) 
 pub bound_of : (ctx : List Binder) (k x : ℕ) → slice_get (bound_vars ctx) k ≡ Some x → IsBoundAt ctx x
 bound_of ctx k x at = (let (y, is, bd) = bound_back 0 ctx k x at in subst (IsBoundAt ctx) (let same : x ≡ y = omega (arith, is) in sym same) bd)
 
-own_has : (j : ℕ) (bs : List Binder) (y : ℕ) → y < length bs → Contains (from_to j bs) (j + y)
-own_has j [] y lt = absurd (not-suc-le-zero lt)
-own_has j (b ∷ bs) zero lt = subst (Contains (j ∷ from_to (suc j) bs)) (let same : j ≡ j + 0 = omega arith in same) (contains_head j (from_to (suc j) bs))
-own_has j (b ∷ bs) (suc y) lt = contains_tail j (j + suc y) (from_to (suc j) bs) (subst (Contains (from_to (suc j) bs)) (let same : suc j + y ≡ j + suc y = omega arith in same) (own_has (suc j) bs y (omega (arith, lt))))
-
 own_below : (j : ℕ) (bs : List Binder) (x : ℕ) → Contains (from_to j bs) x → x < j + length bs
 own_below j [] x (k, lt, is) = absurd (not-suc-le-zero lt)
 own_below j (b ∷ bs) x has = elim (contains_cases j x (from_to (suc j) bs) has) [
@@ -106,7 +97,7 @@ own_below j (b ∷ bs) x has = elim (contains_cases j x (from_to (suc j) bs) has
 ]
 
 pub own_is : (ps : List Binder) (y : ℕ) → y < length ps → Contains (from_to 0 ps) y
-own_is ps y lt = subst (Contains (from_to 0 ps)) (let same : 0 + y ≡ y = omega arith in same) (own_has 0 ps y lt)
+own_is ps y lt = subst (Contains (from_to 0 ps)) (let same : 0 + y ≡ y = omega arith in same) (has-place 0 ps y lt)
 
 pub own_in : (ps : List Binder) (y : ℕ) → Contains (from_to 0 ps) y → y < length ps
 own_in ps y has = (let lt = own_below 0 ps y has in omega (arith, lt))
@@ -164,7 +155,7 @@ module _ (n : ℕ) (ctx : List Binder) (regular : RegularFirst n ctx) (met : Lis
     bits_to all = met-all met e each
       where
         each : (y : ℕ) → Occurs y e → Contains met y
-        each y o = elim (less_or y n) [
+        each y o = elim (cases_lt y n) [
           | inl lt ↦ first y lt
           | inr le ↦ (let (b, at) = there y o in let bd : IsBoundAt ctx y = bound_later y b at le in let (k, at-k) = bound-has 0 ctx y bd.0 bd.1 bd.2 in
               let here : slice_get (bound_vars ctx) k ≡ Some y = at-k ∙ ap (λ (z : ℕ). Some z) (omega arith) in

@@ -1,4 +1,5 @@
 pub mod HoldStatements
 pub mod HypLists
 pub mod StatementDispatch
+mod UnderscoreRuns
 pub mod Offered

@@ -1,3 +1,4 @@
 pub mod Statements
+pub mod DeclaredNames
 pub mod StatementView
 pub mod Order

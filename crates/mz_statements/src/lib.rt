@@ -5,5 +5,7 @@
 mod kind;
 mod modifiers;
 mod statements;
+mod underscores;
 
 pub use statements::{Declared, statement};
+pub use underscores::{leading_underscores, one_underscore_more};

@@ -1,6 +1,7 @@
 -- Nodes stand for the same phrases where there are more bytes and more parts.
 use Rattle.std.proofs.Common.{◌≡◌, ◌∙◌, ℕ, ◌-◌, ◌≤◌, ◌<◌, List, [], ◌∷◌, ◌++◌, length, take, drop, slice_range, All, sym, ap, subst, refl, arith}
-use Rattle.std.proofs.lemmas.List.{drop-append-le, take-append-le, length-drop, length-append, drop_at, take_all}
+use Rattle.std.proofs.lemmas.List.{drop-append-le, take-append-le, length-drop, length-append}
+use Rattle.mz_general.proofs.Offered.{slice_range-end}
 use Rattle.mz_phrasing.specs.Phrases.{Phrase, a_word, a_list}
 use Rattle.mz_stating.specs.ByNumber.{phrases_at}
 use Rattle.mz_stating.specs.Kept.{phrase_with, grown, IsWithin, IsMeasured, AreKept}
@@ -12,12 +13,6 @@ pub range-longer : (xs ys : List ℕ) (a b : ℕ) → a ≤ b → b ≤ length x
 range-longer xs ys a b low high =
     let enough : b - a ≤ length (drop a xs) = omega (arith, length-drop a xs) in
     ap (take (b - a)) (drop-append-le a xs ys (omega arith)) ∙ take-append-le (b - a) (drop a xs) ys enough
-
--- what was appended last
-pub range-end : (xs ys : List ℕ) → slice_range (xs ++ ys) (length xs) (length (xs ++ ys)) ≡ ys
-range-end xs ys =
-    let enough : length ys ≤ length (xs ++ ys) - length xs = omega (arith, length-append xs ys) in
-    ap (take (length (xs ++ ys) - length xs)) (drop_at xs ys (length xs) refl) ∙ take_all (length (xs ++ ys) - length xs) ys enough
 
 pub with-longer : (b w p v : List ℕ) (ps : List Phrase) (f : Form) → IsWithin b p (length ps) f → phrase_with (b ++ w) (p ++ v) ps f ≡ phrase_with b p ps f
 with-longer b w p v ps (Word from to) h = ap a_word (range-longer b w from to h.0 h.1)
@@ -45,4 +40,4 @@ kept-longer b w p v ps (n ∷ ns) h =
 
 -- at the places that were told before and after
 pub range-added : (xs ys : List ℕ) (from to : ℕ) → from ≡ length xs → to ≡ length (xs ++ ys) → slice_range (xs ++ ys) from to ≡ ys
-range-added xs ys from to begin end = ap (λ a. slice_range (xs ++ ys) a to) begin ∙ ap (slice_range (xs ++ ys) (length xs)) end ∙ range-end xs ys
+range-added xs ys from to begin end = ap (λ a. slice_range (xs ++ ys) a to) begin ∙ ap (slice_range (xs ++ ys) (length xs)) end ∙ slice_range-end xs ys

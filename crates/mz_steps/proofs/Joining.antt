@@ -13,6 +13,7 @@ use Rattle.mz_unification.specs.Spells.{trees_of}
 use Rattle.mz_unification.specs.Profile.{Item, expr, proof, obligation, conversion}
 use Rattle.mz_soundness.specs.MachineState.{Pairwise}
 use Rattle.mz_soundness.specs.ProofMachine.{sides}
+use Rattle.mz_soundness.proofs.Offered.{pairs-push}
 use Rattle.mz_steps.specs.Works.{Work}
 use Rattle.mz_steps.specs.Steps.{stacked, kept, IsReferred, Step, Steps}
 use Rattle.mz_steps.specs.Sameness.{IsSameTerm}
@@ -84,12 +85,6 @@ contexts-depend ss params dummies right plain-ones y b z at has = elim (split_at
         let z-below : z < y = subst (λ (w : ℕ). w < y) is below in
         omega arith
 
-pairs-append : {A B : Type 0} (R : A → B → Type 0) (xs : List A) (ys : List B) (x : A) (y : B) → Pairwise R xs ys → R x y → Pairwise R (xs ++ x ∷ []) (ys ++ y ∷ [])
-pairs-append R [] [] x y h r = (r, tt)
-pairs-append R [] (b ∷ ys) x y h r = absurd h
-pairs-append R (a ∷ xs) [] x y h r = absurd h
-pairs-append R (a ∷ xs) (b ∷ ys) x y (first, h) r = (first, pairs-append R xs ys x y h r)
-
 terms-same : (env env' more more' : List Declaration) → Pairwise IsSameTerm (terms env ++ terms more) (terms env' ++ terms more') → Pairwise IsSameTerm (terms (env ++ more)) (terms (env' ++ more'))
 terms-same env env' more more' h =
     subst (λ (z : List Term). Pairwise IsSameTerm z (terms (env' ++ more'))) (sym (terms-append env more))
@@ -121,7 +116,7 @@ same-with-sort env env' m same = record {
 pub same-with-term : SameWithTerm
 same-with-term env env' d d' same is = record {
   sorts_are = sorts-same env env' (term_decl d ∷ []) (term_decl d' ∷ []) same.sorts_are refl;
-  terms_are = terms-same env env' (term_decl d ∷ []) (term_decl d' ∷ []) (pairs-append IsSameTerm (terms env) (terms env') d d' same.terms_are is);
+  terms_are = terms-same env env' (term_decl d ∷ []) (term_decl d' ∷ []) (pairs-push IsSameTerm (terms env) (terms env') d d' same.terms_are is);
   assertions_are = assertions-same env env' (term_decl d ∷ []) (term_decl d' ∷ []) same.assertions_are refl;
 }
 

@@ -1,17 +1,18 @@
 -- Every legal statement has steps: one command after another, without sharing.
-use Rattle.std.proofs.Common.{◌≡◌, ℕ, zero, suc, ◌+◌, ◌<◌, ◌≤◌, Bool, true, false, List, [], ◌∷◌, ◌++◌, length, map, Some, refl, sym, ap, subst, ◌∙◌, ◌⊎◌, inl, inr, arith, append_assoc, append-nil, ltb, ltb-false}
+use Rattle.std.proofs.Common.{◌≡◌, ℕ, zero, suc, ◌+◌, ◌<◌, ◌≤◌, Bool, true, false, List, [], ◌∷◌, ◌++◌, length, map, Some, refl, sym, ap, subst, ◌∙◌, inl, inr, arith, append_assoc, append-nil, ltb, ltb-false}
 use Rattle.std.specs.Prelude.{slice_get, All, Contains, reverse}
 use Rattle.std.proofs.lemmas.Bool.{ltb-true}
 use Rattle.std.proofs.lemmas.List.{reverse-append, map-append}
 use Rattle.std.proofs.lemmas.List.Elements.{Contains-append_left, Contains-append_cases}
 use Rattle.std.proofs.lemmas.Option.{slice_get_within}
+use Rattle.mz_general.proofs.Offered.{slice_get-last, contains-decided}
 use Rattle.mz_cmd.specs.declared.code.ProofCode.{ProofCode}
 use Rattle.mz_cmd.specs.declared.code.ProofCode.TheVariants as code
 use Rattle.mz_logic.specs.Tree.{Tree, Trees, var, app, none, more, listed, instance, instances, followed_by, variables}
 use Rattle.mz_logic.specs.Declaration.{Form, Declaration, dummies_of, body_of, sorts, signatures}
 use Rattle.mz_logic.specs.Modifiers.{MayBeDummySort}
 use Rattle.mz_logic.specs.Sorts.{HasSort, Fits, IsSorted, HasProvable, AreProvable}
-use Rattle.mz_logic.specs.Variables.{InFV, Apart, is_member}
+use Rattle.mz_logic.specs.Variables.{InFV, Apart}
 use Rattle.mz_logic.specs.Legality.{EachTree, IsDummy, IsLegalEnv}
 use Rattle.mz_logic.specs.Conversions.{Conversion, Conversions, refl_conv, sym_conv, cong_conv, unfold_conv, gap_conv, no_convs, more_convs, AreFresh, Between, AllBetween, GapsOnly, AllGapsOnly}
 use Rattle.mz_logic.specs.Derivations.{Derivation, Derivations, hypothesis, cite, convert, gap, no_derivs, more_derivs, Derives, AllDerive, CitesOnly, AllCiteOnly, Uses}
@@ -22,7 +23,7 @@ use Rattle.mz_logic.proofs.Offered.{Extends, extends_append, extends_itself, sor
 use Rattle.mz_unification.specs.Spells.{trees_of, variables_from, dummy_of}
 use Rattle.mz_unification.specs.Sorted.{Sorted}
 use Rattle.mz_unification.specs.Profile.{Item, expr, proof, obligation}
-use Rattle.mz_unification.proofs.Offered.{member-contains, contains-member, not-both, trees_of-listed}
+use Rattle.mz_unification.proofs.Offered.{trees_of-listed}
 use Rattle.mz_soundness.specs.ProofMachine.{sides}
 use Rattle.mz_steps.specs.Works.{Work, work_start}
 use Rattle.mz_steps.specs.Steps.{stacked, above, IsCited, IsUnfolding, Step, Steps}
@@ -32,29 +33,18 @@ use Rattle.mz_steps.proofs.Allowed.{used_with, allowed-uses}
 use Rattle.mz_steps.proofs.Joining.{steps-join}
 use Rattle.mz_steps.proofs.Starting.{start-right, within}
 
-in-or-out : (met : List ℕ) (x : ℕ) → Contains met x ⊎ (Contains met x → ⊥)
-in-or-out met x = go (is_member x met) refl
-  where
-    go : (b : Bool) → is_member x met ≡ b → Contains met x ⊎ (Contains met x → ⊥)
-    go true is = inl (member-contains x met is)
-    go false is = inr (λ has. not-both (is_member x met) (contains-member x met has) is)
-
 -- one more operand under the others
-above-more : (e : Tree) (es : List Tree) (xs : List (Item Tree)) → above es (expr e ∷ xs) ≡ above (e ∷ es) xs
+pub above-more : (e : Tree) (es : List Tree) (xs : List (Item Tree)) → above es (expr e ∷ xs) ≡ above (e ∷ es) xs
 above-more e es xs =
     sym (ap (λ (z : List Tree). map expr z ++ xs) (reverse-append (e ∷ []) es)
     ∙ ap (λ (z : List (Item Tree)). z ++ xs) (map-append expr (reverse es) (e ∷ []))
     ∙ append_assoc (map expr (reverse es)) (expr e ∷ []) xs)
 
-proofs-more : (e : Tree) (es : List Tree) (xs : List (Item Tree)) → map proof (reverse es) ++ proof e ∷ xs ≡ map proof (reverse (e ∷ es)) ++ xs
+pub proofs-more : (e : Tree) (es : List Tree) (xs : List (Item Tree)) → map proof (reverse es) ++ proof e ∷ xs ≡ map proof (reverse (e ∷ es)) ++ xs
 proofs-more e es xs =
     sym (ap (λ (z : List Tree). map proof z ++ xs) (reverse-append (e ∷ []) es)
     ∙ ap (λ (z : List (Item Tree)). z ++ xs) (map-append proof (reverse es) (e ∷ []))
     ∙ append_assoc (map proof (reverse es)) (proof e ∷ []) xs)
-
-get-last : {A : Type 0} (xs : List A) (y : A) → slice_get (xs ++ y ∷ []) (length xs) ≡ Some y
-get-last [] y = refl
-get-last (z ∷ xs) y = get-last xs y
 
 between-sorted : (env : List Declaration) (ctx : List Binder) (c : Conversion) (l r : Tree) → Between env ctx c l r → IsSorted env ctx l × IsSorted env ctx r
 between-sorted env ctx (refl_conv e) l r h = (h.0, h.1)
@@ -104,7 +94,7 @@ module _ (gaps : Bool) (env : List Declaration) (ctx : List Binder) (n : ℕ)
   -- ---- expressions
 
   push-var : (x : ℕ) (b : Binder) → slice_get ctx x ≡ Some b → (w : Work) → Ready w → Made w (expr (var x) ∷ w.stack) w.hyps
-  push-var x b at w ready = elim (in-or-out w.met x) [
+  push-var x b at w ready = elim (contains-decided w.met x) [
     | inl has ↦ (let (i, i-at) = ready.findable x has in turned w (expr (var x) ∷ w.stack) code.Ref i ready (expr (var x), i-at, refl))
     | inr out ↦ meet out
   ]
@@ -118,7 +108,7 @@ module _ (gaps : Bool) (env : List Declaration) (ctx : List Binder) (n : ℕ)
           (record {
             findable = λ y has. elim (Contains-append_cases w.met (x ∷ []) y has) [
               | inl before ↦ (let (i, i-at) = ready.findable y before in (i, extends_append w.heap (expr (var x) ∷ []) i (expr (var y)) i-at))
-              | inr last ↦ (length w.heap, get-last w.heap (expr (var x)) ∙ ap (λ (z : ℕ). Some (expr (var z))) (only x y last))
+              | inr last ↦ (length w.heap, slice_get-last w.heap (expr (var x)) ∙ ap (λ (z : ℕ). Some (expr (var z))) (only x y last))
             ];
             params_met = λ y lt. Contains-append_left w.met (x ∷ []) y (ready.params_met y lt);
           }) (extends_append w.heap (expr (var x) ∷ []))
@@ -230,7 +220,7 @@ module _ (gaps : Bool) (env : List Declaration) (ctx : List Binder) (n : ℕ)
       }
     where
       each : (e0 : Tree) (es : List Tree) (heap : List (Item Tree)) (last : Work) → Extends (heap ++ proof e0 ∷ []) last.heap → Proved es last → Proved (e0 ∷ es) last
-      each e0 es heap last grows proved zero e at = (length heap, grows (length heap) (proof e) (get-last heap (proof e0) ∙ (let is : e0 ≡ e = cc in ap (λ (z : Tree). Some (proof z)) is)))
+      each e0 es heap last grows proved zero e at = (length heap, grows (length heap) (proof e) (slice_get-last heap (proof e0) ∙ (let is : e0 ≡ e = cc in ap (λ (z : Tree). Some (proof z)) is)))
       each e0 es heap last grows proved (suc j) e at = proved j e at
 
   -- ---- derivations
@@ -291,10 +281,10 @@ module _ (gaps : Bool) (env : List Declaration) (ctx : List Binder) (n : ℕ)
 
 -- ---- theorems
 
-get-own : (j : ℕ) (ps : List Binder) (i : ℕ) → i < length ps → slice_get (map expr (variables_from j ps)) i ≡ Some (expr (var (j + i)))
-get-own j [] i lt = absurd (omega arith)
-get-own j (p ∷ ps) zero lt = ap (λ (z : ℕ). Some (expr (var z))) (omega arith)
-get-own j (p ∷ ps) (suc i) lt = get-own (suc j) ps i (omega arith) ∙ ap (λ (z : ℕ). Some (expr (var z))) (omega arith)
+pub own-item-at : (j : ℕ) (ps : List Binder) (i : ℕ) → i < length ps → slice_get (map expr (variables_from j ps)) i ≡ Some (expr (var (j + i)))
+own-item-at j [] i lt = absurd (omega arith)
+own-item-at j (p ∷ ps) zero lt = ap (λ (z : ℕ). Some (expr (var z))) (omega arith)
+own-item-at j (p ∷ ps) (suc i) lt = own-item-at (suc j) ps i (omega arith) ∙ ap (λ (z : ℕ). Some (expr (var z))) (omega arith)
 
 zero-plus : (x : ℕ) → 0 + x ≡ x
 zero-plus x = omega arith
@@ -319,7 +309,7 @@ module _ (gaps : Bool) (env : List Declaration) (params dummies : List Binder) (
   ready-at-start =
       let right : IsRight (signatures env) (length params) all (work_start params) = start-right (signatures env) params dummies in
       record {
-        findable = λ x has. (let (_, high) = within 0 params x has in let lt : x < length params = omega arith in (x, get-own 0 params x lt ∙ ap (λ (z : ℕ). Some (expr (var z))) (zero-plus x)));
+        findable = λ x has. (let (_, high) = within 0 params x has in let lt : x < length params = omega arith in (x, own-item-at 0 params x lt ∙ ap (λ (z : ℕ). Some (expr (var z))) (zero-plus x)));
         params_met = λ x lt. (right.own x lt).0;
       }
 

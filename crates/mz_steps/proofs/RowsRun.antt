@@ -14,6 +14,7 @@ use Rattle.mz_unification.proofs.Offered.{same_tree-refl, listed-trees_of}
 use Rattle.mz_soundness.specs.MachineState.{RowsBefore, signatures_in, State}
 use Rattle.mz_soundness.specs.Premises.{pop_exprs, pop_operands, is_obligation, may_be_dummy_sort, is_provable_sort, bound_count, operands_fit, are_apart}
 use Rattle.mz_soundness.specs.ProofMachine.{built, citation, cited, sides, unfolding_of, proof_row}
+use Rattle.mz_soundness.proofs.Offered.{same-trees}
 use Rattle.mz_steps.specs.Steps.{above}
 
 -- ---- operands on the stack
@@ -31,10 +32,6 @@ pops es rest n len =
     subst (λ (z : ℕ). pop_exprs z (above es rest) [] ≡ Ok (es, rest)) (length-reverse es ∙ len)
     (pop-reversed (reverse es) rest [] ∙ ap (λ (z : List Tree). Ok (z, rest)) (append-nil (reverse (reverse es)) ∙ reverse-reverse es)) in
     rw (le-leb n (length (above es rest)) (let e : n ≤ length (above es rest) = omega (arith, many, len) in e)) popped
-
-same-trees : (es : List Tree) → map (λ e. e) es ≡ es
-same-trees [] = refl
-same-trees (e ∷ es) = ap (λ (fs : List Tree). e ∷ fs) (same-trees es)
 
 module _ (gaps : Bool) (tables : RowsBefore) (at : ℕ) (st : State Tree) where
   -- ---- expressions

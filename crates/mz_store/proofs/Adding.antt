@@ -1,13 +1,14 @@
 -- A store that has one more variable, or one more term over operands.
 use Rattle.std.proofs.Common.{ℕ, zero, suc, ◌≡◌, ◌<◌, ◌≤◌, ◌+◌, ◌↔◌, Bool, true, false, IsTrue, List, [], ◌∷◌, ◌++◌, length, get_or, slice_get, Option, Some, None, IfSome, IfNone, refl, ap, sym, ◌∙◌, subst, arith, append-nil, if◌then◌else◌}
 use Rattle.std.proofs.lemmas.List.{length-append}
-use Rattle.std.proofs.lemmas.Option.{slice_get_within, slice_get-get_or}
+use Rattle.std.proofs.lemmas.Option.{slice_get_within, slice_get-get_or, none-some}
+use Rattle.mz_general.proofs.Offered.{slice_get-last}
 use mir.Val.{bool_byte}
 use Rattle.mz_logic.specs.Signature.{Signature}
 use Rattle.mz_logic.specs.Sorts.{IsBoundVar}
 use Rattle.mz_logic.specs.declared.binder.Binder.{Binder}
-use Rattle.mz_logic.specs.Tree.{Tree, Trees, var, app, none, more}
-use Rattle.mz_logic.proofs.Offered.{one_at, none_some, DepsInside}
+use Rattle.mz_logic.specs.Tree.{var, app}
+use Rattle.mz_logic.proofs.Offered.{one_at, DepsInside, same-term, same-operands, same-first, same-rest, no-application, no-trees}
 use Rattle.mz_store.specs.Bits.{bound_vars}
 use Rattle.mz_store.specs.Sharing.{Shared, Sharing, tree_of, trees_of, IsIn, AreIn, Holds, IsOver}
 use Rattle.mz_store.specs.Nodes.{Made, MadeOf, variable, application, form_of, made_of, all_made, entered, binder_after, sharing_of, no_expressions, IsVariableWord}
@@ -22,7 +23,7 @@ use Rattle.mz_store.specs.declared.node.Form.{Form}
 use Rattle.mz_store.specs.declared.node.Form.TheVariants.{Variable, Application}
 use Rattle.mz_store.proofs.Places.{bound-push}
 use Rattle.mz_store.proofs.Made.{AllLie, made-kept, all-kept, all-pushed, made-at, node-of}
-use Rattle.mz_store.proofs.Chained.{last-at, all-lie, chained-variable, chained-term, chained-more, chained-by, Puts, term-says}
+use Rattle.mz_store.proofs.Chained.{all-lie, chained-variable, chained-term, chained-more, chained-by, Puts, term-says}
 use Rattle.mz_store.proofs.Growing.{entered-all-push, entered-begins, entry-new, kept-grown, are-in-kept, trees-kept}
 use Rattle.mz_store.proofs.Entering.{inside-grown, over-entered}
 
@@ -38,36 +39,18 @@ node-at s count os nodes kept i inside = go (slice_get nodes i) refl
       where
         none_past : (ns : List Node) (j : ℕ) → j < length ns → slice_get ns j ≡ None → ⊥
         none_past [] j less nope = omega arith
-        none_past (m ∷ ns) zero less nope = absurd (none_some (sym nope))
+        none_past (m ∷ ns) zero less nope = absurd (none-some _ (sym nope))
         none_past (m ∷ ns) (suc j) less nope = none_past ns j (omega arith) nope
-
-app-head : (t u : ℕ) (es fs : Trees) → app t es ≡ app u fs → t ≡ u
-app-head t u es fs is = cc
-
-app-operands : (t u : ℕ) (es fs : Trees) → app t es ≡ app u fs → es ≡ fs
-app-operands t u es fs is = cc
-
-var-app : (x t : ℕ) (es : Trees) → var x ≡ app t es → ⊥
-var-app x t es is = cc
-
-first-tree : (e f : Tree) (es fs : Trees) → more e es ≡ more f fs → e ≡ f
-first-tree e f es fs is = cc
-
-later-trees : (e f : Tree) (es fs : Trees) → more e es ≡ more f fs → es ≡ fs
-later-trees e f es fs is = cc
-
-none-more : (e : Tree) (es : Trees) → none ≡ more e es → ⊥
-none-more e es is = cc
 
 -- ids of equal trees are equal
 ids-same : (s : Sharing) → ((i j : ℕ) → IsIn s i → IsIn s j → tree_of s i ≡ tree_of s j → i ≡ j)
     → (is js : List Id) → AreIn s is → AreIn s js → trees_of s is ≡ trees_of s js → is ≡ js
 ids-same s once [] [] p q same = refl
-ids-same s once [] (j ∷ js) p q same = absurd (none-more (tree_of s j.0) (trees_of s js) same)
-ids-same s once (i ∷ is) [] p q same = absurd (none-more (tree_of s i.0) (trees_of s is) (sym same))
+ids-same s once [] (j ∷ js) p q same = absurd (no-trees (tree_of s j.0) (trees_of s js) same)
+ids-same s once (i ∷ is) [] p q same = absurd (no-trees (tree_of s i.0) (trees_of s is) (sym same))
 ids-same s once (i ∷ is) (j ∷ js) (p, ps) (q, qs) same =
-    ap (λ (n : ℕ). record { 0 = n } ∷ is) (once i.0 j.0 p q (first-tree (tree_of s i.0) (tree_of s j.0) (trees_of s is) (trees_of s js) same))
-    ∙ ap (λ (ks : List Id). j ∷ ks) (ids-same s once is js ps qs (later-trees (tree_of s i.0) (tree_of s j.0) (trees_of s is) (trees_of s js) same))
+    ap (λ (n : ℕ). record { 0 = n } ∷ is) (once i.0 j.0 p q (same-first (tree_of s i.0) (tree_of s j.0) (trees_of s is) (trees_of s js) same))
+    ∙ ap (λ (ks : List Id). j ∷ ks) (ids-same s once is js ps qs (same-rest (tree_of s i.0) (tree_of s j.0) (trees_of s is) (trees_of s js) same))
 
 -- a term over operands has the tree that it says
 node-holds : (s : Sharing) (count : ℕ) (os : List Id) (nodes : List Node) → IsKept s count os nodes → (h : ℕ) (is : List Id) (i : ℕ)
@@ -88,10 +71,10 @@ holds-node s count os nodes kept h is there i (inside, tree-is) = go (node-at s 
     go (n, at, shows) = (made_of os n, made-at os nodes i n at, of (made_of os n).form shows.form)
       where
         of : (f : MadeOf) → Forms s i f → IsOf f h is
-        of (variable bound) (x, b, var-is, _, _) = absurd (var-app x h (trees_of s is) (sym var-is ∙ tree-is))
+        of (variable bound) (x, b, var-is, _, _) = absurd (no-application x h (trees_of s is) (sym var-is ∙ tree-is))
         of (application head operands) (in-too, app-is) = (
-          app-head head h (trees_of s operands) (trees_of s is) (sym app-is ∙ tree-is),
-          ids-same s kept.once operands is in-too there (app-operands head h (trees_of s operands) (trees_of s is) (sym app-is ∙ tree-is)),
+          same-term head h (trees_of s operands) (trees_of s is) (sym app-is ∙ tree-is),
+          ids-same s kept.once operands is in-too there (same-operands head h (trees_of s operands) (trees_of s is) (sym app-is ∙ tree-is)),
         )
 
 -- ---- one more variable
@@ -120,7 +103,7 @@ variable-kept s count os nodes sort deps bound kept word count' count-is =
     small false _ is = omega (arith, kept.small)
 
     form : Forms (entered s m) (length s.entries) (variable bound)
-    form = (length s.context, binder_after s.context sort deps bound, ap (λ (e : Shared). e.tree) (entry-new s m), last-at s.context (binder_after s.context sort deps bound), refl)
+    form = (length s.context, binder_after s.context sort deps bound, ap (λ (e : Shared). e.tree) (entry-new s m), slice_get-last s.context (binder_after s.context sort deps bound), refl)
 
     fresh : (i : ℕ) → IsIn s i → tree_of s i ≡ var (length s.context) → ⊥
     fresh i in_i same = go (node-at s count os nodes kept i in_i)
@@ -130,7 +113,7 @@ variable-kept s count os nodes sort deps bound kept word count' count-is =
           where
             var-place : (y z : ℕ) → var y ≡ var z → y ≡ z
             var-place y z e = cc
-        other (application head operands) (_, is) = var-app (length s.context) head (trees_of s operands) (sym same ∙ is)
+        other (application head operands) (_, is) = no-application (length s.context) head (trees_of s operands) (sym same ∙ is)
 
         go : (k : Node) × (slice_get nodes i ≡ Some k) × Shows s i (made_of os k) → ⊥
         go (k, at, shows) = other (made_of os k).form shows.form
@@ -178,7 +161,7 @@ view-pushed : (mode : DepsMode) (os os' : List Id) (nodes nodes' : List Node) (m
 view-pushed mode os os' nodes nodes' m v view pushed =
     ap (sharing_of mode) pushed ∙ entered-all-push (no_expressions mode) (all_made os nodes) m ∙ ap (λ s. entered s m) view
 
-byte-is : (v : Bool) → bool_byte v ≡ (if v then 1 else 0)
+pub byte-is : (v : Bool) → bool_byte v ≡ (if v then 1 else 0)
 byte-is true = refl
 byte-is false = refl
 
@@ -292,4 +275,4 @@ bound-variable v i bound (x, b, is, at, bound-is) = (λ t. (x, b, is, at, bound-
     back (y, c, is', at', bd) = sym bound-is ∙ ap (λ (d : Binder). d.bound) (one_at at (subst (λ z. slice_get v.context z ≡ Some c) (place y x (sym is' ∙ is)) at')) ∙ bd
 
 pub bound-term : (v : Sharing) (i h : ℕ) (is : List Id) → Forms v i (application h is) → IsTrue false ↔ IsBoundVar v.context (tree_of v i)
-bound-term v i h is (_, tree-is) = (λ nope. absurd cc, λ it. absurd (var-app it.0 h (trees_of v is) (sym it.2 ∙ tree-is)))
+bound-term v i h is (_, tree-is) = (λ nope. absurd cc, λ it. absurd (no-application it.0 h (trees_of v is) (sym it.2 ∙ tree-is)))

@@ -1,13 +1,13 @@
 -- A store after the variables of a list of words.
 use Rattle.std.proofs.Common.{ℕ, zero, suc, ◌≡◌, ◌<◌, ◌≤◌, ◌+◌, Bool, List, [], ◌∷◌, ◌++◌, length, map, drop, get_or, refl, ap, sym, ◌∙◌, arith, append-nil, append_assoc}
+use Rattle.mz_general.proofs.Offered.{drop-past, length-push}
 use Rattle.mz_logic.specs.Tree.{var}
 use Rattle.mz_logic.specs.Words.{word_sort, word_deps, word_bound, binders_from}
 use Rattle.mz_logic.specs.declared.word.Word.{Word}
 use Rattle.mz_store.specs.Bits.{bound_vars}
 use Rattle.mz_store.specs.Sharing.{Shared, Sharing, tree_of}
 use Rattle.mz_store.specs.Nodes.{Made, variable, entered, entered_all, variable_node, binder_after, tree_with}
-use Rattle.mz_store.proofs.Chained.{one-longer}
-use Rattle.mz_store.proofs.ParamWords.{context-after, context_after, drop-all, next-word}
+use Rattle.mz_store.proofs.ParamWords.{context-after, context_after, next-word}
 use Rattle.mz_store.proofs.Growing.{Begins, entry-new, entry-kept, last-in}
 
 pub node-is : (w : Word) (sort deps : ℕ) (bound : Bool) → sort ≡ word_sort w → deps ≡ word_deps w → bound ≡ word_bound w
@@ -21,7 +21,7 @@ pub rest-entered : (s s' : Sharing) (ws : List Word) (i : ℕ) → i < length ws
 rest-entered s s' ws i less is = ap (λ t. entered_all t (map variable_node (drop (i + 1) ws))) is ∙ sym (ap (λ vs. entered_all s (map variable_node vs)) (next-word ws i less))
 
 pub all-entered : (s t : Sharing) (ws : List Word) (i : ℕ) → length ws ≤ i → entered_all s (map variable_node (drop i ws)) ≡ t → s ≡ t
-all-entered s t ws i past is = sym (ap (λ vs. entered_all s (map variable_node vs)) (drop-all ws i past)) ∙ is
+all-entered s t ws i past is = sym (ap (λ vs. entered_all s (map variable_node vs)) (drop-past ws i past)) ∙ is
 
 -- ---- what the store then is
 
@@ -34,7 +34,7 @@ begun-context s ws = go s ws ∙ context-after s.context ws
 
 pub begun-many : (s : Sharing) (ws : List Word) → length (entered_all s (map variable_node ws)).entries ≡ length s.entries + length ws
 begun-many s [] = omega arith
-begun-many s (w ∷ ws) = begun-many (entered s (variable_node w)) ws ∙ ap (λ m. m + length ws) (one-longer s.entries _) ∙ (let e : suc (length s.entries) + length ws ≡ length s.entries + suc (length ws) = omega arith in e)
+begun-many s (w ∷ ws) = begun-many (entered s (variable_node w)) ws ∙ ap (λ m. m + length ws) (length-push s.entries _) ∙ (let e : suc (length s.entries) + length ws ≡ length s.entries + suc (length ws) = omega arith in e)
 
 all-begins : (s : Sharing) (ns : List Made) → Begins s (entered_all s ns)
 all-begins s [] = ([], sym (append-nil s.entries))
@@ -49,6 +49,6 @@ begun-trees s (w ∷ ws) zero less =
     (length s.entries) (last-in s (variable_node w)))
     ∙ ap (λ (e : Shared). e.tree) (entry-new s (variable_node w)) ∙ ap var (omega arith)
 begun-trees s (w ∷ ws) (suc i) less =
-    ap (tree_of (entered_all s (map variable_node (w ∷ ws)))) (let e : length s.entries + suc i ≡ length (entered s (variable_node w)).entries + i = omega (arith, one-longer s.entries (record { tree = var (length s.context); sort = word_sort w; deps = word_deps w })) in e)
+    ap (tree_of (entered_all s (map variable_node (w ∷ ws)))) (let e : length s.entries + suc i ≡ length (entered s (variable_node w)).entries + i = omega (arith, length-push s.entries (record { tree = var (length s.context); sort = word_sort w; deps = word_deps w })) in e)
     ∙ begun-trees (entered s (variable_node w)) ws i (omega arith)
-    ∙ ap var (omega (arith, one-longer s.context (binder_after s.context (word_sort w) (word_deps w) (word_bound w))))
+    ∙ ap var (omega (arith, length-push s.context (binder_after s.context (word_sort w) (word_deps w) (word_bound w))))

@@ -2,8 +2,9 @@
 use Rattle.std.proofs.Common.{ℕ, zero, suc, ◌≡◌, ◌<◌, ◌≤◌, ◌+◌, ◌%◌, ◌/◌, ◌==◌, ◌⊎◌, ◌++◌, Bool, true, false, List, [], ◌∷◌, length, take, get_or, slice_get, Contains, Some, refl, ap, sym, ◌∙◌, subst, inl, inr, arith, bit_or, if◌then◌else◌}
 use Rattle.std.specs.Int.{bit_at}
 use Rattle.std.proofs.lemmas.Nat.Bits.{bit_at-zero}
-use Rattle.std.proofs.lemmas.Option.{slice_get-get_or, slice_get_within}
+use Rattle.std.proofs.lemmas.Option.{slice_get-get_or, slice_get_within, none-some}
 use Rattle.std.proofs.lemmas.List.Elements.{Contains-append_cases}
+use Rattle.mz_general.proofs.Offered.{contains_none, contains_cases}
 use Rattle.mz_logic.specs.Tree.{Trees, var, operand}
 use Rattle.mz_logic.specs.Signature.{Signature}
 use Rattle.mz_logic.specs.Sorts.{Fits}
@@ -11,14 +12,13 @@ use Rattle.mz_logic.specs.Variables.{IsBoundAt, IsOperandAt}
 use Rattle.mz_logic.specs.Words.{word_bound, bound_places, places_set, binder_of, binders_of}
 use Rattle.mz_logic.specs.declared.word.Word.{Word}
 use Rattle.mz_logic.specs.declared.binder.Binder.{Binder}
-use Rattle.mz_logic.proofs.Offered.{contains_cases, one_at, none_some}
+use Rattle.mz_logic.proofs.Offered.{one_at}
 use Rattle.mz_store.specs.Bits.{Tells, bound_vars}
 use Rattle.mz_store.specs.Sharing.{IsTold}
 use Rattle.mz_store.specs.declared.item.DepsMode.{DepsMode}
 use Rattle.mz_store.proofs.Gathering.{Gathers, gather-step, gather-end, tells-same}
 use Rattle.mz_store.proofs.Params.{many, binder-at, operand-none, operand-zero, operand-split, operand-here, operand-later, tells-bound}
 use Rattle.mz_store.proofs.Operands.{fits-many, bound-at}
-use Rattle.mz_store.proofs.Places.{none-in}
 
 -- the operands at those of the places whose bits are set
 abbrev pub At : Trees → List Binder → ℕ → List ℕ → ℕ → Type 0
@@ -92,7 +92,7 @@ places-over ctx es params places left word none-left P so-far =
 -- with one parameter more
 pub places-more : (j : ℕ) (ws : List Word) (i : ℕ) (w : Word) (v : Bool) → slice_get ws i ≡ Some w → word_bound w ≡ v
     → bound_places j (take (suc i) ws) ≡ (if v then bound_places j (take i ws) ++ (j + i) ∷ [] else bound_places j (take i ws))
-places-more j [] i w v at is = absurd (none_some at)
+places-more j [] i w v at is = absurd (none-some _ at)
 places-more j (u ∷ ws) zero w v at is =
     ap (λ b. if b then j ∷ [] else []) (ap word_bound (one_at refl at) ∙ is)
     ∙ ap (λ n. if v then n ∷ [] else []) (let e : j ≡ j + 0 = omega arith in e)
@@ -121,15 +121,15 @@ step-bound ws i j w true at bd before inside = elim (Contains-append_cases (boun
   | inl old ↦ before old
   | inr here ↦ elim (contains_cases (0 + i) j [] here) [
     | inl same ↦ (binder_of (bound_places 0 (take i ws)) w, ap (slice_get (binders_of ws)) (let e : j ≡ i = omega (arith, same) in e) ∙ binder-at ws i w at, bd)
-    | inr none ↦ absurd (none-in j none)
+    | inr none ↦ absurd (contains_none j none)
   ]
 ]
 step-bound ws i j w false at regular before inside = before inside
 
 -- a bound parameter stands at each of them
 pub places-are-bound : (ws : List Word) (i : ℕ) → i ≤ length ws → (j : ℕ) → Contains (bound_places 0 (take i ws)) j → IsBoundAt (binders_of ws) j
-places-are-bound [] zero within j has = absurd (none-in j has)
-places-are-bound (v ∷ ws) zero within j has = absurd (none-in j has)
+places-are-bound [] zero within j has = absurd (contains_none j has)
+places-are-bound (v ∷ ws) zero within j has = absurd (contains_none j has)
 places-are-bound ws (suc i) within j has =
     let w = get_or ws i (record { 0 = 0 }) in
     let at : slice_get ws i ≡ Some w = slice_get-get_or ws i _ within in

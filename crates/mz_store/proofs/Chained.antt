@@ -2,8 +2,9 @@
 use Rattle.std.proofs.Common.{ℕ, zero, suc, ◌≡◌, ◌<◌, ◌≤◌, ◌+◌, ◌⊎◌, Bool, true, false, cond, List, [], ◌∷◌, ◌++◌, length, slice_get, Option, Some, None, nat_eq, refl, ap, sym, ◌∙◌, subst, inl, inr, arith, append-nil}
 use Rattle.std.proofs.lemmas.Bool.Decides.{Decides-eqb}
 use Rattle.std.proofs.lemmas.List.{length-append}
-use Rattle.std.proofs.lemmas.Option.{slice_get_within}
-use Rattle.mz_logic.proofs.Offered.{one_at, none_some, extends_append, split_at}
+use Rattle.std.proofs.lemmas.Option.{slice_get_within, none-some}
+use Rattle.mz_general.proofs.Offered.{slice_get-last, length-push}
+use Rattle.mz_logic.proofs.Offered.{one_at, extends_append, split_at}
 use Rattle.mz_store.specs.Nodes.{Made, variable, application, operands_at, made_of, all_made}
 use Rattle.mz_store.specs.Prints.{print_of}
 use Rattle.mz_store.specs.Chains.{IsLast, HasPrint, Links}
@@ -15,17 +16,9 @@ use Rattle.mz_store.specs.declared.node.Form.{Form}
 use Rattle.mz_store.specs.declared.node.Form.TheVariants.{Variable, Application}
 use Rattle.mz_store.proofs.Made.{Lies, AllLie, operands-kept, operands-new, all-pushed, all-kept, many-made}
 
-pub last-at : {A : Type 0} (xs : List A) (x : A) → slice_get (xs ++ x ∷ []) (length xs) ≡ Some x
-last-at [] x = refl
-last-at (y ∷ xs) x = last-at xs x
-
 pub only-last : {A : Type 0} (x y : A) (j : ℕ) → slice_get (x ∷ []) j ≡ Some y → (j ≡ 0) × (x ≡ y)
 only-last x y zero at = (refl, one_at refl at)
-only-last x y (suc j) at = absurd (none_some at)
-
-pub one-longer : {A : Type 0} (xs : List A) (x : A) → length (xs ++ x ∷ []) ≡ suc (length xs)
-one-longer [] x = refl
-one-longer (y ∷ xs) x = ap suc (one-longer xs x)
+only-last x y (suc j) at = absurd (none-some _ at)
 
 -- ---- the last one of a print
 
@@ -57,7 +50,7 @@ last-skip factor ms m k print (Some e) many (less, (w, at, has), most) out = (
 last-here : (factor : ℕ) (ms : List Made) (m : Made) (k print : ℕ) (e : Id) → k ≡ length ms → e.0 ≡ k → HasPrint factor m.form print → IsLast factor (ms ++ m ∷ []) (suc k) print (Some e)
 last-here factor ms m k print e many place has = (
   omega arith,
-  (m, subst (λ i. slice_get (ms ++ m ∷ []) i ≡ Some m) (sym (place ∙ many)) (last-at ms m), has),
+  (m, subst (λ i. slice_get (ms ++ m ∷ []) i ≡ Some m) (sym (place ∙ many)) (slice_get-last ms m), has),
   λ j x less at has'. omega arith,
 )
 
@@ -85,7 +78,7 @@ chained-grown : (factor : ℕ) (os more : List Id) (nodes : List Node) (newest n
     → IsChained factor (os ++ more) (nodes ++ n ∷ []) newest'
 chained-grown factor os more nodes newest newest' n m chained says links last = record {
   linked = λ i k at. subst (λ (ms : List Made). Links factor (os ++ more) ms i k.form) (sym pushed) (go i k (split_at nodes (n ∷ []) i k at));
-  last = λ print. subst (λ j. IsLast factor (all_made (os ++ more) (nodes ++ n ∷ [])) j print (newest' print)) (sym (one-longer nodes n))
+  last = λ print. subst (λ j. IsLast factor (all_made (os ++ more) (nodes ++ n ∷ [])) j print (newest' print)) (sym (length-push nodes n))
       (subst (λ (ms : List Made). IsLast factor ms (suc (length nodes)) print (newest' print)) (sym pushed) (last print));
 }
   where
@@ -184,7 +177,7 @@ chained-by factor os nodes newest newest' chained same = record {
 
 pub chained-empty : (factor : ℕ) (os : List Id) (nodes : List Node) (newest : ℕ → Option Id) → nodes ≡ [] → ((q : ℕ) → newest q ≡ None) → IsChained factor os nodes newest
 chained-empty factor os nodes newest no-nodes lacks = record {
-  linked = λ i n at. absurd (none_some (sym (ap (λ (ns : List Node). slice_get ns i) no-nodes) ∙ at));
+  linked = λ i n at. absurd (none-some _ (sym (ap (λ (ns : List Node). slice_get ns i) no-nodes) ∙ at));
   last = λ print. subst (IsLast factor (all_made os nodes) (length nodes) print) (sym (lacks print))
       (λ j m less at has. absurd (let none : length nodes ≡ 0 = ap length no-nodes in omega arith));
 }

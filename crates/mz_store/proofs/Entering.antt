@@ -3,26 +3,22 @@ use Rattle.std.proofs.Common.{ℕ, zero, suc, ◌≡◌, ◌<◌, ◌≤◌, ◌
 use Rattle.std.specs.Int.{bit_at}
 use Rattle.std.proofs.lemmas.Bool.Decides.{eqb_tells}
 use Rattle.std.proofs.lemmas.Nat.Bits.{bit_at-pow_same, bit_at-pow_other, bit_at_above}
-use Rattle.std.proofs.lemmas.Option.{slice_get-get_or}
+use Rattle.std.proofs.lemmas.Option.{slice_get-get_or, none-some}
+use Rattle.std.proofs.lemmas.Bool.{cases_lt}
+use Rattle.mz_general.proofs.Offered.{slice_get-last, contains_none, slice_get-append_add}
 use Rattle.mz_logic.specs.Tree.{var}
 use Rattle.mz_logic.specs.Signature.{Signature}
 use Rattle.mz_logic.specs.Variables.{InV}
 use Rattle.mz_logic.specs.declared.binder.Binder.{Binder}
-use Rattle.mz_logic.proofs.Offered.{one_at, none_some, Extends, extends_append, extends_itself, sort_extends, split_at, slice_get-append_add, DepsInside}
+use Rattle.mz_logic.proofs.Offered.{one_at, Extends, extends_append, extends_itself, sort_extends, split_at, DepsInside, place_to}
 use Rattle.mz_store.specs.Bits.{Tells, HasAt, bound_vars}
 use Rattle.mz_store.specs.Sharing.{Shared, Sharing, entry_of, IsOver, IsRight, IsTold}
 use Rattle.mz_store.specs.Nodes.{Made, variable, entered, binder_after, IsVariableWord}
 use Rattle.mz_store.specs.declared.item.DepsMode.{DepsMode}
 use Rattle.mz_store.specs.declared.item.DepsMode.TheVariants as of
-use Rattle.mz_store.proofs.Places.{none-in, bound-push, bound-within, bound-once, set-to, set-from}
-use Rattle.mz_store.proofs.Chained.{last-at}
+use Rattle.mz_store.proofs.Places.{bound-push, bound-within, bound-once, set-from}
 use Rattle.mz_store.proofs.Longer.{told-extends, told-back, told-below}
 use Rattle.mz_store.proofs.Growing.{entered-begins, entry-kept, entry-new, in-cases}
-
-pub less-or : (k n : ℕ) → (k < n) ⊎ (n ≤ k)
-less-or k zero = inr (omega arith)
-less-or zero (suc n) = inl (omega arith)
-less-or (suc k) (suc n) = elim (less-or k n) [ inl less ↦ inl (omega arith) | inr past ↦ inr (omega arith) ]
 
 -- ---- an expression of before
 
@@ -62,7 +58,7 @@ told-of-var of.Free sigs ctx places word y tells = tells
 
 only-one : (n : ℕ) (j x : ℕ) → slice_get (n ∷ []) j ≡ Some x → (j ≡ 0) × (n ≡ x)
 only-one n zero x at = (refl, one_at refl at)
-only-one n (suc j) x at = absurd (none_some at)
+only-one n (suc j) x at = absurd (none-some _ at)
 
 pub tells-variable : (ctx : List Binder) (sort deps : ℕ) (bound : Bool) → IsVariableWord (length (bound_vars ctx)) deps bound
     → Tells (bound_vars (ctx ++ binder_after ctx sort deps bound ∷ [])) deps (λ x. InV (ctx ++ binder_after ctx sort deps bound ∷ []) x (var (length ctx)))
@@ -81,12 +77,12 @@ tells-variable ctx sort deps true (small, is) k = (to, from)
 
     to : bit_at deps k ≡ 1 → HasAt (bound_vars (ctx ++ b ∷ [])) (λ x. InV (ctx ++ b ∷ []) x (var (length ctx))) k
     to bit = elim (eqb_tells k (length (bound_vars ctx))) [
-      | inl same ↦ (length ctx, ap (slice_get (bound_vars (ctx ++ b ∷ []))) same.1 ∙ here, (b, last-at ctx b, inl (refl, refl)))
+      | inl same ↦ (length ctx, ap (slice_get (bound_vars (ctx ++ b ∷ []))) same.1 ∙ here, (b, slice_get-last ctx b, inl (refl, refl)))
       | inr other ↦ absurd (let off : bit_at deps k ≡ 0 = ap (λ n. bit_at n k) is ∙ bit_at-pow_other (length (bound_vars ctx)) k other.1 in omega arith)
     ]
 
     from : HasAt (bound_vars (ctx ++ b ∷ [])) (λ x. InV (ctx ++ b ∷ []) x (var (length ctx))) k → bit_at deps k ≡ 1
-    from (x, at, (c, at', inr (regular, _))) = absurd (let same : b ≡ c = one_at (last-at ctx b) at' in let e : true ≡ false = ap (λ (d : Binder). d.bound) same ∙ regular in cc)
+    from (x, at, (c, at', inr (regular, _))) = absurd (let same : b ≡ c = one_at (slice_get-last ctx b) at' in let e : true ≡ false = ap (λ (d : Binder). d.bound) same ∙ regular in cc)
     from (x, at, (c, at', inl (_, x_is))) = go (split_at (bound_vars ctx) (length ctx ∷ []) k x (sym (ap (λ (ps : List ℕ). slice_get ps k) places) ∙ at))
       where
         go : (slice_get (bound_vars ctx) k ≡ Some x) ⊎ ((j : ℕ) × (k ≡ length (bound_vars ctx) + j) × (slice_get (length ctx ∷ []) j ≡ Some x)) → bit_at deps k ≡ 1
@@ -104,10 +100,10 @@ tells-variable ctx sort deps false small k = (to, from)
     places = bound-push ctx b ∙ append-nil (bound_vars ctx)
 
     to : bit_at deps k ≡ 1 → HasAt (bound_vars (ctx ++ b ∷ [])) (λ x. InV (ctx ++ b ∷ []) x (var (length ctx))) k
-    to bit = (get_or (bound_vars ctx) k 0, ap (λ (ps : List ℕ). slice_get ps k) places ∙ at, (b, last-at ctx b, inr (refl, set-to deps (bound_vars ctx) k (get_or (bound_vars ctx) k 0) at bit)))
+    to bit = (get_or (bound_vars ctx) k 0, ap (λ (ps : List ℕ). slice_get ps k) places ∙ at, (b, slice_get-last ctx b, inr (refl, place_to deps (bound_vars ctx) k (get_or (bound_vars ctx) k 0) at bit)))
       where
         within : k < length (bound_vars ctx)
-        within = elim (less-or k (length (bound_vars ctx))) [
+        within = elim (cases_lt k (length (bound_vars ctx))) [
           | inl less ↦ less
           | inr past ↦ absurd (let off : bit_at deps k ≡ 0 = bit_at_above deps (length (bound_vars ctx)) k small past in omega arith)
         ]
@@ -116,9 +112,9 @@ tells-variable ctx sort deps false small k = (to, from)
         at = slice_get-get_or (bound_vars ctx) k 0 within
 
     from : HasAt (bound_vars (ctx ++ b ∷ [])) (λ x. InV (ctx ++ b ∷ []) x (var (length ctx))) k → bit_at deps k ≡ 1
-    from (x, at, (c, at', inl (bd, _))) = absurd (let same : b ≡ c = one_at (last-at ctx b) at' in let e : false ≡ true = ap (λ (d : Binder). d.bound) same ∙ bd in cc)
+    from (x, at, (c, at', inl (bd, _))) = absurd (let same : b ≡ c = one_at (slice_get-last ctx b) at' in let e : false ≡ true = ap (λ (d : Binder). d.bound) same ∙ bd in cc)
     from (x, at, (c, at', inr (_, has))) =
-        let same : c ≡ b = sym (one_at (last-at ctx b) at') in
+        let same : c ≡ b = sym (one_at (slice_get-last ctx b) at') in
         let (j, at_j, bit) = set-from deps (bound_vars ctx) x (subst (λ (d : Binder). Contains d.deps x) same has) in
         let place : j ≡ k = bound-once 0 ctx j k x at_j (sym (ap (λ (ps : List ℕ). slice_get ps k) places) ∙ at) in
         subst (λ m. bit_at deps m ≡ 1) place bit
@@ -136,8 +132,8 @@ inside-grown ctx sort deps bound inside i b at x has = elim (split_at ctx (binde
     wider below = omega (arith, length-append ctx (binder_after ctx sort deps bound ∷ []))
 
     new : (v : Bool) (j : ℕ) → slice_get (binder_after ctx sort deps v ∷ []) j ≡ Some b → x < length ctx
-    new v (suc j) is = absurd (none_some is)
-    new true zero is = absurd (none-in x (subst (λ (d : Binder). Contains d.deps x) (sym (one_at refl is)) has))
+    new v (suc j) is = absurd (none-some _ is)
+    new true zero is = absurd (contains_none x (subst (λ (d : Binder). Contains d.deps x) (sym (one_at refl is)) has))
     new false zero is = (let (k, here, _) = set-from deps (bound_vars ctx) x (subst (λ (d : Binder). Contains d.deps x) (sym (one_at refl is)) has) in
         let below : x < 0 + length ctx = (bound-within 0 ctx k x here).1 in omega arith)
 
@@ -146,7 +142,7 @@ adds-past ctx b = ((if b.bound then length ctx ∷ [] else []), bound-push ctx b
   where
     past : (v : Bool) (j x : ℕ) → slice_get (if v then length ctx ∷ [] else []) j ≡ Some x → length ctx ≤ x
     past true j x at = (let is : length ctx ≡ x = (only-one (length ctx) j x at).1 in omega arith)
-    past false j x at = absurd (none_some at)
+    past false j x at = absurd (none-some _ at)
 
 pub over-entered : (s : Sharing) (sort deps : ℕ) (bound : Bool) → DepsInside s.context → IsVariableWord (length (bound_vars s.context)) deps bound
     → (sigs : List Signature) → IsOver sigs s → IsOver sigs (entered s (record { sort = sort; deps = deps; form = variable bound }))
@@ -154,7 +150,7 @@ over-entered s sort deps bound inside word sigs over i in_i = elim (in-cases s n
   | inl before ↦ subst (IsRight s.mode sigs ctx') (sym (entry-kept s (entered s n) (entered-begins s n) i before))
       (tells-longer s.mode sigs s.context ctx' (extends_append s.context (b ∷ [])) (adds-past s.context b) inside (entry_of s i) (over i before))
   | inr last ↦ subst (λ j. IsRight s.mode sigs ctx' (entry_of (entered s n) j)) (sym last) (subst (IsRight s.mode sigs ctx') (sym (entry-new s n)) (
-    (b, last-at s.context b, refl),
+    (b, slice_get-last s.context b, refl),
     told-of-var s.mode sigs ctx' (bound_vars ctx') deps (length s.context) (tells-variable s.context sort deps bound word),
   ))
 ]

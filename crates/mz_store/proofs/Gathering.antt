@@ -2,9 +2,9 @@
 use Rattle.std.proofs.Common.{ℕ, ◌≡◌, ◌<◌, ◌-◌, ◌⊎◌, ◌↔◌, min, max, List, subst, inl, inr, arith, bit_and, bit_or, w64, ◌^◌}
 use Rattle.std.specs.Int.{bit_at, bit_not}
 use Rattle.std.proofs.lemmas.Nat.Bits.{bit_at_or, bit_at_and, bit_at_not, bit_at_above, bit_at-zero, bit_at-lt}
+use Rattle.std.proofs.lemmas.Bool.{cases_lt}
 use Rattle.mz_logic.proofs.Offered.{one_at}
 use Rattle.mz_store.specs.Bits.{HasAt, Tells}
-use Rattle.mz_store.proofs.Entering.{less-or}
 
 -- so far the word tells P, but for Q
 abbrev pub Gathers : List ℕ → ℕ → (ℕ → Type 0) → (ℕ → Type 0) → Type 0
@@ -86,7 +86,7 @@ tells-without places a b P Q small-a small-b tells-a tells-b k = (to, from)
     both = bit_at_and a (bit_not w64 b) k
 
     below : bit_at a k ≡ 1 → k < 64
-    below bit = elim (less-or k 64) [ inl less ↦ less | inr past ↦ absurd (let e : bit_at a k ≡ 0 = bit_at_above a 64 k small-a past in omega arith) ]
+    below bit = elim (cases_lt k 64) [ inl less ↦ less | inr past ↦ absurd (let e : bit_at a k ≡ 0 = bit_at_above a 64 k small-a past in omega arith) ]
 
     other : k < 64 → bit_at (bit_not w64 b) k ≡ 1 - bit_at b k
     other less = bit_at_not w64 b k small-b less

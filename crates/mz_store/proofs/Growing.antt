@@ -1,11 +1,12 @@
 -- A store with one more node.
 use Rattle.std.proofs.Common.{ℕ, suc, ◌≡◌, ◌≤◌, ◌+◌, ◌⊎◌, List, [], ◌∷◌, ◌++◌, length, get_or, slice_get, Some, refl, ap, sym, ◌∙◌, subst, inl, inr, arith}
 use Rattle.std.proofs.lemmas.List.{get_or_append_left, length-append}
-use Rattle.std.proofs.lemmas.Option.{slice_get_within}
+use Rattle.std.proofs.lemmas.Option.{slice_get_within, none-some}
 use Rattle.std.proofs.Math.Seq.{get_or-append_seam}
+use Rattle.mz_general.proofs.Offered.{length-push}
 use Rattle.mz_logic.specs.Tree.{app, none, more}
 use Rattle.mz_logic.specs.declared.binder.Binder.{Binder}
-use Rattle.mz_logic.proofs.Offered.{none_some, extends_append, split_at, DepsInside}
+use Rattle.mz_logic.proofs.Offered.{extends_append, split_at, DepsInside}
 use Rattle.mz_store.specs.Bits.{bound_vars}
 use Rattle.mz_store.specs.Sharing.{Shared, Sharing, entry_of, tree_of, trees_of, IsIn, AreIn}
 use Rattle.mz_store.specs.Nodes.{Made, MadeOf, variable, application, made_of, all_made, entered, entered_all, no_expressions, context_with, tree_with, binder_after}
@@ -13,7 +14,7 @@ use Rattle.mz_store.specs.Kept.{Forms, Shows, IsKept, shared_by}
 use Rattle.mz_store.specs.declared.item.Id.{Id}
 use Rattle.mz_store.specs.declared.node.Node.{Node}
 use Rattle.mz_store.specs.declared.expressions.Expressions.{Expressions}
-use Rattle.mz_store.proofs.Chained.{only-last, one-longer}
+use Rattle.mz_store.proofs.Chained.{only-last}
 
 pub entered-all-push : (s : Sharing) (ns : List Made) (n : Made) → entered_all s (ns ++ n ∷ []) ≡ entered (entered_all s ns) n
 entered-all-push s [] n = refl
@@ -88,7 +89,7 @@ pub kept-grown : (s : Sharing) (count count' : ℕ) (os os' : List Id) (nodes : 
     → IsKept (entered s m) count' os' (nodes ++ n ∷ [])
 kept-grown s count count' os os' nodes n m kept alike says counted small form fresh inside = record {
   inside = inside;
-  many = one-longer s.entries _ ∙ ap suc kept.many ∙ sym (one-longer nodes n);
+  many = length-push s.entries _ ∙ ap suc kept.many ∙ sym (length-push nodes n);
   count = counted;
   small = small;
   shown = shown;
@@ -133,7 +134,7 @@ kept-empty s os nodes no-entries no-context no-nodes = record {
   many = ap length no-entries ∙ sym (ap length no-nodes);
   count = sym (ap (λ (ctx : List Binder). length (bound_vars ctx)) no-context);
   small = omega arith;
-  inside = λ i b at. absurd (none_some (sym (ap (λ (ctx : List Binder). slice_get ctx i) no-context) ∙ at));
-  shown = λ i n at. absurd (none_some (sym (ap (λ (ns : List Node). slice_get ns i) no-nodes) ∙ at));
+  inside = λ i b at. absurd (none-some _ (sym (ap (λ (ctx : List Binder). slice_get ctx i) no-context) ∙ at));
+  shown = λ i n at. absurd (none-some _ (sym (ap (λ (ns : List Node). slice_get ns i) no-nodes) ∙ at));
   once = λ i j in_i in_j same. absurd (let e : length s.entries ≡ 0 = ap length no-entries in omega arith);
 }

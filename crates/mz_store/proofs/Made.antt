@@ -2,7 +2,8 @@
 use Rattle.std.proofs.Common.{ℕ, zero, suc, ◌≡◌, ◌≤◌, ◌+◌, ◌-◌, List, [], ◌∷◌, ◌++◌, length, map, take, drop, slice_get, Some, refl, ap, ◌∙◌, arith}
 use Rattle.std.specs.Prelude.{⊤}
 use Rattle.std.proofs.lemmas.List.{take-append-le, drop-append-le, length-drop, take_all}
-use Rattle.mz_logic.proofs.Offered.{one_at, none_some}
+use Rattle.std.proofs.lemmas.Option.{none-some}
+use Rattle.mz_logic.proofs.Offered.{one_at}
 use Rattle.mz_store.specs.Nodes.{Made, MadeOf, application, operands_at, form_of, made_of, all_made}
 use Rattle.mz_store.specs.declared.item.Id.{Id}
 use Rattle.mz_store.specs.declared.node.Node.{Node}
@@ -65,11 +66,11 @@ many-made os [] = refl
 many-made os (n ∷ ns) = ap suc (many-made os ns)
 
 pub made-at : (os : List Id) (nodes : List Node) (i : ℕ) (n : Node) → slice_get nodes i ≡ Some n → slice_get (all_made os nodes) i ≡ Some (made_of os n)
-made-at os [] i n at = absurd (none_some at)
+made-at os [] i n at = absurd (none-some _ at)
 made-at os (m ∷ ns) zero n at = ap (λ (k : Node). Some (made_of os k)) (one_at refl at)
 made-at os (m ∷ ns) (suc i) n at = made-at os ns i n at
 
 pub node-of : (os : List Id) (nodes : List Node) (i : ℕ) (m : Made) → slice_get (all_made os nodes) i ≡ Some m → (n : Node) × (slice_get nodes i ≡ Some n) × (made_of os n ≡ m)
-node-of os [] i m at = absurd (none_some at)
+node-of os [] i m at = absurd (none-some _ at)
 node-of os (n ∷ ns) zero m at = (n, refl, one_at refl at)
 node-of os (n ∷ ns) (suc i) m at = node-of os ns i m at

@@ -4,11 +4,12 @@ use Rattle.std.specs.Int.{bit_at}
 use Rattle.std.proofs.lemmas.Bool.Decides.{eqb_tells}
 use Rattle.std.proofs.lemmas.Nat.Bits.{bit_at-pow_same, bit_at-pow_other, and_pow, same_from_bits}
 use Rattle.std.proofs.lemmas.Nat.{pow_pos}
+use Rattle.std.proofs.lemmas.Option.{none-some}
 use Rattle.mz_logic.specs.Tree.{Tree, var}
 use Rattle.mz_logic.specs.Signature.{Signature}
 use Rattle.mz_logic.specs.Variables.{IsBoundAt}
 use Rattle.mz_logic.specs.declared.binder.Binder.{Binder}
-use Rattle.mz_logic.proofs.Offered.{one_at, none_some}
+use Rattle.mz_logic.proofs.Offered.{one_at}
 use Rattle.mz_store.specs.Bits.{Tells, bound_from, bound_vars}
 use Rattle.mz_store.specs.Sharing.{Shared, tree_of, deps_of, IsTold}
 use Rattle.mz_store.specs.Laws.{OldIdsKeepTrees, OldListsKeepTrees, WordsMeet}
@@ -26,7 +27,7 @@ old-lists-keep-trees s s' (last, is, _) js inside = (are-in-kept s s' (last, is)
 
 -- a bound variable's place is among those of bound variables
 pub bound-has : (i : ℕ) (bs : List Binder) (y : ℕ) (b : Binder) → slice_get bs y ≡ Some b → b.bound ≡ true → (k : ℕ) × (slice_get (bound_from i bs) k ≡ Some (i + y))
-bound-has i [] y b at bd = absurd (none_some at)
+bound-has i [] y b at bd = absurd (none-some _ at)
 bound-has i (c ∷ bs) zero b at bd = (0, here c.bound (ap (λ (d : Binder). d.bound) (one_at refl at) ∙ bd))
   where
     here : (v : Bool) → v ≡ true → slice_get (if v then i ∷ bound_from (suc i) bs else bound_from (suc i) bs) 0 ≡ Some (i + 0)

@@ -1,13 +1,14 @@
 -- Operands by their places, whoever keeps them.
 use Rattle.std.proofs.Common.{ℕ, zero, suc, ◌≡◌, ◌<◌, ◌≤◌, true, List, [], ◌∷◌, length, slice_get, Some, refl, ap, ◌∙◌, arith}
+use Rattle.std.proofs.lemmas.Option.{none-some}
 use Rattle.mz_logic.specs.Tree.{Trees, none, more, operand}
 use Rattle.mz_logic.specs.Signature.{Signature}
 use Rattle.mz_logic.specs.Sorts.{Fits, IsBoundVar}
 use Rattle.mz_logic.specs.Words.{binders_of}
 use Rattle.mz_logic.specs.declared.word.Word.{Word}
 use Rattle.mz_logic.specs.declared.binder.Binder.{Binder}
-use Rattle.mz_logic.proofs.Offered.{one_at, none_some}
-use Rattle.mz_store.proofs.Params.{many, binders-many}
+use Rattle.mz_logic.proofs.Offered.{one_at, length-binders}
+use Rattle.mz_store.proofs.Params.{many}
 
 -- those from the i-th on
 abbrev pub rest_of : ℕ → Trees → Trees
@@ -33,11 +34,11 @@ fits-many sigs ctx (more e es) [] fits = absurd fits
 fits-many sigs ctx (more e es) (p ∷ ps) fits = ap suc (fits-many sigs ctx es ps fits.2)
 
 pub args-many : (sigs : List Signature) (ctx : List Binder) (es : Trees) (ws : List Word) → Fits sigs ctx es (binders_of ws) → many es ≡ length ws
-args-many sigs ctx es ws fits = fits-many sigs ctx es (binders_of ws) fits ∙ binders-many 0 [] ws
+args-many sigs ctx es ws fits = fits-many sigs ctx es (binders_of ws) fits ∙ length-binders 0 [] ws
 
 pub bound-at : (sigs : List Signature) (ctx : List Binder) (es : Trees) (ps : List Binder) → Fits sigs ctx es ps
     → (i : ℕ) (p : Binder) → slice_get ps i ≡ Some p → p.bound ≡ true → IsBoundVar ctx (operand es i)
-bound-at sigs ctx none [] fits i p at bd = absurd (none_some at)
+bound-at sigs ctx none [] fits i p at bd = absurd (none-some _ at)
 bound-at sigs ctx none (q ∷ ps) fits i p at bd = absurd fits
 bound-at sigs ctx (more e es) [] fits i p at bd = absurd fits
 bound-at sigs ctx (more e es) (q ∷ ps) fits zero p at bd = fits.1 (ap (λ (b : Binder). b.bound) (one_at refl at) ∙ bd)

@@ -1,19 +1,13 @@
 -- The words of parameters, one after another, and the context that they make.
-use Rattle.std.proofs.Common.{ℕ, zero, suc, ◌≡◌, ◌<◌, ◌≤◌, ◌+◌, ◌^◌, Bool, true, false, MatchBool, List, [], ◌∷◌, ◌++◌, length, drop, get_or, refl, ap, sym, ◌∙◌, subst, arith, append-nil, append_assoc, add-one, drop-cons, if◌then◌else◌}
+use Rattle.std.proofs.Common.{ℕ, suc, ◌≡◌, ◌<◌, ◌≤◌, ◌+◌, ◌^◌, Bool, true, false, MatchBool, List, [], ◌∷◌, ◌++◌, length, drop, get_or, refl, ap, sym, ◌∙◌, subst, arith, append-nil, append_assoc, add-one, drop-cons, if◌then◌else◌}
 use Rattle.std.proofs.lemmas.List.{length-append}
+use Rattle.mz_general.proofs.Offered.{length-push}
 use Rattle.mz_logic.specs.Words.{word_sort, word_deps, word_bound, binders_from, BitsRightAfter}
 use Rattle.mz_logic.specs.declared.word.Word.{Word}
 use Rattle.mz_logic.specs.declared.binder.Binder.{Binder}
 use Rattle.mz_store.specs.Bits.{bound_vars}
 use Rattle.mz_store.specs.Nodes.{binder_after, IsVariableWord}
-use Rattle.mz_store.proofs.Chained.{one-longer}
 use Rattle.mz_store.proofs.Places.{bound-push}
-
-pub drop-all : {A : Type 0} (xs : List A) (n : ℕ) → length xs ≤ n → drop n xs ≡ []
-drop-all [] zero h = refl
-drop-all [] (suc n) h = refl
-drop-all (x ∷ xs) zero h = absurd (omega (arith, h))
-drop-all (x ∷ xs) (suc n) h = drop-all xs n (omega (arith, h))
 
 pub next-word : (ws : List Word) (i : ℕ) → i < length ws → drop i ws ≡ get_or ws i (record { 0 = 0 }) ∷ drop (i + 1) ws
 next-word ws i less = rw (add-one, drop-cons ws i (record { 0 = 0 }) less)
@@ -69,7 +63,7 @@ pub context-after : (ctx : List Binder) (ws : List Word) → context_after ctx w
 context-after ctx [] = sym (append-nil ctx)
 context-after ctx (w ∷ ws) =
     context-after (ctx ++ b ∷ []) ws
-    ∙ ap (λ n. (ctx ++ b ∷ []) ++ binders_from n (bound_vars (ctx ++ b ∷ [])) ws) (one-longer ctx b)
+    ∙ ap (λ n. (ctx ++ b ∷ []) ++ binders_from n (bound_vars (ctx ++ b ∷ [])) ws) (length-push ctx b)
     ∙ ap (λ ps. (ctx ++ b ∷ []) ++ binders_from (suc (length ctx)) ps ws) (bound-push ctx b ∙ branch (word_bound w))
     ∙ append_assoc ctx (b ∷ []) (binders_from (suc (length ctx)) (if word_bound w then bound_vars ctx ++ length ctx ∷ [] else bound_vars ctx) ws)
   where

@@ -2,6 +2,8 @@
 use Rattle.std.proofs.Common.{ℕ, zero, suc, ◌≡◌, ◌<◌, ◌≤◌, ◌⊎◌, Bool, true, false, List, [], ◌∷◌, ◌++◌, length, take, drop, get_or, slice_get, Some, refl, ap, sym, ◌∙◌, subst, inl, inr, arith, append-nil, append_assoc, if◌then◌else◌}
 use Rattle.std.specs.Int.{bit_at}
 use Rattle.std.proofs.lemmas.Nat.Bits.{bit_at-zero}
+use Rattle.std.proofs.lemmas.Option.{none-some}
+use Rattle.mz_general.proofs.Offered.{contains_none, contains_tail, contains_head, contains_cases}
 use Rattle.mz_logic.specs.Tree.{Tree, Trees, var, none, more, operand}
 use Rattle.mz_logic.specs.Signature.{Signature}
 use Rattle.mz_logic.specs.Sorts.{IsBoundVar}
@@ -9,13 +11,13 @@ use Rattle.mz_logic.specs.Variables.{IsBoundAt, IsOperandAt}
 use Rattle.mz_logic.specs.Words.{word_bound, bound_places, places_set, binder_of, binders_from, binders_of}
 use Rattle.mz_logic.specs.declared.word.Word.{Word}
 use Rattle.mz_logic.specs.declared.binder.Binder.{Binder}
-use Rattle.mz_logic.proofs.Offered.{one_at, none_some, contains_cases, contains_head, contains_tail}
+use Rattle.mz_logic.proofs.Offered.{one_at}
 use Rattle.mz_store.specs.Bits.{Tells}
 use Rattle.mz_store.specs.Sharing.{Sharing, tree_of, trees_of, IsIn, AreIn, IsTold}
 use Rattle.mz_store.specs.declared.item.DepsMode.{DepsMode}
 use Rattle.mz_store.specs.declared.item.DepsMode.TheVariants as of
 use Rattle.mz_store.specs.declared.item.Id.{Id}
-use Rattle.mz_store.proofs.Places.{none-in, set-from}
+use Rattle.mz_store.proofs.Places.{set-from}
 use Rattle.mz_store.proofs.Gathering.{tells-same}
 
 -- ---- operands
@@ -31,12 +33,6 @@ pub next-id : (is : List Id) (i : ℕ) → i < length is → drop i is ≡ get_o
 next-id [] i less = absurd (omega arith)
 next-id (j ∷ is) zero less = refl
 next-id (j ∷ is) (suc i) less = next-id is i (omega arith)
-
-pub drop-past : {A : Type 0} (xs : List A) (j : ℕ) → length xs ≤ j → drop j xs ≡ []
-drop-past [] zero h = refl
-drop-past [] (suc j) h = refl
-drop-past (x ∷ xs) zero h = absurd (omega arith)
-drop-past (x ∷ xs) (suc j) h = drop-past xs j (omega arith)
 
 pub in-at : (s : Sharing) (is : List Id) (i : ℕ) → AreIn s is → i < length is → IsIn s (get_or is i nothing).0
 in-at s [] i inside less = absurd (omega arith)
@@ -54,14 +50,10 @@ many-operands s (i ∷ is) = ap suc (many-operands s is)
 
 -- ---- words and binders
 
-pub binders-many : (j : ℕ) (places : List ℕ) (ws : List Word) → length (binders_from j places ws) ≡ length ws
-binders-many j places [] = refl
-binders-many j places (w ∷ ws) = ap suc (binders-many (suc j) (if word_bound w then places ++ j ∷ [] else places) ws)
-
 -- the binder of the i-th word: its bits are those of the bound words before it
 next-binder-from : (j : ℕ) (places : List ℕ) (ws : List Word) (i : ℕ) (w : Word) → slice_get ws i ≡ Some w
     → drop i (binders_from j places ws) ≡ binder_of (places ++ bound_places j (take i ws)) w ∷ drop (suc i) (binders_from j places ws)
-next-binder-from j places [] i w at = absurd (none_some at)
+next-binder-from j places [] i w at = absurd (none-some _ at)
 next-binder-from j places (v ∷ ws) zero w at =
     ap (λ x. binder_of places x ∷ binders_from (suc j) (if word_bound v then places ++ j ∷ [] else places) ws) (one_at refl at)
     ∙ ap (λ ps. binder_of ps w ∷ binders_from (suc j) (if word_bound v then places ++ j ∷ [] else places) ws) (sym (append-nil places))
@@ -89,7 +81,7 @@ pub binder-at : (ws : List Word) (i : ℕ) (w : Word) → slice_get ws i ≡ Som
 binder-at ws i w at = at-drop (binders_of ws) i (binder_of (bound_places 0 (take i ws)) w) (drop (suc i) (binders_of ws)) (next-binder ws i w at)
 
 pub next-taken : (ws : List Word) (end i : ℕ) (w : Word) → slice_get ws i ≡ Some w → i < end → drop i (take end ws) ≡ w ∷ drop (suc i) (take end ws)
-next-taken [] end i w at less = absurd (none_some at)
+next-taken [] end i w at less = absurd (none-some _ at)
 next-taken (v ∷ ws) zero i w at less = absurd (omega arith)
 next-taken (v ∷ ws) (suc end) zero w at less = ap (λ x. x ∷ take end ws) (one_at refl at)
 next-taken (v ∷ ws) (suc end) (suc i) w at less = next-taken ws end i w at (omega arith)
@@ -113,7 +105,7 @@ taken-all (v ∷ ws) (suc end) h = ap (λ xs. v ∷ xs) (taken-all ws end (omega
 -- ---- operands at places
 
 pub operand-none : (params : List Binder) (es : Trees) (x : ℕ) → IsOperandAt params es [] x → ⊥
-operand-none params es x (j, has, _, _) = none-in j has
+operand-none params es x (j, has, _, _) = contains_none j has
 
 pub operand-zero : (params : List Binder) (es : Trees) (ps : List ℕ) (x : ℕ) → IsOperandAt params es (places_set 0 ps) x → ⊥
 operand-zero params es ps x (j, has, _, _) = (let (k, _, bit) = set-from 0 ps j has in absurd (let e : bit_at 0 k ≡ 0 = bit_at-zero k in omega arith))

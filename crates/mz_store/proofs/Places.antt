@@ -1,15 +1,14 @@
 -- The places of bound variables, and those of them whose bits are set.
-use Rattle.std.proofs.Common.{ℕ, zero, suc, ◌≡◌, ◌<◌, ◌≤◌, ◌+◌, ◌%◌, ◌/◌, ◌==◌, ◌⊎◌, Bool, true, false, List, [], ◌∷◌, ◌++◌, length, slice_get, Contains, Some, refl, ap, sym, ◌∙◌, subst, inl, inr, arith, eq-eqb, not-suc-le-zero, if◌then◌else◌}
+use Rattle.std.proofs.Common.{ℕ, zero, suc, ◌≡◌, ◌<◌, ◌≤◌, ◌+◌, ◌%◌, ◌/◌, ◌==◌, Bool, true, false, List, [], ◌∷◌, ◌++◌, length, slice_get, Contains, Some, refl, ap, ◌∙◌, inl, inr, arith, if◌then◌else◌}
 use Rattle.std.specs.Int.{bit_at}
 use Rattle.std.proofs.lemmas.Bool.{eqb-true}
 use Rattle.std.proofs.lemmas.Nat.Bits.{bit_at-suc, bit_at_lowest}
+use Rattle.std.proofs.lemmas.Option.{none-some}
+use Rattle.mz_general.proofs.Offered.{contains_none}
 use Rattle.mz_logic.specs.Words.{places_set}
 use Rattle.mz_logic.specs.declared.binder.Binder.{Binder}
-use Rattle.mz_logic.proofs.Offered.{one_at, none_some, contains_cases, contains_head, contains_tail}
+use Rattle.mz_logic.proofs.Offered.{one_at, set_cases}
 use Rattle.mz_store.specs.Bits.{bound_from, bound_vars}
-
-pub none-in : (x : ℕ) → Contains [] x → ⊥
-none-in x (k, below, _) = not-suc-le-zero below
 
 -- ---- bound variables
 
@@ -29,7 +28,7 @@ bound-push ctx b = bound-from-push 0 ctx b ∙ ap (λ j. bound_vars ctx ++ (if b
 
 -- the places lie among those of the variables
 pub bound-within : (i : ℕ) (bs : List Binder) (k x : ℕ) → slice_get (bound_from i bs) k ≡ Some x → (i ≤ x) × (x < i + length bs)
-bound-within i [] k x at = absurd (none_some at)
+bound-within i [] k x at = absurd (none-some _ at)
 bound-within i (b ∷ bs) k x at = go (λ j. bound-within (suc i) bs j x) b.bound k at
   where
     wider : (suc i ≤ x) × (x < suc i + length bs) → (i ≤ x) × (x < i + suc (length bs))
@@ -43,7 +42,7 @@ bound-within i (b ∷ bs) k x at = go (λ j. bound-within (suc i) bs j x) b.boun
 
 -- no place stands twice
 pub bound-once : (i : ℕ) (bs : List Binder) (j k x : ℕ) → slice_get (bound_from i bs) j ≡ Some x → slice_get (bound_from i bs) k ≡ Some x → j ≡ k
-bound-once i [] j k x at at' = absurd (none_some at)
+bound-once i [] j k x at at' = absurd (none-some _ at)
 bound-once i (b ∷ bs) j k x at at' = go (λ m n. bound-once (suc i) bs m n x) b.bound j k at at'
   where
     out : (m : ℕ) → i ≡ x → slice_get (bound_from (suc i) bs) m ≡ Some x → ⊥
@@ -60,29 +59,9 @@ bound-once i (b ∷ bs) j k x at at' = go (λ m n. bound-once (suc i) bs m n x) 
 
 -- ---- places whose bits are set
 
-set-cases : (v : Bool) (p : ℕ) (rs : List ℕ) (x : ℕ) → Contains (if v then p ∷ rs else rs) x → ((v ≡ true) × (p ≡ x)) ⊎ Contains rs x
-set-cases true p rs x h = elim (contains_cases p x rs h) [ inl is ↦ inl (refl, is) | inr rest ↦ inr rest ]
-set-cases false p rs x h = inr h
-
-set-tail : (v : Bool) (p : ℕ) (rs : List ℕ) (x : ℕ) → Contains rs x → Contains (if v then p ∷ rs else rs) x
-set-tail true p rs x h = contains_tail p x rs h
-set-tail false p rs x h = h
-
-set-head : (v : Bool) (p : ℕ) (rs : List ℕ) → v ≡ true → Contains (if v then p ∷ rs else rs) p
-set-head true p rs is = contains_head p rs
-set-head false p rs is = absurd cc
-
-pub set-to : (bits : ℕ) (ps : List ℕ) (k p : ℕ) → slice_get ps k ≡ Some p → bit_at bits k ≡ 1 → Contains (places_set bits ps) p
-set-to bits [] k p at bit = absurd (none_some at)
-set-to bits (q ∷ ps) zero p at bit =
-    subst (Contains (places_set bits (q ∷ ps))) (one_at refl at)
-    (set-head (bits % 2 == 1) q (places_set (bits / 2) ps) (eq-eqb (bits % 2) 1 (sym (bit_at_lowest bits) ∙ bit)))
-set-to bits (q ∷ ps) (suc k) p at bit =
-    set-tail (bits % 2 == 1) q (places_set (bits / 2) ps) p (set-to (bits / 2) ps k p at (sym (bit_at-suc bits k) ∙ bit))
-
 pub set-from : (bits : ℕ) (ps : List ℕ) (p : ℕ) → Contains (places_set bits ps) p → (k : ℕ) × (slice_get ps k ≡ Some p) × (bit_at bits k ≡ 1)
-set-from bits [] p h = absurd (none-in p h)
-set-from bits (q ∷ ps) p h = elim (set-cases (bits % 2 == 1) q (places_set (bits / 2) ps) p h) [
+set-from bits [] p h = absurd (contains_none p h)
+set-from bits (q ∷ ps) p h = elim (set_cases (bits % 2 == 1) q (places_set (bits / 2) ps) p h) [
   | inl here ↦ (0, ap Some here.1, bit_at_lowest bits ∙ eqb-true (bits % 2) 1 here.0)
   | inr rest ↦ (let (k, at, bit) = set-from (bits / 2) ps p rest in (suc k, at, bit_at-suc bits k ∙ bit))
 ]

@@ -1,13 +1,15 @@
 -- Operands that are tested one by one fit a term's parameters.
 use Rattle.std.proofs.Common.{ℕ, suc, ◌≡◌, ◌<◌, ◌≤◌, true, List, [], ◌∷◌, length, take, drop, get_or, slice_get, Some, Result, Ok, Err, OnOk, OnErr, ap, sym, subst, arith}
+use Rattle.mz_general.proofs.Offered.{drop-past}
 use Rattle.mz_logic.specs.Signature.{Signature}
 use Rattle.mz_logic.specs.Sorts.{HasSort, Fits, IsBoundVar}
 use Rattle.mz_logic.specs.Words.{word_bound, word_sort, bound_places, binder_of, binders_of}
 use Rattle.mz_logic.specs.declared.word.Word.{Word}
 use Rattle.mz_logic.specs.declared.binder.Binder.{Binder}
+use Rattle.mz_logic.proofs.Offered.{length-binders}
 use Rattle.mz_store.specs.Sharing.{Sharing, tree_of, trees_of, IsIn, AreIn, IsOver, IsEmpty}
 use Rattle.mz_store.specs.declared.item.Id.{Id}
-use Rattle.mz_store.proofs.Params.{nothing, next-id, drop-past, next-binder, binders-many}
+use Rattle.mz_store.proofs.Params.{nothing, next-id, next-binder}
 
 pub in-next : (s : Sharing) (is : List Id) (i j : ℕ) → i < length is → j ≡ suc i → (AreIn s (drop i is) → AreIn s is) → IsIn s (get_or is i nothing).0 → AreIn s (drop j is) → AreIn s is
 in-next s is i j less next whole here rest =
@@ -29,7 +31,7 @@ pub fit-all : (sigs : List Signature) (ctx : List Binder) (s : Sharing) (is : Li
     → (Fits sigs ctx (trees_of s (drop i is)) (drop i (binders_of ws)) → Fits sigs ctx (trees_of s is) (binders_of ws)) → Fits sigs ctx (trees_of s is) (binders_of ws)
 fit-all sigs ctx s is ws i past many whole =
     whole (subst (λ (js : List Id). Fits sigs ctx (trees_of s js) (drop i (binders_of ws))) (sym (drop-past is i past))
-    (subst (Fits sigs ctx (trees_of s [])) (sym (drop-past (binders_of ws) i (let e : length (binders_of ws) ≡ length ws = binders-many 0 [] ws in omega arith))) tt))
+    (subst (Fits sigs ctx (trees_of s [])) (sym (drop-past (binders_of ws) i (let e : length (binders_of ws) ≡ length ws = length-binders 0 [] ws in omega arith))) tt))
 
 -- a store is right after `begin`, whatever it answers
 pub over-begun : {A E : Type 0} (s : Sharing) (r : Result A E) → OnOk r ((sigs : List Signature) → IsOver sigs s) → OnErr r (IsEmpty s) → (sigs : List Signature) → IsOver sigs s

@@ -1,8 +1,9 @@
 -- The streams that are written for statements: what they spell and what they build.
 use Rattle.std.proofs.Common.{◌≡◌, ℕ, ◌+◌, ◌<◌, List, [], ◌∷◌, ◌++◌, length, map, refl, sym, ap, subst, ◌∙◌, inl, inr, arith, append_assoc, append-nil, length-append, get_or}
 use Rattle.std.specs.Prelude.{Contains, reverse}
-use Rattle.std.proofs.lemmas.List.{map-append, reverse-append}
+use Rattle.std.proofs.lemmas.List.{map-append}
 use Rattle.std.proofs.lemmas.Option.{get_or_from_slice_get}
+use Rattle.mz_general.proofs.Offered.{slice_get-map_back}
 use Rattle.mz_logic.specs.Tree.{Tree, Trees, var, app, none, more, listed}
 use Rattle.mz_logic.specs.Signature.{Signature}
 use Rattle.mz_logic.specs.Variables.{Occurs, OccursIn}
@@ -10,7 +11,7 @@ use Rattle.mz_logic.specs.declared.binder.Binder.{Binder}
 use Rattle.mz_unification.specs.Streams.{StreamKind, of_assertion, of_definition, UnifyCommand}
 use Rattle.mz_unification.specs.Spells.{Marks, at_first, Text}
 use Rattle.mz_unification.specs.Sorted.{Sorted, AllSorted}
-use Rattle.mz_unification.proofs.Offered.{all-sorted-append}
+use Rattle.mz_unification.proofs.Offered.{sorted-reverse}
 use Rattle.mz_steps.specs.Works.{renamed, all_renamed, name_in, from_to, place_of}
 use Rattle.mz_steps.proofs.Offered.{place-at}
 use Rattle.mz_streams.specs.Writing.{Writing, Written, writing_start, write, write_hyps, assertion_written, definition_written, body_spelled, dummies_spelled, spelled_dummies, stream_of, AreShort}
@@ -20,7 +21,7 @@ use Rattle.mz_streams.proofs.Forgetting.{building-spells}
 use Rattle.mz_streams.proofs.Marking.{place-front, place-below, place-among}
 use Rattle.mz_streams.proofs.Growing.{Making, AllStandIn, stand-append, IsFull, Right, Good, good-none, good-join, Known, known-join}
 use Rattle.mz_streams.proofs.Writes.{marks, spelled, all_spelled, wrote}
-use Rattle.mz_streams.proofs.Own.{own-long, writing-right, sorted-own, own-name, own-kept, renamed-self, occurs-back, occurs-named, map-back}
+use Rattle.mz_streams.proofs.Own.{own-long, writing-right, sorted-own, own-name, own-kept, renamed-self, occurs-back, occurs-named}
 use Rattle.mz_streams.proofs.StreamBytes.{stream-is}
 
 -- ---- hypotheses, over parameters alone
@@ -121,12 +122,12 @@ module _ (sigs : List Signature) (params ctx : List Binder) (w w' : Writing) (bs
   pub whole-once : BuildsWholeOnce (length params) (all_spelled sigs ctx (from_to 0 params) in-the-end bs)
   whole-once = record {
     saves_whole = λ i c at saved.
-        (let (b, b-at, is) = map-back spell bs i c at in
+        (let (b, b-at, is) = slice_get-map_back spell bs i c at in
         let (_, (others, prefix)) = known i b b-at in
         subst (IsWhole (length params)) is (full-whole b others prefix (good.saves i b b-at (ap (λ (z : Built). z.saved) is ∙ saved))));
     once = λ i j c d at at' same whole whole'.
-        (let (b, b-at, is) = map-back spell bs i c at in
-        let (b', b'-at, is') = map-back spell bs j d at' in
+        (let (b, b-at, is) = slice_get-map_back spell bs i c at in
+        let (b', b'-at, is') = slice_get-map_back spell bs j d at' in
         let (vars, (others, prefix)) = known i b b-at in
         let (vars', (others', prefix')) = known j b' b'-at in
         let terms : renamed (name_in met) b.term ≡ renamed (name_in met) b'.term = ap (λ (z : Built). z.term) is ∙ same ∙ sym (ap (λ (z : Built). z.term) is') in
@@ -135,10 +136,6 @@ module _ (sigs : List Signature) (params ctx : List Binder) (w w' : Writing) (bs
   }
 
 -- ---- the statements' streams
-
-pub sorted-turned : (sigs : List Signature) (ctx : List Binder) (es : List Tree) → AllSorted sigs ctx es → AllSorted sigs ctx (reverse es)
-sorted-turned sigs ctx [] h = h
-sorted-turned sigs ctx (e ∷ es) (h, hs) = subst (AllSorted sigs ctx) (sym (reverse-append (e ∷ []) es)) (all-sorted-append sigs ctx (reverse es) e (sorted-turned sigs ctx es hs) h)
 
 hyps-self : (sigs : List Signature) (params : List Binder) (last : List ℕ) (hs : List Tree) → AllSorted sigs params hs → map (renamed (name_in (from_to 0 params ++ last))) hs ≡ hs
 hyps-self sigs params last [] h = refl
@@ -168,7 +165,7 @@ assertion-well sigs params hyps e further hyps-sorted (s, has) short =
     let own : List ℕ = from_to 0 params in
     let w0 : Writing = writing_start params in
     let hs : List Tree = reverse (listed hyps) in
-    let hs-sorted : AllSorted sigs params hs = sorted-turned sigs params (listed hyps) hyps-sorted in
+    let hs-sorted : AllSorted sigs params hs = sorted-reverse sigs params (listed hyps) hyps-sorted in
     let a : Written = write own params w0 e in
     let b : Written = write_hyps own params a.after hs in
     let first = wrote sigs params own w0 (writing-right params params) e s has in

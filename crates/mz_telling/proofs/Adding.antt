@@ -5,12 +5,10 @@ use Rattle.mz_phrasing.specs.Phrases.{Phrase, Phrases, a_word, a_list, no_phrase
 use Rattle.mz_phrasing.specs.Phrasing.{of_parts, list_of, followed_by}
 use Rattle.mz_stating.specs.ByNumber.{phrase_at, phrases_at, Grows}
 use Rattle.mz_unspell.specs.Rows.{IsPhrase}
+use Rattle.mz_retelling.proofs.Offered.{grows-on}
 use Rattle.mz_telling.specs.Adding.{ArePhrases, Adds, AreAdded}
 
 -- ---- what was there stays
-
-pub grows-then : (a b c : List Phrase) → Grows a b → Grows b c → Grows a c
-grows-then a b c (x, e) (y, f) = (x ++ y, f ∙ ap (λ zs. zs ++ y) e ∙ append_assoc a x y)
 
 stays : (ps more : List Phrase) (n : ℕ) (q : Phrase) → IsPhrase ps n q → IsPhrase (ps ++ more) n q
 stays ps more n q (low, is) = (omega (arith, low, length-append ps more), get_or_append_left ps more (a_word []) n low ∙ is)
@@ -43,7 +41,7 @@ adds-there ps ns ms n q is numbers = record { grows = ([], sym (append-nil ps));
 
 pub adds-then : (a b c : List Phrase) (l m n : List ℕ) (qs rs : List Phrase) → Adds a b l m qs → Adds b c m n rs → Adds a c l n (qs ++ rs)
 adds-then a b c l m n qs rs first second = record {
-  grows = grows-then a b c first.grows second.grows;
+  grows = grows-on a b c first.grows second.grows;
   fresh = first.fresh ++ second.fresh;
   numbers = second.numbers ∙ ap (λ x. x ++ second.fresh) first.numbers ∙ append_assoc l first.fresh second.fresh;
   phrases = phrases-append c first.fresh second.fresh qs rs (phrases-grow b c first.fresh qs second.grows first.phrases) second.phrases;
@@ -76,7 +74,7 @@ pub closed : (a b c : List Phrase) (xs ns l m : List ℕ) (qs : List Phrase) →
 closed a b c xs ns l m qs same adds last =
     let is : a_list (phrases_at b xs) ≡ list_of qs = ap (λ ys. a_list (phrases_at b ys)) same ∙ ap a_list (listed b ns qs (all-of a b ns qs adds)) in
     let list = subst (λ x. Adds b c l m (x ∷ [])) is last in record {
-      grows = grows-then a b c adds.grows list.grows;
+      grows = grows-on a b c adds.grows list.grows;
       fresh = list.fresh;
       numbers = list.numbers;
       phrases = list.phrases;
@@ -132,9 +130,6 @@ low-grows a b n (more, e) low = subst (λ xs. n < length xs) (sym e) (omega (ari
 
 pub one-there : (a b : List Phrase) (ns : List ℕ) (i : ℕ) → All (λ n. n < length a) ns → Grows a b → i < length ns → get_or ns i 0 < length b
 one-there a b ns i all grows within = low-grows a b (get_or ns i 0) grows (all i 0 within)
-
-pub same-phrase : (a b : List Phrase) (n : ℕ) → Grows a b → n < length a → phrase_at b n ≡ phrase_at a n
-same-phrase a b n grows low = (phrase-grows a b n (phrase_at a n) grows (low, refl)).1
 
 -- the list of what was added to nothing is the next phrase
 pub told-phrase : (a b new : List Phrase) (xs ns : List ℕ) (n : ℕ) (qs : List Phrase) → xs ≡ ns → Adds a b [] ns qs → n ≡ length b → new ≡ b ++ a_list (phrases_at b xs) ∷ []

@@ -1,8 +1,9 @@
 -- What words say, one after another.
-use Rattle.std.proofs.Common.{◌≡◌, ◌∙◌, ◌<◌, ◌≤◌, ◌+◌, ◌++◌, ℕ, suc, Bool, true, false, List, [], ◌∷◌, length, drop, get_or, Some, refl, sym, ap, arith, drop-cons}
+use Rattle.std.proofs.Common.{◌≡◌, ◌∙◌, ◌<◌, ◌≤◌, ◌+◌, ◌++◌, ℕ, suc, Bool, true, false, List, [], ◌∷◌, length, drop, get_or, refl, sym, ap, arith}
 use Rattle.std.proofs.lemmas.List.{get_or_default}
 use Rattle.std.specs.Prelude.{◌==◌, ◌/◌, ◌%◌, codes, if◌then◌else◌, map}
 use Rattle.std.proofs.lemmas.List.{drop_all, map-append}
+use Rattle.mz_general.proofs.Offered.{drop-item}
 use Rattle.mz_logic.specs.declared.word.Word.{Word}
 use Rattle.mz_logic.specs.Words.{word_bound, word_deps, word_sort, places_set, binder_of, binders_from}
 use Rattle.mz_unification.specs.Spells.{dummy_of}
@@ -11,15 +12,9 @@ use Rattle.mz_phrasing.specs.Phrasing.{Vocabulary, list_of, followed_by, word_li
 use Rattle.mz_stating.specs.ByNumber.{phrase_at, phrases_at}
 use Rattle.mz_telling.specs.Hypotheses.{named}
 
--- the element at hand, and what is left behind it
-pub left-at : {X : Type 0} → (xs : List X) (i : ℕ) (x : X) → i < length xs → x ≡ get_or xs i x → drop i xs ≡ x ∷ drop (i + 1) xs
-left-at xs i x within is =
-    let on : suc i ≡ i + 1 = omega arith in
-    drop-cons xs i x within ∙ ap (λ y. y ∷ drop (suc i) xs) (sym is) ∙ ap (λ n. x ∷ drop n xs) on
-
 -- the number at hand
 here-at : (xs : List ℕ) (i : ℕ) → i < length xs → drop i xs ≡ get_or xs i 0 ∷ drop (i + 1) xs
-here-at xs i within = left-at xs i (get_or xs i 0) within (get_or_default xs i 0 (get_or xs i 0) within)
+here-at xs i within = drop-item xs i (get_or xs i 0) within (get_or_default xs i 0 (get_or xs i 0) within)
 
 module _ (v : Vocabulary) where
   -- ---- dependencies
@@ -64,7 +59,7 @@ module _ (v : Vocabulary) where
       → params-from i places ws ≡ followed_by (binder v i (binder_of places w) ∷ []) (params-from (i + 1) later ws)
   params-step i places later ws w within is are =
       let on : suc i ≡ i + 1 = omega arith in
-      ap (λ xs. binders v i (binders_from i places xs)) (left-at ws i w within is)
+      ap (λ xs. binders v i (binders_from i places xs)) (drop-item ws i w within is)
       ∙ ap (λ n. one_more (binder v i (binder_of places w)) (binders v n (binders_from n (places_after (word_bound w) places i) (drop (i + 1) ws)))) on
       ∙ ap (λ ps. one_more (binder v i (binder_of places w)) (binders v (i + 1) (binders_from (i + 1) ps (drop (i + 1) ws)))) (sym are)
 
@@ -119,9 +114,6 @@ four-words b c d e w x y z =
     ∙ ap (λ t. word-if b w ++ t ++ map a_word r ++ map a_word s) (words-if c x)
     ∙ ap (λ t. word-if b w ++ word-if c x ++ t ++ map a_word s) (words-if d y)
     ∙ ap (λ t. word-if b w ++ word-if c x ++ word-if d y ++ t) (words-if e z)
-
-pub same-some : {A : Type 0} → (x y : A) → Some x ≡ Some y → x ≡ y
-same-some x y e = cc
 
 -- ---- marks
 

@@ -7,10 +7,10 @@ use Rattle.mz_logic.specs.Signature.{Signature}
 use Rattle.mz_logic.specs.Declaration.{Form, plain_form, abstract_form, defined, Term, Assertion, Declaration, dummies_of, body_of}
 use Rattle.mz_logic.specs.declared.binder.Binder.{Binder}
 use Rattle.mz_logic.specs.Words.{binders_of, result_of}
+use Rattle.mz_logic.proofs.Offered.{length-binders}
 use Rattle.mz_layout.specs.Tables.{term_row, thm_row}
 use Rattle.mz_unification.specs.Spells.{SpellsTerm, SpellsThm, SpellsForm, dummy_of}
 use Rattle.mz_soundness.specs.FileRows.{term_of_file, thm_of_file}
-use Rattle.mz_verdicts.proofs.Offered.{length-binders}
 use Rattle.mz_forms.specs.Proof.{Proof}
 use Rattle.mz_type.specs.Weight.{proof_weight, stated_weight}
 use Rattle.mz_phrasing.specs.Phrases.{Phrase, Phrases, a_word, a_list, one_more}

@@ -1,4 +1,3 @@
-pub mod Lists
 pub mod Placing
 pub mod Cutting
 pub mod Strings

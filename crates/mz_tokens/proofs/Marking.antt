@@ -2,13 +2,11 @@
 use Rattle.std.proofs.Common.{◌≡◌, ◌<◌, ◌⊎◌, ◌∙◌, ◌↔◌, ℕ, zero, suc, List, [], ◌∷◌, length, Bool, true, false, get_or, slice_set, ◌++◌, Contains, ap, sym, subst, refl, inl, inr, arith}
 use Rattle.std.specs.Prelude.{IsTrue}
 use Rattle.std.proofs.Math.ListN.{replicate}
-use Rattle.mz_tokens.proofs.Lists.{contains_first}
 use Rattle.std.proofs.lemmas.Bool.{false≢true, cases_order}
 use Rattle.std.proofs.lemmas.List.{get_or-set_same, get_or-set_other}
+use Rattle.std.proofs.lemmas.List.Elements.{Contains-append_left}
+use Rattle.mz_general.proofs.Offered.{contains_none}
 use Rattle.mz_tokens.specs.Sets.{Tells}
-
-no-member : {A : Type 0} {x : A} → Contains [] x → ⊥
-no-member (k, below, is) = absurd (omega (arith, below))
 
 pub unmarked : (n c : ℕ) → get_or (replicate n false) c false ≡ false
 unmarked zero c = refl
@@ -16,7 +14,7 @@ unmarked (suc n) zero = refl
 unmarked (suc n) (suc c) = unmarked n c
 
 pub none-tells : (n : ℕ) → Tells (replicate n false) []
-none-tells n c = (λ t. absurd (false≢true (sym (unmarked n c) ∙ t)), λ has. absurd (no-member has))
+none-tells n c = (λ t. absurd (false≢true (sym (unmarked n c) ∙ t)), λ has. absurd (contains_none _ has))
 
 -- one byte of those that are left is marked
 pub mark-one : (t : List Bool) (b : ℕ) (rest : List ℕ) → b < length t → (c : ℕ) → (IsTrue (get_or (slice_set t b true) c false) ⊎ Contains rest c) ↔ (IsTrue (get_or t c false) ⊎ Contains (b ∷ rest) c)
@@ -65,7 +63,7 @@ Adds t u ys = (c : ℕ) → IsTrue (get_or u c false) ↔ (IsTrue (get_or t c fa
 
 pub tells-more : (t u : List Bool) (xs ys zs : List ℕ) → Tells t xs → Adds t u ys → zs ≡ xs ++ ys → Tells u zs
 tells-more t u xs ys zs told adds is = subst (Tells u) (sym is) (λ c. (
-  λ marked. elim ((adds c).0 marked) [ inl old ↦ contains_first xs ys c ((told c).0 old) | inr new_ ↦ contains_second xs ys c new_ ],
+  λ marked. elim ((adds c).0 marked) [ inl old ↦ Contains-append_left xs ys c ((told c).0 old) | inr new_ ↦ contains_second xs ys c new_ ],
   λ has. elim (contains_parts xs ys c has) [ inl old ↦ (adds c).1 (inl ((told c).1 old)) | inr new_ ↦ (adds c).1 (inr new_) ],
 ))
 

@@ -9,8 +9,8 @@ use Rattle.std.specs.BTreeMap.{BTreeMap, is_at}
 use Rattle.std.specs.Map.{lookup, KeepsOthers, IsKeyTest, AreApart}
 use Rattle.std.proofs.lemmas.Bool.{cases_Bool, cond-true, cond-false}
 use Rattle.std.proofs.lemmas.Map.Text.{is_eq-slice_cmp}
+use Rattle.mz_general.proofs.Offered.{slice_get-push_cases, contains_at}
 use Rattle.mz_tokens.specs.Places.{place_of, LeadsTo}
-use Rattle.mz_tokens.proofs.Lists.{contains_at, place_either}
 
 -- ---- the tree
 
@@ -49,13 +49,13 @@ module _ {X : Type 0} (HasWord : X → List ℕ → Type 0) (ps qs : List (List 
     where
       other : bytes_eq bs w ≡ false
       other = elim (cases_Bool (bytes_eq bs w)) [
-        | inl same ↦ absurd (new x (contains_at xs x i at) (subst (HasWord x) (sym ((bytes_decides bs w).0 same)) has))
+        | inl same ↦ absurd (new x (contains_at xs i x at) (subst (HasWord x) (sym ((bytes_decides bs w).0 same)) has))
         | inr differs ↦ differs
       ]
 
   pub leads-more : (y : X) → ((w : List ℕ) → HasWord y w → bs ≡ w) → LeadsTo HasWord ps xs → ((x : X) → Contains xs x → HasWord x bs → ⊥)
       → ((w : List ℕ) → place_of qs w ≡ (if bytes_eq bs w then Some (length xs) else place_of ps w)) → LeadsTo HasWord qs (xs ++ y ∷ [])
-  leads-more y own is new more i x w at has = elim (place_either xs y i x at) [
+  leads-more y own is new more i x w at has = elim (slice_get-push_cases xs y i x at) [
     | inl there ↦ leads-kept is new more i x w there has
     | inr last ↦ more w ∙ cond-true (bytes_eq bs w) (Some (length xs)) (place_of ps w) ((bytes_decides bs w).1 (own w (subst (λ z. HasWord z w) (sym last.1) has))) ∙ ap Some (sym last.0)
   ]

@@ -1,7 +1,8 @@
 -- Strings and their tokens.
-use Rattle.std.proofs.Common.{◌≡◌, ◌<◌, ◌≤◌, ◌+◌, ◌-◌, ◌⊎◌, ◌++◌, ◌∙◌, ℕ, zero, suc, List, [], ◌∷◌, length, Bool, true, false, get_or, ap, ap₂, sym, refl, subst, inl, inr, arith, Contains, append_assoc, drop, take, map, All, eq-or-lt_of_le}
+use Rattle.std.proofs.Common.{◌≡◌, ◌<◌, ◌≤◌, ◌+◌, ◌-◌, ◌⊎◌, ◌++◌, ◌∙◌, ℕ, zero, suc, List, [], ◌∷◌, length, Bool, true, false, get_or, ap, ap₂, sym, refl, subst, inl, inr, arith, Contains, append_assoc, drop, take, map, All}
 use Rattle.std.specs.Prelude.{slice_index, slice_range, IsTrue, codes}
 use Rattle.std.proofs.lemmas.List.{append-nil}
+use Rattle.mz_general.proofs.Offered.{nil-cons, below-or-last}
 use Rattle.mz_tokens.specs.Pieces.{IsConstant}
 use Rattle.mz_lex.specs.Kinds.{is_space}
 use Rattle.mz_tokens.specs.Pieces.{Delimiters, no_delimiters, Piece, IsSpaces, IsPiece, PiecesFrom, Pieces, piece_text, piece_texts, AreCharacters}
@@ -11,9 +12,6 @@ use Rattle.mz_tokens.proofs.Cutting.{piece-one, no-piece}
 
 cons_same : {A : Type 0} {x y : A} {xs ys : List A} → x ∷ xs ≡ y ∷ ys → (x ≡ y) × (xs ≡ ys)
 cons_same e = (cc, cc)
-
-nil-cons : {A : Type 0} {x : A} {xs : List A} → [] ≡ x ∷ xs → ⊥
-nil-cons e = cc
 
 -- the tokens of a list, by number
 pub drop-texts : (text : List ℕ) (ps : List Piece) (i : ℕ) → drop i (piece_texts text ps) ≡ piece_texts text (drop i ps)
@@ -64,9 +62,6 @@ many-characters text p c within some is =
 
 -- ---- a token's end
 
-either-last : (i to : ℕ) → i < to + 1 → (i < to) ⊎ (i ≡ to)
-either-last i to below = elim (eq-or-lt_of_le (let le : i ≤ to = omega arith in le)) [ inl same ↦ inr same | inr less ↦ inl less ]
-
 space-false : (b : Bool) → (IsTrue b → ⊥) → b ≡ false
 space-false true never = absurd (never refl)
 space-false false never = refl
@@ -84,9 +79,9 @@ pub whole-more : (d : Delimiters) (text : List ℕ) (from to : ℕ) → IsWhole 
 whole-more d text from to whole within never = record {
   later = let l = whole.later in omega (arith, l);
   within = omega (arith, within);
-  solid = λ i le below. go i le (either-last i to below);
-  no_left = λ i le below has. left i le has (either-last i (to - 1) (let l = whole.later in omega (arith, below, l)));
-  no_right = λ i less below has. right i less has (either-last i to below);
+  solid = λ i le below. go i le (below-or-last i to below);
+  no_left = λ i le below has. left i le has (below-or-last i (to - 1) (let l = whole.later in omega (arith, below, l)));
+  no_right = λ i less below has. right i less has (below-or-last i to below);
 }
   where
     go : (i : ℕ) → from ≤ i → (i < to) ⊎ (i ≡ to) → is_space (slice_index text i) ≡ false

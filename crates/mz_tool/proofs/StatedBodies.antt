@@ -8,10 +8,10 @@ use Rattle.mz_logic.specs.Conversions.{AreFresh}
 use Rattle.mz_logic.specs.declared.binder.Binder.{Binder}
 use Rattle.mz_logic.proofs.Offered.{split_at}
 use Rattle.mz_unification.specs.Spells.{variables_from}
-use Rattle.mz_unification.proofs.Offered.{some_is, distinct, in-some, operand-trees_of}
+use Rattle.mz_unification.proofs.Offered.{some_is, distinct, in-some, operand-trees_of, length-params}
 use Rattle.mz_steps.specs.Sameness.{own}
 use Rattle.mz_steps.proofs.Offered.{operand-front, operand-behind, operand-variables}
-use Rattle.mz_accepting.proofs.Offered.{fresh-back, own-length, own-of}
+use Rattle.mz_accepting.proofs.Offered.{fresh-back, own-of}
 use Rattle.mz_verdicts.specs.Trees.{SameOver, AllSameOver, Pairs, IsPaired, SameBody}
 
 -- ---- fresh variables
@@ -130,7 +130,7 @@ module _ (rows : List ℕ) (params ds es fs : List Binder) (ys : List ℕ) (fres
   low : (x z : ℕ) → x ≡ z → z < length params → SameOver (IsPaired (length params) made) rows (var x) (operand (followed_by (own params) (variables ys)) z)
   low x z is lt =
       let own-is : operand (followed_by (own params) (variables ys)) z ≡ var z =
-      operand-front (variables_from 0 params) (variables ys) z (omega (arith, lt, own-length 0 params)) ∙ operand-trees_of (variables_from 0 params) z (var z) (own-of params z lt) in
+      operand-front (variables_from 0 params) (variables ys) z (omega (arith, lt, length-params 0 params)) ∙ operand-trees_of (variables_from 0 params) z (var z) (own-of params z lt) in
       subst (λ (t : Tree). SameOver (IsPaired (length params) made) rows (var x) t) (sym own-is) (inl (is, lt))
 
   high : (x z p k : ℕ) → x ≡ length params + p → z ≡ length params + k → slice_get pairs k ≡ Some (Some p) → SameOver (IsPaired (length params) made) rows (var x) (operand (followed_by (own params) (variables ys)) z)
@@ -141,7 +141,7 @@ module _ (rows : List ℕ) (params ds es fs : List Binder) (ys : List ℕ) (fres
       let there : slice_get made q.place ≡ Some (beside ys pairs (length params + q.place)) = besides-there ys pairs (length params) es q.place (slice_get_within es q.place q.dummy q.dummy-at) in
       let value : beside ys pairs (length params + q.place) ≡ Some p = ap (beside ys pairs) (sym q.is) ∙ beside-is ys pairs (distinct (params ++ es) (own params) ys fs fresh) k y p y-at at in
       let put : operand (followed_by (own params) (variables ys)) z ≡ var y =
-      ap (operand (followed_by (own params) (variables ys))) z-is ∙ operand-behind (variables_from 0 params) (variables ys) (length params) k (own-length 0 params) ∙ operand-variables ys k y y-at in
+      ap (operand (followed_by (own params) (variables ys))) z-is ∙ operand-behind (variables_from 0 params) (variables ys) (length params) k (length-params 0 params) ∙ operand-variables ys k y y-at in
       subst (λ (t : Tree). SameOver (IsPaired (length params) made) rows (var x) t) (sym put) (inr (p, q.place, x-is, q.is, there ∙ ap (λ (o : Option ℕ). Some o) value))
 
   mutual

@@ -2,13 +2,14 @@
 use Rattle.std.proofs.Common.{◌≡◌, ℕ, zero, suc, ◌+◌, List, [], ◌∷◌, ◌++◌, Option, Some, length, refl, sym, ap, ◌∙◌, subst, arith, length-append}
 use Rattle.std.specs.Prelude.{slice_get}
 use Rattle.std.proofs.lemmas.List.{append-nil, append_assoc}
+use Rattle.mz_general.proofs.Offered.{slice_get-last, slice_get-append}
 use Rattle.mz_logic.specs.Tree.{Trees, var, app}
 use Rattle.mz_unification.specs.Spells.{trees_of}
 use Rattle.mz_soundness.specs.MachineState.{RowsBefore}
 use Rattle.mz_trace.specs.Nodes.{Value, an_expression, expressions_at, value_of, values_after, values, AreExpressions, HasArity, HasParts, HavePartsAfter, HaveParts, IsApplication, Applies}
 use Rattle.mz_trace.specs.declared.node.RunNode.{RunNode}
 use Rattle.mz_trace.specs.declared.node.RunNode.TheVariants as node
-use Rattle.mz_trace.proofs.Growing.{grown-at, last-at, grown-parts, same-value}
+use Rattle.mz_trace.proofs.Growing.{grown-parts, same-value}
 
 -- ---- one node more
 
@@ -33,7 +34,7 @@ all-values ns = many-values [] ns ∙ zero-plus (length ns)
 pub new-value : (ns : List RunNode) (n : RunNode) → slice_get (values (ns ++ n ∷ [])) (length ns) ≡ Some (value_of (values ns) n)
 new-value ns n =
     ap (λ vs. slice_get vs (length ns)) (after-push [] ns n)
-    ∙ subst (λ k. slice_get (values ns ++ value_of (values ns) n ∷ []) k ≡ Some (value_of (values ns) n)) (all-values ns) (last-at (values ns) (value_of (values ns) n))
+    ∙ subst (λ k. slice_get (values ns ++ value_of (values ns) n ∷ []) k ≡ Some (value_of (values ns) n)) (all-values ns) (slice_get-last (values ns) (value_of (values ns) n))
 
 -- ---- a node and its value
 
@@ -50,7 +51,7 @@ here tables vs ns n h =
     let one : HasParts tables (vs ++ value_of vs n ∷ []) n = grown-parts vs (value_of vs n ∷ []) tables n h in
     let value : value_of ((vs ++ value_of vs n ∷ []) ++ more) n ≡ value_of vs n = same-value (vs ++ value_of vs n ∷ []) more tables n one ∙ same-value vs (value_of vs n ∷ []) tables n h in
     subst (λ ws. Shows tables ws (length vs) n) (sym is) (
-      grown-at (vs ++ value_of vs n ∷ []) more (length vs) (value_of vs n) (last-at vs (value_of vs n)) ∙ ap (λ v. Some v) (sym value),
+      slice_get-append (vs ++ value_of vs n ∷ []) more (length vs) (value_of vs n) (slice_get-last vs (value_of vs n)) ∙ ap (λ v. Some v) (sym value),
       grown-parts (vs ++ value_of vs n ∷ []) more tables n one,
     )
 

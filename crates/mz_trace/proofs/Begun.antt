@@ -1,6 +1,7 @@
 -- Before the first command, and behind the last one.
 use Rattle.std.proofs.Common.{◌≡◌, ℕ, zero, suc, ◌+◌, List, [], ◌∷◌, ◌++◌, Ok, length, map, refl, sym, ap, ◌∙◌, subst, arith}
 use Rattle.std.proofs.lemmas.List.{append-nil, map-append}
+use Rattle.mz_general.proofs.Offered.{one-further}
 use Rattle.mz_logic.specs.Tree.{Tree, var}
 use Rattle.mz_logic.specs.declared.binder.Binder.{Binder}
 use Rattle.mz_unification.specs.Profile.{strict, expr, proof, obligation, conversion}
@@ -64,12 +65,9 @@ held-begun tables (suc n) (p ∷ ps) is =
       variables = omega (arith, held.variables);
     }
 
-next-to : (i l : ℕ) → suc i + l ≡ i + suc l
-next-to i l = omega arith
-
 own-last : (i : ℕ) (p : Binder) (ps : List Binder) → own_variables strict i (p ∷ ps) ≡ own_variables strict i ps ++ var (i + length ps) ∷ []
 own-last i p [] = ap (λ (k : ℕ). var k ∷ []) (omega arith)
-own-last i p (q ∷ qs) = ap (λ (ts : List Tree). var i ∷ ts) (own-last (suc i) q qs ∙ ap (λ (k : ℕ). own_variables strict (suc i) qs ++ var k ∷ []) (next-to i (length qs)))
+own-last i p (q ∷ qs) = ap (λ (ts : List Tree). var i ∷ ts) (own-last (suc i) q qs ∙ ap (λ (k : ℕ). own_variables strict (suc i) qs ++ var k ∷ []) (one-further i (length qs)))
 
 heap-begun : (tables : RowsBefore) (n : ℕ) (ps : List Binder) → length ps ≡ n → map (item_at (values_in (begun n))) (begun n).heap ≡ map expr (own_variables strict 0 ps)
 heap-begun tables zero [] is = refl

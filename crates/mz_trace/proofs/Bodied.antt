@@ -1,5 +1,5 @@
 -- Where a definition's stream has run, what it met is the instance of the body.
-use Rattle.std.proofs.Common.{◌≡◌, ℕ, List, [], ◌∷◌, length, map, drop, Option, Some, None, Ok, refl, sym, ap, subst, ◌∙◌}
+use Rattle.std.proofs.Common.{◌≡◌, ℕ, List, [], length, map, drop, Option, Some, None, Ok, refl, sym, ap, subst, ◌∙◌}
 use Rattle.std.specs.Prelude.{slice_get}
 use Rattle.std.proofs.lemmas.List.{drop_at}
 use Rattle.std.proofs.lemmas.Option.{get_or_from_slice_get}
@@ -16,12 +16,9 @@ use Rattle.mz_unification.proofs.Offered.{some_is, operands-sorted, unfolding-is
 use Rattle.mz_soundness.specs.MachineState.{RowsBefore, Declares, signatures_in}
 use Rattle.mz_soundness.proofs.Offered.{pair-at, signatures-are, signature-at}
 use Rattle.mz_tracing.specs.Traces.{variables_in}
+use Rattle.mz_tracing.proofs.Offered.{variables-are}
 use Rattle.mz_trace.specs.Nodes.{body_under}
 use Rattle.mz_trace.specs.Commands.{in_body}
-
-variables-are : (ys : List ℕ) → variables_in (map var ys) ≡ ys
-variables-are [] = refl
-variables-are (y ∷ ys) = ap (λ (zs : List ℕ). y ∷ zs) (variables-are ys)
 
 -- a row with this stream spells a body
 text-of : (sigs : List Signature) (params : List Binder) (o : Option (List ℕ)) (stream : List ℕ) (form : Form) → o ≡ Some stream → SpellsForm sigs params o form

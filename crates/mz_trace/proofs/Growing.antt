@@ -1,7 +1,8 @@
 -- More values behind: what was named stays what it was.
-use Rattle.std.proofs.Common.{◌≡◌, ℕ, zero, suc, List, [], ◌∷◌, ◌++◌, Some, length, map, refl, sym, ap, ◌∙◌}
-use Rattle.std.specs.Prelude.{slice_get, reverse}
+use Rattle.std.proofs.Common.{◌≡◌, ℕ, List, [], ◌∷◌, ◌++◌, map, refl, sym, ap, ◌∙◌}
+use Rattle.std.specs.Prelude.{reverse}
 use Rattle.std.proofs.lemmas.List.{reverse-append}
+use Rattle.mz_general.proofs.Offered.{slice_get-append}
 use Rattle.mz_logic.specs.Tree.{app}
 use Rattle.mz_unification.specs.Profile.{expr, proof}
 use Rattle.mz_unification.specs.Spells.{trees_of}
@@ -16,35 +17,26 @@ use Rattle.mz_trace.specs.declared.entry.Item.TheVariants.{Expr, Proof as ProofI
 use Rattle.mz_trace.specs.declared.entry.Entry.{Entry}
 use Rattle.mz_trace.specs.declared.entry.Entry.TheVariants.{Held, Owed, ForProof, ForTurned, ForOperand, ForUnfolded, ForCut}
 
-pub grown-at : {A : Type 0} (xs ys : List A) (n : ℕ) (x : A) → slice_get xs n ≡ Some x → slice_get (xs ++ ys) n ≡ Some x
-grown-at [] ys n x h = absurd cc
-grown-at (y ∷ xs) ys zero x h = h
-grown-at (y ∷ xs) ys (suc n) x h = grown-at xs ys n x h
-
-pub last-at : {A : Type 0} (xs : List A) (x : A) → slice_get (xs ++ x ∷ []) (length xs) ≡ Some x
-last-at [] x = refl
-last-at (y ∷ xs) x = last-at xs x
-
 module _ (vs ws : List Value) where
   -- ---- one number
 
   pub grown-expression : (n : ℕ) → IsExpression vs n → IsExpression (vs ++ ws) n
-  grown-expression n h = (h.0, grown-at vs ws n (an_expression h.0) h.1)
+  grown-expression n h = (h.0, slice_get-append vs ws n (an_expression h.0) h.1)
 
   pub grown-conversion : (n : ℕ) → IsConversion vs n → IsConversion (vs ++ ws) n
-  grown-conversion n h = (h.0, grown-at vs ws n (a_conversion h.0) h.1)
+  grown-conversion n h = (h.0, slice_get-append vs ws n (a_conversion h.0) h.1)
 
   pub grown-proof : (n : ℕ) → IsProof vs n → IsProof (vs ++ ws) n
-  grown-proof n h = (h.0, grown-at vs ws n (a_proof h.0) h.1)
+  grown-proof n h = (h.0, slice_get-append vs ws n (a_proof h.0) h.1)
 
   pub same-expression : (n : ℕ) → IsExpression vs n → expression_at (vs ++ ws) n ≡ expression_at vs n
-  same-expression n h = ap expression_of (grown-at vs ws n (an_expression h.0) h.1 ∙ sym h.1)
+  same-expression n h = ap expression_of (slice_get-append vs ws n (an_expression h.0) h.1 ∙ sym h.1)
 
   pub same-conversion : (n : ℕ) → IsConversion vs n → conversion_at (vs ++ ws) n ≡ conversion_at vs n
-  same-conversion n h = ap conversion_of (grown-at vs ws n (a_conversion h.0) h.1 ∙ sym h.1)
+  same-conversion n h = ap conversion_of (slice_get-append vs ws n (a_conversion h.0) h.1 ∙ sym h.1)
 
   pub same-proof : (n : ℕ) → IsProof vs n → proof_at (vs ++ ws) n ≡ proof_at vs n
-  same-proof n h = ap proof_of (grown-at vs ws n (a_proof h.0) h.1 ∙ sym h.1)
+  same-proof n h = ap proof_of (slice_get-append vs ws n (a_proof h.0) h.1 ∙ sym h.1)
 
   -- ---- lists of numbers
 

@@ -1,9 +1,8 @@
 -- What commands lead to that keep something in the heap, or take it from there.
-use Rattle.std.proofs.Common.{Result, Option, ◌≡◌, ℕ, suc, zero, Bool, true, false, List, [], ◌∷◌, ◌++◌, Some, Ok, length, map, refl, sym, ap, ◌∙◌, subst, arith, length-append}
+use Rattle.std.proofs.Common.{◌≡◌, ℕ, suc, zero, true, false, List, [], ◌∷◌, ◌++◌, Some, Ok, length, map, refl, sym, ap, ◌∙◌, subst, arith, length-append}
 use Rattle.std.specs.Prelude.{slice_get, drop, nat_lt, not, ◌&&◌}
-use Rattle.std.specs.Option.{option_map}
 use Rattle.std.proofs.lemmas.List.{map-append, append_assoc, length-map}
-use Rattle.mz_cmd.specs.declared.rule.K.{K}
+use Rattle.mz_general.proofs.Offered.{slice_get-map_at, not-true}
 use Rattle.mz_cmd.specs.declared.rule.K.TheVariants as k
 use Rattle.mz_cmd.specs.declared.code.ProofCode.TheVariants as code
 use Rattle.mz_logic.specs.Tree.{Tree, var}
@@ -12,7 +11,7 @@ use Rattle.mz_forms.specs.Proof.{by_hyp, by_name}
 use Rattle.mz_unification.specs.Profile.{strict, expr, proof, obligation}
 use Rattle.mz_unification.specs.Profile.{Item as MachineItem}
 use Rattle.mz_unification.specs.Spells.{dummy_of}
-use Rattle.mz_unification.specs.Steps.{◌>>=◌, want}
+use Rattle.mz_unification.specs.Steps.{◌>>=◌}
 use Rattle.mz_unification.specs.Tests.{same_tree}
 use Rattle.mz_unification.proofs.Offered.{from_bind, from_need, from_want, taken-is}
 use Rattle.mz_soundness.specs.MachineState.{RowsBefore}
@@ -21,7 +20,9 @@ use Rattle.mz_soundness.specs.ProofMachine.{proof_row, has_provable_sort, referr
 use Rattle.mz_tracing.specs.Parts.{expression, proved, paid}
 use Rattle.mz_tracing.specs.Traces.{stacked, kept, named, traced}
 use Rattle.mz_tracing.specs.Traces.{referred as referred-part}
-use Rattle.mz_trace.specs.Nodes.{Value, expression_at, expressions_at, conversion_at, proof_at, IsExpression, AreExpressions, IsProof, AreProofs, IsConversion}
+use Rattle.mz_tracing.proofs.Offered.{to_want}
+use Rattle.mz_trace.proofs.StreamsApart.{expressions-both}
+use Rattle.mz_trace.specs.Nodes.{Value, expression_at, expressions_at, conversion_at, proof_at, IsExpression, IsProof, AreProofs, IsConversion}
 use Rattle.mz_trace.specs.Entries.{item_at, part_at, items_at, parts_at, AreItems, IsItem, IsStack, HasHeld, HasOwed}
 use Rattle.mz_trace.specs.Commands.{Stage, with_node, with_stack, with_variable, with_kept, with_name, on_stack, values_in, context_of, state_of, trace_of, IsHeld, IsMade, IsMadeBelow, Known, IsAny, Goes, Leads, MayPay, Pays}
 use Rattle.mz_trace.specs.declared.node.RunNode.{RunNode}
@@ -34,10 +35,6 @@ use Rattle.mz_trace.proofs.Stages.{state, trace, proof-still, same-proof-still, 
 use Rattle.mz_trace.proofs.Tops.{owed-top}
 use Rattle.mz_trace.proofs.Moves.{items-both, paying, taken-trace}
 use Rattle.mz_trace.proofs.Growth.{heap-more, heap_parts-more, kept-more}
-
-expressions-both : (vs : List Value) (ns ms : List ℕ) → AreExpressions vs ns → AreExpressions vs ms → AreExpressions vs (ns ++ ms)
-expressions-both vs [] ms h h' = h'
-expressions-both vs (n ∷ ns) ms h h' = (h.0, expressions-both vs ns ms h.1 h')
 
 proofs-both : (vs : List Value) (ns ms : List ℕ) → AreProofs vs ns → AreProofs vs ms → AreProofs vs (ns ++ ms)
 proofs-both vs [] ms h h' = h'
@@ -227,10 +224,6 @@ module _ (tables : RowsBefore) (vs : List Value) where
   held-top (ForUnfolded t a es ys ∷ xs) r h e other = absurd h
   held-top (ForCut a b ∷ xs) r h e other = absurd h
 
-not-true : (b : Bool) → not b ≡ true → b ≡ false
-not-true true h = absurd cc
-not-true false h = refl
-
 pub save-has : (Q : Known) (n : ℕ) (s : Stage) → Goes Q code.Save n s → HasHeld s.stack
 unfolding proof_row
 save-has Q n s (tables, params, st, q, made, row) =
@@ -245,18 +238,10 @@ at-map f [] i y h = absurd cc
 at-map f (x ∷ xs) zero y h = (x, refl, cc)
 at-map f (x ∷ xs) (suc i) y h = at-map f xs i y h
 
-map-at : {A B : Type 0} (f : A → B) (xs : List A) (i : ℕ) (x : A) → slice_get xs i ≡ Some x → slice_get (map f xs) i ≡ Some (f x)
-map-at f [] i x h = absurd cc
-map-at f (y ∷ xs) zero x h = ap (option_map f) h
-map-at f (y ∷ xs) (suc i) x h = map-at f xs i x h
-
 item-in : (vs : List Value) (xs : List Item) (i : ℕ) (x : Item) → AreItems vs xs → slice_get xs i ≡ Some x → IsItem vs x
 item-in vs [] i x h at = absurd cc
 item-in vs (y ∷ xs) zero x h at = let is : y ≡ x = cc in subst (IsItem vs) is h.0
 item-in vs (y ∷ xs) (suc i) x h at = item-in vs xs i x h.1 at
-
-want-is : {A B : Type 0} (o : Option A) (rule : K) (f : A → Result B K) (x : A) → o ≡ Some x → (want o rule >>= f) ≡ f x
-want-is o rule f x is = rw is refl
 
 module _ (n : ℕ) (s : Stage) where
   pub ref-has : (Q : Known) → Goes Q code.Ref n s → (x : Item) × (slice_get s.heap n ≡ Some x)
@@ -268,11 +253,11 @@ module _ (n : ℕ) (s : Stage) where
   module _ (x : Item) (at : slice_get s.heap n ≡ Some x) where
     item-row : (tables : RowsBefore) (params : List Binder) → proof_row strict tables 0 code.Ref n (state_of params s) ≡ referred strict (item_at (values_in s) x) (state_of params s)
     unfolding proof_row
-    item-row tables params = want-is (slice_get (map (item_at (values_in s)) s.heap) n) k.HeapIndex _ (item_at (values_in s) x) (map-at (item_at (values_in s)) s.heap n x at)
+    item-row tables params = to_want (slice_get (map (item_at (values_in s)) s.heap) n) k.HeapIndex _ (item_at (values_in s) x) (slice_get-map_at (item_at (values_in s)) s.heap n x at)
 
     part-row : (tables : RowsBefore) (params : List Binder) → traced tables code.Ref n (state_of params s) (trace_of s) ≡ taken-trace (referred-part (part_at (values_in s) x) (trace_of s))
     unfolding traced
-    part-row tables params = want-is (slice_get (map (part_at (values_in s)) s.heap) n) k.HeapIndex _ (part_at (values_in s) x) (map-at (part_at (values_in s)) s.heap n x at)
+    part-row tables params = to_want (slice_get (map (part_at (values_in s)) s.heap) n) k.HeapIndex _ (part_at (values_in s) x) (slice_get-map_at (part_at (values_in s)) s.heap n x at)
 
   pub ref_expr-leads : (e : ℕ) → slice_get s.heap n ≡ Some (Expr e) → Leads IsAny code.Ref n s (on_stack s (Held (Expr e)))
   ref_expr-leads e at tables params st q made row = (

@@ -1,7 +1,8 @@
 -- What a definition's command makes of the nodes that are its targets.
-use Rattle.std.proofs.Common.{◌≡◌, ℕ, true, List, [], ◌∷◌, ◌++◌, Option, Some, Ok, refl, sym, ap, subst, ◌∙◌, ◌⊎◌, inl, inr, length, arith, append_assoc}
+use Rattle.std.proofs.Common.{◌≡◌, ℕ, true, List, [], ◌∷◌, ◌++◌, Option, Some, Ok, refl, sym, ap, subst, ◌∙◌, ◌⊎◌, inl, inr, length, append_assoc}
 use Rattle.std.specs.Prelude.{reverse, slice_get, not, ◌==◌, ◌&&◌}
 use Rattle.std.proofs.lemmas.List.{map-append, reverse-append, reverse-reverse}
+use Rattle.mz_general.proofs.Offered.{both-true, empty-list}
 use Rattle.mz_cmd.specs.declared.rule.K.TheVariants as k
 use Rattle.mz_cmd.specs.declared.code.UnifyCode.{UnifyCode}
 use Rattle.mz_cmd.specs.declared.code.UnifyCode.TheVariants.{Term, TermSave, Ref, Dummy, Hyp}
@@ -14,7 +15,7 @@ use Rattle.mz_unification.specs.Spells.{trees_of}
 use Rattle.mz_unification.specs.Streams.{u_term, u_term_save, u_ref, u_dummy}
 use Rattle.mz_unification.specs.Tests.{same_tree, is_bound_var}
 use Rattle.mz_unification.specs.UnifyMachine.{in_definition, UnifyState, top_target, operands_of, within_any, is_fresh, unify_row}
-use Rattle.mz_unification.proofs.Offered.{from_bind, from_need, from_want, some_is, taken-is, both-true, top-is, apart-is, listed-trees_of}
+use Rattle.mz_unification.proofs.Offered.{from_bind, from_need, from_want, some_is, taken-is, top-is, apart-is, listed-trees_of}
 use Rattle.mz_soundness.specs.MachineState.{RowsBefore}
 use Rattle.mz_tracing.specs.Traces.{variable_in, variables_in}
 use Rattle.mz_trace.specs.Nodes.{Value, an_expression, expression_of, expression_at, expressions_at, value_of, values, IsExpression, AreExpressions, HaveParts, IsApplication, Applies, IsVariable, IsVariableAt}
@@ -114,14 +115,10 @@ expression-is vs n e (f, at) is = at ∙ ap (λ z. Some (an_expression z)) (sym 
 same-trees : (fs gs : List Tree) → trees_of fs ≡ trees_of gs → fs ≡ gs
 same-trees fs gs is = sym (listed-trees_of fs) ∙ ap listed is ∙ listed-trees_of gs
 
-is-empty : (ns : List ℕ) → length ns ≡ 0 → ns ≡ []
-is-empty [] none = refl
-is-empty (n ∷ ns) none = absurd (omega (arith, none))
-
 head-is : (e f : Tree) (es fs : List Tree) → e ∷ es ≡ f ∷ fs → (e ≡ f) × (es ≡ fs)
 head-is e f es fs is = (cc, cc)
 
-expressions-both : (vs : List Value) (ns ms : List ℕ) → AreExpressions vs ns → AreExpressions vs ms → AreExpressions vs (ns ++ ms)
+pub expressions-both : (vs : List Value) (ns ms : List ℕ) → AreExpressions vs ns → AreExpressions vs ms → AreExpressions vs (ns ++ ms)
 expressions-both vs [] ms h k = k
 expressions-both vs (n ∷ ns) ms h k = (h.0, expressions-both vs ns ms h.1 k)
 
@@ -171,7 +168,7 @@ module _ (nodes : List RunNode) (code : UnifyCode) (targets met : List ℕ) wher
   pub has-top : MayTakeApart nodes code targets met → length targets ≡ 0 → ⊥
   has-top (tables, sigs, ctx, es, st, s, h, (are, is, more), ran) none =
       let (e, rest, there) = takes-top sigs ctx st s code ran in
-      let empty : st.targets ≡ [] = is ∙ ap (λ (ns : List ℕ). expressions_at (values nodes) (reverse ns)) (is-empty targets none) in
+      let empty : st.targets ≡ [] = is ∙ ap (λ (ns : List ℕ). expressions_at (values nodes) (reverse ns)) (empty-list targets none) in
       let no : [] ≡ e ∷ rest = sym empty ∙ there in cc
 
   module _ (rest : List ℕ) (top : ℕ) (popped : targets ≡ rest ++ top ∷ []) where

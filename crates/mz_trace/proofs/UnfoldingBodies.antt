@@ -1,5 +1,5 @@
 -- What Unfold leads to: the definition's stream is run on the body that stands on top.
-use Rattle.std.proofs.Common.{Vec, Global, Result, Option, Bool, true, false, ◌≡◌, ◌<◌, ℕ, List, ◌∷◌, Some, None, Ok, length, refl, sym, ap, ◌∙◌, subst, inl, inr}
+use Rattle.std.proofs.Common.{Vec, Global, Result, Bool, true, false, ◌≡◌, ◌<◌, ℕ, List, ◌∷◌, Some, None, Ok, length, refl, sym, ap, ◌∙◌, subst, inl, inr}
 use Rattle.std.specs.Prelude.{drop, slice_get, if◌then◌else◌}
 use Rattle.mz_cmd.specs.declared.rule.K.{K}
 use Rattle.mz_cmd.specs.declared.rule.K.TheVariants as k
@@ -21,8 +21,10 @@ use Rattle.mz_unification.proofs.Offered.{from_bind, from_need, from_want, taken
 use Rattle.mz_soundness.specs.MachineState.{RowsBefore, State, signatures_in}
 use Rattle.mz_soundness.specs.Premises.{pop_expr, pop_sides}
 use Rattle.mz_soundness.specs.ProofMachine.{proof_row, unfolding_of, matched_by, stream_of}
+use Rattle.mz_soundness.proofs.Offered.{stream-row}
 use Rattle.mz_tracing.specs.Parts.{owed, for_unfolded}
 use Rattle.mz_tracing.specs.Traces.{stacked, traced, below_sides, variables_in}
+use Rattle.mz_tracing.proofs.Offered.{to_want, to_bind}
 use Rattle.mz_trace.specs.Nodes.{Value, an_expression, expression_of, expression_at, expressions_at, IsExpression, body_under, IsBody, IsApplication, Applies}
 use Rattle.mz_trace.specs.Entries.{items_at, parts_at, IsStack, IsWaiting, HasSides, TookSides}
 use Rattle.mz_trace.specs.Commands.{Stage, with_stack, values_in, context_of, state_of, trace_of, IsMade, Known, IsRead, Goes, Leads, in_body, MayMeet, Meets}
@@ -51,19 +53,8 @@ unfold-has Q n s (tables, params, st, q, made, row) =
 
 -- ---- the row
 
-bind-is : {A B F : Type 0} (r : Result A F) (f : A → Result B F) (x : A) → r ≡ Ok x → (r >>= f) ≡ f x
-bind-is r f x is = rw is refl
-
-want-is : {A B : Type 0} (o : Option A) (rule : K) (f : A → Result B K) (x : A) → o ≡ Some x → (want o rule >>= f) ≡ f x
-want-is o rule f x is = rw is refl
-
 abbrev Unfolding : Type 0
 Unfolding = Matching Tree × Tree × List (MachineItem Tree)
-
--- a term's stream
-stream-in : (o : Option SpelledTerm) (stream : List ℕ) → stream_of o ≡ Some stream → (row : SpelledTerm) × (o ≡ Some row) × (row.stream ≡ Some stream)
-stream-in None stream h = absurd cc
-stream-in (Some row) stream h = (row, refl, h)
 
 -- the left side is an application, of a term with this stream
 abbrev IsDefined : RowsBefore → List Value → ℕ → ℕ → Trees → List ℕ → Type 0
@@ -85,7 +76,7 @@ module _ (tables : RowsBefore) (vs : List Value) (e l r : ℕ) (xs : List Entry)
   by-tree (var x) m at h = absurd cc
   by-tree (app t es) m at h =
       from_want (stream_of (slice_get tables.terms t)) k.Unfold _ m h λ stream has e1.
-      let (row, there, is) = stream-in (slice_get tables.terms t) stream has in
+      let (row, there, is) = stream-row (slice_get tables.terms t) stream has in
       (t, es, stream, (row, there, is, at), sym (taken-is (in_body stream (listed es) (expression_at vs e), expression_at vs r, items_at vs xs) m e1))
 
   unfolds-by : (m : Unfolding) → IsExpression vs l → steps-on (expression_at vs l, expression_at vs r, items_at vs xs) ≡ Ok m → Unfolds tables vs e l r xs m
@@ -173,10 +164,10 @@ module _ (n : ℕ) (s : Stage) (ys zs : List Entry) (e l r : ℕ) (took : TookSi
   unfold-trace tables params st x =
       let vs = values_in s in
       let at : expression_at vs l ≡ app x.unfolds.0 x.unfolds.1 = ap expression_of x.unfolds.3.3 in
-      bind-is (pop_sides strict (items_at vs ys)) _ (sides-at vs ys l r zs) x.popping
-      ∙ want-is (tree_parts (expression_at vs l)) k.Unfold _ (x.unfolds.0, listed x.unfolds.1) (ap tree_parts at)
-      ∙ bind-is (unfolding_of strict tables (state_of params before)) _ x.m x.making
-      ∙ bind-is (matched_by strict tables (context_of params s) x.m.0) _ x.u x.matching
+      to_bind (pop_sides strict (items_at vs ys)) _ (sides-at vs ys l r zs) x.popping
+      ∙ to_want (tree_parts (expression_at vs l)) k.Unfold _ (x.unfolds.0, listed x.unfolds.1) (ap tree_parts at)
+      ∙ to_bind (unfolding_of strict tables (state_of params before)) _ x.m x.making
+      ∙ to_bind (matched_by strict tables (context_of params s) x.m.0) _ x.u x.matching
       ∙ ap (λ ps. taken-trace (stacked (trace_of s) (owed ∷ for_unfolded x.unfolds.0 (trees_of (listed x.unfolds.1)) (variables_in (drop (length (listed x.unfolds.1)) x.u.apart)) ∷ ps)))
       (parts-below vs ys l r zs took)
 

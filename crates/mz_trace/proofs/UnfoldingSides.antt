@@ -1,5 +1,5 @@
 -- The operands of two applications side by side, and what Cong leads to.
-use Rattle.std.proofs.Common.{Vec, Global, Result, Option, Bool, true, false, ◌≡◌, ◌<◌, ◌≤◌, ℕ, suc, ◌+◌, List, [], ◌∷◌, ◌++◌, Some, None, Ok, length, map, refl, sym, ap, ◌∙◌, subst, arith, eqb, slice_index_or}
+use Rattle.std.proofs.Common.{Vec, Global, Result, Bool, true, false, ◌≡◌, ◌<◌, ◌≤◌, ℕ, suc, ◌+◌, List, [], ◌∷◌, ◌++◌, Some, None, Ok, length, map, refl, sym, ap, ◌∙◌, subst, arith, eqb, slice_index_or}
 use Rattle.std.specs.Prelude.{reverse, drop, slice_get, if◌then◌else◌}
 use Rattle.std.proofs.lemmas.Bool.{eqb-true}
 use Rattle.std.proofs.lemmas.List.{drop_more, drop_all, length-map, length-reverse, reverse-append, reverse-reverse}
@@ -12,13 +12,14 @@ use Rattle.mz_logic.specs.declared.binder.Binder.{Binder}
 use Rattle.mz_unification.specs.Profile.{strict, tree_parts}
 use Rattle.mz_unification.specs.Profile.{Item as MachineItem}
 use Rattle.mz_unification.specs.Spells.{SpelledTerm, trees_of}
-use Rattle.mz_unification.specs.Steps.{◌>>=◌, ◌>>◌, need, want}
+use Rattle.mz_unification.specs.Steps.{◌>>=◌, ◌>>◌, need}
 use Rattle.mz_unification.specs.Tests.{same_tree}
 use Rattle.mz_unification.proofs.Offered.{from_want, taken-is, some_is, listed-trees_of, same_tree-refl}
 use Rattle.mz_soundness.specs.MachineState.{RowsBefore, State}
 use Rattle.mz_soundness.specs.ProofMachine.{proof_row, same_term, sides}
 use Rattle.mz_tracing.specs.Parts.{owed, for_operand, paid, by_operands}
 use Rattle.mz_tracing.specs.Traces.{stacked, traced}
+use Rattle.mz_tracing.proofs.Offered.{to_want}
 use Rattle.mz_trace.specs.Nodes.{Value, an_expression, expression_of, expression_at, expressions_at, values, conversions_at, AreConversions, HaveParts, HasArity, IsExpression, AreExpressions, Applies}
 use Rattle.mz_trace.specs.Entries.{owed_at, items_at, parts_at, ArePairs, IsWaiting}
 use Rattle.mz_trace.specs.Commands.{Stage, with_stack, values_in, state_of, trace_of, IsMade, IsAny, Goes, Leads}
@@ -106,9 +107,6 @@ module _ (tables : RowsBefore) (ns : List RunNode) (h : HaveParts tables ns) (l 
         r-is ∙ ap (λ z. app z fs) (sym v-is) ∙ ap (app t) fs-are,
       )
 
-want-is : {A B : Type 0} (o : Option A) (rule : K) (f : A → Result B K) (x : A) → o ≡ Some x → (want o rule >>= f) ≡ f x
-want-is o rule f x is = rw is refl
-
 need-is : {B : Type 0} (b : Bool) (rule : K) (r : Result B K) → b ≡ true → (need b rule >> r) ≡ r
 need-is b rule r is = rw is refl
 
@@ -143,7 +141,7 @@ module _ (n : ℕ) (s : Stage) (xs : List Entry) (l r t : ℕ) (ps : List (ℕ �
       → traced tables code.Cong n (state_of params owing) (trace_of owing) ≡ taken-trace (stacked (trace_of s) (by_operands t (length es) (parts_at (values_in s) xs)))
   unfolding traced
   cong-trace tables params es is =
-      want-is (tree_parts el) k.Cong _ (t, es) (ap tree_parts is ∙ ap (λ z. Some (t, z)) (listed-trees_of es))
+      to_want (tree_parts el) k.Cong _ (t, es) (ap tree_parts is ∙ ap (λ z. Some (t, z)) (listed-trees_of es))
 
   module _ (tables : RowsBefore) (params : List Binder) (made : IsMade tables params owing) where
     abbrev Reads : List Tree × List Tree → Type 0

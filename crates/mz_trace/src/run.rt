@@ -13,8 +13,8 @@ ghost use Rattle.mz_trace.specs.Runs.{IsTraced, ClaimsIn, IsTheoremAt, RunsOver,
 use crate::entry::{Entry, Item};
 use crate::making::Making;
 use crate::node::RunNode;
-use mz_binary::Statement;
 use mz_cmd::{ProofCode, Steps, StmtAt, cmd_at, stmt_at};
+use mz_files::Statement;
 use mz_layout::Mmb;
 use std::alloc::{AllocError, Global};
 use std::sync::ledger::Ledger;

@@ -34,7 +34,7 @@ use Rattle.mz_tracing.proofs.PlainProofs.{ArePlain, derivs, Proves, LetsProve, a
 abbrev pub anything : Uses
 anything = record { cites = λ T. ⊤; gaps = ⊤ }
 
-variables-are : (ys : List ℕ) → variables_in (map var ys) ≡ ys
+pub variables-are : (ys : List ℕ) → variables_in (map var ys) ≡ ys
 variables-are [] = refl
 variables-are (y ∷ ys) = ap (λ (z : List ℕ). y ∷ z) (variables-are ys)
 

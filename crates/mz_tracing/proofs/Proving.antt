@@ -13,15 +13,15 @@ use Rattle.mz_type.proofs.Offered.{allowed}
 use Rattle.mz_unification.specs.Streams.{of_assertion}
 use Rattle.mz_unification.specs.Spells.{trees_of, Text, SpellsThm}
 use Rattle.mz_unification.specs.Profile.{strict, proof}
-use Rattle.mz_unification.specs.Sorted.{Sorted, AllSorted, ItemsSorted}
+use Rattle.mz_unification.specs.Sorted.{Sorted, ItemsSorted}
 use Rattle.mz_unification.specs.UnifyMachine.{at_end}
 use Rattle.mz_unification.proofs.Offered.{taken-is, one-assertion, assertion-spelled}
 use Rattle.mz_soundness.specs.MachineState.{RowsBefore, State, Kind, is_theorem, Heading, Declares}
 use Rattle.mz_soundness.specs.ProofMachine.{last_item, ending, own_variables, own_stream, as_proofs, proof_row, proof_end}
 use Rattle.mz_soundness.specs.Bodies.{body_start}
-use Rattle.mz_soundness.specs.Facts.{AreProvableClaims, Fact}
+use Rattle.mz_soundness.specs.Facts.{Fact}
 use Rattle.mz_soundness.specs.Sound.{thm_row}
-use Rattle.mz_soundness.proofs.Offered.{end-ran, own-run, made, start-fact}
+use Rattle.mz_soundness.proofs.Offered.{end-ran, own-run, made, start-fact, claims-sorted}
 use Rattle.mz_tracing.specs.Traces.{Trace, traced, trace_start, trace_body, under_lets}
 use Rattle.mz_tracing.specs.Laws.{MadeProofsProve}
 use Rattle.mz_tracing.proofs.Standing.{EachIs}
@@ -31,10 +31,6 @@ use Rattle.mz_tracing.proofs.WholeTraces.{body-traced, start-stands}
 use Rattle.mz_tracing.proofs.BodiesMake.{last-proof, one-stands, start-shaped, one-result, one-proof}
 use Rattle.mz_tracing.proofs.PlainProofs.{Proves, LetsProve, proves-under}
 use Rattle.mz_tracing.proofs.Deriving.{anything, deriving_from, Derived, derived-goes}
-
-claims-sorted : (env : List Declaration) (ctx : List Binder) (es : List Tree) → AreProvableClaims env ctx es → AllSorted (signatures env) ctx es
-claims-sorted env ctx [] h = tt
-claims-sorted env ctx (e ∷ es) ((s, has, _), hs) = ((s, has), claims-sorted env ctx es hs)
 
 module _ (N : Type 0) (tables : RowsBefore) (env : List Declaration) (declares : Declares tables env) (h : Heading) (full : List Binder) where
   -- it has its shape, and derives what it should

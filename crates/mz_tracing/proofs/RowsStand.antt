@@ -3,6 +3,7 @@ use Rattle.std.proofs.Common.{◌≡◌, ℕ, suc, ◌+◌, ◌-◌, Bool, true,
 use Rattle.std.specs.Prelude.{slice_get, reverse, ⊤, ◌&&◌, not}
 use Rattle.std.proofs.lemmas.Bool.{eqb-true}
 use Rattle.std.proofs.lemmas.List.{map-id, length-append, length-map, reverse-reverse, append-nil, drop-drop}
+use Rattle.mz_general.proofs.Offered.{both-true}
 use Rattle.mz_cmd.specs.declared.rule.K.TheVariants as k
 use Rattle.mz_cmd.specs.declared.code.ProofCode.{ProofCode}
 use Rattle.mz_cmd.specs.declared.code.ProofCode.TheVariants as code
@@ -15,12 +16,12 @@ use Rattle.mz_unification.specs.Profile.{strict, tree_parts, Item, expr, proof, 
 use Rattle.mz_unification.specs.Tests.{same_tree}
 use Rattle.mz_unification.specs.Laws.{citing, unfolding_by}
 use Rattle.mz_unification.specs.UnifyMachine.{Matching, UnifyState, unify}
-use Rattle.mz_unification.proofs.Offered.{from_bind, from_then, from_need, from_want, rule_of-ok, taken, taken-is, both-true, same_tree-true, trees_of-listed, listed-trees_of}
+use Rattle.mz_unification.proofs.Offered.{from_bind, from_then, from_need, from_want, rule_of-ok, taken, taken-is, same_tree-true, trees_of-listed, listed-trees_of}
 use Rattle.mz_soundness.specs.MachineState.{RowsBefore, signatures_in, State, Pairwise}
 use Rattle.mz_soundness.specs.Premises.{pop, pop_expr, pop_proof, pop_obligation, pop_conversion, pop_operands, pop_sides}
 use Rattle.mz_soundness.specs.Premises.{is_conversion, is_obligation, may_be_dummy_sort, bound_count, operands_fit, are_apart}
 use Rattle.mz_soundness.specs.ProofMachine.{built, citation, matched_by, cited, referred, sides, same_term, stream_of, unfolding_of, has_provable_sort, proof_row}
-use Rattle.mz_soundness.proofs.Offered.{pair-at}
+use Rattle.mz_soundness.proofs.Offered.{pair-at, pop-is}
 use Rattle.mz_tracing.specs.Parts.{Part, expression, proved, owed, converted, for_proof, for_turned, for_unfolded, for_cut, paid, by_operands, proofs_above}
 use Rattle.mz_tracing.specs.Traces.{Trace, stacked, kept, named, conversion_saved, to_convert, below_sides, variables_in, traced}
 use Rattle.mz_tracing.specs.Traces as making
@@ -50,10 +51,6 @@ pub record Standing (A : Asked) (params : List Binder) (st : State Tree) (tr : T
   pub lets : A.of_lets st.hyps tr.lets
   pub heap : Pairwise (Is A st.hyps tr.lets) st.heap tr.heap
   pub stack : Stands A st.hyps tr.lets st.stack tr.stack
-
-pop-is : (xs : List (Item Tree)) (r : Item Tree × List (Item Tree)) → pop xs ≡ Ok r → xs ≡ r.0 ∷ r.1
-pop-is [] r e = absurd cc
-pop-is (x ∷ xs) r e = ap (λ (p : Item Tree × List (Item Tree)). p.0 ∷ p.1) (taken-is (x, xs) r e)
 
 proof-popped : (xs : List (Item Tree)) (r : Tree × List (Item Tree)) → pop_proof xs ≡ Ok r → xs ≡ proof r.0 ∷ r.1
 proof-popped (proof x ∷ xs) r e = ap (λ (p : Tree × List (Item Tree)). proof p.0 ∷ p.1) (taken-is (x, xs) r e)

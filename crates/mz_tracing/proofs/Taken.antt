@@ -16,7 +16,8 @@ use Rattle.mz_unification.specs.Tests.{same_tree}
 use Rattle.mz_unification.specs.Laws.{citing}
 use Rattle.mz_unification.specs.UnifyMachine.{in_citation, UnifyState, top_target, is_empty, next_hypothesis, operands_of, is_fresh, unify_row, unify_turn_by, unify_turn, unify_from, unify}
 use Rattle.mz_unification.proofs.Offered.{from_bind, from_need, from_want, place-ok, taken, taken-is, hypothesis-is}
-use Rattle.mz_tracing.proofs.Following.{left_of, from_follow}
+use Rattle.mz_soundness.proofs.Offered.{from_follow}
+use Rattle.mz_tracing.proofs.Following.{left_of}
 
 -- of xs, proofs of some expressions are taken, and ys is left
 abbrev pub Takes : List (Item Tree) → List (Item Tree) → Type 0

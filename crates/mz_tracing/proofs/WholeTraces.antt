@@ -17,9 +17,10 @@ use Rattle.mz_unification.proofs.Offered.{from_bind, from_need, place-ok, taken,
 use Rattle.mz_soundness.specs.MachineState.{RowsBefore, State, Heading, Pairwise}
 use Rattle.mz_soundness.specs.ProofMachine.{built, proof_row, own_variables, ends_with, matched_by, proof_end}
 use Rattle.mz_soundness.specs.Bodies.{BodyCommand, ends, proves, body_command, body_turn_by, body_turn, body_from}
+use Rattle.mz_soundness.proofs.Offered.{from_follow}
 use Rattle.mz_tracing.specs.Parts.{expression}
 use Rattle.mz_tracing.specs.Traces.{Trace, traced, trace_turn, trace_command, trace_from}
-use Rattle.mz_tracing.proofs.Following.{to_bind, from_follow}
+use Rattle.mz_tracing.proofs.Following.{to_bind}
 use Rattle.mz_tracing.proofs.Standing.{Asked, EachIs, Is}
 
 -- over trees a row is the same at each place

@@ -7,12 +7,12 @@ use Rattle.mz_sexpr.specs.Number.{first, rest}
 use Rattle.mz_checks.proofs.Offered.{all_hold-first, all_hold-rest, all_hold-both}
 use Rattle.mz_logic.specs.Tree.{Tree, Trees, app, none, more, listed, instance, followed_by, variables}
 use Rattle.mz_logic.specs.Signature.{Signature}
-use Rattle.mz_logic.specs.Declaration.{Form, plain_form, abstract_form, defined, Term, Declaration, sort_decl, term_decl, assertion_decl, dummies_of, terms, signatures, is_defined, body_tree}
+use Rattle.mz_logic.specs.Declaration.{Form, plain_form, abstract_form, defined, Term, Declaration, dummies_of, terms, signatures, is_defined, body_tree}
 use Rattle.mz_logic.specs.Sorts.{HasSort, Fits, IsSorted}
 use Rattle.mz_logic.specs.Legality.{signature_at, sort_of}
 use Rattle.mz_logic.specs.Conversions.{Conversion, Conversions, refl_conv, sym_conv, cong_conv, unfold_conv, gap_conv, no_convs, more_convs, AreFresh, Between, AllBetween}
 use Rattle.mz_logic.specs.declared.binder.Binder.{Binder}
-use Rattle.mz_logic.proofs.Offered.{sort_is, signature_is, many_of_fits, signature_of_term}
+use Rattle.mz_logic.proofs.Offered.{sort_is, signature_is, many_of_fits, signature_of_term, length-signatures}
 use Rattle.mz_typing.specs.Parts.{part, is_list}
 use Rattle.mz_typing.specs.Sides.{left, right, lefts, rights, term_at}
 use Rattle.mz_typing.specs.Rules.{expr_rules, exprs_rules, operand_rules, conv_rules, convs_rules, unfold_rules, side_rules, variable_rules, conv_count, AreNew, refl_node}
@@ -25,12 +25,6 @@ sorted_sides env ctx (sym_conv c) l r h = (h.0, h.1)
 sorted_sides env ctx (cong_conv t cs) l r h = (h.0, h.1)
 sorted_sides env ctx (unfold_conv t es ys c) l r h = (h.0, h.1)
 sorted_sides env ctx (gap_conv a b) l r h = (h.0, h.1)
-
-pub length-signatures : (env : List Declaration) → length (signatures env) ≡ length (terms env)
-length-signatures [] = refl
-length-signatures (sort_decl _ ∷ env) = length-signatures env
-length-signatures (term_decl d ∷ env) = ap suc (length-signatures env)
-length-signatures (assertion_decl _ ∷ env) = length-signatures env
 
 pub defined_is : (f : Form) → IsTrue (is_defined f) → f ≡ defined (dummies_of f) (body_tree f)
 defined_is plain_form h = absurd (true≢false (sym h))

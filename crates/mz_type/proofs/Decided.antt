@@ -1,7 +1,9 @@
 -- Each fact that the type rules ask for holds or fails: the facts on lists, trees and variables.
-use Rattle.std.proofs.Common.{ℕ, zero, suc, ◌≡◌, ◌<◌, ◌⊎◌, inl, inr, Bool, true, false, true≢false, List, [], ◌∷◌, length, slice_get, All, Contains, Some, None, Option, refl, sym, ap, ◌∙◌, subst, arith}
+use Rattle.std.proofs.Common.{ℕ, zero, suc, ◌≡◌, ◌<◌, ◌⊎◌, inl, inr, true, false, List, [], ◌∷◌, length, slice_get, All, Contains, Some, None, Option, refl, sym, ap, ◌∙◌, subst, arith}
 use Rattle.std.specs.Prelude.{IsBitSet}
-use Rattle.std.proofs.lemmas.Bool.{cases_eq, cases_lt}
+use Rattle.std.proofs.lemmas.Bool.{cases_eq}
+use Rattle.std.proofs.lemmas.Option.{none-some}
+use Rattle.mz_general.proofs.Offered.{contains_tail, contains_cases, either-decided, not-decided, three-decided, Decided, true-decided, false-decided, contains-decided, below-decided}
 use Rattle.mz_checks.proofs.Offered.{implied-decided, both-decided}
 use Rattle.mz_logic.specs.Tree.{Tree, Trees, var, app, none, more, operand}
 use Rattle.mz_logic.specs.Signature.{Signature}
@@ -12,37 +14,14 @@ use Rattle.mz_logic.specs.Legality.{IsParam, InRange}
 use Rattle.mz_logic.specs.Conversions.{IsBoundOf}
 use Rattle.mz_logic.specs.declared.binder.Binder.{Binder}
 use Rattle.mz_logic.specs.declared.binder.SortMods.{SortMods}
-use Rattle.mz_logic.proofs.Offered.{one_at, none_some, each_from_all, all_from_each, DepsInside, free_below}
+use Rattle.mz_logic.proofs.Offered.{one_at, each_from_all, all_from_each, DepsInside, free_below, same-variable, same-term, same-operands, same-first, same-rest}
 use Rattle.mz_typing.specs.Rules.{AreNew}
 
-abbrev pub Decided : Type 0 → Type 0
-Decided P = P ⊎ (P → ⊥)
-
 -- ---- of facts that are decided
-
-pub not-decided : {P : Type 0} → Decided P → Decided (P → ⊥)
-not-decided (inl p) = inr (λ f. f p)
-not-decided (inr out) = inl out
-
-pub either-decided : {P Q : Type 0} → Decided P → Decided Q → Decided (P ⊎ Q)
-either-decided (inl p) q = inl (inl p)
-either-decided (inr out) (inl q) = inl (inr q)
-either-decided (inr out) (inr out') = inr (λ h. elim h [ inl p ↦ out p | inr q ↦ out' q ])
 
 pub same-decided : {P Q : Type 0} → (P → Q) → (Q → P) → Decided P → Decided Q
 same-decided to from (inl p) = inl (to p)
 same-decided to from (inr out) = inr (λ q. out (from q))
-
-pub true-decided : (b : Bool) → Decided (b ≡ true)
-true-decided true = inl refl
-true-decided false = inr (λ h. true≢false (sym h))
-
-pub false-decided : (b : Bool) → Decided (b ≡ false)
-false-decided true = inr true≢false
-false-decided false = inl refl
-
-pub below-decided : (m n : ℕ) → Decided (m < n)
-below-decided m n = elim (cases_lt m n) [ inl lt ↦ inl lt | inr le ↦ inr (λ lt. omega arith) ]
 
 pub empty-decided : {A : Type 0} (xs : List A) → Decided (xs ≡ [])
 empty-decided [] = inl refl
@@ -55,7 +34,7 @@ pub at-decided : {A : Type 0} (xs : List A) (i : ℕ) (P : A → Type 0) → ((x
 at-decided {A} xs i P one = go (slice_get xs i) refl
   where
     go : (o : Option A) → slice_get xs i ≡ o → Decided ((x : A) × (slice_get xs i ≡ Some x) × P x)
-    go None at = inr (λ h. none_some (sym at ∙ h.1))
+    go None at = inr (λ h. none-some _ (sym at ∙ h.1))
     go (Some x) at = same-decided (λ p. (x, at, p)) (λ h. subst P (one_at h.1 at) h.2) (one x)
 
 -- two facts about it
@@ -63,12 +42,9 @@ at_both-decided : {A : Type 0} (xs : List A) (i : ℕ) (P Q : A → Type 0) → 
 at_both-decided xs i P Q one two =
     same-decided (λ (x, at, pq). (x, at, pq.0, pq.1)) (λ (x, at, p, q). (x, at, (p, q))) (at-decided xs i (λ x. P x × Q x) (λ x. both-decided (one x) (two x)))
 
-three-decided : {P Q R : Type 0} → Decided P → Decided Q → Decided R → Decided (P × Q × R)
-three-decided p q r = same-decided (λ (x, yz). (x, yz.0, yz.1)) (λ (x, y, z). (x, (y, z))) (both-decided p (both-decided q r))
-
 -- a fact about each place and its element
 pub each-decided : {A : Type 0} (xs : List A) (P : ℕ → A → Type 0) → ((i : ℕ) (x : A) → Decided (P i x)) → Decided ((i : ℕ) (x : A) → slice_get xs i ≡ Some x → P i x)
-each-decided [] P one = inl (λ i x at. absurd (none_some at))
+each-decided [] P one = inl (λ i x at. absurd (none-some _ at))
 each-decided {A} (y ∷ ys) P one = same-decided to from (both-decided (one 0 y) (each-decided ys (λ i x. P (suc i) x) (λ i x. one (suc i) x)))
   where
     to : P 0 y × ((i : ℕ) (x : A) → slice_get ys i ≡ Some x → P (suc i) x) → (i : ℕ) (x : A) → slice_get (y ∷ ys) i ≡ Some x → P i x
@@ -81,13 +57,6 @@ each-decided {A} (y ∷ ys) P one = same-decided to from (both-decided (one 0 y)
 pub all-decided : {A : Type 0} (P : A → Type 0) (xs : List A) → ((x : A) → Decided (P x)) → Decided (All P xs)
 all-decided P xs one = same-decided (all_from_each P xs) (each_from_all P xs) (each-decided xs (λ _ x. P x) (λ _ x. one x))
 
-contains_later : (x y : ℕ) (xs : List ℕ) → Contains xs y → Contains (x ∷ xs) y
-contains_later x y xs (k, below, is) = (suc k, omega (arith, below), is)
-
-contains_cases : (x y : ℕ) (xs : List ℕ) → Contains (x ∷ xs) y → (x ≡ y) ⊎ Contains xs y
-contains_cases x y xs (zero, below, is) = inl is
-contains_cases x y xs (suc k, below, is) = inr (k, omega (arith, below), is)
-
 -- a fact about one of the elements
 pub some-decided : (xs : List ℕ) (P : ℕ → Type 0) → ((x : ℕ) → Decided (P x)) → Decided ((x : ℕ) × Contains xs x × P x)
 some-decided [] P one = inr (λ (x, (k, below, _), _). omega (arith, below))
@@ -95,14 +64,10 @@ some-decided (y ∷ ys) P one = same-decided to from (either-decided (one y) (so
   where
     to : P y ⊎ ((x : ℕ) × Contains ys x × P x) → (x : ℕ) × Contains (y ∷ ys) x × P x
     to (inl here) = (y, (0, omega arith, refl), here)
-    to (inr (x, has, p)) = (x, contains_later y x ys has, p)
+    to (inr (x, has, p)) = (x, contains_tail y x ys has, p)
 
     from : (x : ℕ) × Contains (y ∷ ys) x × P x → P y ⊎ ((x : ℕ) × Contains ys x × P x)
     from (x, has, p) = elim (contains_cases y x ys has) [ inl is ↦ inl (subst P (sym is) p) | inr later ↦ inr (x, later, p) ]
-
-pub contains-decided : (xs : List ℕ) (y : ℕ) → Decided (Contains xs y)
-contains-decided xs y =
-    same-decided (λ (x, has, is). subst (Contains xs) is has) (λ has. (y, has, refl)) (some-decided xs (λ x. x ≡ y) (λ x. cases_eq x y))
 
 -- a fact about each number below n
 pub all_below-decided : (n : ℕ) (P : ℕ → Type 0) → ((x : ℕ) → Decided (P x)) → Decided ((x : ℕ) → x < n → P x)
@@ -114,35 +79,20 @@ all_below-decided (suc n) P one = same-decided to (λ h. (h n (omega arith), λ 
 
 -- ---- trees
 
-head_is : (t u : ℕ) (es fs : Trees) → app t es ≡ app u fs → t ≡ u
-head_is t u es fs h = cc
-
-operands_are : (t u : ℕ) (es fs : Trees) → app t es ≡ app u fs → es ≡ fs
-operands_are t u es fs h = cc
-
-first_is : (e f : Tree) (es fs : Trees) → more e es ≡ more f fs → e ≡ f
-first_is e f es fs h = cc
-
-rest_are : (e f : Tree) (es fs : Trees) → more e es ≡ more f fs → es ≡ fs
-rest_are e f es fs h = cc
-
-variable_is : (x y : ℕ) → var x ≡ var y → x ≡ y
-variable_is x y h = cc
-
 mutual
   pub tree-decided : (e f : Tree) → Decided (e ≡ f)
-  tree-decided (var x) (var y) = same-decided (ap var) (variable_is x y) (cases_eq x y)
+  tree-decided (var x) (var y) = same-decided (ap var) (same-variable x y) (cases_eq x y)
   tree-decided (var x) (app u fs) = inr (λ h. cc)
   tree-decided (app t es) (var y) = inr (λ h. cc)
   tree-decided (app t es) (app u fs) =
-      same-decided (λ (h, k). ap (λ x. app x es) h ∙ ap (app u) k) (λ h. (head_is t u es fs h, operands_are t u es fs h)) (both-decided (cases_eq t u) (trees-decided es fs))
+      same-decided (λ (h, k). ap (λ x. app x es) h ∙ ap (app u) k) (λ h. (same-term t u es fs h, same-operands t u es fs h)) (both-decided (cases_eq t u) (trees-decided es fs))
 
   pub trees-decided : (es fs : Trees) → Decided (es ≡ fs)
   trees-decided none none = inl refl
   trees-decided none (more f fs) = inr (λ h. cc)
   trees-decided (more e es) none = inr (λ h. cc)
   trees-decided (more e es) (more f fs) =
-      same-decided (λ (h, k). ap (λ x. more x es) h ∙ ap (more f) k) (λ h. (first_is e f es fs h, rest_are e f es fs h)) (both-decided (tree-decided e f) (trees-decided es fs))
+      same-decided (λ (h, k). ap (λ x. more x es) h ∙ ap (more f) k) (λ h. (same-first e f es fs h, same-rest e f es fs h)) (both-decided (tree-decided e f) (trees-decided es fs))
 
 -- ---- sorts and binders
 
@@ -178,7 +128,7 @@ param-decided ss params i b =
 pub bound_var-decided : (ctx : List Binder) (e : Tree) → Decided (IsBoundVar ctx e)
 bound_var-decided ctx (app t es) = inr (λ (x, b, is, _, _). absurd (let e : app t es ≡ var x = is in cc))
 bound_var-decided ctx (var x) =
-    same-decided (λ (b, at, bd). (x, b, refl, at, bd)) (λ (y, b, is, at, bd). (b, ap (slice_get ctx) (variable_is x y is) ∙ at, bd))
+    same-decided (λ (b, at, bd). (x, b, refl, at, bd)) (λ (y, b, is, at, bd). (b, ap (slice_get ctx) (same-variable x y is) ∙ at, bd))
     (bound_at-decided ctx x)
 
 mutual
@@ -235,7 +185,7 @@ apart_from-decided ctx es i p j q = implied-decided (true-decided q.bound) (go (
     go : (o : Tree) → operand es j ≡ o → Decided ((x : ℕ) → operand es j ≡ var x → InV ctx x (operand es i) → (i ≡ j) ⊎ Contains p.deps j)
     go (app t fs) is = inl (λ x is'. absurd (let e : app t fs ≡ var x = sym is ∙ is' in cc))
     go (var y) is =
-        same-decided (λ h x is' has. h (subst (λ z. InV ctx z (operand es i)) (variable_is x y (sym is' ∙ is)) has)) (λ h has. h y is has)
+        same-decided (λ h x is' has. h (subst (λ z. InV ctx z (operand es i)) (same-variable x y (sym is' ∙ is)) has)) (λ h has. h y is has)
         (implied-decided (in_v-decided ctx y (operand es i)) (either-decided (cases_eq i j) (contains-decided p.deps j)))
 
 pub apart-decided : (ctx : List Binder) (es : Trees) (params : List Binder) → Decided (Apart ctx es params)

@@ -17,7 +17,7 @@ use Rattle.mz_typing.specs.Parts.{part, after}
 use Rattle.mz_typing.specs.Sides.{right, assertion_at, with_fact, proved, all_proved}
 use Rattle.mz_typing.specs.Rules.{expr_rules, exprs_rules, operand_rules, conv_rules, proof_rules, proofs_rules, citation_rules, subproof_rules}
 use Rattle.mz_typing.specs.Names.{ProofThere, ProofsThere}
-use Rattle.mz_typing.proofs.Offered.{checks_by_fits, checks_by_sort, claim_from, claim_to, fits_by_checks, operands_by_fits}
+use Rattle.mz_typing.proofs.Offered.{checks_by_fits, checks_by_sort, claim_from, claim_to, fits_by_checks, operands_by_fits, instances_many}
 use Rattle.mz_type.specs.Meaning.{then_deriv, derivation, derivations, LetsDerive, AllLetsDerive}
 use Rattle.mz_type.proofs.ConvRules.{between_by_checks, checks_by_between, sides_are, sorted_sides}
 
@@ -29,10 +29,6 @@ listed_operand (more e es) (suc i) below = listed_operand es i (le_of_suc-le-suc
 length_with : (es : Trees) (e : Tree) → length (listed (with_fact es e)) ≡ suc (length (listed es))
 length_with none e = refl
 length_with (more d es) e = ap suc (length_with es e)
-
-length-instances : (f es : Trees) → length (listed (instances f es)) ≡ length (listed es)
-length-instances f none = refl
-length-instances f (more e es) = ap suc (length-instances f es)
 
 module _ (env : List Declaration) (ctx : List Binder) (hyps : Trees) where
   -- the derivations of the visible lets derive what the lets prove
@@ -90,7 +86,7 @@ module _ (env : List Declaration) (ctx : List Binder) (hyps : Trees) where
             refl,
             fits_by_checks (signatures env) ctx es (parts (part (parts n) 1)) (parts (part (parts n) 1)) a.params inner (all_hold-first A _ all) own.0.0 (all_hold-first C _ own.1),
             last.0,
-            hyps_by_checks ps ds lets (after 2 (parts n)) (instances es a.hyps) k.0 (own.0.1 ∙ sym (length-instances es a.hyps)) last.1,
+            hyps_by_checks ps ds lets (after 2 (parts n)) (instances es a.hyps) k.0 (own.0.1 ∙ sym (instances_many es a.hyps)) last.1,
           ),
           k.1,
         )
@@ -154,7 +150,7 @@ module _ (env : List Declaration) (ctx : List Binder) (hyps : Trees) where
           all_hold-both A _ (checks_by_fits (signatures env) ctx es ns a.params fits)
               (all_hold-both B _ k.0
               (subst (λ x. AllHold (citation_rules (signatures env) ctx x es (all_proved env hyps lets ps) n)) (sym same) (
-                (many_of_fits (signatures env) ctx es a.params fits, k.2 ∙ length-instances es a.hyps),
+                (many_of_fits (signatures env) ctx es a.params fits, k.2 ∙ instances_many es a.hyps),
                 all_hold-both (operand_rules (signatures env) ctx es ns a.params) _ (operands_by_fits (signatures env) ctx es ns a.params fits) (apart, k.1),
               ))),
           ap (λ x. instance es x.conclusion) same ∙ sym is,

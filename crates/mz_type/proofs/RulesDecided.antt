@@ -4,6 +4,7 @@ use Rattle.std.proofs.Common.{ℕ, suc, ◌≡◌, ◌<◌, inl, inr, Bool, true
 use Rattle.std.proofs.lemmas.Bool.{cases_eq}
 use Rattle.std.proofs.lemmas.Option.{slice_get_within}
 use Rattle.std.proofs.lemmas.List.Elements.{All-contains}
+use Rattle.mz_general.proofs.Offered.{true-decided}
 use Rattle.mz_checks.specs.Checks.{retold, AreDecided}
 use Rattle.mz_checks.proofs.Offered.{are_decided-both, implied-decided, both-decided, retold-decided}
 use Rattle.mz_sexpr.specs.Node.{Node, Nodes, parts}
@@ -25,7 +26,7 @@ use Rattle.mz_typing.specs.Rules.{operand_rules, expr_rules, exprs_rules, conv_c
 use Rattle.mz_typing.specs.Names.{ExprsThere, DeclThere, StatementsThere}
 use Rattle.mz_typing.proofs.Offered.{are_params, sort_by_checks}
 use Rattle.mz_type.specs.TextRules.{rules_from}
-use Rattle.mz_type.proofs.Decided.{tree-decided, true-decided, all-decided, claim_sort-decided, result_sort-decided, dummy_sort-decided, bound_at-decided, bound_of-decided, param-decided, bound_var-decided, new-decided, free_vars-decided, apart-decided}
+use Rattle.mz_type.proofs.Decided.{tree-decided, all-decided, claim_sort-decided, result_sort-decided, dummy_sort-decided, bound_at-decided, bound_of-decided, param-decided, bound_var-decided, new-decided, free_vars-decided, apart-decided}
 
 -- ---- expressions, conversions and proofs
 

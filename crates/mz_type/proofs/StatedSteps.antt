@@ -1,5 +1,5 @@
 -- A text's statements are checked one after another; what each declares and what it says beside that are kept apart.
-use Rattle.std.proofs.Common.{ℕ, zero, suc, ◌≡◌, ◌<◌, ◌+◌, ◌^◌, List, [], ◌∷◌, ◌++◌, length, get_or, refl, sym, ap, ◌∙◌, subst, arith, Bool, Some, None, length-append, append-nil}
+use Rattle.std.proofs.Common.{ℕ, zero, suc, ◌≡◌, ◌<◌, ◌+◌, ◌^◌, List, [], ◌∷◌, ◌++◌, length, get_or, refl, sym, ap, ◌∙◌, subst, arith, Bool, Some, length-append, append-nil}
 use Rattle.std.specs.Prelude.{option_map, slice_get}
 use Rattle.mz_checks.specs.Checks.{AllHold}
 use Rattle.mz_checks.proofs.Offered.{Decides, decides-whole}
@@ -137,8 +137,3 @@ both_there t ds bs i is many below =
     let all = statements_many ds bs many in
     let same = ap length is in
     (omega (arith, all, same, below), omega (arith, all, same, below, many))
-
-pub never_none : {A : Type 0} (xs : List A) (i : ℕ) → i < length xs → None ≡ slice_get xs i → ⊥
-never_none [] i below h = omega (arith, below)
-never_none (x ∷ xs) zero below h = cc
-never_none (x ∷ xs) (suc i) below h = never_none xs i (omega (arith, below)) h

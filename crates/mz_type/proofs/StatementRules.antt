@@ -1,5 +1,6 @@
 -- The rules of a statement hold exactly where it is legal by its proof.
 use Rattle.std.proofs.Common.{ℕ, zero, suc, ◌≡◌, Bool, true, true≢false, List, [], ◌∷◌, ◌++◌, slice_get, length, All, Contains, Option, Some, None, refl, sym, ◌∙◌, subst}
+use Rattle.std.proofs.lemmas.Option.{none-some}
 use Rattle.mz_checks.specs.Checks.{AllHold}
 use Rattle.mz_checks.proofs.Offered.{all_hold-first, all_hold-rest, all_hold-both}
 use Rattle.mz_sexpr.specs.Node.{Node, Nodes, parts}
@@ -14,7 +15,7 @@ use Rattle.mz_logic.specs.Legality.{EachTree, IsDummy, IsLegalDecl}
 use Rattle.mz_logic.specs.LegalLists.{AreDummies}
 use Rattle.mz_logic.specs.Derivations.{Derives, no_derivs}
 use Rattle.mz_logic.specs.declared.binder.Binder.{Binder}
-use Rattle.mz_logic.proofs.Offered.{one_at, none_some, sort_is, each_from_all, all_from_each, legal_by_rules, terms_are_sorted, assertions_are_sorted}
+use Rattle.mz_logic.proofs.Offered.{one_at, sort_is, each_from_all, all_from_each, legal_by_rules, terms_are_sorted, assertions_are_sorted}
 use Rattle.mz_forms.specs.Gaps.{SomeLeavesOnly}
 use Rattle.mz_statements.specs.Statements.{HasGapsOnly, Statement}
 use Rattle.mz_forms.specs.Proof.{Proof}
@@ -30,7 +31,7 @@ use Rattle.mz_type.proofs.ProofRules.{derives_by_checks, checks_by_derives}
 
 module _ (env : List Declaration) where
   dummies_from : (bs : List Binder) (ns : Nodes) → AllHold (dummy_rules env bs ns) → (i : ℕ) (b : Binder) → slice_get bs i ≡ Some b → MayBeDummySort (sorts env) b.sort
-  dummies_from [] ns all i b at = absurd (none_some at)
+  dummies_from [] ns all i b at = absurd (none-some _ at)
   dummies_from (c ∷ bs) ns (here, all) zero b at = subst (λ x. MayBeDummySort (sorts env) x.sort) (one_at refl at) here
   dummies_from (c ∷ bs) ns (here, all) (suc i) b at = dummies_from bs (rest ns) all i b at
 
@@ -57,7 +58,7 @@ module _ (env : List Declaration) (ctx : List Binder) where
   sigs = signatures env
 
   claims_from : (ax : _) (es : Trees) (ns : Nodes) → ExprsThere (length sigs) (length ctx) es → AllHold (claims_rules env ctx ax es ns) → AreProvable env ctx es
-  claims_from ax none ns there all i e at = absurd (none_some at)
+  claims_from ax none ns there all i e at = absurd (none-some _ at)
   claims_from ax (more d es) ns (there, inner) all zero e at =
       subst (HasProvable env ctx) (one_at refl at) (claim_from env ctx d (hyp_node ax (first ns)) there (all_hold-first (claim_rules env ctx d (hyp_node ax (first ns))) _ all))
   claims_from ax (more d es) ns (there, inner) all (suc i) e at =
@@ -78,8 +79,8 @@ module _ (env : List Declaration) (sig : Signature) where
 
   body_from : (F : Form) (ps : Nodes) → DummiesThere env (dummies_of F) → ExprsThere (length (signatures env)) (length (sig.params ++ dummies_of F)) (body_of F)
       → AllHold (body_rules env sig F ps) → BodyRight F
-  body_from plain_form ps dummies there all = (λ i b at. absurd (none_some at), tt)
-  body_from abstract_form ps dummies there all = (λ i b at. absurd (none_some at), tt)
+  body_from plain_form ps dummies there all = (λ i b at. absurd (none-some _ at), tt)
+  body_from abstract_form ps dummies there all = (λ i b at. absurd (none-some _ at), tt)
   body_from (defined ds e) ps dummies (there, _) all =
       let ctx = sig.params ++ ds in
       let A = dummy_rules env ds (parts (part ps 4)) in

@@ -1,5 +1,6 @@
 -- What is read as a list of statements has all its names, over what was declared before.
 use Rattle.std.proofs.Common.{ℕ, zero, suc, ◌≡◌, ◌<◌, ◌+◌, Bool, true, false, true≢false, List, [], ◌∷◌, ◌++◌, length, slice_get, All, Some, refl, sym, ap, ◌∙◌, subst, arith, length-append}
+use Rattle.std.proofs.lemmas.Option.{none-some}
 use Rattle.mz_sexpr.specs.Node.{Node, Nodes, atom, list, no_nodes, node}
 use Rattle.mz_logic.specs.Tree.{Tree, Trees, none, more, listed}
 use Rattle.mz_logic.specs.Declaration.{Declaration, sort_decl, term_decl, assertion_decl, sorts, signatures, assertions}
@@ -7,7 +8,7 @@ use Rattle.mz_logic.specs.Legality.{IsDummy}
 use Rattle.mz_logic.specs.LegalLists.{MayBeLocal}
 use Rattle.mz_logic.specs.Laws.{SortsThere}
 use Rattle.mz_logic.specs.declared.binder.Binder.{Binder}
-use Rattle.mz_logic.proofs.Offered.{sorts-append, assertions-append, one_at, none_some, all_from_each}
+use Rattle.mz_logic.proofs.Offered.{sorts-append, assertions-append, one_at, all_from_each, signatures-append}
 use Rattle.mz_forms.specs.Name.{Names, scope_of, no_names, names_with}
 use Rattle.mz_forms.specs.Expressions.{IsParam as IsParamNode, IsDummy as IsDummyNode, AreBinders, AreParams, AreDummies}
 use Rattle.mz_forms.specs.Proof.{Proof}
@@ -59,7 +60,7 @@ module _ (Is : List (List ℕ) → Node → List ℕ → Binder → Type 0) wher
   each_binder P one vars ns bs after h = all_from_each P bs (go vars ns bs after h)
     where
       go : (vars : List (List ℕ)) (ns : Nodes) (bs : List Binder) (after : List (List ℕ)) → AreBinders Is vars ns bs after → (i : ℕ) (b : Binder) → slice_get bs i ≡ Some b → P b
-      go vars no_nodes bs after (ends, _) i b at = absurd (none_some (ap (λ cs. slice_get cs i) (sym ends) ∙ at))
+      go vars no_nodes bs after (ends, _) i b at = absurd (none-some _ (ap (λ cs. slice_get cs i) (sym ends) ∙ at))
       go vars (node n ns) bs after (x, c, cs, here, h, is) zero b at = subst P (one_at refl (ap (λ ds. slice_get ds 0) (sym is) ∙ at)) (one vars n x c here)
       go vars (node n ns) bs after (x, c, cs, here, h, is) (suc i) b at = go (vars ++ x ∷ []) ns cs after h i b (ap (λ ds. slice_get ds (suc i)) (sym is) ∙ at)
 
@@ -231,12 +232,6 @@ module _ (names : Names) (env : List Declaration) (m : Matches names env) where
   statement_there (list _ (node k ns)) s h = marked_there (is_local_word k) k ns s h
 
 -- ---- all statements
-
-signatures-append : (a b : List Declaration) → signatures (a ++ b) ≡ signatures a ++ signatures b
-signatures-append [] b = refl
-signatures-append (sort_decl _ ∷ a) b = signatures-append a b
-signatures-append (term_decl d ∷ a) b = ap (λ xs. d.signature ∷ xs) (signatures-append a b)
-signatures-append (assertion_decl _ ∷ a) b = signatures-append a b
 
 one_longer : {A : Type 0} (xs : List (List ℕ)) (ys : List A) (w : List ℕ) (y : A) → length xs ≡ length ys → length (xs ++ w ∷ []) ≡ length (ys ++ y ∷ [])
 one_longer xs ys w y h = length-append xs (w ∷ []) ∙ ap (λ n. n + 1) h ∙ sym (length-append ys (y ∷ []))

@@ -5,6 +5,7 @@ use Rattle.std.proofs.Common.{ℕ, zero, suc, ◌≡◌, ◌≤◌, ◌<◌, ◌
 use Rattle.mz_logic.specs.Tree.{Tree, Trees, var, app, none, more, operand, instance, instances, followed_by, variables, size, trees_size}
 use Rattle.mz_logic.specs.Declaration.{Form, plain_form, abstract_form, defined, Declaration, sort_decl, term_decl, assertion_decl, body_of, body_tree}
 use Rattle.mz_logic.specs.Conversions.{Conversion, Conversions, refl_conv, sym_conv, cong_conv, unfold_conv, gap_conv, no_convs, more_convs}
+use Rattle.mz_logic.proofs.Offered.{trees_size-followed}
 use Rattle.mz_forms.specs.Proof.{Proof, Proofs, by_hyp, by_name, by_citation, by_conv, by_let, by_gap, no_proofs, more_proofs}
 use Rattle.mz_statements.specs.Statements.{Statement}
 use Rattle.mz_typing.specs.Sides.{assertion_at, term_at}
@@ -42,10 +43,6 @@ size_pos : (e : Tree) → 1 ≤ size e
 size_pos (var x) = omega arith
 size_pos (app t es) = omega arith
 
-size_of_both : (es fs : Trees) → trees_size (followed_by es fs) ≡ trees_size es + trees_size fs
-size_of_both none fs = omega arith
-size_of_both (more e es) fs = omega (arith, size_of_both es fs)
-
 size_of_variables : (ys : List ℕ) → trees_size (variables ys) ≡ length ys
 size_of_variables [] = refl
 size_of_variables (y ∷ ys) = omega (arith, size_of_variables ys)
@@ -74,7 +71,7 @@ module _ (env : List Declaration) (most : ℕ) (within : Within env most) where
 
         own : 1 + trees_size es + size (instance (followed_by es (variables ys)) (body_tree (term_at env t).form)) ≤ (1 + trees_size es + length ys) * (most + 1)
         own =
-            let e : trees_size f ≡ trees_size es + length ys = size_of_both es (variables ys) ∙ ap (λ n. trees_size es + n) (size_of_variables ys) in
+            let e : trees_size f ≡ trees_size es + length ys = trees_size-followed es (variables ys) ∙ ap (λ n. trees_size es + n) (size_of_variables ys) in
             let k = own_part (trees_size es + length ys) (size body) most (size (instance f body)) (within.1 t) (subst (λ n. size (instance f body) ≤ size body * (n + 1)) e (instance_size f body)) in
             omega (arith, k, ap (λ n. n * (most + 1)) (add_assoc 1 (trees_size es) (length ys)))
 

@@ -13,15 +13,12 @@ use Rattle.mz_statements.specs.Statements.{Statement, kind_of, is_local_word, Is
 use Rattle.mz_forms.specs.Proofs.{conv_keyword, proof_keyword, IsConv, IsConvBy, AreConvs, IsFact, IsProof, IsProofBy, AreProofs}
 use Rattle.mz_forms.specs.declared.keyword.Keyword.{Keyword}
 use Rattle.mz_forms.specs.declared.keyword.Keyword.TheVariants.{Conv as conv_word, Let as let_word, Refl as refl_word, Sym as sym_word, Unfold as unfold_word, Sorry as sorry_word, Other as no_word}
+use Rattle.mz_forms.proofs.Offered.{node_size_positive}
 use Rattle.mz_statements.specs.declared.kind.Kind.{Kind}
 use Rattle.mz_statements.specs.declared.kind.Kind.TheVariants.{Sort as sort_kind, Term as term_kind, Axiom as axiom_kind, Def as def_kind, Theorem as theorem_kind, Other as no_kind}
 use Rattle.mz_type.specs.Sizes.{conv_size, convs_size, proof_size, proofs_size, stated_size, statement_size, text_size}
 use Rattle.mz_type.specs.Weight.{declaration_weight, weight_of}
 use Rattle.mz_type.proofs.WeightBound.{weight_bound, square_bound}
-
-node_pos : (n : Node) → 1 ≤ node_size n
-node_pos (atom _ _) = omega arith
-node_pos (list _ ns) = omega arith
 
 -- ---- expressions and variables
 
@@ -43,7 +40,7 @@ module _ (sc : Scope) where
 
   variables_written : (ns : Nodes) (ys : List ℕ) → AreVariables sc.vars ns ys → length ys ≤ nodes_size ns
   variables_written no_nodes ys is = omega (arith, ap length is)
-  variables_written (node n ns) ys (x, xs, _, h, is) = omega (arith, ap length is, node_pos n, variables_written ns xs h)
+  variables_written (node n ns) ys (x, xs, _, h, is) = omega (arith, ap length is, node_size_positive n, variables_written ns xs h)
 
   variable_list_written : (n : Node) (ys : List ℕ) → IsVariableList sc.vars n ys → length ys ≤ node_size n
   variable_list_written (atom _ _) ys h = absurd h
@@ -146,7 +143,7 @@ module _ (sc : Scope) where
 
 binders_written : (Is : List (List ℕ) → Node → List ℕ → Binder → Type 0) (vars : List (List ℕ)) (ns : Nodes) (bs : List Binder) (after : List (List ℕ)) → AreBinders Is vars ns bs after → length bs ≤ nodes_size ns
 binders_written Is vars no_nodes bs after (ends, _) = omega (arith, ap length ends)
-binders_written Is vars (node n ns) bs after (x, c, cs, _, h, is) = omega (arith, ap length is, node_pos n, binders_written Is (vars ++ x ∷ []) ns cs after h)
+binders_written Is vars (node n ns) bs after (x, c, cs, _, h, is) = omega (arith, ap length is, node_size_positive n, binders_written Is (vars ++ x ∷ []) ns cs after h)
 
 -- ---- statements
 
@@ -238,7 +235,7 @@ module _ (names : Names) where
   statement_written : (n : Node) (s : Statement) → IsStatement names n s → statement_size s ≤ node_size n
   statement_written (atom _ _) s h = absurd h
   statement_written (list _ no_nodes) s h = absurd h
-  statement_written (list _ (node k ns)) s h = omega (arith, marked_written (is_local_word k) k ns s h, node_pos k)
+  statement_written (list _ (node k ns)) s h = omega (arith, marked_written (is_local_word k) k ns s h, node_size_positive k)
 
 pub text_written : (names : Names) (ns : Nodes) (ss : List Statement) → AreStatements names ns ss → text_size ss ≤ nodes_size ns
 text_written names no_nodes ss is = omega (arith, ap text_size is)

@@ -43,7 +43,7 @@ none_past (x ∷ xs) (suc i) h = let below = none_past xs i h in omega (arith, b
 
 -- ---- lists with something put in
 
-instances_many : (fs es : Trees) → length (listed (instances fs es)) ≡ length (listed es)
+pub instances_many : (fs es : Trees) → length (listed (instances fs es)) ≡ length (listed es)
 instances_many fs none = refl
 instances_many fs (more e es) = ap suc (instances_many fs es)
 

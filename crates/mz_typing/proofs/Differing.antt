@@ -1,19 +1,16 @@
 -- Variables that differ, none of them in V of an operand, looked at one after another.
-use Rattle.std.proofs.Common.{◌≡◌, ◌<◌, ◌⊎◌, ◌↔◌, ℕ, Bool, true, false, true≢false, IsTrue, List, [], ◌∷◌, Contains, refl, sym, subst, inl, inr, arith}
+use Rattle.std.proofs.Common.{◌≡◌, ◌⊎◌, ◌↔◌, ℕ, Bool, true, false, true≢false, IsTrue, List, [], ◌∷◌, Contains, refl, sym, subst, inl, inr}
 use Rattle.std.specs.Prelude.{⊤, not}
+use Rattle.mz_general.proofs.Offered.{contains_none, contains_tail, contains_head, contains_cases}
 use Rattle.mz_logic.specs.Tree.{Trees}
 use Rattle.mz_logic.specs.Variables.{InSomeV}
 use Rattle.mz_logic.specs.declared.binder.Binder.{Binder}
-use Rattle.mz_logic.proofs.Offered.{contains_cases, contains_head, contains_tail}
 use Rattle.mz_typing.specs.Rules.{AreNew}
 
 -- none is among those seen, or stands again behind itself
 abbrev pub Differ : List ℕ → List ℕ → Type 0
 Differ seen [] = ⊤
 Differ seen (y ∷ ys) = (Contains seen y → ⊥) × (Contains ys y → ⊥) × Differ seen ys
-
-nothing-in : (x : ℕ) → Contains [] x → ⊥
-nothing-in x (k, below, _) = absurd (let e : k < 0 = below in omega (arith, e))
 
 module _ (ctx : List Binder) (es : Trees) where
   -- the same, and none of both lists is in V of an operand
@@ -29,14 +26,14 @@ module _ (ctx : List Binder) (es : Trees) where
   )
 
   new-from : (ys : List ℕ) → AreNew ctx es ys → AreNewTo [] ys
-  new-from [] h = (λ x found named. elim found [ inl none ↦ nothing-in x none | inr none ↦ nothing-in x none ], tt)
+  new-from [] h = (λ x found named. elim found [ inl none ↦ contains_none x none | inr none ↦ contains_none x none ], tt)
   new-from (y ∷ ys) (free, again, rest) =
       let (out, differ) = new-from ys rest in (
         λ x found named. elim found [
-          | inl none ↦ nothing-in x none
+          | inl none ↦ contains_none x none
           | inr has ↦ elim (contains_cases y x ys has) [ inl same ↦ free (subst (λ z. InSomeV ctx z es) (sym same) named) | inr behind ↦ out x (inr behind) named ]
         ],
-        (nothing-in y, again, differ),
+        (contains_none y, again, differ),
       )
 
   -- before the first
@@ -62,7 +59,7 @@ module _ (ctx : List Binder) (es : Trees) where
       )
 
       differ-from : (xs : List ℕ) → Differ new xs → Differ seen xs × (Contains xs y → ⊥)
-      differ-from [] h = (tt, nothing-in y)
+      differ-from [] h = (tt, contains_none y)
       differ-from (x ∷ xs) (out, again, rest) =
           let behind = differ-from xs rest in (
             ((λ has. out ((grows x).1 (inl has))), again, behind.0),
@@ -97,7 +94,7 @@ module _ (ctx : List Binder) (es : Trees) where
     end = subst (λ xs. AreNewTo seen xs ↔ W) empty left
 
     new-last : (((x : ℕ) × Contains seen x × InSomeV ctx x es) → ⊥) → W
-    new-last none = end.0 (λ x found named. elim found [ inl has ↦ none (x, has, named) | inr has ↦ nothing-in x has ], tt)
+    new-last none = end.0 (λ x found named. elim found [ inl has ↦ none (x, has, named) | inr has ↦ contains_none x has ], tt)
 
     not-last : ((x : ℕ) × Contains seen x × InSomeV ctx x es) → W → ⊥
     not-last (x, has, named) w = (end.1 w).0 x (inl has) named

@@ -4,3 +4,5 @@ pub use Rattle.mz_typing.proofs.ExprRules.{checks_by_fits, checks_by_sort, claim
 pub use Rattle.mz_typing.proofs.Judging.{left_fails, left_step}
 pub use Rattle.mz_typing.proofs.ParamRules.{are_params, param_rules_hold}
 pub use Rattle.mz_typing.proofs.Steps.{convs_cut, size_step, trees_cut}
+pub use Rattle.mz_typing.proofs.Claims.{instances_many}
+pub use Rattle.mz_typing.proofs.ProofSteps.{is_there}

@@ -1,18 +1,19 @@
 -- The rules of parameters hold exactly where they are right.
 use Rattle.std.proofs.Common.{ℕ, zero, suc, ◌≡◌, ◌+◌, List, [], ◌∷◌, slice_get, Some, refl, sym, ◌∙◌, subst, arith, add-zero, add-suc, suc-add}
+use Rattle.std.proofs.lemmas.Option.{none-some}
 use Rattle.mz_checks.specs.Checks.{AllHold}
 use Rattle.mz_sexpr.specs.Node.{Nodes}
 use Rattle.mz_sexpr.specs.Number.{rest}
 use Rattle.mz_logic.specs.Declaration.{Declaration, sorts}
 use Rattle.mz_logic.specs.Legality.{IsParam, AreParams}
 use Rattle.mz_logic.specs.declared.binder.Binder.{Binder}
-use Rattle.mz_logic.proofs.Offered.{one_at, none_some}
+use Rattle.mz_logic.proofs.Offered.{one_at}
 use Rattle.mz_typing.specs.Rules.{param_rules}
 
 module _ (env : List Declaration) (params : List Binder) where
   params_from : (i : ℕ) (bs : List Binder) (ns : Nodes) → AllHold (param_rules env params i bs ns)
       → (k : ℕ) (b : Binder) → slice_get bs k ≡ Some b → IsParam (sorts env) params (i + k) b
-  params_from i [] ns all k b at = absurd (none_some at)
+  params_from i [] ns all k b at = absurd (none-some _ at)
   params_from i (c ∷ bs) ns (here, all) zero b at = subst (λ j. IsParam (sorts env) params j b) (sym (add-zero i)) (subst (IsParam (sorts env) params i) (one_at refl at) here)
   params_from i (c ∷ bs) ns (here, all) (suc k) b at = subst (λ j. IsParam (sorts env) params j b) (suc-add i k ∙ sym (add-suc i k)) (params_from (suc i) bs (rest ns) all k b at)
 

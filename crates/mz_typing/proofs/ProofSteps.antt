@@ -1,7 +1,7 @@
 -- Steps of the checks of proofs.
 use Rattle.std.proofs.Common.{ℕ, ◌≡◌, ◌<◌, ◌≤◌, ◌+◌, List, [], ◌∷◌, length, get_or, drop, slice_get, None, sym, ap, ◌∙◌, subst, inl, inr, arith}
 use Rattle.std.proofs.lemmas.List.{drop_more}
-use Rattle.std.proofs.lemmas.Option.{slice_get-get_or}
+use Rattle.std.proofs.lemmas.Option.{slice_get-get_or, none-some}
 use Rattle.mz_checks.specs.Checks.{Checks, demand, ◌>>◌, AllHold, FailsFirst}
 use Rattle.mz_checks.proofs.Offered.{fails-after, all_hold-both}
 use Rattle.mz_sexpr.specs.declared.rule.U.{U}
@@ -15,7 +15,6 @@ use Rattle.mz_logic.specs.Variables.{Apart}
 use Rattle.mz_logic.specs.View.{tree, trees}
 use Rattle.mz_logic.specs.declared.binder.Binder.{Binder}
 use Rattle.mz_logic.specs.declared.expr.Expr.{Expr}
-use Rattle.mz_logic.proofs.Offered.{none_some}
 use Rattle.mz_forms.specs.Order.{fault}
 use Rattle.mz_forms.specs.Stops.{Stops}
 use Rattle.mz_forms.specs.declared.fault.Fault.{Fault}
@@ -37,7 +36,7 @@ use Rattle.mz_typing.proofs.Judging.{stopped_before, stopped_after, stopped_aske
 use Rattle.mz_typing.proofs.Steps.{trees_cut}
 
 pub is_there : {A : Type 0} (xs : List A) (i : ℕ) → i < length xs → None ≡ slice_get xs i → ⊥
-is_there (x ∷ xs) i below h = none_some (h ∙ slice_get-get_or (x ∷ xs) i x below)
+is_there (x ∷ xs) i below h = none-some _ (h ∙ slice_get-get_or (x ∷ xs) i x below)
 is_there [] i below h = absurd (omega (arith, below))
 
 -- ---- subproofs

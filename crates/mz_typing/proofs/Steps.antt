@@ -1,12 +1,12 @@
 -- Steps of the checks of expressions.
-use Rattle.std.proofs.Common.{ℕ, zero, suc, ◌≡◌, ◌<◌, ◌≤◌, ◌+◌, List, [], ◌∷◌, length, get_or, drop, refl, sym, ap, ◌∙◌, subst, arith}
+use Rattle.std.proofs.Common.{ℕ, ◌≡◌, ◌<◌, ◌≤◌, ◌+◌, List, [], ◌∷◌, length, get_or, drop, sym, ap, ◌∙◌, subst, arith}
 use Rattle.std.proofs.lemmas.List.{drop_more, drop_all}
 use Rattle.mz_checks.specs.Checks.{Checks, AllHold, demand, ◌>>◌}
 use Rattle.mz_checks.proofs.Offered.{Decides, decides-after}
 use Rattle.mz_sexpr.specs.Node.{Nodes}
 use Rattle.mz_sexpr.specs.Number.{first, rest}
 use Rattle.mz_sexpr.specs.declared.rule.U.{U}
-use Rattle.mz_logic.specs.Tree.{Trees, none, more, listed, operand, size, trees_size}
+use Rattle.mz_logic.specs.Tree.{Trees, none, more, listed, size, trees_size}
 use Rattle.mz_logic.specs.Legality.{signature_at}
 use Rattle.mz_logic.specs.Signature.{Signature}
 use Rattle.mz_logic.specs.View.{tree, trees}
@@ -94,8 +94,3 @@ no_dummies_left ctx ys ns bs i end = subst (λ qs. AllHold (variable_rules ctx y
     go : (ys : List ℕ) → AllHold (variable_rules ctx ys ns [])
     go [] = tt
     go (y ∷ ys) = tt
-
-pub operand_read : (xs : List Expr) (i : ℕ) (e : Expr) → i < length xs → operand (trees xs) i ≡ tree (get_or xs i e)
-operand_read [] i e below = absurd (omega (arith, below))
-operand_read (x ∷ xs) zero e below = refl
-operand_read (x ∷ xs) (suc i) e below = operand_read xs i e (omega (arith, below))

@@ -1,11 +1,11 @@
 -- Where target and hypotheses are an instance of what a stream spells, the stream runs.
 use Rattle.std.proofs.Common.{◌≡◌, ℕ, zero, suc, ◌+◌, List, [], ◌∷◌, ◌++◌, length, map, Some, refl, sym, ap, subst, ◌∙◌, arith, append-nil, true}
 use Rattle.std.specs.Prelude.{slice_get, take, reverse}
+use Rattle.mz_general.proofs.Offered.{slice_get-append_add}
 use Rattle.mz_logic.specs.Tree.{Tree, Trees, var, none, listed, operand, followed_by, variables, instance, instances, size}
 use Rattle.mz_logic.specs.Signature.{Signature}
 use Rattle.mz_logic.specs.Conversions.{AreFresh}
 use Rattle.mz_logic.specs.declared.binder.Binder.{Binder}
-use Rattle.mz_logic.proofs.Offered.{slice_get-append_add}
 use Rattle.mz_unification.specs.Streams.{StreamKind, of_assertion, of_definition, StreamIs}
 use Rattle.mz_unification.specs.Spells.{trees_of, Marks, variables_from, at_first, SpellsText}
 use Rattle.mz_unification.specs.Profile.{strict, Item, proof}

@@ -2,6 +2,7 @@
 use Rattle.std.proofs.Common.{◌≡◌, ℕ, zero, suc, ◌+◌, ◌<◌, Bool, true, false, List, [], ◌∷◌, ◌++◌, length, map, Some, refl, sym, ap, subst, ◌∙◌, inl, inr, ◌⊎◌, arith, true≢false, eq-eqb}
 use Rattle.std.specs.Prelude.{slice_get, take, Contains, ◌&&◌, ◌||◌, not, ◌==◌}
 use Rattle.std.proofs.lemmas.Option.{get_or_from_slice_get}
+use Rattle.mz_general.proofs.Offered.{contains_at}
 use Rattle.mz_logic.specs.Tree.{Tree, Trees, var}
 use Rattle.mz_logic.specs.Signature.{Signature}
 use Rattle.mz_logic.specs.Legality.{sort_of}
@@ -30,18 +31,13 @@ bound-at ctx es (z ∷ ys) [] h k y at = absurd h
 bound-at ctx es (z ∷ ys) (c ∷ bs) (bound, _, _, h) zero y at = let is : z ≡ y = cc in (c.sort, subst (λ (w : ℕ). IsBoundOf ctx w c.sort) is bound)
 bound-at ctx es (z ∷ ys) (c ∷ bs) (_, _, _, h) (suc k) y at = bound-at ctx es ys bs h k y at
 
-contains-at : (ys : List ℕ) (k y : ℕ) → slice_get ys k ≡ Some y → Contains ys y
-contains-at [] k y at = absurd cc
-contains-at (z ∷ ys) zero y at = let is : z ≡ y = cc in (0, omega arith, is)
-contains-at (z ∷ ys) (suc k) y at = let (i, lt, is) = contains-at ys k y at in (suc i, omega arith, is)
-
 pub distinct : (ctx : List Binder) (es : Trees) (ys : List ℕ) (bs : List Binder) → AreFresh ctx es ys bs → (i j y : ℕ) → slice_get ys i ≡ Some y → slice_get ys j ≡ Some y → i ≡ j
 distinct ctx es [] [] h i j y at-i at-j = absurd cc
 distinct ctx es [] (c ∷ bs) h i j y at-i at-j = absurd h
 distinct ctx es (z ∷ ys) [] h i j y at-i at-j = absurd h
 distinct ctx es (z ∷ ys) (c ∷ bs) (_, _, once, h) zero zero y at-i at-j = refl
-distinct ctx es (z ∷ ys) (c ∷ bs) (_, _, once, h) zero (suc j) y at-i at-j = let is : z ≡ y = cc in absurd (once (subst (Contains ys) (sym is) (contains-at ys j y at-j)))
-distinct ctx es (z ∷ ys) (c ∷ bs) (_, _, once, h) (suc i) zero y at-i at-j = let is : z ≡ y = cc in absurd (once (subst (Contains ys) (sym is) (contains-at ys i y at-i)))
+distinct ctx es (z ∷ ys) (c ∷ bs) (_, _, once, h) zero (suc j) y at-i at-j = let is : z ≡ y = cc in absurd (once (subst (Contains ys) (sym is) (contains_at ys j y at-j)))
+distinct ctx es (z ∷ ys) (c ∷ bs) (_, _, once, h) (suc i) zero y at-i at-j = let is : z ≡ y = cc in absurd (once (subst (Contains ys) (sym is) (contains_at ys i y at-i)))
 distinct ctx es (z ∷ ys) (c ∷ bs) (_, _, once, h) (suc i) (suc j) y at-i at-j = ap suc (distinct ctx es ys bs h i j y at-i at-j)
 
 pub in-some : (ctx : List Binder) (x : ℕ) (es : List Tree) (i : ℕ) (e : Tree) → slice_get es i ≡ Some e → InV ctx x e → InSomeV ctx x (trees_of es)

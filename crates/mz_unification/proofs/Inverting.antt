@@ -1,6 +1,5 @@
 -- Steps that did not fail, each handing its value on: so goals stay small over a chain of steps.
 use Rattle.std.proofs.Common.{◌≡◌, ℕ, Bool, true, false, Option, Some, None, Result, Ok, Err, refl}
-use Rattle.std.specs.Prelude.{◌&&◌}
 use Rattle.mz_cmd.specs.declared.rule.K.{K}
 use Rattle.mz_unification.specs.Steps.{◌>>=◌, ◌>>◌, need, want, rule_of, at_place}
 
@@ -44,7 +43,3 @@ taken x = Ok x
 
 pub taken-is : {A : Type 0} (x y : A) → taken x ≡ taken y → x ≡ y
 taken-is x y e = cc
-
-pub both-true : (a b : Bool) → (a && b) ≡ true → (a ≡ true) × (b ≡ true)
-both-true true b h = (refl, h)
-both-true false b h = absurd cc

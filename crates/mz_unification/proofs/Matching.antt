@@ -4,6 +4,7 @@ use Rattle.std.specs.Prelude.{slice_get, ◌==◌, ◌&&◌, not}
 use Rattle.std.proofs.lemmas.Bool.{eqb-true}
 use Rattle.std.proofs.lemmas.Option.{get_or_from_slice_get}
 use Rattle.std.proofs.lemmas.List.{length-append, length-map, map-append, append-nil}
+use Rattle.mz_general.proofs.Offered.{both-true, not-true}
 use Rattle.mz_cmd.specs.declared.rule.K.{K}
 use Rattle.mz_cmd.specs.declared.rule.K.TheVariants as k
 use Rattle.mz_logic.specs.Tree.{Tree, Trees, var, app, none, more, listed, operand, size, trees_size, instance, instances}
@@ -18,8 +19,7 @@ use Rattle.mz_unification.specs.Profile.{strict, tree_parts}
 use Rattle.mz_unification.specs.Sorted.{Sorted, AllSorted}
 use Rattle.mz_unification.specs.Tests.{same_tree, is_bound_at, is_bound_var}
 use Rattle.mz_unification.specs.UnifyMachine.{UnifyMode, kind_of, UnifyState, top_target, is_empty, operands_of, next_hypothesis, nothing_left, within_any, is_fresh, unify_row, unify_turn_by, unify_from}
-use Rattle.mz_unification.proofs.Inverting.{from_bind, from_then, from_need, from_want, taken, taken-is, some_is, both-true}
-use Rattle.mz_unification.proofs.TestLaws.{not-true}
+use Rattle.mz_unification.proofs.Inverting.{from_bind, from_then, from_need, from_want, taken, taken-is, some_is}
 use Rattle.mz_unification.proofs.Trees.{apart-is, same_tree-true, operands-sorted}
 
 -- ---- a run over commands that are read

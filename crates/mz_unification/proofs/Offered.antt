@@ -3,15 +3,15 @@ pub use Rattle.mz_unification.proofs.Below.{AllBelow, Below, EachBelow, below-oc
 pub use Rattle.mz_unification.proofs.Citations.{citation-is, hypothesis-is, length-params, map-reverse}
 pub use Rattle.mz_unification.proofs.Exact.{assertions-spelled, citations-exact, unfoldings-exact}
 pub use Rattle.mz_unification.proofs.FreshVars.{distinct, fresh-at, get-mapped, in-some}
-pub use Rattle.mz_unification.proofs.Inverting.{both-true, from_bind, from_need, from_then, from_want, need_ok, place-ok, rule_of-ok, some_is, taken, taken-is}
+pub use Rattle.mz_unification.proofs.Inverting.{from_bind, from_need, from_then, from_want, need_ok, place-ok, rule_of-ok, some_is, taken, taken-is}
 pub use Rattle.mz_unification.proofs.Matching.{FreshList, top-is}
-pub use Rattle.mz_unification.proofs.OneSpelling.{assertion-longer, one-assertion, one-stream, one-term, one-text, term-longer}
-pub use Rattle.mz_unification.proofs.OwnStream.{assertion-spelled, definition-spelled}
+pub use Rattle.mz_unification.proofs.OneSpelling.{assertion-longer, cmd-is, dummy-is, one-assertion, one-stream, one-term, one-text, ref-is, save-is, term-is, term-longer}
+pub use Rattle.mz_unification.proofs.OwnStream.{assertion-spelled, definition-spelled, sorted-reverse}
 pub use Rattle.mz_unification.proofs.PlainRuns.{bind-first, bind-same, unify-plain, unify_steps-plain}
 pub use Rattle.mz_unification.proofs.SomeText.{cited-spells, unfolded-spells}
-pub use Rattle.mz_unification.proofs.Spelled.{place_from, renamed}
-pub use Rattle.mz_unification.proofs.TestLaws.{bit-not-set, bit-set, bound-is, contains-member, in-v-true, is-bound, member-contains, neither-of, not-both, not-in-v, not-true, or-cases, or-left, or-right, v-in}
-pub use Rattle.mz_unification.proofs.Trees.{all-sorted-append, apart-is, fits-length, followed-by-variables, listed-trees_of, operand-trees_of, operands-sorted, parts-are, same_tree-refl, same_tree-true, trees_of-listed}
+pub use Rattle.mz_unification.proofs.Spelled.{count-fits, place_from, renamed}
+pub use Rattle.mz_unification.proofs.TestLaws.{bit-not-set, bit-set, bound-is, in-v-true, is-bound, member-contains, neither-of, not-both, not-in-v, v-in}
+pub use Rattle.mz_unification.proofs.Trees.{apart-is, fits-length, followed-by-variables, listed-trees_of, operand-trees_of, operands-sorted, parts-are, same_tree-refl, same_tree-true, trees_of-listed}
 pub use Rattle.mz_unification.proofs.Turning.{command-long, drop-less, follow-same, further, goes_to-le, goes_to-same, if_read-le, if_read-same}
 pub use Rattle.mz_unification.proofs.TwoOperands.{two-fit}
 pub use Rattle.mz_unification.proofs.Unfolding.{unfolding-is}

@@ -14,7 +14,7 @@ use Rattle.mz_unification.specs.Spells.{trees_of, dummy_of, Marks, marked, Spell
 use Rattle.mz_unification.proofs.Inverting.{some_is}
 use Rattle.mz_unification.proofs.Trees.{trees_of-listed}
 
-cmd-is : (bytes : List ℕ) (c d : Cmd) → first_command bytes ≡ Ok c → first_command bytes ≡ Ok d → c ≡ d
+pub cmd-is : (bytes : List ℕ) (c d : Cmd) → first_command bytes ≡ Ok c → first_command bytes ≡ Ok d → c ≡ d
 cmd-is bytes c d p q = cc
 
 end-is : (u : UnifyCommand) → u ≡ u_end → IsEnd u
@@ -37,16 +37,16 @@ one-stream kind bytes (u ∷ us) (v ∷ vs) (c, read, is, _, h) (d, read', is', 
 
 -- ---- one spelling
 
-ref-is : (i j : ℕ) (us vs : List UnifyCommand) → u_ref i ∷ us ≡ u_ref j ∷ vs → (i ≡ j) × (us ≡ vs)
+pub ref-is : (i j : ℕ) (us vs : List UnifyCommand) → u_ref i ∷ us ≡ u_ref j ∷ vs → (i ≡ j) × (us ≡ vs)
 ref-is i j us vs e = (cc, cc)
 
-dummy-is : (i j : ℕ) (us vs : List UnifyCommand) → u_dummy i ∷ us ≡ u_dummy j ∷ vs → (i ≡ j) × (us ≡ vs)
+pub dummy-is : (i j : ℕ) (us vs : List UnifyCommand) → u_dummy i ∷ us ≡ u_dummy j ∷ vs → (i ≡ j) × (us ≡ vs)
 dummy-is i j us vs e = (cc, cc)
 
-term-is : (i j : ℕ) (us vs : List UnifyCommand) → u_term i ∷ us ≡ u_term j ∷ vs → (i ≡ j) × (us ≡ vs)
+pub term-is : (i j : ℕ) (us vs : List UnifyCommand) → u_term i ∷ us ≡ u_term j ∷ vs → (i ≡ j) × (us ≡ vs)
 term-is i j us vs e = (cc, cc)
 
-save-is : (i j : ℕ) (us vs : List UnifyCommand) → u_term_save i ∷ us ≡ u_term_save j ∷ vs → (i ≡ j) × (us ≡ vs)
+pub save-is : (i j : ℕ) (us vs : List UnifyCommand) → u_term_save i ∷ us ≡ u_term_save j ∷ vs → (i ≡ j) × (us ≡ vs)
 save-is i j us vs e = (cc, cc)
 
 hyp-is : (us vs : List UnifyCommand) → u_hyp ∷ us ≡ u_hyp ∷ vs → us ≡ vs

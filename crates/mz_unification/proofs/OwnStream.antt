@@ -3,10 +3,12 @@ use Rattle.std.proofs.Common.{◌≡◌, ℕ, suc, ◌+◌, ◌≤◌, ◌<◌, 
 use Rattle.std.specs.Prelude.{reverse, ◌&&◌}
 use Rattle.std.proofs.lemmas.Bool.{eqb-true, eqb-false}
 use Rattle.std.proofs.lemmas.List.{reverse-append}
+use Rattle.mz_general.proofs.Offered.{empty-list}
 use Rattle.mz_cmd.specs.declared.rule.K.TheVariants as k
 use Rattle.mz_logic.specs.Tree.{Tree, Trees, var, app, none, more, listed}
 use Rattle.mz_logic.specs.Signature.{Signature}
 use Rattle.mz_logic.specs.declared.binder.Binder.{Binder}
+use Rattle.mz_unification.proofs.Citations.{length-params}
 use Rattle.mz_unification.specs.Steps.{need}
 use Rattle.mz_unification.specs.Streams.{StreamKind, of_assertion, of_definition, UnifyCommand, u_term, u_term_save, u_ref, u_dummy, u_hyp, u_end, IsEnd, StreamIs}
 use Rattle.mz_unification.specs.Spells.{trees_of, Marks, Spells, SpellsHyps, variables_from, at_first, Text}
@@ -41,10 +43,6 @@ mutual
 map-kept : (f : Tree → Tree) → ((e : Tree) → f e ≡ e) → (es : List Tree) → map f es ≡ es
 map-kept f kept [] = refl
 map-kept f kept (e ∷ es) = ap (λ (z : Tree). z ∷ map f es) (kept e) ∙ ap (λ (z : List Tree). e ∷ z) (map-kept f kept es)
-
-length-variables : (j : ℕ) (ps : List Binder) → length (variables_from j ps) ≡ length ps
-length-variables j [] = refl
-length-variables j (p ∷ ps) = ap suc (length-variables (suc j) ps)
 
 -- ---- the hypotheses
 
@@ -109,13 +107,9 @@ module _ (sigs : List Signature) (ctx : List Binder) (n : ℕ) (u : UnifyState T
   hyps-spelt rs (u_dummy d ∷ us) m st middle ran top items sorted marks long =
       from_bind (unify_row strict sigs ctx at_end (u_dummy d) st) _ u ran λ s row later. from_bind (top_target st.targets) _ s row λ x x-is e1. absurd (no-target x st.targets top x-is)
 
-sorted-reverse : (sigs : List Signature) (ctx : List Binder) (es : List Tree) → AllSorted sigs ctx es → AllSorted sigs ctx (reverse es)
+pub sorted-reverse : (sigs : List Signature) (ctx : List Binder) (es : List Tree) → AllSorted sigs ctx es → AllSorted sigs ctx (reverse es)
 sorted-reverse sigs ctx [] h = h
 sorted-reverse sigs ctx (e ∷ es) (h, hs) = subst (AllSorted sigs ctx) (sym (reverse-append (e ∷ []) es)) (all-sorted-append sigs ctx (reverse es) e (sorted-reverse sigs ctx es hs) h)
-
-no-elements : {A : Type 0} (xs : List A) → length xs ≡ 0 → xs ≡ []
-no-elements [] h = refl
-no-elements (x ∷ xs) h = absurd (omega arith)
 
 -- what an assertion's own stream matches is what it spells
 pub assertion-spelled : (sigs : List Signature) (ctx params : List Binder) (stream : List ℕ) (e : Tree) (hyps : List Tree) (u : UnifyState Tree)
@@ -129,10 +123,10 @@ assertion-spelled sigs ctx params stream e hyps u done sorted hyps-sorted =
     let apart-is : u.apart ≡ vars = plain-apart sigs ctx at_end us st u (plain-stream stream us is-stream) ran in
     let kept : (t : Tree) → renamed (place_from 0 u.apart) t ≡ t = λ t. renamed-kept (place_from 0 u.apart) (λ y. ap (λ (z : List Tree). place_from 0 z y) apart-is ∙ name-kept 0 y params) t in
     let marks : vars ≡ map (renamed (place_from 0 u.apart)) vars = sym (map-kept (renamed (place_from 0 u.apart)) kept vars) in
-    let long : length vars ≡ length params + 0 = length-variables 0 params ∙ omega arith in
+    let long : length vars ≡ length params + 0 = length-params 0 params ∙ omega arith in
     let a = spelled sigs ctx at_end (length params) u e us (at_first params) st [] ran refl sorted marks long in
     let (last, hyps-are, count) = hyps-spelt sigs ctx (length params) u (reverse hyps) a.rest a.after a.state (middle-after a.suffix.0 a.rest (subst Middle a.suffix.1 (middle-stream of_assertion stream us is-stream))) a.runs a.targets a.items (sorted-reverse sigs ctx hyps hyps-sorted) a.marks a.long in
-    let none-left : last.dummies ≡ [] = no-elements last.dummies (omega (arith, count, ap length apart-is, length-variables 0 params)) in
+    let none-left : last.dummies ≡ [] = empty-list last.dummies (omega (arith, count, ap length apart-is, length-params 0 params)) in
     let e-spells : Spells (length params) sigs (at_first params) us e a.after a.rest = subst (λ (z : Tree). Spells (length params) sigs (at_first params) us z a.after a.rest) (kept e) a.spells in
     let order : map (renamed (place_from 0 u.apart)) (reverse hyps) ≡ reverse (listed (trees_of hyps)) = map-kept (renamed (place_from 0 u.apart)) kept (reverse hyps) ∙ ap reverse (sym (listed-trees_of hyps)) in
     (last, (us, is-stream, a.after, a.rest, e-spells, subst (λ (z : List Tree). SpellsHyps (length params) sigs a.after a.rest z last) order hyps-are), none-left)
@@ -189,7 +183,7 @@ definition-spelled sigs ctx params stream e u done sorted =
     let (others, apart-is) = run-grows sigs ctx in_definition us st u ran in
     let g : ℕ → ℕ = place_from 0 u.apart in
     let kept : (y : ℕ) → 0 ≤ y → y < 0 + length params → g y ≡ y = λ y low high. ap (λ (z : List Tree). place_from 0 z y) apart-is ∙ name-first 0 y params others low high in
-    let long : length vars ≡ length params + 0 = length-variables 0 params ∙ omega arith in
+    let long : length vars ≡ length params + 0 = length-params 0 params ∙ omega arith in
     let a = spelled sigs ctx in_definition (length params) u e us (at_first params) st [] ran refl sorted (first-kept g 0 params kept) long in
     let ended : a.rest ≡ [] = nothing-follows sigs ctx a.rest a.state u (middle-after a.suffix.0 a.rest (subst Middle a.suffix.1 (middle-stream of_definition stream us is-stream))) a.runs a.targets a.items in
     (a.after.dummies, (a.after, (us, is-stream, a.after, a.rest, a.spells, (ended, refl)), refl))

@@ -10,7 +10,7 @@ use Rattle.mz_logic.specs.Tree.{Tree}
 use Rattle.mz_logic.specs.Signature.{Signature}
 use Rattle.mz_logic.specs.Legality.{sort_of}
 use Rattle.mz_logic.specs.declared.binder.Binder.{Binder}
-use Rattle.mz_unification.specs.Steps.{◌>>=◌, ◌>>◌, need, at_place, Turn, over, goes_on, follow, goes_to, if_read}
+use Rattle.mz_unification.specs.Steps.{◌>>=◌, ◌>>◌, need, at_place, Turn, follow, goes_to}
 use Rattle.mz_unification.specs.Streams.{UnifyCommand, u_term, u_term_save, u_ref, u_dummy, u_hyp, u_end, unify_command}
 use Rattle.mz_unification.specs.Tests.{var_within, is_bound_var}
 use Rattle.mz_unification.specs.Profile.{plain, strict}

@@ -1,12 +1,15 @@
 -- A stream that runs spells something, whatever its operands are.
-use Rattle.std.proofs.Common.{◌≡◌, ℕ, zero, suc, ◌+◌, ◌≤◌, ◌<◌, List, [], ◌∷◌, ◌++◌, length, Some, Ok, refl, sym, ap, subst, ◌∙◌, ◌⊎◌, inl, inr, arith, append_assoc, append-nil, length-append}
+use Rattle.std.proofs.Common.{◌≡◌, ℕ, zero, suc, ◌+◌, ◌≤◌, List, [], ◌∷◌, ◌++◌, length, Some, Ok, refl, sym, ap, subst, ◌∙◌, inl, inr, arith, append_assoc, append-nil, length-append}
 use Rattle.std.specs.Prelude.{slice_get, reverse, ◌&&◌}
 use Rattle.std.proofs.lemmas.List.{reverse-reverse}
 use Rattle.std.proofs.lemmas.Option.{slice_get_within}
+use Rattle.std.proofs.lemmas.Bool.{cases_lt}
+use Rattle.mz_general.proofs.Offered.{slice_get-within}
 use Rattle.mz_cmd.specs.declared.rule.K.TheVariants as k
 use Rattle.mz_logic.specs.Tree.{Tree, Trees, var, app, none, more, listed, size, trees_size}
 use Rattle.mz_logic.specs.Signature.{Signature}
 use Rattle.mz_logic.specs.declared.binder.Binder.{Binder}
+use Rattle.mz_logic.proofs.Offered.{same-term, same-operands}
 use Rattle.mz_unification.specs.Streams.{of_assertion, of_definition, UnifyCommand, u_term, u_term_save, u_ref, u_dummy, u_hyp, u_end}
 use Rattle.mz_unification.specs.Spells.{trees_of, dummy_of, Marks, marked, HasOperands, Spells, SpellsAll, SpellsHyps, variables_from, at_first, SpellsText, Text}
 use Rattle.mz_unification.specs.Profile.{strict, Item, proof}
@@ -17,7 +20,7 @@ use Rattle.mz_unification.specs.Laws.{citing, unfolding_by}
 use Rattle.mz_unification.proofs.Inverting.{from_bind, from_need, from_want, need-not, taken-is}
 use Rattle.mz_unification.proofs.Trees.{same_tree-true, listed-trees_of, operand-trees_of, operands-sorted}
 use Rattle.mz_unification.proofs.Matching.{run, top-is, head-is, tail-is, opened-term, opened-save, Opened}
-use Rattle.mz_unification.proofs.Spelled.{reads, not-empty, app-terms, app-operands, no-app, spells-ref}
+use Rattle.mz_unification.proofs.Spelled.{reads, not-empty, no-app, spells-ref}
 use Rattle.mz_unification.proofs.Citations.{length-params, hypothesis-is}
 use Rattle.mz_unification.proofs.NoDummies.{no-dummies}
 use Rattle.mz_unification.proofs.OwnStream.{Middle, middle-after, middle-stream, no-target, nothing-follows}
@@ -45,11 +48,6 @@ alike-itself k heap m = record { long = refl; dummies = refl; same = λ i q at s
 pub alike-less : (k j : ℕ) (heap : List Tree) (m m' : Marks) → j ≤ k → Alike k heap m m' → Alike j heap m m'
 alike-less k j heap m m' le a = record { long = a.long; dummies = a.dummies; same = λ i q at small. a.same i q at (omega arith) }
 
-get-left : (xs ys : List Tree) (i : ℕ) → i < length xs → slice_get (xs ++ ys) i ≡ slice_get xs i
-get-left [] ys i lt = absurd (omega arith)
-get-left (x ∷ xs) ys zero lt = refl
-get-left (x ∷ xs) ys (suc i) lt = get-left xs ys i (omega arith)
-
 get-right : (xs zs ys : List Tree) (i : ℕ) → length xs ≡ length zs → length xs ≤ i → slice_get (xs ++ ys) i ≡ slice_get (zs ++ ys) i
 get-right [] [] ys i len le = refl
 get-right [] (z ∷ zs) ys i len le = absurd (omega arith)
@@ -64,22 +62,13 @@ get-last [] t q (suc i) le e = absurd cc
 get-last (x ∷ xs) t q zero le e = absurd (omega arith)
 get-last (x ∷ xs) t q (suc i) le e = get-last xs t q i (omega arith) e
 
-below-or-not : (i n : ℕ) → (i < n) ⊎ (n ≤ i)
-below-or-not i zero = inr (omega arith)
-below-or-not zero (suc n) = inl (omega arith)
-below-or-not (suc i) (suc n) = go (below-or-not i n)
-  where
-    go : (i < n) ⊎ (n ≤ i) → (suc i < suc n) ⊎ (suc n ≤ suc i)
-    go (inl lt) = inl (omega arith)
-    go (inr le) = inr (omega arith)
-
 -- with the same more after them
 pub alike-more : (k : ℕ) (heap grown : List Tree) (m m' : Marks) (new : List Tree) (met : List Binder) → length m.trees ≡ length heap → Alike k heap m m' → Alike k (heap ++ grown) (with_more m new met) (with_more m' new met)
 alike-more k heap grown m m' new met len a = record {
   long = omega (arith, length-append m.trees new, length-append m'.trees new, a.long);
   dummies = ap (λ (z : List Binder). z ++ met) a.dummies;
-  same = λ i q at small. elim (below-or-not i (length heap)) [
-    | inl lt ↦ get-left m'.trees new i (omega (arith, a.long)) ∙ a.same i q (sym (get-left heap grown i lt) ∙ at) small ∙ sym (get-left m.trees new i (omega arith))
+  same = λ i q at small. elim (cases_lt i (length heap)) [
+    | inl lt ↦ slice_get-within m'.trees new i (omega (arith, a.long)) ∙ a.same i q (sym (slice_get-within heap grown i lt) ∙ at) small ∙ sym (slice_get-within m.trees new i (omega arith))
     | inr le ↦ get-right m'.trees m.trees new i a.long (omega (arith, a.long))
   ];
 }
@@ -89,8 +78,8 @@ pub alike-pending : (k : ℕ) (heap : List Tree) (m m' : Marks) (t p p' : Tree) 
 alike-pending k heap m m' t p p' len large a = record {
   long = omega (arith, length-append m.trees (p ∷ []), length-append m'.trees (p' ∷ []), a.long);
   dummies = a.dummies;
-  same = λ i q at small. elim (below-or-not i (length heap)) [
-    | inl lt ↦ get-left m'.trees (p' ∷ []) i (omega (arith, a.long)) ∙ a.same i q (sym (get-left heap (t ∷ []) i lt) ∙ at) small ∙ sym (get-left m.trees (p ∷ []) i (omega arith))
+  same = λ i q at small. elim (cases_lt i (length heap)) [
+    | inl lt ↦ slice_get-within m'.trees (p' ∷ []) i (omega (arith, a.long)) ∙ a.same i q (sym (slice_get-within heap (t ∷ []) i lt) ∙ at) small ∙ sym (slice_get-within m.trees (p ∷ []) i (omega arith))
     | inr le ↦ absurd (let is : t ≡ q = get-last heap t q i le at in omega (arith, ap size is))
   ];
 }
@@ -219,8 +208,8 @@ module _ (sigs : List Signature) (ctx : List Binder) (mode : UnifyMode) (n : ℕ
         let (es, bad, later) = opened-save sigs ctx mode n (trees_of u.apart) u (operand-trees_of u.apart) h (u_term_save h ∷ us) us st (var y) ts refl ran top in absurd cc
     some-spelt (app h es) (u_term t ∷ us) m st ts ran top sorted len =
         let (fs, is, later) = opened-term sigs ctx mode n (trees_of u.apart) u (operand-trees_of u.apart) t (u_term t ∷ us) us st (app h es) ts refl ran top in
-        let same : h ≡ t = app-terms h t es (trees_of fs) is in
-        let es-are : es ≡ trees_of fs = app-operands h t es (trees_of fs) is in
+        let same : h ≡ t = same-term h t es (trees_of fs) is in
+        let es-are : es ≡ trees_of fs = same-operands h t es (trees_of fs) is in
         let fs-are : fs ++ ts ≡ listed es ++ ts = ap (λ (z : List Tree). z ++ ts) (sym (listed-trees_of fs) ∙ ap listed (sym es-are)) in
         let a = some-all es us m (record st { targets = fs ++ ts }) ts later fs-are (subst (AllSorted sigs ctx) (sym (ap listed es-are ∙ listed-trees_of fs)) (operands-all t fs (app h es) is sorted)) len in
         let operands : HasOperands sigs t a.patterns = counted t fs (app h es) a.patterns is sorted (a.counted ∙ ap length (ap listed es-are ∙ listed-trees_of fs)) in
@@ -242,8 +231,8 @@ module _ (sigs : List Signature) (ctx : List Binder) (mode : UnifyMode) (n : ℕ
         }
     some-spelt (app h es) (u_term_save t ∷ us) m st ts ran top sorted len =
         let (fs, is, later) = opened-save sigs ctx mode n (trees_of u.apart) u (operand-trees_of u.apart) t (u_term_save t ∷ us) us st (app h es) ts refl ran top in
-        let same : h ≡ t = app-terms h t es (trees_of fs) is in
-        let es-are : es ≡ trees_of fs = app-operands h t es (trees_of fs) is in
+        let same : h ≡ t = same-term h t es (trees_of fs) is in
+        let es-are : es ≡ trees_of fs = same-operands h t es (trees_of fs) is in
         let fs-are : fs ++ ts ≡ listed es ++ ts = ap (λ (z : List Tree). z ++ ts) (sym (listed-trees_of fs) ∙ ap listed (sym es-are)) in
         let longer : length (marked m (var 0)).trees ≡ length (st.heap ++ app h es ∷ []) = omega (arith, length-append m.trees (var 0 ∷ []), length-append st.heap (app h es ∷ []), len) in
         let a = some-all es us (marked m (var 0)) (record st { targets = fs ++ ts; heap = st.heap ++ app h es ∷ [] }) ts later fs-are (subst (AllSorted sigs ctx) (sym (ap listed es-are ∙ listed-trees_of fs)) (operands-all t fs (app h es) is sorted)) longer in

@@ -12,6 +12,7 @@ use Rattle.mz_logic.specs.Tree.{Tree, Trees, var, app, none, more, listed}
 use Rattle.mz_logic.specs.Signature.{Signature}
 use Rattle.mz_logic.specs.Sorts.{Fits}
 use Rattle.mz_logic.specs.declared.binder.Binder.{Binder}
+use Rattle.mz_logic.proofs.Offered.{same-variable, same-term, same-operands}
 use Rattle.mz_unification.specs.Steps.{◌>>=◌, at_place, over, goes_on, follow}
 use Rattle.mz_unification.specs.Streams.{UnifyCommand, u_term, u_term_save, u_ref, u_dummy, u_hyp, u_end, unify_command, IsEnd, StreamIs}
 use Rattle.mz_unification.specs.Spells.{trees_of, dummy_of, Marks, marked, with_dummy, HasOperands, Spells, SpellsAll}
@@ -102,9 +103,6 @@ get-map g [] i x e = absurd cc
 get-map g (y ∷ xs) zero x e = let is : y ≡ x = cc in ap (λ (z : Tree). Some (g z)) is
 get-map g (y ∷ xs) (suc i) x e = get-map g xs i x e
 
-var-is : (x y : ℕ) → var x ≡ var y → x ≡ y
-var-is x y e = cc
-
 -- a bound variable that isn't in V of an expression isn't the expression
 not-itself : (ctx : List Binder) (y : ℕ) (b : Binder) (t : Tree) → slice_get ctx y ≡ Some b → b.bound ≡ true → in_v ctx y t ≡ false → is_named y t ≡ false
 not-itself ctx y b (app h es) at bound out = refl
@@ -131,13 +129,7 @@ pub not-empty : {A : Type 0} (xs : List A) (y : A) (ys : List A) → xs ≡ y �
 not-empty [] y ys e = absurd cc
 not-empty (x ∷ xs) y ys e = refl
 
-pub app-terms : (h t : ℕ) (es fs : Trees) → app h es ≡ app t fs → h ≡ t
-app-terms h t es fs e = cc
-
-pub app-operands : (h t : ℕ) (es fs : Trees) → app h es ≡ app t fs → es ≡ fs
-app-operands h t es fs e = cc
-
-count-fits : (sigs : List Signature) (ctx : List Binder) (es : Trees) (ps : List Binder) → Fits sigs ctx es ps → length (listed es) ≡ length ps
+pub count-fits : (sigs : List Signature) (ctx : List Binder) (es : Trees) (ps : List Binder) → Fits sigs ctx es ps → length (listed es) ≡ length ps
 count-fits sigs ctx none [] h = refl
 count-fits sigs ctx none (p ∷ ps) h = absurd h
 count-fits sigs ctx (more e es) [] h = absurd h
@@ -228,7 +220,7 @@ module _ (sigs : List Signature) (ctx : List Binder) (mode : UnifyMode) (n : ℕ
       let made : UnifyState Tree = record st { targets = r.1; heap = st.heap ++ r.0 ∷ []; apart = st.apart ++ r.0 ∷ [] } in
       let later' : run sigs ctx mode us made ≡ Ok u = subst (λ (z : UnifyState Tree). run sigs ctx mode us z ≡ Ok u) (sym (taken-is made s e2)) later in
       let (z, z-is, ((b, b-at, bound, b-sort), _, out, _)) = fresh-one sigs ctx st.apart r.0 d test in
-      let same : z ≡ y = var-is z y (sym z-is ∙ y-is) in
+      let same : z ≡ y = same-variable z y (sym z-is ∙ y-is) in
       let (grown, apart-are) = run-grows sigs ctx mode us made u later' in
       let u-apart : u.apart ≡ (st.apart ++ var z ∷ []) ++ grown = apart-are ∙ ap (λ (w : Tree). (st.apart ++ w ∷ []) ++ grown) z-is in
       let named : name y ≡ n + length m.dummies = ap name (sym same) ∙ ap (λ (w : List Tree). place_from 0 w z) u-apart ∙ place-past ctx 0 z b st.apart grown b-at bound out ∙ omega (arith, long) in
@@ -274,8 +266,8 @@ module _ (sigs : List Signature) (ctx : List Binder) (mode : UnifyMode) (n : ℕ
     spelled (var y) (u_term_save h ∷ us) m st ts ran top sorted marks long = let (es, bad, later) = opened-saved h (u_term_save h ∷ us) us st (var y) ts refl ran top in absurd cc
     spelled (app h es) (u_term t ∷ us) m st ts ran top sorted marks long =
         let (fs, is, later) = opened t (u_term t ∷ us) us st (app h es) ts refl ran top in
-        let same : h ≡ t = app-terms h t es (trees_of fs) is in
-        let fs-are : fs ++ ts ≡ listed es ++ ts = ap (λ (z : List Tree). z ++ ts) (sym (listed-trees_of fs) ∙ ap listed (sym (app-operands h t es (trees_of fs) is))) in
+        let same : h ≡ t = same-term h t es (trees_of fs) is in
+        let fs-are : fs ++ ts ≡ listed es ++ ts = ap (λ (z : List Tree). z ++ ts) (sym (listed-trees_of fs) ∙ ap listed (sym (same-operands h t es (trees_of fs) is))) in
         let (operands, es-sorted) = operands-of h es sorted in
         let a = all-spelled es us m (record st { targets = fs ++ ts }) ts later fs-are es-sorted marks long in
         record {
@@ -292,8 +284,8 @@ module _ (sigs : List Signature) (ctx : List Binder) (mode : UnifyMode) (n : ℕ
         }
     spelled (app h es) (u_term_save t ∷ us) m st ts ran top sorted marks long =
         let (fs, is, later) = opened-saved t (u_term_save t ∷ us) us st (app h es) ts refl ran top in
-        let same : h ≡ t = app-terms h t es (trees_of fs) is in
-        let fs-are : fs ++ ts ≡ listed es ++ ts = ap (λ (z : List Tree). z ++ ts) (sym (listed-trees_of fs) ∙ ap listed (sym (app-operands h t es (trees_of fs) is))) in
+        let same : h ≡ t = same-term h t es (trees_of fs) is in
+        let fs-are : fs ++ ts ≡ listed es ++ ts = ap (λ (z : List Tree). z ++ ts) (sym (listed-trees_of fs) ∙ ap listed (sym (same-operands h t es (trees_of fs) is))) in
         let (operands, es-sorted) = operands-of h es sorted in
         let p : Tree = renamed name (app h es) in
         let marks' : (marked m p).trees ≡ map (renamed name) (st.heap ++ app h es ∷ []) = ap (λ (z : List Tree). z ++ p ∷ []) marks ∙ sym (map-append (renamed name) st.heap (app h es ∷ [])) in

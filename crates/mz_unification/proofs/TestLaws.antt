@@ -1,32 +1,18 @@
 -- Each test of the machines decides a notion of the logic.
-use Rattle.std.proofs.Common.{◌≡◌, ℕ, zero, suc, Bool, true, false, cond, eqb, not, List, [], ◌∷◌, Option, Some, None, refl, sym, ap, ◌∙◌, ◌⊎◌, inl, inr, arith, eq-eqb, not-suc-le-zero}
+use Rattle.std.proofs.Common.{◌≡◌, ℕ, suc, Bool, true, false, cond, eqb, not, List, [], ◌∷◌, Option, Some, None, refl, sym, ap, ◌∙◌, ◌⊎◌, inl, inr, arith, eq-eqb}
 use Rattle.std.specs.Prelude.{slice_get, Contains, ◌||◌, ◌==◌, IsBitSet, bit_and, ◌^◌}
-use Rattle.std.proofs.lemmas.Bool.{eqb-true}
+use Rattle.std.proofs.lemmas.Bool.{eqb-true, or_right, or_left}
+use Rattle.mz_general.proofs.Offered.{or-cases}
 use Rattle.mz_logic.specs.Tree.{Tree, Trees, var, app, none, more}
 use Rattle.mz_logic.specs.Sorts.{IsBoundVar}
 use Rattle.mz_logic.specs.Variables.{InV, InSomeV, is_member}
 use Rattle.mz_logic.specs.declared.binder.Binder.{Binder}
+use Rattle.mz_logic.proofs.Offered.{among-true}
 use Rattle.mz_unification.specs.Tests.{has_bit, is_bound_at, is_bound_var, in_var, in_v, in_some_v}
-
-pub or-cases : (a b : Bool) → (a || b) ≡ true → (a ≡ true) ⊎ (b ≡ true)
-or-cases true b h = inl refl
-or-cases false b h = inr h
-
-pub or-right : (a b : Bool) → b ≡ true → (a || b) ≡ true
-or-right true b h = refl
-or-right false b h = h
-
-pub or-left : (a b : Bool) → a ≡ true → (a || b) ≡ true
-or-left true b h = refl
-or-left false b h = absurd cc
 
 pub neither-of : (a b : Bool) → (a || b) ≡ false → (a ≡ false) × (b ≡ false)
 neither-of true b h = absurd cc
 neither-of false b h = (refl, h)
-
-pub not-true : (b : Bool) → not b ≡ true → b ≡ false
-not-true true h = absurd cc
-not-true false h = refl
 
 pub not-both : (b : Bool) → b ≡ true → b ≡ false → ⊥
 not-both b p q = cc
@@ -39,11 +25,6 @@ member-contains x (y ∷ ys) h = elim (or-cases (eqb x y) (is_member x ys) h) [
   | inl here ↦ (0, omega arith, sym (eqb-true _ _ here))
   | inr there ↦ (let (k, lt, is) = member-contains x ys there in (suc k, omega arith, is))
 ]
-
-pub contains-member : (x : ℕ) (xs : List ℕ) → Contains xs x → is_member x xs ≡ true
-contains-member x [] (k, lt, is) = absurd (not-suc-le-zero lt)
-contains-member x (y ∷ ys) (zero, lt, is) = or-left (eqb x y) (is_member x ys) (eq-eqb x y (sym is))
-contains-member x (y ∷ ys) (suc k, lt, is) = or-right (eqb x y) (is_member x ys) (contains-member x ys (k, omega arith, is))
 
 -- ---- bits
 
@@ -82,7 +63,7 @@ in-var-true ctx x y (Some b) at h = go b.bound refl h
 
 in-var-of : (x y : ℕ) (b : Binder) → ((b.bound ≡ true) × (x ≡ y)) ⊎ ((b.bound ≡ false) × Contains b.deps x) → cond b.bound (x == y) (is_member x b.deps) ≡ true
 in-var-of x y b (inl (bound, is)) = rw bound (eq-eqb x y is)
-in-var-of x y b (inr (regular, has)) = rw regular (contains-member x b.deps has)
+in-var-of x y b (inr (regular, has)) = rw regular (among-true x b.deps has)
 
 mutual
   pub in-v-true : (ctx : List Binder) (x : ℕ) (e : Tree) → in_v ctx x e ≡ true → InV ctx x e
@@ -103,8 +84,8 @@ mutual
 
   pub some-v-in : (ctx : List Binder) (x : ℕ) (es : Trees) → InSomeV ctx x es → in_some_v ctx x es ≡ true
   some-v-in ctx x none h = absurd h
-  some-v-in ctx x (more e es) (inl h) = or-left (in_v ctx x e) (in_some_v ctx x es) (v-in ctx x e h)
-  some-v-in ctx x (more e es) (inr h) = or-right (in_v ctx x e) (in_some_v ctx x es) (some-v-in ctx x es h)
+  some-v-in ctx x (more e es) (inl h) = or_left (in_v ctx x e) (in_some_v ctx x es) (v-in ctx x e h)
+  some-v-in ctx x (more e es) (inr h) = or_right (in_v ctx x e) (in_some_v ctx x es) (some-v-in ctx x es h)
 
 pub not-in-v : (ctx : List Binder) (x : ℕ) (e : Tree) → in_v ctx x e ≡ false → InV ctx x e → ⊥
 not-in-v ctx x e out has = not-both (in_v ctx x e) (v-in ctx x e has) out

@@ -2,6 +2,7 @@
 use Rattle.std.proofs.Common.{◌≡◌, ℕ, zero, suc, Bool, true, false, cond, eqb, List, [], ◌∷◌, ◌++◌, length, map, Option, Some, None, refl, sym, ap, subst, ◌∙◌, eq-eqb}
 use Rattle.std.specs.Prelude.{slice_get}
 use Rattle.std.proofs.lemmas.Bool.{eqb-true}
+use Rattle.mz_general.proofs.Offered.{both-true}
 use Rattle.mz_logic.specs.Tree.{Tree, Trees, var, app, none, more, listed, operand, followed_by, variables, instance, instances}
 use Rattle.mz_logic.specs.Signature.{Signature}
 use Rattle.mz_logic.specs.Sorts.{HasSort, Fits}
@@ -11,7 +12,6 @@ use Rattle.mz_unification.specs.Sorted.{Sorted, AllSorted}
 use Rattle.mz_unification.specs.Profile.{tree_parts}
 use Rattle.mz_unification.specs.Tests.{same_tree, same_trees}
 use Rattle.mz_unification.specs.UnifyMachine.{operands_of}
-use Rattle.mz_unification.proofs.Inverting.{both-true}
 
 pub trees_of-listed : (es : Trees) → trees_of (listed es) ≡ es
 trees_of-listed none = refl

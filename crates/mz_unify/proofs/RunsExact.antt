@@ -26,10 +26,6 @@ use Rattle.mz_unify.proofs.ItemsLeft.{ends-empty, with_items, put, run-items}
 
 -- ---- counting
 
-no-items : {A : Type 0} (xs : List A) → length xs ≡ 0 → xs ≡ []
-no-items [] e = refl
-no-items (x ∷ xs) e = absurd (omega arith)
-
 instances-many : (f : Trees) (hs : List Tree) (es : Trees) → trees_of hs ≡ instances f es → length hs ≡ length (listed es)
 instances-many f [] none e = refl
 instances-many f [] (more x es) e = absurd cc

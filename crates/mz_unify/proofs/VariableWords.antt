@@ -3,12 +3,13 @@ use Rattle.std.proofs.Common.{◌≡◌, ℕ, zero, suc, ◌+◌, ◌<◌, Bool,
 use Rattle.std.specs.Prelude.{◌↔◌, slice_get, bit_and, bit_or, min, max}
 use Rattle.std.specs.Int.{bit_at}
 use Rattle.std.proofs.lemmas.Nat.Bits.{bit_at_and, bit_at_or, bit_at-zero, bit_at-lt, same_from_bits}
-use Rattle.std.proofs.lemmas.Bool.{eqb-true}
+use Rattle.std.proofs.lemmas.Bool.{eqb-true, or_right, or_left}
 use Rattle.std.proofs.lemmas.Option.{get_or_from_slice_get}
+use Rattle.mz_general.proofs.Offered.{or-cases}
 use Rattle.mz_logic.specs.Tree.{Tree, var, app}
 use Rattle.mz_logic.specs.Variables.{InV}
 use Rattle.mz_logic.specs.declared.binder.Binder.{Binder}
-use Rattle.mz_store.specs.Bits.{HasAt, Tells, bound_from, bound_vars}
+use Rattle.mz_store.specs.Bits.{HasAt, Tells, bound_vars}
 use Rattle.mz_logic.specs.Signature.{Signature}
 use Rattle.mz_store.specs.Sharing.{Sharing, tree_of, IsTold}
 use Rattle.mz_store.specs.declared.item.Id.{Id}
@@ -19,9 +20,10 @@ use Rattle.mz_unify.specs.Rows.{InAnyV, TellsAny}
 use Rattle.mz_unification.specs.Profile.{strict}
 use Rattle.mz_logic.specs.Sorts.{HasSort, IsBoundVar}
 use Rattle.mz_logic.specs.Legality.{sort_of}
+use Rattle.mz_store.proofs.Offered.{bound-has}
 use Rattle.mz_unification.specs.Tests.{in_v, is_bound_var}
 use Rattle.mz_unification.specs.UnifyMachine.{within_any, is_fresh}
-use Rattle.mz_unification.proofs.Offered.{bound-is, is-bound, or-cases, or-left, or-right, in-v-true, v-in}
+use Rattle.mz_unification.proofs.Offered.{bound-is, is-bound, in-v-true, v-in}
 use Rattle.mz_unify.proofs.StoredIds.{trees-append}
 
 pub tells-none : (places : List ℕ) (P : ℕ → Type 0) → ((x : ℕ) → P x → ⊥) → Tells places 0 P
@@ -110,21 +112,9 @@ tells-bound s sigs es sort i word fresh tells = tells-one s sigs i word (inr (is
     is-variable (var x) h = tt
     is-variable (app t fs) h = absurd cc
 
-bound-from : (i : ℕ) (ctx : List Binder) (x : ℕ) (b : Binder) → slice_get ctx x ≡ Some b → b.bound ≡ true → (k : ℕ) × (slice_get (bound_from i ctx) k ≡ Some (i + x))
-bound-from i [] x b at bound = absurd cc
-bound-from i (c ∷ ctx) zero b at bound =
-    let same : c ≡ b = cc in
-    let is : c.bound ≡ true = ap (λ (d : Binder). d.bound) same ∙ bound in
-    (0, rw is (ap (λ (n : ℕ). Some n) (omega arith)))
-bound-from i (c ∷ ctx) (suc x) b at bound = go c.bound refl (bound-from (suc i) ctx x b at bound)
-  where
-    go : (v : Bool) → c.bound ≡ v → ((k : ℕ) × (slice_get (bound_from (suc i) ctx) k ≡ Some (suc i + x))) → (k : ℕ) × (slice_get (bound_from i (c ∷ ctx)) k ≡ Some (i + suc x))
-    go true is (k, place) = (suc k, rw is (place ∙ ap (λ (n : ℕ). Some n) (omega arith)))
-    go false is (k, place) = (k, rw is (place ∙ ap (λ (n : ℕ). Some n) (omega arith)))
-
 -- a bound variable has a place among the bound ones
 pub bound-place : (ctx : List Binder) (x : ℕ) (b : Binder) → slice_get ctx x ≡ Some b → b.bound ≡ true → (k : ℕ) × (slice_get (bound_vars ctx) k ≡ Some x)
-bound-place ctx x b at bound = let (k, place) = bound-from 0 ctx x b at bound in (k, place ∙ ap (λ (n : ℕ). Some n) (omega arith))
+bound-place ctx x b at bound = let (k, place) = bound-has 0 ctx x b at bound in (k, place ∙ ap (λ (n : ℕ). Some n) (omega arith))
 
 within-is : (ctx : List Binder) (x : ℕ) (es : List Tree) → within_any strict ctx (var x) es ≡ true → InAnyV ctx es x
 within-is ctx x [] h = absurd cc
@@ -135,8 +125,8 @@ within-is ctx x (e ∷ es) h = elim (or-cases (in_v ctx x e) (within_any strict 
 
 is-within : (ctx : List Binder) (x : ℕ) (es : List Tree) → InAnyV ctx es x → within_any strict ctx (var x) es ≡ true
 is-within ctx x [] h = absurd h
-is-within ctx x (e ∷ es) (inl here) = or-left (in_v ctx x e) (within_any strict ctx (var x) es) (v-in ctx x e here)
-is-within ctx x (e ∷ es) (inr later) = or-right (in_v ctx x e) (within_any strict ctx (var x) es) (is-within ctx x es later)
+is-within ctx x (e ∷ es) (inl here) = or_left (in_v ctx x e) (within_any strict ctx (var x) es) (v-in ctx x e here)
+is-within ctx x (e ∷ es) (inr later) = or_right (in_v ctx x e) (within_any strict ctx (var x) es) (is-within ctx x es later)
 
 true-false : true ≡ false → ⊥
 true-false e = cc

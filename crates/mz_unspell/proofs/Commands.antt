@@ -10,13 +10,10 @@ use Rattle.mz_cmd.specs.Reading.{first_command}
 use Rattle.mz_logic.specs.Tree.{Tree, Trees, var, app}
 use Rattle.mz_logic.specs.Signature.{Signature}
 use Rattle.mz_unification.specs.Streams.{StreamKind, of_assertion, of_definition, UnifyCommand, u_term, u_term_save, u_ref, u_dummy, u_hyp, u_end, unify_command, command_in, IsEnd, StreamIs}
-use Rattle.mz_unification.proofs.Offered.{command-long}
+use Rattle.mz_unification.proofs.Offered.{command-long, cmd-is, ref-is, dummy-is, term-is, save-is}
 use Rattle.mz_unification.specs.Spells.{Marks, marked, with_dummy, HasOperands, Spells, SpellsAll}
 
 -- ---- bytes
-
-cmd_is : (bytes : List ℕ) (c d : Cmd) → first_command bytes ≡ Ok c → first_command bytes ≡ Ok d → c ≡ d
-cmd_is bytes c d p q = cc
 
 pub never_ok : (f : CmdFault) (c : Cmd) → Err f ≡ Ok c → ⊥
 never_ok f c e = cc
@@ -29,7 +26,7 @@ begins kind bytes (u ∷ us) (c, read, is, going, rest) = (c, read)
 -- it is the END where its code is none of a unify stream's
 pub ended : (kind : StreamKind) (bytes : List ℕ) (us : List UnifyCommand) (c : Cmd) → first_command bytes ≡ Ok c → unify_code c.code ≡ None → StreamIs kind bytes us → us ≡ []
 ended kind bytes [] c read none h = refl
-ended kind bytes (u ∷ us) c read none (d, read', is, going, _) = absurd (by (eqb c.code 0) (subst (λ (x : Cmd). unify_command kind x.code x.value ≡ Some u) (cmd_is bytes d c read' read) is))
+ended kind bytes (u ∷ us) c read none (d, read', is, going, _) = absurd (by (eqb c.code 0) (subst (λ (x : Cmd). unify_command kind x.code x.value ≡ Some u) (cmd-is bytes d c read' read) is))
   where
     by : (ends : Bool) → cond ends (Some u_end) (command_in kind c.value (unify_code c.code)) ≡ Some u → ⊥
     by true e = going (let same : u_end ≡ u = cc in subst IsEnd same tt)
@@ -59,9 +56,9 @@ one_more kind bytes us c k read code h = by us h
 
     by : (vs : List UnifyCommand) → StreamIs kind bytes vs → (u : UnifyCommand) × (rest : List UnifyCommand) × (vs ≡ u ∷ rest) × (command_in kind c.value (Some k) ≡ Some u)
         × StreamIs kind (drop c.len bytes) rest × (length (drop c.len bytes) < length bytes)
-    by [] (d, read', is) = absurd (never kind k (plain u_end (subst (λ (x : Cmd). unify_command kind x.code x.value ≡ Some u_end) (cmd_is bytes d c read' read) is)))
+    by [] (d, read', is) = absurd (never kind k (plain u_end (subst (λ (x : Cmd). unify_command kind x.code x.value ≡ Some u_end) (cmd-is bytes d c read' read) is)))
     by (u ∷ rest) (d, read', is, going, others) =
-        let same : d ≡ c = cmd_is bytes d c read' read in
+        let same : d ≡ c = cmd-is bytes d c read' read in
         let takes = command-long bytes c read in (
           u,
           rest,
@@ -96,23 +93,11 @@ code_hyp of_definition v u e = absurd cc
 
 -- ---- what an expression is that a command begins
 
-ref_ref : (i j : ℕ) (us vs : List UnifyCommand) → u_ref i ∷ us ≡ u_ref j ∷ vs → (i ≡ j) × (us ≡ vs)
-ref_ref i j us vs e = (cc, cc)
-
-dummy_dummy : (i j : ℕ) (us vs : List UnifyCommand) → u_dummy i ∷ us ≡ u_dummy j ∷ vs → (i ≡ j) × (us ≡ vs)
-dummy_dummy i j us vs e = (cc, cc)
-
-term_term : (i j : ℕ) (us vs : List UnifyCommand) → u_term i ∷ us ≡ u_term j ∷ vs → (i ≡ j) × (us ≡ vs)
-term_term i j us vs e = (cc, cc)
-
-save_save : (i j : ℕ) (us vs : List UnifyCommand) → u_term_save i ∷ us ≡ u_term_save j ∷ vs → (i ≡ j) × (us ≡ vs)
-save_save i j us vs e = (cc, cc)
-
 module _ (n : ℕ) (sigs : List Signature) (m : Marks) (us : List UnifyCommand) where
   pub ref_is : (i : ℕ) (e : Tree) (m' : Marks) (us' : List UnifyCommand) → Spells n sigs m (u_ref i ∷ us) e m' us' → (slice_get m.trees i ≡ Some e) × (m' ≡ m) × (us' ≡ us)
-  ref_is i (var x) m' us' (inl (j, is, at, same)) = let (i-j, rest) = ref_ref i j us us' is in (ap (slice_get m.trees) i-j ∙ at, same, sym rest)
+  ref_is i (var x) m' us' (inl (j, is, at, same)) = let (i-j, rest) = ref-is i j us us' is in (ap (slice_get m.trees) i-j ∙ at, same, sym rest)
   ref_is i (var x) m' us' (inr (s, is, _, _)) = absurd cc
-  ref_is i (app t es) m' us' (inl (j, is, at, same)) = let (i-j, rest) = ref_ref i j us us' is in (ap (slice_get m.trees) i-j ∙ at, same, sym rest)
+  ref_is i (app t es) m' us' (inl (j, is, at, same)) = let (i-j, rest) = ref-is i j us us' is in (ap (slice_get m.trees) i-j ∙ at, same, sym rest)
   ref_is i (app t es) m' us' (inr (inl (rest, is, _, _))) = absurd cc
   ref_is i (app t es) m' us' (inr (inr (rest, is, _, _))) = absurd cc
 
@@ -120,7 +105,7 @@ module _ (n : ℕ) (sigs : List Signature) (m : Marks) (us : List UnifyCommand) 
       → (e ≡ var (n + length m.dummies)) × (m' ≡ with_dummy m (n + length m.dummies) s) × (us' ≡ us)
   dummy_is s (var x) m' us' (inl (j, is, _, _)) = absurd cc
   dummy_is s (var x) m' us' (inr (r, is, x-is, same)) =
-      let (s-r, rest) = dummy_dummy s r us us' is in (ap var x-is, same ∙ ap (λ (y : ℕ). with_dummy m y r) x-is ∙ ap (with_dummy m (n + length m.dummies)) (sym s-r), sym rest)
+      let (s-r, rest) = dummy-is s r us us' is in (ap var x-is, same ∙ ap (λ (y : ℕ). with_dummy m y r) x-is ∙ ap (with_dummy m (n + length m.dummies)) (sym s-r), sym rest)
   dummy_is s (app t es) m' us' (inl (j, is, _, _)) = absurd cc
   dummy_is s (app t es) m' us' (inr (inl (rest, is, _, _))) = absurd cc
   dummy_is s (app t es) m' us' (inr (inr (rest, is, _, _))) = absurd cc
@@ -131,7 +116,7 @@ module _ (n : ℕ) (sigs : List Signature) (m : Marks) (us : List UnifyCommand) 
   term_is t (var x) m' us' (inr (r, is, _, _)) = absurd cc
   term_is t (app w es) m' us' (inl (j, is, _, _)) = absurd cc
   term_is t (app w es) m' us' (inr (inl (rest, is, ops, all))) =
-      let (same, rest-is) = term_term t w us rest is in
+      let (same, rest-is) = term-is t w us rest is in
       (es, ap (λ (z : ℕ). app z es) (sym same), subst (λ (z : ℕ). HasOperands sigs z es) (sym same) ops, subst (λ (z : List UnifyCommand). SpellsAll n sigs m z es m' us') (sym rest-is) all)
   term_is t (app w es) m' us' (inr (inr (rest, is, _, _))) = absurd cc
 
@@ -142,7 +127,7 @@ module _ (n : ℕ) (sigs : List Signature) (m : Marks) (us : List UnifyCommand) 
   save_is t (app w es) m' us' (inl (j, is, _, _)) = absurd cc
   save_is t (app w es) m' us' (inr (inl (rest, is, _, _))) = absurd cc
   save_is t (app w es) m' us' (inr (inr (rest, is, ops, all))) =
-      let (same, rest-is) = save_save t w us rest is in (
+      let (same, rest-is) = save-is t w us rest is in (
         es,
         ap (λ (z : ℕ). app z es) (sym same),
         subst (λ (z : ℕ). HasOperands sigs z es) (sym same) ops,

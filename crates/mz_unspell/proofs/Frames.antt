@@ -3,19 +3,20 @@ use Rattle.std.proofs.Common.{ℕ, suc, ◌≡◌, ◌<◌, ◌≤◌, ◌⊎◌
 use Rattle.std.proofs.lemmas.Bool.{cases_eq}
 use Rattle.std.proofs.lemmas.List.{length-map}
 use Rattle.std.proofs.lemmas.Option.{slice_get_within}
-use Rattle.mz_layout.proofs.Offered.{slice_get-left}
+use Rattle.mz_general.proofs.Offered.{slice_get-last, slice_get-append, slice_get-push_cases}
 use Rattle.mz_logic.specs.Tree.{Tree, Trees, var, none, more, listed, size, trees_size}
 use Rattle.mz_logic.specs.Signature.{Signature}
 use Rattle.mz_logic.specs.declared.binder.Binder.{Binder}
 use Rattle.mz_unification.specs.Streams.{UnifyCommand}
 use Rattle.mz_unification.specs.Spells.{Marks, trees_of, variables_from}
+use Rattle.mz_unification.proofs.Offered.{length-params}
 use Rattle.mz_phrasing.specs.Phrases.{Phrase}
 use Rattle.mz_phrasing.specs.Phrasing.{Vocabulary, expression}
 use Rattle.mz_stating.specs.ByNumber.{Grows}
 use Rattle.mz_unspell.specs.Frames.{Frame, Target, AreMarked, AreOwn, Behind, IsMarked, IsOpenMark, IsOwn, join, parts_of, whole}
 use Rattle.mz_unspell.specs.Numbers.{AreVariables}
 use Rattle.mz_unspell.specs.Reading.{IsSet}
-use Rattle.mz_unspell.proofs.Numbers.{at_grows, at_or_last, last_at, set_else, set_here, set_length, variable_at, variables_many}
+use Rattle.mz_unspell.proofs.Numbers.{at_grows, set_else, set_here, set_length, variable_at}
 
 -- ---- operands
 
@@ -67,7 +68,7 @@ own_grows trees e (f ∷ fs) (mine, own) = (by f.mark mine, own_grows trees e fs
   where
     by : (o : Option ℕ) → IsOwn trees o (whole f) → IsOwn (trees ++ e ∷ []) o (whole f)
     by None h = tt
-    by (Some i) h = slice_get-left trees (e ∷ []) i (whole f) h
+    by (Some i) h = slice_get-append trees (e ∷ []) i (whole f) h
 
 module _ (v : Vocabulary) where
   pub marked_grows : (ps qs : List Phrase) (trees : List Tree) (marks : List ℕ) (fs : List Frame) → Grows ps qs → AreMarked v ps trees marks fs → AreMarked v qs trees marks fs
@@ -90,18 +91,18 @@ module _ (v : Vocabulary) where
       → ((i : ℕ) → IsOpenMark fs i → IsOpenMark gs i) → (IsOpenMark gs (length trees) ⊎ (slice_get ps k ≡ Some (expression v e))) → AreMarked v ps (trees ++ e ∷ []) (marks ++ k ∷ []) gs
   marked_push ps trees marks fs gs e k h on last = record {
     many = (let a = length-append marks (k ∷ []) in let b = length-append trees (e ∷ []) in let same = h.many in omega (arith, a, b, same));
-    each = λ i d at. by i d (at_or_last trees e i d at);
+    each = λ i d at. by i d (slice_get-push_cases trees e i d at);
   }
     where
       old : (i : ℕ) (d : Tree) → IsMarked v ps marks fs i d → IsMarked v ps (marks ++ k ∷ []) gs i d
       old i d (inl found) = inl (on i found)
-      old i d (inr (l, here, is)) = inr (l, slice_get-left marks (k ∷ []) i l here, is)
+      old i d (inr (l, here, is)) = inr (l, slice_get-append marks (k ∷ []) i l here, is)
 
       new : (i : ℕ) (d : Tree) → i ≡ length trees → e ≡ d → (IsOpenMark gs (length trees) ⊎ (slice_get ps k ≡ Some (expression v e))) → IsMarked v ps (marks ++ k ∷ []) gs i d
       new i d i-is e-is (inl found) = inl (subst (IsOpenMark gs) (sym i-is) found)
       new i d i-is e-is (inr is) = inr (
         k,
-        ap (slice_get (marks ++ k ∷ [])) (i-is ∙ sym h.many) ∙ last_at marks k,
+        ap (slice_get (marks ++ k ∷ [])) (i-is ∙ sym h.many) ∙ slice_get-last marks k,
         is ∙ ap (λ (x : Tree). Some (expression v x)) e-is,
       )
 
@@ -148,7 +149,7 @@ module _ (v : Vocabulary) where
 
   -- at first the parameters are marked
   pub params_marked : (ps : List Phrase) (bs : List Binder) (ns : List ℕ) (count : ℕ) → AreVariables v ps ns count → length bs ≡ count → AreMarked v ps (variables_from 0 bs) ns []
-  params_marked ps bs ns count h many = record { many = h.many ∙ sym many ∙ sym (variables_many 0 bs); each = λ i e at. by i e (variable_at 0 bs i e at) }
+  params_marked ps bs ns count h many = record { many = h.many ∙ sym many ∙ sym (length-params 0 bs); each = λ i e at. by i e (variable_at 0 bs i e at) }
     where
       by : (i : ℕ) (e : Tree) → ((i < length bs) × (e ≡ var (0 + i))) → IsMarked v ps ns [] i e
       by i e (lt, is) = let (k, at, k-is) = h.each i (omega (arith, lt, many)) in

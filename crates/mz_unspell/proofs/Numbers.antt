@@ -1,11 +1,11 @@
 -- Numbers of phrases: where lists of them grow, and what they give.
-use Rattle.std.proofs.Common.{ℕ, zero, suc, ◌≡◌, ◌<◌, ◌+◌, ◌⊎◌, Bool, true, false, All, List, [], ◌∷◌, ◌++◌, length, map, reverse, take, drop, get_or, slice_get, slice_set, Option, Some, None, refl, ap, sym, ◌∙◌, subst, inl, inr, arith, append_assoc}
+use Rattle.std.proofs.Common.{ℕ, zero, suc, ◌≡◌, ◌<◌, ◌+◌, ◌⊎◌, Bool, true, false, All, List, [], ◌∷◌, ◌++◌, length, map, reverse, take, drop, get_or, slice_get, slice_set, Some, None, refl, ap, sym, ◌∙◌, subst, inl, inr, arith, append_assoc}
 use Rattle.std.specs.Prelude.{◌==◌}
 use Rattle.std.proofs.lemmas.Bool.{cases_eq, eqb-true}
 use Rattle.std.proofs.lemmas.List.{map-append, nil_from_length, reverse-append}
 use Rattle.std.proofs.lemmas.List.Elements.{All-nil, All-cons}
-use Rattle.std.proofs.lemmas.Option.{get_or_from_slice_get, slice_get_within}
-use Rattle.mz_layout.proofs.Offered.{slice_get-left}
+use Rattle.std.proofs.lemmas.Option.{get_or_from_slice_get, slice_get_within, same_Some}
+use Rattle.mz_general.proofs.Offered.{slice_get-last, slice_get-append}
 use Rattle.mz_logic.specs.Tree.{Tree, app, var}
 use Rattle.mz_logic.specs.declared.binder.Binder.{Binder}
 use Rattle.mz_unification.specs.Spells.{trees_of, variables_from}
@@ -17,13 +17,6 @@ use Rattle.mz_unspell.specs.Numbers.{AreAt, AreVariables}
 
 -- ---- places of a list
 
-pub last_at : {A : Type 0} → (xs : List A) (y : A) → slice_get (xs ++ y ∷ []) (length xs) ≡ Some y
-last_at [] y = refl
-last_at (x ∷ xs) y = last_at xs y
-
-some_is : {A : Type 0} → (x y : A) → Some x ≡ Some y → x ≡ y
-some_is x y e = cc
-
 pub some_none : (x : ℕ) → Some x ≡ None → ⊥
 some_none x e = cc
 
@@ -33,13 +26,6 @@ not_true b is-not is = let bad : false ≡ true = sym is-not ∙ is in cc
 -- none of so many
 pub none_counted : {A : Type 0} → (xs : List A) (n : ℕ) (b : Bool) → b ≡ true → b ≡ (n == 0) → length xs ≡ n → xs ≡ []
 none_counted xs n b is-true b-is many = nil_from_length xs (many ∙ eqb-true n 0 (sym b-is ∙ is-true))
-
--- the last one, or one before it
-pub at_or_last : {A : Type 0} → (xs : List A) (y : A) (i : ℕ) (x : A) → slice_get (xs ++ y ∷ []) i ≡ Some x → (slice_get xs i ≡ Some x) ⊎ ((i ≡ length xs) × (y ≡ x))
-at_or_last [] y zero x at = inr (refl, some_is y x at)
-at_or_last {A} [] y (suc i) x at = absurd (let no : ◌≡◌ {A = Option A} None (Some x) = at in cc)
-at_or_last (z ∷ xs) y zero x at = inl at
-at_or_last (z ∷ xs) y (suc i) x at = elim (at_or_last xs y i x at) [ inl h ↦ inl h | inr (i-is, y-is) ↦ inr (ap suc i-is, y-is) ]
 
 pub set_here : {A : Type 0} → (xs : List A) (i : ℕ) (y : A) → i < length xs → slice_get (slice_set xs i y) i ≡ Some y
 set_here [] i y lt = absurd (omega (arith, lt))
@@ -76,7 +62,7 @@ pub grows_on : (ps qs rs : List Phrase) → Grows ps qs → Grows qs rs → Grow
 grows_on ps qs rs (xs, qs-are) (ys, rs-are) = (xs ++ ys, rs-are ∙ ap (λ zs. zs ++ ys) qs-are ∙ append_assoc ps xs ys)
 
 pub at_grows : (ps qs : List Phrase) (n : ℕ) (p : Phrase) → Grows ps qs → slice_get ps n ≡ Some p → slice_get qs n ≡ Some p
-at_grows ps qs n p (others, is) at = ap (λ (zs : List Phrase). slice_get zs n) is ∙ slice_get-left ps others n p at
+at_grows ps qs n p (others, is) at = ap (λ (zs : List Phrase). slice_get zs n) is ∙ slice_get-append ps others n p at
 
 pub are_grow : (ps qs : List Phrase) (ns : List ℕ) (rs : List Phrase) → Grows ps qs → AreAt ps ns rs → AreAt qs ns rs
 are_grow ps qs [] [] g h = tt
@@ -172,17 +158,13 @@ more_variables v ps qs ns new i k h grows is new-is = subst (λ (ms : List ℕ).
     long (m ∷ ms) = (let l = long ms in omega (arith, l))
 
     by : (j : ℕ) → j < i + 1 → ((j ≡ i) ⊎ (j ≡ i → ⊥)) → (l : ℕ) × (slice_get (ns ++ k ∷ []) j ≡ Some l) × (slice_get qs l ≡ Some (expression v (var j)))
-    by j lt (inl same) = (k, ap (slice_get (ns ++ k ∷ [])) (same ∙ sym h.many) ∙ last_at ns k, is ∙ ap (λ (x : ℕ). Some (expression v (var x))) (sym same))
-    by j lt (inr apart) = let (l, at, l-is) = h.each j (below j lt apart) in (l, slice_get-left ns (k ∷ []) j l at, at_grows ps qs l (expression v (var j)) grows l-is)
+    by j lt (inl same) = (k, ap (slice_get (ns ++ k ∷ [])) (same ∙ sym h.many) ∙ slice_get-last ns k, is ∙ ap (λ (x : ℕ). Some (expression v (var x))) (sym same))
+    by j lt (inr apart) = let (l, at, l-is) = h.each j (below j lt apart) in (l, slice_get-append ns (k ∷ []) j l at, at_grows ps qs l (expression v (var j)) grows l-is)
       where
         below : (a : ℕ) → a < i + 1 → (a ≡ i → ⊥) → a < i
         below a less other = grind (arith, less, other)
 
 pub variable_at : (j : ℕ) (bs : List Binder) (i : ℕ) (e : Tree) → slice_get (variables_from j bs) i ≡ Some e → (i < length bs) × (e ≡ var (j + i))
 variable_at j [] i e at = absurd (let no : None ≡ Some e = at in cc)
-variable_at j (b ∷ bs) zero e at = (omega arith, sym (some_is (var j) e at) ∙ ap var (let is : j ≡ j + 0 = omega arith in is))
+variable_at j (b ∷ bs) zero e at = (omega arith, sym (same_Some (var j) e at) ∙ ap var (let is : j ≡ j + 0 = omega arith in is))
 variable_at j (b ∷ bs) (suc i) e at = let (lt, is) = variable_at (suc j) bs i e at in (omega (arith, lt), is ∙ ap var (let same : suc j + i ≡ j + suc i = omega arith in same))
-
-pub variables_many : (j : ℕ) (bs : List Binder) → length (variables_from j bs) ≡ length bs
-variables_many j [] = refl
-variables_many j (b ∷ bs) = ap suc (variables_many (suc j) bs)

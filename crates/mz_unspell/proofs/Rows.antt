@@ -1,11 +1,10 @@
 -- What the rows of a file spell, as what is read.
-use Rattle.std.proofs.Common.{ℕ, suc, ◌≡◌, Bool, true, List, [], ◌∷◌, ◌++◌, length, drop, Option, Some, None, if◌then◌else◌, refl, ap, subst}
+use Rattle.std.proofs.Common.{ℕ, ◌≡◌, Bool, true, List, [], length, drop, Option, Some, None, if◌then◌else◌, refl, ap, subst}
 use Rattle.mz_logic.specs.Tree.{Tree, none}
-use Rattle.mz_logic.specs.Words.{binders_from, binders_of, word_bound}
+use Rattle.mz_logic.specs.Words.{binders_of}
 use Rattle.mz_logic.specs.Signature.{Signature}
 use Rattle.mz_logic.specs.Declaration.{Form, plain_form, abstract_form, defined, Term}
 use Rattle.mz_logic.specs.declared.binder.Binder.{Binder}
-use Rattle.mz_logic.specs.declared.word.Word.{Word}
 use Rattle.mz_layout.specs.Tables.{term_row, thm_row}
 use Rattle.mz_unification.specs.Spells.{Marks, SpellsForm, SpellsTerm, Text}
 use Rattle.mz_unification.specs.Streams.{StreamKind, UnifyCommand, of_definition}
@@ -33,10 +32,6 @@ term_params file row = binders_of (term_row file row).words.params
 
 abbrev pub term_stream : List ℕ → ℕ → List ℕ
 term_stream file row = drop (term_row file row).stream_at file
-
-pub binders_many : (i : ℕ) (places : List ℕ) (ws : List Word) → length (binders_from i places ws) ≡ length ws
-binders_many i places [] = refl
-binders_many i places (w ∷ ws) = ap suc (binders_many (suc i) (if word_bound w then places ++ i ∷ [] else places) ws)
 
 -- ---- definitions
 

@@ -2,6 +2,7 @@
 use Rattle.std.proofs.Common.{ℕ, suc, ◌≡◌, ◌<◌, ◌≤◌, ◌⊎◌, ◌+◌, All, List, [], ◌∷◌, ◌++◌, length, map, take, drop, Option, Some, None, slice_get, refl, ap, sym, ◌∙◌, subst, inl, inr, arith, append_assoc, length-append}
 use Rattle.std.proofs.lemmas.List.{length-map, map-append, same_from_push}
 use Rattle.std.proofs.lemmas.Option.{slice_get_within}
+use Rattle.mz_general.proofs.Offered.{slice_get-last}
 use Rattle.mz_layout.specs.Tables.{term_count, term_row}
 use Rattle.mz_logic.specs.Tree.{Tree, Trees, var, app, none, more, listed}
 use Rattle.mz_logic.specs.declared.binder.Binder.{Binder}
@@ -17,7 +18,7 @@ use Rattle.mz_unspell.specs.Frames.{Frame, Target, AreMarked, Behind, IsOpenMark
 use Rattle.mz_unspell.specs.Reading.{AreRead, IsAtHyp, IsBetween, IsComplete, IsGoing, IsNext, IsOpened, IsSame, IsSet, Over, Stands, held}
 use Rattle.mz_unspell.specs.declared.reading.Open.{Open}
 use Rattle.mz_unspell.specs.declared.reading.Reading.{Reading}
-use Rattle.mz_unspell.proofs.Numbers.{are_behind, are_first, are_grow, are_many, are_push, are_there, last_at}
+use Rattle.mz_unspell.proofs.Numbers.{are_behind, are_first, are_grow, are_many, are_push, are_there}
 use Rattle.mz_unspell.proofs.Commands.{code_dummy, code_hyp, code_ref, code_save, code_term, dummy_is, hyp_never, none_never, ref_is, save_is, term_is}
 use Rattle.mz_unspell.proofs.Frames.{join_many, join_none, join_push, marked_close, marked_grows, marked_more, marked_push, never_open, own_grows, parts_many}
 
@@ -198,7 +199,7 @@ module _ (file : List ℕ) (o : Over file) (v : Vocabulary) where
                   (marked_push v qs g.marks.trees r.marks.items g.frames (f ∷ g.frames) (app term es) word
                   (marked_grows v ps qs g.marks.trees r.marks.items g.frames grows g.stands.marked) (λ i h. inr h)
                   (inl (inl (ap (λ (n : ℕ). Some n) long))));
-              own = (ap (slice_get (g.marks.trees ++ app term es ∷ [])) long ∙ last_at g.marks.trees (app term es), own_grows g.marks.trees (app term es) g.frames g.stands.own);
+              own = (ap (slice_get (g.marks.trees ++ app term es ∷ [])) long ∙ slice_get-last g.marks.trees (app term es), own_grows g.marks.trees (app term es) g.frames g.stands.own);
               dummies = g.stands.dummies ∙ ap (λ ds. map dummy_of ds.items) (sym (same.dummies ∙ dummies));
               read = subst (λ (ns : List ℕ). AreAt qs ns (parts v (f ∷ g.frames))) (sym opened.read) (are_push qs r1.read.items (parts v g.frames) word (a_word (v.term term)) read word-is);
               pending = opened_is qs r1 r' g.frames f word (length (term_row file term).words.params) read (ap (λ os. os.items) pending ∙ g.stands.pending)

@@ -11,15 +11,17 @@ use Rattle.std.proofs.lemmas.List.Sorted.{Contains-permutation, IsPermutation-sy
 use Rattle.std.proofs.lemmas.Map.Keys.{IsStrictlyIncreasing-dedup}
 use Rattle.std.proofs.lemmas.Option.{slice_get_within, slice_get-get_or}
 use Rattle.std.proofs.lemmas.Slice.Eq.{bytes_eq-Decides}
+use Rattle.std.proofs.lemmas.Bool.{or_right}
+use Rattle.mz_general.proofs.Offered.{slice_get-map_at, contains_tail, contains_head, contains_cases}
 use Rattle.mz_lex.specs.Lexemes.{Lexeme}
-use Rattle.mz_logic.proofs.Offered.{contains_cases, contains_head, contains_tail, one_at}
+use Rattle.mz_logic.proofs.Offered.{one_at}
 use Rattle.mz_tokens.specs.Places.{place_of}
 use Rattle.mz_variables.specs.Code.{variable}
 use Rattle.mz_variables.specs.declared.variables.Variable.{Variable as VariableRead}
 use Rattle.mz_variables.specs.Index.{IsNamedAt, IsIndexUpTo, IsIndexOf, found_in, all_found}
 use Rattle.mz_variables.specs.Dependencies.{IsCalled, IsBoundAmong, dep_places}
 use Rattle.mz_variables.specs.View.{Variable, is_among}
-use Rattle.mz_variables.proofs.Places.{bound-place, all-places, get-map, get-back, get-take}
+use Rattle.mz_variables.proofs.Places.{bound-place, all-places, get-back, get-take}
 
 called-same : (o : Option Lexeme) (a b : List ℕ) → IsCalled o a → IsCalled o b → a ≡ b
 called-same None a b p q = absurd p
@@ -145,10 +147,6 @@ among-name : (ds : List Lexeme) (o : Option Lexeme) → is_among ds o ≡ true �
 among-name ds None is = absurd cc
 among-name ds (Some l) is = (l.text, refl)
 
-or-true : (b c : Bool) → c ≡ true → (b || c) ≡ true
-or-true true c is = refl
-or-true false c is = is
-
 found-cases : (places : List (List ℕ × ℕ)) (ds : List Lexeme) (x : ℕ) → Contains (found_in places ds) x → (t : List ℕ) × (list_any (λ d. bytes_eq d.text t) ds ≡ true) × (place_of places t ≡ Some x)
 found-cases places [] x (k, below, _) = absurd (omega (arith, below))
 found-cases places (d ∷ ds) x has = go (place_of places d.text) refl (Contains-append_cases (all_found (place_of places d.text)) (found_in places ds) x has) (found-cases places ds x)
@@ -156,7 +154,7 @@ found-cases places (d ∷ ds) x has = go (place_of places d.text) refl (Contains
     go : (o : Option ℕ) → place_of places d.text ≡ o → Contains (all_found o) x ⊎ Contains (found_in places ds) x
         → (Contains (found_in places ds) x → (t : List ℕ) × (list_any (λ e. bytes_eq e.text t) ds ≡ true) × (place_of places t ≡ Some x))
         → (t : List ℕ) × ((bytes_eq d.text t || list_any (λ e. bytes_eq e.text t) ds) ≡ true) × (place_of places t ≡ Some x)
-    go o is (inr rest) behind = (let (t, any, at) = behind rest in (t, or-true (bytes_eq d.text t) _ any, at))
+    go o is (inr rest) behind = (let (t, any, at) = behind rest in (t, or_right (bytes_eq d.text t) _ any, at))
     go None is (inl (k, below, _)) behind = absurd (omega (arith, below))
     go (Some p) is (inl here) behind = elim (contains_cases p x [] here) [
       | inl same ↦ (d.text, ap (λ b. b || list_any (λ e. bytes_eq e.text d.text) ds) ((bytes_eq-Decides d.text d.text).1 refl), is ∙ ap Some same)
@@ -264,7 +262,7 @@ module _ (vs : List Variable) (places : List (List ℕ × ℕ)) (index : IsIndex
 -- ---- what a loop reads
 
 pub get-item : {X Y : Type 0} → (f : X → Y) (xs : List X) (i : ℕ) (x : X) → i < length xs → x ≡ get_or xs i x → slice_get (map f xs) i ≡ Some (f x)
-get-item f xs i x below is = get-map f xs i x (slice_get-get_or xs i x below ∙ ap Some (sym is))
+get-item f xs i x below is = slice_get-map_at f xs i x (slice_get-get_or xs i x below ∙ ap Some (sym is))
 
 -- the same of a variable as it is read
 pub read-bound : (xs : List VariableRead) (end p : ℕ) (b : Bool) → (b ≡ true) ↔ ((p < end) × (v : VariableRead) × (slice_get xs p ≡ Some v) × (v.is_bound ≡ true))
@@ -272,7 +270,7 @@ pub read-bound : (xs : List VariableRead) (end p : ℕ) (b : Bool) → (b ≡ tr
 read-bound xs end p b (to, from) = (forth, back)
   where
     forth : b ≡ true → (p < end) × (v : Variable) × (slice_get (map variable xs) p ≡ Some v) × (v.is_bound ≡ true)
-    forth holds = let (below, v, at, bound) = to holds in (below, variable v, get-map variable xs p v at, bound)
+    forth holds = let (below, v, at, bound) = to holds in (below, variable v, slice_get-map_at variable xs p v at, bound)
 
     back : (p < end) × (v : Variable) × (slice_get (map variable xs) p ≡ Some v) × (v.is_bound ≡ true) → b ≡ true
     back (below, w, at, bound) =

@@ -1,3 +1,3 @@
 -- What crates above may use of these proofs; all else is this crate's own, and may change.
 pub use Rattle.mz_variables.proofs.Grouped.{every-join}
-pub use Rattle.mz_variables.proofs.Places.{all-places, among, every-text, get-back, get-map, get-take, get-within, no-deps}
+pub use Rattle.mz_variables.proofs.Places.{all-places, among, every-text, get-back, get-take, no-deps}

@@ -50,20 +50,10 @@ no-deps i (v ∷ vs) = go v.name (no-deps (i + 1) vs)
     go None e = e
     go (Some l) e = e
 
-pub get-map : {X Y : Type 0} → (f : X → Y) (xs : List X) (k : ℕ) (x : X) → slice_get xs k ≡ Some x → slice_get (map f xs) k ≡ Some (f x)
-get-map f [] k x at = absurd cc
-get-map f (y ∷ xs) zero x at = let same : y ≡ x = cc in ap (λ z. Some (f z)) same
-get-map f (y ∷ xs) (suc k) x at = get-map f xs k x at
-
 pub get-back : {X Y : Type 0} → (f : X → Y) (xs : List X) (k : ℕ) (y : Y) → slice_get (map f xs) k ≡ Some y → (x : X) × (slice_get xs k ≡ Some x) × (y ≡ f x)
 get-back f [] k y at = absurd cc
 get-back f (x ∷ xs) zero y at = (x, refl, let same : f x ≡ y = cc in sym same)
 get-back f (x ∷ xs) (suc k) y at = get-back f xs k y at
-
-pub get-within : {X : Type 0} → (xs : List X) (k : ℕ) → k < length xs → (x : X) × (slice_get xs k ≡ Some x)
-get-within [] k within = absurd (omega arith)
-get-within (x ∷ xs) zero within = (x, refl)
-get-within (x ∷ xs) (suc k) within = get-within xs k (omega arith)
 
 pub get-take : (vs : List Variable) (i k : ℕ) (w : Variable) → slice_get (take i vs) k ≡ Some w → (k < i) × (slice_get vs k ≡ Some w)
 get-take [] zero k w at = absurd cc

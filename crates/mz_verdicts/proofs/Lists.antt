@@ -1,6 +1,7 @@
 -- Lists of declarations and of statements.
 use Rattle.std.proofs.Common.{◌≡◌, ◌<◌, ◌≤◌, ◌+◌, ◌∙◌, ℕ, zero, suc, Bool, true, false, List, [], ◌∷◌, ◌++◌, length, take, drop, Some, refl, sym, ap, subst, arith, append_assoc}
 use Rattle.std.specs.Prelude.{if◌then◌else◌, slice_get, option_map}
+use Rattle.std.proofs.lemmas.List.{append-nil}
 use Rattle.mz_checks.specs.Checks.{AllHold}
 use Rattle.mz_logic.specs.Declaration.{Declaration, sort_decl, term_decl, assertion_decl, sorts, terms, assertions}
 use Rattle.mz_logic.specs.LegalLists.{Statement, declarations}
@@ -8,10 +9,6 @@ use Rattle.mz_spec.specs.State.{Entry, env_of}
 use Rattle.mz_verdicts.specs.declared.kind.Kind.{Kind}
 use Rattle.mz_verdicts.specs.Match.{Partner, partner_of, publics_after, publics, term_row_of, term_rows, match_checks, Agrees, Leaves, partner_checks, kind_of, is_kind}
 use Rattle.mz_verdicts.specs.Verdict.{count}
-
-pub append-nil : {A : Type 0} → (xs : List A) → xs ++ [] ≡ xs
-append-nil [] = refl
-append-nil (x ∷ xs) = ap (λ ys. x ∷ ys) (append-nil xs)
 
 -- ---- the entries of a specification
 

@@ -1,8 +1,10 @@
 -- What crates above may use of these proofs; all else is this crate's own, and may change.
 pub use Rattle.mz_verdicts.proofs.AcceptedSound.{accepted-sound}
-pub use Rattle.mz_verdicts.proofs.Lists.{append-nil, count-take, drop-entry, drop-further, drop-past, kinds-total, leaves-local, leaves-nothing, leaves-public, length-declarations, length-env, partner-there, publics-append, publics-local, publics-public, term_rows-append}
+pub use Rattle.mz_verdicts.proofs.Lists.{count-take, drop-entry, drop-further, drop-past, kinds-total, leaves-local, leaves-nothing, leaves-public, length-declarations, length-env, partner-there, publics-append, publics-local, publics-public, term_rows-append}
 pub use Rattle.mz_verdicts.proofs.OneVerdict.{accepted-excludes, counts-one, excludes, refusal-one, refusal-says, verdict-says}
 pub use Rattle.mz_verdicts.proofs.OwnBodies.{own_pairs, paired-own, pairs-own}
 pub use Rattle.mz_verdicts.proofs.Renaming.{SaysNothing, complete, no-dummy, no-pairs, says-nothing, sound, weaker}
 pub use Rattle.mz_verdicts.proofs.SomeVerdict.{verdict-or-refusal}
-pub use Rattle.mz_verdicts.proofs.Spelled.{AreLeft, ParamsLeft, deps-differ, deps-end, deps-short, deps-skip, deps-step, length-binders, params-differ, params-end, params-step, places-end, places-room, places-step}
+pub use Rattle.mz_verdicts.proofs.Spelled.{AreLeft, ParamsLeft, deps-differ, deps-end, deps-short, deps-skip, deps-step, params-differ, params-end, params-step, places-end, places-room, places-step}
+pub use Rattle.mz_verdicts.proofs.ProvingTheorems.{never-local}
+pub use Rattle.mz_verdicts.proofs.SameDecided.{row-decided}

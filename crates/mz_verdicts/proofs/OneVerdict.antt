@@ -1,5 +1,6 @@
 -- Two files have one verdict at most.
 use Rattle.std.proofs.Common.{◌≡◌, ◌⊎◌, ◌+◌, ◌∙◌, ℕ, false, List, [], ◌∷◌, ◌++◌, length, Ok, refl, sym, ap, subst, inl, inr}
+use Rattle.std.proofs.lemmas.List.{append-nil}
 use Rattle.mz_checks.specs.Checks.{AllHold, FailsFirst}
 use Rattle.mz_checks.proofs.Offered.{all_hold-excludes, fails_first-unique}
 use Rattle.mz_cmd.specs.declared.rule.K.{K}
@@ -22,7 +23,7 @@ use Rattle.mz_verdicts.specs.declared.verdict.Verdict.{Verdict}
 use Rattle.mz_verdicts.specs.declared.verdict.Verdict.TheVariants as verdicts
 use Rattle.mz_verdicts.specs.Match.{partner_of, publics_after, publics, match_checks, Agrees, Leaves, partner_checks, end_checks}
 use Rattle.mz_verdicts.specs.Verdict.{counts_of, AcceptsBy, AcceptsWith, AcceptsWithBy, BinaryFails, Differs, MatchFails, FirstRefusal, FirstRefusalBy, IsVerdictBy}
-use Rattle.mz_verdicts.proofs.Lists.{append-nil, publics-append, publics-public, left-same, left-next}
+use Rattle.mz_verdicts.proofs.Lists.{publics-append, publics-public, left-same, left-next}
 use Rattle.mz_files.specs.declared.standard.Standard.{Standard}
 use Rattle.mz_files.specs.Standards.{strict_standard}
 

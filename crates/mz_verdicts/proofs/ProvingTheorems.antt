@@ -1,6 +1,7 @@
 -- Where a legal list of statements agrees with the declarations, each theorem among these is proved by it.
 use Rattle.std.proofs.Common.{◌≡◌, ◌∙◌, ℕ, zero, suc, Bool, true, false, List, [], ◌∷◌, ◌++◌, take, Some, refl, sym, ap, subst, append_assoc}
 use Rattle.std.specs.Prelude.{if◌then◌else◌, slice_get}
+use Rattle.std.proofs.lemmas.List.{append-nil}
 use Rattle.mz_checks.specs.Checks.{AllHold}
 use Rattle.mz_logic.specs.Declaration.{Declaration, Assertion, Form, plain_form, abstract_form, defined, sort_decl, term_decl, assertion_decl}
 use Rattle.mz_logic.specs.Derivations.{Derivation}
@@ -9,7 +10,7 @@ use Rattle.mz_logic.proofs.Offered.{legal_at, legal_list_is_closed}
 use Rattle.mz_verdicts.specs.declared.kind.Kind.TheVariants as kinds
 use Rattle.mz_verdicts.specs.Match.{Partner, partner_of, publics_after, publics, kind_of, kind_of_form, match_checks, Agrees}
 use Rattle.mz_verdicts.specs.Proved.{AxiomsAreDeclared, TheoremsAreProved}
-use Rattle.mz_verdicts.proofs.Lists.{append-nil, publics-append, publics-public}
+use Rattle.mz_verdicts.proofs.Lists.{publics-append, publics-public}
 
 -- ---- fronts
 
@@ -100,7 +101,7 @@ agrees-at [] (q ∷ ps) qs p agrees = absurd agrees
 agrees-at (e ∷ ds) (q ∷ ps) qs p agrees = let (k, d, at, all) = agrees-at ds ps qs p agrees.1 in (suc k, d, at, all)
 
 -- no axiom is local
-never-local : (s : Statement) (b : Assertion) (local : Bool) → s.is_local ≡ local → (s.is_local ≡ true → MayBeLocal s.decl) → s.decl ≡ assertion_decl b → b.is_axiom ≡ true → s.is_local ≡ false
+pub never-local : (s : Statement) (b : Assertion) (local : Bool) → s.is_local ≡ local → (s.is_local ≡ true → MayBeLocal s.decl) → s.decl ≡ assertion_decl b → b.is_axiom ≡ true → s.is_local ≡ false
 never-local s b false is may says is_axiom = is
 never-local s b true is may says is_axiom = let theorem : b.is_axiom ≡ false = subst MayBeLocal says (may is) in absurd cc
 

@@ -2,6 +2,7 @@
 use Rattle.std.proofs.Common.{◌≡◌, ◌⊎◌, ◌+◌, ◌∙◌, ℕ, Bool, true, false, List, [], ◌∷◌, ◌++◌, length, refl, sym, ap, ap₂, subst, inl, inr, append_assoc}
 use Rattle.std.specs.Prelude.{◌==◌, if◌then◌else◌}
 use Rattle.std.proofs.lemmas.Bool.{cases_eq}
+use Rattle.std.proofs.lemmas.List.{append-nil}
 use Rattle.mz_checks.specs.Checks.{AreDecided}
 use Rattle.mz_checks.proofs.Offered.{all_hold-or_fails, bytes-decided}
 use Rattle.mz_cmd.specs.declared.rule.Refusal.{Refusal}
@@ -29,7 +30,7 @@ use Rattle.mz_verdicts.specs.declared.verdict.Verdict.TheVariants as verdicts
 use Rattle.mz_verdicts.specs.Match.{Partner, partner_of, publics, number_of, kind_of, form_checks, assertion_checks, part_checks, Agrees, Leaves, partner_checks}
 use Rattle.mz_verdicts.specs.Verdict.{counts_of, AcceptsWithBy, MatchFails, FirstRefusalBy}
 use Rattle.mz_verdicts.proofs.SameDecided.{same-tree-decided, same-trees-decided, same-body-decided}
-use Rattle.mz_verdicts.proofs.Lists.{append-nil, leaves-nothing, leaves-local, leaves-public, partner-there}
+use Rattle.mz_verdicts.proofs.Lists.{leaves-nothing, leaves-local, leaves-public, partner-there}
 use Rattle.mz_files.specs.declared.standard.Standard.{Standard}
 
 -- ---- whether a declaration and its partner agree can be found out

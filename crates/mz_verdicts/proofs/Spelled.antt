@@ -1,19 +1,14 @@
 -- What a row's words say, word by word.
-use Rattle.std.proofs.Common.{◌≡◌, ◌∙◌, ◌<◌, ◌≤◌, ◌+◌, ◌++◌, ℕ, zero, suc, Bool, true, false, List, [], ◌∷◌, length, drop, get_or, refl, sym, ap, ap₂, arith, drop-cons, append_assoc, length-append}
+use Rattle.std.proofs.Common.{◌≡◌, ◌∙◌, ◌<◌, ◌≤◌, ◌+◌, ◌++◌, ℕ, zero, suc, Bool, true, false, List, [], ◌∷◌, length, drop, get_or, refl, sym, ap, ap₂, arith, append_assoc, length-append}
 use Rattle.std.specs.Prelude.{◌↔◌, ◌==◌, ◌/◌, ◌%◌, if◌then◌else◌}
 use Rattle.std.proofs.lemmas.List.{drop_all, append-nil, get_or_default}
 use Rattle.std.proofs.lemmas.Bool.{eq-eqb, ne_eqb}
+use Rattle.mz_general.proofs.Offered.{drop-item}
 use Rattle.mz_logic.specs.declared.binder.Binder.{Binder}
 use Rattle.mz_logic.specs.declared.word.Word.{Word}
 use Rattle.mz_logic.specs.Words.{word_bound, bound_places, places_set, binder_of, binders_from}
 use Rattle.mz_words.specs.RowWords.{bound_count}
 use Rattle.mz_words.proofs.Offered.{bound-many}
-
--- the element at hand, and what is left behind it
-left-at : {X : Type 0} → (xs : List X) (i : ℕ) (x : X) → i < length xs → x ≡ get_or xs i x → drop i xs ≡ x ∷ drop (i + 1) xs
-left-at xs i x within is =
-    let on : suc i ≡ i + 1 = omega arith in
-    drop-cons xs i x within ∙ ap (λ y. y ∷ drop (suc i) xs) (sym is) ∙ ap (λ n. x ∷ drop n xs) on
 
 same-head : {X : Type 0} → (x y : X) (xs ys : List X) → x ∷ xs ≡ y ∷ ys → x ≡ y
 same-head x y xs ys e = cc
@@ -33,11 +28,11 @@ module _ (deps places : List ℕ) (W : Type 0) (k found bits : ℕ) where
 
   at-place : (b : Bool) → k < length places → (bits % 2 == 1) ≡ b → places_set bits (drop k places) ≡ places_by b bits (get_or places k 0) (drop (k + 1) places)
   at-place b within bit =
-      ap (places_set bits) (left-at places k (get_or places k 0) within (get_or_default places k 0 (get_or places k 0) within))
+      ap (places_set bits) (drop-item places k (get_or places k 0) within (get_or_default places k 0 (get_or places k 0) within))
       ∙ ap (λ c. places_by c bits (get_or places k 0) (drop (k + 1) places)) bit
 
   at-dep : found < length deps → drop found deps ≡ get_or deps found 0 ∷ drop (found + 1) deps
-  at-dep there = left-at deps found (get_or deps found 0) there (get_or_default deps found 0 (get_or deps found 0) there)
+  at-dep there = drop-item deps found (get_or deps found 0) there (get_or_default deps found 0 (get_or deps found 0) there)
 
   pub deps-skip : k < length places → (bits % 2 ≡ 1 → ⊥) → AreLeft → (drop found deps ≡ places_set (bits / 2) (drop (k + 1) places)) ↔ W
   deps-skip within bit (to, from) =
@@ -72,10 +67,6 @@ module _ (deps places : List ℕ) (W : Type 0) (k found bits : ℕ) where
 
 -- ---- parameters
 
-pub length-binders : (i : ℕ) (places : List ℕ) (ws : List Word) → length (binders_from i places ws) ≡ length ws
-length-binders i places [] = refl
-length-binders i places (w ∷ ws) = ap suc (length-binders (suc i) (if word_bound w then places ++ i ∷ [] else places) ws)
-
 abbrev pub places_after : Bool → List ℕ → ℕ → List ℕ
 places_after b places i = if b then places ++ i ∷ [] else places
 
@@ -87,18 +78,18 @@ module _ (params : List Binder) (ws : List Word) (W : Type 0) (i : ℕ) (places 
   at-word : (w : Word) → i < length ws → w ≡ get_or ws i w → binders_from i places (drop i ws) ≡ binder_of places w ∷ binders_from (i + 1) (places_after (word_bound w) places i) (drop (i + 1) ws)
   at-word w within is =
       let on : suc i ≡ i + 1 = omega arith in
-      ap (binders_from i places) (left-at ws i w within is) ∙ ap (λ n. binder_of places w ∷ binders_from n (places_after (word_bound w) places i) (drop (i + 1) ws)) on
+      ap (binders_from i places) (drop-item ws i w within is) ∙ ap (λ n. binder_of places w ∷ binders_from n (places_after (word_bound w) places i) (drop (i + 1) ws)) on
 
   pub params-step : (w : Word) (d : Binder) (later : List ℕ) → i < length ws → w ≡ get_or ws i w → i < length params → d ≡ get_or params i d → d ≡ binder_of places w
       → later ≡ places_after (word_bound w) places i → ParamsLeft → (drop (i + 1) params ≡ binders_from (i + 1) later (drop (i + 1) ws)) ↔ W
   params-step w d later within is there here same places_are (to, from) =
       let at = at-word w within is ∙ ap (λ ps. binder_of places w ∷ binders_from (i + 1) ps (drop (i + 1) ws)) (sym places_are) in
-      let left = left-at params i d there here in
+      let left = drop-item params i d there here in
       (λ e. to (left ∙ ap₂ ◌∷◌ same e ∙ sym at), λ t. same-tail d (binder_of places w) (drop (i + 1) params) (binders_from (i + 1) later (drop (i + 1) ws)) (sym left ∙ from t ∙ at))
 
   pub params-differ : (w : Word) (d : Binder) → i < length ws → w ≡ get_or ws i w → i < length params → d ≡ get_or params i d → (d ≡ binder_of places w → ⊥) → ParamsLeft → W → ⊥
   params-differ w d within is there here other (to, from) t =
-      other (same-head d (binder_of places w) (drop (i + 1) params) (binders_from (i + 1) (places_after (word_bound w) places i) (drop (i + 1) ws)) (sym (left-at params i d there here) ∙ from t ∙ at-word w within is))
+      other (same-head d (binder_of places w) (drop (i + 1) params) (binders_from (i + 1) (places_after (word_bound w) places i) (drop (i + 1) ws)) (sym (drop-item params i d there here) ∙ from t ∙ at-word w within is))
 
   pub params-end : length params ≤ i → length ws ≤ i → ParamsLeft → W
   params-end past past_words (to, from) = to (drop_all i params past ∙ sym (ap (binders_from i places) (drop_all i ws past_words)))
@@ -109,7 +100,7 @@ module _ (params : List Binder) (ws : List Word) (W : Type 0) (i : ℕ) (places 
   bound-at : (w : Word) → i < length ws → w ≡ get_or ws i w → bound_places i (drop i ws) ≡ left_by (word_bound w)
   bound-at w within is =
       let on : suc i ≡ i + 1 = omega arith in
-      ap (bound_places i) (left-at ws i w within is)
+      ap (bound_places i) (drop-item ws i w within is)
       ∙ ap (λ n. if word_bound w then i ∷ bound_places n (drop (i + 1) ws) else bound_places n (drop (i + 1) ws)) on
 
   -- the places so far, and those that are left

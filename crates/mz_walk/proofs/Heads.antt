@@ -1,5 +1,5 @@
 -- The head of a statement that comes next.
-use Rattle.std.proofs.Common.{◌≡◌, ◌∙◌, ◌≤◌, ◌+◌, ◌<◌, ℕ, Bool, true, false, List, Some, Result, Ok, refl, sym, ap, subst, arith}
+use Rattle.std.proofs.Common.{◌≡◌, ◌∙◌, ◌≤◌, ◌+◌, ◌<◌, ℕ, Bool, true, false, List, Some, Result, Ok, sym, ap, subst, arith}
 use Rattle.mz_cmd.specs.declared.code.StatementCode.{StatementCode}
 use Rattle.mz_cmd.specs.declared.code.StatementCode.TheVariants as codes
 use Rattle.mz_cmd.specs.declared.statement.StmtAt.{StmtAt}
@@ -10,18 +10,11 @@ use Rattle.mz_cmd.specs.StatementList.{statement_at}
 use Rattle.mz_layout.specs.Heads.{IsHeadAt, IsNextHead}
 use Rattle.mz_layout.specs.declared.head.Head.{Head}
 use Rattle.mz_files.specs.Spelling.{is_local_code}
+use Rattle.mz_files.proofs.Offered.{code-of}
 use Rattle.mz_walk.specs.Walk.{GoesOn, IsPlaced, passed_with, past_public}
 use Rattle.mz_walk.specs.declared.passed.Passed.{Passed}
 
 -- ---- codes by their bytes
-
-pub code-of : (k : StatementCode) → statement_code (statement_byte k) ≡ Some k
-code-of codes.Axiom = refl
-code-of codes.Sort = refl
-code-of codes.Term = refl
-code-of codes.Theorem = refl
-code-of codes.LocalDefinition = refl
-code-of codes.LocalTheorem = refl
 
 pub one-code : (k j : StatementCode) → statement_byte k ≡ statement_byte j → k ≡ j
 one-code k j is = let both : Some k ≡ Some j = sym (code-of k) ∙ ap statement_code is ∙ code-of j in cc

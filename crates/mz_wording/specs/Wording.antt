@@ -1,5 +1,5 @@
 -- The specification that is written of a text (this project's own): its public statements, in prefix form.
-use Rattle.std.specs.Prelude.{◌≡◌, ◌≤◌, ◌++◌, ◌==◌, ◌&&◌, ◌||◌, ⊤, ℕ, suc, max, List, [], ◌∷◌, length, get_or, replicate, Bool, false, not, nat_le, if◌then◌else◌, codes, decimal}
+use Rattle.std.specs.Prelude.{◌≡◌, ◌≤◌, ◌++◌, ◌&&◌, ◌||◌, ⊤, ℕ, suc, List, [], ◌∷◌, length, get_or, Bool, false, not, nat_le, if◌then◌else◌, codes, decimal}
 use Rattle.mz_checks.specs.Checks.{Checks, nothing, demand, ◌>>◌, AllHold, FailsFirst}
 use Rattle.mz_logic.specs.Tree.{Tree}
 use Rattle.mz_logic.specs.Declaration.{Declaration, sort_decl, term_decl, assertion_decl}
@@ -10,44 +10,15 @@ use Rattle.mz_printing.specs.Prefix.{IsShort}
 use Rattle.mz_printing.specs.Lines.{Line, lines_text}
 use Rattle.mz_readback.specs.Declared.{Named, Vocabulary, formula_of, AreShort, lines_of}
 use Rattle.mz_statements.specs.Statements.{Statement}
+use Rattle.mz_statements.specs.DeclaredNames.{prefix_beside, text_names, sort_names, term_names}
 use Rattle.mz_type.specs.Meaning.{marked}
 use Rattle.mz_type.specs.TextOf.{TextOf}
 
 -- ---- names
 
--- with how many underscores a name begins
-abbrev pub underscores : List ℕ → ℕ
-underscores [] = 0
-underscores (b ∷ bs) = if b == 95 then suc (underscores bs) else 0
-
--- the longest run of underscores with which a name of the text begins
-abbrev pub longest_run : List Statement → ℕ
-longest_run [] = 0
-longest_run (s ∷ ss) = max (underscores s.name) (longest_run ss)
-
--- what stands before a variable's number: one underscore more than that, and `v`
+-- what stands before a variable's number: more underscores than a name of the text begins with, and `v`
 abbrev pub variable_prefix : List Statement → List ℕ
-variable_prefix ss = replicate (suc (longest_run ss)) 95 ++ codes "v"
-
--- the name, where a sort is declared; where a term is
-abbrev pub sort_name : Declaration → List ℕ → List (List ℕ)
-sort_name (sort_decl _) name = name ∷ []
-sort_name (term_decl _) name = []
-sort_name (assertion_decl _) name = []
-
-abbrev pub term_name : Declaration → List ℕ → List (List ℕ)
-term_name (sort_decl _) name = []
-term_name (term_decl _) name = name ∷ []
-term_name (assertion_decl _) name = []
-
--- by their numbers, local terms included
-abbrev pub sort_names : List Statement → List (List ℕ)
-sort_names [] = []
-sort_names (s ∷ ss) = sort_name s.decl s.name ++ sort_names ss
-
-abbrev pub term_names : List Statement → List (List ℕ)
-term_names [] = []
-term_names (s ∷ ss) = term_name s.decl s.name ++ term_names ss
+variable_prefix ss = prefix_beside (text_names ss) ++ codes "v"
 
 -- sorts and terms named so, variables by a prefix and their numbers
 abbrev pub vocabulary_from : (sorts terms : List (List ℕ)) → (prefix : List ℕ) → Vocabulary

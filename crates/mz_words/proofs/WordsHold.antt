@@ -1,26 +1,16 @@
 -- The checks of a row hold exactly where its words are right.
-use Rattle.std.proofs.Common.{◌≡◌, ◌<◌, ◌+◌, ◌*◌, ℕ, zero, suc, List, length, subst, arith}
-use Rattle.std.specs.List.{range_with_len}
-use Rattle.mz_checks.specs.Checks.{Checks, AllHold, demand, each_in_order}
+use Rattle.std.proofs.Common.{◌+◌, ◌*◌, ℕ, List, length}
+use Rattle.mz_checks.specs.Checks.{Checks, AllHold, demand}
 use Rattle.mz_checks.proofs.Offered.{all_hold-both, all_hold-first, all_hold-rest, all_hold-rows}
 use Rattle.mz_cmd.specs.declared.rule.K.{K}
 use Rattle.mz_cmd.specs.declared.rule.K.TheVariants as rules
 use Rattle.mz_logic.specs.declared.binder.SortMods.{SortMods}
 use Rattle.mz_logic.specs.declared.word.Word.{Word}
 use Rattle.mz_layout.specs.Tables.{TermRow}
+use Rattle.mz_layout.proofs.Offered.{rows-hold}
 use Rattle.mz_words.specs.RowWords.{AreParamWords, IsResultWord, param_check, param_checks, word_checks}
 
 -- ---- of parameters
-
-rows-from : {R : Type 0} → (row : ℕ → Checks R) (from n : ℕ) → ((i : ℕ) → i < n → AllHold (row (from + i))) → AllHold (each_in_order row (range_with_len from n))
-rows-from row from zero h = tt
-rows-from row from (suc n) h =
-    all_hold-both (row from) (each_in_order row (range_with_len (from + 1) n))
-    (subst (λ k. AllHold (row k)) (let e : from + 0 ≡ from = omega arith in e) (h 0 (omega arith)))
-    (rows-from row (from + 1) n (λ i below. subst (λ k. AllHold (row k)) (let e : from + suc i ≡ (from + 1) + i = omega arith in e) (h (suc i) (omega arith))))
-
-rows-hold : {R : Type 0} → (row : ℕ → Checks R) (n : ℕ) → ((i : ℕ) → i < n → AllHold (row i)) → AllHold (each_in_order row (range_with_len 0 n))
-rows-hold row n h = rows-from row 0 n (λ i below. subst (λ k. AllHold (row k)) (let e : i ≡ 0 + i = omega arith in e) (h i below))
 
 pub params-hold : (ss : List SortMods) (at : ℕ) (ws : List Word) → AreParamWords ss ws → AllHold (param_checks ss at ws)
 params-hold ss at ws right = rows-hold (param_check ss at ws) (length ws) (λ i below. (right i below, tt))

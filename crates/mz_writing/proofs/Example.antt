@@ -16,7 +16,7 @@ use Rattle.mz_logic.specs.Variables.{InFV, InSomeFV, IsOperandAt}
 use Rattle.mz_logic.specs.declared.binder.Binder.{Binder}
 use Rattle.mz_logic.specs.declared.binder.SortMods.{SortMods}
 use Rattle.mz_logic.specs.declared.word.Word.{Word}
-use Rattle.mz_logic.proofs.Offered.{assertions_are_sorted, terms_are_sorted}
+use Rattle.mz_logic.proofs.Offered.{assertions_are_sorted, terms_are_sorted, nothing_in}
 use Rattle.mz_layout.specs.Normal.{Written}
 use Rattle.mz_layout.specs.Standing.{Fit, HasRoom}
 use Rattle.mz_unification.specs.Streams.{StreamKind, of_assertion, of_definition, UnifyCommand, u_term, u_dummy, StreamIs}
@@ -86,9 +86,6 @@ all-of P [] h k d below = absurd (omega arith)
 all-of P (x ∷ xs) (h, hs) zero d below = h
 all-of P (x ∷ xs) (h, hs) (suc k) d below = all-of P xs hs k d (omega arith)
 
-none-in-none : {A : Type 0} (P : A → Type 0) → All P []
-none-in-none P = all-of P [] tt
-
 no-params : (P : ℕ → Binder → Type 0) → Each [] P
 no-params P i b at = absurd cc
 
@@ -102,11 +99,11 @@ bound-param i = ((λ _. (refl, may-bound)), λ regular. absurd cc)
 
 term-legal : IsLegalDecl after-sort (a_term constant plain_form)
 term-legal = (terms_are_sorted after-sort (record { signature = constant; form = plain_form })).1
-    (none-in-none _, no-params _, none-in-none _, may-result, none-in-none _, tt)
+    (nothing_in _, no-params _, nothing_in _, may-result, nothing_in _, tt)
 
 constructor-legal : IsLegalDecl after-term (a_term constructor plain_form)
 constructor-legal = (terms_are_sorted after-term (record { signature = constructor; form = plain_form })).1
-    (all-of (λ (b : Binder). b.sort < 1) two_bound (omega arith, (omega arith, tt)), each-of-two (IsParam one_sort two_bound) bound-param, none-in-none _, may-result, none-in-none _, tt)
+    (all-of (λ (b : Binder). b.sort < 1) two_bound (omega arith, (omega arith, tt)), each-of-two (IsParam one_sort two_bound) bound-param, nothing_in _, may-result, nothing_in _, tt)
 
 -- no variable is free under terms whose results have no dependencies and whose parameters are bound
 no-operand : (params : List Binder) (es : Trees) (x : ℕ) → IsOperandAt params es [] x → ⊥
@@ -133,24 +130,24 @@ no-free-pair sigs ctx x at (d, d-at, free) =
 
 definition-legal : IsLegalDecl after-terms (a_term constant (defined [] truth))
 definition-legal = (terms_are_sorted after-terms (record { signature = constant; form = defined [] truth })).1
-    (none-in-none _, no-params _, none-in-none _, may-result, none-in-none _, (((constant, refl, refl, tt), λ x free. absurd (no-free (constant ∷ constructor ∷ []) [] x refl free)), tt))
+    (nothing_in _, no-params _, nothing_in _, may-result, nothing_in _, (((constant, refl, refl, tt), λ x free. absurd (no-free (constant ∷ constructor ∷ []) [] x refl free)), tt))
 
 pair-sorted : (sigs : List Signature) → slice_get sigs 1 ≡ Some constructor → HasSort sigs two_bound (pair 1 0) 0
 pair-sorted sigs at = (constructor, at, refl, ((dummy_of 0, refl, refl), (λ _. (1, dummy_of 0, refl, refl, refl)), ((dummy_of 0, refl, refl), (λ _. (0, dummy_of 0, refl, refl, refl)), tt)))
 
 second-legal : IsLegalDecl after-definition (a_term constant (defined two_bound (pair 1 0)))
 second-legal = (terms_are_sorted after-definition (record { signature = constant; form = defined two_bound (pair 1 0) })).1 (
-  none-in-none _,
+  nothing_in _,
   no-params _,
   all-of (λ (b : Binder). IsDummy b × MayBeDummySort one_sort b.sort) two_bound (((refl, refl), may-dummy), (((refl, refl), may-dummy), tt)),
   may-result,
-  none-in-none _,
+  nothing_in _,
   ((pair-sorted (constant ∷ constructor ∷ constant ∷ []) refl, λ x free. absurd (no-free-pair (constant ∷ constructor ∷ constant ∷ []) two_bound x refl free)), tt),
 )
 
 assertion-legal : (env : List Declaration) (without : Bool) → sorts env ≡ one_sort → slice_get (signatures env) 0 ≡ Some constant → IsLegalDecl env (holds without)
 assertion-legal env without sorts-are at = (assertions_are_sorted env (record { is_axiom = without; params = []; hyps = none; conclusion = truth })).1
-    (none-in-none _, no-params _, (λ i e here. absurd cc), (0, (constant, at, refl, tt), subst (λ (ss : List SortMods). MayBeClaimSort ss 0) (sym sorts-are) may-claim))
+    (nothing_in _, no-params _, (λ i e here. absurd cc), (0, (constant, at, refl, tt), subst (λ (ss : List SortMods). MayBeClaimSort ss 0) (sym sorts-are) may-claim))
 
 sort-legal : IsLegalDecl [] (sort_decl (record { 0 = 4 }))
 sort-legal = (tt, (tt, (tt, (tt, (tt, (tt, (tt, (tt, tt))))))))
@@ -191,7 +188,7 @@ constructor-room : HasRoom 1 (record { params = 2; mark = 0; words = bound_words
 constructor-room = record { few_params = omega arith; count = refl; words = all-of IsInWord (bound_words ++ result_word ∷ []) (omega arith, (omega arith, (omega arith, tt))) }
 
 thm-room : (stream : List ℕ) → HasRoom 0 (record { params = 0; mark = 0; words = []; stream = stream })
-thm-room stream = record { few_params = omega arith; count = refl; words = none-in-none IsInWord }
+thm-room stream = record { few_params = omega arith; count = refl; words = nothing_in IsInWord }
 
 abbrev Known : Written → Type 0
 Known w = IsTrue (begins_statement w.code)

@@ -1,10 +1,10 @@
 -- The gaps and citations of a body's bytes are those of its commands.
 use Rattle.std.proofs.Common.{◌≡◌, ◌⊎◌, ◌<◌, ◌≤◌, ◌∙◌, ℕ, zero, suc, Bool, true, List, [], ◌∷◌, ◌++◌, length, drop, None, Some, Ok, Contains, refl, sym, ap, subst, inl, inr, arith, length-append}
-use Rattle.std.specs.Prelude.{◌^◌, IsTrue}
+use Rattle.std.specs.Prelude.{◌^◌}
 use Rattle.mz_cmd.specs.declared.code.ProofCode.{ProofCode}
 use Rattle.mz_cmd.specs.declared.code.ProofCode.TheVariants as code
 use Rattle.mz_cmd.specs.declared.command.Cmd.{Cmd}
-use Rattle.mz_cmd.specs.Codes.{proof_byte, proof_code, is_known}
+use Rattle.mz_cmd.specs.Codes.{proof_byte, proof_code}
 use Rattle.mz_cmd.specs.Reading.{first_command}
 use Rattle.mz_cmd.proofs.Offered.{Spells-again, shortest-spells}
 use Rattle.mz_logic.specs.Declaration.{Declaration}
@@ -16,7 +16,7 @@ use Rattle.mz_soundness.specs.MachineState.{Kind, is_axiom, is_theorem, is_defin
 use Rattle.mz_steps.specs.Endings.{spelled_body, MayStand}
 use Rattle.mz_steps.specs.Steps.{Step, Steps, command_bytes}
 use Rattle.mz_steps.specs.Works.{Work, work_start}
-use Rattle.mz_steps.proofs.Offered.{drop-front}
+use Rattle.mz_steps.proofs.Offered.{drop-front, known-code as known}
 use Rattle.mz_writing.specs.Gaps.{LeaveGap, Cite, SaysItsGaps, BodiesSayTheirGaps, OnlyDraftsLeaveGaps}
 
 -- ---- members of a list of commands
@@ -31,17 +31,13 @@ head-or-behind : (c x : ProofCode × ℕ) (cs : List (ProofCode × ℕ)) → Con
 head-or-behind c x cs (zero, below, is) = inl is
 head-or-behind c x cs (suc k, below, is) = inr (k, omega arith, is)
 
-in-none : {A : Type 0} → (x : ProofCode × ℕ) → Contains [] x → A
+pub in-none : {A : Type 0} → (x : ProofCode × ℕ) → Contains [] x → A
 in-none x (k, below, is) = absurd (omega (arith, below))
 
 with-code : (c : ProofCode × ℕ) (d : ProofCode) → c.0 ≡ d → c ≡ (d, c.1)
 with-code c d is = ap (λ (z : ProofCode). (z, c.1)) is
 
 -- ---- the first command
-
-known : (c : ProofCode) → IsTrue (is_known (proof_byte c))
-known code.Term = refl
-known c = refl
 
 code-again : (c : ProofCode) → proof_code (proof_byte c) ≡ Some c
 code-again code.Term = refl

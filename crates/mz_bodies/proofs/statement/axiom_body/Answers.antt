@@ -3,10 +3,11 @@ use Rattle.mz_logic.specs.Tree.{listed, size, trees_size}
 use Rattle.mz_unification.specs.Profile.{expr}
 use Rattle.mz_soundness.specs.MachineState.{is_axiom}
 use Rattle.mz_store.specs.Sharing.{tree_of, trees_of}
+use Rattle.mz_bodies.proofs.Growing.{many_ids}
 use Rattle.mz_bodies.specs.Going.{IsAfter}
 use Rattle.mz_bodies.specs.Owes.{to_do}
 use Rattle.mz_bodies.specs.Stages.{job, leaving, assuming}
-use Rattle.mz_bodies.proofs.Ends.{ended, ended_short, first_begins, body_as, assumes_all, all_assumed}
+use Rattle.mz_bodies.proofs.Ends.{ended, ended_short, first_begins, body_as, assumes_all}
 use Rattle.mz_bodies.proofs.statement.axiom_body.Goals as goal
 
 pub put_hyps-requires-clause-before : goal.put_hyps-requires-clause-before
@@ -47,7 +48,7 @@ returns-clause-body c = λ gaps ps ds is long.
     let b = c.put_expr.new.self in
     (body_as gaps c.args.before b.before is_axiom ps ds (tree_of s c.args.conclusion.0) hyps _ (λ u. false) (c.in_ok-put_expr.ensures.same ∙ c.in_ok-put_hyps.ensures.same ∙ c.in_ok-written.ensures.before)
     (ended b.before.env.now (assuming o (length c.args.hyps.now) (6 * trees_size (trees_of s c.args.hyps.now))) b.shared.store b.shared.variables.items b.heap.places.items b.heap.len b.hyps.items b.cells.cells.items (5 * size (tree_of s c.args.conclusion.0)) (tree_of s c.args.conclusion.0) ds (to_do b.tasks.items) b.out.items _
-    (ap to_do c.in_ok-put_expr.ensures.done) is c.requires.few (all_assumed s c.args.hyps.now) c.in_ok-bytes.ensures
+    (ap to_do c.in_ok-put_expr.ensures.done) is c.requires.few (many_ids s c.args.hyps.now) c.in_ok-bytes.ensures
     (c.in_ok-put_expr.ensures.does (assuming o (length c.args.hyps.now) (6 * trees_size (trees_of s c.args.hyps.now))) (
       c.in_ok-put_hyps.ensures.does o
           (assumes_all gaps is_axiom ps s c.args.hyps.now c.args.before c.in_ok-written.written c.in_ok-written.ensures.before

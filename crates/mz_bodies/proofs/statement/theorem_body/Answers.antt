@@ -1,9 +1,11 @@
 use Rattle.std.proofs.Common.{false, ◌||◌, ◌*◌, arith, ap, length, take, refl, sym, ◌∙◌, subst, []}
+use Rattle.mz_general.proofs.Offered.{or-false}
 use Rattle.mz_logic.specs.Tree.{listed, trees_size}
 use Rattle.mz_unification.specs.Profile.{proof}
 use Rattle.mz_soundness.specs.MachineState.{is_theorem}
 use Rattle.mz_forms.specs.ProofView.{proof_view}
 use Rattle.mz_store.specs.Sharing.{trees_of}
+use Rattle.mz_bodies.proofs.Growing.{many_ids}
 use Rattle.mz_bodies.specs.Claims.{proved}
 use Rattle.mz_bodies.specs.Going.{IsAfter}
 use Rattle.mz_bodies.specs.Owes.{to_do}
@@ -11,8 +13,7 @@ use Rattle.mz_bodies.specs.Stages.{job, leaving, spending, assuming}
 use Rattle.mz_bodies.specs.Uses.{uses, IsBodyUsing}
 use Rattle.mz_bodies.specs.Weights.{proof_weight}
 use Rattle.mz_bodies.specs.declared.body.Before.{Before}
-use Rattle.mz_bodies.proofs.Ends.{ended, ended_short, first_begins, body_as, uses_as, assumes_all, all_assumed, sound_as}
-use Rattle.mz_bodies.proofs.Using.{or_none}
+use Rattle.mz_bodies.proofs.Ends.{ended, ended_short, first_begins, body_as, uses_as, assumes_all, sound_as}
 use Rattle.mz_bodies.proofs.statement.theorem_body.Goals as goal
 
 pub put_hyps-requires-clause-before : goal.put_hyps-requires-clause-before
@@ -41,7 +42,7 @@ put_proof-requires-clause-can c =
         c.in_ok-put_hyps.ensures.does (job c.requires.sound.0 is_theorem ps s hyps)
             (assumes_all c.requires.sound.0 is_theorem ps s c.args.hyps.now c.args.before c.in_ok-written.written c.in_ok-written.ensures.before
             (c.in_ok-written.ensures.begins (job c.requires.sound.0 is_theorem ps s hyps) (first_begins c.requires.sound.0 is_theorem s hyps c.args.params c.requires.behind.many)) refl c.requires.hyps c.requires.provable),
-        (refl, all_assumed s c.args.hyps.now),
+        (refl, many_ids s c.args.hyps.now),
         sound_as c.requires.sound.0 c.args.before c.put_hyps.new.self.before s.context hyps (proof_view c.args.proof.now) (c.in_ok-put_hyps.ensures.same ∙ c.in_ok-written.ensures.before) c.requires.sound.1,
       ),
     )
@@ -58,15 +59,15 @@ returns-clause-uses c = λ gaps sound ps ds is long.
     let k = assuming o (length c.args.hyps.now) (6 * trees_size (trees_of s c.args.hyps.now)) in
     subst (λ (z : Before). IsBodyUsing gaps c.args.before.env.now is_theorem ps ds (proved z.env.now hyps [] p) hyps c.in_ok-bytes.bytes.items (λ u. uses u [] p)) same
     (body_as gaps c.args.before b.before is_theorem ps ds e hyps _ (λ u. uses u [] p) (c.in_ok-put_proof.ensures.same ∙ same)
-    (uses_as gaps b.before.env.now is_theorem ps ds e hyps _ (λ u. uses u [] p || false) (λ u. uses u [] p) (λ u. or_none (uses u [] p))
+    (uses_as gaps b.before.env.now is_theorem ps ds e hyps _ (λ u. uses u [] p || false) (λ u. uses u [] p) (λ u. or-false (uses u [] p))
     (ended b.before.env.now (spending k p) b.shared.store b.shared.variables.items b.heap.places.items b.heap.len b.hyps.items b.cells.cells.items (6 * proof_weight c.put_hyps.new.self.before.env.now p)
     e ds (to_do b.tasks.items) b.out.items _
-    (ap to_do c.in_ok-put_proof.ensures.done) is c.requires.few (all_assumed s c.args.hyps.now) c.in_ok-bytes.ensures
+    (ap to_do c.in_ok-put_proof.ensures.done) is c.requires.few (many_ids s c.args.hyps.now) c.in_ok-bytes.ensures
     (c.in_ok-put_proof.ensures.does k (
       c.in_ok-put_hyps.ensures.does o
           (assumes_all gaps is_theorem ps s c.args.hyps.now c.args.before c.in_ok-written.written c.in_ok-written.ensures.before
           (c.in_ok-written.ensures.begins o (long, refl, refl, refl, λ u. refl)) refl c.requires.hyps c.requires.provable),
-      (refl, all_assumed s c.args.hyps.now),
+      (refl, many_ids s c.args.hyps.now),
       sound_as gaps c.args.before c.put_hyps.new.self.before s.context hyps p same sound,
     )))))
 
@@ -90,7 +91,7 @@ returns-clause-short c =
       c.in_ok-put_hyps.ensures.does o
           (assumes_all c.requires.sound.0 is_theorem ps s c.args.hyps.now c.args.before c.in_ok-written.written c.in_ok-written.ensures.before
           (c.in_ok-written.ensures.begins o (first_begins c.requires.sound.0 is_theorem s hyps c.args.params c.requires.behind.many)) refl c.requires.hyps c.requires.provable),
-      (refl, all_assumed s c.args.hyps.now),
+      (refl, many_ids s c.args.hyps.now),
       sound_as c.requires.sound.0 c.args.before c.put_hyps.new.self.before s.context hyps p same c.requires.sound.1,
     )) in
     let weight-is = ap (λ (z : Before). proof_weight z.env.now p) same in

@@ -1,5 +1,5 @@
 use Rattle.std.proofs.Common.{◌≡◌, ℕ, None, get_or, Contains}
-use Rattle.mz_tokens.proofs.Offered.{all_so_far_more, all-members}
+use Rattle.mz_general.proofs.Offered.{all_so_far_more, all-members}
 use Rattle.mz_coercions.specs.declared.firsts.Start.{Start}
 use Rattle.mz_coercions.specs.Firsts.{first_of}
 use Rattle.mz_coercions.proofs.Leading.{all-changed, all-kept, item-in}

@@ -1,5 +1,5 @@
 use Rattle.std.proofs.Common.{◌≡◌, ℕ, None, get_or}
-use Rattle.mz_tokens.proofs.Offered.{all_so_far_more}
+use Rattle.mz_general.proofs.Offered.{all_so_far_more}
 use Rattle.mz_coercions.specs.Firsts.{first_of}
 use Rattle.mz_coercions.proofs.Leading.{gone-changed, gone-kept, item-in}
 use Rattle.mz_coercions.proofs.firsts.forget_from.Goals as goal

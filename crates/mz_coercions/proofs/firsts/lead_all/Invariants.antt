@@ -1,5 +1,5 @@
 use Rattle.std.proofs.Common.{ℕ, Contains}
-use Rattle.mz_tokens.proofs.Offered.{AllSoFar}
+use Rattle.mz_general.proofs.Offered.{AllSoFar}
 use Rattle.mz_coercions.specs.declared.firsts.Start.{Start}
 use Rattle.mz_coercions.specs.Firsts.{IsChanged, IsOfStarts, first_of}
 use Rattle.mz_coercions.proofs.firsts.lead_all.Given as goal

@@ -1,5 +1,5 @@
 use Rattle.std.proofs.Common.{◌≡◌, ℕ, Some, get_or, refl, arith}
-use Rattle.mz_tokens.proofs.Offered.{all_so_far_more, all-members}
+use Rattle.mz_general.proofs.Offered.{all_so_far_more, all-members}
 use Rattle.mz_coercions.specs.Firsts.{IsOfStart, first_of}
 use Rattle.mz_coercions.proofs.Leading.{end-changed, end-kept, item-in, then-changed, un-changed}
 use Rattle.mz_coercions.proofs.firsts.lead_from.Goals as goal

@@ -1,5 +1,5 @@
 use Rattle.std.proofs.Common.{◌≡◌, Some}
-use Rattle.mz_tokens.proofs.Offered.{AllSoFar}
+use Rattle.mz_general.proofs.Offered.{AllSoFar}
 use Rattle.mz_coercions.specs.Firsts.{IsChanged, IsOfStart, first_of}
 use Rattle.mz_coercions.proofs.firsts.lead_from.Given as goal
 

@@ -1,6 +1,6 @@
 use Rattle.std.proofs.Common.{◌∙◌, get_or, sym, refl}
 use Rattle.std.proofs.lemmas.Bool.{true≢false, false≢true}
-use Rattle.mz_tokens.proofs.Offered.{all_so_far_more, all-members}
+use Rattle.mz_general.proofs.Offered.{all_so_far_more, all-members}
 use Rattle.mz_coercions.specs.Answers.{HasPath}
 use Rattle.mz_coercions.proofs.Leading.{item-in}
 use Rattle.mz_coercions.proofs.firsts.reaches_any.Goals as goal

@@ -1,4 +1,4 @@
-use Rattle.mz_tokens.proofs.Offered.{AllSoFar}
+use Rattle.mz_general.proofs.Offered.{AllSoFar}
 use Rattle.mz_coercions.specs.Answers.{HasPath}
 use Rattle.mz_coercions.proofs.firsts.reaches_any.Given as goal
 

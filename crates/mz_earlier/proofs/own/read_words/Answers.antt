@@ -1,7 +1,8 @@
 use Rattle.std.proofs.Common.{◌∙◌, ◌++◌, ◌∷◌, [], List, ap, arith}
 use Rattle.mz_logic.specs.declared.word.Word.{Word}
+use Rattle.mz_store.proofs.Offered.{taken-all}
 use Rattle.mz_earlier.specs.OwnRow.{kind_of, own_words}
-use Rattle.mz_earlier.proofs.OwnWords.{take-next, take-all}
+use Rattle.mz_earlier.proofs.OwnWords.{take-next}
 use Rattle.mz_earlier.proofs.own.read_words.Goals as goal
 
 pub params-init : goal.params-init
@@ -13,4 +14,4 @@ params-preserved c =
     ∙ take-next (own_words c.args.earlier.now.file c.args.row (kind_of c.args.kind)) c.params.j c.own_word.result c.own_word.ensures
 
 pub returns : goal.returns
-returns c = c.params.invariant ∙ take-all (own_words c.args.earlier.now.file c.args.row (kind_of c.args.kind)) c.params.j (omega (arith, c.own_arity-count.ensures.words, c.params-test.false))
+returns c = c.params.invariant ∙ taken-all (own_words c.args.earlier.now.file c.args.row (kind_of c.args.kind)) c.params.j (omega (arith, c.own_arity-count.ensures.words, c.params-test.false))

@@ -3,15 +3,16 @@ use Rattle.mz_statements.specs.Statements.{Statement}
 use Rattle.mz_type.specs.Meaning.{LegalAsStated}
 use Rattle.mz_type.specs.StatedView.{AreRead, statements_of}
 use Rattle.mz_type.specs.Weight.{IsWithinLimits}
+use Rattle.mz_type.proofs.Offered.{statements_many}
 use Rattle.mz_emit.specs.Compiling.{IsBinaryOf}
 use Rattle.mz_emit.specs.Emitting.{IsLegalWith}
-use Rattle.mz_emit.proofs.Looping.{own_mode, as_many}
+use Rattle.mz_emit.proofs.Looping.{own_mode}
 use Rattle.mz_emit.proofs.compile.emit.Goals as goal
 
 pub emit_all-requires-clause-few : goal.emit_all-requires-clause-few
 emit_all-requires-clause-few c =
     let same = ap length c.into_parts-env.ensures.statements in
-    let all = as_many c.into_parts-env.result.0 c.into_parts-env.result.1.items c.into_parts-env.ensures.many in
+    let all = statements_many c.into_parts-env.result.0 c.into_parts-env.result.1.items c.into_parts-env.ensures.many in
     omega (arith, same, all, c.len-count.ensures.many, c.len-count.type_inv)
 
 pub emit_all-requires-clause-legal : goal.emit_all-requires-clause-legal

@@ -1,6 +1,7 @@
 use Rattle.std.proofs.Common.{◌≡◌, ◌<◌, [], true, refl, subst, arith}
+use Rattle.mz_general.proofs.Offered.{all_so_far_more}
 use Rattle.mz_logic.specs.declared.binder.Binder.{Binder}
-use Rattle.mz_logic.proofs.Offered.{all_so_far_more, all_at_end}
+use Rattle.mz_logic.proofs.Offered.{all_at_end}
 use Rattle.mz_free.proofs.apart.all_stand_alone.Goals as goal
 
 pub loop-param-init : goal.loop-param-init

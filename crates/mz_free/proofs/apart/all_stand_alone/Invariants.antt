@@ -1,6 +1,6 @@
 use Rattle.std.proofs.Common.{◌≡◌, [], true}
+use Rattle.mz_general.proofs.Offered.{AllSoFar}
 use Rattle.mz_logic.specs.declared.binder.Binder.{Binder}
-use Rattle.mz_logic.proofs.Offered.{AllSoFar}
 use Rattle.mz_free.proofs.apart.all_stand_alone.Given as goal
 
 abbrev pub invariant-loop-param : goal.invariant-loop-param

@@ -1,6 +1,7 @@
 use Rattle.std.proofs.Common.{ℕ, List, Contains, All, IsTrue, sym, ap, refl, subst, ◌∙◌, ◌↔◌, arith, drop, length, true≢false}
 use Rattle.std.proofs.lemmas.List.{drop_all}
 use Rattle.std.proofs.lemmas.Result.{IfOk-weaker}
+use Rattle.mz_general.proofs.Offered.{drop-item}
 use Rattle.mz_logic.specs.Declaration.{signatures}
 use Rattle.mz_logic.specs.DeclView.{signature}
 use Rattle.mz_logic.specs.Legality.{InRange, AllInRange}
@@ -11,7 +12,7 @@ use Rattle.mz_logic.specs.View.{tree, trees}
 use Rattle.mz_logic.specs.declared.binder.Binder.{Binder}
 use Rattle.mz_logic.specs.declared.expr.Expr.{Expr}
 use Rattle.mz_logic.proofs.Offered.{signature_is}
-use Rattle.mz_free.proofs.Walking.{IsCoveredAt, app-out, app-in, operand-in, operands-out, operands-step, left-item}
+use Rattle.mz_free.proofs.Walking.{IsCoveredAt, app-out, app-in, operand-in, operands-out, operands-step}
 use Rattle.mz_free.proofs.free.+covers.Goals as goal
 
 pub covers-returns-then-not-covers_bound_operands-clause-answer : goal.covers-returns-then-not-covers_bound_operands-clause-answer
@@ -68,7 +69,7 @@ covers_operands-returns-then-not-holds-clause-answer t c = (
       let many = c.loop-i.invariant.many in
       let below = c.loop-i-test.true in
       operands-out (signatures c.args.env.now) c.args.ctx.now c.args.params.now c.args.es.now c.args.covered.now _ _ _ _ c.index-params-i.result (tree c.index-items-i.result)
-      (left-item c.args.params.now c.loop-i.i c.index-params-i.result (omega (arith, many, below)) c.index-params-i.is) (ap trees (left-item c.as_slice-items.result.now c.loop-i.i c.index-items-i.result below c.index-items-i.is))
+      (drop-item c.args.params.now c.loop-i.i c.index-params-i.result (omega (arith, many, below)) c.index-params-i.is) (ap trees (drop-item c.as_slice-items.result.now c.loop-i.i c.index-items-i.result below c.index-items-i.is))
       _ c.loop-i.invariant.left
       (λ here. true≢false (sym (c.in_ok-holds.ensures.answer.1 (λ x free. subst (λ ys. Contains ys x) (sym c.loop-i.invariant.same) (here x free))) ∙ c.if-not-holds.true)) all),
 )
@@ -78,11 +79,11 @@ covers_operands-loop-i-preserved t c =
     let many = c.loop-i.invariant.many in
     let below = c.loop-i-test.true in
     let small = c.loop-i.invariant.small in
-    let cut = ap trees (left-item c.as_slice-items.result.now c.loop-i.i c.index-items-i.result below c.index-items-i.is) in
+    let cut = ap trees (drop-item c.as_slice-items.result.now c.loop-i.i c.index-items-i.result below c.index-items-i.is) in
     let sizes = ap trees_size cut in
     record {
       left = operands-step (signatures c.args.env.now) c.args.ctx.now c.args.params.now c.args.es.now c.args.covered.now _ _ _ _ c.index-params-i.result (tree c.index-items-i.result)
-          (left-item c.args.params.now c.loop-i.i c.index-params-i.result (omega (arith, many, below)) c.index-params-i.is) cut
+          (drop-item c.args.params.now c.loop-i.i c.index-params-i.result (omega (arith, many, below)) c.index-params-i.is) cut
           _ c.loop-i.invariant.left
           (λ x free. subst (λ ys. Contains ys x) c.loop-i.invariant.same (c.in_ok-holds.ensures.answer.0 c.if-not-holds.false x free));
       same = c.in_ok-holds.ensures.same c.if-not-holds.false ∙ c.loop-i.invariant.same;

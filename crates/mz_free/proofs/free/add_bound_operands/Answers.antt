@@ -2,7 +2,8 @@ use Rattle.std.proofs.Common.{◌≡◌, ◌⊎◌, ◌↔◌, ◌∙◌, ◌++�
 use Rattle.std.proofs.lemmas.List.{drop_all}
 use Rattle.mz_logic.specs.Tree.{operand, var}
 use Rattle.mz_logic.specs.Variables.{IsBoundAt, IsOperandAt}
-use Rattle.mz_free.proofs.Walking.{reaches-step, reaches-end, one-var, one-place, no-place}
+use Rattle.mz_logic.proofs.Offered.{same-variable}
+use Rattle.mz_free.proofs.Walking.{reaches-step, reaches-end, one-place, no-place}
 use Rattle.mz_free.proofs.free.add_bound_operands.Goals as goal
 use Rattle.mz_free.proofs.free.add_bound_operands.Goals.{in-Some+in_ok-add, in_default}
 
@@ -18,7 +19,7 @@ loop-place-preserved c =
           let (first, grown) = c.loop-place.invariant.grows in
           let (more, added) = w.in_ok-add.ensures.grows in
           let has = subst (λ (xs : List ℕ). (y : ℕ) → Contains xs y ↔ (Contains c.loop-place.variables y ⊎ (y ≡ w.in-Some.x))) (sym w.variables-is) w.in_ok-add.ensures.has in
-          let step = one-place P (Contains c.loop-place.variables) New p w.in-Some.x w.in-Some.ensures (λ y at. one-var y w.in-Some.x (sym at.1 ∙ w.in-Some.ensures.1)) has in
+          let step = one-place P (Contains c.loop-place.variables) New p w.in-Some.x w.in-Some.ensures (λ y at. same-variable y w.in-Some.x (sym at.1 ∙ w.in-Some.ensures.1)) has in
           record {
             grows = (first ++ more, w.variables-is ∙ added ∙ ap (λ xs. xs ++ more) grown ∙ append_assoc c.args.variables.now first more);
             has = reaches-step P (Contains c.loop-place.variables) New W items c.loop-place.place-index 0 c.loop-place-test.true c.loop-place.invariant.has step;

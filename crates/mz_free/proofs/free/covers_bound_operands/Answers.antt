@@ -1,7 +1,8 @@
 use Rattle.std.proofs.Common.{◌≡◌, ◌∙◌, ℕ, All, Contains, refl, subst, sym, true≢false}
+use Rattle.mz_general.proofs.Offered.{all_so_far_more}
 use Rattle.mz_logic.specs.Tree.{operand, var}
 use Rattle.mz_logic.specs.Variables.{IsBoundAt}
-use Rattle.mz_logic.proofs.Offered.{all_at_end, all_so_far_more}
+use Rattle.mz_logic.proofs.Offered.{all_at_end}
 use Rattle.mz_free.proofs.free.covers_bound_operands.Goals as goal
 
 pub returns-then-not-covers_bound_operand : goal.returns-then-not-covers_bound_operand

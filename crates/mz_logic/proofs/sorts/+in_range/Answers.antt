@@ -1,15 +1,16 @@
 use Rattle.std.proofs.Common.{◌∙◌, ap, arith, sym, subst, true≢false}
+use Rattle.mz_general.proofs.Offered.{drop-item}
 use Rattle.mz_logic.specs.Declaration.{signatures}
 use Rattle.mz_logic.specs.Legality.{AllInRange}
 use Rattle.mz_logic.specs.Tree.{Trees, trees_size}
 use Rattle.mz_logic.specs.View.{trees}
-use Rattle.mz_logic.proofs.Left.{left_at, each_passed, each_fails}
+use Rattle.mz_logic.proofs.Left.{each_passed, each_fails}
 use Rattle.mz_logic.proofs.sorts.+in_range.Goals as goal
 
 pub all_in_range-returns-then-not-in_range : goal.all_in_range-returns-then-not-in_range
 all_in_range-returns-then-not-in_range t c =
     let F : Trees → Type 0 = AllInRange (signatures c.args.env.now) c.args.end in
-    let cut = ap trees (left_at c.as_slice-e-items.result.now c.loop-e.e-index c.e-item.result c.loop-e-test.true c.e-item.is) in (
+    let cut = ap trees (drop-item c.as_slice-e-items.result.now c.loop-e.e-index c.e-item.result c.loop-e-test.true c.e-item.is) in (
       λ never. absurd (true≢false (sym never)),
       λ all. absurd (each_fails c.loop-e.invariant.0 (subst F cut) (λ here. true≢false (sym (c.in_range.ensures.1 here) ∙ c.if-not-in_range.true)) all),
     )
@@ -17,7 +18,7 @@ all_in_range-returns-then-not-in_range t c =
 pub all_in_range-loop-e-preserved : goal.all_in_range-loop-e-preserved
 all_in_range-loop-e-preserved t c =
     let F : Trees → Type 0 = AllInRange (signatures c.args.env.now) c.args.end in
-    let cut = ap trees (left_at c.as_slice-e-items.result.now c.loop-e.e-index c.e-item.result c.loop-e-test.true c.e-item.is) in
+    let cut = ap trees (drop-item c.as_slice-e-items.result.now c.loop-e.e-index c.e-item.result c.loop-e-test.true c.e-item.is) in
     let sizes = ap trees_size cut in
     let small = c.loop-e.invariant.1 in (
       each_passed c.loop-e.invariant.0 (subst F cut) (λ here rest. subst F (sym cut) (here, rest)) (c.in_range.ensures.0 c.if-not-in_range.false),

@@ -1,11 +1,12 @@
 use Rattle.std.proofs.Common.{◌∙◌, ◌+◌, List, ap, arith, drop, inl, inr, length, refl, sym, subst, true≢false}
+use Rattle.mz_general.proofs.Offered.{drop-item}
 use Rattle.mz_logic.specs.Declaration.{signatures}
 use Rattle.mz_logic.specs.Legality.{AllInRange}
 use Rattle.mz_logic.specs.Tree.{Trees, more, trees_size}
 use Rattle.mz_logic.specs.Variables.{InSomeFV}
 use Rattle.mz_logic.specs.View.{tree, trees}
 use Rattle.mz_logic.specs.declared.binder.Binder.{Binder}
-use Rattle.mz_logic.proofs.Left.{left_at, some_passed}
+use Rattle.mz_logic.proofs.Left.{some_passed}
 use Rattle.mz_logic.proofs.vars.+in_free_tree.Goals as goal
 
 pub in_some_free_tree-returns-then-is_free_operand : goal.in_some_free_tree-returns-then-is_free_operand
@@ -13,9 +14,9 @@ in_some_free_tree-returns-then-is_free_operand t c =
     let below = c.loop-i-test.true in
     let many = c.loop-i.invariant.2 in
     let F : List Binder → Trees → Type 0 = InSomeFV (signatures c.args.env.now) c.args.ctx.now c.args.x c.args.params.now c.args.es.now in
-    let cut = ap trees (left_at c.as_slice-items.result.now c.loop-i.i c.index-items-i.result below c.index-items-i.is) in
+    let cut = ap trees (drop-item c.as_slice-items.result.now c.loop-i.i c.index-items-i.result below c.index-items-i.is) in
     let us = trees (drop (c.loop-i.i + 1) c.as_slice-items.result.now) in
-    let first = left_at c.args.params.now c.loop-i.i c.index-params-i.result (omega (arith, many, below)) c.index-params-i.is in
+    let first = drop-item c.args.params.now c.loop-i.i c.index-params-i.result (omega (arith, many, below)) c.index-params-i.is in
     (λ _. c.loop-i.invariant.0.0 (subst (F (drop c.loop-i.i c.args.params.now)) (sym cut) (subst (λ ps. F ps (more (tree c.index-items-i.result) us)) (sym first) (inl (c.is_free_operand.ensures.0 c.if-is_free_operand.true)))), λ _. refl)
 
 pub in_some_free_tree-loop-i-preserved : goal.in_some_free_tree-loop-i-preserved
@@ -24,9 +25,9 @@ in_some_free_tree-loop-i-preserved t c =
     let many = c.loop-i.invariant.2 in
     let small = c.loop-i.invariant.3 in
     let F : List Binder → Trees → Type 0 = InSomeFV (signatures c.args.env.now) c.args.ctx.now c.args.x c.args.params.now c.args.es.now in
-    let cut = ap trees (left_at c.as_slice-items.result.now c.loop-i.i c.index-items-i.result below c.index-items-i.is) in
+    let cut = ap trees (drop-item c.as_slice-items.result.now c.loop-i.i c.index-items-i.result below c.index-items-i.is) in
     let us = trees (drop (c.loop-i.i + 1) c.as_slice-items.result.now) in
-    let first = left_at c.args.params.now c.loop-i.i c.index-params-i.result (omega (arith, many, below)) c.index-params-i.is in
+    let first = drop-item c.args.params.now c.loop-i.i c.index-params-i.result (omega (arith, many, below)) c.index-params-i.is in
     let sizes = ap trees_size cut in (
       some_passed c.loop-i.invariant.0 (λ h. subst (λ ps. F ps (more (tree c.index-items-i.result) us)) first (subst (F (drop c.loop-i.i c.args.params.now)) cut h))
           (λ rest. subst (F (drop c.loop-i.i c.args.params.now)) (sym cut) (subst (λ ps. F ps (more (tree c.index-items-i.result) us)) (sym first) (inr rest)))

@@ -2,6 +2,7 @@ use Rattle.std.proofs.Common.{ℕ, ◌≡◌, ◌<◌, length, get_or, sym, ap, 
 use Rattle.std.specs.Prelude.{bit_and, if◌then◌else◌}
 use Rattle.std.proofs.lemmas.List.{length-map}
 use Rattle.std.proofs.lemmas.Option.{slice_get-get_or}
+use Rattle.mz_general.proofs.Offered.{slice_get-some}
 use Rattle.mz_logic.specs.Words.{word_bound, word_deps}
 use Rattle.mz_logic.specs.declared.word.Word.{Word}
 use Rattle.mz_store.specs.Sharing.{tree_of, deps_of}
@@ -11,7 +12,7 @@ use Rattle.mz_unify.proofs.Offered.{is-in-at, tree-at}
 use Rattle.mz_unification.proofs.Offered.{some_is}
 use Rattle.mz_earlier.specs.Before.{signatures_of}
 use Rattle.mz_layout.specs.Rows.{params_of}
-use Rattle.mz_earlier.proofs.Offered.{apart-at-once, is-there, place-below, place-fits, decides-first, decides-end, decides-not, decides-next, row-asked}
+use Rattle.mz_earlier.proofs.Offered.{apart-at-once, place-below, place-fits, decides-first, decides-end, decides-not, decides-next, row-asked}
 use Rattle.mz_machine.proofs.Apartness.{tells-v}
 use Rattle.mz_machine.proofs.apart.is_apart.Goals as goal
 
@@ -27,7 +28,7 @@ returns-then-deps-all-eq0 c e p eat pat =
     let ws = params_of c.args.earlier.now.file c.args.row in
     let there : c.args.i < length c.args.operands.now = omega (arith, c.requires.many, c.requires.place) in
     let at = slice_get-get_or c.args.operands.now c.args.i _ there in
-    let (w, wat) = is-there ws c.args.i c.requires.place in
+    let (w, wat) = slice_get-some ws c.args.i c.requires.place in
     let none = ap (λ (n : ℕ). bit_and n c.args.all) (sym c.deps.ensures.kept) ∙ c.if-deps-all-eq0.true in
     let sigs = signatures_of c.args.earlier.now in
     let many : length es ≡ length ws = length-map c.args.operands.now (λ (i : Id). tree_of s i.0) ∙ c.requires.many in

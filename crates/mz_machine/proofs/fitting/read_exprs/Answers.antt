@@ -1,10 +1,11 @@
 use Rattle.std.proofs.Common.{◌≡◌, ◌≤◌, suc, ◌∷◌, List, Ok, drop, length, sym, ap, ◌∙◌, arith, add-one}
 use Rattle.std.proofs.lemmas.List.{append-nil}
 use Rattle.std.proofs.lemmas.Option.{slice_get-get_or}
+use Rattle.mz_general.proofs.Offered.{drop-past}
 use Rattle.mz_store.specs.declared.item.Id.{Id}
 use Rattle.mz_store.specs.declared.item.Item.{Item as Kept}
 use Rattle.mz_store.specs.declared.item.Item.TheVariants.{Expr}
-use Rattle.mz_earlier.proofs.Offered.{next-at, none-left}
+use Rattle.mz_earlier.proofs.Offered.{next-at}
 use Rattle.mz_machine.specs.OverStore.{exprs_of}
 use Rattle.mz_machine.proofs.ReadExprs.{after, after-none, after-one, other-item}
 use Rattle.mz_machine.proofs.fitting.read_exprs.Goals as goal
@@ -31,5 +32,5 @@ pub returns : goal.returns
 returns c =
     let past : length c.args.items.now ≤ c.items.item-index = omega (arith, c.items-test.false) in
     sym c.items.invariant
-    ∙ ap (λ (xs : List Kept). after c.items.ids.items (exprs_of xs)) (none-left c.args.items.now c.items.item-index past)
+    ∙ ap (λ (xs : List Kept). after c.items.ids.items (exprs_of xs)) (drop-past c.args.items.now c.items.item-index past)
     ∙ ap (λ (is : List Id). Ok is) (append-nil c.items.ids.items)

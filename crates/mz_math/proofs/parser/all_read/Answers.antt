@@ -1,9 +1,9 @@
 use Rattle.std.proofs.Common.{◌∙◌, sym, drop}
+use Rattle.mz_general.proofs.Offered.{nil-cons}
 use Rattle.mz_logic.specs.View.{tree}
-use Rattle.mz_math.proofs.Unique.{empty_cons}
 use Rattle.mz_math.proofs.Readings.{some-left}
 use Rattle.mz_math.proofs.parser.all_read.Goals as goal
 
 pub returns-in-Some-clause-no : goal.returns-in-Some-clause-no
 returns-in-Some-clause-no c = λ ws right read.
-    some-left ws right c.args.tokens.now (drop c.args.found.next c.args.tokens.now) (tree c.args.found.tree) read (λ none. empty_cons (sym none ∙ c.in-Some.ensures.token))
+    some-left ws right c.args.tokens.now (drop c.args.found.next c.args.tokens.now) (tree c.args.found.tree) read (λ none. nil-cons (sym none ∙ c.in-Some.ensures.token))

@@ -1,7 +1,7 @@
 use Rattle.std.proofs.Common.{◌∙◌, ◌∷◌, ◌+◌, refl, sym, ap, subst, drop}
 use Rattle.std.proofs.lemmas.Bool.{true≢false}
+use Rattle.mz_general.proofs.Offered.{same-head, nil-cons}
 use Rattle.mz_math.specs.Steps.{IsFormUnderWay, asked, tree_made, level_made, is_left_made}
-use Rattle.mz_math.proofs.Unique.{cons_head, empty_cons}
 use Rattle.mz_math.proofs.Waiting.{constant-next, no-constant}
 use Rattle.mz_math.proofs.parser.next_part.Goals as goal
 
@@ -9,14 +9,14 @@ pub returns-in-None-clause-says : goal.returns-in-None-clause-says
 returns-in-None-clause-says c = λ ws from right so_far.
     let p = c.args.pending in
     no-constant ws right p.level from (drop c.args.at c.args.tokens.now) p.operands (tree_made p.form) (level_made p.form) (is_left_made p.form)
-    c.in-Constant.constant.now (asked p.form (p.part + 1)) (λ xs e. empty_cons (sym c.in-None.ensures.token ∙ e))
+    c.in-Constant.constant.now (asked p.form (p.part + 1)) (λ xs e. nil-cons (sym c.in-None.ensures.token ∙ e))
     (subst (λ its. IsFormUnderWay ws from (drop c.args.at c.args.tokens.now) its p) c.in-Constant.ensures.0 so_far)
 
 pub returns-then-not-is-clause-says : goal.returns-then-not-is-clause-says
 returns-then-not-is-clause-says c = λ ws from right so_far.
     let p = c.args.pending in
     no-constant ws right p.level from (drop c.args.at c.args.tokens.now) p.operands (tree_made p.form) (level_made p.form) (is_left_made p.form)
-    c.in-Constant.constant.now (asked p.form (p.part + 1)) (λ xs e. true≢false (sym (c.is.ensures.1 (sym (cons_head (sym c.in-Some.ensures.token ∙ e)))) ∙ c.if-not-is.true))
+    c.in-Constant.constant.now (asked p.form (p.part + 1)) (λ xs e. true≢false (sym (c.is.ensures.1 (sym (same-head (sym c.in-Some.ensures.token ∙ e)))) ∙ c.if-not-is.true))
     (subst (λ its. IsFormUnderWay ws from (drop c.args.at c.args.tokens.now) its p) c.in-Constant.ensures.0 so_far)
 
 pub returns-clause-says : goal.returns-clause-says

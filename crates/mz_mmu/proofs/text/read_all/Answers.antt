@@ -9,9 +9,10 @@ use Rattle.mz_statements.specs.Statements.{AreStatements}
 use Rattle.mz_statements.specs.Order.{statements_asked}
 use Rattle.mz_forms.specs.ScopeView.{names}
 use Rattle.mz_statements.specs.StatementView.{stated}
-use Rattle.mz_forms.proofs.Offered.{length-more, node_size_positive, stands_from, stands_there, stepped}
+use Rattle.mz_forms.proofs.Offered.{node_size_positive, stands_from, stands_there, stepped}
 use Rattle.mz_mmu.proofs.Declared.{Agrees, statement_says}
 use Rattle.std.proofs.lemmas.List.{map-append}
+use Rattle.mz_general.proofs.Offered.{length-push}
 use Rattle.mz_forms.specs.NamesMore.{AreFew}
 use Rattle.mz_mmu.proofs.TextSteps.{statements_read_more, statements_asked_more, numbers_more, few_more, agrees_more, agrees_first, few_first, text_stops}
 use Rattle.mz_mmu.proofs.text.read_all.Goals as goal
@@ -48,7 +49,7 @@ loop-left-preserved c =
     let old = c.loop-left.entries.items in
     let sizes = ap nodes_size step in
     let size = node_size_positive m in
-    let one = ap length c.in-Ok-put.ensures.listed ∙ length-more old (record { root = c.in-Some.n; is_local = c.in-Ok.read.0; declared = c.in-Ok.read.1 }) in
+    let one = ap length c.in-Ok-put.ensures.listed ∙ length-push old (record { root = c.in-Some.n; is_local = c.in-Ok.read.0; declared = c.in-Ok.read.1 }) in
     let entries = ap (map entry) c.in-Ok-put.ensures.listed ∙ map-append entry old (record { root = c.in-Some.n; is_local = c.in-Ok.read.0; declared = c.in-Ok.read.1 } ∷ []) in
     let roots = ap (map root) c.in-Ok-put.ensures.listed ∙ map-append root old (record { root = c.in-Some.n; is_local = c.in-Ok.read.0; declared = c.in-Ok.read.1 } ∷ []) in
     let within = subst (IsThere all) c.in-Some.is c.loop-left.invariant.there in

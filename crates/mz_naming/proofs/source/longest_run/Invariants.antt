@@ -1,5 +1,6 @@
 use Rattle.std.proofs.Common.{◌≡◌, max}
-use Rattle.mz_naming.specs.Names.{longest_run, declared_names}
+use Rattle.mz_statements.specs.DeclaredNames.{longest_run}
+use Rattle.mz_naming.specs.Names.{declared_names}
 use Rattle.mz_naming.proofs.Runs.{rest}
 use Rattle.mz_naming.proofs.source.longest_run.Given as goal
 

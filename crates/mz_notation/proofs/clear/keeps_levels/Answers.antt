@@ -1,8 +1,8 @@
 use Rattle.std.proofs.Common.{◌≡◌, ◌∙◌, ℕ, List, Contains, sym, subst, refl}
 use Rattle.std.proofs.lemmas.Bool.{true≢false, false≢true}
+use Rattle.mz_general.proofs.Offered.{all_so_far_more, all-members}
 use Rattle.mz_notation.specs.Notation.{Element, fixed}
 use Rattle.mz_notation.specs.Clear.{HasConstant}
-use Rattle.mz_tokens.proofs.Offered.{all_so_far_more, all-members}
 use Rattle.mz_notation.proofs.clear.keeps_levels.Goals as goal
 
 pub returns-then-not-keeps_level : goal.returns-then-not-keeps_level

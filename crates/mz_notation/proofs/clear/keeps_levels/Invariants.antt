@@ -1,7 +1,7 @@
 use Rattle.std.proofs.Common.{◌≡◌, ℕ, List}
+use Rattle.mz_general.proofs.Offered.{AllSoFar}
 use Rattle.mz_notation.specs.Notation.{Element, fixed}
 use Rattle.mz_notation.specs.Clear.{HasConstant}
-use Rattle.mz_tokens.proofs.Offered.{AllSoFar}
 use Rattle.mz_notation.proofs.clear.keeps_levels.Given as goal
 
 abbrev pub invariant-loop-element : goal.invariant-loop-element

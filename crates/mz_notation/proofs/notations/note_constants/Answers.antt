@@ -1,12 +1,13 @@
 use Rattle.std.proofs.Common.{ap, arith, length}
+use Rattle.mz_general.proofs.Offered.{each_before_more}
 use Rattle.mz_notation.specs.Headed.{IsNoted}
-use Rattle.mz_notation.proofs.Spotting.{found-more, one-further}
+use Rattle.mz_notation.proofs.Spotting.{found-more}
 use Rattle.mz_notation.proofs.notations.note_constants.Goals as goal
 
 pub loop-place-preserved : goal.loop-place-preserved
 loop-place-preserved c = (
   c.note_constant.ensures.found,
-  one-further (IsNoted c.note_constant.new.constants c.args.items.now c.args.notation.now) c.loop-place.place (λ i below. c.note_constant.ensures.kept i (c.loop-place.invariant.1 i below)) c.in_ok-note_constant.ensures.ok,
+  each_before_more (IsNoted c.note_constant.new.constants c.args.items.now c.args.notation.now) c.loop-place.place (λ i below. c.note_constant.ensures.kept i (c.loop-place.invariant.1 i below)) c.in_ok-note_constant.ensures.ok,
 )
 
 pub returns-clause-ok : goal.returns-clause-ok

@@ -1,12 +1,12 @@
 use Rattle.std.proofs.Common.{◌≡◌, ◌∙◌, ◌↔◌, length, false, get_or, replicate, ap, subst}
 use Rattle.std.specs.Prelude.{IsTrue}
 use Rattle.std.proofs.lemmas.List.{length-replicate}
+use Rattle.mz_tokens.proofs.Offered.{unmarked}
 use Rattle.mz_notation.specs.Forms.{EachOnce}
-use Rattle.mz_notation.proofs.Marking.{none-set}
 use Rattle.mz_notation.proofs.once.each_once.Goals as goal
 
 pub mark_each_once-requires : goal.mark_each_once-requires
-mark_each_once-requires c = λ i. ap (λ ms. get_or ms i false) (c.deref_mut.ensures.value ∙ c.in_ok-marks.ensures.items_if_clones_equal (λ y h. h)) ∙ none-set c.args.many i
+mark_each_once-requires c = λ i. ap (λ ms. get_or ms i false) (c.deref_mut.ensures.value ∙ c.in_ok-marks.ensures.items_if_clones_equal (λ y h. h)) ∙ unmarked c.args.many i
 
 pub returns : goal.returns
 returns c =

@@ -1,4 +1,4 @@
-use Rattle.std.proofs.Common.{◌≡◌, ◌<◌, true, length, arith}
+use Rattle.std.proofs.Common.{◌<◌, true, length, arith}
 use Rattle.std.proofs.lemmas.Bool.{false≢true, true≢false}
 use Rattle.std.proofs.lemmas.List.{length-set}
 use Rattle.mz_notation.proofs.Marking.{mark-past, mark-set}

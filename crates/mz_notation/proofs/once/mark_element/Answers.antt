@@ -1,4 +1,4 @@
-use Rattle.std.proofs.Common.{◌≡◌, ◌∙◌, ◌+◌, ◌∷◌, [], ℕ, false, true, get_or, ap, sym, arith}
+use Rattle.std.proofs.Common.{◌≡◌, ◌∙◌, ◌+◌, ◌∷◌, [], ℕ, false, get_or, ap, sym, arith}
 use Rattle.mz_notation.specs.Notation.{Element}
 use Rattle.mz_notation.specs.Once.{one_if, times}
 use Rattle.mz_notation.proofs.Marking.{slot-here, times-slot}

@@ -1,6 +1,7 @@
 use Rattle.std.proofs.Common.{ℕ, ◌≡◌, ◌<◌, length, get_or, sym, ap, ◌∙◌, arith, add-one}
 use Rattle.std.specs.Prelude.{bit_and, if◌then◌else◌}
 use Rattle.std.proofs.lemmas.Option.{slice_get-get_or}
+use Rattle.mz_general.proofs.Offered.{slice_get-some}
 use Rattle.mz_logic.specs.Words.{word_bound, word_deps}
 use Rattle.mz_logic.specs.declared.word.Word.{Word}
 use Rattle.mz_nodes.specs.Numbering.{tree_of, vars_of}
@@ -9,7 +10,7 @@ use Rattle.mz_punify.proofs.Offered.{is-in-at, length-trees, tree-at}
 use Rattle.mz_unification.proofs.Offered.{some_is}
 use Rattle.mz_earlier.specs.Before.{signatures_of}
 use Rattle.mz_layout.specs.Rows.{params_of}
-use Rattle.mz_earlier.proofs.Offered.{apart-at-once, is-there, place-below, place-fits, decides-first, decides-end, decides-not, decides-next, row-asked}
+use Rattle.mz_earlier.proofs.Offered.{apart-at-once, place-below, place-fits, decides-first, decides-end, decides-not, decides-next, row-asked}
 use Rattle.mz_pmachine.proofs.apart.is_apart.Goals as goal
 
 pub vars-requires : goal.vars-requires
@@ -24,7 +25,7 @@ returns-then-vars-all-eq0 c e p eat pat =
     let ws = params_of c.args.earlier.now.file c.args.row in
     let there : c.args.i < length c.args.operands.now = omega (arith, c.requires.many, c.requires.place) in
     let at = slice_get-get_or c.args.operands.now c.args.i _ there in
-    let (w, wat) = is-there ws c.args.i c.requires.place in
+    let (w, wat) = slice_get-some ws c.args.i c.requires.place in
     let none = ap (λ (n : ℕ). bit_and n c.args.all) (sym c.vars.ensures.kept) ∙ c.if-vars-all-eq0.true in
     let many : length es ≡ length ws = length-trees s c.args.operands.now ∙ c.requires.many in
     sym (apart-at-once (signatures_of c.args.earlier.now) s.context c.args.operands.now es (λ id. tree_of s id.0) (λ id. vars_of s id.0) (tree-at s c.args.operands.now)

@@ -1,6 +1,6 @@
 use Rattle.std.proofs.Common.{◌≡◌, max, drop}
-use Rattle.mz_wording.specs.Wording.{longest_run}
+use Rattle.mz_statements.specs.DeclaredNames.{longest_run, text_names}
 use Rattle.mz_prefix.proofs.gather.longest_run.Given as goal
 
 abbrev pub invariant-loop-i : goal.invariant-loop-i
-invariant-loop-i l = max l.run (longest_run (drop l.i l.text.statements)) ≡ longest_run l.text.statements
+invariant-loop-i l = max l.run (longest_run (text_names (drop l.i l.text.statements))) ≡ longest_run (text_names l.text.statements)

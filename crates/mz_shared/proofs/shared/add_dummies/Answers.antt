@@ -1,14 +1,14 @@
 use Rattle.std.proofs.Common.{ℕ, ◌+◌, ◌++◌, ◌∷◌, [], List, length, take, ap, sym, subst, ◌∙◌, arith}
-use Rattle.std.proofs.lemmas.List.{length-append, take_more, drop_more, take_all, append_assoc}
+use Rattle.std.proofs.lemmas.List.{length-append, take_more, drop_more, take_all, append_assoc, append-nil}
 use Rattle.mz_logic.specs.Legality.{IsDummy}
 use Rattle.mz_logic.specs.declared.binder.Binder.{Binder}
 use Rattle.mz_store.specs.Bits.{bound_vars}
 use Rattle.mz_shared.specs.Variables.{IsShared}
-use Rattle.mz_shared.proofs.Entering.{append_nil, dummy_shared, dummy_is, one_bound_more}
+use Rattle.mz_shared.proofs.Entering.{dummy_shared, dummy_is, one_bound_more}
 use Rattle.mz_shared.proofs.shared.add_dummies.Goals as goal
 
 pub loop-dummy-init : goal.loop-dummy-init
-loop-dummy-init c = (c.requires.shared, c.requires.alone, sym (append_nil c.args.store.now.context), c.requires.few)
+loop-dummy-init c = (c.requires.shared, c.requires.alone, sym (append-nil c.args.store.now.context), c.requires.few)
 
 pub dummy-requires : goal.dummy-requires
 dummy-requires c =

@@ -1,12 +1,12 @@
 use Rattle.std.proofs.Common.{◌≡◌, length, ap, arith, sym, ◌∙◌, subst}
 use Rattle.std.proofs.lemmas.List.{length-append}
+use Rattle.std.proofs.lemmas.Option.{none-some}
 use Rattle.mz_logic.specs.Legality.{Each}
-use Rattle.mz_logic.proofs.Offered.{none_some}
 use Rattle.mz_shared.proofs.Entering.{number_push}
 use Rattle.mz_shared.proofs.shared.first_ids.Goals as goal
 
 pub loop-i-init : goal.loop-i-init
-loop-i-init c = (ap length c.new-ids.ensures.items, subst (λ ids. Each ids (λ i id. id.0 ≡ i)) (sym c.new-ids.ensures.items) (λ i id at. absurd (none_some at)))
+loop-i-init c = (ap length c.new-ids.ensures.items, subst (λ ids. Each ids (λ i id. id.0 ≡ i)) (sym c.new-ids.ensures.items) (λ i id at. absurd (none-some _ at)))
 
 pub loop-i-preserved : goal.loop-i-preserved
 loop-i-preserved c =

@@ -1,4 +1,5 @@
 use Rattle.std.proofs.Common.{ap, sym, subst, refl, arith, [], ◌∷◌, ◌++◌, length}
+use Rattle.mz_general.proofs.Offered.{length-push}
 use Rattle.mz_logic.specs.Tree.{none}
 use Rattle.mz_logic.specs.View.{tree}
 use Rattle.mz_logic.proofs.Offered.{followed_by_none}
@@ -10,7 +11,7 @@ use Rattle.mz_statements.specs.Order.{hyp_asked, hyps_asked}
 use Rattle.mz_forms.specs.Order.{binders_asked, first_word}
 use Rattle.mz_forms.specs.ScopeView.{scope}
 use Rattle.mz_forms.specs.Stops.{Stops}
-use Rattle.mz_forms.proofs.Offered.{stepped, stands_there, node_size_positive, length-more, failed, stops_before, stops_whole}
+use Rattle.mz_forms.proofs.Offered.{stepped, stands_there, node_size_positive, failed, stops_before, stops_whole}
 use Rattle.mz_statements.proofs.HoldStatements.{hyp_new}
 use Rattle.mz_statements.proofs.HypLists.{hyps_read_more, hyps_asked_more}
 use Rattle.mz_statements.proofs.statements.hyps.Goals as goal
@@ -43,7 +44,7 @@ loop-left-preserved c =
     let sizes = ap nodes_size step in
     let one = node_size_positive m in
     let more = ap length c.in_ok-push.ensures in
-    let many = length-more c.loop-left.labels c.in_ok-name.name.now in
+    let many = length-push c.loop-left.labels c.in_ok-name.name.now in
     record {
       there = stands_there all c.next-left.result (nodes_after all c.in-Some.m) c.next-left.ensures;
       few = omega (arith, sizes, one, more, many, c.loop-left.invariant.few);

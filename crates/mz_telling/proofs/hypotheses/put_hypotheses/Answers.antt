@@ -4,9 +4,10 @@ use Rattle.mz_phrasing.specs.Phrases.{Phrase, a_word}
 use Rattle.mz_phrasing.specs.Phrasing.{list_of}
 use Rattle.mz_phrasing.specs.Naming.{vocabulary_by}
 use Rattle.mz_stating.specs.ByNumber.{phrase_at, phrases_at}
+use Rattle.mz_retelling.proofs.Offered.{same-phrase}
 use Rattle.mz_telling.specs.Adding.{Adds}
 use Rattle.mz_telling.specs.Hypotheses.{named}
-use Rattle.mz_telling.proofs.Adding.{added-first, added-more, added-there, added-last, one-there, same-phrase}
+use Rattle.mz_telling.proofs.Adding.{added-first, added-more, added-there, added-last, one-there}
 use Rattle.mz_telling.proofs.Lists.{named-step, named-end}
 use Rattle.mz_telling.proofs.hypotheses.put_hypotheses.Goals as goal
 

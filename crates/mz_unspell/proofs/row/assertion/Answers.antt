@@ -1,6 +1,7 @@
 use Rattle.std.proofs.Common.{◌≡◌, ◌∙◌, [], ap, drop, length, map, reverse, subst, sym}
 use Rattle.std.proofs.lemmas.List.{reverse-reverse}
 use Rattle.mz_logic.specs.Tree.{listed}
+use Rattle.mz_logic.proofs.Offered.{length-binders}
 use Rattle.mz_layout.specs.Tables.{thm_row}
 use Rattle.mz_unification.specs.Spells.{at_first}
 use Rattle.mz_unification.specs.Streams.{StreamIs, of_assertion}
@@ -9,7 +10,7 @@ use Rattle.mz_phrasing.specs.Naming.{vocabulary_by}
 use Rattle.mz_phrasing.specs.Phrasing.{expression, expressions}
 use Rattle.mz_unspell.specs.Numbers.{AreAt}
 use Rattle.mz_unspell.proofs.Numbers.{are_phrases, are_there, at_grows, is_phrase}
-use Rattle.mz_unspell.proofs.Rows.{binders_many, over, target, thm_params, thm_stream}
+use Rattle.mz_unspell.proofs.Rows.{over, target, thm_params, thm_stream}
 use Rattle.mz_unspell.proofs.row.assertion.Goals as goal
 
 pub expression-requires : goal.expression-requires
@@ -17,7 +18,7 @@ expression-requires c =
     let file = c.args.mmb.now in
     let v = vocabulary_by c.args.names.now in
     let params = thm_params file c.args.row in
-    let many : length params ≡ c.thm_arity-params.result = binders_many 0 [] (thm_row file c.args.row).params ∙ sym c.thm_arity-params.ensures in
+    let many : length params ≡ c.thm_arity-params.result = length-binders 0 [] (thm_row file c.args.row).params ∙ sym c.thm_arity-params.ensures in
     let bytes : thm_stream file c.args.row ≡ c.unify_of_thm.result.1.now = sym (c.unify_of_thm.ensures.rest ∙ ap (λ n. drop n file) c.unify_of_thm.ensures.place) in
     let r = c.requires.spells in
     let w = r.2.1.1.1 in
@@ -30,7 +31,7 @@ hypotheses-requires c =
     let file = c.args.mmb.now in
     let v = vocabulary_by c.args.names.now in
     let params = thm_params file c.args.row in
-    let many : length params ≡ c.thm_arity-params.result = binders_many 0 [] (thm_row file c.args.row).params ∙ sym c.thm_arity-params.ensures in
+    let many : length params ≡ c.thm_arity-params.result = length-binders 0 [] (thm_row file c.args.row).params ∙ sym c.thm_arity-params.ensures in
     let bytes : thm_stream file c.args.row ≡ c.unify_of_thm.result.1.now = sym (c.unify_of_thm.ensures.rest ∙ ap (λ n. drop n file) c.unify_of_thm.ensures.place) in
     let r = c.requires.spells in
     let w = r.2.1.1.1 in
@@ -44,7 +45,7 @@ returns-clause-said c = λ sigs a arities spells.
     let file = c.args.mmb.now in
     let v = vocabulary_by c.args.names.now in
     let params = thm_params file c.args.row in
-    let many : length params ≡ c.thm_arity-params.result = binders_many 0 [] (thm_row file c.args.row).params ∙ sym c.thm_arity-params.ensures in
+    let many : length params ≡ c.thm_arity-params.result = length-binders 0 [] (thm_row file c.args.row).params ∙ sym c.thm_arity-params.ensures in
     let bytes : thm_stream file c.args.row ≡ c.unify_of_thm.result.1.now = sym (c.unify_of_thm.ensures.rest ∙ ap (λ n. drop n file) c.unify_of_thm.ensures.place) in
     let w = spells.1.1 in
     let o = over file of_assertion params sigs arities in

@@ -1,4 +1,5 @@
 use Rattle.std.proofs.Common.{◌≡◌, ◌∙◌, [], ap, arith, drop, length, subst, sym}
+use Rattle.mz_logic.proofs.Offered.{length-binders}
 use Rattle.mz_layout.specs.Tables.{term_row}
 use Rattle.mz_layout.proofs.Offered.{length-term_words}
 use Rattle.mz_unification.specs.Spells.{Marks, at_first}
@@ -6,7 +7,7 @@ use Rattle.mz_unification.specs.Streams.{StreamIs, of_definition}
 use Rattle.mz_phrasing.specs.Naming.{vocabulary_by}
 use Rattle.mz_phrasing.specs.Phrasing.{expression}
 use Rattle.mz_unspell.proofs.Numbers.{is_phrase}
-use Rattle.mz_unspell.proofs.Rows.{binders_many, body_text, over, some_body, target, term_params, term_stream}
+use Rattle.mz_unspell.proofs.Rows.{body_text, over, some_body, target, term_params, term_stream}
 use Rattle.mz_unspell.proofs.row.definition.Goals as goal
 
 pub arity-params-requires : goal.arity-params-requires
@@ -17,7 +18,7 @@ expression-requires c =
     let file = c.args.mmb.now in
     let v = vocabulary_by c.args.names.now in
     let params = term_params file c.args.row in
-    let many : length params ≡ c.arity-params.result = binders_many 0 [] (term_row file c.args.row).words.params ∙ sym c.arity-params.ensures.row in
+    let many : length params ≡ c.arity-params.result = length-binders 0 [] (term_row file c.args.row).words.params ∙ sym c.arity-params.ensures.row in
     let bytes : term_stream file c.args.row ≡ c.unify_of_term.result.1.now = sym (c.unify_of_term.ensures.rest ∙ ap (λ n. drop n file) c.unify_of_term.ensures.place) in
     let r = c.requires.spells in
     let b = some_body file c.args.row c.requires.body r.0 r.2.0 r.2.1 in
@@ -31,7 +32,7 @@ returns-clause-defined c = λ sigs d dummies body arities spells is.
     let file = c.args.mmb.now in
     let v = vocabulary_by c.args.names.now in
     let params = term_params file c.args.row in
-    let many : length params ≡ c.arity-params.result = binders_many 0 [] (term_row file c.args.row).words.params ∙ sym c.arity-params.ensures.row in
+    let many : length params ≡ c.arity-params.result = length-binders 0 [] (term_row file c.args.row).words.params ∙ sym c.arity-params.ensures.row in
     let bytes : term_stream file c.args.row ≡ c.unify_of_term.result.1.now = sym (c.unify_of_term.ensures.rest ∙ ap (λ n. drop n file) c.unify_of_term.ensures.place) in
     let text = body_text file c.args.row c.requires.body sigs d spells dummies body is in
     let w = text.1 in

@@ -1,6 +1,6 @@
 use Rattle.std.proofs.Common.{◌≡◌, ◌+◌, ◌-◌, ◌*◌, ◌∙◌, ℕ, List, length, refl, sym, ap, subst, arith}
 use Rattle.mz_cmd.specs.Codes.{statement_byte}
-use Rattle.mz_binary.specs.declared.statement.Statement.{Statement as Told}
+use Rattle.mz_files.specs.declared.statement.Statement.{Statement as Told}
 use Rattle.mz_binary.specs.Progress.{Progress, IsReached, marks_past, most_left}
 use Rattle.mz_layout.specs.Heads.{next_row, rows_after}
 use Rattle.mz_files.proofs.Offered.{head-at}

@@ -1,4 +1,5 @@
 use Rattle.std.proofs.Common.{ap, sym, subst, refl, arith, [], ◌∷◌, ◌++◌, length, append-nil}
+use Rattle.mz_general.proofs.Offered.{length-push}
 use Rattle.mz_sexpr.specs.Number.{node_at, nodes_after}
 use Rattle.mz_forms.specs.Cursor.{nodes_from, nodes_size}
 use Rattle.mz_forms.specs.Expressions.{IsDummy, AreBinders, AreDummies}
@@ -7,7 +8,6 @@ use Rattle.mz_forms.specs.ScopeView.{names}
 use Rattle.mz_forms.specs.Stops.{Stops}
 use Rattle.mz_sexpr.specs.Node.{parts}
 use Rattle.mz_forms.proofs.Cursors.{stepped, stands_there, node_size_positive}
-use Rattle.mz_forms.proofs.Keys.{length-more}
 use Rattle.mz_forms.proofs.Hold.{dummy_holds, dummy_word, dummy_new}
 use Rattle.mz_forms.proofs.BinderLists.{binders_read_more, binders_asked_more}
 use Rattle.mz_forms.proofs.Stopping.{failed, stops_before, stops_whole}
@@ -43,7 +43,7 @@ loop-left-preserved c =
     let sizes = ap nodes_size step in
     let one = node_size_positive m in
     let more = ap length c.in_ok-push.ensures in
-    let many = length-more c.loop-left.vars c.in_ok-name.name.now in
+    let many = length-push c.loop-left.vars c.in_ok-name.name.now in
     record {
       there = stands_there all c.next-left.result (nodes_after all c.in-Some.m) c.next-left.ensures;
       few = omega (arith, sizes, one, more, many, c.loop-left.invariant.few);

@@ -1,8 +1,9 @@
 use Rattle.std.proofs.Common.{◌≡◌, ◌∙◌, ◌++◌, ◌∷◌, [], sym, ap, subst, refl, arith, length, inl, map, if◌then◌else◌}
+use Rattle.mz_general.proofs.Offered.{length-push}
 use Rattle.mz_names.specs.Names.{IsNew}
 use Rattle.mz_names.proofs.Offered.{no-place}
 use Rattle.mz_forms.specs.SpaceView.{word_of_key, AreKeysFrom}
-use Rattle.mz_forms.proofs.Keys.{is_key, keys-tell, keys-more, words-more, length-words, length-more}
+use Rattle.mz_forms.proofs.Keys.{is_key, keys-tell, keys-more, words-more, length-words}
 use Rattle.mz_forms.proofs.space.Space.push.Goals as goal
 
 now_keys : (c : goal.In_ok-insert) → c.insert.new.self.keys ≡ c.self.inside.keys.keys ++ (c.args.name, 0) ∷ []
@@ -17,7 +18,7 @@ pub invariant_of-self-2 : goal.invariant_of-self-2
 invariant_of-self-2 c =
     let few = ap length c.self.view_is in
     let same = length-words c.self.inside.keys.keys in
-    let more = ap length (now_keys c) ∙ length-more c.self.inside.keys.keys (c.args.name, 0) in (
+    let more = ap length (now_keys c) ∙ length-push c.self.inside.keys.keys (c.args.name, 0) in (
       subst (AreKeysFrom 0) (sym (now_keys c)) (keys-more 0 c.self.inside.keys.keys (c.args.name, 0) c.self.invariant.0 (inl (c.requires.name, refl))),
       omega (arith, few, same, more, c.requires.few),
     )

@@ -1,9 +1,10 @@
 use Rattle.std.proofs.Common.{◌≡◌, ◌<◌, ◌-◌, ◌∙◌, length, suc, ap, ap₂, subst, sym, arith}
+use Rattle.mz_general.proofs.Offered.{length-push as length-end}
 use Rattle.mz_logic.specs.Tree.{listed, followed_by, copies}
 use Rattle.mz_logic.specs.Groups.{Rise, up_to}
 use Rattle.mz_logic.specs.View.{tree}
 use Rattle.mz_logic.proofs.Follow.{followed_by_none}
-use Rattle.mz_logic.proofs.Grouped.{final, long, length-end, length-push, rise-push, up_to-push}
+use Rattle.mz_logic.proofs.Grouped.{final, long, length-push, rise-push, up_to-push}
 use Rattle.mz_logic.proofs.hyps.Hyps.push.Goals as goal
 
 pub returns-then-times-eq0-clause-ok : goal.returns-then-times-eq0-clause-ok

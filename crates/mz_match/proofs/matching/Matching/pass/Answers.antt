@@ -1,4 +1,5 @@
 use Rattle.std.proofs.Common.{◌<◌, ◌+◌, ◌++◌, ◌∷◌, [], ◌∙◌, drop, length, sym, ap, subst, refl, arith}
+use Rattle.std.proofs.lemmas.List.{append-nil}
 use Rattle.mz_checks.specs.Checks.{FailsFirst}
 use Rattle.mz_spec.specs.State.{env_of}
 use Rattle.mz_match.specs.declared.matching.Matching.{Matching}
@@ -8,7 +9,6 @@ use Rattle.mz_match.specs.Told.{IsTold}
 use Rattle.mz_verdicts.specs.Verdict.{IsVerdictBy}
 use Rattle.mz_logic.specs.Declaration.{terms}
 use Rattle.mz_match.proofs.BesideRows.{exact-no}
-use Rattle.mz_verdicts.proofs.Offered.{append-nil}
 use Rattle.mz_match.proofs.Pairing.{told-next, done-fewer, differs-here, matched-local, matched-public, term-row, no-term-row}
 use Rattle.mz_match.proofs.matching.Matching.pass.Goals as goal
 use Rattle.mz_match.proofs.matching.Matching.pass.Goals.{then-not-told+in_default+then-has_kind+in-Ok, then-not-told+in_default+else-has_kind, else-not-told}

@@ -1,7 +1,8 @@
 use Rattle.std.proofs.Common.{◌≡◌, ◌∙◌, ap, sym, subst, arith}
 use Rattle.mz_phrasing.specs.Naming.{Naming}
 use Rattle.mz_walk.specs.declared.passed.Passed.{Passed}
-use Rattle.mz_naming.specs.Names.{declared_names, prefix_beside}
+use Rattle.mz_statements.specs.DeclaredNames.{prefix_beside}
+use Rattle.mz_naming.specs.Names.{declared_names}
 use Rattle.mz_naming.proofs.Walking.{Walked, no-names, walked-asks, walked-first, walked-more, walked-last}
 use Rattle.mz_naming.proofs.names.Names.gathered.Goals as goal
 

@@ -1,6 +1,6 @@
 use Rattle.std.proofs.Common.{[], map, sym, true≢false}
+use Rattle.std.proofs.lemmas.Option.{none-some}
 use Rattle.mz_grammar.specs.Code.{type_text}
-use Rattle.mz_logic.proofs.Offered.{none_some}
 use Rattle.mz_variables.specs.Code.{variable}
 use Rattle.mz_spec.specs.Entries.{state}
 use Rattle.mz_spec.specs.Rules.{AreBinders}
@@ -9,7 +9,7 @@ use Rattle.mz_spec.proofs.Loops.{test-in, test-out}
 use Rattle.mz_spec.proofs.state.State.are_binders.Goals as goal
 
 pub loop-i-init : goal.loop-i-init
-loop-i-init c = record { binders = (λ are. are, λ are. are); last = λ types all g t none told. absurd (none_some none) }
+loop-i-init c = record { binders = (λ are. are, λ are. are); last = λ types all g t none told. absurd (none-some _ none) }
 
 pub is_binder-requires-clause-last : goal.is_binder-requires-clause-last
 is_binder-requires-clause-last c = λ g own behind.

@@ -1,5 +1,6 @@
 use Rattle.std.proofs.Common.{◌∙◌, [], map, get_or, Err, ap, sym, subst}
 use Rattle.std.proofs.lemmas.Result.{err_from_is_err_and}
+use Rattle.mz_general.proofs.Offered.{drop-past}
 use Rattle.mz_checks.specs.Checks.{AllHold, FailsFirst, retold}
 use Rattle.mz_grammar.specs.Code.{lexeme}
 use Rattle.mz_grammar.specs.Reading.{OnFault}
@@ -13,7 +14,7 @@ use Rattle.mz_spec.specs.Formulas.{AreHyps, inner, told, strings_checks}
 use Rattle.mz_variables.specs.View.{stated_claim}
 use Rattle.mz_lex.specs.declared.token.TokenKind.TheVariants as kinds
 use Rattle.mz_spec.specs.declared.formulas.Stated.{Stated as StatedRead}
-use Rattle.mz_spec.proofs.Loops.{left-none, item-is}
+use Rattle.mz_spec.proofs.Loops.{item-is}
 use Rattle.mz_spec.proofs.Hyps.{left-step, left-fail, small-step, meant-step, hyps-end}
 use Rattle.mz_spec.proofs.state.State.hyps_of.Goals as goal
 
@@ -53,4 +54,4 @@ pub returns-clause-meant : goal.returns-clause-meant
 returns-clause-meant c = λ vs same.
     let σ = state c.args.self.now in
     hyps-end σ vs (map stated c.args.stated.now) c.loop-hyp.hyps
-    (λ rest are. c.loop-hyp.invariant.meant vs same rest (subst (λ xs. AreHyps σ vs (map stated xs) rest) (sym (left-none c.args.stated.now c.loop-hyp.hyp-index c.loop-hyp-test.false)) are))
+    (λ rest are. c.loop-hyp.invariant.meant vs same rest (subst (λ xs. AreHyps σ vs (map stated xs) rest) (sym (drop-past c.args.stated.now c.loop-hyp.hyp-index c.loop-hyp-test.false)) are))

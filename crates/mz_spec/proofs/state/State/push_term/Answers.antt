@@ -1,4 +1,4 @@
-use Rattle.std.proofs.Common.{◌∙◌, ◌++◌, ◌∷◌, [], length, ap, sym, refl, arith}
+use Rattle.std.proofs.Common.{◌∙◌, ◌++◌, ◌∷◌, [], ap, sym, refl, arith}
 use Rattle.mz_grammar.specs.Code.{lexeme}
 use Rattle.mz_logic.specs.DeclView.{term_of}
 use Rattle.mz_spec.specs.Entries.{state}

@@ -1,12 +1,13 @@
 use Rattle.std.proofs.Common.{sym, ap, ◌∙◌, slice_get}
 use Rattle.std.specs.Prelude.{option_map}
-use Rattle.mz_type.proofs.StatedSteps.{declared_at, both_there, never_none}
+use Rattle.mz_typing.proofs.Offered.{is_there}
+use Rattle.mz_type.proofs.StatedSteps.{declared_at, both_there}
 use Rattle.mz_type.proofs.typed.Typed.decl.Goals as goal
 
 pub unreachable-requires : goal.unreachable-requires
 unreachable-requires c =
     let there = both_there c.args.self.now c.self.inside.env c.self.inside.beside.items c.args.i (ap (λ s. s.statements) c.self.view_is) c.self.invariant.many c.requires in
-    never_none c.self.inside.env c.args.i there.0 c.in-None.ensures
+    is_there c.self.inside.env c.args.i there.0 c.in-None.ensures
 
 pub returns : goal.returns
 returns c =

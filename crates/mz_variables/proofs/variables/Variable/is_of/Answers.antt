@@ -1,9 +1,10 @@
 use Rattle.std.proofs.Common.{◌∙◌, ap, Some, sym, true≢false}
-use Rattle.mz_logic.proofs.Offered.{none_some, one_at}
+use Rattle.std.proofs.lemmas.Option.{none-some}
+use Rattle.mz_logic.proofs.Offered.{one_at}
 use Rattle.mz_variables.proofs.variables.Variable.is_of.Goals as goal
 
 pub returns-in-None : goal.returns-in-None
-returns-in-None c = (λ no. absurd (true≢false (sym no)), λ (g, own, other). absurd (none_some (sym c.in-None.is ∙ own)))
+returns-in-None c = (λ no. absurd (true≢false (sym no)), λ (g, own, other). absurd (none-some _ (sym c.in-None.is ∙ own)))
 
 pub returns-in-Some : goal.returns-in-Some
 returns-in-Some c = (

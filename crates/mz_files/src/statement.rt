@@ -1,7 +1,5 @@
 // What is told of a statement.
 
-pub use mz_layout::Rows;
-
 /// A good statement.
 #[derive(Clone, Copy, Debug, PartialEq, Eq)]
 pub struct Statement {

@@ -1,0 +1,5 @@
+mod Deciding
+mod Loops
+mod Members
+mod Places
+pub mod Offered
