@@ -1,3 +1,7 @@
+pub mod BodiesByAddress
+pub mod StatementsByAddress
+pub mod FilesByAddress
+pub mod AcceptedByAddress
 pub mod SameBodies
 pub mod Agreeing
 pub mod ItselfSame

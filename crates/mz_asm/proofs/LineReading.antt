@@ -5,6 +5,7 @@ use Rattle.std.specs.List.{position_or_len}
 use Rattle.std.proofs.lemmas.Bool.{eqb-true, ne_eqb}
 use Rattle.std.proofs.lemmas.List.{take_at, drop_at, take_all}
 use Rattle.std.proofs.lemmas.List.Sums.{split_at_first, passes_at_first}
+use Rattle.std.proofs.lemmas.Option.{cond_some}
 use Rattle.mz_general.proofs.Offered.{both-true, same-bytes, some-length}
 use Rattle.mz_cmd.specs.declared.code.ProofCode.{ProofCode}
 use Rattle.mz_cmd.specs.declared.code.ProofCode.TheVariants as proofs
@@ -21,7 +22,7 @@ use Rattle.mz_names.proofs.Offered.{digit-between}
 use Rattle.mz_asm.specs.Numbers.{are_digits, IsNumber, number_in, word_in}
 use Rattle.mz_asm.specs.Lines.{kind_name, IsValue, IsLine}
 use Rattle.mz_asm.specs.Reading.{kind_of_word, local_kind_of_word, unify_named, plain_proof_named, proof_named, first_word, other_words, head_of, numbers_in, head_in, param_of, param_in, result_of, result_in, value_in, unify_valued, unify_of, unify_line_in, proof_valued, proof_of, proof_line_in, part_named, part_in, line_named, line_in}
-use Rattle.mz_asm.proofs.Numerals.{some-if, number-sound, number-complete, numeral-digits, word-sound, word-complete}
+use Rattle.mz_asm.proofs.Numerals.{number-sound, number-complete, numeral-digits, word-sound, word-complete}
 
 abbrev is_space : ℕ → Bool
 is_space b = b == 32
@@ -148,7 +149,7 @@ head-sound (Some kind) front text l named e =
 value-sound : (b : Bool) (text : List ℕ) (v : ℕ) → value_in b text ≡ Some v → (x : List ℕ) × IsValue b x v × (text ≡ first_word text ++ x)
 value-sound true text v e = (32 ∷ other_words text, (other_words text, number-sound _ v e, refl), split-words text (numeral-some (other_words text) v e))
 value-sound false text v e =
-    let found = some-if (position_or_len is_space text == length text) 0 v e in
+    let found = cond_some (position_or_len is_space text == length text) 0 v e in
     let past : position_or_len is_space text ≡ length text = eqb-true _ _ found.0 in
     ([], (refl, sym found.1), sym (append-nil (first_word text) ∙ take_all (position_or_len is_space text) text (omega (arith, past))))
 

@@ -1,11 +1,12 @@
 -- Numbers and words that a listing's bytes write.
-use Rattle.std.proofs.Common.{◌≡◌, ◌<◌, ◌+◌, ◌*◌, ◌-◌, ◌^◌, min, ℕ, zero, suc, Bool, true, false, cond, List, [], ◌∷◌, length, take, get_or, Result, Ok, Err, Some, None, refl, sym, ap, subst, ◌∙◌, arith}
+use Rattle.std.proofs.Common.{◌≡◌, ◌<◌, ◌+◌, ◌*◌, ◌-◌, ◌^◌, min, ℕ, zero, suc, true, List, [], ◌∷◌, length, take, get_or, Result, Ok, Err, Some, refl, sym, ap, subst, ◌∙◌, arith}
 use Rattle.std.specs.Prelude.{bytes_eq}
 use Rattle.std.specs.Int.{w64, from_be_bytes, to_be_bytes, bytes_high_first}
 use Rattle.std.proofs.lemmas.Bool.Decides.{nat_tests}
 use Rattle.std.proofs.lemmas.Int.Digits.{digits_value_more}
 use Rattle.std.proofs.lemmas.Nat.{be_bytes_8, from_be_bytes-to_be_bytes_8}
 use Rattle.std.proofs.lemmas.Str.{digit_value_digit}
+use Rattle.std.proofs.lemmas.Option.{cond_some}
 use Rattle.mz_general.proofs.Offered.{both-true, same-bytes}
 use Rattle.hex.specs.Hex.{encode_lower, decode_sized, IsBytes}
 use Rattle.hex.specs.declared.error.FromHexError.{FromHexError}
@@ -16,10 +17,6 @@ use Rattle.mz_names.proofs.Offered.{digit-at, digit-between}
 use Rattle.mz_asm.specs.Numbers.{are_digits, is_numeral, number_of, IsNumber, number_in, word_from, word_in}
 
 -- ---- tests
-
-pub some-if : {A : Type 0} (b : Bool) (x y : A) → cond b (Some x) None ≡ Some y → (b ≡ true) × (x ≡ y)
-some-if true x y e = (refl, cc)
-some-if false x y e = absurd cc
 
 pub bytes-same : (xs : List ℕ) → bytes_eq xs xs ≡ true
 bytes-same [] = refl
@@ -37,7 +34,7 @@ next-value ds i value below all is =
     omega (arith, worth, more, is, between.0)
 
 pub number-sound : (ds : List ℕ) (n : ℕ) → number_in ds ≡ Some n → IsNumber ds n
-number-sound ds n e = let is = some-if (is_numeral ds) (number_of ds) n e in record { numeral = is.0; value = sym is.1 }
+number-sound ds n e = let is = cond_some (is_numeral ds) (number_of ds) n e in record { numeral = is.0; value = sym is.1 }
 
 pub number-complete : (ds : List ℕ) (n : ℕ) → IsNumber ds n → number_in ds ≡ Some n
 number-complete ds n is = rw is.numeral (ap Some (sym is.value))
@@ -58,7 +55,7 @@ word-sound text w e = go (decode_sized text 8) refl e
     go : (r : Result (List ℕ) FromHexError) → decode_sized text 8 ≡ r → word_from text r ≡ Some w → (w.0 < 2 ^ 64) × (text ≡ word_text w)
     go (Err f) is e = absurd cc
     go (Ok bytes) is e =
-        let found = some-if (bytes_eq (encode_lower bytes) text) (record { 0 = from_be_bytes w64 bytes }) w e in
+        let found = cond_some (bytes_eq (encode_lower bytes) text) (record { 0 = from_be_bytes w64 bytes }) w e in
         let spelled : encode_lower bytes ≡ text = same-bytes (encode_lower bytes) text found.0 in
         let long = decode_sized-ok text 8 bytes is in
         let fits = (decode_of-ok text bytes (sym (decode_sized-twice text 8 long) ∙ is)) in

@@ -1,6 +1,6 @@
 -- A body at its beginning.
-use Rattle.std.specs.Prelude.{ℕ, ◌≡◌, ◌<◌, ◌+◌, List, [], ◌∷◌, length, map, take, slice_get, Contains, Option, Some}
-use Rattle.std.proofs.Common.{zero, suc, refl, sym, ap, ◌∙◌, subst, arith, inr}
+use Rattle.std.specs.Prelude.{ℕ, ◌≡◌, ◌<◌, List, [], ◌∷◌, length, map, take, slice_get, Contains, Option, Some}
+use Rattle.std.proofs.Common.{suc, refl, sym, ap, ◌∙◌, subst, arith, inr}
 use Rattle.mz_logic.specs.Tree.{Tree, var}
 use Rattle.mz_logic.specs.Declaration.{Declaration}
 use Rattle.mz_logic.specs.declared.binder.Binder.{Binder}
@@ -19,16 +19,11 @@ use Rattle.mz_bodies.specs.Stages.{HasDummiesBehind, Begins}
 use Rattle.mz_bodies.proofs.Building.{nothing_built, none_of}
 use Rattle.mz_bodies.proofs.Using.{using_begun}
 use Rattle.mz_shared.proofs.Offered.{grows_self, variable_id}
-use Rattle.mz_steps.proofs.Offered.{has-place as meets, own-item-at}
+use Rattle.mz_steps.proofs.Offered.{has-place as meets, own-below, own-item-at}
 
 heap_long : (j : ℕ) (ps : List Binder) → length (map expr (variables_from j ps)) ≡ length ps
 heap_long j [] = refl
 heap_long j (p ∷ ps) = ap suc (heap_long (suc j) ps)
-
-met_below : (j : ℕ) (ps : List Binder) (x : ℕ) → Contains (from_to j ps) x → x < j + length ps
-met_below j [] x (k, lt, is) = absurd (omega (arith, lt))
-met_below j (p ∷ ps) x (zero, lt, is) = omega (arith, is)
-met_below j (p ∷ ps) x (suc k, lt, is) = (let h = met_below (suc j) ps x (k, omega (arith, lt), is) in omega (arith, h))
 
 no_hyp : (A : Type 0) (k p : ℕ) → slice_get [] k ≡ Some p → A
 no_hyp A k p is = absurd (grind (arith, is))
@@ -55,7 +50,7 @@ module _ (env : List Declaration) (o : Job) (s : Sharing) (vars : List Id) (plac
   places_begin : PlacesRight env (length o.params) o.hyps s vars places [] (from_to 0 o.params) (map expr (variables_from 0 o.params))
   places_begin = record {
     expressions = expression_at;
-    variables = λ x i at met. (let lt = met_below 0 o.params x met in let m = many in
+    variables = λ x i at met. (let lt = own-below 0 o.params x met in let m = many in
         (x, ap (place_of places) (behind.shared.numbers x i at) ∙ all x (omega (arith, lt, m))));
     params_met = λ x lt. subst (Contains (from_to 0 o.params)) (omega arith) (meets 0 o.params x lt);
     dummies = λ x b at le. behind.dummies x b at (let m = many in omega (arith, le, m));

@@ -4,7 +4,7 @@ use Rattle.std.proofs.Common.{zero, suc, refl, sym, ap, ◌∙◌, subst, arith,
 use Rattle.std.proofs.lemmas.List.{length-append}
 use Rattle.std.proofs.lemmas.List.Elements.{Contains-append_left, Contains-append_cases}
 use Rattle.mz_cmd.specs.declared.code.ProofCode.TheVariants as code
-use Rattle.mz_logic.specs.Tree.{Tree, var, app}
+use Rattle.mz_logic.specs.Tree.{Tree, var}
 use Rattle.mz_logic.specs.Declaration.{Declaration, sorts, signatures}
 use Rattle.mz_logic.specs.Modifiers.{MayBeDummySort}
 use Rattle.mz_logic.specs.Sorts.{HasSort}
@@ -17,7 +17,7 @@ use Rattle.mz_steps.specs.Works.{Work}
 use Rattle.mz_steps.specs.Steps.{Step, command_bytes}
 use Rattle.std.proofs.lemmas.Option.{slice_get_within}
 use Rattle.mz_shared.specs.Places.{place_of}
-use Rattle.mz_shared.proofs.Offered.{variable_id}
+use Rattle.mz_shared.proofs.Offered.{is_var, variable_id}
 use Rattle.mz_bodies.specs.Owes.{Task, push, Owes}
 use Rattle.mz_bodies.specs.Sight.{parts}
 use Rattle.mz_bodies.specs.Going.{Job, IsGoing}
@@ -28,10 +28,6 @@ use Rattle.mz_bodies.proofs.Shortening.{command_short}
 use Rattle.mz_bodies.proofs.Using.{using_last}
 use Rattle.mz_bodies.proofs.Standing.{may_last, may_rest}
 use Rattle.mz_bodies.proofs.Moves.{more_written, size_some}
-
-is_var : (e : Tree) → head_of e ≡ None → (x : ℕ) × (e ≡ var x)
-is_var (var x) h = (x, refl)
-is_var (app t es) h = absurd (grind (arith, h))
 
 pub get_one : (vars : List Id) (x : ℕ) (a b : Id) → slice_get vars x ≡ Some a → slice_get vars x ≡ Some b → a ≡ b
 get_one vars x a b p q = ap (λ (z : Option Id). from z) (sym p ∙ q)

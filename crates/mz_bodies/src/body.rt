@@ -1,5 +1,6 @@
 //! Bodies of statements.
 ghost use Rattle.std.specs.Prelude.{ℕ, ◌≡◌, ◌<◌, ◌^◌, ◌+◌, ◌*◌, ◌∷◌, [], ◌++◌, OnOk, IfOk, Option, None, length};
+ghost use Rattle.mz_cmd.specs.declared.code.ProofCode.TheVariants.{Conv as conv_code, Thm, Unfold};
 ghost use Rattle.mz_logic.specs.Conversions.{unfold_conv};
 ghost use Rattle.mz_logic.specs.View.{tree};
 ghost use Rattle.mz_forms.specs.ConvView.{conversion, conversions};
@@ -67,12 +68,67 @@ fn push_turned(tasks: &mut Vec<Task>, ids: &[Id]) -> Result<(), Mem>
     Ok(())
 }
 
+/// Appends the tasks of a citation: the operands and the conclusion are pushed, and it is cited.
+fn add_citation(
+    tasks: &mut Vec<Task>,
+    operands: &[Id],
+    conclusion: Id,
+    number: u32,
+) -> Result<(), Mem>
+    ensures { OnOk result (to_do tasks.new.items ≡ pushes operands.now ++ push conclusion.0 ∷ give Thm number ∷ to_do tasks.old.items) }
+{
+    add(tasks, Task::Do(ProofCode::Thm, number))?;
+    add(tasks, Task::Push(conclusion))?;
+    push_turned(tasks, operands)
+}
+
+/// Appends the tasks of a conversion: its left side is pushed, and what is proved, which is
+/// converted, and that is paid for.
+fn add_conversion<'t>(
+    tasks: &mut Vec<Task<'t>>,
+    left: Id,
+    part: &'t Proof,
+    chain: Chain,
+    conv: &'t Conv,
+) -> Result<(), Mem>
+    ensures { OnOk result (to_do tasks.new.items ≡ push left.0 ∷ prove (proof_view part.entry.now) chain ∷ give conv_code 0 ∷ pay (conversion conv.entry.now) ∷ to_do tasks.old.items) }
+{
+    add(tasks, Task::Pay(conv))?;
+    add(tasks, Task::Do(ProofCode::Conv, 0))?;
+    add(tasks, Task::Prove(part, chain))?;
+    add(tasks, Task::Push(left))
+}
+
+/// Appends the tasks of an unfolding: both sides are pushed, it is unfolded, and the part is paid
+/// for.
+fn add_unfolding<'t>(
+    tasks: &mut Vec<Task<'t>>,
+    left: Id,
+    unfolded: Id,
+    part: &'t Conv,
+) -> Result<(), Mem>
+    ensures { OnOk result (to_do tasks.new.items ≡ push left.0 ∷ push unfolded.0 ∷ give Unfold 0 ∷ pay (conversion part.entry.now) ∷ to_do tasks.old.items) }
+{
+    add(tasks, Task::Pay(part))?;
+    add(tasks, Task::Do(ProofCode::Unfold, 0))?;
+    add(tasks, Task::Push(unfolded))?;
+    add(tasks, Task::Push(left))
+}
+
 /// Appends a command, in its shortest spelling.
 fn put(out: &mut Vec<u8>, code: ProofCode, value: u32) -> Result<(), Mem>
     ensures bytes { OnOk result (out.new.items ≡ out.old.items ++ command_bytes (code, value)) }
     ensures small { OnOk result (value < 2 ^ 32) }
 {
     put_cmd(out, code as u8, value)
+}
+
+/// The bytes with an end.
+fn ended(mut out: Vec<u8>) -> Result<Vec<u8>, Mem>
+    ensures { IfOk result (λ b. b.items ≡ out.items ++ 0 ∷ []) }
+{
+    out.push(END)?;
+    Ok(out)
 }
 
 impl<'t> Body<'t> {
@@ -109,8 +165,7 @@ impl<'t> Body<'t> {
         ensures same { OnOk result (self.new.before ≡ self.old.before) }
     {
         add(&mut self.tasks, Task::Push(id))?;
-        self.run()?;
-        Ok(())
+        self.run()
     }
 
     /// Assumes an expression as the next hypothesis.
@@ -149,17 +204,14 @@ impl<'t> Body<'t> {
         ensures same { OnOk result (self.new.before ≡ self.old.before) }
     {
         add(&mut self.tasks, Task::Prove(stated, None))?;
-        self.run()?;
-        Ok(())
+        self.run()
     }
 
     /// The bytes of the body, with its end.
     pub fn end(self) -> Result<Vec<u8>, Mem>
         ensures { IfOk result (λ b. b.items ≡ self.entry.out.items ++ 0 ∷ []) }
     {
-        let mut out = self.out;
-        out.push(END)?;
-        Ok(out)
+        ended(self.out)
     }
 
     /// Emits what is to do.
@@ -184,42 +236,15 @@ impl<'t> Body<'t> {
         ensures same { OnOk result (self.new.before ≡ self.old.before) }
     {
         match task {
-            Task::Prove(proof, chain) => {
-                self.prove(proof, chain)?;
-                Ok(())
-            }
-            Task::ProveAll(proofs, chain) => {
-                self.prove_all(proofs, chain)?;
-                Ok(())
-            }
-            Task::Cite(number, es) => {
-                self.cite(number, es)?;
-                Ok(())
-            }
-            Task::Push(id) => {
-                self.push(id)?;
-                Ok(())
-            }
-            Task::Make(id) => {
-                self.make(id)?;
-                Ok(())
-            }
-            Task::Pay(conv) => {
-                self.pay(conv)?;
-                Ok(())
-            }
-            Task::PayAll(convs) => {
-                self.pay_all(convs)?;
-                Ok(())
-            }
-            Task::Do(code, value) => {
-                self.give(code, value)?;
-                Ok(())
-            }
-            Task::Save(cell) => {
-                self.save(cell)?;
-                Ok(())
-            }
+            Task::Prove(proof, chain) => self.prove(proof, chain),
+            Task::ProveAll(proofs, chain) => self.prove_all(proofs, chain),
+            Task::Cite(number, es) => self.cite(number, es),
+            Task::Push(id) => self.push(id),
+            Task::Make(id) => self.make(id),
+            Task::Pay(conv) => self.pay(conv),
+            Task::PayAll(convs) => self.pay_all(convs),
+            Task::Do(code, value) => self.give(code, value),
+            Task::Save(cell) => self.save(cell),
         }
     }
 
@@ -307,23 +332,14 @@ impl<'t> Body<'t> {
                 put(&mut self.out, ProofCode::Ref, place)?;
                 Ok(())
             }
-            Proof::Name(number) => {
-                self.name(*number, chain)?;
-                Ok(())
-            }
+            Proof::Name(number) => self.name(*number, chain),
             Proof::Cite(number, es, proofs) => {
                 add(&mut self.tasks, Task::Cite(*number, es))?;
                 add(&mut self.tasks, Task::ProveAll(proofs.as_slice(), chain))?;
                 Ok(())
             }
-            Proof::Conv(e, conv, part) => {
-                self.convert(e, conv.get(), part.get(), chain)?;
-                Ok(())
-            }
-            Proof::Let(first, second) => {
-                self.bind(first.get(), second.get(), chain)?;
-                Ok(())
-            }
+            Proof::Conv(e, conv, part) => self.convert(e, conv.get(), part.get(), chain),
+            Proof::Let(first, second) => self.bind(first.get(), second.get(), chain),
             Proof::Gap(e) => {
                 self.leave_gap(e)?;
                 Ok(())
@@ -355,8 +371,7 @@ impl<'t> Body<'t> {
             [] => Ok(()),
             [first, rest @ ..] => {
                 add(&mut self.tasks, Task::ProveAll(rest, chain))?;
-                add(&mut self.tasks, Task::Prove(first, chain))?;
-                Ok(())
+                add(&mut self.tasks, Task::Prove(first, chain))
             }
         }
     }
@@ -416,10 +431,7 @@ impl<'t> Body<'t> {
         let conclusion = self
             .shared
             .instance(self.before.table, &operands, &thm.conclusion)?;
-        add(&mut self.tasks, Task::Do(ProofCode::Thm, number))?;
-        add(&mut self.tasks, Task::Push(conclusion))?;
-        push_turned(&mut self.tasks, &operands)?;
-        Ok(())
+        add_citation(&mut self.tasks, &operands, conclusion, number)
     }
 
     /// Pushes the expression, and what is proved, converts it, and pays for that.
@@ -437,11 +449,7 @@ impl<'t> Body<'t> {
         ensures same { OnOk result (self.new.before ≡ self.old.before) }
     {
         let id = self.shared.id(self.before.table, e)?;
-        add(&mut self.tasks, Task::Pay(conv))?;
-        add(&mut self.tasks, Task::Do(ProofCode::Conv, 0))?;
-        add(&mut self.tasks, Task::Prove(part, chain))?;
-        add(&mut self.tasks, Task::Push(id))?;
-        Ok(())
+        add_conversion(&mut self.tasks, id, part, chain, conv)
     }
 
     /// Pushes the expression, and lets it stand for a proof.
@@ -481,10 +489,7 @@ impl<'t> Body<'t> {
                 put(&mut self.out, ProofCode::Cong, 0)?;
                 Ok(())
             }
-            Conv::Unfold(term, es, vars, part) => {
-                self.unfold(*term, es, vars, part.get())?;
-                Ok(())
-            }
+            Conv::Unfold(term, es, vars, part) => self.unfold(*term, es, vars, part.get()),
             Conv::Gap(_, _) => {
                 put(&mut self.out, ProofCode::Sorry, 0)?;
                 Ok(())
@@ -503,8 +508,7 @@ impl<'t> Body<'t> {
             [] => Ok(()),
             [first, rest @ ..] => {
                 add(&mut self.tasks, Task::PayAll(rest))?;
-                add(&mut self.tasks, Task::Pay(first))?;
-                Ok(())
+                add(&mut self.tasks, Task::Pay(first))
             }
         }
     }
@@ -527,10 +531,6 @@ impl<'t> Body<'t> {
         let left = self.shared.app(self.before.table, number, &operands)?;
         self.shared.push_variables(&mut operands, vars)?;
         let unfolded = self.shared.instance(self.before.table, &operands, body)?;
-        add(&mut self.tasks, Task::Pay(part))?;
-        add(&mut self.tasks, Task::Do(ProofCode::Unfold, 0))?;
-        add(&mut self.tasks, Task::Push(unfolded))?;
-        add(&mut self.tasks, Task::Push(left))?;
-        Ok(())
+        add_unfolding(&mut self.tasks, left, unfolded, part)
     }
 }

@@ -3,7 +3,6 @@ use Rattle.std.proofs.Common.{◌≡◌, ◌<◌, ◌≤◌, ◌+◌, ◌-◌, �
 use Rattle.std.specs.Prelude.{IsTrue, MatchOption}
 use Rattle.std.specs.Option.{is_some}
 use Rattle.std.proofs.lemmas.Bool.{true≢false}
-use Rattle.std.proofs.lemmas.List.{get_or_default}
 use Rattle.std.proofs.lemmas.Option.{get_or_from_slice_get, same_Some, none-some}
 use Rattle.std.proofs.lemmas.List.Elements.{Contains-push, Contains-push_cases, Contains-append_left}
 use Rattle.mz_general.proofs.Offered.{slice_get-last, same-head, all_so_far_more, all-members, contains_at, AllSoFar}
@@ -17,9 +16,6 @@ use Rattle.mz_coercions.specs.Firsts.{first_of, AreForgotten, AreLed, AreMet, Is
 use Rattle.mz_coercions.proofs.Paths.{path-join, path-more, clash-two, taken, no-return, last-end, contains-middle, never-reach, stays-one}
 
 -- what a loop has in hand
-pub item-in : {X : Type 0} (xs : List X) (i : ℕ) (e : X) → i < length xs → Contains xs (get_or xs i e)
-item-in xs i e below = (i, below, get_or_default xs i (get_or xs i e) e below)
-
 -- ---- reading
 
 pub no-first : (cs : List Coercion) (m : FirstSteps) (from to : ℕ) → AreLed cs m → first_of m from to ≡ None → (p : ℕ) (path : List ℕ) → IsPath cs from (p ∷ path) to → ⊥

@@ -47,8 +47,8 @@ use Rattle.mz_phrasing.specs.Naming.{Naming, vocabulary_by}
 use Rattle.mz_naming.specs.Names.{naming_of}
 use Rattle.mz_unspell.specs.Rows.{AreArities}
 use Rattle.mz_restating.specs.Restated.{IsProofMade, IsRestated, AreRestated}
-use Rattle.mz_telling.specs.Naming.{next_name}
-use Rattle.mz_telling.specs.Telling.{Counts, HasProof, MakesProof, Stands}
+use Rattle.mz_decompile.specs.Naming.{next_name}
+use Rattle.mz_decompile.specs.Telling.{Counts, HasProof, MakesProof, Stands}
 use Rattle.mz_walk.specs.Walk.{nothing_passed, passed_with}
 use Rattle.mz_walk.specs.declared.passed.Passed.{Passed}
 use Rattle.mz_walk.proofs.Offered.{IsOnWay, one-code, way-asks, way-end, way-first, way-on}

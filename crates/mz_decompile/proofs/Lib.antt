@@ -1,3 +1,7 @@
+mod Adding
+mod Lists
+mod Statements
+mod Standing
 mod Decided
 mod Texts
 mod Walking

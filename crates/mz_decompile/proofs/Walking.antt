@@ -22,7 +22,7 @@ use Rattle.mz_phrasing.specs.Phrasing.{Vocabulary, statement, text_of}
 use Rattle.mz_phrasing.specs.Naming.{Naming}
 use Rattle.mz_stating.specs.Measures.{capped}
 use Rattle.mz_restating.specs.Restated.{deep, depth_checks}
-use Rattle.mz_telling.specs.Telling.{Stands, SomeStands}
+use Rattle.mz_decompile.specs.Telling.{Stands, SomeStands}
 use Rattle.mz_decompile.specs.Standing.{AreStanding, AreAll}
 use Rattle.mz_decompile.specs.Passes.{AreSizes, IsLine}
 use Rattle.mz_decompile.specs.declared.measuring.Line.{Line}

@@ -1,4 +1,8 @@
+pub mod Adding
+pub mod Hypotheses
+pub mod Naming
+pub mod Telling
 pub mod Decompiling
-pub mod Told
+pub mod Printed
 pub mod Standing
 pub mod Passes

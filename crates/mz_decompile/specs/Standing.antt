@@ -9,7 +9,7 @@ use Rattle.mz_walk.specs.Walk.{nothing_passed, passed_with}
 use Rattle.mz_walk.specs.declared.passed.Passed.{Passed}
 use Rattle.mz_statements.specs.Statements.{Statement}
 use Rattle.mz_phrasing.specs.Naming.{Naming}
-use Rattle.mz_telling.specs.Telling.{Stands}
+use Rattle.mz_decompile.specs.Telling.{Stands}
 
 -- behind what was passed, which declares env, each stands at its place, where nothing fails, up to the end of the list
 abbrev pub AreStanding : List ℕ → Naming → Passed → List Declaration → List Statement → Type 0

@@ -5,14 +5,14 @@ ghost use Rattle.mz_statements.specs.Statements.{Statement};
 ghost use Rattle.mz_phrasing.specs.Naming.{vocabulary_by};
 ghost use Rattle.mz_phrasing.specs.Phrases.{written};
 ghost use Rattle.mz_phrasing.specs.Phrasing.{statement as the_statement, text_of};
-ghost use Rattle.mz_telling.specs.Telling.{SomeStands, Stands};
+ghost use Rattle.mz_decompile.specs.Telling.{SomeStands, Stands};
 ghost use Rattle.mz_decompile.specs.Standing.{AreAll, SomeAreAll};
 
+use crate::telling::statement;
 use mz_cmd::Mem;
 use mz_layout::{Head, Mmb, Rows};
 use mz_naming::Names;
 use mz_stating::Phrases;
-use mz_telling::statement;
 use mz_walk::Passed;
 use std::alloc::Global;
 

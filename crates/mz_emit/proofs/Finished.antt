@@ -17,7 +17,7 @@ use Rattle.mz_streams.specs.SpelledLists.{list_spelled}
 use Rattle.mz_writing.specs.Writing.{IsWrittenAs}
 use Rattle.mz_writing.proofs.Offered.{written-gapped, files-good, files-spell, written-same}
 use Rattle.mz_accepting.proofs.Offered.{files-accepted}
-use Rattle.mz_portability.proofs.Offered.{accepted-by-address}
+use Rattle.mz_accepting.proofs.Offered.{accepted-by-address}
 use Rattle.mz_emit.specs.Compiling.{IsBinaryOf}
 use Rattle.mz_emit.specs.Emitting.{HasWritten}
 use Rattle.mz_emit.specs.Gapped.{proofs_of, IsGappedIn}

@@ -1,3 +1,7 @@
+mod Telling
+mod Marking
+mod Going
+mod Starting
 mod Limiting
 mod Stated
 mod Following

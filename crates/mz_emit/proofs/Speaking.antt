@@ -30,7 +30,7 @@ use Rattle.mz_streams.proofs.Offered.{assertions-short, definitions-short, asser
 use Rattle.mz_shared.specs.Instances.{Grows, InReach, AllInReach, AreSorted}
 use Rattle.mz_shared.specs.Variables.{IsShared}
 use Rattle.mz_shared.proofs.Offered.{tree_grown, reach_of_sort}
-use Rattle.mz_spell.specs.Params.{HasParams}
+use Rattle.mz_emit.specs.Params.{HasParams}
 use Rattle.mz_bodies.specs.Claims.{IsSound, proved}
 use Rattle.mz_bodies.specs.Stages.{HasDummiesBehind}
 use Rattle.mz_emit.proofs.Saying.{few_nodes}

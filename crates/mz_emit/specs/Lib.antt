@@ -1,3 +1,5 @@
+pub mod Params
+pub mod Going
 pub mod Limits
 pub mod Lines
 pub mod Gapped

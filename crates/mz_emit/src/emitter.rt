@@ -27,6 +27,7 @@ ghost use Rattle.mz_bodies.specs.Stages.{HasDummiesBehind};
 ghost use Rattle.mz_emit.specs.Emitting;
 ghost use Rattle.mz_emit.specs.Emitting.{CanBeNext, WritesNext, EmitsNext, MayFollow, CanBeDefined, CanBeAsserted, HasWords, table_of, term_row, thm_row, SaysDefinition, SaysAssertion, IsProvedBy, IsSoundIfStated, MakesBody, body_weight, HasEmitted, with_sort, with_term, with_thm};
 
+use crate::statement::{assertion_stream, definition_stream};
 use mz_bodies::{Before, axiom_body, definition_body, theorem_body};
 use mz_claims::stated_proofs_are_sound;
 use mz_cmd::{Mem, StatementCode};
@@ -35,7 +36,6 @@ use mz_forms::Proof;
 use mz_layout::LayoutWriter;
 use mz_logic::{Binder, Decl, Env, Expr, SortMods, TermDecl, ThmDecl, ThmForm};
 use mz_shared::{Shared, Table, Words};
-use mz_spell::{assertion_stream, definition_stream};
 use mz_store::Id;
 use mz_type::Beside;
 use std::alloc::Global;

@@ -1,5 +1,8 @@
 //! The compiler: a well-typed proof text within the limits becomes a binary that is accepted
 //! against each specification with which the text's public statements agree.
+//!
+//! Bodies are those of `mz_bodies`; a unify stream spells a statement's conclusion and hypotheses, or a definition's
+//! body, and builds each expression once (`src/stream.rt`).
 #![tactic(auto)]
 
 mod compile;
@@ -8,6 +11,8 @@ mod emitter;
 mod limit;
 mod line;
 mod rule;
+mod statement;
+mod stream;
 
 pub use compile::{compilation_is_decided, compile_bytes, modes_compile_alike};
 pub use compiled::Compiled;

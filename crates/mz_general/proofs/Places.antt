@@ -16,10 +16,6 @@ same-head e = cc
 pub same-tail : {A : Type 0} {x y : A} {xs ys : List A} → x ∷ xs ≡ y ∷ ys → xs ≡ ys
 same-tail e = cc
 
-pub empty-list : {A : Type 0} (xs : List A) → length xs ≡ 0 → xs ≡ []
-empty-list [] e = refl
-empty-list (x ∷ xs) e = absurd (omega arith)
-
 pub some-length : {A : Type 0} (xs : List A) → (xs ≡ [] → ⊥) → 0 < length xs
 some-length [] other = absurd (other refl)
 some-length (x ∷ xs) other = omega arith

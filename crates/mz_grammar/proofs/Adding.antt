@@ -3,14 +3,14 @@ use Rattle.std.proofs.Common.{◌≡◌, ◌∙◌, ◌++◌, List, [], ◌∷�
 use Rattle.std.specs.Prelude.{◌||◌, ⊤, not, codes, if◌then◌else◌}
 use Rattle.std.proofs.lemmas.Bool.{true≢false}
 use Rattle.std.proofs.lemmas.List.{append-nil}
-use Rattle.std.proofs.lemmas.Option.{same_Some}
+use Rattle.std.proofs.lemmas.Option.{same_Some, none-some}
 use Rattle.mz_lex.specs.Lexemes.{Lexeme}
 use Rattle.mz_grammar.specs.declared.kind.Kind.{Kind}
 use Rattle.mz_grammar.specs.declared.kind.Kind.TheVariants.{Term, Assert, Definition, Notation}
 use Rattle.mz_grammar.specs.Statement.{Modifiers, Head, TypeText, Source, type_source, formula_source, LiteralText, Level, number_level, max_level, Statement, Sign, keyword, symbol, name, name_or_blank, formula, number, only_if, IsSign, AreSigns, each, modifier_signs, type_signs, takes_dummies, takes_formulas, opening_of, closing_of, name_signs, group_source_signs, group_signs, keyword_of, head_signs, argument_signs, premise_signs, fixity_keyword, level_sign, literal_signs, tail_signs, statement_signs, Spells}
 use Rattle.mz_grammar.specs.Tests.{the_symbol, fits}
 use Rattle.mz_grammar.specs.Progress.{OpenGroup, OpenNotation, Slot, group_slot, argument_slot, premise_slot, definition_slot, notation_slot, Progress, opening, sort_opened, sort_named, head_opened, headed, group_opened, group_dotted, wanted, typed, hypothesis, claimed, body_opened, defined, operator_opened, operator_named, constant_wanted, constant_read, level_wanted, level_read, coercion_opened, coercion_named, from_wanted, from_read, to_wanted, to_read, delimiter_opened, left_read, right_read, literal_wanted, literal_read, literal_opened, literal_constant, literal_colon, literal_level, tail_opened, tail_level, tail_read, whole, start, Row, is_bare, beginnings, slot_of, formula_rows, type_rows, level_rows, literal_rows, with_dep, with_name, group_of, closed, with_literal, notation_of, moves, choose, next, Leads}
-use Rattle.mz_grammar.proofs.Fitting.{IsFit, fits-is, none-some}
+use Rattle.mz_grammar.proofs.Fitting.{IsFit, fits-is}
 
 -- ---- lists
 

@@ -1,5 +1,5 @@
 -- What a lexeme that passes a test is.
-use Rattle.std.proofs.Common.{◌≡◌, ◌⊎◌, ℕ, List, true, false, Some, None, sym, refl, inl, inr}
+use Rattle.std.proofs.Common.{◌≡◌, ◌⊎◌, ℕ, List, true, false, sym, refl, inl, inr}
 use Rattle.std.specs.Prelude.{codes}
 use Rattle.std.proofs.lemmas.Bool.{true≢false}
 use Rattle.mz_general.proofs.Offered.{both-true as both, same-bytes as same}
@@ -45,6 +45,3 @@ fits-is a_number kinds.Symbol bytes e = not-so e
 fits-is a_number kinds.Number bytes e = refl
 fits-is a_number kinds.Math bytes e = not-so e
 fits-is (only b t) kind bytes e = let parts = both (fits t kind bytes) b e in (parts.1, fits-is t kind bytes parts.0)
-
-pub none-some : {A : Type 0} → (x : A) → None ≡ Some x → ⊥
-none-some x e = cc

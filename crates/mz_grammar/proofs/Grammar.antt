@@ -2,7 +2,7 @@
 -- a statement begins with them.
 use Rattle.std.proofs.Common.{◌≡◌, ◌∙◌, ◌++◌, List, [], ◌∷◌, true, false, Some, None, ◌⊎◌, ap, ap₂, sym, refl, subst, inl, inr}
 use Rattle.std.specs.Prelude.{ℕ, codes}
-use Rattle.std.proofs.lemmas.Option.{same_Some}
+use Rattle.std.proofs.lemmas.Option.{same_Some, none-some}
 use Rattle.mz_lex.specs.declared.token.TokenKind.{TokenKind}
 use Rattle.mz_lex.specs.declared.token.TokenKind.TheVariants as kinds
 use Rattle.mz_lex.specs.Lexemes.{Lexeme}
@@ -12,7 +12,6 @@ use Rattle.mz_grammar.specs.declared.kind.Kind.TheVariants.{Term, Assert, Defini
 use Rattle.mz_grammar.specs.declared.kind.Fixity.{Fixity}
 use Rattle.mz_grammar.specs.Statement.{Modifiers, TypeText, Source, type_source, formula_source, Head, Level, max_level, LiteralText, name_literal, constant_literal, TailText, Statement, sort_statement, term_statement, assert_statement, definition_statement, operator_statement, coercion_statement, delimiter_statement, notation_statement, closing_of, Spells, IsStatement, IsPrefix}
 use Rattle.mz_grammar.specs.Progress.{OpenGroup, OpenNotation, Slot, group_slot, argument_slot, premise_slot, definition_slot, notation_slot, Progress, opening, sort_opened, sort_named, head_opened, headed, group_opened, group_dotted, wanted, typed, hypothesis, claimed, body_opened, defined, operator_opened, operator_named, constant_wanted, constant_read, level_wanted, level_read, coercion_opened, coercion_named, from_wanted, from_read, to_wanted, to_read, delimiter_opened, left_read, right_read, literal_wanted, literal_read, literal_opened, literal_constant, literal_colon, literal_level, tail_opened, tail_level, tail_read, whole, start, bare, without_deps, with_name, closed, open_notation, slot_of, moves, choose, next, Leads}
-use Rattle.mz_grammar.proofs.Fitting.{none-some}
 use Rattle.mz_grammar.proofs.Adding.{leads-spells}
 use Rattle.mz_grammar.proofs.Leading.{leads-append, spells-leads, closes}
 

@@ -1,6 +1,6 @@
 -- What a name stands for after a file was put into its place, or behind the others.
 use Rattle.std.proofs.Common.{◌≡◌, ◌≢◌, ◌<◌, ◌++◌, [], ◌∷◌, ℕ, List, length, set, get_or, Bool, true, false, cond, Option, Some, None, arith, refl, ap, sym, ◌∙◌, string_bytes, inl, inr, drop, ◌+◌, is_some, take, min, ◌^◌, ◌-◌}
-use Rattle.std.proofs.lemmas.List.{drop-drop, take-append-drop}
+use Rattle.std.proofs.lemmas.List.{drop-drop, take-append-drop, nil_from_length}
 use Rattle.std.proofs.Math.Seq.{drop-nil}
 use Rattle.std.specs.Prelude.{find, position, option_map}
 use Rattle.std.specs.Option.{option_or}
@@ -10,7 +10,6 @@ use Rattle.std.proofs.lemmas.Option.{cond_some, slice_get_past, slice_get_cases,
 use Rattle.std.proofs.lemmas.List.Folds.{find_at, find-set, find_past, find-append}
 use Rattle.std.proofs.lemmas.List.Quantifiers.{position-Some}
 use Rattle.std.proofs.lemmas.Slice.Eq.{bytes_eq-Decides}
-use Rattle.mz_general.proofs.Offered.{empty-list}
 use Rattle.mz_io.specs.Memory.{is_named, bytes_of, file_of, left_in, left_at}
 use Rattle.mz_io.specs.declared.entry.Entry.{Entry}
 
@@ -120,7 +119,7 @@ left_at-read files place offset taken after left buf e fits count front sum smal
     let rest : left_at files place after ≡ drop taken left =
     ap (left_at files place) same ∙ left_at-later files place offset taken ∙ ap (drop taken) (sym e) in (
       sym e ∙ front-rest taken left buf front ∙ ap (λ ys. take taken buf ++ ys) (sym rest),
-      λ none some. rest ∙ ap (drop taken) (empty-list left (omega arith)) ∙ drop-nil taken,
+      λ none some. rest ∙ ap (drop taken) (nil_from_length left (omega arith)) ∙ drop-nil taken,
     )
 
 -- a name that no file has

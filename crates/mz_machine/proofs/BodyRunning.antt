@@ -1,6 +1,6 @@
 -- The loop over a body: what the machine keeps, and how many steps it counts at the most.
 use Rattle.std.specs.Prelude.{◌↔◌}
-use Rattle.std.proofs.Common.{◌≡◌, ◌≤◌, ◌+◌, ◌*◌, ℕ, true, List, length, Result, Ok, Err, refl, sym, ◌∙◌, subst, arith}
+use Rattle.std.proofs.Common.{◌≡◌, ◌≤◌, ◌<◌, ◌+◌, ◌*◌, ℕ, true, List, length, Result, Ok, Err, refl, sym, ◌∙◌, subst, arith}
 use Rattle.std.proofs.Math.Nat.{add-mul, mul-le-mul_right}
 use Rattle.mz_cmd.specs.declared.rule.K.{K}
 use Rattle.mz_logic.specs.Tree.{Tree}
@@ -48,6 +48,10 @@ more-steps first steps later at len size most more one =
 
 pub within-steps : (first steps at whole size : ℕ) → steps ≤ first + at * (size + 1) → at ≤ whole → steps ≤ first + whole * (size + 1)
 within-steps first steps at whole size most le = let all : at * (size + 1) ≤ whole * (size + 1) = mul-le-mul_right (size + 1) le in omega (arith, all, most)
+
+-- a place of the body is one of the file
+pub place-fits : (from at whole most : ℕ) → at ≤ whole → from + whole < most → at < most
+place-fits from at whole most within small = omega arith
 
 pub row-over : (u v : Underway) (at : ℕ) (st : State Tree) (c : Cmd) (r : Result (State Tree) K) → IsSameBody u v → row_of v.gaps (tables_for v) (heading_for v) at st c ≡ r → row_of u.gaps (tables_for u) (heading_for u) at st c ≡ r
 row-over u v at st c r same is = rw (← same.gaps, ← same-tables u v same, ← same-heading u v same) is

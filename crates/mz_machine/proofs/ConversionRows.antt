@@ -8,14 +8,14 @@ use Rattle.mz_cmd.specs.declared.rule.K.TheVariants as k
 use Rattle.mz_cmd.specs.declared.code.ProofCode.TheVariants as code
 use Rattle.mz_store.specs.declared.item.Id.{Id}
 use Rattle.mz_unification.specs.Steps.{◌>>=◌, want}
-use Rattle.mz_unification.specs.Profile.{Profile, Item, obligation}
+use Rattle.mz_unification.specs.Profile.{Profile, Item, proof, obligation}
 use Rattle.mz_unification.specs.UnifyMachine.{in_definition, Matching, UnifyState, unify, unify_steps}
 use Rattle.mz_unify.specs.Rows.{StopsBy}
 use Rattle.mz_unify.specs.declared.stop.Stop.{Stop}
 use Rattle.mz_unify.specs.declared.stop.Stop.TheVariants.{Rule, Mem}
 use Rattle.mz_unify.proofs.Offered.{Parts, differ}
 use Rattle.mz_soundness.specs.MachineState.{RowsBefore, State, signatures_in}
-use Rattle.mz_soundness.specs.Premises.{pop_expr, pop_obligation, pop_sides}
+use Rattle.mz_soundness.specs.Premises.{pop_expr, pop_obligation, pop_proof, pop_sides}
 use Rattle.mz_soundness.specs.ProofMachine.{proof_row, sides, same_term, stream_of, unfolding_of}
 use Rattle.mz_soundness.specs.Bodies.{row_steps}
 use Rattle.mz_earlier.proofs.Offered.{next-at}
@@ -61,6 +61,38 @@ module _ {P : Profile} {head : P.T → Option ℕ} {operands : P.T → List P.T}
     pub cong-row : (t : ℕ) → head l ≡ Some t → head r ≡ Some t → proof_row P tables at code.Cong n st ≡ Ok (record st { stack = sides (operands l) (operands r) xs })
     unfolding proof_row
     cong-row t h i = rw (taken, one-term t l r h i) refl
+
+-- ---- Conv and Symm, and obligations that aren't there
+
+module _ (P : Profile) (tables : RowsBefore) (at n : ℕ) (st : State P.T) where
+  pub conv-unproved : (d : K) → pop_proof st.stack ≡ Err d → proof_row P tables at code.Conv n st ≡ Err d
+  unfolding proof_row
+  conv-unproved d none = rw none refl
+
+  pub symm-unowed : (d : K) → pop_obligation st.stack ≡ Err d → proof_row P tables at code.Symm n st ≡ Err d
+  unfolding proof_row
+  symm-unowed d none = rw none refl
+
+  pub refl-unowed : (d : K) → pop_obligation st.stack ≡ Err d → proof_row P tables at code.Refl n st ≡ Err d
+  unfolding proof_row
+  refl-unowed d none = rw none refl
+
+  pub cong-unowed : (d : K) → pop_obligation st.stack ≡ Err d → proof_row P tables at code.Cong n st ≡ Err d
+  unfolding proof_row
+  cong-unowed d none = rw none refl
+
+  module _ (p : P.T) (xs : List (Item P.T)) (proved : pop_proof st.stack ≡ Ok (p, xs)) where
+    pub conv-unclaimed : (d : K) → pop_expr xs ≡ Err d → proof_row P tables at code.Conv n st ≡ Err d
+    unfolding proof_row
+    conv-unclaimed d none = rw (proved, none) refl
+
+    pub conv-row : (e : P.T) (ys : List (Item P.T)) → pop_expr xs ≡ Ok (e, ys) → proof_row P tables at code.Conv n st ≡ Ok (record st { stack = obligation e p ∷ proof e ∷ ys })
+    unfolding proof_row
+    conv-row e ys claimed = rw (proved, claimed) refl
+
+  pub symm-row : (l r : P.T) (xs : List (Item P.T)) → pop_obligation st.stack ≡ Ok (l, r, xs) → proof_row P tables at code.Symm n st ≡ Ok (record st { stack = obligation r l ∷ xs })
+  unfolding proof_row
+  symm-row l r xs owed = rw owed refl
 
 -- ---- the sides of operands
 

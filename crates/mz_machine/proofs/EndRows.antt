@@ -1,12 +1,17 @@
 -- The END of a body in any machine.
-use Rattle.std.proofs.Common.{◌≡◌, ◌+◌, ℕ, suc, List, [], ◌∷◌, length, map, Result, Ok, Err, refl, ap, ◌∙◌, arith}
+use Rattle.std.proofs.Common.{◌≡◌, ◌+◌, ℕ, suc, Bool, true, false, List, [], ◌∷◌, length, map, Result, Ok, Err, refl, ap, ◌∙◌, arith, eq-eqb, ne_eqb}
 use Rattle.std.specs.List.{range_with_len}
 use Rattle.mz_cmd.specs.declared.rule.K.{K}
+use Rattle.mz_cmd.specs.declared.rule.K.TheVariants as k
+use Rattle.mz_logic.specs.Sorts.{HasSort}
+use Rattle.mz_logic.proofs.Offered.{sort_is}
 use Rattle.mz_logic.specs.declared.binder.Binder.{Binder}
 use Rattle.mz_unification.specs.Profile.{Profile, Item}
-use Rattle.mz_unification.specs.UnifyMachine.{Matching, UnifyState, unify, unify_steps}
-use Rattle.mz_soundness.specs.MachineState.{RowsBefore, State, Heading, signatures_in}
-use Rattle.mz_soundness.specs.ProofMachine.{last_item, own_variables, ending, ends_with, proof_end}
+use Rattle.mz_unification.specs.Steps.{◌>>◌, need}
+use Rattle.mz_unification.specs.UnifyMachine.{at_end, in_definition, Matching, UnifyState, unify, unify_steps}
+use Rattle.mz_soundness.specs.MachineState.{RowsBefore, State, Heading, is_axiom, is_definition, signatures_in}
+use Rattle.mz_soundness.specs.FreeVars.{free_within}
+use Rattle.mz_soundness.specs.ProofMachine.{as_proofs, has_provable_sort, last_item, own_stream, own_variables, ending, ends_with, proof_end}
 use Rattle.mz_soundness.specs.Bodies.{match_steps}
 use Rattle.mz_machine.specs.OverStore.{Gives, UnlessMem}
 use Rattle.mz_machine.specs.Endings.{IsOwnRun}
@@ -67,3 +72,19 @@ module _ (P : Profile) (tables : RowsBefore) (h : Heading) (st : State P.T) wher
   own-end m (Ok x) e (u, is) = rw (e, is) refl
   own-end m (Err (Rule d)) e (at, is) = rw (e, is) refl
   own-end m (Err Mem) e run = tt
+
+  -- ---- what is asked of the expression that is left
+
+  module _ (e : P.T) where
+    pub claim-other : has_provable_sort P tables st.ctx e ≡ false → ending P tables h st is_axiom e ≡ Err k.NotProvable
+    claim-other is = rw is refl
+
+    pub claim-ends : has_provable_sort P tables st.ctx e ≡ true → ending P tables h st is_axiom e ≡ Ok (own_stream P h at_end e (as_proofs st.hyps))
+    claim-ends is = rw is refl
+
+    pub body-sort : (n : ℕ) → HasSort (signatures_in tables) st.ctx (P.tree e) n → (n ≡ h.result.sort → ⊥) → ending P tables h st is_definition e ≡ Err k.DefinitionSort
+    body-sort n sorted other = rw (sort_is (signatures_in tables) st.ctx (P.tree e) n sorted, ne_eqb n h.result.sort other) refl
+
+    pub body-free : (n : ℕ) (v : Bool) → HasSort (signatures_in tables) st.ctx (P.tree e) n → n ≡ h.result.sort → free_within (signatures_in tables) st.ctx h.result.deps (P.tree e) (length st.ctx) ≡ v
+        → ending P tables h st is_definition e ≡ (need v k.DefinitionDependencies >> Ok (own_stream P h in_definition e []))
+    body-free n v sorted same is = rw (sort_is (signatures_in tables) st.ctx (P.tree e) n sorted, eq-eqb n h.result.sort same, is) refl

@@ -1,5 +1,5 @@
 -- Operands beside the parameters of their row, one after another, in any machine.
-use Rattle.std.proofs.Common.{◌≡◌, ◌≤◌, ℕ, suc, Bool, true, false, List, [], ◌∷◌, length, take, drop, Some, Result, Ok, refl, ap, ◌∙◌}
+use Rattle.std.proofs.Common.{◌≡◌, ◌≤◌, ℕ, suc, Bool, true, false, List, [], ◌∷◌, length, take, drop, Some, Result, Ok, Err, refl, ap, ◌∙◌, eq-eqb, ne_eqb}
 use Rattle.std.specs.Prelude.{slice_get, ◌==◌, not, ◌||◌}
 use Rattle.mz_general.proofs.Offered.{drop-past}
 use Rattle.mz_cmd.specs.declared.rule.K.{K}
@@ -7,6 +7,9 @@ use Rattle.mz_cmd.specs.declared.rule.K.TheVariants as k
 use Rattle.mz_logic.specs.Tree.{Tree}
 use Rattle.mz_logic.specs.Signature.{Signature}
 use Rattle.mz_logic.specs.Legality.{sort_of}
+use Rattle.mz_logic.specs.Sorts.{HasSort, IsBoundVar}
+use Rattle.mz_logic.proofs.Offered.{sort_is}
+use Rattle.mz_unification.proofs.Offered.{bound-is}
 use Rattle.mz_logic.specs.Words.{word_bound, word_sort, bound_places, binder_of, binders_of}
 use Rattle.mz_logic.specs.declared.binder.Binder.{Binder}
 use Rattle.mz_logic.specs.declared.word.Word.{Word}
@@ -27,6 +30,18 @@ module _ (sigs : List Signature) (ctx : List Binder) (e : Tree) (p : Binder) (es
   -- what is found of the first decides, or leaves it to the others
   fit-next : (r : Result (Unit {0}) K) → operands_fit sigs ctx (e ∷ []) (p ∷ []) ≡ r → operands_fit sigs ctx (e ∷ es) (p ∷ ps) ≡ (r >> operands_fit sigs ctx es ps)
   fit-next r h = either (sort_of sigs ctx e == p.sort) (not p.bound || is_bound_var ctx e) r h
+
+-- an operand with this sort, beside its parameter
+module _ (sigs : List Signature) (ctx : List Binder) (e : Tree) (n : ℕ) (p : Binder) (sorted : HasSort sigs ctx e n) where
+  pub other-sort : (n ≡ p.sort → ⊥) → operands_fit sigs ctx (e ∷ []) (p ∷ []) ≡ Err k.OperandSort
+  other-sort other = rw (sort_is sigs ctx e n sorted, ne_eqb n p.sort other) refl
+
+  pub not-variable : n ≡ p.sort → p.bound ≡ true → (IsBoundVar ctx e → ⊥) → operands_fit sigs ctx (e ∷ []) (p ∷ []) ≡ Err k.OperandBound
+  not-variable same bound none = rw (sort_is sigs ctx e n sorted, eq-eqb n p.sort same, bound, go (is_bound_var ctx e) refl) refl
+    where
+      go : (b : Bool) → is_bound_var ctx e ≡ b → is_bound_var ctx e ≡ false
+      go true is = absurd (none (bound-is ctx e is))
+      go false is = is
 
 -- the j-th operand decides, or leaves it to those after it
 pub fit-step : (sigs : List Signature) (ctx : List Binder) (es : List Tree) (ws : List Word) (j : ℕ) (e : Tree) (w : Word) (r : Result (Unit {0}) K)

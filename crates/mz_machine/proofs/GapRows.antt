@@ -1,5 +1,5 @@
 -- What a gap gives where gaps are let through, and what a command gives whether they are or not.
-use Rattle.std.proofs.Common.{◌≡◌, ℕ, suc, ◌+◌, arith, Bool, true, false, List, [], ◌∷◌, map, Some, Result, Ok, Err, refl, sym, ap, ◌∙◌, subst}
+use Rattle.std.proofs.Common.{◌≡◌, ℕ, suc, ◌+◌, arith, Bool, true, false, List, [], ◌∷◌, map, Some, None, Result, Ok, Err, refl, sym, ap, ◌∙◌, subst}
 use Rattle.std.specs.Prelude.{slice_get, ◌==◌, ◌&&◌}
 use Rattle.mz_cmd.specs.declared.rule.K.{K}
 use Rattle.mz_cmd.specs.declared.rule.K.TheVariants as k
@@ -142,7 +142,18 @@ module _ (gaps : Bool) (tables : RowsBefore) (kind : Kind) (byte value : ℕ) (c
   pub gap-steps : (st : State Tree) → (gaps && is_sorry (Some c)) ≡ true → steps_by gaps tables st (body_command (plain gaps) kind byte value) ≡ 1
   gap-steps st is = its-steps st ∙ ap (λ x. suc (row_steps strict tables x value st)) (sorry-is c (both gaps (is_sorry (Some c)) is).1)
 
+-- a byte that is no command of the body
+module _ (gaps : Bool) (tables : RowsBefore) (kind : Kind) (byte value : ℕ) where
+  pub none-here : (at : ℕ) (st : State Tree) → body_command strict kind byte value ≡ None → row_by gaps tables at st (body_command (plain gaps) kind byte value) ≡ Err k.Command
+  none-here at st none = ap (row_by gaps tables at st) (command-plain gaps kind byte value ∙ none)
+
+  pub none-counted : (st : State Tree) → body_command strict kind byte value ≡ None → steps_by gaps tables st (body_command (plain gaps) kind byte value) ≡ 1
+  none-counted st none = ap (steps_by gaps tables st) (command-plain gaps kind byte value ∙ none)
+
 -- ---- answers
+
+pub rule-not-mem : (d : K) → Rule d ≡ Mem → ⊥
+rule-not-mem d is = cc
 
 pub gives-as : {A B : Type 0} (r q : Result B K) (result : Result A Stop) (value : A → B) → r ≡ q → Gives q result value → Gives r result value
 gives-as r q result value e h = subst (λ x. Gives x result value) (sym e) h

@@ -1,4 +1,5 @@
 pub mod GapRows
+pub mod HandedOn
 pub mod GapWalk
 pub mod Popping
 pub mod ConversionRows

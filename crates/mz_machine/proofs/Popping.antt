@@ -5,22 +5,25 @@ use Rattle.std.specs.Option.{option_map}
 use Rattle.std.proofs.lemmas.Option.{slice_get-map}
 use Rattle.std.proofs.lemmas.List.{map-append}
 use Rattle.mz_logic.specs.Tree.{Tree}
-use Rattle.mz_store.specs.Sharing.{Sharing}
+use Rattle.mz_store.specs.Sharing.{Sharing, tree_of}
 use Rattle.mz_store.specs.declared.item.Id.{Id}
 use Rattle.mz_store.specs.declared.item.Item.{Item as Kept}
 use Rattle.mz_store.specs.declared.item.Item.TheVariants.{Expr, Proof, Obligation, Conversion}
-use Rattle.mz_unification.specs.Profile.{Item}
-use Rattle.mz_unify.specs.Stored.{item_at, items_at, IsItemIn, AreItemsIn}
+use Rattle.mz_unification.specs.Profile.{Item, proof}
+use Rattle.mz_unify.specs.Stored.{item_at, items_at, trees_at, IsItemIn, AreItemsIn}
 use Rattle.mz_unify.proofs.Offered.{items-in-left, items-in-right, items-push}
 use Rattle.mz_soundness.specs.Premises.{is_conversion, is_obligation}
 use Rattle.mz_machine.specs.Steps.{is_conversion_at}
-use Rattle.mz_machine.specs.OverStore.{heap_at}
+use Rattle.mz_machine.specs.OverStore.{heap_at, state_at}
 use Rattle.mz_earlier.specs.Items.{is_owed}
 
 pub popped : (s : Sharing) (old new : List Kept) (x : Kept) → old ≡ new ++ x ∷ [] → AreItemsIn s old → IsItemIn s x × AreItemsIn s new
 popped s old new x is h =
     let both : AreItemsIn s (new ++ x ∷ []) = subst (AreItemsIn s) is h in
     ((items-in-right s new (x ∷ []) both).0, items-in-left s new (x ∷ []) both)
+
+pub items-popped : (s : Sharing) (old new : List Kept) (x : Kept) → old ≡ new ++ x ∷ [] → items_at s old ≡ item_at s x ∷ items_at s new
+items-popped s old new x is = ap (items_at s) is ∙ items-push s new x
 
 -- ---- the top
 
@@ -69,6 +72,14 @@ module _ (s : Sharing) where
 
   pub heap-push : (xs : List Kept) (x : Kept) → heap_at s (xs ++ x ∷ []) ≡ heap_at s xs ++ item_at s x ∷ []
   heap-push xs x = map-append (item_at s) xs (x ∷ [])
+
+  pub heap-pushed : (old new : List Kept) (x : Kept) → new ≡ old ++ x ∷ [] → heap_at s new ≡ heap_at s old ++ item_at s x ∷ []
+  heap-pushed old new x is = ap (heap_at s) is ∙ heap-push old x
+
+  -- the state with a hypothesis more
+  pub assumed-state : (heap heap' stack : List Kept) (hyps hyps' : List Id) (claim : Id) → heap' ≡ heap ++ Proof claim ∷ [] → hyps' ≡ hyps ++ claim ∷ []
+      → record { ctx = s.context; heap = heap_at s heap ++ proof (tree_of s claim.0) ∷ []; stack = items_at s stack; hyps = trees_at s hyps ++ tree_of s claim.0 ∷ [] } ≡ state_at s heap' stack hyps'
+  assumed-state heap heap' stack hyps hyps' claim more assumed = rw (more, assumed, heap-push heap (Proof claim), map-append (λ (i : Id). tree_of s i.0) hyps (claim ∷ [])) refl
 
   pub conversion-there : (xs : List Kept) (k : ℕ) → is_conversion_at (slice_get (heap_at s xs) k) ≡ true → (l : Id) × (r : Id) × (slice_get xs k ≡ Some (Conversion l r))
   conversion-there xs k h = go (slice_get xs k) refl

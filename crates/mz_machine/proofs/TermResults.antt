@@ -1,5 +1,5 @@
 -- Operands of terms over a store, and a store that grows.
-use Rattle.std.proofs.Common.{◌≡◌, ◌<◌, ℕ, List, [], ◌∷◌, Ok, length, map, refl, sym, ap, ◌∙◌, subst}
+use Rattle.std.proofs.Common.{◌≡◌, ◌<◌, ℕ, List, [], ◌∷◌, ◌++◌, Ok, length, map, refl, sym, ap, ◌∙◌, subst}
 use Rattle.mz_logic.specs.Signature.{Signature}
 use Rattle.mz_logic.specs.Words.{binders_of}
 use Rattle.mz_logic.specs.Words.{signatures_of as signatures_by}
@@ -18,6 +18,8 @@ use Rattle.std.proofs.lemmas.List.{length-map, reverse-append}
 use Rattle.mz_unify.proofs.Offered.{items-in-both, still-in}
 use Rattle.mz_soundness.specs.Premises.{operands_fit}
 use Rattle.mz_earlier.specs.Before.{Before, signatures_of, words_before}
+use Rattle.mz_machine.specs.OverStore.{heap_at, state_at}
+use Rattle.mz_machine.proofs.Popping.{heap-push}
 use Rattle.mz_machine.proofs.TermRows.{can-stand}
 use Rattle.mz_earlier.proofs.Offered.{signatures-before}
 use Rattle.mz_store.proofs.Offered.{old-ids-keep-trees}
@@ -89,3 +91,8 @@ module _ (s s' : Sharing) (keeps : KeepsIds s s') where
   pub hyps-kept : (is : List Id) → AreIn s is → trees_at s' is ≡ trees_at s is
   hyps-kept [] h = refl
   hyps-kept (i ∷ is) h = rw (tree-kept s s' keeps i.0 h.0, hyps-kept is h.1) refl
+
+  -- the state behind a command that has made one expression more, and kept it in the heap
+  pub saved-state : (heap new stack : List Kept) (hyps : List Id) (x : Kept) → s'.context ≡ s.context → new ≡ heap ++ x ∷ [] → AreItemsIn s heap → AreIn s hyps
+      → record { ctx = s.context; heap = heap_at s heap ++ item_at s' x ∷ []; stack = items_at s' stack; hyps = trees_at s hyps } ≡ state_at s' new stack hyps
+  saved-state heap new stack hyps x context is inside among = rw (is, heap-push s' heap x, context, heap-kept heap inside, hyps-kept hyps among) refl

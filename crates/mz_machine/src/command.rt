@@ -9,7 +9,7 @@ use mz_cmd::ProofCode;
 use mz_earlier::{BodyKind, Converting, Making};
 
 /// A command over the heap.
-#[derive(Clone, Copy, Debug, PartialEq, Eq)]
+#[derive(Clone, Copy)]
 pub(crate) enum Keeping {
     Ref,
     ConvRef,
@@ -19,7 +19,7 @@ pub(crate) enum Keeping {
 }
 
 /// A command of a body other than END; its operand stands beside it.
-#[derive(Clone, Copy, Debug, PartialEq, Eq)]
+#[derive(Clone, Copy)]
 pub(crate) enum Command {
     Makes(Making),
     Keeps(Keeping),

@@ -4,7 +4,7 @@ pub(crate) mod gaps;
 pub(crate) mod heap;
 pub(crate) mod terms;
 
-ghost use Rattle.std.specs.Prelude.{ℕ, ◌≡◌, ◌<◌, ◌≤◌, ◌+◌, ◌++◌, ◌∷◌, ◌^◌, [], ⊤, List, OnOk, IsTrue, MatchResult, length};
+ghost use Rattle.std.specs.Prelude.{ℕ, ◌≡◌, ◌<◌, ◌≤◌, ◌+◌, ◌++◌, ◌∷◌, ◌^◌, [], ⊤, List, Ok, Err, OnOk, IsTrue, MatchResult, length};
 ghost use Rattle.mz_store.specs.Sharing.{AreIn, IsOver};
 ghost use Rattle.mz_store.specs.declared.item.Id.{Id};
 ghost use Rattle.mz_store.specs.declared.item.Item.TheVariants.{Proof};
@@ -18,6 +18,7 @@ ghost use Rattle.mz_earlier.specs.CommandCodes.{code_of_making, code_of_converti
 ghost use Rattle.mz_machine.specs.Steps.{takes_none};
 ghost use Rattle.mz_machine.specs.OverStore.{state_at, code_of, code_of_keeping, cites, for_theorems, Gives, NeverWants, UnlessMem, Grows};
 ghost use Rattle.mz_unify.specs.Rows.{StopsBy};
+ghost use Rattle.mz_unify.specs.declared.stop.Stop.TheVariants.{Rule};
 
 use crate::command::{Command, Keeping};
 use conversions::{cong, conv, conv_cut, conv_save, refl, symm, unfold};
@@ -58,8 +59,7 @@ fn make<L: Ledger>(
         }
         Making::TermSave => {
             let made = term(earlier, value, store, stack, &mut spare.operands)?;
-            push(heap, Item::Expr(made))?;
-            Ok(())
+            push(heap, Item::Expr(made))
         }
         Making::Thm => {
             thm(earlier, value, store, stack, spare, steps)?;
@@ -67,8 +67,7 @@ fn make<L: Ledger>(
         }
         Making::ThmSave => {
             let proved = thm(earlier, value, store, stack, spare, steps)?;
-            push(heap, Item::Proof(proved))?;
-            Ok(())
+            push(heap, Item::Proof(proved))
         }
     }
 }
@@ -95,14 +94,8 @@ fn keep(
     ensures never { IsTrue (takes_none (code_of_keeping command) value (state_at store.old heap.old.items stack.old.items hyps.old.items)) → NeverWants result }
 {
     match command {
-        Keeping::Ref => {
-            refer(store, value, heap, stack)?;
-            Ok(())
-        }
-        Keeping::ConvRef => match conv_refer(store, value, heap, stack) {
-            Ok(()) => Ok(()),
-            Err(rule) => Err(Stop::Rule(rule)),
-        },
+        Keeping::Ref => refer(store, value, heap, stack),
+        Keeping::ConvRef => by_rule(conv_refer(store, value, heap, stack)),
         Keeping::Dummy => {
             let made = dummy(earlier, value, store)?;
             push(heap, Item::Expr(made))?;
@@ -110,17 +103,11 @@ fn keep(
             Ok(())
         }
         Keeping::Hyp => match hyp(earlier, store, stack) {
-            Ok(claim) => {
-                assume(claim, heap, hyps)?;
-                Ok(())
-            }
+            Ok(claim) => assume(claim, heap, hyps),
             Err(rule) => Err(Stop::Rule(rule)),
         },
         Keeping::Save => match save(store, stack) {
-            Ok(item) => {
-                push(heap, item)?;
-                Ok(())
-            }
+            Ok(item) => push(heap, item),
             Err(rule) => Err(Stop::Rule(rule)),
         },
     }
@@ -146,6 +133,16 @@ pub fn assume(claim: Id, heap: &mut Vec<Item>, hyps: &mut Vec<Id>) -> Result<(),
     Ok(())
 }
 
+/// The same answer of a command that takes no memory.
+pub fn by_rule(answer: Result<(), K>) -> Result<(), Stop>
+    ensures { MatchResult answer (λ done. result ≡ Ok done) (λ rule. result ≡ Err (Rule rule)) }
+{
+    match answer {
+        Ok(()) => Ok(()),
+        Err(rule) => Err(Stop::Rule(rule)),
+    }
+}
+
 /// Executes a command on conversions. A gap is refused.
 fn convert<L: Ledger>(
     earlier: &Earlier,
@@ -167,35 +164,14 @@ fn convert<L: Ledger>(
     ensures most { steps.new ≤ steps.old + length earlier.now.file }
 {
     match command {
-        Converting::Conv => match conv(store, stack) {
-            Ok(()) => Ok(()),
-            Err(rule) => Err(Stop::Rule(rule)),
-        },
-        Converting::Refl => match refl(store, stack) {
-            Ok(()) => Ok(()),
-            Err(rule) => Err(Stop::Rule(rule)),
-        },
-        Converting::Symm => match symm(store, stack) {
-            Ok(()) => Ok(()),
-            Err(rule) => Err(Stop::Rule(rule)),
-        },
-        Converting::Cong => {
-            cong(store, stack)?;
-            Ok(())
-        }
-        Converting::Unfold => {
-            unfold(earlier, store, stack, spare, steps)?;
-            Ok(())
-        }
-        Converting::ConvCut => {
-            conv_cut(store, stack)?;
-            Ok(())
-        }
+        Converting::Conv => by_rule(conv(store, stack)),
+        Converting::Refl => by_rule(refl(store, stack)),
+        Converting::Symm => by_rule(symm(store, stack)),
+        Converting::Cong => cong(store, stack),
+        Converting::Unfold => unfold(earlier, store, stack, spare, steps),
+        Converting::ConvCut => conv_cut(store, stack),
         Converting::ConvSave => match conv_save(store, stack) {
-            Ok(item) => {
-                push(heap, item)?;
-                Ok(())
-            }
+            Ok(item) => push(heap, item),
             Err(rule) => Err(Stop::Rule(rule)),
         },
         Converting::Sorry => Err(Stop::Rule(K::Sorry)),
@@ -229,17 +205,10 @@ pub(crate) fn execute<L: Ledger>(
     ensures most { steps.new ≤ steps.old + length earlier.now.file }
 {
     match command {
-        Command::Makes(making) => {
-            make(earlier, making, value, store, heap, stack, spare, steps)?;
-            Ok(())
-        }
-        Command::Keeps(keeping) => {
-            keep(earlier, keeping, value, store, heap, stack, hyps)?;
-            Ok(())
-        }
-        Command::Converts(converting) => {
-            convert(earlier, converting, store, heap, stack, spare, steps)?;
-            Ok(())
-        }
+        Command::Makes(making) => make(earlier, making, value, store, heap, stack, spare, steps),
+        Command::Keeps(keeping) => keep(earlier, keeping, value, store, heap, stack, hyps),
+        Command::Converts(converting) => convert(
+            earlier, converting, store, heap, stack, spare, steps,
+        ),
     }
 }

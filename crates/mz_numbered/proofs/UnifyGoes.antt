@@ -1,9 +1,9 @@
 -- A stream that runs in one machine runs in another that has its expressions. What a dummy is kept apart from may be less
 -- there.
 use Rattle.std.proofs.Common.{◌≡◌, ℕ, zero, suc, ◌+◌, Bool, true, false, not, cond, List, [], ◌∷◌, ◌++◌, length, drop, map, Option, Some, None, Result, Ok, Err, refl, ap, ap₂, subst, ◌∙◌}
-use Rattle.std.specs.Prelude.{slice_get, ◌||◌, ◌&&◌, ◌==◌}
+use Rattle.std.specs.Prelude.{slice_get, ◌&&◌, ◌==◌}
 use Rattle.std.proofs.lemmas.List.{map-append}
-use Rattle.std.proofs.lemmas.Bool.{and_from}
+use Rattle.std.proofs.lemmas.Bool.{and_from, or_from, or_parts}
 use Rattle.mz_general.proofs.Offered.{both-true, slice_get-map_at}
 use Rattle.mz_cmd.specs.declared.rule.K.TheVariants as k
 use Rattle.mz_cmd.specs.declared.command.Cmd.{Cmd}
@@ -18,14 +18,9 @@ use Rattle.mz_unification.specs.Streams.{UnifyCommand, u_term, u_term_save, u_re
 use Rattle.mz_unification.specs.Tests.{var_within, is_bound_var}
 use Rattle.mz_unification.specs.Profile.{Profile, Item, expr, proof, obligation, conversion}
 use Rattle.mz_unification.specs.UnifyMachine.{UnifyMode, in_citation, at_end, in_definition, kind_of, Matching, UnifyState, top_target, is_empty, proved_by, next_hypothesis, operands_of, within_any, is_fresh, nothing_left, unify_row, unify_turn_by, unify_turn, unify_from, at_start, unify}
-use Rattle.mz_unification.proofs.Offered.{neither-of}
 use Rattle.mz_numbered.specs.Mapping.{item_onto, items_onto, matching_onto}
 use Rattle.mz_numbered.proofs.Going.{Goes, Is, TurnIs, goes-to, goes-on, goes-need, goes-want, goes-over, goes-further, goes-follow}
 use Rattle.mz_numbered.proofs.Embeds.{Embeds, operands-are}
-
-pub or-neither : (a b : Bool) → a ≡ false → b ≡ false → (a || b) ≡ false
-or-neither true b p q = absurd cc
-or-neither false b p q = q
 
 pub fresh-too : (a b within less : Bool) → (within ≡ false → less ≡ false) → (a && b && not within) ≡ true → (a && b && not less) ≡ true
 fresh-too true true false less none e = ap not (none refl)
@@ -40,17 +35,17 @@ empty-mapped f (x ∷ xs) e = absurd cc
 -- a variable in V of none of these, and of one more
 module _ (P : Profile) (ctx : List Binder) where
   none-more : (e : P.T) (xs : List P.T) (x : P.T) → within_any P ctx e xs ≡ false → var_within ctx (P.tree e) (P.tree x) ≡ false → within_any P ctx e (xs ++ x ∷ []) ≡ false
-  none-more e [] x p q = or-neither (var_within ctx (P.tree e) (P.tree x)) false q refl
+  none-more e [] x p q = or_from (var_within ctx (P.tree e) (P.tree x)) false q refl
   none-more e (y ∷ xs) x p q =
-      let (here, there) = neither-of (var_within ctx (P.tree e) (P.tree y)) (within_any P ctx e xs) p in
-      or-neither (var_within ctx (P.tree e) (P.tree y)) (within_any P ctx e (xs ++ x ∷ [])) here (none-more e xs x there q)
+      let (here, there) = or_parts (var_within ctx (P.tree e) (P.tree y)) (within_any P ctx e xs) p in
+      or_from (var_within ctx (P.tree e) (P.tree y)) (within_any P ctx e (xs ++ x ∷ [])) here (none-more e xs x there q)
 
   none-less : (e : P.T) (xs : List P.T) (x : P.T) → within_any P ctx e (xs ++ x ∷ []) ≡ false → (within_any P ctx e xs ≡ false) × (var_within ctx (P.tree e) (P.tree x) ≡ false)
-  none-less e [] x h = let (here, there) = neither-of (var_within ctx (P.tree e) (P.tree x)) false h in (refl, here)
+  none-less e [] x h = let (here, there) = or_parts (var_within ctx (P.tree e) (P.tree x)) false h in (refl, here)
   none-less e (y ∷ xs) x h =
-      let (here, there) = neither-of (var_within ctx (P.tree e) (P.tree y)) (within_any P ctx e (xs ++ x ∷ [])) h in
+      let (here, there) = or_parts (var_within ctx (P.tree e) (P.tree y)) (within_any P ctx e (xs ++ x ∷ [])) h in
       let (before, last) = none-less e xs x there in
-      (or-neither (var_within ctx (P.tree e) (P.tree y)) (within_any P ctx e xs) here before, last)
+      (or_from (var_within ctx (P.tree e) (P.tree y)) (within_any P ctx e xs) here before, last)
 
 module _ (P Q : Profile) (f : P.T → Q.T) (Right : ℕ → P.T → Type 0) (embeds : Embeds P Q f Right) (sigs : List Signature) (ctx : List Binder) where
   -- what is in V of none of the first is in V of none of the others
@@ -63,8 +58,8 @@ module _ (P Q : Profile) (f : P.T → Q.T) (Right : ℕ → P.T → Type 0) (emb
   covers-all : (xs : List P.T) → Covers xs (map f xs)
   covers-all [] e h = refl
   covers-all (x ∷ xs) e h =
-      let (here, there) = neither-of (var_within ctx (P.tree e) (P.tree x)) (within_any P ctx e xs) h in
-      or-neither (var_within ctx (Q.tree (f e)) (Q.tree (f x))) (within_any Q ctx (f e) (map f xs)) (var-within e x here) (covers-all xs e there)
+      let (here, there) = or_parts (var_within ctx (P.tree e) (P.tree x)) (within_any P ctx e xs) h in
+      or_from (var_within ctx (Q.tree (f e)) (Q.tree (f x))) (within_any Q ctx (f e) (map f xs)) (var-within e x here) (covers-all xs e there)
 
   covers-both : (xs : List P.T) (ys : List Q.T) (x : P.T) → Covers xs ys → Covers (xs ++ x ∷ []) (ys ++ f x ∷ [])
   covers-both xs ys x covers e h =

@@ -3,6 +3,7 @@
 use Rattle.std.proofs.Common.{◌≡◌, ℕ, zero, suc, ◌+◌, ◌⊎◌, Bool, true, false, List, [], ◌∷◌, ◌++◌, length, drop, map, Option, Some, None, Result, Ok, Err, refl, sym, ap, subst, ◌∙◌, inl, inr, append_assoc, append-nil}
 use Rattle.std.specs.Prelude.{slice_get, ◌&&◌, ◌==◌}
 use Rattle.std.proofs.lemmas.Option.{same_Some}
+use Rattle.std.proofs.lemmas.Bool.{or_from, or_parts}
 use Rattle.mz_general.proofs.Offered.{slice_get-map_back, slice_get-map_at, slice_get-front}
 use Rattle.mz_cmd.specs.declared.rule.K.{K}
 use Rattle.mz_cmd.specs.declared.rule.K.TheVariants as k
@@ -21,11 +22,11 @@ use Rattle.mz_unification.specs.Spells.{trees_of}
 use Rattle.mz_unification.specs.Tests.{same_tree, is_bound_var, in_v}
 use Rattle.mz_unification.specs.Profile.{strict, tree_parts}
 use Rattle.mz_unification.specs.UnifyMachine.{UnifyMode, in_definition, kind_of, UnifyState, top_target, is_empty, next_hypothesis, operands_of, within_any, is_fresh, nothing_left, unify_row, unify_turn_by, unify_turn, unify_from, unify}
-use Rattle.mz_unification.proofs.Offered.{from_bind, from_need, from_want, taken-is, in-v-true, neither-of, not-in-v, in-some, unfoldings-exact}
+use Rattle.mz_unification.proofs.Offered.{from_bind, from_need, from_want, taken-is, in-v-true, not-in-v, in-some, unfoldings-exact}
 use Rattle.mz_numbered.specs.Making.{portable_trees}
 use Rattle.mz_numbered.specs.Saving.{AreWhole}
 use Rattle.mz_numbered.specs.Laws.{WholeStreamsRunToo}
-use Rattle.mz_numbered.proofs.UnifyGoes.{or-neither, fresh-too}
+use Rattle.mz_numbered.proofs.UnifyGoes.{fresh-too}
 
 from-follow : {S G : Type 0} (at : ℕ) (r : Result (Turn S) K) (rest : ℕ → S → Result S (ℕ × K)) (y : S) → follow (at_place at r) rest ≡ Ok y
     → ((s : S) → r ≡ Ok (over s) → s ≡ y → G) → ((len : ℕ) (s : S) → r ≡ Ok (goes_on len s) → rest len s ≡ Ok y → G) → G
@@ -53,8 +54,8 @@ module _ (ctx : List Binder) where
 
   none-of : (x : ℕ) (xs : List Tree) → within_any strict ctx (var x) xs ≡ false → InSomeV ctx x (trees_of xs) → ⊥
   none-of x [] out has = has
-  none-of x (y ∷ xs) out (inl has) = not-in-v ctx x y (neither-of (in_v ctx x y) (within_any strict ctx (var x) xs) out).0 has
-  none-of x (y ∷ xs) out (inr has) = none-of x xs (neither-of (in_v ctx x y) (within_any strict ctx (var x) xs) out).1 has
+  none-of x (y ∷ xs) out (inl has) = not-in-v ctx x y (or_parts (in_v ctx x y) (within_any strict ctx (var x) xs) out).0 has
+  none-of x (y ∷ xs) out (inr has) = none-of x xs (or_parts (in_v ctx x y) (within_any strict ctx (var x) xs) out).1 has
 
   out-of : (x : ℕ) (b : Bool) (e : Tree) → in_v ctx x e ≡ b → (InV ctx x e → ⊥) → b ≡ false
   out-of x true e is out = absurd (out (in-v-true ctx x e is))
@@ -63,7 +64,7 @@ module _ (ctx : List Binder) where
   none-within : (x : ℕ) (xs : List Tree) → ((i : ℕ) (e : Tree) → slice_get xs i ≡ Some e → InV ctx x e → ⊥) → within_any portable_trees ctx (var x) xs ≡ false
   none-within x [] out = refl
   none-within x (e ∷ xs) out =
-      or-neither (in_v ctx x e) (within_any portable_trees ctx (var x) xs) (out-of x (in_v ctx x e) e refl (out 0 e refl)) (none-within x xs λ i d at. out (suc i) d at)
+      or_from (in_v ctx x e) (within_any portable_trees ctx (var x) xs) (out-of x (in_v ctx x e) e refl (out 0 e refl)) (none-within x xs λ i d at. out (suc i) d at)
 
   no-variable : (t : ℕ) (es : Trees) (xs : List Tree) → within_any portable_trees ctx (app t es) xs ≡ false
   no-variable t es [] = refl

@@ -17,7 +17,7 @@ use Rattle.mz_pmachine.specs.Stepping.{IsStepped}
 use Rattle.mz_pmachine.specs.Steps.{row_by, steps_by, steps_for, heading_for}
 use Rattle.mz_pmachine.specs.declared.machine.Parts.{Parts}
 use Rattle.mz_pmachine.specs.declared.machine.Setting.{Setting}
-use Rattle.mz_nodes.specs.Numbering.{AreIn}
+use Rattle.mz_punify.specs.Numbering.{AreIn}
 use Rattle.mz_punify.specs.Stored.{AreItemsIn}
 use Rattle.mz_earlier.proofs.Offered.{kind-byte, kind-is}
 use Rattle.mz_pmachine.proofs.Machines.{goes-on}

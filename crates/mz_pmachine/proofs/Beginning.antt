@@ -13,7 +13,7 @@ use Rattle.mz_layout.specs.declared.taken.Rows.{Rows}
 use Rattle.mz_earlier.proofs.Offered.{binders_many, own-binders}
 use Rattle.mz_machine.proofs.Offered.{no-dummies, own-are}
 use Rattle.mz_numbered.specs.Numbered.{Numbered, a_variable, portable}
-use Rattle.mz_nodes.specs.Numbering.{Numbering, expr_of, IsIn, IsOver}
+use Rattle.mz_punify.specs.Numbering.{Numbering, expr_of, IsIn, IsOver}
 use Rattle.mz_punify.specs.Stored.{AreItemsIn}
 use Rattle.mz_pmachine.specs.OverNodes.{heap_at, state_at, AreFirst, IsUnderway}
 

@@ -5,7 +5,7 @@ use Rattle.std.proofs.lemmas.List.{length-map, length-reverse}
 use Rattle.mz_numbered.specs.Numbered.{Numbered, portable}
 use Rattle.mz_logic.specs.Words.{signatures_of as signatures_by}
 use Rattle.mz_layout.specs.Tables.{thm_row}
-use Rattle.mz_nodes.specs.Numbering.{Numbering}
+use Rattle.mz_punify.specs.Numbering.{Numbering}
 use Rattle.mz_store.specs.declared.item.Id.{Id}
 use Rattle.mz_store.specs.declared.item.Item.{Item as Kept}
 use Rattle.mz_unification.specs.UnifyMachine.{unify, unify_steps}

@@ -2,7 +2,7 @@
 use Rattle.std.proofs.Common.{◌≡◌, true, false, List, [], ◌∷◌, ◌++◌, Result, Ok, Err, refl, sym, ap, ◌∙◌, subst}
 use Rattle.mz_cmd.specs.declared.rule.K.{K}
 use Rattle.mz_cmd.specs.declared.rule.K.TheVariants as k
-use Rattle.mz_nodes.specs.Numbering.{Numbering, exprs_of, operands_of}
+use Rattle.mz_punify.specs.Numbering.{Numbering, exprs_of, operands_of}
 use Rattle.mz_store.specs.declared.item.Id.{Id}
 use Rattle.mz_store.specs.declared.item.Item.{Item as Kept}
 use Rattle.mz_unification.specs.Steps.{◌>>=◌, ◌>>◌, need}
@@ -13,6 +13,7 @@ use Rattle.mz_unification.proofs.Offered.{taken-is}
 use Rattle.mz_punify.proofs.Offered.{items-in-both, listed-exprs, of-numbered}
 use Rattle.mz_soundness.specs.Premises.{pop_expr, pop_obligation, pop_sides}
 use Rattle.mz_machine.proofs.Offered.{same}
+use Rattle.mz_pmachine.specs.OverNodes.{pop_unfolding}
 use Rattle.mz_unify.proofs.Offered.{differ}
 
 -- with one item more
@@ -57,3 +58,14 @@ no-middle (conversion l r ∷ zs) d e = let is : k.Kind ≡ d = cc in rw is refl
 -- the operands of an application, as a list
 pub operand-exprs : (s : Numbering) (args : List Id) (e : Numbered) → exprs_of s args ≡ operands_of e → exprs_at s args ≡ operand_list (operands_of e)
 operand-exprs s args e are = sym (listed-exprs s args) ∙ ap operand_list are
+
+-- what is unfolded to, and the sides below it
+pub none-unfolded : (xs : List (Item Numbered)) (d : K) → pop_expr xs ≡ Err d → pop_unfolding xs ≡ Err d
+none-unfolded xs d none = rw none refl
+
+module _ (xs ys : List (Item Numbered)) (e : Numbered) where
+  pub no-sides-unfolded : (d : K) → pop_expr xs ≡ Ok (e, ys) → pop_sides portable ys ≡ Err d → pop_unfolding xs ≡ Err d
+  no-sides-unfolded d first none = rw (first, none) refl
+
+  pub unfolded : (l r : Numbered) (zs : List (Item Numbered)) → pop_expr xs ≡ Ok (e, ys) → pop_sides portable ys ≡ Ok (l, r, zs) → pop_unfolding xs ≡ Ok (e, l, r, zs)
+  unfolded l r zs first sides = rw (first, sides) refl

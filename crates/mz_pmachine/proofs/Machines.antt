@@ -8,7 +8,7 @@ use Rattle.mz_soundness.specs.MachineState.{signatures_in}
 use Rattle.mz_earlier.specs.OwnRow.{heading_of}
 use Rattle.mz_earlier.specs.Before.{tables_before}
 use Rattle.mz_layout.specs.declared.taken.Rows.{Rows}
-use Rattle.mz_nodes.specs.Numbering.{Numbering, AreIn}
+use Rattle.mz_punify.specs.Numbering.{Numbering, AreIn}
 use Rattle.mz_punify.specs.Stored.{AreItemsIn}
 use Rattle.mz_punify.proofs.Offered.{still-in}
 use Rattle.mz_pmachine.specs.OverNodes.{Grows, IsUnderway}

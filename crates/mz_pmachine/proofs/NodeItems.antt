@@ -2,7 +2,7 @@
 use Rattle.std.proofs.Common.{◌≡◌, List, [], ◌∷◌, Ok, refl, subst}
 use Rattle.std.specs.Prelude.{map}
 use Rattle.mz_numbered.specs.Numbered.{Numbered}
-use Rattle.mz_nodes.specs.Numbering.{Numbering, AreIn, expr_of}
+use Rattle.mz_punify.specs.Numbering.{Numbering, AreIn, expr_of}
 use Rattle.mz_store.specs.declared.item.Id.{Id}
 use Rattle.mz_store.specs.declared.item.Item.{Item as Kept}
 use Rattle.mz_store.specs.declared.item.Item.TheVariants.{Expr}

@@ -1,12 +1,12 @@
 -- Operands of terms over nodes, and nodes that grow.
-use Rattle.std.proofs.Common.{◌≡◌, ◌<◌, ℕ, List, [], ◌∷◌, Ok, length, map, refl, sym, ap, ◌∙◌, subst}
+use Rattle.std.proofs.Common.{◌≡◌, ◌<◌, ℕ, List, [], ◌∷◌, ◌++◌, Ok, length, map, refl, sym, ap, ◌∙◌, subst, arith}
 use Rattle.mz_logic.specs.Signature.{Signature}
 use Rattle.mz_logic.specs.Words.{binders_of}
 use Rattle.mz_logic.specs.Words.{signatures_of as signatures_by}
 use Rattle.mz_layout.specs.Tables.{term_row}
 use Rattle.mz_store.specs.Sharing.{CanTake}
-use Rattle.mz_nodes.specs.Numbering.{Numbering, Entry, expr_of, IsIn, AreIn, IsOver, KeepsIds}
-use Rattle.mz_nodes.specs.Numbering.{trees_of as trees_in}
+use Rattle.mz_punify.specs.Numbering.{Numbering, Entry, expr_of, IsIn, AreIn, IsOver, KeepsIds}
+use Rattle.mz_punify.specs.Numbering.{trees_of as trees_in}
 use Rattle.mz_store.specs.declared.item.Id.{Id}
 use Rattle.mz_store.specs.declared.item.Item.{Item as Kept}
 use Rattle.mz_store.specs.declared.item.Item.TheVariants.{Expr, Proof, Obligation, Conversion}
@@ -14,13 +14,15 @@ use Rattle.mz_unification.specs.Sorted.{AllSorted}
 use Rattle.mz_unification.specs.Profile.{expr, proof}
 use Rattle.mz_punify.specs.Stored.{exprs_at, trees_at, item_at, items_at, IsItemIn, AreItemsIn}
 use Rattle.std.specs.Prelude.{reverse}
-use Rattle.std.proofs.lemmas.List.{reverse-append}
+use Rattle.std.proofs.lemmas.List.{append-nil, reverse-append}
 use Rattle.mz_punify.proofs.Offered.{items-in-both, still-in, length-trees, trees-of}
 use Rattle.mz_soundness.specs.Premises.{operands_fit}
 use Rattle.mz_earlier.specs.Before.{Before, signatures_of, words_before}
-use Rattle.mz_machine.proofs.Offered.{can-stand}
+use Rattle.mz_machine.proofs.Offered.{can-stand, no-dummies}
+use Rattle.mz_pmachine.specs.OverNodes.{heap_at, state_at, Grows}
+use Rattle.mz_pmachine.proofs.Popping.{heap-push}
 use Rattle.mz_earlier.proofs.Offered.{signatures-before}
-use Rattle.mz_nodes.proofs.Offered.{entry-kept}
+use Rattle.mz_punify.proofs.Offered.{entry-kept}
 
 -- ---- trees of nodes
 
@@ -81,3 +83,12 @@ module _ (s s' : Numbering) (keeps : KeepsIds s s') where
   pub hyps-kept : (is : List Id) → AreIn s is → exprs_at s' is ≡ exprs_at s is
   hyps-kept [] h = refl
   hyps-kept (i ∷ is) h = rw (expr-kept s s' keeps i.0 h.0, hyps-kept is h.1) refl
+
+  -- the state behind a command that has made one expression more, and kept it in the heap
+  pub saved-state : (heap new stack : List Kept) (hyps : List Id) (x : Kept) → s'.context ≡ s.context → new ≡ heap ++ x ∷ [] → AreItemsIn s heap → AreIn s hyps
+      → record { ctx = s.context; heap = heap_at s heap ++ item_at s' x ∷ []; stack = items_at s' stack; hyps = exprs_at s hyps } ≡ state_at s' new stack hyps
+  saved-state heap new stack hyps x context is inside among = rw (is, heap-push s' heap x, context, heap-kept heap inside, hyps-kept hyps among) refl
+
+-- nodes that stay as they are
+pub grows-not : (sigs : List Signature) (s : Numbering) → IsOver sigs s → Grows sigs s s
+grows-not sigs s over = record { keeps = ([], sym (append-nil s.entries), omega arith); over = over; mode = refl; context = ([], sym (append-nil s.context), no-dummies) }

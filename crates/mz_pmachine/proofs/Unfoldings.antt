@@ -7,7 +7,7 @@ use Rattle.mz_logic.specs.Sorts.{HasSort}
 use Rattle.mz_logic.specs.Words.{signatures_of as signatures_by}
 use Rattle.mz_logic.specs.declared.binder.Binder.{Binder}
 use Rattle.mz_layout.specs.Tables.{term_row}
-use Rattle.mz_nodes.specs.Numbering.{Numbering, IsIn, IsOver, expr_of, head_of, operands_of}
+use Rattle.mz_punify.specs.Numbering.{Numbering, IsIn, IsOver, expr_of, head_of, operands_of}
 use Rattle.mz_store.specs.declared.item.Id.{Id}
 use Rattle.mz_store.specs.declared.item.Item.{Item as Kept}
 use Rattle.mz_numbered.specs.Numbered.{Numbered, a_variable, an_application, operand_list, tree_of, portable}

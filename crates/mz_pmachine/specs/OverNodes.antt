@@ -18,7 +18,7 @@ use Rattle.mz_earlier.specs.CommandCodes.{code_of_making, code_of_converting}
 use Rattle.mz_machine.specs.OverStore.{IsContextOf}
 use Rattle.mz_layout.specs.declared.taken.Rows.{Rows}
 use Rattle.mz_numbered.specs.Numbered.{Numbered, a_variable, portable}
-use Rattle.mz_nodes.specs.Numbering.{Numbering, expr_of, IsIn, AreIn, IsOver, KeepsIds}
+use Rattle.mz_punify.specs.Numbering.{Numbering, expr_of, IsIn, AreIn, IsOver, KeepsIds}
 use Rattle.mz_punify.specs.Stored.{exprs_at, item_at, items_at, AreItemsIn}
 use Rattle.mz_pmachine.specs.declared.command.Keeping.{Keeping}
 use Rattle.mz_pmachine.specs.declared.command.Keeping.TheVariants as keeping

@@ -4,7 +4,7 @@ pub(crate) mod heap;
 pub(crate) mod terms;
 
 ghost use Rattle.std.specs.Prelude.{ℕ, ◌≡◌, ◌<◌, ◌≤◌, ◌+◌, ◌^◌, List, OnOk, length};
-ghost use Rattle.mz_nodes.specs.Numbering.{AreIn, IsOver};
+ghost use Rattle.mz_punify.specs.Numbering.{AreIn, IsOver};
 ghost use Rattle.mz_store.specs.declared.item.Id.{Id};
 ghost use Rattle.mz_punify.specs.Stored.{AreItemsIn};
 ghost use Rattle.mz_soundness.specs.ProofMachine.{proof_row};
@@ -20,8 +20,8 @@ use conversions::{cong, conv, conv_cut, conv_save, refl, symm, unfold};
 use heap::{dummy, hyp, refer, save};
 use mz_cmd::{K, Steps};
 use mz_earlier::{Converting, Earlier, Making, Spare};
-use mz_machine::assume;
-use mz_nodes::Nodes;
+use mz_machine::{assume, by_rule};
+use mz_punify::Nodes;
 use mz_store::{Id, Item};
 use mz_unify::{Stop, push};
 use std::sync::ledger::Ledger;
@@ -57,8 +57,7 @@ fn make<L: Ledger>(
         }
         Making::TermSave => {
             let made = term(earlier, at, value, nodes, stack, &mut spare.operands)?;
-            push(heap, Item::Expr(made))?;
-            Ok(())
+            push(heap, Item::Expr(made))
         }
         Making::Thm => {
             thm(earlier, value, nodes, stack, spare, steps)?;
@@ -66,8 +65,7 @@ fn make<L: Ledger>(
         }
         Making::ThmSave => {
             let proved = thm(earlier, value, nodes, stack, spare, steps)?;
-            push(heap, Item::Proof(proved))?;
-            Ok(())
+            push(heap, Item::Proof(proved))
         }
     }
 }
@@ -94,10 +92,7 @@ fn keep(
     ensures row { (at : ℕ) → Gives (proof_row portable (tables_of earlier.now) at (code_of_keeping command) value (state_at nodes.old heap.old.items stack.old.items hyps.old.items)) result (λ _. state_at nodes.new heap.new.items stack.new.items hyps.new.items) }
 {
     match command {
-        Keeping::Ref => {
-            refer(nodes, value, heap, stack)?;
-            Ok(())
-        }
+        Keeping::Ref => refer(nodes, value, heap, stack),
         Keeping::Dummy => {
             let made = dummy(earlier, value, nodes)?;
             push(heap, Item::Expr(made))?;
@@ -105,17 +100,11 @@ fn keep(
             Ok(())
         }
         Keeping::Hyp => match hyp(earlier, nodes, stack) {
-            Ok(claim) => {
-                assume(claim, heap, hyps)?;
-                Ok(())
-            }
+            Ok(claim) => assume(claim, heap, hyps),
             Err(rule) => Err(Stop::Rule(rule)),
         },
         Keeping::Save => match save(nodes, stack) {
-            Ok(item) => {
-                push(heap, item)?;
-                Ok(())
-            }
+            Ok(item) => push(heap, item),
             Err(rule) => Err(Stop::Rule(rule)),
         },
     }
@@ -140,35 +129,14 @@ fn convert<L: Ledger>(
     ensures most { steps.new ≤ steps.old + length earlier.now.file }
 {
     match command {
-        Converting::Conv => match conv(nodes, stack) {
-            Ok(()) => Ok(()),
-            Err(rule) => Err(Stop::Rule(rule)),
-        },
-        Converting::Refl => match refl(nodes, stack) {
-            Ok(()) => Ok(()),
-            Err(rule) => Err(Stop::Rule(rule)),
-        },
-        Converting::Symm => match symm(nodes, stack) {
-            Ok(()) => Ok(()),
-            Err(rule) => Err(Stop::Rule(rule)),
-        },
-        Converting::Cong => {
-            cong(nodes, stack)?;
-            Ok(())
-        }
-        Converting::Unfold => {
-            unfold(earlier, nodes, stack, spare, steps)?;
-            Ok(())
-        }
-        Converting::ConvCut => {
-            conv_cut(nodes, stack)?;
-            Ok(())
-        }
+        Converting::Conv => by_rule(conv(nodes, stack)),
+        Converting::Refl => by_rule(refl(nodes, stack)),
+        Converting::Symm => by_rule(symm(nodes, stack)),
+        Converting::Cong => cong(nodes, stack),
+        Converting::Unfold => unfold(earlier, nodes, stack, spare, steps),
+        Converting::ConvCut => conv_cut(nodes, stack),
         Converting::ConvSave => match conv_save(nodes, stack) {
-            Ok(item) => {
-                push(heap, item)?;
-                Ok(())
-            }
+            Ok(item) => push(heap, item),
             Err(rule) => Err(Stop::Rule(rule)),
         },
         Converting::Sorry => Err(Stop::Rule(K::Sorry)),
@@ -203,17 +171,12 @@ pub(crate) fn execute<L: Ledger>(
     ensures most { steps.new ≤ steps.old + length earlier.now.file }
 {
     match command {
-        Command::Makes(making) => {
-            make(earlier, at, making, value, nodes, heap, stack, spare, steps)?;
-            Ok(())
-        }
-        Command::Keeps(keeping) => {
-            keep(earlier, keeping, value, nodes, heap, stack, hyps)?;
-            Ok(())
-        }
-        Command::Converts(converting) => {
-            convert(earlier, converting, nodes, heap, stack, spare, steps)?;
-            Ok(())
-        }
+        Command::Makes(making) => make(
+            earlier, at, making, value, nodes, heap, stack, spare, steps,
+        ),
+        Command::Keeps(keeping) => keep(earlier, keeping, value, nodes, heap, stack, hyps),
+        Command::Converts(converting) => convert(
+            earlier, converting, nodes, heap, stack, spare, steps,
+        ),
     }
 }

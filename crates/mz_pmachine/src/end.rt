@@ -1,7 +1,7 @@
 //! The END of a body: the one item that is left, and the row's own stream on it.
 ghost use Rattle.std.specs.Prelude.{◌≡◌, ◌≤◌, ◌<◌, ◌^◌, ◌+◌, ◌∷◌, [], List, IfOk, length};
 ghost use Rattle.mz_layout.specs.Tables.{term_row};
-ghost use Rattle.mz_nodes.specs.Numbering.{AreIn, IsIn, IsOver, expr_of, tree_of};
+ghost use Rattle.mz_punify.specs.Numbering.{AreIn, IsIn, IsOver, expr_of, tree_of};
 ghost use Rattle.mz_store.specs.declared.item.Item.{Item as Kept};
 ghost use Rattle.mz_store.specs.declared.item.DepsMode.TheVariants.{Free};
 ghost use Rattle.mz_unification.specs.UnifyMachine.{unify, unify_steps};
@@ -23,8 +23,7 @@ use mz_cmd::{K, Steps};
 use mz_earlier::{BodyKind, Earlier, Spare, first_ids, own_arity, own_proofs, own_stream};
 use mz_logic::Word;
 use mz_machine::mode_of;
-use mz_nodes::Nodes;
-use mz_punify::unify_in;
+use mz_punify::{Nodes, unify_in};
 use mz_store::{Id, Item};
 use mz_unify::Stop;
 use std::sync::ledger::Ledger;

@@ -4,7 +4,7 @@ ghost use Rattle.mz_logic.specs.Signature.{Signature};
 ghost use Rattle.mz_logic.specs.Words.{binders_of, bound_places, word_bound, word_sort};
 ghost use Rattle.mz_logic.specs.declared.binder.Binder.{Binder};
 ghost use Rattle.mz_layout.specs.Rows.{params_of};
-ghost use Rattle.mz_nodes.specs.Numbering.{IsIn, AreIn, IsOver, tree_of};
+ghost use Rattle.mz_punify.specs.Numbering.{IsIn, AreIn, IsOver, tree_of};
 ghost use Rattle.mz_punify.specs.Stored.{items_at, exprs_at, trees_at, AreItemsIn};
 ghost use Rattle.mz_soundness.specs.Premises.{pop_operands, operands_fit};
 ghost use Rattle.mz_earlier.specs.Before.{signatures_of};
@@ -16,7 +16,7 @@ use mz_earlier::Earlier;
 use mz_layout::Row;
 use mz_logic::Word;
 use mz_machine::read_exprs;
-use mz_nodes::Nodes;
+use mz_punify::Nodes;
 use mz_store::{Id, Item};
 use mz_unify::{Stop, push};
 

@@ -1,7 +1,7 @@
 //! A machine that takes the commands of one body.
 ghost use Rattle.std.specs.Prelude.{◌≡◌, ◌≤◌, ◌<◌, ◌+◌, ◌^◌, ℕ, false, IfOk, OnOk, length};
 ghost use Rattle.mz_store.specs.Bits.{bound_vars};
-ghost use Rattle.mz_nodes.specs.Numbering.{AreIn, IsOver};
+ghost use Rattle.mz_punify.specs.Numbering.{AreIn, IsOver};
 ghost use Rattle.mz_punify.specs.Stored.{AreItemsIn};
 ghost use Rattle.mz_soundness.specs.Bodies.{body_command};
 ghost use Rattle.mz_earlier.specs.OwnRow.{MayRun, byte_of, kind_of};
@@ -23,7 +23,7 @@ use mz_earlier::{BodyKind, Earlier, Spare, deps_mode, first_items, read_words};
 use mz_layout::{Mmb, Rows};
 use mz_logic::Word;
 use mz_machine::{BodyEnd, Finished};
-use mz_nodes::Nodes;
+use mz_punify::Nodes;
 use mz_store::{Id, Item};
 use mz_unify::Stop;
 use std::alloc::{AllocError, Global};

@@ -3,7 +3,7 @@ use Rattle.std.proofs.Common.{◌≡◌, ℕ, Some, None, refl}
 use Rattle.mz_unify.proofs.Offered.{Parts}
 use Rattle.mz_numbered.specs.Numbered.{Numbered, a_variable, an_application, operand_list, parts_of, portable}
 use Rattle.mz_numbered.proofs.Offered.{equal-same, equal-refl}
-use Rattle.mz_nodes.specs.Numbering.{head_of, operands_of}
+use Rattle.mz_punify.specs.Numbering.{head_of, operands_of}
 
 parts-none : (e : Numbered) → head_of e ≡ None → parts_of e ≡ None
 parts-none (a_variable x) h = refl

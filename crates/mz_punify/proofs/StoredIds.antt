@@ -6,7 +6,7 @@ use Rattle.std.specs.Option.{option_map}
 use Rattle.std.specs.Prelude.{reverse, slice_get, ◌==◌, IfSome, option_to_list}
 use Rattle.std.proofs.lemmas.List.{reverse-append, map-append, reverse-reverse, length-map, length-reverse}
 use Rattle.mz_numbered.specs.Numbered.{Numbered, operand_list, operand_trees, operands_from, tree_of}
-use Rattle.mz_nodes.specs.Numbering.{Numbering, expr_of, IsIn, AreIn, KeepsIds, exprs_of, operands_of}
+use Rattle.mz_punify.specs.Numbering.{Numbering, expr_of, IsIn, AreIn, KeepsIds, exprs_of, operands_of}
 use Rattle.mz_store.specs.declared.item.Id.{Id}
 use Rattle.mz_store.specs.declared.item.Item.{Item as Kept}
 use Rattle.mz_store.specs.declared.item.Item.TheVariants.{Proof}

@@ -18,7 +18,7 @@ use Rattle.mz_unification.specs.UnifyMachine.{within_any, is_fresh}
 use Rattle.mz_unify.specs.Rows.{TellsAny}
 use Rattle.mz_unify.proofs.Offered.{tells-any-push, fresh-word, not-bound as tree-not-bound, other-sort as tree-other-sort}
 use Rattle.mz_numbered.specs.Numbered.{Numbered, tree_of, portable}
-use Rattle.mz_nodes.specs.Numbering.{Numbering, expr_of}
+use Rattle.mz_punify.specs.Numbering.{Numbering, expr_of}
 use Rattle.mz_punify.specs.Stored.{exprs_at}
 use Rattle.mz_punify.proofs.StoredIds.{exprs-append}
 

@@ -1,7 +1,7 @@
 -- One command over nodes: how the code's state stands for the machine's.
 use Rattle.std.specs.Prelude.{List}
 use Rattle.mz_numbered.specs.Numbered.{Numbered}
-use Rattle.mz_nodes.specs.Numbering.{Numbering}
+use Rattle.mz_punify.specs.Numbering.{Numbering}
 use Rattle.mz_store.specs.declared.item.Id.{Id}
 use Rattle.mz_store.specs.declared.item.Item.{Item as Kept}
 use Rattle.mz_unification.specs.UnifyMachine.{UnifyState}

@@ -9,7 +9,7 @@ use Rattle.mz_unification.specs.UnifyMachine.{Matching}
 use Rattle.mz_unify.specs.Stored.{mode_of}
 use Rattle.mz_unify.specs.declared.unified.UnifyMode.{UnifyMode}
 use Rattle.mz_numbered.specs.Numbered.{Numbered, tree_of}
-use Rattle.mz_nodes.specs.Numbering.{Numbering, expr_of, IsIn}
+use Rattle.mz_punify.specs.Numbering.{Numbering, expr_of, IsIn}
 
 -- the expressions of ids, in order
 abbrev pub exprs_at : Numbering → List Id → List Numbered

@@ -1,10 +1,15 @@
-//! The unify machine of verifiers that compare addresses, as it runs over the nodes of a body.
+//! Expressions by the places where a body made them, and the unify machine that runs over them, for verifiers that
+//! compare addresses.
 //!
-//! What the machine is, is said in `mz_unification`, over the profile `portable` of `mz_numbered`;
-//! `specs/Stored.antt` says how ids of nodes stand for expressions.
+//! Each command makes one node, which no search shares ([`Nodes`]). What the machine is, is said in `mz_unification`,
+//! over the profile `portable` of `mz_numbered`; `specs/Stored.antt` says how ids of nodes stand for expressions.
 #![tactic(auto)]
 
+mod node;
+mod nodes;
 mod rows;
 mod running;
+mod variables;
 
+pub use nodes::Nodes;
 pub use running::{unify, unify_in};

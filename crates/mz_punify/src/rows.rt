@@ -2,7 +2,7 @@
 ghost use Rattle.std.specs.Prelude.{ℕ, ◌≡◌, ◌≤◌, ⊤, ◌+◌, ◌++◌, ◌∷◌, ◌⊎◌, [], List, Ok, Err, OnOk, IfOk, IfSome, IfNone, MatchResult, map, length};
 ghost use Rattle.mz_cmd.specs.declared.rule.K.{K};
 ghost use Rattle.mz_logic.specs.Signature.{Signature};
-ghost use Rattle.mz_nodes.specs.Numbering.{IsIn, AreIn, expr_of, IsOver};
+ghost use Rattle.mz_punify.specs.Numbering.{IsIn, AreIn, expr_of, IsOver};
 ghost use Rattle.mz_numbered.specs.Numbered.{Numbered, tree_of, portable};
 ghost use Rattle.mz_unification.specs.Streams.{UnifyCommand, u_term, u_term_save, u_ref, u_dummy, u_hyp, u_end};
 ghost use Rattle.mz_unification.specs.UnifyMachine.{UnifyMode as Mode, UnifyState, unify_row, is_fresh, next_hypothesis, nothing_left};
@@ -11,8 +11,8 @@ ghost use Rattle.mz_unify.specs.Rows.{command_of, IsRow, StopsBy, TellsAny, with
 ghost use Rattle.mz_punify.specs.Stored.{exprs_at, stack_at, items_at, AreItemsIn};
 ghost use Rattle.mz_punify.specs.Rows.{state_at};
 
+use crate::Nodes;
 use mz_cmd::K;
-use mz_nodes::Nodes;
 use mz_store::{Id, Item};
 use mz_unify::{Command, Stop, UnifyMode, push, push_operands};
 
@@ -212,22 +212,12 @@ pub(crate) fn step(
             keep(nodes, whole, heap, apart)?;
             Ok(())
         }
-        Command::Ref(place) => {
-            refer(nodes, place, heap, targets)?;
-            Ok(())
-        }
+        Command::Ref(place) => refer(nodes, place, heap, targets),
         Command::Dummy(sort) => {
             let met = dummy(nodes, sort, targets, *apart)?;
-            keep(nodes, met, heap, apart)?;
-            Ok(())
+            keep(nodes, met, heap, apart)
         }
-        Command::Hyp => {
-            hypothesis(nodes, mode, targets, hyps)?;
-            Ok(())
-        }
-        Command::End => {
-            end(nodes, mode, targets, hyps)?;
-            Ok(())
-        }
+        Command::Hyp => hypothesis(nodes, mode, targets, hyps),
+        Command::End => end(nodes, mode, targets, hyps),
     }
 }

@@ -2,17 +2,17 @@
 ghost use Rattle.std.specs.Prelude.{ℕ, ◌≡◌, ◌≤◌, ◌<◌, ◌^◌, ◌+◌, List, length};
 ghost use Rattle.mz_logic.specs.Words.{signatures_of};
 ghost use Rattle.mz_logic.specs.Signature.{Signature};
-ghost use Rattle.mz_nodes.specs.Numbering.{IsIn, AreIn, IsOver};
+ghost use Rattle.mz_punify.specs.Numbering.{IsIn, AreIn, IsOver};
 ghost use Rattle.mz_numbered.specs.Numbered.{portable};
 ghost use Rattle.mz_unification.specs.UnifyMachine.{unify, unify_from, unify_steps, unify_steps_from};
 ghost use Rattle.mz_unify.specs.Stored.{mode_of, OnDone, UnlessMem, IsRun, AreLeft};
 ghost use Rattle.mz_punify.specs.Stored.{exprs_at, items_at, AreItemsIn, matching_at};
 ghost use Rattle.mz_punify.specs.Rows.{state_at};
 
+use crate::Nodes;
 use crate::rows::{step, variables};
 use mz_cmd::{K, Steps, cmd_at};
 use mz_logic::Terms;
-use mz_nodes::Nodes;
 use mz_store::{Id, Item};
 use mz_unify::{Command, Stop, Unified, UnifyMode, decoded};
 use std::sync::ledger::Ledger;

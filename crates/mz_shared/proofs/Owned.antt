@@ -1,18 +1,22 @@
 -- The variables of a context as operands.
-use Rattle.std.specs.Prelude.{ℕ, ◌≡◌, ◌<◌, ◌+◌, List, [], ◌∷◌, length, get_or, slice_get, Some}
+use Rattle.std.specs.Prelude.{ℕ, ◌≡◌, ◌<◌, ◌+◌, List, [], ◌∷◌, length, get_or, slice_get, Some, None}
 use Rattle.std.proofs.Common.{zero, suc, refl, sym, ap, ◌∙◌, subst, arith}
-use Rattle.std.proofs.lemmas.Option.{slice_get_within, get_or_from_slice_get}
+use Rattle.std.proofs.lemmas.Option.{slice_get_within, get_or_from_slice_get, none-some}
 use Rattle.mz_logic.specs.Tree.{Tree, Trees, var, app, none, more, operand, instance, instances}
 use Rattle.mz_logic.specs.Signature.{Signature}
 use Rattle.mz_logic.specs.Sorts.{HasSort, Fits}
 use Rattle.mz_logic.specs.declared.binder.Binder.{Binder}
 use Rattle.mz_unification.specs.Spells.{trees_of as operands_of, variables_from}
-use Rattle.mz_store.specs.Sharing.{Sharing, AreIn, IsIn, IsOver, tree_of, trees_of}
+use Rattle.mz_store.specs.Sharing.{Sharing, AreIn, IsIn, IsOver, head_of, tree_of, trees_of}
 use Rattle.mz_store.specs.declared.item.Id.{Id}
 use Rattle.mz_unification.proofs.Offered.{length-params}
 use Rattle.mz_shared.specs.Instances.{Grows, InReach, AllInReach, AreSorted}
 use Rattle.mz_shared.specs.Variables.{IsShared}
 use Rattle.mz_shared.proofs.Making.{are_in_grown, trees_grown}
+
+pub is_var : (e : Tree) → head_of e ≡ None → (x : ℕ) × (e ≡ var x)
+is_var (var x) h = (x, refl)
+is_var (app t es) h = absurd (none-some _ (sym h))
 
 abbrev own : List Binder → Trees
 own ctx = operands_of (variables_from 0 ctx)

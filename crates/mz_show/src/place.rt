@@ -7,7 +7,7 @@ use mz_cmd::{K, Refusal, StatementCode};
 use mz_layout::Rows;
 
 /// A place in the list of statements.
-#[derive(Clone, Copy, Debug, PartialEq, Eq)]
+#[derive(Clone, Copy)]
 pub struct Place {
     /// The number of the statement that stands there, from 1.
     pub number: u32,

@@ -14,7 +14,7 @@ use mz_layout::{Head, HeadOrEnd, Mmb, head_at};
 use std::alloc::Global;
 
 /// What stands at a place of the list of statements.
-#[derive(Clone, Copy, Debug, PartialEq, Eq)]
+#[derive(Clone, Copy)]
 pub enum Next {
     /// A statement of which nothing fails; the place after it.
     Statement(Place),

@@ -4,7 +4,7 @@ ghost use Rattle.std.specs.Prelude.{◌≡◌};
 use mz_cmd::{Mem, Refusal};
 
 /// Why a statement's lines can't be given.
-#[derive(Clone, Copy, Debug, PartialEq, Eq)]
+#[derive(Clone, Copy)]
 pub enum Stop {
     /// A rule of the binary fails.
     Refused(Refusal),

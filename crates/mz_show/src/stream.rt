@@ -8,7 +8,7 @@ use mz_cmd::{Cmd, END, Mem, ProofCode, UnifyCode, cmd_at};
 use std::alloc::Global;
 
 /// What commands are read as.
-#[derive(Clone, Copy, Debug, PartialEq, Eq)]
+#[derive(Clone, Copy)]
 pub enum Stream {
     /// A unify stream.
     Unify,

@@ -1,7 +1,7 @@
 -- The test of free variables decides them.
 use Rattle.std.proofs.Common.{◌≡◌, ◌<◌, ℕ, zero, suc, Bool, true, false, eqb, List, [], ◌∷◌, Option, Some, None, refl, sym, ap, subst, ◌∙◌, ◌⊎◌, inl, inr, arith, eq-eqb, not-suc-le-zero}
 use Rattle.std.specs.Prelude.{slice_get, Contains, ◌||◌, ◌&&◌, not}
-use Rattle.std.proofs.lemmas.Bool.{eqb-true, and_from, or_right, or_left}
+use Rattle.std.proofs.lemmas.Bool.{eqb-true, and_from, or_right, or_left, not_from_false}
 use Rattle.mz_general.proofs.Offered.{both-true, not-true, or-cases}
 use Rattle.mz_logic.specs.Tree.{Tree, Trees, var, app, none, more, operand}
 use Rattle.mz_logic.specs.Signature.{Signature}
@@ -40,9 +40,6 @@ named-in params all (i ∷ js) x (j, (zero, lt, is), (b, at, bound), v) =
 named-in params all (i ∷ js) x (j, (suc k, lt, is), b, v) =
     or_right (is_bound_at (slice_get params i) && is_var x (operand all i)) (named_at params all js x) (named-in params all js x (j, (k, omega arith, is), b, v))
 
-not-false : (b : Bool) → b ≡ false → not b ≡ true
-not-false b h = ap not h
-
 decided : (b : Bool) → (b ≡ true) ⊎ (b ≡ false)
 decided true = inl refl
 decided false = inr refl
@@ -60,7 +57,7 @@ mutual
   some-fv-in sigs ctx x params all [] (more e es) h = absurd h
   some-fv-in sigs ctx x params all (p ∷ ps) (more e es) (inl (regular, free, out)) =
       or_left (not p.bound && in_fv sigs ctx x e && not (named_at params all p.deps x)) (in_some_fv sigs ctx x params all ps es)
-      (three (not p.bound) (in_fv sigs ctx x e) (not (named_at params all p.deps x)) (not-false p.bound regular) (fv-in sigs ctx x e free) (open-one (decided (named_at params all p.deps x))))
+      (three (not p.bound) (in_fv sigs ctx x e) (not (named_at params all p.deps x)) (not_from_false p.bound regular) (fv-in sigs ctx x e free) (open-one (decided (named_at params all p.deps x))))
     where
       three : (a b c : Bool) → a ≡ true → b ≡ true → c ≡ true → (a && b && c) ≡ true
       three true true c p q r = r
@@ -69,7 +66,7 @@ mutual
 
       open-one : (named_at params all p.deps x ≡ true) ⊎ (named_at params all p.deps x ≡ false) → not (named_at params all p.deps x) ≡ true
       open-one (inl t) = absurd (out (named-true params all p.deps x t))
-      open-one (inr f) = not-false (named_at params all p.deps x) f
+      open-one (inr f) = not_from_false (named_at params all p.deps x) f
   some-fv-in sigs ctx x params all (p ∷ ps) (more e es) (inr h) =
       or_right (not p.bound && in_fv sigs ctx x e && not (named_at params all p.deps x)) (in_some_fv sigs ctx x params all ps es) (some-fv-in sigs ctx x params all ps es h)
 

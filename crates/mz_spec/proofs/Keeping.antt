@@ -2,6 +2,7 @@
 use Rattle.std.proofs.Common.{◌≡◌, ◌≢◌, ◌∙◌, ◌++◌, ◌+◌, ℕ, zero, suc, List, [], ◌∷◌, length, Bool, true, false, Option, Some, slice_get, Contains, ap, sym, refl, subst, inl, inr, arith, length-append}
 use Rattle.std.specs.Prelude.{IsTrue, if◌then◌else◌}
 use Rattle.std.proofs.lemmas.List.Elements.{Contains-push_cases}
+use Rattle.std.proofs.lemmas.List.{length_push}
 use Rattle.mz_general.proofs.Offered.{slice_get-append}
 use Rattle.mz_names.specs.Identifiers.{is_name}
 use Rattle.mz_lex.specs.Lexemes.{Lexeme}
@@ -42,9 +43,6 @@ use Rattle.mz_spec.proofs.Legal.{legal-written}
 
 -- ---- lists of declarations
 
-one-longer : {X : Type 0} → (xs : List X) (x : X) → length (xs ++ x ∷ []) ≡ length xs + 1
-one-longer xs x = length-append xs (x ∷ [])
-
 -- a coercion stays one over more terms
 coercion-more : (env : List Declaration) (d : Declaration) (c : Coercion) → IsCoercion (signatures env) c → IsCoercion (signatures (env ++ d ∷ [])) c
 coercion-more env d c (s, b, at, params, regular, from, to) =
@@ -68,9 +66,9 @@ numbered-new i (n ∷ ns) t new m (suc k, below, is) same = numbered-new (i + 1)
 
 kept-sort : (σ : State) (place : ℕ) (n : Lexeme) (d : Declaration) → IsKept σ → IsLegalDecl σ.env d → length (sorts (d ∷ [])) ≡ 1 → length (signatures (d ∷ [])) ≡ 0 → IsKept (with_sort σ place n d)
 kept-sort σ place n d kept legal one none = record {
-  sorts = let a = one-longer σ.sort_names n.text in let b = ap length (sorts-append σ.env (d ∷ [])) in let c = length-append (sorts σ.env) (sorts (d ∷ [])) in let k = kept.sorts in omega (arith, a, b, c, k, one);
+  sorts = let a = length_push σ.sort_names n.text in let b = ap length (sorts-append σ.env (d ∷ [])) in let c = length-append (sorts σ.env) (sorts (d ∷ [])) in let k = kept.sorts in omega (arith, a, b, c, k, one);
   terms = let b = ap length (signatures-append σ.env (d ∷ [])) in let c = length-append (signatures σ.env) (signatures (d ∷ [])) in let k = kept.terms in omega (arith, b, c, k, none);
-  marks = let a = length-append σ.marks (mark_at place n ∷ []) in let b = one-longer σ.env d in let k = kept.marks in omega (arith, a, b, k);
+  marks = let a = length-append σ.marks (mark_at place n ∷ []) in let b = length_push σ.env d in let k = kept.marks in omega (arith, a, b, k);
   legal = legal_push σ.env d kept.legal legal;
   table = kept.table;
   names = kept.names;
@@ -81,7 +79,7 @@ kept-assertion : (σ : State) (place : ℕ) (n : Lexeme) (d : Declaration) → I
 kept-assertion σ place n d kept legal none also = record {
   sorts = let b = ap length (sorts-append σ.env (d ∷ [])) in let c = length-append (sorts σ.env) (sorts (d ∷ [])) in let k = kept.sorts in omega (arith, b, c, k, none);
   terms = let b = ap length (signatures-append σ.env (d ∷ [])) in let c = length-append (signatures σ.env) (signatures (d ∷ [])) in let k = kept.terms in omega (arith, b, c, k, also);
-  marks = let a = length-append σ.marks (mark_at place n ∷ []) in let b = one-longer σ.env d in let k = kept.marks in omega (arith, a, b, k);
+  marks = let a = length-append σ.marks (mark_at place n ∷ []) in let b = length_push σ.env d in let k = kept.marks in omega (arith, a, b, k);
   legal = legal_push σ.env d kept.legal legal;
   table = kept.table;
   names = kept.names;
@@ -92,8 +90,8 @@ kept-term : (σ : State) (place : ℕ) (n : Lexeme) (d : Declaration) → IsKept
     → length (sorts (d ∷ [])) ≡ 0 → length (signatures (d ∷ [])) ≡ 1 → IsKept (with_term σ place n d)
 kept-term σ place n d kept legal named new none one = record {
   sorts = let b = ap length (sorts-append σ.env (d ∷ [])) in let c = length-append (sorts σ.env) (sorts (d ∷ [])) in let k = kept.sorts in omega (arith, b, c, k, none);
-  terms = let a = one-longer σ.term_names n.text in let b = ap length (signatures-append σ.env (d ∷ [])) in let c = length-append (signatures σ.env) (signatures (d ∷ [])) in let k = kept.terms in omega (arith, a, b, c, k, one);
-  marks = let a = length-append σ.marks (mark_at place n ∷ []) in let b = one-longer σ.env d in let k = kept.marks in omega (arith, a, b, k);
+  terms = let a = length_push σ.term_names n.text in let b = ap length (signatures-append σ.env (d ∷ [])) in let c = length-append (signatures σ.env) (signatures (d ∷ [])) in let k = kept.terms in omega (arith, a, b, c, k, one);
+  marks = let a = length-append σ.marks (mark_at place n ∷ []) in let b = length_push σ.env d in let k = kept.marks in omega (arith, a, b, k);
   legal = legal_push σ.env d kept.legal legal;
   table = name-is σ.table (record { name = n.text; term = length σ.term_names }) kept.table named (λ m has same. numbered-new 0 σ.term_names n.text new m (subst (λ xs. Contains xs m) kept.names has) same);
   names = ap (λ xs. xs ++ record { name = n.text; term = length σ.term_names } ∷ []) kept.names

@@ -79,20 +79,6 @@ module _ {X Y R : Type 0} (F : List X → List Y) (h : X → Y) (row : Y → Che
   pub rows-done : GoesOver → length xs ≤ i → Decides (each_in_order row (F (drop i xs))) whole → AllHold whole
   rows-done (over, none) past d = d.holds (subst (λ ys. AllHold (each_in_order row ys)) (sym (ap F (drop-past xs i past) ∙ none)) tt)
 
--- ---- what is made of each
-
-module _ {X Y : Type 0} (F : List X → List Y) (g : X → List Y) (xs : List X) (i : ℕ) where
-  -- F joins what is made of each
-  abbrev pub Joins : Type 0
-  Joins = ((x : X) (ys : List X) → F (x ∷ ys) ≡ g x ++ F ys) × (F [] ≡ [])
-
-  pub made-step : Joins → (made whole : List Y) (x : X) → i < length xs → x ≡ get_or xs i x → made ++ F (drop i xs) ≡ whole → (made ++ g x) ++ F (drop (i + 1) xs) ≡ whole
-  made-step (joins, none) made whole x within is so_far =
-      append_assoc made (g x) (F (drop (i + 1) xs)) ∙ ap (λ ys. made ++ ys) (sym (ap F (drop-item xs i x within is) ∙ joins x (drop (i + 1) xs))) ∙ so_far
-
-  pub made-end : Joins → (made whole : List Y) → length xs ≤ i → made ++ F (drop i xs) ≡ whole → made ≡ whole
-  made-end (joins, none) made whole past so_far = sym (append-nil made) ∙ ap (λ ys. made ++ ys) (sym (ap F (drop-past xs i past) ∙ none)) ∙ so_far
-
 -- one more is made, of the element at hand
 module _ {X Y Z : Type 0} (f : X → Y) (h : Y → Z) (xs : List X) (i : ℕ) where
   pub item-step : (x : X) → i < length xs → x ≡ get_or xs i x → (made new whole : List Z) (z : Z) → new ≡ made ++ z ∷ [] → z ≡ h (f x) → made ++ map h (map f (drop i xs)) ≡ whole
@@ -149,6 +135,10 @@ mem-before bs cs halts.Mem _ = tt
 pub mem-after : (bs cs : Checks Fault) (halt : Halt) → AllHold bs → OnFault halt (FailsFirst cs) → OnFault halt (FailsFirst (bs >> cs))
 mem-after bs cs (halts.Fault f) all fails = fails-after bs cs f all fails
 mem-after bs cs halts.Mem all _ = tt
+
+pub mem-decided : (left whole : Checks Fault) (halt : Halt) → Decides left whole → OnFault halt (FailsFirst left) → OnFault halt (FailsFirst whole)
+mem-decided left whole (halts.Fault f) d fails = d.fails f fails
+mem-decided left whole halts.Mem d _ = tt
 
 -- ---- tests
 

@@ -13,7 +13,7 @@ use Rattle.mz_notation.specs.declared.notation.Notation.{Notation}
 use Rattle.mz_notation.specs.declared.table.NoteFault.{NoteFault}
 use Rattle.mz_notation.specs.declared.table.NoteFault.TheVariants as faults
 use Rattle.mz_notation.specs.Notation.{Table, with_coercion}
-use Rattle.mz_notation.specs.Forms.{IsInfix, IsPrefix, IsGeneral, General, notation_checks, IsAnswer, AddsDelimiters, AddsNotation}
+use Rattle.mz_notation.specs.Forms.{IsInfix, IsPrefix, IsGeneral, General, coercion_checks, notation_checks, IsAnswer, AddsDelimiters, AddsNotation}
 use Rattle.mz_notation.specs.Kept.{AreVariables}
 use Rattle.mz_grammar.specs.declared.kind.Fixity.{Fixity}
 use Rattle.mz_grammar.specs.declared.refusal.Fault.{Fault}
@@ -28,11 +28,11 @@ use Rattle.mz_spec.specs.Noting.{halt_of, noting_rules}
 use Rattle.mz_variables.specs.Dependencies.{Every}
 use Rattle.mz_spec.specs.Rules.{is_level, is_known, are_others, type_checks, binder_rules, statement_checks}
 use Rattle.mz_spec.specs.Entries.{names_alone}
-use Rattle.mz_spec.specs.State.{State, variable_bytes}
+use Rattle.mz_spec.specs.State.{State, sort_number, term_number, variable_bytes}
 use Rattle.mz_variables.specs.Code.{AreParts, variable}
 use Rattle.mz_spec.specs.Declaring.{After}
 use Rattle.mz_variables.specs.declared.parts.Parts.{Parts}
-use Rattle.mz_variables.specs.View.{Variable, params_of, variables_of, group_types, names_of, literal_levels, tail_levels}
+use Rattle.mz_variables.specs.View.{Variable, alone, params_of, variables_of, group_types, names_of, literal_levels, tail_levels}
 use Rattle.mz_spec.proofs.Loops.{assoc, fails-front, judges-behind, mem-before, mem-after}
 use Rattle.mz_spec.proofs.Naming.{IsNamed}
 use Rattle.mz_spec.proofs.Places.{split-variables}
@@ -89,12 +89,11 @@ delimiter-after σ place u left right l r alone first second adds =
     (u, subst (λ o. AddsDelimiters σ.table (inner left) o u) second (subst (λ w. AddsDelimiters σ.table w r u) first adds), same-names σ u (ap names_alone (delimiters-same σ.table u l r adds) ∙ sym alone))
 
 -- a fault of the table, behind what holds
-table-halt : (place : ℕ) (t : Table) (Makes : Notation → Type 0) (fault : NoteFault) (before : Checks Fault) → AllHold before → IsAnswer {A = ℕ} (Err fault) (notation_checks t Makes)
-    → OnFault (halt_of place fault) (FailsFirst (before >> retold (at_statement place) (notation_checks t Makes)))
-table-halt place t Makes faults.Form before all is = fails-after before _ (at_statement place faults.Form) all (retold-fails (at_statement place) (notation_checks t Makes) faults.Form is)
-table-halt place t Makes faults.Clash before all is = fails-after before _ (at_statement place faults.Clash) all (retold-fails (at_statement place) (notation_checks t Makes) faults.Clash is)
-table-halt place t Makes faults.CoercionClash before all is = fails-after before _ (at_statement place faults.CoercionClash) all (retold-fails (at_statement place) (notation_checks t Makes) faults.CoercionClash is)
-table-halt place t Makes faults.Mem before all is = tt
+table-halt : (place : ℕ) (cs : Checks NoteFault) (fault : NoteFault) (before : Checks Fault) → AllHold before → IsAnswer {A = ℕ} (Err fault) cs → OnFault (halt_of place fault) (FailsFirst (before >> retold (at_statement place) cs))
+table-halt place cs faults.Form before all is = fails-after before _ (at_statement place faults.Form) all (retold-fails (at_statement place) cs faults.Form is)
+table-halt place cs faults.Clash before all is = fails-after before _ (at_statement place faults.Clash) all (retold-fails (at_statement place) cs faults.Clash is)
+table-halt place cs faults.CoercionClash before all is = fails-after before _ (at_statement place faults.CoercionClash) all (retold-fails (at_statement place) cs faults.CoercionClash is)
+table-halt place cs faults.Mem before all is = tt
 
 -- ---- operators
 
@@ -134,11 +133,48 @@ module _ (σ : State) (place : ℕ) (f : Fixity) (n c : Lexeme) (level : Level) 
 
   pub operator-fault : (A : Type 0) → (fault : NoteFault) → AllHold (is_level level) → AllHold (is_known σ.term_names n) → IsAnswer {A = ℕ} (Err fault) (notation_checks σ.table (MakesNotation σ operator))
       → JudgesStatement {A = A} (Err (halt_of place fault)) σ place operator
-  operator-fault A fault all known is = turned {A = A} (Err (halt_of place fault)) (table-halt place σ.table (MakesNotation σ operator) fault first (first-holds all known) is)
+  operator-fault A fault all known is = turned {A = A} (Err (halt_of place fault)) (table-halt place (notation_checks σ.table (MakesNotation σ operator)) fault first (first-holds all known) is)
 
   pub operator-holds : (A : Type 0) → (a : A) → AllHold (is_level level) → AllHold (is_known σ.term_names n) → AllHold (notation_checks σ.table (MakesNotation σ operator)) → JudgesStatement {A = A} (Ok a) σ place operator
   operator-holds A a all known is =
       turned {A = A} (Ok a) (all_hold-both first operator_form (first-holds all known) (retold-holds (at_statement place) (notation_checks σ.table (MakesNotation σ operator)) is))
+
+-- ---- coercions
+
+pub coercion-is : (σ : State) (n from to : Lexeme) (t a b : ℕ) → t ≡ term_number σ n → a ≡ sort_number σ (alone from) → b ≡ sort_number σ (alone to)
+    → coercion_of σ n from to ≡ record { term = t; from = a; to = b }
+coercion-is σ n from to t a b x y z =
+    let make : ℕ → ℕ → ℕ → Coercion = λ t a b. record { term = t; from = a; to = b } in
+    sym (ap (λ t. make t a b) x ∙ ap (λ a. make (term_number σ n) a b) y ∙ ap (make (term_number σ n) (sort_number σ (alone from))) z)
+
+module _ (σ : State) (place : ℕ) (n from to : Lexeme) where
+  abbrev coercion : Statement
+  coercion = coercion_statement n from to
+
+  abbrev made_checks : Checks NoteFault
+  made_checks = coercion_checks (signatures σ.env) σ.table (coercion_of σ n from to)
+
+  abbrev pub known_checks : Checks Fault
+  known_checks = is_known σ.term_names n >> (is_known σ.sort_names from >> is_known σ.sort_names to)
+
+  abbrev named : Checks Fault
+  named = known_checks >> binder_rules σ place [] []
+
+  judged-coercion : {A : Type 0} → (r : Result A Halt) → JudgesOrMem r (named >> retold (at_statement place) made_checks) → JudgesStatement r σ place coercion
+  judged-coercion r is tokens are = subst (λ ts. JudgesOrMem r (statement_checks σ place coercion ts)) (sym (no-tokens σ tokens are)) is
+
+  named-holds : AllHold known_checks → AllHold named
+  named-holds known = all_hold-both known_checks (binder_rules σ place [] []) known ((tt, tt, tt), (tt, (tt, tt)))
+
+  pub coercion-known : (A : Type 0) → (fault : Fault) → FailsFirst known_checks fault → JudgesStatement {A = A} (Err (halts.Fault fault)) σ place coercion
+  coercion-known A fault fails =
+      judged-coercion {A = A} (Err (halts.Fault fault)) (fails-before named (retold (at_statement place) made_checks) fault (fails-before known_checks (binder_rules σ place [] []) fault fails))
+
+  pub coercion-fault : (A : Type 0) → (fault : NoteFault) → AllHold known_checks → IsAnswer {A = ℕ} (Err fault) made_checks → JudgesStatement {A = A} (Err (halt_of place fault)) σ place coercion
+  coercion-fault A fault known is = judged-coercion {A = A} (Err (halt_of place fault)) (table-halt place made_checks fault named (named-holds known) is)
+
+  pub coercion-holds : (A : Type 0) → (a : A) → AllHold known_checks → AllHold made_checks → JudgesStatement {A = A} (Ok a) σ place coercion
+  coercion-holds A a known is = judged-coercion {A = A} (Ok a) (all_hold-both named (retold (at_statement place) made_checks) (named-holds known) (retold-holds (at_statement place) made_checks is))
 
 -- ---- general notations
 
@@ -206,7 +242,7 @@ module _ (σ : State) (place : ℕ) (h : Head) (t : TypeText) (ls : List Literal
       → JudgesStatement {A = A} (Err (halt_of place fault)) σ place general
   general-fault A fault all more good is =
       turned-general {A = A} (Err (halt_of place fault))
-      (mem-after level_checks (rules >> general_form) (halt_of place fault) (level-holds all more) (table-halt place σ.table (MakesNotation σ general) fault rules good is))
+      (mem-after level_checks (rules >> general_form) (halt_of place fault) (level-holds all more) (table-halt place (notation_checks σ.table (MakesNotation σ general)) fault rules good is))
 
   pub general-holds : (A : Type 0) → (a : A) → AllHold literal_checks → AllHold tail_checks → AllHold rules → AllHold (notation_checks σ.table (MakesNotation σ general)) → JudgesStatement {A = A} (Ok a) σ place general
   general-holds A a all more good is =

@@ -1,5 +1,5 @@
 -- Literals as spans of a text that grows at its end.
-use Rattle.std.proofs.Common.{◌≡◌, ◌∙◌, ◌++◌, ◌<◌, ◌≤◌, ◌+◌, ◌-◌, ℕ, zero, suc, List, [], ◌∷◌, length, map, take, drop, get_or, ap, sym, refl, subst, arith, length-append, drop-cons}
+use Rattle.std.proofs.Common.{◌≡◌, ◌∙◌, ◌++◌, ◌<◌, ◌≤◌, ◌+◌, ◌-◌, ℕ, zero, suc, List, [], ◌∷◌, length, map, take, drop, get_or, ap, sym, refl, subst, arith, length-append, drop-cons, add-one, append_assoc}
 use Rattle.mz_checks.specs.Checks.{Checks, nothing, each_in_order, ◌>>◌, AllHold, FailsFirst}
 use Rattle.mz_checks.proofs.Offered.{Decides, decides-after, fails-before}
 use Rattle.mz_notation.specs.declared.form.Literal.{Literal}
@@ -12,7 +12,7 @@ use Rattle.mz_grammar.specs.declared.statement.LiteralText.{LiteralText as Liter
 use Rattle.mz_grammar.specs.Reading.{OnFault}
 use Rattle.mz_grammar.specs.Statement.{LiteralText, constant_literal, name_literal}
 use Rattle.mz_spec.specs.Forms.{IsLiteral, AreLiterals}
-use Rattle.mz_spec.specs.Noting.{IsNumeral}
+use Rattle.mz_spec.specs.Noting.{IsNumeral, literal_size, literals_size}
 use Rattle.mz_variables.specs.Dependencies.{Every}
 use Rattle.mz_spec.specs.Rules.{is_level}
 use Rattle.mz_variables.specs.View.{literal_levels}
@@ -85,3 +85,35 @@ module _ (xs : List LiteralRead) (i : ℕ) (last : LiteralText) (whole : Checks 
   push-halt d halt within left fails =
       let at = drop-cons xs i d within in
       levels-halt whole (literal (get_or xs i d)) (map literal (drop (suc i) xs) ++ last ∷ []) halt (subst (λ ys. Decides (levels_in (map literal ys ++ last ∷ [])) whole) at left) fails
+
+  -- one literal more is read
+  module _ (d : LiteralRead) (within : i < length xs) where
+    abbrev rest : List LiteralText
+    rest = map literal (drop (i + 1) xs) ++ last ∷ []
+
+    literal-here : drop i xs ≡ get_or xs i d ∷ drop (i + 1) xs
+    literal-here = drop-cons xs i d within ∙ ap (λ k. get_or xs i d ∷ drop k xs) (sym (add-one i))
+
+    pub spans-passed : (ls : List LiteralText) → ls ++ map literal (drop i xs) ≡ map literal xs → (ls ++ literal (get_or xs i d) ∷ []) ++ map literal (drop (i + 1) xs) ≡ map literal xs
+    spans-passed ls so_far =
+        append_assoc ls (literal (get_or xs i d) ∷ []) (map literal (drop (i + 1) xs)) ∙ ap (λ ys. ls ++ map literal ys) (sym literal-here) ∙ so_far
+
+    pub numeral-here : Every IsNumeral (literal_levels (map literal (drop i xs) ++ last ∷ [])) → Every IsNumeral (literal_levels (literal (get_or xs i d) ∷ []))
+    numeral-here all = (numerals-next (literal (get_or xs i d)) rest (subst (λ ys. Every IsNumeral (literal_levels (map literal ys ++ last ∷ []))) literal-here all)).0
+
+    pub size-here : (old total most : ℕ) → old + literals_size (map literal (drop i xs) ++ last ∷ []) ≡ total → total < most → old + literal_size (literal (get_or xs i d)) < most
+    size-here old total most so_far small =
+        let now : old + (literal_size (literal (get_or xs i d)) + literals_size rest) ≡ total = subst (λ ys. old + literals_size (map literal ys ++ last ∷ []) ≡ total) literal-here so_far in
+        omega (arith, now, small)
+
+    pub numerals-passed : Every IsNumeral (literal_levels (map literal (drop i xs) ++ last ∷ [])) → Every IsNumeral (literal_levels (map literal (drop (i + 1) xs) ++ last ∷ []))
+    numerals-passed all = (numerals-next (literal (get_or xs i d)) rest (subst (λ ys. Every IsNumeral (literal_levels (map literal ys ++ last ∷ []))) literal-here all)).1
+
+    pub size-passed : (old new total : ℕ) → old + literals_size (map literal (drop i xs) ++ last ∷ []) ≡ total → new ≡ old + literal_size (literal (get_or xs i d))
+        → new + literals_size (map literal (drop (i + 1) xs) ++ last ∷ []) ≡ total
+    size-passed old new total so_far more =
+        let now : old + (literal_size (literal (get_or xs i d)) + literals_size rest) ≡ total = subst (λ ys. old + literals_size (map literal ys ++ last ∷ []) ≡ total) literal-here so_far in
+        omega (arith, now, more)
+
+    pub levels-passed : Decides (levels_in (map literal (drop i xs) ++ last ∷ [])) whole → AllHold (levels_in (literal (get_or xs i d) ∷ [])) → Decides (levels_in (map literal (drop (i + 1) xs) ++ last ∷ [])) whole
+    levels-passed left = levels-step whole (literal (get_or xs i d)) rest (subst (λ ys. Decides (levels_in (map literal ys ++ last ∷ [])) whole) literal-here left)

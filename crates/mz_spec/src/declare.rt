@@ -24,7 +24,7 @@ ghost use Rattle.mz_spec.specs.State.{result_of, scope_of, variable_bytes, with_
 ghost use Rattle.mz_variables.specs.View.{Variable as VariableLem, body, body_formulas, claim, stated_of as stated_of_lem, view};
 
 use crate::formulas::{Stated, push_group_stated, push_premise_stated};
-use crate::rules::{check_new, distinct_names, index_of};
+use crate::rules::{check_new, index_of, push_names};
 use crate::spec::Mark;
 use crate::state::State;
 use mz_grammar::{
@@ -33,7 +33,7 @@ use mz_grammar::{
 use mz_lex::S;
 use mz_logic::{Decl, Expr, Hyps, ResultType, SortMods, TermDecl, TermForm, ThmDecl, ThmForm};
 use mz_math::{Scope, Wanted};
-use mz_variables::{NameIndex, Parts, TypeAt, Variable};
+use mz_variables::{NameIndex, Names, Parts, TypeAt, Variable};
 use std::alloc::{AllocError, Global};
 
 /// The modifiers as the logic has them.
@@ -110,10 +110,10 @@ impl<'a> State<'a> {
         ensures with { OnOk result (state self.new ≡ with_term (state self.old) place (lexeme name.entry) (term_of term)) }
     {
         let number = self.notations.name_count() as u32;
+        self.env.push_decl(Decl::Term(term))?;
         let Ok(()) = self.notations.add_term_name(&self.env, name.bytes, number) else {
             return Err(Halt::Mem);
         };
-        self.env.push_decl(Decl::Term(term))?;
         self.marks.push(mark_of(name, place))?;
         Ok(())
     }
@@ -145,8 +145,22 @@ impl<'a> State<'a> {
     ) -> Result<(), Halt>
         ensures { JudgesOrMem result (variable_rules (state self.now) (map variable variables.now) (map (λ t. type_text t.ty.now) types.now)) }
     {
-        let names = distinct_names(alloc, self.hashing, variables)?;
-        self.check_types(&names, types)?;
+        let mut names = Names::new(alloc, self.hashing);
+        self.check_variables_in(&mut names, variables, types)
+    }
+
+    /// The same with room for the names.
+    fn check_variables_in(
+        &self,
+        names: &mut Names<'a>,
+        variables: &[Variable<'_, 'a>],
+        types: &[TypeAt<'_, 'a>],
+    ) -> Result<(), Halt>
+        requires none { names.old ≡ [] }
+        ensures { JudgesOrMem result (variable_rules (state self.now) (map variable variables.now) (map (λ t. type_text t.ty.now) types.now)) }
+    {
+        push_names(names, variables)?;
+        self.check_types(names, types)?;
         Ok(())
     }
 
@@ -180,10 +194,31 @@ impl<'a> State<'a> {
         ensures declares { IfOk result (λ d. Declares (state self.now) (term_lem term.now) (term_of d)) }
     {
         let index = index_of(alloc, self.hashing, parts)?;
-        self.check_parts(alloc, &index, place, parts)?;
+        self.term_over(alloc, &index, place, term, parts)
+    }
+
+    /// The same with the index of the parameters.
+    fn term_over(
+        &self,
+        alloc: Global,
+        index: &Option<NameIndex<'a>>,
+        place: u32,
+        term: &TermText<'a>,
+        parts: &Parts<'_, 'a>,
+    ) -> Result<TermDecl, Halt>
+        requires kept { IsKept (state self.now) }
+        requires few { length self.now.marks.items + 1 < 2 ^ 32 }
+        requires spelled { IsSpelled (term_lem term.now) }
+        requires new { AllHold (new_name (state self.now).term_names (lexeme term.now.head.name)) }
+        requires index { MatchOption index.now ⊤ (IsIndexOf (map variable parts.now.params.items)) }
+        requires parts { AreParts parts.now (view (term_lem term.now)).variables (view (term_lem term.now)).types (view (term_lem term.now)).result }
+        ensures judged { JudgesStatement result (state self.now) place (term_lem term.now) }
+        ensures declares { IfOk result (λ d. Declares (state self.now) (term_lem term.now) (term_of d)) }
+    {
+        self.check_parts(alloc, index, place, parts)?;
         Ok(TermDecl {
-            params: self.binders_of(alloc, &index, &parts.params, &parts.params)?,
-            result: self.result_of(alloc, &index, parts, &term.result)?,
+            params: self.binders_of(alloc, index, &parts.params, &parts.params)?,
+            result: self.result_of(alloc, index, parts, &term.result)?,
             form: TermForm::Plain,
         })
     }
@@ -256,8 +291,36 @@ impl<'a> State<'a> {
             → IsForm (state self.now) vs t (Some (lexeme math.entry)) (form f)) }
     {
         let scope = self.scope_of(alloc, index, parts)?;
-        let body = self.formula(alloc, &scope, math, Wanted::Sort(result_type.sort))?;
-        let has = self.admits_free_variables(alloc, &scope, &body, &result_type.deps)?;
+        self.body_in(alloc, index, place, parts, result_type, &scope, math)
+    }
+
+    /// The same with its variables in scope.
+    fn body_in(
+        &self,
+        alloc: Global,
+        index: &Option<NameIndex<'a>>,
+        place: u32,
+        parts: &Parts<'_, 'a>,
+        result_type: &ResultType,
+        scope: &Scope,
+        math: Lexeme<'a>,
+    ) -> Result<TermForm, Halt>
+        requires kept { IsKept (state self.now) }
+        requires few { length self.now.marks.items + 1 < 2 ^ 32 }
+        requires index { MatchOption index.now ⊤ (IsIndexOf (map variable parts.now.params.items)) }
+        requires room { length parts.now.params.items + length parts.now.dummies.items < 2 ^ 32 }
+        requires names { AreVariables (map variable_bytes (map variable parts.now.params.items) ++ map variable_bytes (map variable parts.now.dummies.items)) }
+        requires small { EndsSmall (lexeme math) }
+        requires parts { (vs : List VariableLem) × (ts : List TypeLem) × (t : TypeLem) × AreParts parts.now vs ts (t ∷ []) }
+        requires scope { (vs : List VariableLem) (types results : List TypeLem) → AreParts parts.now vs types results → scope.now ≡ scope_of (state self.now) vs }
+        ensures judged { (vs : List VariableLem) (ts : List TypeLem) (t : TypeLem) → AreParts parts.now vs ts (t ∷ []) → result_type.now ≡ result_of (state self.now) vs t
+            → (tokens : List (List Piece)) → AreTokens (state self.now) (body (lexeme math.entry) t ∷ []) tokens
+            → JudgesOrMem result (body_rules (state self.now) place vs (body (lexeme math.entry) t ∷ []) tokens) }
+        ensures form { IfOk result (λ f. (vs : List VariableLem) (ts : List TypeLem) (t : TypeLem) → AreParts parts.now vs ts (t ∷ []) → result_type.now ≡ result_of (state self.now) vs t
+            → IsForm (state self.now) vs t (Some (lexeme math.entry)) (form f)) }
+    {
+        let body = self.formula(alloc, scope, math, Wanted::Sort(result_type.sort))?;
+        let has = self.admits_free_variables(alloc, scope, &body, &result_type.deps)?;
         if !has {
             return Err(Halt::Fault(Fault {
                 at: place,
@@ -303,10 +366,31 @@ impl<'a> State<'a> {
         ensures declares { IfOk result (λ d. Declares (state self.now) (definition_lem definition.now) (term_of d)) }
     {
         let index = index_of(alloc, self.hashing, parts)?;
-        self.check_parts(alloc, &index, place, parts)?;
-        let params = self.binders_of(alloc, &index, &parts.params, &parts.params)?;
-        let result_type = self.result_of(alloc, &index, parts, &definition.result)?;
-        let form = self.form_of(alloc, &index, place, parts, &result_type, definition.body)?;
+        self.definition_over(alloc, &index, place, definition, parts)
+    }
+
+    /// The same with the index of the parameters.
+    fn definition_over(
+        &self,
+        alloc: Global,
+        index: &Option<NameIndex<'a>>,
+        place: u32,
+        definition: &DefinitionText<'a>,
+        parts: &Parts<'_, 'a>,
+    ) -> Result<TermDecl, Halt>
+        requires kept { IsKept (state self.now) }
+        requires few { length self.now.marks.items + 1 < 2 ^ 32 }
+        requires spelled { IsSpelled (definition_lem definition.now) }
+        requires new { AllHold (new_name (state self.now).term_names (lexeme definition.now.head.name)) }
+        requires index { MatchOption index.now ⊤ (IsIndexOf (map variable parts.now.params.items)) }
+        requires parts { AreParts parts.now (view (definition_lem definition.now)).variables (view (definition_lem definition.now)).types (view (definition_lem definition.now)).result }
+        ensures judged { JudgesStatement result (state self.now) place (definition_lem definition.now) }
+        ensures declares { IfOk result (λ d. Declares (state self.now) (definition_lem definition.now) (term_of d)) }
+    {
+        self.check_parts(alloc, index, place, parts)?;
+        let params = self.binders_of(alloc, index, &parts.params, &parts.params)?;
+        let result_type = self.result_of(alloc, index, parts, &definition.result)?;
+        let form = self.form_of(alloc, index, place, parts, &result_type, definition.body)?;
         Ok(TermDecl {
             params,
             result: result_type,
@@ -356,8 +440,8 @@ impl<'a> State<'a> {
             → AreHyps (state self.now) (view (assertion_lem assertion.now)).variables (stated_of_lem (head assertion.now.head).groups (map source assertion.now.premises.items)) claims.0
             × IsMeant (state self.now) (view (assertion_lem assertion.now)).variables (claim (lexeme assertion.now.conclusion)) (tree claims.1)) }
     {
-        let scope = self.scope_of(alloc, index, parts)?;
         let stated = stated_of(alloc, assertion)?;
+        let scope = self.scope_of(alloc, index, parts)?;
         self.claims_in(alloc, &scope, &stated, assertion)
     }
 
@@ -418,9 +502,30 @@ impl<'a> State<'a> {
         ensures declares { IfOk result (λ d. Declares (state self.now) (assertion_lem assertion.now) (assertion_of d)) }
     {
         let index = index_of(alloc, self.hashing, parts)?;
-        self.check_parts(alloc, &index, place, parts)?;
-        let (hyps, conclusion) = self.claims_of(alloc, &index, parts, assertion)?;
-        let params = self.binders_of(alloc, &index, &parts.params, &parts.params)?;
+        self.assertion_over(alloc, &index, place, assertion, parts)
+    }
+
+    /// The same with the index of the parameters.
+    fn assertion_over(
+        &self,
+        alloc: Global,
+        index: &Option<NameIndex<'a>>,
+        place: u32,
+        assertion: &AssertText<'a>,
+        parts: &Parts<'_, 'a>,
+    ) -> Result<ThmDecl, Halt>
+        requires kept { IsKept (state self.now) }
+        requires few { length self.now.marks.items + 1 < 2 ^ 32 }
+        requires spelled { IsSpelled (assertion_lem assertion.now) }
+        requires new { AllHold (new_name (state self.now).assertion_names (lexeme assertion.now.head.name)) }
+        requires index { MatchOption index.now ⊤ (IsIndexOf (map variable parts.now.params.items)) }
+        requires parts { AreParts parts.now (view (assertion_lem assertion.now)).variables (view (assertion_lem assertion.now)).types (view (assertion_lem assertion.now)).result }
+        ensures judged { JudgesStatement result (state self.now) place (assertion_lem assertion.now) }
+        ensures declares { IfOk result (λ d. Declares (state self.now) (assertion_lem assertion.now) (assertion_of d)) }
+    {
+        self.check_parts(alloc, index, place, parts)?;
+        let params = self.binders_of(alloc, index, &parts.params, &parts.params)?;
+        let (hyps, conclusion) = self.claims_of(alloc, index, parts, assertion)?;
         Ok(ThmDecl {
             form: thm_form(assertion.kind),
             params,
@@ -443,8 +548,8 @@ impl<'a> State<'a> {
         ensures after { OnOk result (After (state self.old) place (assertion_lem assertion.now) (state self.new)) }
     {
         let decl = self.assertion_of(alloc, place, assertion)?;
-        self.assertion_names.push(assertion.head.name.bytes)?;
         self.env.push_decl(Decl::Thm(decl))?;
+        self.assertion_names.push(assertion.head.name.bytes)?;
         self.marks.push(mark_of(assertion.head.name, place))?;
         Ok(())
     }

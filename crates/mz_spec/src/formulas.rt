@@ -2,7 +2,6 @@
 ghost use Rattle.std.specs.Prelude.{◌≡◌, ◌↔◌, ◌+◌, ◌<◌, ◌^◌, ◌++◌, ℕ, List, IfOk, IsTrue, OnOk, Contains, map};
 ghost use Rattle.mz_checks.specs.Checks.{retold};
 ghost use Rattle.mz_grammar.specs.Code.{group as group_lem, lexeme, source as source_lem};
-ghost use Rattle.mz_lex.specs.Kinds.{inside_of};
 ghost use Rattle.mz_logic.specs.Declaration.{signatures};
 ghost use Rattle.mz_logic.specs.Sorts.{HasSort};
 ghost use Rattle.mz_logic.specs.Tree.{Tree, followed_by};
@@ -18,7 +17,7 @@ ghost use Rattle.mz_spec.specs.Entries.{state};
 ghost use Rattle.mz_spec.specs.Formulas.{AreHyps, AreTokens, copies, inner as inner_lem, place_of, strings_checks, told as told_lem};
 ghost use Rattle.mz_variables.specs.Dependencies.{Every};
 ghost use Rattle.mz_spec.specs.State.{scope_of};
-ghost use Rattle.mz_variables.specs.View.{Variable, group_stated, premise_stated, stated_claim};
+ghost use Rattle.mz_variables.specs.View.{Variable, group_stated, premise_stated, source_stated, stated_claim};
 
 use crate::state::State;
 use mz_free::free_vars_are_among;
@@ -35,6 +34,21 @@ pub struct Stated<'a> {
     pub times: usize,
 }
 
+/// Adds a formula that makes so many hypotheses, where it is one.
+fn push_stated<'a>(
+    stated: &mut Vec<Stated<'a>>,
+    source: &Source<'a>,
+    times: usize,
+) -> Result<(), AllocError>
+    ensures { OnOk result (map stated_lem stated.new.items ≡ map stated_lem stated.old.items ++ source_stated times (source_lem source.now)) }
+{
+    if let Source::Formula(math) = source {
+        let formula = Stated { math: *math, times };
+        stated.push(formula)?;
+    }
+    Ok(())
+}
+
 /// Adds the formulas of groups, each of which is a hypothesis for each name.
 pub fn push_group_stated<'a>(
     stated: &mut Vec<Stated<'a>>,
@@ -43,12 +57,7 @@ pub fn push_group_stated<'a>(
     ensures { OnOk result (map stated_lem stated.new.items ≡ map stated_lem stated.old.items ++ group_stated (map group_lem groups.now)) }
 {
     for group in groups {
-        if let Source::Formula(math) = &group.source {
-            stated.push(Stated {
-                math: *math,
-                times: group.names.len(),
-            })?;
-        }
+        push_stated(stated, &group.source, group.names.len())?;
     }
     Ok(())
 }
@@ -61,13 +70,7 @@ pub fn push_premise_stated<'a>(
     ensures { OnOk result (map stated_lem stated.new.items ≡ map stated_lem stated.old.items ++ premise_stated (map source_lem premises.now)) }
 {
     for premise in premises {
-        if let Source::Formula(math) = premise {
-            let once = Stated {
-                math: *math,
-                times: 1,
-            };
-            stated.push(once)?;
-        }
+        push_stated(stated, premise, 1)?;
     }
     Ok(())
 }

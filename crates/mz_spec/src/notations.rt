@@ -19,14 +19,14 @@ ghost use Rattle.mz_variables.specs.View.{Variable as VariableLem, literal_level
 use crate::formulas::inner;
 use crate::levels::{level_of, tail_of};
 use crate::literals::Literals;
-use crate::rules::{check_known, distinct_names, index_of};
+use crate::rules::{check_known, index_of, push_names};
 use crate::state::State;
 use mz_grammar::{
     CoercionText, DelimiterText, Fault, Fixity, Halt, Lexeme, NotationText, OperatorText,
 };
 use mz_lex::S;
 use mz_math::{NoteFault, Tail};
-use mz_variables::{NameIndex, Parts, TypeAt, Variable};
+use mz_variables::{NameIndex, Names, Parts, TypeAt, Variable};
 use std::alloc::Global;
 
 impl<'a> State<'a> {
@@ -123,9 +123,24 @@ impl<'a> State<'a> {
     ) -> Result<(), Halt>
         ensures { JudgesOrMem result (named_rules (state self.now) (lexeme name.entry) (map variable variables.now) (map (λ t. type_text t.ty.now) types.now)) }
     {
-        let names = distinct_names(alloc, self.hashing, variables)?;
+        let mut names = Names::new(alloc, self.hashing);
+        self.check_names_in(&mut names, name, variables, types)
+    }
+
+    /// The same with room for the names of variables.
+    fn check_names_in(
+        &self,
+        names: &mut Names<'a>,
+        name: Lexeme<'a>,
+        variables: &[Variable<'_, 'a>],
+        types: &[TypeAt<'_, 'a>],
+    ) -> Result<(), Halt>
+        requires none { names.old ≡ [] }
+        ensures { JudgesOrMem result (named_rules (state self.now) (lexeme name.entry) (map variable variables.now) (map (λ t. type_text t.ty.now) types.now)) }
+    {
+        push_names(names, variables)?;
         self.check_known_term(name)?;
-        self.check_types(&names, types)?;
+        self.check_types(names, types)?;
         Ok(())
     }
 
@@ -170,10 +185,10 @@ impl<'a> State<'a> {
         ensures answer { IsAnswer result (notation_checks (state self.old).table (MakesNotation (state self.old) (notation_lem notation.now))) }
         ensures after { OnOk result (After (state self.old) 0 (notation_lem notation.now) (state self.new)) }
     {
-        let Ok(scope) = self.scope_of(alloc, index, parts) else {
+        let Ok(result_type) = self.result_of(alloc, index, parts, &notation.result) else {
             return Err(NoteFault::Mem);
         };
-        let Ok(result_type) = self.result_of(alloc, index, parts, &notation.result) else {
+        let Ok(scope) = self.scope_of(alloc, index, parts) else {
             return Err(NoteFault::Mem);
         };
         let term = self.term_number(notation.head.name);
@@ -229,8 +244,34 @@ impl<'a> State<'a> {
         ensures after { OnOk result (After (state self.old) place (notation_lem notation.now) (state self.new)) }
     {
         let index = index_of(alloc, self.hashing, parts)?;
-        self.check_notation(alloc, &index, place, notation.head.name, parts)?;
-        match self.note_general(alloc, &index, notation, parts, literals, tail) {
+        self.notation_over(alloc, &index, place, notation, parts, literals, tail)
+    }
+
+    /// The same with the index of the parameters.
+    fn notation_over(
+        &mut self,
+        alloc: Global,
+        index: &Option<NameIndex<'a>>,
+        place: u32,
+        notation: &NotationText<'a>,
+        parts: &Parts<'_, 'a>,
+        literals: &Literals,
+        tail: Option<Tail>,
+    ) -> Result<(), Halt>
+        requires kept { IsKept (state self.old) }
+        requires few { length self.old.marks.items + 1 < 2 ^ 32 }
+        requires spelled { IsSpelled (notation_lem notation.now) }
+        requires levels { AllHold (each_in_order is_level (literal_levels (map literal_lem notation.now.literals.items ++ literal_lem notation.now.last ∷ []))) }
+        requires tail_level { AllHold (each_in_order is_level (tail_levels (option_map tail_lem notation.now.tail))) }
+        requires index { MatchOption index.now ⊤ (IsIndexOf (map variable parts.now.params.items)) }
+        requires parts { AreParts parts.now (view (notation_lem notation.now)).variables (view (notation_lem notation.now)).types (view (notation_lem notation.now)).result }
+        requires literals { AreLiterals literals.now.text.items (map literal_lem notation.now.literals.items ++ literal_lem notation.now.last ∷ []) literals.now.spans.items }
+        requires tail { tail ≡ tail_of_lem (option_map tail_lem notation.now.tail) }
+        ensures judged { JudgesStatement result (state self.old) place (notation_lem notation.now) }
+        ensures after { OnOk result (After (state self.old) place (notation_lem notation.now) (state self.new)) }
+    {
+        self.check_notation(alloc, index, place, notation.head.name, parts)?;
+        match self.note_general(alloc, index, notation, parts, literals, tail) {
             Ok(()) => Ok(()),
             Err(fault) => Err(halt_of(place, fault)),
         }

@@ -30,8 +30,10 @@ pub fn read_spec(alloc: Global, hashing: Hashing, text: &[u8]) -> SpecRead
     ensures { IsAnswer text.now result }
 {
     let mut state = State::new(alloc, hashing);
-    match read_into(alloc, text, &mut state) {
-        Ok(()) => SpecRead::Spec(state.into_spec()),
+    let read = read_into(alloc, text, &mut state);
+    let (env, marks) = state.into_parts();
+    match read {
+        Ok(()) => SpecRead::Spec(Spec::new(env, marks)),
         Err((statement, halt)) => halted(statement, halt),
     }
 }

@@ -1,5 +1,5 @@
 // The rules of a statement on its names and binders.
-ghost use Rattle.std.specs.Prelude.{◌≡◌, ◌↔◌, ◌⊎◌, ◌≤◌, ⊤, ℕ, [], IfOk, IsTrue, List, MatchOption, Some, length, map, option_map, take};
+ghost use Rattle.std.specs.Prelude.{◌≡◌, ◌↔◌, ◌⊎◌, ◌≤◌, ◌++◌, ⊤, ℕ, [], IfOk, IsTrue, List, MatchOption, OnOk, Some, length, map, option_map, take};
 ghost use Rattle.mz_checks.specs.Checks.{Judges, each_in_order};
 ghost use Rattle.mz_logic.specs.Modifiers.{IsPure, IsStrict, IsFree};
 ghost use Rattle.mz_grammar.specs.Code.{lexeme, type_text};
@@ -8,9 +8,10 @@ ghost use Rattle.mz_variables.specs.Code.{AreGrouped, AreParts, all_of, variable
 ghost use Rattle.mz_spec.specs.Entries.{state};
 ghost use Rattle.mz_variables.specs.Index.{IsIndexOf};
 ghost use Rattle.mz_spec.specs.Kept.{IsKept};
-ghost use Rattle.mz_spec.specs.Rules.{AreBinders, DependsOnNothing, HasSortThat, HaveBinders, IsBinder, IsDummySort, IsNotPure, IsResult, are_others, binder_rules, is_known, mods_of as mods_of_lem, new_name, type_checks};
+ghost use Rattle.mz_spec.specs.Rules.{AreBinders, DependsOnNothing, HasSortThat, HaveBinders, IsBinder, IsDummySort, IsNotPure, IsResult};
+ghost use Rattle.mz_spec.specs.Rules.{are_others, binder_rules, is_known, is_other, mods_of as mods_of_lem, new_name, type_checks};
 ghost use Rattle.mz_variables.specs.Dependencies.{Every, IsBoundAmong};
-ghost use Rattle.mz_variables.specs.View.{Variable as VariableLem, names_of};
+ghost use Rattle.mz_variables.specs.View.{Variable as VariableLem, name_texts, names_of};
 ghost use Rattle.mz_grammar.specs.Statement.{TypeText as TypeLem};
 
 use crate::state::State;
@@ -56,25 +57,28 @@ fn check_all_known<'a>(names: &Names<'a>, found: &[Lexeme<'a>]) -> Result<(), Fa
     Ok(())
 }
 
-/// The names of the variables, where no two share one.
-pub fn distinct_names<'a>(
-    alloc: Global,
-    hashing: Hashing,
-    variables: &[Variable<'_, 'a>],
-) -> Result<Names<'a>, Halt>
-    ensures judged { JudgesOrMem result (are_others [] (map variable_lem variables.now)) }
-    ensures names { IfOk result (λ names. names ≡ names_of (map variable_lem variables.now)) }
+/// Adds the name of a variable, where it has one, to those before it.
+fn push_name<'a>(names: &mut Names<'a>, name: Option<Lexeme<'a>>) -> Result<(), Halt>
+    ensures judged { JudgesOrMem result (is_other names.old (option_map lexeme name.entry)) }
+    ensures names { OnOk result (names.new ≡ names.old ++ name_texts (option_map lexeme name.entry)) }
 {
-    let mut names = Names::new(alloc, hashing);
-    for variable in variables {
-        if let Some(name) = variable.name {
-            if let Err(fault) = check_new(&names, name) {
-                return Err(Halt::Fault(fault));
-            }
-            names.push(name.bytes)?;
-        }
+    if let Some(name) = name {
+        check_new(names, name)?;
+        names.push(name.bytes)?;
     }
-    Ok(names)
+    Ok(())
+}
+
+/// Adds the names of the variables, where no two share one.
+pub fn push_names<'a>(names: &mut Names<'a>, variables: &[Variable<'_, 'a>]) -> Result<(), Halt>
+    requires none { names.old ≡ [] }
+    ensures judged { JudgesOrMem result (are_others [] (map variable_lem variables.now)) }
+    ensures names { OnOk result (names.new ≡ names_of (map variable_lem variables.now)) }
+{
+    for variable in variables {
+        push_name(names, variable.name)?;
+    }
+    Ok(())
 }
 
 impl<'a> State<'a> {

@@ -1,5 +1,5 @@
 // The variables of a statement over what is declared.
-ghost use Rattle.std.specs.Prelude.{◌≡◌, ◌+◌, ◌<◌, ◌^◌, ◌++◌, ⊤, ℕ, List, Option, IfOk, MatchOption, OnOk, length, map, option_map};
+ghost use Rattle.std.specs.Prelude.{◌≡◌, ◌+◌, ◌<◌, ◌^◌, ◌++◌, ⊤, [], ℕ, List, Option, IfOk, MatchOption, OnOk, length, map, option_map};
 ghost use Rattle.mz_grammar.specs.Code.{lexeme, type_text};
 ghost use Rattle.mz_grammar.specs.Statement.{TypeText as TypeLem};
 ghost use Rattle.mz_notation.specs.Kept.{AreVariables};
@@ -81,13 +81,33 @@ impl<'a> State<'a> {
         requires grouped { AreGrouped variables.now }
         ensures { IfOk result (λ binders. binders ≡ map (binder_of_lem (state self.now) (map variable_lem params.now)) (map variable_lem variables.now)) }
     {
-        let mut found = Found::new();
         let mut binders = Vec::with_capacity(alloc, variables.len())?;
+        self.push_binders(alloc, index, &mut binders, params, variables)?;
+        Ok(Binders::from_vec(binders))
+    }
+
+    /// Adds them.
+    fn push_binders(
+        &self,
+        alloc: Global,
+        index: &Option<NameIndex<'a>>,
+        binders: &mut Vec<Binder>,
+        params: &[Variable<'_, 'a>],
+        variables: &[Variable<'_, 'a>],
+    ) -> Result<(), AllocError>
+        requires few { length (state self.now).sort_names < 2 ^ 32 }
+        requires index { MatchOption index.now ⊤ (IsIndexOf (map variable_lem params.now)) }
+        requires small { length params.now < 2 ^ 32 }
+        requires grouped { AreGrouped variables.now }
+        requires none { binders.old.items ≡ [] }
+        ensures { OnOk result (binders.new.items ≡ map (binder_of_lem (state self.now) (map variable_lem params.now)) (map variable_lem variables.now)) }
+    {
+        let mut found = Found::new();
         for variable in variables {
             let binder = self.binder_of(alloc, index, params, variable, &mut found)?;
             binders.push(binder)?;
         }
-        Ok(Binders::from_vec(binders))
+        Ok(())
     }
 
     /// The result of this type, over the statement's parameters.
@@ -193,13 +213,11 @@ fn deps_of<'a>(
     if variable.is_of(found.group) {
         return found.deps.share();
     }
-    let deps = places_among(alloc, index, params, &variable.ty.deps)?;
-    let shared = deps.share()?;
     *found = Found {
         group: variable.group,
-        deps: shared,
+        deps: places_among(alloc, index, params, &variable.ty.deps)?,
     };
-    Ok(deps)
+    found.deps.share()
 }
 
 /// The bytes of a name, none where there is none.

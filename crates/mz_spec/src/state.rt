@@ -5,9 +5,9 @@ ghost use Rattle.mz_spec.specs.Answers.{JudgesStatement};
 ghost use Rattle.mz_spec.specs.Declaring.{After};
 ghost use Rattle.mz_spec.specs.Entries.{state};
 ghost use Rattle.mz_spec.specs.Kept.{IsKept, IsSpelled};
-ghost use Rattle.mz_spec.specs.State.{entries_of, nothing};
+ghost use Rattle.mz_spec.specs.State.{nothing};
 
-use crate::spec::{Mark, Spec};
+use crate::spec::Mark;
 use mz_grammar::{Halt, Statement};
 use mz_logic::Env;
 use mz_math::Notations;
@@ -55,24 +55,34 @@ impl<'a> State<'a> {
         ensures judged { JudgesStatement result (state self.old) place (statement_lem statement.entry) }
         ensures after { OnOk result (After (state self.old) place (statement_lem statement.entry) (state self.new)) }
     {
+        self.add_read(alloc, place, &statement)
+    }
+
+    /// The same with the statement borrowed, so that it is dropped in one place.
+    fn add_read(&mut self, alloc: Global, place: u32, statement: &Statement<'a>) -> Result<(), Halt>
+        requires kept { IsKept (state self.old) }
+        requires few { length self.old.marks.items + 1 < 2 ^ 32 }
+        requires spelled { IsSpelled (statement_lem statement.now) }
+        ensures judged { JudgesStatement result (state self.old) place (statement_lem statement.now) }
+        ensures after { OnOk result (After (state self.old) place (statement_lem statement.now) (state self.new)) }
+    {
         match statement {
-            Statement::Sort { modifiers, name } => self.add_sort(place, modifiers, name),
-            Statement::Term(term) => self.add_term(alloc, place, &term),
-            Statement::Assert(assertion) => self.add_assertion(alloc, place, &assertion),
-            Statement::Definition(definition) => self.add_definition(alloc, place, &definition),
-            Statement::Operator(operator) => self.add_operator(place, operator),
-            Statement::Coercion(coercion) => self.add_coercion(place, coercion),
-            Statement::Delimiter(delimiter) => self.add_delimiter(place, delimiter),
-            Statement::Notation(notation) => self.add_notation(alloc, place, &notation),
+            Statement::Sort { modifiers, name } => self.add_sort(place, *modifiers, *name),
+            Statement::Term(term) => self.add_term(alloc, place, term),
+            Statement::Assert(assertion) => self.add_assertion(alloc, place, assertion),
+            Statement::Definition(definition) => self.add_definition(alloc, place, definition),
+            Statement::Operator(operator) => self.add_operator(place, *operator),
+            Statement::Coercion(coercion) => self.add_coercion(place, *coercion),
+            Statement::Delimiter(delimiter) => self.add_delimiter(place, *delimiter),
+            Statement::Notation(notation) => self.add_notation(alloc, place, notation),
         }
     }
 
-    /// The declarations, with their marks.
-    pub fn into_spec(self) -> Spec
-        requires kept { IsKept (state self) }
-        requires few { length self.marks.items < 2 ^ 32 }
-        ensures { result ≡ entries_of self.entry.env self.entry.marks.items }
+    /// The declarations and their marks.
+    pub fn into_parts(self) -> (Env, Vec<Mark>)
+        ensures env { result.0 ≡ self.entry.env }
+        ensures marks { result.1.items ≡ self.entry.marks.items }
     {
-        Spec::new(self.env, self.marks)
+        (self.env, self.marks)
     }
 }

@@ -1,14 +1,14 @@
 -- What is asked of a node holds where the node is a statement.
-use Rattle.std.proofs.Common.{ℕ, ◌≡◌, inl, List, [], ◌∷◌, ◌++◌, Some, None, refl, sym, ap, ◌∙◌, subst, append_assoc, append-nil}
+use Rattle.std.proofs.Common.{ℕ, ◌≡◌, inl, inr, List, [], ◌∷◌, ◌++◌, Some, None, refl, sym, ap, ◌∙◌, subst, append_assoc, append-nil}
 use Rattle.std.specs.Prelude.{unwrap_or}
-use Rattle.mz_checks.specs.Checks.{Checks, demand, AllHold}
-use Rattle.mz_checks.proofs.Offered.{all_hold-both, Decides, decides-after}
+use Rattle.mz_checks.specs.Checks.{Checks, nothing, ask, demand, ◌>>◌, AllHold, FailsFirst}
+use Rattle.mz_checks.proofs.Offered.{all_hold-both, Decides, decides-after, fails-before}
 use Rattle.mz_sexpr.specs.Node.{Node, Nodes, atom, list, no_nodes, node, word, parts, place}
 use Rattle.mz_logic.specs.Tree.{Tree, Trees}
 use Rattle.mz_sexpr.specs.declared.rule.U.{U}
 use Rattle.mz_forms.specs.declared.fault.Fault.{Fault}
 use Rattle.mz_forms.specs.declared.fault.Stop.{Stop}
-use Rattle.mz_forms.specs.declared.fault.Stop.TheVariants.{Refused}
+use Rattle.mz_forms.specs.declared.fault.Stop.TheVariants.{Refused, Mem}
 use Rattle.mz_forms.specs.Stops.{Stops}
 use Rattle.mz_names.specs.Names.{IsNew}
 use Rattle.mz_forms.specs.Name.{Scope, IsName}
@@ -84,3 +84,13 @@ module _ (m next : Modifiers) (left ns : Nodes) (n : Node) (is : left ≡ node n
 pub modifier_stops : (m : Modifiers) (n : Node) (ns : Nodes) (s : Stop) → s ≡ Refused (fault (place n) U.Form) → with_modifier m (word n) ≡ None → Stops s (modifiers_asked m (node n ns))
 modifier_stops m n ns s is none =
     subst (λ t. Stops t (modifiers_asked m (node n ns))) (sym is) (inl ((λ k. let f : None ≡ Some k.0 = sym none ∙ k.1 in cc), refl))
+
+-- the first two of three
+fails_front : (bs cs ds : Checks Fault) (f : Fault) → FailsFirst (bs >> cs) f → FailsFirst (bs >> (cs >> ds)) f
+fails_front nothing cs ds f h = fails-before cs ds f h
+fails_front (ask q P bs) cs ds f (inl out) = inl out
+fails_front (ask q P bs) cs ds f (inr h) = inr (h.0, fails_front bs cs ds f h.1)
+
+pub stops_front : (s : Stop) (bs cs ds : Checks Fault) → Stops s (bs >> cs) → Stops s (bs >> (cs >> ds))
+stops_front (Refused f) bs cs ds h = fails_front bs cs ds f h
+stops_front Mem bs cs ds h = tt

@@ -47,6 +47,19 @@ declared_asked theorem_kind at names (node x (node ps (node hs (node e (node ds 
     >> proof_asked (scope_of names (vars ++ names_of (parts ds))) (names_of (parts hs)) [] q
 declared_asked _ at names ns = never at U.Form
 
+-- the last parts of an axiom, of a definition and of a theorem
+abbrev pub plain_claims_asked : Scope → Node → Node → Checks Fault
+plain_claims_asked sc h e = expr_list_asked sc h >> expr_asked sc e
+
+abbrev pub defined_asked : Names → List (List ℕ) → Node → Node → Checks Fault
+defined_asked names vars d e = dummies_asked names vars d >> expr_asked (scope_of names (vars ++ names_of (parts d))) e
+
+abbrev pub claims_asked : Scope → Node → Node → Checks Fault
+claims_asked sc h e = hyps_asked sc h >> expr_asked sc e
+
+abbrev pub proved_asked : Names → List (List ℕ) → List (List ℕ) → Node → Node → Checks Fault
+proved_asked names vars labels d q = dummies_asked names vars d >> proof_asked (scope_of names (vars ++ names_of (parts d))) labels [] q
+
 abbrev pub local_asked : Kind → ℕ → Names → Nodes → Checks Fault
 local_asked def_kind at names ns = declared_asked def_kind at names ns
 local_asked theorem_kind at names ns = declared_asked theorem_kind at names ns

@@ -1,15 +1,16 @@
 //! Reading a statement.
-ghost use Rattle.std.specs.Prelude.{◌≡◌, ◌<◌, ◌^◌, [], Bool, IfOk, IfErr};
+ghost use Rattle.std.specs.Prelude.{◌≡◌, ◌<◌, ◌^◌, ◌+◌, [], Bool, IfOk, IfErr, OnOk, length};
+ghost use Rattle.mz_logic.specs.Tree.{none};
 ghost use Rattle.mz_logic.specs.View.{tree};
 ghost use Rattle.mz_sexpr.specs.Node.{place};
 ghost use Rattle.mz_sexpr.specs.Number.{node_count, node_at};
-ghost use Rattle.mz_forms.specs.Expressions.{IsExpr};
+ghost use Rattle.mz_forms.specs.Expressions.{AreDummies, IsExpr, IsExprList};
 ghost use Rattle.mz_forms.specs.Proofs.{IsProof};
 ghost use Rattle.mz_forms.specs.Cursor.{nodes_from, IsThere, node_size, nodes_size};
 ghost use Rattle.mz_forms.specs.Name.{scope_of};
 ghost use Rattle.mz_statements.specs.Statements.{no_modifiers, AreModifiers, IsHyp, AreNamedHyps, IsDeclared, IsLocal, IsStatement, sort_kind, term_kind, axiom_kind, def_kind, theorem_kind};
-ghost use Rattle.mz_forms.specs.Order.{expr_asked, proof_asked};
-ghost use Rattle.mz_statements.specs.Order.{modifiers_asked, hyp_asked, hyps_asked, declared_asked, local_asked, statement_asked};
+ghost use Rattle.mz_forms.specs.Order.{proof_asked};
+ghost use Rattle.mz_statements.specs.Order.{claims_asked, declared_asked, defined_asked, hyp_asked, hyps_asked, local_asked, modifiers_asked, plain_claims_asked, proved_asked, statement_asked};
 ghost use Rattle.mz_forms.specs.ScopeView.{names as names_view, scope};
 ghost use Rattle.mz_statements.specs.StatementView.{modifiers as modifiers_view, stated};
 ghost use Rattle.mz_forms.specs.Stops.{Stops};
@@ -84,6 +85,25 @@ fn hyps<'a>(
     ensures stops { IfErr result (λ stop. Stops stop (hyps_asked (scope sc.now) (node_at reader.now.nodes.now n))) }
 {
     let mut hyps = Hyps::new(reader.alloc);
+    push_hyps(reader, sc, labels, &mut hyps, n)?;
+    Ok(hyps)
+}
+
+/// Adds them.
+fn push_hyps<'a>(
+    reader: &Reader<'_, 'a>,
+    sc: &Scope<'_, 'a>,
+    labels: &mut Space<'a>,
+    hyps: &mut Hyps,
+    n: u32,
+) -> Result<(), Stop>
+    requires within { n < node_count reader.now.nodes.now }
+    requires none { labels.old ≡ [] }
+    requires no_hyps { hyps.old ≡ none }
+    requires few { node_size (node_at reader.now.nodes.now n) < 2 ^ 32 }
+    ensures read { OnOk result (AreNamedHyps (scope sc.now) (node_at reader.now.nodes.now n) hyps.new labels.new) }
+    ensures stops { IfErr result (λ stop. Stops stop (hyps_asked (scope sc.now) (node_at reader.now.nodes.now n))) }
+{
     let mut left = reader.list(n)?;
     while let Some(m) = left {
         let (name, expr) = hyp(reader, sc, labels, m)?;
@@ -91,7 +111,7 @@ fn hyps<'a>(
         hyps.push(expr, 1)?;
         left = reader.nodes.next(m);
     }
-    Ok(hyps)
+    Ok(())
 }
 
 /// What is left of `(sort N mod ..)`.
@@ -154,6 +174,28 @@ fn term<'a>(
     })
 }
 
+/// The hypotheses and the conclusion of an axiom that sees these variables.
+fn plain_claims<'a>(
+    reader: &Reader<'_, 'a>,
+    names: &Names<'a>,
+    vars: &Space<'a>,
+    hyps_at: u32,
+    conclusion_at: u32,
+) -> Result<(Hyps, Expr), Stop>
+    requires hyps_within { hyps_at < node_count reader.now.nodes.now }
+    requires conclusion_within { conclusion_at < node_count reader.now.nodes.now }
+    ensures read { IfOk result (λ p. IsExprList (scope_of (names_view names.now) vars.now) (node_at reader.now.nodes.now hyps_at) p.0
+        × IsExpr (scope_of (names_view names.now) vars.now) (node_at reader.now.nodes.now conclusion_at) (tree p.1)) }
+    ensures stops { IfErr result (λ stop. Stops stop (plain_claims_asked (scope_of (names_view names.now) vars.now)
+        (node_at reader.now.nodes.now hyps_at) (node_at reader.now.nodes.now conclusion_at))) }
+{
+    let sc = Scope { names, vars };
+    let formulas = reader.expr_list(&sc, hyps_at)?;
+    let conclusion = reader.expr(&sc, conclusion_at)?;
+    let hyps = Hyps::of_each(reader.alloc, formulas)?;
+    Ok((hyps, conclusion))
+}
+
 /// What is left of `(axiom N (binder ..) (expr ..) expr)`.
 fn axiom<'a>(
     reader: &Reader<'_, 'a>,
@@ -174,21 +216,39 @@ fn axiom<'a>(
     };
     let name = reader.new_name(&names.assertions, name)?;
     let params = reader.params(names, vars, params)?;
-    let sc = Scope { names, vars };
-    let hyps = reader.expr_list(&sc, hyps)?;
-    let conclusion = reader.expr(&sc, conclusion)?;
+    let (hyps, conclusion) = plain_claims(reader, names, vars, hyps, conclusion)?;
     let form = ThmForm::Axiom;
     Ok(Declared {
         name,
         decl: Decl::Thm(ThmDecl {
             form,
             params,
-            hyps: Hyps::of_each(reader.alloc, hyps)?,
+            hyps,
             conclusion,
         }),
         dummies: Binders::new(reader.alloc),
         proof: None,
     })
+}
+
+/// The dummies and the body of a definition that sees these variables.
+fn defined<'a>(
+    reader: &Reader<'_, 'a>,
+    names: &Names<'a>,
+    vars: &mut Space<'a>,
+    dummies_at: u32,
+    body_at: u32,
+) -> Result<(Binders, Expr), Stop>
+    requires dummies_within { dummies_at < node_count reader.now.nodes.now }
+    requires body_within { body_at < node_count reader.now.nodes.now }
+    requires few_dummies { length vars.old + node_size (node_at reader.now.nodes.now dummies_at) < 2 ^ 32 }
+    ensures read { IfOk result (λ p. AreDummies (names_view names.now) vars.old (node_at reader.now.nodes.now dummies_at) p.0 vars.new
+        × IsExpr (scope_of (names_view names.now) vars.new) (node_at reader.now.nodes.now body_at) (tree p.1)) }
+    ensures stops { IfErr result (λ stop. Stops stop (defined_asked (names_view names.now) vars.old (node_at reader.now.nodes.now dummies_at) (node_at reader.now.nodes.now body_at))) }
+{
+    let dummies = reader.dummies(names, vars, dummies_at)?;
+    let body = reader.expr(&Scope { names, vars }, body_at)?;
+    Ok((dummies, body))
 }
 
 /// What is left of `(def N (binder ..) (s (dep ..)) (dummy ..) expr)`.
@@ -212,8 +272,7 @@ fn def<'a>(
     let name = reader.new_name(&names.terms, name)?;
     let params = reader.params(names, vars, params)?;
     let result = reader.result(names, vars, result)?;
-    let dummies = reader.dummies(names, vars, dummies)?;
-    let body = reader.expr(&Scope { names, vars }, body)?;
+    let (dummies, body) = defined(reader, names, vars, dummies, body)?;
     let form = TermForm::Body { dummies, body };
     Ok(Declared {
         name,
@@ -227,35 +286,27 @@ fn def<'a>(
     })
 }
 
-/// The hypotheses of a theorem that sees these variables.
-fn hyps_over<'a>(
+/// The hypotheses and the conclusion of a theorem that sees these variables.
+fn claims<'a>(
     reader: &Reader<'_, 'a>,
     names: &Names<'a>,
     vars: &Space<'a>,
     labels: &mut Space<'a>,
-    n: u32,
-) -> Result<Hyps, Stop>
-    requires within { n < node_count reader.now.nodes.now }
+    hyps_at: u32,
+    conclusion_at: u32,
+) -> Result<(Hyps, Expr), Stop>
+    requires hyps_within { hyps_at < node_count reader.now.nodes.now }
+    requires conclusion_within { conclusion_at < node_count reader.now.nodes.now }
     requires none { labels.old ≡ [] }
-    requires few { node_size (node_at reader.now.nodes.now n) < 2 ^ 32 }
-    ensures read { IfOk result (λ es. AreNamedHyps (scope_of (names_view names.now) vars.now) (node_at reader.now.nodes.now n) es labels.new) }
-    ensures stops { IfErr result (λ stop. Stops stop (hyps_asked (scope_of (names_view names.now) vars.now) (node_at reader.now.nodes.now n))) }
+    requires few { node_size (node_at reader.now.nodes.now hyps_at) < 2 ^ 32 }
+    ensures read { IfOk result (λ p. AreNamedHyps (scope_of (names_view names.now) vars.now) (node_at reader.now.nodes.now hyps_at) p.0 labels.new
+        × IsExpr (scope_of (names_view names.now) vars.now) (node_at reader.now.nodes.now conclusion_at) (tree p.1)) }
+    ensures stops { IfErr result (λ stop. Stops stop (claims_asked (scope_of (names_view names.now) vars.now) (node_at reader.now.nodes.now hyps_at) (node_at reader.now.nodes.now conclusion_at))) }
 {
-    hyps(reader, &Scope { names, vars }, labels, n)
-}
-
-/// An expression that sees these variables.
-fn expr_over<'a>(
-    reader: &Reader<'_, 'a>,
-    names: &Names<'a>,
-    vars: &Space<'a>,
-    n: u32,
-) -> Result<Expr, Stop>
-    requires { n < node_count reader.now.nodes.now }
-    ensures read { IfOk result (λ e. IsExpr (scope_of (names_view names.now) vars.now) (node_at reader.now.nodes.now n) (tree e)) }
-    ensures stops { IfErr result (λ stop. Stops stop (expr_asked (scope_of (names_view names.now) vars.now) (node_at reader.now.nodes.now n))) }
-{
-    reader.expr(&Scope { names, vars }, n)
+    let sc = Scope { names, vars };
+    let hyps = hyps(reader, &sc, labels, hyps_at)?;
+    let conclusion = reader.expr(&sc, conclusion_at)?;
+    Ok((hyps, conclusion))
 }
 
 /// A proof that sees these variables and hypotheses, and no let yet.
@@ -273,6 +324,28 @@ fn proof_over<'a>(
 {
     let mut lets = Space::new(reader.alloc, names.hashing);
     reader.boxed_proof(&Scope { names, vars }, labels, &mut lets, n)
+}
+
+/// The dummies and the proof of a theorem that sees these variables and hypotheses.
+fn proved<'a>(
+    reader: &Reader<'_, 'a>,
+    names: &Names<'a>,
+    vars: &mut Space<'a>,
+    labels: &Space<'a>,
+    dummies_at: u32,
+    proof_at: u32,
+) -> Result<(Binders, ProofBox), Stop>
+    requires dummies_within { dummies_at < node_count reader.now.nodes.now }
+    requires proof_within { proof_at < node_count reader.now.nodes.now }
+    requires few_dummies { length vars.old + node_size (node_at reader.now.nodes.now dummies_at) < 2 ^ 32 }
+    requires few { node_size (node_at reader.now.nodes.now proof_at) < 2 ^ 32 }
+    ensures read { IfOk result (λ p. AreDummies (names_view names.now) vars.old (node_at reader.now.nodes.now dummies_at) p.0 vars.new
+        × IsProof (scope_of (names_view names.now) vars.new) labels.now [] (node_at reader.now.nodes.now proof_at) p.1) }
+    ensures stops { IfErr result (λ stop. Stops stop (proved_asked (names_view names.now) vars.old labels.now (node_at reader.now.nodes.now dummies_at) (node_at reader.now.nodes.now proof_at))) }
+{
+    let dummies = reader.dummies(names, vars, dummies_at)?;
+    let proof = proof_over(reader, names, vars, labels, proof_at)?;
+    Ok((dummies, proof))
 }
 
 /// What is left of `(theorem N (binder ..) ((h expr) ..) expr (dummy ..) proof)`.
@@ -297,10 +370,8 @@ fn theorem<'a>(
     };
     let name = reader.new_name(&names.assertions, name)?;
     let params = reader.params(names, vars, params)?;
-    let hyps = hyps_over(reader, names, vars, labels, hyps)?;
-    let conclusion = expr_over(reader, names, vars, conclusion)?;
-    let dummies = reader.dummies(names, vars, dummies)?;
-    let proof = proof_over(reader, names, vars, labels, proof)?;
+    let (hyps, conclusion) = claims(reader, names, vars, labels, hyps, conclusion)?;
+    let (dummies, proof) = proved(reader, names, vars, labels, dummies, proof)?;
     let form = ThmForm::Theorem;
     Ok(Declared {
         name,

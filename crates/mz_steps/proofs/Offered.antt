@@ -5,7 +5,7 @@ pub use Rattle.mz_steps.proofs.Naming.{deps-kept, once-more, one-name, place-at,
 pub use Rattle.mz_steps.proofs.Rightness.{sorted-forward, trees-alike, trees-more}
 pub use Rattle.mz_steps.proofs.Running.{steps-run}
 pub use Rattle.mz_steps.proofs.SameTables.{in-tables, same-signatures}
-pub use Rattle.mz_steps.proofs.Starting.{has-place, start-machine, start-right, within}
+pub use Rattle.mz_steps.proofs.Starting.{has-place, own-below, start-machine, start-right, within}
 pub use Rattle.mz_steps.proofs.Unfolds.{get-own, IsSpelledUnfolding, operand-behind, operand-front, operand-variables, spelled-unfolding}
 pub use Rattle.mz_steps.proofs.WholeBodies.{bodies-run}
 pub use Rattle.mz_steps.proofs.Reaching.{own-item-at, above-more, proofs-more}

@@ -1,12 +1,12 @@
 -- A term is looked for and put in at once.
-use Rattle.std.proofs.Common.{ℕ, ◌≡◌, ◌+◌, List, length, Option, Some, None, inl, inr, refl, ap, sym, ◌∙◌, subst}
+use Rattle.std.proofs.Common.{ℕ, ◌≡◌, ◌+◌, List, [], ◌∷◌, length, Option, Some, None, Result, Ok, Err, IfOk, OnErr, inl, inr, refl, ap, sym, ◌∙◌, subst, arith, append-nil}
 use Rattle.mz_logic.specs.Tree.{app}
 use Rattle.mz_logic.specs.Words.{TermWords, term_at, word_sort, signatures_of}
 use Rattle.mz_store.specs.Bits.{Tells, bound_vars}
-use Rattle.mz_store.specs.Sharing.{Sharing, AreIn, Holds, trees_of, IsOver, IsTold, CanTake}
-use Rattle.mz_store.specs.Nodes.{all_made, application, entered}
+use Rattle.mz_store.specs.Sharing.{Sharing, Shared, AreIn, Holds, KeepsIds, trees_of, IsOver, IsTold, CanTake}
+use Rattle.mz_store.specs.Nodes.{Made, all_made, application, entered}
 use Rattle.mz_store.specs.Prints.{print_of}
-use Rattle.mz_store.specs.Chains.{IsLast, IsNode}
+use Rattle.mz_store.specs.Chains.{IsChain, IsLast, IsNode}
 use Rattle.mz_store.specs.Kept.{shared_by, IsAdded, HasMore}
 use Rattle.mz_store.specs.Placed.{IsPlaced}
 use Rattle.mz_store.specs.declared.item.Id.{Id}
@@ -14,6 +14,7 @@ use Rattle.mz_store.specs.declared.node.Node.{Node}
 use Rattle.mz_store.specs.declared.node.Application.{Application as Term}
 use Rattle.mz_store.specs.declared.expressions.Expressions.{Expressions}
 use Rattle.mz_store.proofs.Chained.{Puts}
+use Rattle.mz_store.proofs.Growing.{entry-new, last-in}
 use Rattle.mz_store.proofs.Finding.{sought-first, sought-none}
 use Rattle.mz_store.proofs.Adding.{Keeps, term-view, add-kept, more-view, more-kept, found-holds, missing-holds}
 use Rattle.mz_store.proofs.OverTerms.{over-term}
@@ -81,6 +82,13 @@ none-holds factor e newest v t is (kept, chained) view there lacks =
     (sought-none e.operands.items e.nodes.items t is (sought-first e.operands.items e.nodes.items t is None
     (factor, chained.linked, subst (IsLast factor (all_made e.operands.items e.nodes.items) (length e.nodes.items) (print_of factor t is)) lacks (chained.last (print_of factor t is)))))
 
+-- ---- the last term with the print, that the table knows
+
+pub chain-here : (factor : ℕ) (e : Expressions) (newest : ℕ → Option Id) (t : ℕ) (is os : List Id) (nodes : List Node) (first : Option Id) (print : ℕ)
+    → Has factor e newest → os ≡ e.operands.items → nodes ≡ e.nodes.items → print ≡ print_of factor t is → first ≡ newest print → IsChain os nodes t is first
+chain-here factor e newest t is os nodes first print (_, chained) os-are nodes-are print-is first-is =
+    rw (os-are, nodes-are, first-is, print-is) (factor, chained.linked, chained.last (print_of factor t is))
+
 -- ---- what was found along the chain, or wasn't
 
 pub found-placed : (factor : ℕ) (terms : List TermWords) (e : Expressions) (newest : ℕ → Option Id) (v s' : Sharing) (t : ℕ) (is : List Id) (os : List Id) (nodes : List Node) (id : Id)
@@ -94,3 +102,33 @@ pub missing-fresh : (factor : ℕ) (e : Expressions) (newest : ℕ → Option Id
 missing-fresh factor e newest v t is os nodes (kept, _) view there os-are nodes-are lacks =
     missing-holds (shared_by e) v e.bound_count e.operands.items e.nodes.items kept view t is there None
     (λ i node. lacks i (rw (os-are, nodes-are) node))
+
+-- ---- what follows from where a term is placed
+
+module _ (terms : List TermWords) (s s' : Sharing) (t : ℕ) (is : List Id) (id : Id) where
+  pub placed-holds : IsPlaced terms s t is id s' → Holds s' id.0 (app t (trees_of s is))
+  placed-holds (inl (same, holds)) = subst (λ w. Holds w id.0 (app t (trees_of s is))) (sym same) holds
+  placed-holds (inr (sort, deps, grown, last, over)) =
+      let node : Made = record { sort = sort; deps = deps; form = application t is } in
+      rw (grown, last) (last-in s node, ap (λ (e : Shared). e.tree) (entry-new s node))
+
+  pub placed-context : IsPlaced terms s t is id s' → s'.context ≡ s.context
+  placed-context (inl (same, holds)) = ap (λ (w : Sharing). w.context) same
+  placed-context (inr (sort, deps, grown, last, over)) = ap (λ (w : Sharing). w.context) grown
+
+  pub placed-mode : IsPlaced terms s t is id s' → s'.mode ≡ s.mode
+  placed-mode (inl (same, holds)) = ap (λ (w : Sharing). w.mode) same
+  placed-mode (inr (sort, deps, grown, last, over)) = ap (λ (w : Sharing). w.mode) grown
+
+  pub placed-keeps : IsPlaced terms s t is id s' → KeepsIds s s'
+  placed-keeps (inl (same, holds)) = subst (KeepsIds s) (sym same) ([], sym (append-nil s.entries), omega arith)
+  placed-keeps (inr (sort, deps, grown, last, over)) = subst (KeepsIds s) (sym grown) (_ ∷ [], refl, omega arith)
+
+  pub placed-over : IsOver (signatures_of terms) s → IsPlaced terms s t is id s' → IsOver (signatures_of terms) s'
+  placed-over before (inl (same, holds)) = subst (IsOver (signatures_of terms)) (sym same) before
+  placed-over before (inr (sort, deps, grown, last, over)) = over
+
+-- what both answers say
+pub either-way : {A E : Type 0} (r : Result A E) (P : A → Type 0) (Q C : Type 0) → ((x : A) → P x → C) → (Q → C) → IfOk r P → OnErr r Q → C
+either-way (Ok x) P Q C placed left p q = placed x p
+either-way (Err e) P Q C placed left p q = left q

@@ -4,7 +4,7 @@ use Rattle.std.specs.Prelude.{IsTrue}
 use Rattle.std.proofs.Math.ListN.{replicate}
 use Rattle.std.proofs.lemmas.Bool.{false≢true, cases_order}
 use Rattle.std.proofs.lemmas.List.{get_or-set_same, get_or-set_other}
-use Rattle.std.proofs.lemmas.List.Elements.{Contains-append_left}
+use Rattle.std.proofs.lemmas.List.Elements.{Contains-append_left, Contains-append_right, Contains-append_cases}
 use Rattle.mz_general.proofs.Offered.{contains_none}
 use Rattle.mz_tokens.specs.Sets.{Tells}
 
@@ -42,29 +42,14 @@ mark-one t b rest within c = elim (cases_order c b) [
 
 -- ---- bytes that are put in
 
-contains_second : {A : Type 0} (xs ys : List A) (x : A) → Contains ys x → Contains (xs ++ ys) x
-contains_second [] ys x has = has
-contains_second (y ∷ xs) ys x has = later (contains_second xs ys x has)
-  where
-    later : Contains (xs ++ ys) x → Contains (y ∷ (xs ++ ys)) x
-    later (k, below, is) = (suc k, omega (arith, below), is)
-
-contains_parts : {A : Type 0} (xs ys : List A) (x : A) → Contains (xs ++ ys) x → Contains xs x ⊎ Contains ys x
-contains_parts [] ys x has = inr has
-contains_parts (y ∷ xs) ys x (zero, below, is) = inl (zero, omega arith, is)
-contains_parts (y ∷ xs) ys x (suc k, below, is) = elim (contains_parts xs ys x (k, omega (arith, below), is)) [ inl there ↦ inl (later there) | inr there ↦ inr there ]
-  where
-    later : Contains xs x → Contains (y ∷ xs) x
-    later (j, within, at) = (suc j, omega (arith, within), at)
-
 -- u has the marks of t and those of ys
 abbrev pub Adds : List Bool → List Bool → List ℕ → Type 0
 Adds t u ys = (c : ℕ) → IsTrue (get_or u c false) ↔ (IsTrue (get_or t c false) ⊎ Contains ys c)
 
 pub tells-more : (t u : List Bool) (xs ys zs : List ℕ) → Tells t xs → Adds t u ys → zs ≡ xs ++ ys → Tells u zs
 tells-more t u xs ys zs told adds is = subst (Tells u) (sym is) (λ c. (
-  λ marked. elim ((adds c).0 marked) [ inl old ↦ Contains-append_left xs ys c ((told c).0 old) | inr new_ ↦ contains_second xs ys c new_ ],
-  λ has. elim (contains_parts xs ys c has) [ inl old ↦ (adds c).1 (inl ((told c).1 old)) | inr new_ ↦ (adds c).1 (inr new_) ],
+  λ marked. elim ((adds c).0 marked) [ inl old ↦ Contains-append_left xs ys c ((told c).0 old) | inr new_ ↦ Contains-append_right xs ys c new_ ],
+  λ has. elim (Contains-append_cases xs ys c has) [ inl old ↦ (adds c).1 (inl ((told c).1 old)) | inr new_ ↦ (adds c).1 (inr new_) ],
 ))
 
 pub tells-anew : (n : ℕ) (u : List Bool) (xs zs : List ℕ) → Adds (replicate n false) u xs → zs ≡ xs → Tells u zs

@@ -6,7 +6,7 @@ use Rattle.mz_emit.specs.Lines.{limit_line}
 use Rattle.mz_restating.specs.Restated.{Unstated, deep, too_long}
 use Rattle.mz_decompile.specs.declared.decompiled.Decompiled.{Decompiled}
 use Rattle.mz_decompile.specs.declared.decompiled.Decompiled.TheVariants as answers
-use Rattle.mz_decompile.specs.Told.{decompiled_line, deep_line}
+use Rattle.mz_decompile.specs.Printed.{decompiled_line, deep_line}
 use Rattle.mz_tool.specs.Judging.{IsRefusal}
 
 -- the line of what stands against a text

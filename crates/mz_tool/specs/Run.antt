@@ -32,7 +32,7 @@ use Rattle.mz_prefix.specs.Told.{specified_line, local_line, long_line}
 use Rattle.mz_restating.specs.Restated.{Unstated}
 use Rattle.mz_restating.specs.Texts.{IsPlainText, IsUnstated}
 use Rattle.mz_decompile.specs.Decompiling.{IsTextFor}
-use Rattle.mz_decompile.specs.Told.{decompiled_line}
+use Rattle.mz_decompile.specs.Printed.{decompiled_line}
 use Rattle.mz_tool.specs.Decompiled.{unstated_line}
 use Rattle.mz_tool.specs.declared.status.Status.{Status}
 use Rattle.mz_tool.specs.declared.status.Status.TheVariants as statuses

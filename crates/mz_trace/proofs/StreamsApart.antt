@@ -1,8 +1,8 @@
 -- What a definition's command makes of the nodes that are its targets.
 use Rattle.std.proofs.Common.{◌≡◌, ℕ, true, List, [], ◌∷◌, ◌++◌, Option, Some, Ok, refl, sym, ap, subst, ◌∙◌, ◌⊎◌, inl, inr, length, append_assoc}
 use Rattle.std.specs.Prelude.{reverse, slice_get, not, ◌==◌, ◌&&◌}
-use Rattle.std.proofs.lemmas.List.{map-append, reverse-append, reverse-reverse}
-use Rattle.mz_general.proofs.Offered.{both-true, empty-list}
+use Rattle.std.proofs.lemmas.List.{map-append, reverse-append, reverse-reverse, nil_from_length}
+use Rattle.mz_general.proofs.Offered.{both-true}
 use Rattle.mz_cmd.specs.declared.rule.K.TheVariants as k
 use Rattle.mz_cmd.specs.declared.code.UnifyCode.{UnifyCode}
 use Rattle.mz_cmd.specs.declared.code.UnifyCode.TheVariants.{Term, TermSave, Ref, Dummy, Hyp}
@@ -168,7 +168,7 @@ module _ (nodes : List RunNode) (code : UnifyCode) (targets met : List ℕ) wher
   pub has-top : MayTakeApart nodes code targets met → length targets ≡ 0 → ⊥
   has-top (tables, sigs, ctx, es, st, s, h, (are, is, more), ran) none =
       let (e, rest, there) = takes-top sigs ctx st s code ran in
-      let empty : st.targets ≡ [] = is ∙ ap (λ (ns : List ℕ). expressions_at (values nodes) (reverse ns)) (empty-list targets none) in
+      let empty : st.targets ≡ [] = is ∙ ap (λ (ns : List ℕ). expressions_at (values nodes) (reverse ns)) (nil_from_length targets none) in
       let no : [] ≡ e ∷ rest = sym empty ∙ there in cc
 
   module _ (rest : List ℕ) (top : ℕ) (popped : targets ≡ rest ++ top ∷ []) where

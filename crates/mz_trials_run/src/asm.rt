@@ -1,9 +1,8 @@
 // Listings that are assembled, with the line that is told of them.
-use crate::program::words_of;
-use mz_io::{MemFolder, MemSink};
-use mz_tool::{Seed, Status, run};
+use crate::expect::expect_of;
+use crate::program::{ended, folder_of};
+use mz_tool::Status;
 use std::process::Abort;
-use std::test::Fail;
 
 /// Listings, and the line that is told of each.
 const TEXTS: &[(&str, &str)] = &[
@@ -72,27 +71,23 @@ const TEXTS: &[(&str, &str)] = &[
 ];
 
 /// Runs `assemble` over a listing, and compares what it writes.
-fn expect_told(rt: &(impl Abort + AllocGlobal), listing: &str, line: &str) -> Result<(), Fail> {
-    let alloc = rt.alloc();
-    let mut folder = MemFolder::new(alloc);
-    folder.add("list", listing.as_bytes())?;
-    folder.room("out", 4096)?;
-    let mut out = MemSink::new(alloc, 200)?;
-    let words = words_of(alloc, "assemble list out")?;
-    let status = run(alloc, Seed::FIXED, &words, &mut folder, &mut out);
+fn expect_told(rt: &(impl Abort + AllocGlobal), listing: &str, line: &str) {
+    let mut folder = folder_of(rt, &[("list", listing.as_bytes())]);
+    folder.room("out", 4096).expect(rt, "memory");
+    let (status, out) = ended(rt, "assemble list out", &mut folder, 200);
     let is_done = line.as_bytes().starts_with(b"assembled: ");
-    assert!(rt; out.bytes() == line.as_bytes(), "the line for {listing}");
-    assert!(rt;
+    expect_of(rt, out.bytes() == line.as_bytes(), "the line", listing);
+    expect_of(
+        rt,
         (status == Status::Done) == is_done,
-        "the status for {listing}"
+        "the status",
+        listing,
     );
-    Ok(())
 }
 
 #[test]
-fn told_lines(rt: HostRuntime) -> Result<(), Fail> {
+fn told_lines(rt: HostRuntime) {
     for (listing, line) in TEXTS {
-        expect_told(&rt, listing, line)?;
+        expect_told(&rt, listing, line);
     }
-    Ok(())
 }

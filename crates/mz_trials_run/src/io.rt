@@ -1,12 +1,13 @@
 //! Each call with ample memory, the limit of a read, failing calls one by one, and the adapters.
+use crate::expect::expect_that;
 use crate::program::files::ONE;
+use crate::program::folder_of;
 use mz_io::{
     DiskFolder, Failed, Folder, MemFolder, MemSink, Read, Sink, StdSink, read_bounded, write_whole,
 };
-use std::alloc::Global;
+use std::alloc::{AllocError, Global};
 use std::fs;
 use std::process::Abort;
-use std::test::Fail;
 
 const TEXT: &[u8] = b"accepted: 1 sorts";
 
@@ -21,7 +22,7 @@ fn shown(read: &Read) -> (&str, &[u8]) {
 }
 
 /// The bytes 0, 1, 2 and so on, so many of them.
-fn counting(alloc: Global, len: u64) -> Result<Vec<u8>, Fail> {
+fn counting(alloc: Global, len: u64) -> Result<Vec<u8>, AllocError> {
     let mut bytes = Vec::new(alloc);
     for i in 0..len {
         bytes.push((i % 251) as u8)?;
@@ -47,59 +48,78 @@ const LIMITS: &[(u64, u64, &str)] = &[
     (2500, 2500, "bytes"),
 ];
 
+/// Reads a file under a limit, and compares how this ends.
+fn expect_read(
+    rt: &(impl Abort + AllocGlobal),
+    folder: &mut impl Folder,
+    name: &str,
+    limit: u64,
+    word: &str,
+    bytes: &[u8],
+) {
+    let read = read_bounded(rt.alloc(), folder, name, limit);
+    assert!(rt;
+        shown(&read) == (word, bytes),
+        "{name} at the limit {limit}"
+    );
+}
+
+/// Reads a file of so many bytes under a limit.
+fn expect_limit(rt: &(impl Abort + AllocGlobal), len: u64, limit: u64, word: &str) {
+    let bytes = counting(rt.alloc(), len).expect(rt, "memory");
+    let mut folder = folder_of(rt, &[("other", b"another file"), ("file", &bytes)]);
+    let wanted = if word == "bytes" {
+        bytes.as_slice()
+    } else {
+        b""
+    };
+    expect_read(rt, &mut folder, "file", limit, word, wanted);
+    assert_file(rt, &folder, "file", &bytes);
+}
+
 #[test]
-fn a_whole_file_comes_exactly_up_to_the_limit(rt: HostRuntime) -> Result<(), Fail> {
+fn a_whole_file_comes_exactly_up_to_the_limit(rt: HostRuntime) {
     for (len, limit, word) in LIMITS {
-        let bytes = counting(rt.alloc(), *len)?;
-        let mut folder = MemFolder::new(rt.alloc());
-        folder.add("other", b"another file")?;
-        folder.add("file", &bytes)?;
-        let read = read_bounded(rt.alloc(), &mut folder, "file", *limit);
-        let wanted = if *word == "bytes" {
-            bytes.as_slice()
-        } else {
-            b""
-        };
-        assert!(rt;
-            shown(&read) == (*word, wanted),
-            "{len} bytes at the limit {limit}"
-        );
-        assert_file(&rt, &folder, "file", &bytes);
+        expect_limit(&rt, *len, *limit, word);
     }
-    Ok(())
 }
 
 /// How many bytes of the smallest binary may be read, and how the read ends. It has 51.
 const LIMITS_OF_ONE: &[(u64, &str, &[u8])] = &[(50, "too long", b""), (51, "bytes", ONE)];
 
 #[test]
-fn the_smallest_binary_is_read_up_to_its_length(rt: HostRuntime) -> Result<(), Fail> {
-    let mut folder = MemFolder::new(rt.alloc());
-    folder.add("bin", ONE)?;
+fn the_smallest_binary_is_read_up_to_its_length(rt: HostRuntime) {
+    let mut folder = folder_of(&rt, &[("bin", ONE)]);
     for (limit, word, bytes) in LIMITS_OF_ONE {
-        let read = read_bounded(rt.alloc(), &mut folder, "bin", *limit);
-        assert!(rt; shown(&read) == (*word, *bytes), "the limit {limit}");
+        expect_read(&rt, &mut folder, "bin", *limit, word, bytes);
     }
-    Ok(())
+}
+
+/// Reads a file of these bytes from a folder whose call of this number fails.
+fn expect_failing(rt: &(impl Abort + AllocGlobal), bytes: &[u8], call: u64) {
+    let mut folder = folder_of(rt, &[("file", bytes)]);
+    folder.fail_call(call).expect(rt, "memory");
+    let read = read_bounded(rt.alloc(), &mut folder, "file", 4000);
+    let word = if call <= 5 { "fault" } else { "bytes" };
+    assert!(rt; shown(&read).0 == word, "where call {call} fails");
+    assert_file(rt, &folder, "file", bytes);
 }
 
 #[test]
-fn a_failing_start_or_pull_is_a_fault(rt: HostRuntime) -> Result<(), Fail> {
+fn a_failing_start_or_pull_is_a_fault(rt: HostRuntime) {
     // One start, two whole pulls, one of 452 bytes, and one at the end.
-    let bytes = counting(rt.alloc(), 2500)?;
+    let bytes = counting(rt.alloc(), 2500).expect(&rt, "memory");
     for call in 1..8u64 {
-        let mut folder = MemFolder::new(rt.alloc());
-        folder.add("file", &bytes)?;
-        folder.fail_call(call)?;
-        let read = read_bounded(rt.alloc(), &mut folder, "file", 4000);
-        let word = if call <= 5 { "fault" } else { "bytes" };
-        assert!(rt; shown(&read).0 == word, "where call {call} fails");
-        assert_file(&rt, &folder, "file", &bytes);
+        expect_failing(&rt, &bytes, call);
     }
     let mut folder = MemFolder::new(rt.alloc());
-    let read = read_bounded(rt.alloc(), &mut folder, "file", 4000);
-    assert!(rt; shown(&read).0 == "fault", "a name that isn't there");
-    Ok(())
+    expect_read(&rt, &mut folder, "file", 4000, "fault", b"");
+}
+
+/// Puts a file, and compares whether this succeeds.
+fn expect_put(rt: &impl Abort, folder: &mut impl Folder, name: &str, bytes: &[u8], succeeds: bool) {
+    let is_put = folder.put(name, bytes).is_ok();
+    assert!(rt; is_put == succeeds, "{name} is put");
 }
 
 /// What is put, and whether it succeeds; the last call is listed to fail.
@@ -113,31 +133,37 @@ const PUTS: &[(&[u8], bool)] = &[
     (b"", false),
 ];
 
-#[test]
-fn a_put_uses_up_the_first_room_that_holds_it(rt: HostRuntime) -> Result<(), Fail> {
-    let mut folder = MemFolder::new(rt.alloc());
-    folder.add("file", b"as it was")?;
-    folder.room("file", 2)?;
-    folder.room("other", 9)?;
-    folder.room("file", 6)?;
-    folder.room("file", 4)?;
-    folder.fail_call(7)?;
+/// A folder with a file, rooms, and the seventh call that fails.
+fn folder_with_rooms(rt: &(impl Abort + AllocGlobal)) -> MemFolder {
+    let mut folder = folder_of(rt, &[("file", b"as it was")]);
+    folder.room("file", 2).expect(rt, "memory");
+    folder.room("other", 9).expect(rt, "memory");
+    folder.room("file", 6).expect(rt, "memory");
+    folder.room("file", 4).expect(rt, "memory");
+    folder.fail_call(7).expect(rt, "memory");
+    folder
+}
+
+/// Puts one after another, and compares what the file holds.
+fn expect_puts(rt: &impl Abort, folder: &mut MemFolder) {
     let mut held: &[u8] = b"as it was";
     for (bytes, succeeds) in PUTS {
-        assert!(rt;
-            folder.put("file", bytes).is_ok() == *succeeds,
-            "{} bytes",
-            bytes.len()
-        );
+        expect_put(rt, folder, "file", bytes, *succeeds);
         if *succeeds {
             held = bytes;
         }
-        assert_file(&rt, &folder, "file", held);
+        assert_file(rt, folder, "file", held);
     }
-    assert!(rt; folder.put("other", TEXT).is_err(), "no room of that size");
-    assert!(rt; folder.put("other", b"").is_ok(), "a room of another name");
-    assert!(rt; folder.file("third").is_none(), "no such file");
-    Ok(())
+}
+
+#[test]
+fn a_put_uses_up_the_first_room_that_holds_it(rt: HostRuntime) {
+    let mut folder = folder_with_rooms(&rt);
+    expect_puts(&rt, &mut folder);
+    // No room of that size, and one of another name.
+    expect_put(&rt, &mut folder, "other", TEXT, false);
+    expect_put(&rt, &mut folder, "other", b"", true);
+    expect_that(&rt, folder.file("third").is_none(), "no such file");
 }
 
 /// The room, how much a call takes, the call that fails (0: none), and how much is written.
@@ -153,76 +179,106 @@ const WRITES: &[(u64, u64, u64, usize)] = &[
     (0, 100, 0, 0),
 ];
 
+/// Whether the text is written whole to a sink of this room that takes so much at a time, and whose call of
+/// this number fails, and the sink after it.
+fn written(rt: &(impl Abort + AllocGlobal), room: u64, most: u64, fails: u64) -> (bool, MemSink) {
+    assert!(rt; most > 0, "a call takes something");
+    let mut out = MemSink::new(rt.alloc(), room).expect(rt, "memory");
+    out.take_at_most(most);
+    out.fail_call(fails).expect(rt, "memory");
+    let is_whole = write_whole(&mut out, TEXT).is_ok();
+    (is_whole, out)
+}
+
+fn expect_written(rt: &(impl Abort + AllocGlobal), room: u64, most: u64, fails: u64, count: usize) {
+    let (is_whole, out) = written(rt, room, most, fails);
+    let is_front = TEXT.get(..count) == Some(out.bytes());
+    assert!(rt;
+        is_whole == (count == 17) && is_front,
+        "{room} {most} {fails}"
+    );
+}
+
 #[test]
-fn a_text_is_written_whole_or_as_a_prefix(rt: HostRuntime) -> Result<(), Fail> {
+fn a_text_is_written_whole_or_as_a_prefix(rt: HostRuntime) {
     for (room, most, fails, written) in WRITES {
-        let mut out = MemSink::new(rt.alloc(), *room)?;
-        out.take_at_most(*most);
-        out.fail_call(*fails)?;
-        let whole = write_whole(&mut out, TEXT).is_ok();
-        assert_eq!(rt; whole, *written == 17, "{room} {most} {fails}");
-        let front = TEXT.iter().take(*written);
-        assert!(rt; out.bytes().iter().eq(front), "{room} {most} {fails}");
+        expect_written(&rt, *room, *most, *fails, *written);
     }
-    Ok(())
 }
 
 #[test]
-fn a_text_is_written_in_several_pieces(rt: HostRuntime) -> Result<(), Fail> {
-    let mut out = MemSink::new(rt.alloc(), 20)?;
+fn a_text_is_written_in_several_pieces(rt: HostRuntime) {
+    let mut out = MemSink::new(rt.alloc(), 20).expect(&rt, "memory");
     for piece in [&TEXT[..9], &TEXT[9..9], &TEXT[9..]] {
-        assert_eq!(rt; write_whole(&mut out, piece), Ok(()));
+        expect_that(&rt, write_whole(&mut out, piece) == Ok(()), "a piece");
     }
-    assert!(rt; out.bytes() == TEXT, "the pieces together");
-    assert_eq!(rt; write_whole(&mut out, b"four"), Err(Failed));
-    assert_eq!(rt; out.bytes().len(), 20);
-    Ok(())
+    expect_that(&rt, out.bytes() == TEXT, "the pieces together");
+    expect_that(
+        &rt,
+        write_whole(&mut out, b"four") == Err(Failed),
+        "too much",
+    );
+    expect_that(&rt, out.bytes().len() == 20, "as much as there is room");
+}
+
+const FILE: &str = "mz_io_folder_test";
+
+/// Starts to read a file, and compares whether this succeeds.
+fn expect_started(rt: &impl Abort, folder: &mut impl Folder, name: &str, succeeds: bool) {
+    let is_started = folder.start(name).is_ok();
+    assert!(rt; is_started == succeeds, "{name} is started");
+}
+
+/// The file that is put is there, whole, until another is put in its place.
+fn expect_kept(rt: &(impl Abort + AllocGlobal), folder: &mut impl Folder, bytes: &[u8]) {
+    expect_put(rt, folder, FILE, bytes, true);
+    expect_read(rt, folder, FILE, 2499, "too long", b"");
+    expect_read(rt, folder, FILE, 2500, "bytes", bytes);
+    expect_put(rt, folder, FILE, b"short", true);
+    let pulled = folder.pull(&mut [0; 8]);
+    expect_that(rt, pulled == Ok(0), "nothing is being read");
+    expect_read(rt, folder, FILE, 2500, "bytes", b"short");
+    // Nothing is left beside it.
+    expect_started(rt, folder, "mz_io_folder_test.part0", false);
+    // What is no file is written as it stands.
+    expect_put(rt, folder, "/dev/null", b"short", true);
+}
+
+/// The file is gone; a folder is started, but not read; and there is no other folder.
+fn expect_gone(rt: &impl Abort, folder: &mut impl Folder) {
+    expect_started(rt, folder, FILE, false);
+    expect_started(rt, folder, ".", true);
+    let pulled = folder.pull(&mut [0; 8]);
+    expect_that(rt, pulled == Err(Failed), "a folder isn't read");
+    expect_put(rt, folder, "mz_io_no_folder/file", b"short", false);
 }
 
 #[test]
-fn files_of_the_system(rt: HostRuntime) -> Result<(), Fail> {
-    const FILE: &str = "mz_io_folder_test";
-    let bytes = counting(rt.alloc(), 2500)?;
+fn files_of_the_system(rt: HostRuntime) {
+    let bytes = counting(rt.alloc(), 2500).expect(&rt, "memory");
     let mut folder = DiskFolder::new(&rt);
-    assert_eq!(rt; folder.put(FILE, &bytes), Ok(()));
-    let read = read_bounded(rt.alloc(), &mut folder, FILE, 2499);
-    assert!(rt;
-        shown(&read).0 == "too long",
-        "one byte more than the limit"
-    );
-    let read = read_bounded(rt.alloc(), &mut folder, FILE, 2500);
-    assert!(rt; shown(&read) == ("bytes", bytes.as_slice()), "what was put");
-    assert_eq!(rt; folder.put(FILE, b"short"), Ok(()));
-    assert_eq!(rt; folder.pull(&mut [0; 8]), Ok(0));
-    let read = read_bounded(rt.alloc(), &mut folder, FILE, 2500);
-    assert!(rt;
-        shown(&read) == ("bytes", b"short".as_slice()),
-        "in place of what was there"
-    );
-    assert!(rt;
-        folder.start("mz_io_folder_test.part0") == Err(Failed),
-        "nothing is left beside it"
-    );
-    assert_eq!(rt; folder.put("/dev/null", b"short"), Ok(()));
-    fs::remove_file(&rt, FILE)?;
-    assert_eq!(rt; folder.start(FILE), Err(Failed));
-    assert_eq!(rt; folder.start("."), Ok(()));
-    assert_eq!(rt; folder.pull(&mut [0; 8]), Err(Failed));
-    assert_eq!(rt; folder.put("mz_io_no_folder/file", b"short"), Err(Failed));
-    Ok(())
+    expect_kept(&rt, &mut folder, &bytes);
+    fs::remove_file(&rt, FILE).expect(&rt, "the file is there");
+    expect_gone(&rt, &mut folder);
+}
+
+const STREAM: &str = "mz_io_stream_test";
+
+/// Writes the text to a stream, and then nothing.
+fn expect_taken(rt: &impl Abort, out: &mut impl Sink) {
+    expect_that(rt, write_whole(out, TEXT) == Ok(()), "it is written");
+    expect_that(rt, out.write(b"") == Ok(0), "nothing");
 }
 
 #[test]
-fn streams_of_the_system(rt: HostRuntime) -> Result<(), Fail> {
-    const FILE: &str = "mz_io_stream_test";
-    let mut out = StdSink::new(fs::create(&rt, FILE)?);
-    assert_eq!(rt; write_whole(&mut out, TEXT), Ok(()));
-    assert_eq!(rt; out.write(b""), Ok(0));
-    let text = fs::read_to_string(&rt, FILE)?;
-    assert!(rt; text.as_bytes() == TEXT, "what was written");
+fn streams_of_the_system(rt: HostRuntime) {
+    let mut out = StdSink::new(fs::create(&rt, STREAM).expect(&rt, "a new file"));
+    expect_taken(&rt, &mut out);
+    let text = fs::read_to_string(&rt, STREAM).expect(&rt, "the file");
+    expect_that(&rt, text.as_bytes() == TEXT, "what was written");
     // A file that was opened to be read takes nothing.
-    let mut closed = StdSink::new(fs::open(&rt, FILE)?);
-    assert_eq!(rt; closed.write(b"more"), Err(Failed));
-    fs::remove_file(&rt, FILE)?;
-    Ok(())
+    let mut closed = StdSink::new(fs::open(&rt, STREAM).expect(&rt, "the file"));
+    let more = closed.write(b"more");
+    expect_that(&rt, more == Err(Failed), "a file that is read");
+    fs::remove_file(&rt, STREAM).expect(&rt, "the file is there");
 }

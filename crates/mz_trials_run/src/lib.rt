@@ -5,6 +5,8 @@
 #[cfg(test)]
 mod asm;
 #[cfg(test)]
+mod expect;
+#[cfg(test)]
 mod io;
 #[cfg(test)]
 mod program;

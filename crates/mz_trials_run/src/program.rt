@@ -16,12 +16,12 @@ mod portable;
 mod resting;
 mod worked;
 
+use crate::expect::expect_of;
 use change::{Change, changed};
 use mz_io::{MemFolder, MemSink};
 use mz_tool::{Seed, Status, run};
 use std::alloc::{AllocError, Global};
 use std::process::Abort;
-use std::test::Fail;
 
 /// Changes of a file, the line that is told of it then, and what this shows.
 pub type Case = (&'static [Change], &'static str, &'static str);
@@ -35,6 +35,28 @@ pub fn words_of(alloc: Global, line: &str) -> Result<Vec<String>, AllocError> {
     Ok(words)
 }
 
+/// A folder of these files.
+pub fn folder_of(rt: &(impl Abort + AllocGlobal), files: &[(&str, &[u8])]) -> MemFolder {
+    let mut folder = MemFolder::new(rt.alloc());
+    for (name, bytes) in files {
+        folder.add(name, bytes).expect(rt, "memory");
+    }
+    folder
+}
+
+/// How a command over the folder ends, and what it writes to a sink of this room.
+pub fn ended(
+    rt: &(impl Abort + AllocGlobal),
+    line: &str,
+    folder: &mut MemFolder,
+    room: u64,
+) -> (Status, MemSink) {
+    let words = words_of(rt.alloc(), line).expect(rt, "memory");
+    let mut out = MemSink::new(rt.alloc(), room).expect(rt, "memory");
+    let status = run(rt.alloc(), Seed::FIXED, &words, folder, &mut out);
+    (status, out)
+}
+
 /// Runs a command over the files `spec` and `bin`, and compares what it writes and how it ends.
 pub fn expect(
     rt: &(impl Abort + AllocGlobal),
@@ -44,22 +66,11 @@ pub fn expect(
     status: Status,
     text: &[u8],
     what: &str,
-) -> Result<(), Fail> {
-    let alloc = rt.alloc();
-    let mut folder = MemFolder::new(alloc);
-    folder.add("spec", spec)?;
-    folder.add("bin", bin)?;
-    let mut out = MemSink::new(alloc, 4096)?;
-    let ended = run(
-        alloc,
-        Seed::FIXED,
-        &words_of(alloc, line)?,
-        &mut folder,
-        &mut out,
-    );
-    assert!(rt; out.bytes() == text, "the text for {what}");
-    assert!(rt; ended == status, "the status for {what}");
-    Ok(())
+) {
+    let mut folder = folder_of(rt, &[("spec", spec), ("bin", bin)]);
+    let (found, out) = ended(rt, line, &mut folder, 4096);
+    expect_of(rt, out.bytes() == text, "the text", what);
+    expect_of(rt, found == status, "the status", what);
 }
 
 /// The commands that say the same of a pair that is refused.
@@ -77,6 +88,19 @@ fn without_gaps(alloc: Global, accepted: &str) -> Result<String, AllocError> {
     format!(in alloc; "draft: 0 of {theorems} theorems rest on a gap\n")
 }
 
+fn expect_accepted(
+    rt: &(impl Abort + AllocGlobal),
+    spec: &[u8],
+    bin: &[u8],
+    line: &str,
+    text: &[u8],
+    what: &str,
+) {
+    expect(rt, "verify spec bin", spec, bin, Status::Done, text, what);
+    let told = without_gaps(rt.alloc(), line).expect(rt, "memory");
+    expect(rt, DRAFT, spec, bin, Status::Done, told.as_bytes(), what);
+}
+
 /// Verifies a binary against a specification, and compares the line and the status. Where it is refused,
 /// `axioms` says the same, and so does `draft`, but of a Sorry, which may stand in a draft.
 pub fn expect_verdict(
@@ -85,33 +109,25 @@ pub fn expect_verdict(
     bin: &[u8],
     line: &str,
     what: &str,
-) -> Result<(), Fail> {
-    let text = format!(in rt.alloc(); "{line}\n")?;
+) {
+    let text = format!(in rt.alloc(); "{line}\n").expect(rt, "memory");
     let text = text.as_bytes();
     if line.as_bytes().starts_with(b"accepted: ") {
-        expect(rt, "verify spec bin", spec, bin, Status::Done, text, what)?;
-        let told = without_gaps(rt.alloc(), line)?;
-        return expect(rt, DRAFT, spec, bin, Status::Done, told.as_bytes(), what);
+        expect_accepted(rt, spec, bin, line, text, what);
+        return;
     }
     for command in REFUSING {
-        expect(rt, command, spec, bin, Status::Refused, text, what)?;
+        expect(rt, command, spec, bin, Status::Refused, text, what);
     }
-    if line.as_bytes().ends_with(b" sorry") {
-        return Ok(());
+    if !line.as_bytes().ends_with(b" sorry") {
+        expect(rt, DRAFT, spec, bin, Status::Refused, text, what);
     }
-    expect(rt, DRAFT, spec, bin, Status::Refused, text, what)
 }
 
 /// Verifies changes of one file against one specification.
-pub fn expect_cases(
-    rt: &(impl Abort + AllocGlobal),
-    spec: &str,
-    base: &[u8],
-    cases: &[Case],
-) -> Result<(), Fail> {
+pub fn expect_cases(rt: &(impl Abort + AllocGlobal), spec: &str, base: &[u8], cases: &[Case]) {
     for (changes, line, what) in cases {
-        let bin = changed(rt.alloc(), base, changes)?;
-        expect_verdict(rt, spec.as_bytes(), &bin, line, what)?;
+        let bin = changed(rt, base, changes);
+        expect_verdict(rt, spec.as_bytes(), &bin, line, what);
     }
-    Ok(())
 }

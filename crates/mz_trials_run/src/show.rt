@@ -3,19 +3,18 @@ use crate::program::files::DUMMY;
 use crate::program::listings::DUMMY_LISTING;
 use mz_io::MemSink;
 use mz_show::{Shown, listing};
-use std::alloc::{AllocError, Global};
-use std::test::Fail;
+use std::process::Abort;
 
 /// How the listing of a file with a dummy ends, and what is written, in a sink of this room that takes so
 /// much at a time, and whose call of this number fails.
-fn listed(alloc: Global, room: u64, most: u64, fails: u64) -> Result<(Shown, MemSink), AllocError> {
-    let mut out = MemSink::new(alloc, room)?;
+fn listed(rt: &(impl Abort + AllocGlobal), room: u64, most: u64, fails: u64) -> (Shown, MemSink) {
+    let mut out = MemSink::new(rt.alloc(), room).expect(rt, "memory");
     if most > 0 {
         out.take_at_most(most);
     }
-    out.fail_call(fails)?;
-    let shown = listing(alloc, DUMMY, &mut out);
-    Ok((shown, out))
+    out.fail_call(fails).expect(rt, "memory");
+    let shown = listing(rt.alloc(), DUMMY, &mut out);
+    (shown, out)
 }
 
 /// Sinks, and how much of the listing they hold in the end.
@@ -26,11 +25,10 @@ const SINKS: &[(u64, u64, u64, Shown, &str)] = &[
 ];
 
 #[test]
-fn small_sinks(rt: HostRuntime) -> Result<(), Fail> {
+fn small_sinks(rt: HostRuntime) {
     for (room, most, fails, wanted, text) in SINKS {
-        let (shown, out) = listed(rt.alloc(), *room, *most, *fails)?;
-        assert_eq!(rt; shown, *wanted, "room for {room}");
-        assert_eq!(rt; out.bytes(), text.as_bytes(), "room for {room}");
+        let (shown, out) = listed(&rt, *room, *most, *fails);
+        assert!(rt; shown == *wanted, "room for {room}");
+        assert!(rt; out.bytes() == text.as_bytes(), "room for {room}");
     }
-    Ok(())
 }

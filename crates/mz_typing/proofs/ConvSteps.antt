@@ -18,7 +18,7 @@ use Rattle.mz_forms.specs.declared.fault.Stop.{Stop}
 use Rattle.mz_forms.specs.ConvView.{conversion, conversions}
 use Rattle.mz_forms.specs.declared.conv.Conv.{Conv}
 use Rattle.mz_typing.specs.Answers.{Judged}
-use Rattle.mz_typing.specs.Names.{ConvsThere}
+use Rattle.mz_typing.specs.Names.{ConvThere, ConvsThere}
 use Rattle.mz_typing.specs.Parts.{part}
 use Rattle.mz_typing.specs.Rules.{operand_rules, exprs_rules, variable_rules, unfold_rules, conv_rules, convs_rules, side_rules, conv_count, AreNew}
 use Rattle.mz_typing.specs.Sides.{left, term_at}
@@ -119,3 +119,11 @@ convs_rules_cut env ctx xs i c below is ns = ap (λ cs. convs_rules env ctx cs n
 pub convs_there_cut : (ts n : ℕ) (xs : List Conv) (i : ℕ) (c : Conv) → i < length xs → c ≡ get_or xs i c → ConvsThere ts n (conversions (drop i xs))
     → ConvsThere ts n (conversions (drop (i + 1) xs))
 convs_there_cut ts n xs i c below is there = (subst (ConvsThere ts n) (convs_cut xs i c below is) there).1
+
+-- what is asked and told of a conversion is asked and told of an equal one
+module _ {c d : Conversion} (is : d ≡ c) where
+  pub there_as : (ts n : ℕ) → ConvThere ts n d → ConvThere ts n c
+  there_as ts n = subst (ConvThere ts n) is
+
+  pub judged_as : {A : Type 0} (r : Result A Stop) (env : List Declaration) (ctx : List Binder) (n : Node) → Judged r (conv_rules env ctx c n) → Judged r (conv_rules env ctx d n)
+  judged_as r env ctx n = subst (λ x. Judged r (conv_rules env ctx x n)) (sym is)

@@ -5,6 +5,7 @@ pub mod Steps
 pub mod Building
 mod Differing
 pub mod Claims
+pub mod ClaimSides
 pub mod ConvSteps
 pub mod ProofSteps
 pub mod Stacked

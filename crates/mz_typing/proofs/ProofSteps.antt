@@ -1,5 +1,6 @@
 -- Steps of the checks of proofs.
-use Rattle.std.proofs.Common.{ℕ, ◌≡◌, ◌<◌, ◌≤◌, ◌+◌, List, [], ◌∷◌, length, get_or, drop, slice_get, None, sym, ap, ◌∙◌, subst, inl, inr, arith}
+use Rattle.std.proofs.Common.{ℕ, ◌≡◌, ◌<◌, ◌≤◌, ◌+◌, Result, List, [], ◌∷◌, length, get_or, drop, slice_get, None, sym, ap, ◌∙◌, subst, inl, inr, arith}
+use Rattle.std.specs.Prelude.{OnOk}
 use Rattle.std.proofs.lemmas.List.{drop_more}
 use Rattle.std.proofs.lemmas.Option.{slice_get-get_or, none-some}
 use Rattle.mz_checks.specs.Checks.{Checks, demand, ◌>>◌, AllHold, FailsFirst}
@@ -15,21 +16,25 @@ use Rattle.mz_logic.specs.Variables.{Apart}
 use Rattle.mz_logic.specs.View.{tree, trees}
 use Rattle.mz_logic.specs.declared.binder.Binder.{Binder}
 use Rattle.mz_logic.specs.declared.expr.Expr.{Expr}
+use Rattle.mz_forms.specs.ConvView.{conversion}
 use Rattle.mz_forms.specs.Order.{fault}
 use Rattle.mz_forms.specs.Stops.{Stops}
 use Rattle.mz_forms.specs.declared.fault.Fault.{Fault}
 use Rattle.mz_forms.specs.declared.fault.Stop.{Stop}
+use Rattle.mz_forms.specs.declared.conv.Conv.{Conv as ConvRead}
 use Rattle.mz_forms.specs.declared.proof.Proof.{Proof as Coded}
-use Rattle.mz_forms.specs.Proof.{Proof, Proofs, by_citation, by_conv, more_proofs}
+use Rattle.mz_forms.specs.declared.proof.Proof.TheVariants as codes
+use Rattle.mz_forms.specs.Proof.{Proof, Proofs, by_citation, by_conv, by_let, more_proofs}
 use Rattle.mz_forms.specs.ProofCode.{proof_steps, proofs_steps}
 use Rattle.mz_forms.specs.ProofView.{proof_view, proofs_view}
 use Rattle.mz_logic.specs.Conversions.{Conversion}
+use Rattle.mz_typing.specs.Answers.{Judged}
 use Rattle.mz_typing.specs.Claims.{claim_tree, claim_trees}
 use Rattle.mz_typing.specs.declared.claim.Claim.{Claim}
-use Rattle.mz_typing.specs.Names.{ExprsThere, ProofsThere}
+use Rattle.mz_typing.specs.Names.{ExprsThere, ProofThere, ProofsThere}
 use Rattle.mz_typing.specs.Parts.{part, after}
 use Rattle.mz_typing.specs.Rules.{operand_rules, expr_rules, exprs_rules, conv_rules, subproof_rules, citation_rules, proof_rules, proofs_rules}
-use Rattle.mz_typing.specs.Sides.{left, right, proved, all_proved}
+use Rattle.mz_typing.specs.Sides.{left, right, proved, all_proved, with_fact}
 use Rattle.mz_typing.proofs.Claims.{claims_cut}
 use Rattle.mz_typing.proofs.ExprRules.{fits_by_checks}
 use Rattle.mz_typing.proofs.Judging.{stopped_before, stopped_after, stopped_asked}
@@ -137,3 +142,24 @@ module _ (env : List Declaration) (ctx : List Binder) (hyps lets : Trees) where
 
     pub conversion_holds : AllHold of_expr → AllHold of_conv → AllHold of_proof → (left c ≡ e) × (right c ≡ proved env hyps lets p) → AllHold of_conversion
     conversion_holds h k l is = all_hold-both of_expr _ h (all_hold-both of_conv _ k (all_hold-both of_proof _ l (is, tt)))
+
+-- what is asked and told of a proof is asked and told of an equal one
+module _ {p q : Proof} (is : q ≡ p) where
+  pub there_as : (ts n ths hs ls : ℕ) → ProofThere ts n ths hs ls q → ProofThere ts n ths hs ls p
+  there_as ts n ths hs ls = subst (ProofThere ts n ths hs ls) is
+
+  pub judged_as : {A : Type 0} (r : Result A Stop) (env : List Declaration) (ctx : List Binder) (hyps lets : Trees) (n : Node)
+      → Judged r (proof_rules env ctx hyps lets p n) → Judged r (proof_rules env ctx hyps lets q n)
+  judged_as r env ctx hyps lets n = subst (λ x. Judged r (proof_rules env ctx hyps lets x n)) (sym is)
+
+  pub claims_as : {A : Type 0} (r : Result A Stop) (env : List Declaration) (hyps lets before after : Trees)
+      → OnOk r (after ≡ with_fact before (proved env hyps lets p)) → OnOk r (after ≡ with_fact before (proved env hyps lets q))
+  claims_as r env hyps lets before after = subst (λ x. OnOk r (after ≡ with_fact before (proved env hyps lets x))) (sym is)
+
+-- the parts of a proof, as they are read
+pub conv_is : (read : Coded) (e : Expr) (conv : Conversion) (part : Proof) (c : ConvRead) (p : Coded) → read ≡ codes.Conv e conv part → conversion c ≡ conv → proof_view p ≡ part
+    → proof_view read ≡ by_conv (tree e) (conversion c) (proof_view p)
+conv_is read e conv part c p is conv-is part-is = ap proof_view is ∙ ap (λ z. by_conv (tree e) z part) (sym conv-is) ∙ ap (by_conv (tree e) (conversion c)) (sym part-is)
+
+pub let_is : (read : Coded) (one two : Proof) (p q : Coded) → read ≡ codes.Let one two → proof_view p ≡ one → proof_view q ≡ two → proof_view read ≡ by_let (proof_view p) (proof_view q)
+let_is read one two p q is one-is two-is = ap proof_view is ∙ ap (λ z. by_let z two) (sym one-is) ∙ ap (by_let (proof_view p)) (sym two-is)

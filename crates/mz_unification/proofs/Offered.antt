@@ -10,7 +10,7 @@ pub use Rattle.mz_unification.proofs.OwnStream.{assertion-spelled, definition-sp
 pub use Rattle.mz_unification.proofs.PlainRuns.{bind-first, bind-same, unify-plain, unify_steps-plain}
 pub use Rattle.mz_unification.proofs.SomeText.{cited-spells, unfolded-spells}
 pub use Rattle.mz_unification.proofs.Spelled.{count-fits, place_from, renamed}
-pub use Rattle.mz_unification.proofs.TestLaws.{bit-not-set, bit-set, bound-is, in-v-true, is-bound, member-contains, neither-of, not-both, not-in-v, v-in}
+pub use Rattle.mz_unification.proofs.TestLaws.{bit-not-set, bit-set, bound-is, in-v-true, is-bound, member-contains, not-both, not-in-v, v-in}
 pub use Rattle.mz_unification.proofs.Trees.{apart-is, fits-length, followed-by-variables, listed-trees_of, operand-trees_of, operands-sorted, parts-are, same_tree-refl, same_tree-true, trees_of-listed}
 pub use Rattle.mz_unification.proofs.Turning.{command-long, drop-less, follow-same, further, goes_to-le, goes_to-same, if_read-le, if_read-same}
 pub use Rattle.mz_unification.proofs.TwoOperands.{two-fit}

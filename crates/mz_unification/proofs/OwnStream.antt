@@ -2,8 +2,7 @@
 use Rattle.std.proofs.Common.{◌≡◌, ℕ, suc, ◌+◌, ◌≤◌, ◌<◌, Bool, true, false, cond, eqb, List, [], ◌∷◌, ◌++◌, length, drop, map, Ok, refl, sym, ap, subst, ◌∙◌, arith}
 use Rattle.std.specs.Prelude.{reverse, ◌&&◌}
 use Rattle.std.proofs.lemmas.Bool.{eqb-true, eqb-false}
-use Rattle.std.proofs.lemmas.List.{reverse-append}
-use Rattle.mz_general.proofs.Offered.{empty-list}
+use Rattle.std.proofs.lemmas.List.{reverse-append, nil_from_length}
 use Rattle.mz_cmd.specs.declared.rule.K.TheVariants as k
 use Rattle.mz_logic.specs.Tree.{Tree, Trees, var, app, none, more, listed}
 use Rattle.mz_logic.specs.Signature.{Signature}
@@ -126,7 +125,7 @@ assertion-spelled sigs ctx params stream e hyps u done sorted hyps-sorted =
     let long : length vars ≡ length params + 0 = length-params 0 params ∙ omega arith in
     let a = spelled sigs ctx at_end (length params) u e us (at_first params) st [] ran refl sorted marks long in
     let (last, hyps-are, count) = hyps-spelt sigs ctx (length params) u (reverse hyps) a.rest a.after a.state (middle-after a.suffix.0 a.rest (subst Middle a.suffix.1 (middle-stream of_assertion stream us is-stream))) a.runs a.targets a.items (sorted-reverse sigs ctx hyps hyps-sorted) a.marks a.long in
-    let none-left : last.dummies ≡ [] = empty-list last.dummies (omega (arith, count, ap length apart-is, length-params 0 params)) in
+    let none-left : last.dummies ≡ [] = nil_from_length last.dummies (omega (arith, count, ap length apart-is, length-params 0 params)) in
     let e-spells : Spells (length params) sigs (at_first params) us e a.after a.rest = subst (λ (z : Tree). Spells (length params) sigs (at_first params) us z a.after a.rest) (kept e) a.spells in
     let order : map (renamed (place_from 0 u.apart)) (reverse hyps) ≡ reverse (listed (trees_of hyps)) = map-kept (renamed (place_from 0 u.apart)) kept (reverse hyps) ∙ ap reverse (sym (listed-trees_of hyps)) in
     (last, (us, is-stream, a.after, a.rest, e-spells, subst (λ (z : List Tree). SpellsHyps (length params) sigs a.after a.rest z last) order hyps-are), none-left)

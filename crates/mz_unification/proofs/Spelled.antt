@@ -1,7 +1,7 @@
 -- A stream that runs against an expression spells it, up to the names of its dummies.
 use Rattle.std.proofs.Common.{◌≡◌, ℕ, zero, suc, ◌+◌, Bool, true, false, cond, eqb, List, [], ◌∷◌, ◌++◌, length, drop, map, Option, Some, None, Result, Ok, Err, refl, sym, ap, subst, ◌∙◌, ◌⊎◌, inl, inr, arith, append_assoc, eq-eqb}
 use Rattle.std.specs.Prelude.{slice_get, ◌&&◌}
-use Rattle.std.proofs.lemmas.Bool.{eqb-true}
+use Rattle.std.proofs.lemmas.Bool.{eqb-true, or_parts}
 use Rattle.std.proofs.lemmas.List.{length-append, map-append}
 use Rattle.mz_cmd.specs.declared.rule.K.{K}
 use Rattle.mz_cmd.specs.declared.rule.K.TheVariants as k
@@ -21,7 +21,7 @@ use Rattle.mz_unification.specs.Sorted.{Sorted, AllSorted}
 use Rattle.mz_unification.specs.Tests.{in_v, same_tree}
 use Rattle.mz_unification.specs.UnifyMachine.{UnifyMode, kind_of, UnifyState, top_target, is_empty, nothing_left, within_any, is_fresh, unify_row, unify_turn_by, unify_turn, unify_from}
 use Rattle.mz_unification.proofs.Inverting.{from_bind, from_need, from_want, need-not, taken, taken-is}
-use Rattle.mz_unification.proofs.TestLaws.{neither-of, not-in-v}
+use Rattle.mz_unification.proofs.TestLaws.{not-in-v}
 use Rattle.mz_unification.proofs.Trees.{listed-trees_of, operand-trees_of, same_tree-true}
 use Rattle.mz_unification.proofs.Matching.{run, turn-goes, run-grows, fresh-one, top-is, head-is, tail-is, Opened, opened-term, opened-save}
 
@@ -120,7 +120,7 @@ place-past : (ctx : List Binder) (i y : ℕ) (b : Binder) (xs ys : List Tree) �
     → place_from i ((xs ++ var y ∷ []) ++ ys) y ≡ i + length xs
 place-past ctx i y b [] ys at bound out = rw (eq-eqb y y refl) (omega arith)
 place-past ctx i y b (x ∷ xs) ys at bound out =
-    let (here, there) = neither-of (in_v ctx y x) (within_any strict ctx (var y) xs) out in
+    let (here, there) = or_parts (in_v ctx y x) (within_any strict ctx (var y) xs) out in
     let is-not : is_named y x ≡ false = not-itself ctx y b x at bound here in
     rw is-not (place-past ctx (suc i) y b xs ys at bound there ∙ omega arith)
 

@@ -1,6 +1,6 @@
 -- Each test of the machines decides a notion of the logic.
 use Rattle.std.proofs.Common.{◌≡◌, ℕ, suc, Bool, true, false, cond, eqb, not, List, [], ◌∷◌, Option, Some, None, refl, sym, ap, ◌∙◌, ◌⊎◌, inl, inr, arith, eq-eqb}
-use Rattle.std.specs.Prelude.{slice_get, Contains, ◌||◌, ◌==◌, IsBitSet, bit_and, ◌^◌}
+use Rattle.std.specs.Prelude.{slice_get, Contains, ◌==◌, IsBitSet, bit_and, ◌^◌}
 use Rattle.std.proofs.lemmas.Bool.{eqb-true, or_right, or_left}
 use Rattle.mz_general.proofs.Offered.{or-cases}
 use Rattle.mz_logic.specs.Tree.{Tree, Trees, var, app, none, more}
@@ -9,10 +9,6 @@ use Rattle.mz_logic.specs.Variables.{InV, InSomeV, is_member}
 use Rattle.mz_logic.specs.declared.binder.Binder.{Binder}
 use Rattle.mz_logic.proofs.Offered.{among-true}
 use Rattle.mz_unification.specs.Tests.{has_bit, is_bound_at, is_bound_var, in_var, in_v, in_some_v}
-
-pub neither-of : (a b : Bool) → (a || b) ≡ false → (a ≡ false) × (b ≡ false)
-neither-of true b h = absurd cc
-neither-of false b h = (refl, h)
 
 pub not-both : (b : Bool) → b ≡ true → b ≡ false → ⊥
 not-both b p q = cc

@@ -1,6 +1,7 @@
 -- A definition whose stream runs is unfolded to an instance of its body.
 use Rattle.std.proofs.Common.{◌≡◌, ℕ, zero, suc, true, false, List, [], ◌∷◌, ◌++◌, length, map, Ok, refl, sym, ap, subst, ◌∙◌, inl, inr, arith}
 use Rattle.std.specs.Prelude.{◌&&◌, Contains}
+use Rattle.std.proofs.lemmas.Bool.{or_parts}
 use Rattle.mz_cmd.specs.declared.rule.K.TheVariants as k
 use Rattle.mz_logic.specs.Tree.{Tree, Trees, var, none, followed_by, variables, instance}
 use Rattle.mz_logic.specs.Signature.{Signature}
@@ -14,7 +15,7 @@ use Rattle.mz_unification.specs.Sorted.{Sorted}
 use Rattle.mz_unification.specs.Tests.{in_v}
 use Rattle.mz_unification.specs.UnifyMachine.{in_definition, UnifyState, is_empty, within_any, unify_row, unify}
 use Rattle.mz_unification.proofs.Inverting.{from_need, taken-is}
-use Rattle.mz_unification.proofs.TestLaws.{neither-of, not-in-v}
+use Rattle.mz_unification.proofs.TestLaws.{not-in-v}
 use Rattle.mz_unification.proofs.Trees.{operand-trees_of, followed-by-variables}
 use Rattle.mz_unification.proofs.Matching.{run, run-from, Matched, matched, FreshList, run-grows}
 use Rattle.mz_unification.proofs.Citations.{start-agrees, length-params}
@@ -27,13 +28,13 @@ NoMore ctx ts apart = (y : ℕ) → within_any strict ctx (var y) apart ≡ fals
 
 pub no-more-start : (ctx : List Binder) (es : List Tree) → NoMore ctx (trees_of es) es
 no-more-start ctx [] y h has = has
-no-more-start ctx (e ∷ es) y h (inl here) = not-in-v ctx y e (neither-of (in_v ctx y e) (within_any strict ctx (var y) es) h).0 here
-no-more-start ctx (e ∷ es) y h (inr later) = no-more-start ctx es y (neither-of (in_v ctx y e) (within_any strict ctx (var y) es) h).1 later
+no-more-start ctx (e ∷ es) y h (inl here) = not-in-v ctx y e (or_parts (in_v ctx y e) (within_any strict ctx (var y) es) h).0 here
+no-more-start ctx (e ∷ es) y h (inr later) = no-more-start ctx es y (or_parts (in_v ctx y e) (within_any strict ctx (var y) es) h).1 later
 
 within-both : (ctx : List Binder) (y : ℕ) (es : List Tree) (e : Tree) → within_any strict ctx (var y) (es ++ e ∷ []) ≡ false → (within_any strict ctx (var y) es ≡ false) × (in_v ctx y e ≡ false)
-within-both ctx y [] e h = (refl, (neither-of (in_v ctx y e) false h).0)
+within-both ctx y [] e h = (refl, (or_parts (in_v ctx y e) false h).0)
 within-both ctx y (f ∷ es) e h =
-    let (here, later) = neither-of (in_v ctx y f) (within_any strict ctx (var y) (es ++ e ∷ [])) h in
+    let (here, later) = or_parts (in_v ctx y f) (within_any strict ctx (var y) (es ++ e ∷ [])) h in
     let (rest, last) = within-both ctx y es e later in
     (rw (here, rest) refl, last)
 

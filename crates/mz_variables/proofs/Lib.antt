@@ -2,5 +2,6 @@ pub mod Keyed
 pub mod Places
 mod Chosen
 pub mod Grouped
+pub mod Joins
 pub mod Indexed
 pub mod Offered

@@ -1,8 +1,8 @@
 // What the rules see of a statement: its variables, its types and its result.
 ghost use Rattle.std.specs.Prelude.{◌++◌, ◌∷◌, ◌≡◌, [], IfOk, OnOk, map, option_map};
 ghost use Rattle.mz_grammar.specs.Code.{assertion as assertion_lem, definition as definition_lem, group as group_lem, notation as notation_lem, source as source_lem, term as term_lem, type_text};
-ghost use Rattle.mz_variables.specs.Code.{AreGrouped, AreParts, all_of, typed, typed_alone, variable};
-ghost use Rattle.mz_variables.specs.View.{group_types as group_types_lem, types_of as types_of_lem, unnamed, view};
+ghost use Rattle.mz_variables.specs.Code.{AreGrouped, AreParts, all_of, typed, typed_alone, typed_groups, variable};
+ghost use Rattle.mz_variables.specs.View.{group_types as group_types_lem, source_types, types_of as types_of_lem, unnamed, variables_of as variables_of_lem, view};
 
 use crate::variables::{Variable, dummies_of, params_of, push_groups};
 use mz_grammar::{AssertText, DefinitionText, Group, NotationText, Source, TermText, TypeText};
@@ -61,12 +61,8 @@ impl<'t, 'a> Parts<'t, 'a> {
         ensures { IfOk result (λ parts. AreParts parts (view (term_lem term.now)).variables (view (term_lem term.now)).types (view (term_lem term.now)).result) }
     {
         let mut variables = Vec::new(alloc);
-        push_groups(&mut variables, &term.head.groups)?;
-        push_arguments(&mut variables, &term.arguments)?;
         let mut types = Vec::new(alloc);
-        push_group_types(&mut types, &term.head.groups)?;
-        push_types(&mut types, &term.arguments)?;
-        types.push(TypeAt { ty: &term.result })?;
+        push_term(&mut variables, &mut types, term)?;
         Parts::new(alloc, variables, types, Some(&term.result))
     }
 
@@ -82,12 +78,26 @@ impl<'t, 'a> Parts<'t, 'a> {
         ensures { IfOk result (λ parts. AreParts parts (view (assertion_lem assertion.now)).variables (view (assertion_lem assertion.now)).types (view (assertion_lem assertion.now)).result) }
     {
         let mut variables = Vec::new(alloc);
-        push_groups(&mut variables, &assertion.head.groups)?;
-        push_premises(&mut variables, &assertion.premises)?;
         let mut types = Vec::new(alloc);
-        push_group_types(&mut types, &assertion.head.groups)?;
-        push_premise_types(&mut types, &assertion.premises)?;
+        push_assertion(&mut variables, &mut types, assertion)?;
         Parts::new(alloc, variables, types, None)
+    }
+
+    /// Those of groups and a result.
+    fn of_groups(
+        alloc: Global,
+        groups: &'t [Group<'a>],
+        result_type: &'t TypeText<'a>,
+    ) -> Result<Parts<'t, 'a>, AllocError>
+        ensures { IfOk result (λ parts. AreParts parts (variables_of_lem (map group_lem groups.now))
+            (group_types_lem (map group_lem groups.now) ++ type_text result_type.now ∷ []) (type_text result_type.now ∷ [])) }
+    {
+        let mut variables = Vec::new(alloc);
+        push_groups(&mut variables, groups)?;
+        let mut types = Vec::new(alloc);
+        push_group_types(&mut types, groups)?;
+        types.push(TypeAt { ty: result_type })?;
+        Parts::new(alloc, variables, types, Some(result_type))
     }
 
     /// Those of a definition.
@@ -101,14 +111,7 @@ impl<'t, 'a> Parts<'t, 'a> {
     ) -> Result<Parts<'t, 'a>, AllocError>
         ensures { IfOk result (λ parts. AreParts parts (view (definition_lem definition.now)).variables (view (definition_lem definition.now)).types (view (definition_lem definition.now)).result) }
     {
-        let mut variables = Vec::new(alloc);
-        push_groups(&mut variables, &definition.head.groups)?;
-        let mut types = Vec::new(alloc);
-        push_group_types(&mut types, &definition.head.groups)?;
-        types.push(TypeAt {
-            ty: &definition.result,
-        })?;
-        Parts::new(alloc, variables, types, Some(&definition.result))
+        Parts::of_groups(alloc, &definition.head.groups, &definition.result)
     }
 
     /// Those of a general notation.
@@ -122,15 +125,51 @@ impl<'t, 'a> Parts<'t, 'a> {
     ) -> Result<Parts<'t, 'a>, AllocError>
         ensures { IfOk result (λ parts. AreParts parts (view (notation_lem notation.now)).variables (view (notation_lem notation.now)).types (view (notation_lem notation.now)).result) }
     {
-        let mut variables = Vec::new(alloc);
-        push_groups(&mut variables, &notation.head.groups)?;
-        let mut types = Vec::new(alloc);
-        push_group_types(&mut types, &notation.head.groups)?;
-        types.push(TypeAt {
-            ty: &notation.result,
-        })?;
-        Parts::new(alloc, variables, types, Some(&notation.result))
+        Parts::of_groups(alloc, &notation.head.groups, &notation.result)
     }
+}
+
+/// Adds the variables and the types of a term.
+fn push_term<'t, 'a>(
+    variables: &mut Vec<Variable<'t, 'a>>,
+    types: &mut Vec<TypeAt<'t, 'a>>,
+    term: &'t TermText<'a>,
+) -> Result<(), AllocError>
+    requires no_variables { variables.old.items ≡ [] }
+    requires no_types { types.old.items ≡ [] }
+    ensures variables { OnOk result (map variable variables.new.items ≡ variables_of_lem (map group_lem term.now.head.groups.items) ++ map unnamed (map type_text term.now.arguments.items)) }
+    ensures groups { OnOk result (map typed variables.new.items ≡ typed_groups 0 (map group_lem term.now.head.groups.items) ++ map typed_alone (map type_text term.now.arguments.items)) }
+    ensures types { OnOk result (map (λ t. type_text t.ty.now) types.new.items
+        ≡ group_types_lem (map group_lem term.now.head.groups.items) ++ (map type_text term.now.arguments.items ++ type_text term.now.result ∷ [])) }
+{
+    push_groups(variables, &term.head.groups)?;
+    push_arguments(variables, &term.arguments)?;
+    push_group_types(types, &term.head.groups)?;
+    push_types(types, &term.arguments)?;
+    types.push(TypeAt { ty: &term.result })?;
+    Ok(())
+}
+
+/// Adds the variables and the types of an axiom or a theorem.
+fn push_assertion<'t, 'a>(
+    variables: &mut Vec<Variable<'t, 'a>>,
+    types: &mut Vec<TypeAt<'t, 'a>>,
+    assertion: &'t AssertText<'a>,
+) -> Result<(), AllocError>
+    requires no_variables { variables.old.items ≡ [] }
+    requires no_types { types.old.items ≡ [] }
+    ensures variables { OnOk result (map variable variables.new.items
+        ≡ variables_of_lem (map group_lem assertion.now.head.groups.items) ++ map unnamed (types_of_lem (map source_lem assertion.now.premises.items))) }
+    ensures groups { OnOk result (map typed variables.new.items
+        ≡ typed_groups 0 (map group_lem assertion.now.head.groups.items) ++ map typed_alone (types_of_lem (map source_lem assertion.now.premises.items))) }
+    ensures types { OnOk result (map (λ t. type_text t.ty.now) types.new.items
+        ≡ group_types_lem (map group_lem assertion.now.head.groups.items) ++ types_of_lem (map source_lem assertion.now.premises.items)) }
+{
+    push_groups(variables, &assertion.head.groups)?;
+    push_premises(variables, &assertion.premises)?;
+    push_group_types(types, &assertion.head.groups)?;
+    push_premise_types(types, &assertion.premises)?;
+    Ok(())
 }
 
 // ---- variables
@@ -179,6 +218,19 @@ fn push_types<'t, 'a>(
     Ok(())
 }
 
+/// Adds the type of a source, where it is one.
+fn push_source_type<'t, 'a>(
+    types: &mut Vec<TypeAt<'t, 'a>>,
+    source: &'t Source<'a>,
+) -> Result<(), AllocError>
+    ensures { OnOk result (map (λ t. type_text t.ty.now) types.new.items ≡ map (λ t. type_text t.ty.now) types.old.items ++ source_types (source_lem source.now)) }
+{
+    if let Source::Type(ty) = source {
+        types.push(TypeAt { ty })?;
+    }
+    Ok(())
+}
+
 fn push_group_types<'t, 'a>(
     types: &mut Vec<TypeAt<'t, 'a>>,
     groups: &'t [Group<'a>],
@@ -186,9 +238,7 @@ fn push_group_types<'t, 'a>(
     ensures { OnOk result (map (λ t. type_text t.ty.now) types.new.items ≡ map (λ t. type_text t.ty.now) types.old.items ++ group_types_lem (map group_lem groups.now)) }
 {
     for group in groups {
-        if let Source::Type(ty) = &group.source {
-            types.push(TypeAt { ty })?;
-        }
+        push_source_type(types, &group.source)?;
     }
     Ok(())
 }
@@ -200,9 +250,7 @@ fn push_premise_types<'t, 'a>(
     ensures { OnOk result (map (λ t. type_text t.ty.now) types.new.items ≡ map (λ t. type_text t.ty.now) types.old.items ++ types_of_lem (map source_lem premises.now)) }
 {
     for premise in premises {
-        if let Source::Type(ty) = premise {
-            types.push(TypeAt { ty })?;
-        }
+        push_source_type(types, premise)?;
     }
     Ok(())
 }

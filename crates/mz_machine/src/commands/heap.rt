@@ -13,6 +13,7 @@ ghost use Rattle.mz_soundness.specs.ProofMachine.{proof_row, referred};
 ghost use Rattle.mz_earlier.specs.Before.{tables_of, signatures_of};
 ghost use Rattle.mz_machine.specs.OverStore.{heap_at, with_stack, Gives, GivesRule, NeverWants, Grows};
 
+use crate::commands::by_rule;
 use crate::stack::{conversion_of, pop_expr, pop_obligation};
 use mz_cmd::K;
 use mz_earlier::{Earlier, is_obligation, kept_at, top};
@@ -45,13 +46,9 @@ fn refer_to(store: &Store, item: Item, stack: &mut Vec<Item>) -> Result<(), Stop
     ensures never { (l r : Id) → item ≡ Conversion l r → NeverWants result }
 {
     let Some((left, right)) = conversion_of(item) else {
-        push(stack, item)?;
-        return Ok(());
+        return push(stack, item);
     };
-    match pay(store, left, right, stack) {
-        Ok(()) => Ok(()),
-        Err(rule) => Err(Stop::Rule(rule)),
-    }
+    by_rule(pay(store, left, right, stack))
 }
 
 /// Pushes what stands at a place of the heap; a conversion pays the obligation on top instead, and
@@ -71,8 +68,7 @@ pub(crate) fn refer(
     let Some(item) = kept_at(heap, place) else {
         return Err(Stop::Rule(K::HeapIndex));
     };
-    refer_to(store, item, stack)?;
-    Ok(())
+    refer_to(store, item, stack)
 }
 
 /// Pays the obligation on top with a conversion of the heap. It takes no memory.
@@ -93,8 +89,7 @@ pub(crate) fn conv_refer(
     let Some((left, right)) = conversion_of(item) else {
         return Err(K::Kind);
     };
-    pay(store, left, right, stack)?;
-    Ok(())
+    pay(store, left, right, stack)
 }
 
 /// The item on top, for the heap too: no obligation.

@@ -1,7 +1,7 @@
 //! Conversions: obligations that two expressions are convertible, and how they are paid.
 ghost use Rattle.std.specs.Prelude.{ℕ, ◌≡◌, ◌≤◌, ◌++◌, ◌∷◌, ◌+◌, ⊤, [], IfOk, OnOk, MatchResult, length};
 ghost use Rattle.mz_cmd.specs.declared.code.ProofCode.TheVariants as code;
-ghost use Rattle.mz_nodes.specs.Numbering.{AreIn, IsIn, IsOver, expr_of};
+ghost use Rattle.mz_punify.specs.Numbering.{AreIn, IsIn, IsOver, expr_of};
 ghost use Rattle.mz_punify.specs.Stored.{items_at, item_at, exprs_at, AreItemsIn, IsItemIn};
 ghost use Rattle.mz_soundness.specs.Premises.{pop_sides};
 ghost use Rattle.mz_soundness.specs.MachineState.{RowsBefore, State};
@@ -17,8 +17,7 @@ use crate::stack::{pop_conversion, pop_expr, pop_obligation, pop_proof};
 use mz_cmd::{K, Steps};
 use mz_earlier::{Earlier, Spare, put_back};
 use mz_logic::Terms;
-use mz_nodes::Nodes;
-use mz_punify::unify_in;
+use mz_punify::{Nodes, unify_in};
 use mz_store::{Id, Item};
 use mz_unify::{Stop, UnifyMode, push};
 use std::sync::ledger::Ledger;

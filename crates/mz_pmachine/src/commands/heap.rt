@@ -1,7 +1,7 @@
 //! The heap: references to it, and what is kept there.
 ghost use Rattle.std.specs.Prelude.{ℕ, ◌≡◌, ◌<◌, ◌++◌, ◌∷◌, [], IfOk, OnOk, slice_get, Some};
 ghost use Rattle.mz_cmd.specs.declared.code.ProofCode.TheVariants as code;
-ghost use Rattle.mz_nodes.specs.Numbering.{IsIn, IsOver, expr_of};
+ghost use Rattle.mz_punify.specs.Numbering.{IsIn, IsOver, expr_of};
 ghost use Rattle.mz_store.specs.declared.item.Item.TheVariants.{Conversion};
 ghost use Rattle.mz_store.specs.declared.item.Id.{Id};
 ghost use Rattle.mz_unification.specs.Profile.{expr, proof, conversion};
@@ -18,7 +18,8 @@ use crate::stack::{conversion_of, pop_expr, pop_obligation};
 use mz_cmd::K;
 use mz_earlier::{Earlier, is_obligation, kept_at, top};
 use mz_logic::Terms;
-use mz_nodes::Nodes;
+use mz_machine::by_rule;
+use mz_punify::Nodes;
 use mz_store::{Id, Item};
 use mz_unify::{Stop, push};
 
@@ -46,13 +47,9 @@ fn refer_to(nodes: &Nodes, item: Item, stack: &mut Vec<Item>) -> Result<(), Stop
     ensures row { (st : State Numbered) → st.stack ≡ items_at nodes.now stack.old.items → Gives (referred portable (item_at nodes.now item) st) result (λ _. with_stack st (items_at nodes.now stack.new.items)) }
 {
     let Some((left, right)) = conversion_of(item) else {
-        push(stack, item)?;
-        return Ok(());
+        return push(stack, item);
     };
-    match pay(nodes, left, right, stack) {
-        Ok(()) => Ok(()),
-        Err(rule) => Err(Stop::Rule(rule)),
-    }
+    by_rule(pay(nodes, left, right, stack))
 }
 
 /// Pushes what stands at a place of the heap; a conversion pays the obligation on top instead.
@@ -70,8 +67,7 @@ pub(crate) fn refer(
     let Some(item) = kept_at(heap, place) else {
         return Err(Stop::Rule(K::HeapIndex));
     };
-    refer_to(nodes, item, stack)?;
-    Ok(())
+    refer_to(nodes, item, stack)
 }
 
 /// The item on top, for the heap too: no obligation.

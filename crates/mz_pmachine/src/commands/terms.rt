@@ -2,7 +2,7 @@
 ghost use Rattle.std.specs.Prelude.{ℕ, ◌≡◌, ◌≤◌, ◌<◌, ◌+◌, ◌++◌, ◌∷◌, [], IfOk, OnOk, length, drop};
 ghost use Rattle.mz_cmd.specs.declared.code.ProofCode.TheVariants as code;
 ghost use Rattle.mz_layout.specs.Tables.{thm_row};
-ghost use Rattle.mz_nodes.specs.Numbering.{AreIn, IsIn, IsOver, expr_of};
+ghost use Rattle.mz_punify.specs.Numbering.{AreIn, IsIn, IsOver, expr_of};
 ghost use Rattle.mz_unification.specs.Profile.{expr, proof};
 ghost use Rattle.mz_punify.specs.Stored.{items_at, matching_at, AreItemsIn};
 ghost use Rattle.mz_unify.specs.declared.unified.UnifyMode.TheVariants.{Use};
@@ -21,8 +21,7 @@ use mz_cmd::{K, Steps};
 use mz_earlier::{Earlier, Spare};
 use mz_layout::Row;
 use mz_logic::Terms;
-use mz_nodes::Nodes;
-use mz_punify::unify_in;
+use mz_punify::{Nodes, unify_in};
 use mz_store::{Id, Item};
 use mz_unify::{Stop, UnifyMode, push};
 use std::sync::ledger::Ledger;

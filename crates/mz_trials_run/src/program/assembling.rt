@@ -1,32 +1,9 @@
 // The listings of the worked files, which the program assembles to these files again.
 use super::files::{DUMMY, FOLD, GEN, IMP, ONE};
-use super::words_of;
-use mz_io::{MemFolder, MemSink};
-use mz_tool::{Seed, Status, run};
-use std::alloc::{AllocError, Global};
-use std::test::Fail;
-
-/// How a command ends over the files `bin` and `list`, the folder after it, and what is written.
-fn ended(
-    alloc: Global,
-    line: &str,
-    bin: &[u8],
-    list: &[u8],
-) -> Result<(Status, MemFolder, MemSink), AllocError> {
-    let mut folder = MemFolder::new(alloc);
-    folder.add("bin", bin)?;
-    folder.add("list", list)?;
-    folder.room("out", 4096)?;
-    let mut out = MemSink::new(alloc, 4096)?;
-    let status = run(
-        alloc,
-        Seed::FIXED,
-        &words_of(alloc, line)?,
-        &mut folder,
-        &mut out,
-    );
-    Ok((status, folder, out))
-}
+use super::{ended, folder_of};
+use crate::expect::expect_of;
+use mz_tool::Status;
+use std::process::Abort;
 
 /// Files, and what is told where their listings are assembled.
 const FILES: &[(&[u8], &str)] = &[
@@ -37,15 +14,21 @@ const FILES: &[(&[u8], &str)] = &[
     (DUMMY, "assembled: 118 bytes\n"),
 ];
 
+fn expect_assembled_back(rt: &(impl Abort + AllocGlobal), file: &[u8], told: &str) {
+    let mut folder = folder_of(rt, &[("bin", file)]);
+    let (status, listing) = ended(rt, "show bin", &mut folder, 4096);
+    expect_of(rt, status == Status::Done, "the listing", told);
+    let mut folder = folder_of(rt, &[("list", listing.bytes())]);
+    folder.room("out", 4096).expect(rt, "memory");
+    let (status, out) = ended(rt, "assemble list out", &mut folder, 4096);
+    expect_of(rt, status == Status::Done, "the status", told);
+    expect_of(rt, out.bytes() == told.as_bytes(), "the line", told);
+    expect_of(rt, folder.file("out") == Some(file), "the bytes", told);
+}
+
 #[test]
-fn listed_files_are_assembled_back(rt: HostRuntime) -> Result<(), Fail> {
+fn listed_files_are_assembled_back(rt: HostRuntime) {
     for (file, told) in FILES {
-        let (status, _, listing) = ended(rt.alloc(), "show bin", file, b"")?;
-        assert!(rt; status == Status::Done, "the listing for {told}");
-        let (status, folder, out) = ended(rt.alloc(), "assemble list out", b"", listing.bytes())?;
-        assert!(rt; status == Status::Done, "{told}");
-        assert!(rt; out.bytes() == told.as_bytes(), "{told}");
-        assert!(rt; folder.file("out") == Some(*file), "the bytes for {told}");
+        expect_assembled_back(&rt, file, told);
     }
-    Ok(())
 }

@@ -1,5 +1,6 @@
 // Changes of files, and parts of texts.
 use std::alloc::{AllocError, Global};
+use std::process::Abort;
 
 /// A change of a file.
 #[derive(Clone, Copy)]
@@ -32,27 +33,30 @@ pub fn with_byte(alloc: Global, base: &[u8], at: usize, byte: u8) -> Result<Vec<
 }
 
 fn without(alloc: Global, file: &[u8], from: usize, to: usize) -> Result<Vec<u8>, AllocError> {
-    let mut left = Vec::new(alloc);
-    for (at, byte) in file.iter().enumerate() {
-        if at < from || to <= at {
-            left.push(*byte)?;
+    let front = file.get(..from).unwrap_or(file);
+    let back = file.get(to..).unwrap_or_default();
+    [front, back].concat(alloc)
+}
+
+/// Makes one change.
+fn make(rt: &(impl Abort + AllocGlobal), file: &mut Vec<u8>, change: Change) {
+    match change {
+        Change::Put(at, bytes) => put(file, at, bytes),
+        Change::Without(from, to) => {
+            *file = without(rt.alloc(), file, from, to).expect(rt, "memory");
         }
+        Change::Front(length) => file.truncate(length),
+        Change::Then(bytes) => file.extend_from_slice(bytes).expect(rt, "memory"),
     }
-    Ok(left)
 }
 
 /// The file after the changes, one after another.
-pub fn changed(alloc: Global, base: &[u8], changes: &[Change]) -> Result<Vec<u8>, AllocError> {
-    let mut file = base.to_vec(alloc)?;
+pub fn changed(rt: &(impl Abort + AllocGlobal), base: &[u8], changes: &[Change]) -> Vec<u8> {
+    let mut file = base.to_vec(rt.alloc()).expect(rt, "memory");
     for change in changes {
-        match *change {
-            Change::Put(at, bytes) => put(&mut file, at, bytes),
-            Change::Without(from, to) => file = without(alloc, &file, from, to)?,
-            Change::Front(length) => file.truncate(length),
-            Change::Then(bytes) => file.extend_from_slice(bytes)?,
-        }
+        make(rt, &mut file, *change);
     }
-    Ok(file)
+    file
 }
 
 /// The lines of a text from the one number up to the other.

@@ -6,7 +6,6 @@ use crate::program::{expect, expect_verdict};
 use mz_tool::Status;
 use std::alloc::{AllocError, Global};
 use std::process::Abort;
-use std::test::Fail;
 
 /// The place of a body's first command, and codes that stand in this body: from one to another, the place
 /// and the rule at which `verify` stops. Code 12 is the file's own.
@@ -119,46 +118,46 @@ const NAMES: &[&str] = &[
     " p sorry\n",
 ];
 
-/// How `show` ends where the code stands there, and its text: a listing takes each proof command in
-/// each body.
-fn listed(alloc: Global, place: &Place, code: u8) -> Result<(Status, Vec<u8>), AllocError> {
-    if let Some(name) = NAMES.get(usize::from(code.wrapping_sub(0x10))) {
-        let mut text = lines_of(alloc, place.listing, 0, place.line)?;
-        text.extend_from_slice(name.as_bytes())?;
-        let after = lines_of(
-            alloc,
-            place.listing,
-            place.line.saturating_add(1),
-            usize::MAX,
-        )?;
-        text.extend_from_slice(&after)?;
-        return Ok((Status::Done, text));
-    }
-    let rule = if code == 0 {
-        "K4 statement length"
-    } else {
-        "K3 command"
-    };
-    let mut text = lines_of(alloc, place.listing, 0, place.head)?;
-    text.extend_from_slice(refusal(alloc, place, place.at, rule)?.as_bytes())?;
-    text.push(b'\n')?;
-    Ok((Status::Refused, text))
+/// The listing with another line in the place's.
+fn with_line(rt: &(impl Abort + AllocGlobal), place: &Place, line: &str) -> Vec<u8> {
+    let next = place.line.saturating_add(1);
+    let before = lines_of(rt.alloc(), place.listing, 0, place.line).expect(rt, "memory");
+    let after = lines_of(rt.alloc(), place.listing, next, usize::MAX).expect(rt, "memory");
+    let text = [before.as_slice(), line.as_bytes(), after.as_slice()].concat(rt.alloc());
+    text.expect(rt, "memory")
 }
 
-fn expect_code(rt: &(impl Abort + AllocGlobal), place: &Place, code: u8) -> Result<(), Fail> {
-    let bin = with_byte(rt.alloc(), place.base, place.at, code)?;
-    let line = verdict(rt.alloc(), place, code)?;
-    expect_verdict(rt, place.spec.as_bytes(), &bin, &line, &line)?;
-    let (status, text) = listed(rt.alloc(), place, code)?;
-    expect(rt, "show bin", b"", &bin, status, &text, &line)
+/// The listing up to the place's statement, and its refusal.
+fn up_to(rt: &(impl Abort + AllocGlobal), place: &Place, rule: &str) -> Vec<u8> {
+    let before = lines_of(rt.alloc(), place.listing, 0, place.head).expect(rt, "memory");
+    let refusal = refusal(rt.alloc(), place, place.at, rule).expect(rt, "memory");
+    let text = [before.as_slice(), refusal.as_bytes(), b"\n".as_slice()].concat(rt.alloc());
+    text.expect(rt, "memory")
+}
+
+/// How `show` ends where the code stands there, and its text: a listing takes each proof command in
+/// each body.
+fn listed(rt: &(impl Abort + AllocGlobal), place: &Place, code: u8) -> (Status, Vec<u8>) {
+    match NAMES.get(usize::from(code.wrapping_sub(0x10))) {
+        Some(line) => (Status::Done, with_line(rt, place, line)),
+        None if code == 0 => (Status::Refused, up_to(rt, place, "K4 statement length")),
+        None => (Status::Refused, up_to(rt, place, "K3 command")),
+    }
+}
+
+fn expect_code(rt: &(impl Abort + AllocGlobal), place: &Place, code: u8) {
+    let bin = with_byte(rt.alloc(), place.base, place.at, code).expect(rt, "memory");
+    let line = verdict(rt.alloc(), place, code).expect(rt, "memory");
+    expect_verdict(rt, place.spec.as_bytes(), &bin, &line, &line);
+    let (status, text) = listed(rt, place, code);
+    expect(rt, "show bin", b"", &bin, status, &text, &line);
 }
 
 #[test]
-fn each_code_in_each_body(rt: HostRuntime) -> Result<(), Fail> {
+fn each_code_in_each_body(rt: HostRuntime) {
     for place in PLACES {
         for code in 0..64 {
-            expect_code(&rt, place, code)?;
+            expect_code(&rt, place, code);
         }
     }
-    Ok(())
 }

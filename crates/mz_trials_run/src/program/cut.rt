@@ -6,7 +6,6 @@ use crate::program::{expect, expect_verdict};
 use mz_tool::Status;
 use std::alloc::{AllocError, Global};
 use std::process::Abort;
-use std::test::Fail;
 
 /// A length, and what is told of the files that are cut there or later, as far as the next cut: how many
 /// lines of the whole listing stand before the refusal, its statement, its byte (None: the cut file's
@@ -125,43 +124,43 @@ fn cut_at(cuts: &[Cut], length: usize) -> Option<Cut> {
     found
 }
 
-/// The lines of the listing that stand before, and the refusal's line.
-fn told(alloc: Global, file: &Whole, length: usize) -> Result<(Vec<u8>, String), AllocError> {
-    let Some((_, kept, statement, at, rule)) = cut_at(file.cuts, length) else {
-        return Ok((Vec::new(alloc), String::new(alloc)));
-    };
-    let before = lines_of(alloc, file.listing, 0, kept)?;
-    let line = match at {
-        Some(at) => format!(in alloc;
-            "refused: binary statement {statement} at byte {at}: {rule}"
-        )?,
-        None => format!(in alloc;
-            "refused: binary statement {statement} at byte {length}: {rule}"
-        )?,
-    };
-    Ok((before, line))
+/// The refusal's line.
+fn refusal(alloc: Global, cut: Cut, length: usize) -> Result<String, AllocError> {
+    let (_, _, statement, at, rule) = cut;
+    match at {
+        Some(at) => format!(in alloc; "refused: binary statement {statement} at byte {at}: {rule}"),
+        None => {
+            format!(in alloc; "refused: binary statement {statement} at byte {length}: {rule}")
+        }
+    }
 }
 
-fn expect_cut(rt: &(impl Abort + AllocGlobal), file: &Whole, length: usize) -> Result<(), Fail> {
-    let bin = changed(rt.alloc(), file.base, &[Change::Front(length)])?;
-    let (mut text, line) = told(rt.alloc(), file, length)?;
+/// The lines of the listing that stand before, and the refusal's line.
+fn listed(rt: &(impl Abort + AllocGlobal), listing: &str, kept: usize, line: &str) -> Vec<u8> {
+    let before = lines_of(rt.alloc(), listing, 0, kept).expect(rt, "memory");
+    let text = [before.as_slice(), line.as_bytes(), b"\n".as_slice()].concat(rt.alloc());
+    text.expect(rt, "memory")
+}
+
+fn expect_cut(rt: &(impl Abort + AllocGlobal), file: &Whole, length: usize) {
+    let bin = changed(rt, file.base, &[Change::Front(length)]);
+    let cut = cut_at(file.cuts, length).expect(rt, "a cut");
+    let line = refusal(rt.alloc(), cut, length).expect(rt, "memory");
     let verdict = match file.body {
         Some((from, body)) if from <= length => body,
         _ => line.as_str(),
     };
-    expect_verdict(rt, file.spec.as_bytes(), &bin, verdict, verdict)?;
-    text.extend_from_slice(line.as_bytes())?;
-    text.push(b'\n')?;
-    expect(rt, "show bin", b"", &bin, Status::Refused, &text, &line)
+    expect_verdict(rt, file.spec.as_bytes(), &bin, verdict, verdict);
+    let text = listed(rt, file.listing, cut.1, &line);
+    expect(rt, "show bin", b"", &bin, Status::Refused, &text, &line);
 }
 
 /// No cut file is accepted, and each is listed up to the cut.
 #[test]
-fn files_cut_at_each_length(rt: HostRuntime) -> Result<(), Fail> {
+fn files_cut_at_each_length(rt: HostRuntime) {
     for file in FILES {
         for length in 0..file.base.len() {
-            expect_cut(&rt, file, length)?;
+            expect_cut(&rt, file, length);
         }
     }
-    Ok(())
 }

@@ -7,7 +7,6 @@ use crate::program::files::{
 };
 use crate::program::resting::{CHAIN, CHAIN_SPEC};
 use mz_tool::Status;
-use std::test::Fail;
 
 /// The first local theorem of the chain left open: the first theorem cites it, the second the first, and the
 /// third the first too.
@@ -129,14 +128,13 @@ const TOLD: &[Case] = &[
 ];
 
 #[test]
-fn theorems_that_rest_on_a_gap_are_told(rt: HostRuntime) -> Result<(), Fail> {
+fn theorems_that_rest_on_a_gap_are_told(rt: HostRuntime) {
     for (spec, file, changes, text, what) in TOLD {
-        let bin = changed(rt.alloc(), file, changes)?;
+        let bin = changed(&rt, file, changes);
         let spec = spec.as_bytes();
         let text = text.as_bytes();
-        expect(&rt, "draft spec bin", spec, &bin, Status::Done, text, what)?;
+        expect(&rt, "draft spec bin", spec, &bin, Status::Done, text, what);
     }
-    Ok(())
 }
 
 /// Where a Sorry stands in a draft too, its premises aren't met; and a gap makes no other statement.
@@ -179,9 +177,9 @@ const REFUSED: &[Case] = &[
 ];
 
 #[test]
-fn a_refused_draft_has_its_line(rt: HostRuntime) -> Result<(), Fail> {
+fn a_refused_draft_has_its_line(rt: HostRuntime) {
     for (spec, file, changes, text, what) in REFUSED {
-        let bin = changed(rt.alloc(), file, changes)?;
+        let bin = changed(&rt, file, changes);
         let spec = spec.as_bytes();
         let text = text.as_bytes();
         expect(
@@ -192,7 +190,6 @@ fn a_refused_draft_has_its_line(rt: HostRuntime) -> Result<(), Fail> {
             Status::Refused,
             text,
             what,
-        )?;
+        );
     }
-    Ok(())
 }

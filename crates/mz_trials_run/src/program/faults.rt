@@ -1,10 +1,11 @@
 // Words that ask for nothing, files and outputs that fail, and want of memory.
+use crate::expect::{expect_of, expect_that};
 use crate::program::files::{DUMMY, ONE, ONE_SPEC};
-use crate::program::{expect, words_of};
-use mz_io::{Folder, MemFolder, MemSink};
+use crate::program::{ended, expect, folder_of, words_of};
+use mz_io::{Folder, MemSink};
 use mz_tool::{Seed, Status, run};
 use std::alloc::{AllocError, Global};
-use std::test::Fail;
+use std::process::Abort;
 
 const ACCEPTED_ONE: &str = "accepted: 1 sorts, 0 terms, 0 axioms, 0 definitions, 0 theorems\n";
 
@@ -49,33 +50,11 @@ const OTHER_WORDS: &[&str] = &[
 ];
 
 #[test]
-fn other_words_are_refused(rt: HostRuntime) -> Result<(), Fail> {
+fn other_words_are_refused(rt: HostRuntime) {
     for line in OTHER_WORDS {
         let spec = ONE_SPEC.as_bytes();
-        expect(&rt, line, spec, ONE, Status::Usage, b"", line)?;
+        expect(&rt, line, spec, ONE, Status::Usage, b"", line);
     }
-    Ok(())
-}
-
-/// How a run over a folder with the smallest binary alone ends, and whether the call on the folder of
-/// this number comes after it.
-fn ended_alone(
-    alloc: Global,
-    line: &str,
-    failing: u64,
-) -> Result<(Status, MemSink, bool), AllocError> {
-    let mut folder = MemFolder::new(alloc);
-    folder.add("bin", ONE)?;
-    folder.fail_call(failing)?;
-    let mut out = MemSink::new(alloc, 100)?;
-    let status = run(
-        alloc,
-        Seed::FIXED,
-        &words_of(alloc, line)?,
-        &mut folder,
-        &mut out,
-    );
-    Ok((status, out, folder.start("bin").is_err()))
 }
 
 /// Words, how the run ends where the smallest binary alone is there, and how many calls it makes.
@@ -104,36 +83,34 @@ const MISSING: &[(&str, Status, u64)] = &[
 
 /// A file that is missing is the last one that is started; words of no command start none.
 #[test]
-fn missing_files(rt: HostRuntime) -> Result<(), Fail> {
+fn missing_files(rt: HostRuntime) {
     for (line, wanted, calls) in MISSING {
-        let (status, out, comes_next) = ended_alone(rt.alloc(), line, *calls + 1)?;
-        assert!(rt; status == *wanted, "{line}");
-        assert!(rt; out.bytes().is_empty(), "{line}");
-        assert!(rt; comes_next, "{calls} calls for {line}");
+        let mut folder = folder_of(&rt, &[("bin", ONE)]);
+        folder.fail_call(*calls + 1).expect(&rt, "memory");
+        let (status, out) = ended(&rt, line, &mut folder, 100);
+        expect_of(&rt, status == *wanted, "the status", line);
+        expect_of(&rt, out.bytes().is_empty(), "the text", line);
+        expect_of(&rt, folder.start("bin").is_err(), "the calls", line);
     }
-    Ok(())
 }
 
 #[test]
-fn a_full_sink_holds_a_prefix(rt: HostRuntime) -> Result<(), Fail> {
-    let alloc = rt.alloc();
-    let mut folder = MemFolder::new(alloc);
-    folder.add("bin", DUMMY)?;
-    let mut out = MemSink::new(alloc, 11)?;
+fn a_full_sink_holds_a_prefix(rt: HostRuntime) {
+    let mut folder = folder_of(&rt, &[("bin", DUMMY)]);
+    let mut out = MemSink::new(rt.alloc(), 11).expect(&rt, "memory");
     out.take_at_most(1);
-    let status = run(
-        alloc,
-        Seed::FIXED,
-        &words_of(alloc, "show bin")?,
-        &mut folder,
-        &mut out,
+    let words = words_of(rt.alloc(), "show bin").expect(&rt, "memory");
+    let status = run(rt.alloc(), Seed::FIXED, &words, &mut folder, &mut out);
+    expect_that(
+        &rt,
+        status == Status::OutFault,
+        "less room than the listing",
     );
-    assert!(rt; status == Status::OutFault, "less room than the listing");
-    assert!(rt;
+    expect_that(
+        &rt,
         out.bytes() == b"sort 0 4\nso".as_slice(),
-        "the room is used"
+        "the room is used",
     );
-    Ok(())
 }
 
 /// Takes memory in ever smaller pieces until no more is given. None where it can't be used up, as
@@ -169,30 +146,54 @@ const COMMANDS: &[&str] = &[
     "sample 1",
 ];
 
-#[test]
-fn want_of_memory_is_told(rt: HostRuntime) -> Result<(), Fail> {
+/// Runs a command without memory, and then with memory again. Whether all memory could be taken.
+fn expect_memory_told(rt: &(impl Abort + AllocGlobal), line: &str) -> bool {
     let alloc = rt.alloc();
+    let words = words_of(alloc, line).expect(rt, "memory");
+    let files = [
+        ("spec", ONE_SPEC.as_bytes()),
+        ("bin", ONE),
+        ("text", b"(sort wff provable)"),
+        ("list", b"sort 0 4\nend\n"),
+    ];
+    let mut folder = folder_of(rt, &files);
+    folder.room("out", 51).expect(rt, "memory");
+    let mut out = MemSink::new(alloc, 200).expect(rt, "memory");
+    let Some(held) = take_all(alloc).expect(rt, "memory") else {
+        return false;
+    };
+    let status = run(alloc, Seed::FIXED, &words, &mut folder, &mut out);
+    drop(held);
+    expect_of(
+        rt,
+        status == Status::Memory,
+        "without memory, the status",
+        line,
+    );
+    expect_of(rt, out.bytes().is_empty(), "without memory, the text", line);
+    expect_of(
+        rt,
+        folder.file("out").is_none(),
+        "without memory, no file",
+        line,
+    );
+    let status = run(alloc, Seed::FIXED, &words, &mut folder, &mut out);
+    expect_of(
+        rt,
+        status == Status::Done,
+        "with memory again, the status",
+        line,
+    );
+    true
+}
+
+#[test]
+fn want_of_memory_is_told(rt: HostRuntime) {
     for line in COMMANDS {
-        let words = words_of(alloc, line)?;
-        let mut folder = MemFolder::new(alloc);
-        folder.add("spec", ONE_SPEC.as_bytes())?;
-        folder.add("bin", ONE)?;
-        folder.add("text", b"(sort wff provable)")?;
-        folder.add("list", b"sort 0 4\nend\n")?;
-        folder.room("out", 51)?;
-        let mut out = MemSink::new(alloc, 200)?;
-        let Some(held) = take_all(alloc)? else {
-            return Ok(());
-        };
-        let status = run(alloc, Seed::FIXED, &words, &mut folder, &mut out);
-        drop(held);
-        assert!(rt; status == Status::Memory, "{line} without memory");
-        assert!(rt; out.bytes().is_empty(), "{line} without memory");
-        assert!(rt; folder.file("out").is_none(), "{line} without memory");
-        let status = run(alloc, Seed::FIXED, &words, &mut folder, &mut out);
-        assert!(rt; status == Status::Done, "{line} with memory again");
+        if !expect_memory_told(&rt, line) {
+            return;
+        }
     }
-    Ok(())
 }
 
 const STATUSES: &[(Status, u8, Option<&str>)] = &[

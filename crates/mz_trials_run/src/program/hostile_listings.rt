@@ -2,12 +2,10 @@
 // program: `scripts/hostile-texts` works it out.
 use crate::program::change::{Change, changed, with_byte};
 use crate::program::listings::{COMMANDS_LISTING, DUMMY_LISTING, FOLD_LISTING};
-use crate::program::{hostile_sheets, words_of};
-use mz_io::{MemFolder, MemSink};
-use mz_tool::{Seed, Status, run};
+use crate::program::{ended, folder_of, hostile_sheets};
+use mz_tool::Status;
 use std::alloc::{AllocError, Global};
 use std::process::Abort;
-use std::test::Fail;
 
 /// A byte that is put in place of another (None: the listing is cut there), and what is told then: rows that
 /// end with `/`, each of them for so many places on.
@@ -52,9 +50,13 @@ impl Row {
         row
     }
 
-    /// Whether a binary is made.
-    fn is_done(self) -> bool {
-        self.rule.is_empty()
+    /// How assembling ends.
+    fn status(self) -> Status {
+        if self.rule.is_empty() {
+            Status::Done
+        } else {
+            Status::Refused
+        }
     }
 
     /// What is told of a change in this line of the listing.
@@ -90,38 +92,25 @@ fn line_of(text: &str, place: usize) -> usize {
 
 /// The listing that is cut at the place, or has another byte there.
 fn changed_at(
-    alloc: Global,
+    rt: &(impl Abort + AllocGlobal),
     text: &str,
     byte: Option<u8>,
     place: usize,
-) -> Result<Vec<u8>, AllocError> {
+) -> Vec<u8> {
     match byte {
-        None => changed(alloc, text.as_bytes(), &[Change::Front(place)]),
-        Some(byte) => with_byte(alloc, text.as_bytes(), place, byte),
+        None => changed(rt, text.as_bytes(), &[Change::Front(place)]),
+        Some(byte) => with_byte(rt.alloc(), text.as_bytes(), place, byte).expect(rt, "memory"),
     }
 }
 
-/// How assembling a listing ends, the folder after it, and what was written.
-fn assembled(alloc: Global, listing: &[u8]) -> Result<(Status, MemFolder, MemSink), AllocError> {
-    let mut folder = MemFolder::new(alloc);
-    folder.add("list", listing)?;
-    folder.room("out", 4096)?;
-    let mut out = MemSink::new(alloc, 200)?;
-    let words = words_of(alloc, "assemble list out")?;
-    let status = run(alloc, Seed::FIXED, &words, &mut folder, &mut out);
-    Ok((status, folder, out))
-}
-
 /// Whether assembling ends as it has to: with this line, and with a file where a binary is made.
-fn is_told(alloc: Global, listing: &[u8], line: &str, is_done: bool) -> Result<bool, AllocError> {
-    let (status, folder, out) = assembled(alloc, listing)?;
-    let wanted = if is_done {
-        Status::Done
-    } else {
-        Status::Refused
-    };
+fn is_told(rt: &(impl Abort + AllocGlobal), listing: &[u8], line: &str, wanted: Status) -> bool {
+    let mut folder = folder_of(rt, &[("list", listing)]);
+    folder.room("out", 4096).expect(rt, "memory");
+    let (status, out) = ended(rt, "assemble list out", &mut folder, 200);
     let is_line = out.bytes() == line.as_bytes();
-    Ok(status == wanted && is_line && folder.file("out").is_some() == is_done)
+    let is_put = folder.file("out").is_some();
+    status == wanted && is_line && is_put == (wanted == Status::Done)
 }
 
 /// Assembles the listing as it is changed at a place. Where the byte was there already, there is nothing to
@@ -132,15 +121,16 @@ fn expect_place(
     byte: Option<u8>,
     place: usize,
     row: Row,
-) -> Result<(), Fail> {
+) {
     if byte.is_some() && byte == text.as_bytes().get(place).copied() {
-        return Ok(());
+        return;
     }
-    let line = row.line(rt.alloc(), line_of(text, place))?;
-    let listing = changed_at(rt.alloc(), text, byte, place)?;
-    let is_right = is_told(rt.alloc(), &listing, &line, row.is_done())?;
+    let line = row
+        .line(rt.alloc(), line_of(text, place))
+        .expect(rt, "memory");
+    let listing = changed_at(rt, text, byte, place);
+    let is_right = is_told(rt, &listing, &line, row.status());
     assert!(rt; is_right, "changed at {place}: {line}");
-    Ok(())
 }
 
 fn expect_row(
@@ -149,21 +139,20 @@ fn expect_row(
     byte: Option<u8>,
     from: usize,
     row: Row,
-) -> Result<(), Fail> {
+) {
     for place in from..from.saturating_add(row.places) {
-        expect_place(rt, text, byte, place, row)?;
+        expect_place(rt, text, byte, place, row);
     }
-    Ok(())
 }
 
 /// Assembles the listing as it is changed at each place.
-fn expect_sheet(rt: &(impl Abort + AllocGlobal), text: &str, sheet: Sheet) -> Result<(), Fail> {
+fn expect_sheet(rt: &(impl Abort + AllocGlobal), text: &str, sheet: Sheet) {
     let (byte, rows) = sheet;
     let mut place = 0;
     let mut row = EMPTY_ROW;
     for word in rows.split_whitespace() {
         if word == "/" {
-            expect_row(rt, text, byte, place, row)?;
+            expect_row(rt, text, byte, place, row);
             place = place.saturating_add(row.places);
             row = EMPTY_ROW;
         } else {
@@ -171,24 +160,17 @@ fn expect_sheet(rt: &(impl Abort + AllocGlobal), text: &str, sheet: Sheet) -> Re
         }
     }
     assert!(rt; place == text.len(), "the places of {text}");
-    Ok(())
 }
 
-fn expect_sheets(
-    rt: &(impl Abort + AllocGlobal),
-    text: &str,
-    sheets: &[Sheet],
-) -> Result<(), Fail> {
+fn expect_sheets(rt: &(impl Abort + AllocGlobal), text: &str, sheets: &[Sheet]) {
     for sheet in sheets {
-        expect_sheet(rt, text, *sheet)?;
+        expect_sheet(rt, text, *sheet);
     }
-    Ok(())
 }
 
 #[test]
-fn listings_cut_and_changed_at_each_place(rt: HostRuntime) -> Result<(), Fail> {
+fn listings_cut_and_changed_at_each_place(rt: HostRuntime) {
     for (text, sheets) in LISTINGS {
-        expect_sheets(&rt, text, sheets)?;
+        expect_sheets(&rt, text, sheets);
     }
-    Ok(())
 }

@@ -2,7 +2,6 @@
 use crate::program::change::Change::{Front, Put, Then};
 use crate::program::files::{ONE, ONE_SPEC, TERM, TERM_SPEC};
 use crate::program::{Case, expect_cases};
-use std::test::Fail;
 
 /// The list of the smallest file, from 48 on.
 const LISTS: &[Case] = &[
@@ -113,13 +112,12 @@ const BYTES: &[Case] = &[
 ];
 
 #[test]
-fn headers_and_lists(rt: HostRuntime) -> Result<(), Fail> {
-    expect_cases(&rt, ONE_SPEC, ONE, LISTS)?;
-    expect_cases(&rt, ONE_SPEC, ONE, BYTES)
+fn headers_and_lists(rt: HostRuntime) {
+    expect_cases(&rt, ONE_SPEC, ONE, LISTS);
+    expect_cases(&rt, ONE_SPEC, ONE, BYTES);
 }
 
-/// The words of a term, its record, and the distances and kinds of the two statements. What is good, and
-/// not what the specification says, comes as far as the match.
+/// Single words of a term. What is good, and not what the specification says, comes as far as the match.
 const WORDS: &[Case] = &[
     (
         &[Put(64, &[1])],
@@ -166,6 +164,10 @@ const WORDS: &[Case] = &[
         "refused: binary statement 2 at byte 56: K8 binder",
         "a bound parameter of a sort that is not there",
     ),
+];
+
+/// Several words of a term, its record, and the distances and kinds of the two statements.
+const MORE_WORDS: &[Case] = &[
     (
         &[Put(56, &[1]), Put(63, &[0x80]), Put(64, &[1])],
         "refused: match declaration 2 statement 2: M5 binders",
@@ -371,9 +373,18 @@ const TERM_LISTS: &[Case] = &[
 ];
 
 #[test]
-fn words_of_a_term(rt: HostRuntime) -> Result<(), Fail> {
-    expect_cases(&rt, TERM_SPEC, TERM, WORDS)?;
-    expect_cases(&rt, STRICT_SPEC, TERM, STRICT_WORDS)?;
-    expect_cases(&rt, "pure provable sort wff;", TERM, PURE_RESULT)?;
-    expect_cases(&rt, TERM_SPEC, TERM, TERM_LISTS)
+fn words_of_a_term(rt: HostRuntime) {
+    expect_cases(&rt, TERM_SPEC, TERM, WORDS);
+}
+
+#[test]
+fn more_words_of_a_term(rt: HostRuntime) {
+    expect_cases(&rt, TERM_SPEC, TERM, MORE_WORDS);
+}
+
+#[test]
+fn other_words_of_a_term(rt: HostRuntime) {
+    expect_cases(&rt, STRICT_SPEC, TERM, STRICT_WORDS);
+    expect_cases(&rt, "pure provable sort wff;", TERM, PURE_RESULT);
+    expect_cases(&rt, TERM_SPEC, TERM, TERM_LISTS);
 }

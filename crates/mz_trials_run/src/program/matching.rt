@@ -4,23 +4,16 @@ use crate::program::change::{Change, changed};
 use crate::program::expect_verdict;
 use crate::program::files::{DUMMY, FOLD, IMP, ONE, QUANTIFIER, TERM};
 use std::process::Abort;
-use std::test::Fail;
 
 /// The end of a specification, changes of the file, and the line.
 type Pair = (&'static str, &'static [Change], &'static str);
 
-fn expect_pairs(
-    rt: &(impl Abort + AllocGlobal),
-    base: &[u8],
-    head: &str,
-    pairs: &[Pair],
-) -> Result<(), Fail> {
+fn expect_pairs(rt: &(impl Abort + AllocGlobal), base: &[u8], head: &str, pairs: &[Pair]) {
     for (end, changes, line) in pairs {
-        let spec = format!(in rt.alloc(); "{head}{end}")?;
-        let bin = changed(rt.alloc(), base, changes)?;
-        expect_verdict(rt, spec.as_bytes(), &bin, line, end)?;
+        let spec = format!(in rt.alloc(); "{head}{end}").expect(rt, "memory");
+        let bin = changed(rt, base, changes);
+        expect_verdict(rt, spec.as_bytes(), &bin, line, end);
     }
-    Ok(())
 }
 
 const SORTS: &[Pair] = &[
@@ -175,8 +168,8 @@ const SORTS: &[Pair] = &[
 ];
 
 #[test]
-fn pairs_of_sorts(rt: HostRuntime) -> Result<(), Fail> {
-    expect_pairs(&rt, ONE, "", SORTS)
+fn pairs_of_sorts(rt: HostRuntime) {
+    expect_pairs(&rt, ONE, "", SORTS);
 }
 
 const TERMS: &[Pair] = &[
@@ -368,9 +361,9 @@ const QUANTIFIERS: &[Pair] = &[
 ];
 
 #[test]
-fn pairs_of_terms(rt: HostRuntime) -> Result<(), Fail> {
-    expect_pairs(&rt, TERM, "", TERMS)?;
-    expect_pairs(&rt, QUANTIFIER, "", QUANTIFIERS)
+fn pairs_of_terms(rt: HostRuntime) {
+    expect_pairs(&rt, TERM, "", TERMS);
+    expect_pairs(&rt, QUANTIFIER, "", QUANTIFIERS);
 }
 
 const IMP_HEAD: &str = "provable sort wff; term im (a b: wff): wff; infixr im: $->$ prec 25; ";
@@ -513,9 +506,9 @@ const OTHER_IMPLICATIONS: &[Pair] = &[
 ];
 
 #[test]
-fn pairs_of_assertions(rt: HostRuntime) -> Result<(), Fail> {
-    expect_pairs(&rt, IMP, IMP_HEAD, IMPLICATIONS)?;
-    expect_pairs(&rt, IMP, "", OTHER_IMPLICATIONS)
+fn pairs_of_assertions(rt: HostRuntime) {
+    expect_pairs(&rt, IMP, IMP_HEAD, IMPLICATIONS);
+    expect_pairs(&rt, IMP, "", OTHER_IMPLICATIONS);
 }
 
 const FOLD_HEAD: &str = "delimiter $ ( $ $ ) $; provable sort wff; term not (a: wff): wff; ";
@@ -660,8 +653,8 @@ const DUMMIES: &[Pair] = &[
 ];
 
 #[test]
-fn pairs_of_definitions(rt: HostRuntime) -> Result<(), Fail> {
-    expect_pairs(&rt, FOLD, FOLD_HEAD, FOLDS)?;
-    let binding = changed(rt.alloc(), DUMMY, BOUND_PARAMETERS)?;
-    expect_pairs(&rt, &binding, DUMMY_HEAD, DUMMIES)
+fn pairs_of_definitions(rt: HostRuntime) {
+    expect_pairs(&rt, FOLD, FOLD_HEAD, FOLDS);
+    let binding = changed(&rt, DUMMY, BOUND_PARAMETERS);
+    expect_pairs(&rt, &binding, DUMMY_HEAD, DUMMIES);
 }

@@ -1,16 +1,16 @@
 use Rattle.std.proofs.Common.{◌∙◌, ℕ, get_or, Contains, sym, refl}
 use Rattle.std.proofs.lemmas.Bool.{true≢false, false≢true}
+use Rattle.std.proofs.lemmas.List.Elements.{Contains-get_or}
 use Rattle.mz_general.proofs.Offered.{all_so_far_more, all-members}
 use Rattle.mz_coercions.specs.declared.firsts.Start.{Start}
 use Rattle.mz_coercions.specs.Answers.{HasPath}
-use Rattle.mz_coercions.proofs.Leading.{item-in}
 use Rattle.mz_coercions.proofs.firsts.are_joined.Goals as goal
 
 pub returns-then-reaches_any : goal.returns-then-reaches_any
 returns-then-reaches_any c =
     let zero : Start = record { sort = 0; place = 0 } in
     let (t, at, path) = c.reaches_any.ensures.0 c.if-reaches_any.true in
-    (λ _. (get_or c.args.starts.now c.loop-start.start-index zero, t, item-in c.args.starts.now c.loop-start.start-index zero c.loop-start-test.true, at, path), λ h. refl)
+    (λ _. (get_or c.args.starts.now c.loop-start.start-index zero, t, Contains-get_or c.args.starts.now c.loop-start.start-index zero c.loop-start-test.true, at, path), λ h. refl)
 
 pub loop-start-preserved : goal.loop-start-preserved
 loop-start-preserved c =

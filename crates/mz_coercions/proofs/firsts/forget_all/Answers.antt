@@ -1,8 +1,9 @@
 use Rattle.std.proofs.Common.{◌≡◌, ℕ, None, get_or, Contains}
+use Rattle.std.proofs.lemmas.List.Elements.{Contains-get_or}
 use Rattle.mz_general.proofs.Offered.{all_so_far_more, all-members}
 use Rattle.mz_coercions.specs.declared.firsts.Start.{Start}
 use Rattle.mz_coercions.specs.Firsts.{first_of}
-use Rattle.mz_coercions.proofs.Leading.{all-changed, all-kept, item-in}
+use Rattle.mz_coercions.proofs.Leading.{all-changed, all-kept}
 use Rattle.mz_coercions.proofs.firsts.forget_all.Goals as goal
 
 pub loop-start-preserved : goal.loop-start-preserved
@@ -13,7 +14,7 @@ loop-start-preserved c =
     let ends = c.args.ends.now in
     let zero : Start = record { sort = 0; place = 0 } in
     let f : Start = get_or c.args.starts.now c.loop-start.start-index zero in
-    let has = item-in c.args.starts.now c.loop-start.start-index zero c.loop-start-test.true in
+    let has = Contains-get_or c.args.starts.now c.loop-start.start-index zero c.loop-start-test.true in
     let P : Start → Type 0 = λ g. (t : ℕ) → Contains c.args.ends.now t → first_of c.forget_from.new.firsts g.sort t ≡ None in
     record {
       others = all-changed m n starts ends f has c.forget_from.ensures.others c.args.firsts.now c.loop-start.invariant.others;

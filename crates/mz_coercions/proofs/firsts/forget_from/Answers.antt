@@ -1,7 +1,8 @@
 use Rattle.std.proofs.Common.{◌≡◌, ℕ, None, get_or}
+use Rattle.std.proofs.lemmas.List.Elements.{Contains-get_or}
 use Rattle.mz_general.proofs.Offered.{all_so_far_more}
 use Rattle.mz_coercions.specs.Firsts.{first_of}
-use Rattle.mz_coercions.proofs.Leading.{gone-changed, gone-kept, item-in}
+use Rattle.mz_coercions.proofs.Leading.{gone-changed, gone-kept}
 use Rattle.mz_coercions.proofs.firsts.forget_from.Goals as goal
 
 pub loop-end-preserved : goal.loop-end-preserved
@@ -10,7 +11,7 @@ loop-end-preserved c =
     let n = c.remove.new.self in
     let ends = c.args.ends.now in
     let end : ℕ = get_or c.args.ends.now c.loop-end.end-index 0 in
-    let has = item-in c.args.ends.now c.loop-end.end-index 0 c.loop-end-test.true in
+    let has = Contains-get_or c.args.ends.now c.loop-end.end-index 0 c.loop-end-test.true in
     let put = c.remove.ensures in
     record {
       others = gone-changed m n c.args.from ends end has put c.args.firsts.now c.loop-end.invariant.others;

@@ -1,7 +1,8 @@
 use Rattle.std.proofs.Common.{◌≡◌, ℕ, Some, get_or, refl, arith}
+use Rattle.std.proofs.lemmas.List.Elements.{Contains-get_or}
 use Rattle.mz_general.proofs.Offered.{all_so_far_more, all-members}
 use Rattle.mz_coercions.specs.Firsts.{IsOfStart, first_of}
-use Rattle.mz_coercions.proofs.Leading.{end-changed, end-kept, item-in, then-changed, un-changed}
+use Rattle.mz_coercions.proofs.Leading.{end-changed, end-kept, then-changed, un-changed}
 use Rattle.mz_coercions.proofs.firsts.lead_from.Goals as goal
 
 pub loop-end-init : goal.loop-end-init
@@ -17,7 +18,7 @@ loop-end-preserved c =
     let f = c.args.start in
     let ends = c.args.ends.now in
     let end : ℕ = get_or c.args.ends.now c.loop-end.end-index 0 in
-    let has = item-in c.args.ends.now c.loop-end.end-index 0 c.loop-end-test.true in
+    let has = Contains-get_or c.args.ends.now c.loop-end.end-index 0 c.loop-end-test.true in
     let put = c.in_ok-insert.ensures.ok in
     record {
       others = end-changed m n f ends end has put c.args.firsts.now c.loop-end.invariant.others;

@@ -1,13 +1,13 @@
 use Rattle.std.proofs.Common.{◌∙◌, get_or, sym, refl}
 use Rattle.std.proofs.lemmas.Bool.{true≢false, false≢true}
+use Rattle.std.proofs.lemmas.List.Elements.{Contains-get_or}
 use Rattle.mz_general.proofs.Offered.{all_so_far_more, all-members}
 use Rattle.mz_coercions.specs.Answers.{HasPath}
-use Rattle.mz_coercions.proofs.Leading.{item-in}
 use Rattle.mz_coercions.proofs.firsts.reaches_any.Goals as goal
 
 pub returns-then-is_reached : goal.returns-then-is_reached
 returns-then-is_reached c =
-    (λ t. (get_or c.args.ends.now c.loop-end.end-index 0, item-in c.args.ends.now c.loop-end.end-index 0 c.loop-end-test.true, c.is_reached.ensures.0 c.if-is_reached.true), λ h. refl)
+    (λ t. (get_or c.args.ends.now c.loop-end.end-index 0, Contains-get_or c.args.ends.now c.loop-end.end-index 0 c.loop-end-test.true, c.is_reached.ensures.0 c.if-is_reached.true), λ h. refl)
 
 pub loop-end-preserved : goal.loop-end-preserved
 loop-end-preserved c =

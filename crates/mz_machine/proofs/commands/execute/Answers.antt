@@ -1,30 +1,112 @@
-use Rattle.std.proofs.lemmas.Result.{err_from_is_err_and}
+use Rattle.std.proofs.Common.{arith}
+use Rattle.std.proofs.lemmas.Result.{on_ok_weaker}
+use Rattle.mz_unification.specs.Profile.{strict}
+use Rattle.mz_earlier.specs.Before.{tables_of}
 use Rattle.mz_unify.proofs.Offered.{are-still-in}
+use Rattle.mz_machine.specs.OverStore.{state_at}
+use Rattle.mz_machine.proofs.Unfoldings.{no-more, unless-mem}
+use Rattle.mz_machine.proofs.HandedOn.{on-ok, on-both, making-takes, keeping-steps, grows-not}
 use Rattle.mz_machine.proofs.commands.execute.Goals as goal
 
-pub returns-in_err-make-in-Makes-clause-row : goal.returns-in_err-make-in-Makes-clause-row
-returns-in_err-make-in-Makes-clause-row g c at =
-    let p = err_from_is_err_and c.from_residual.result c.from_residual.ensures.1 in
-    rw (p.1, p.2, c.in-Makes.is) (c.in_err-make-in-Makes.ensures.row at c.args.hyps.now.items c.requires.hyps)
+pub returns-in-Makes-clause-grows : goal.returns-in-Makes-clause-grows
+returns-in-Makes-clause-grows g c = c.make.ensures.grows
 
-pub returns-in_err-make-in-Makes-clause-steps : goal.returns-in_err-make-in-Makes-clause-steps
-returns-in_err-make-in-Makes-clause-steps g c =
-    let p = err_from_is_err_and c.from_residual.result c.from_residual.ensures.1 in
-    rw (p.1, p.2, c.in-Makes.is) (c.in_err-make-in-Makes.ensures.steps c.args.hyps.now.items)
+pub returns-in-Makes-clause-ids : goal.returns-in-Makes-clause-ids
+returns-in-Makes-clause-ids g c =
+    on-both c.make.result (λ grows ids. (ids.0, ids.1, are-still-in c.args.store.now c.make.new.store grows.keeps c.args.hyps.now.items c.requires.hyps)) c.make.ensures.grows c.make.ensures.ids
 
-pub returns-in_err-convert-in-Converts-clause-row : goal.returns-in_err-convert-in-Converts-clause-row
-returns-in_err-convert-in-Converts-clause-row g c at =
-    let p = err_from_is_err_and c.from_residual-in_err-convert-in-Converts.result c.from_residual-in_err-convert-in-Converts.ensures.1 in
-    rw (p.1, p.2, c.in-Converts.is) (c.in_err-convert-in-Converts.ensures.row at c.args.value c.args.hyps.now.items)
+pub returns-in-Makes-clause-few : goal.returns-in-Makes-clause-few
+returns-in-Makes-clause-few g c = on-ok c.make.result c.requires.few
 
-pub returns-in_err-convert-in-Converts-clause-steps : goal.returns-in_err-convert-in-Converts-clause-steps
-returns-in_err-convert-in-Converts-clause-steps g c =
-    let p = err_from_is_err_and c.from_residual-in_err-convert-in-Converts.result c.from_residual-in_err-convert-in-Converts.ensures.1 in
-    rw (p.1, p.2, c.in-Converts.is) (c.in_err-convert-in-Converts.ensures.steps c.args.value c.args.hyps.now.items)
+pub returns-in-Makes-clause-row : goal.returns-in-Makes-clause-row
+returns-in-Makes-clause-row g c at = rw c.in-Makes.is (c.make.ensures.row at c.args.hyps.now.items c.requires.hyps)
 
-pub returns-in_ok-make-in-Makes-clause-ids : goal.returns-in_ok-make-in-Makes-clause-ids
-returns-in_ok-make-in-Makes-clause-ids g c = (
-  c.in_ok-make-in-Makes.ensures.ids.0,
-  c.in_ok-make-in-Makes.ensures.ids.1,
-  are-still-in c.args.store.now c.make.new.store c.in_ok-make-in-Makes.ensures.grows.keeps c.args.hyps.now.items c.requires.hyps,
-)
+pub returns-in-Makes-clause-never : goal.returns-in-Makes-clause-never
+returns-in-Makes-clause-never g c =
+    let st = state_at c.args.store.now c.args.heap.now.items c.args.stack.now.items c.args.hyps.now.items in
+    rw c.in-Makes.is (λ none. absurd (making-takes c.in-Makes.making c.args.value st none))
+
+pub returns-in-Makes-clause-steps : goal.returns-in-Makes-clause-steps
+returns-in-Makes-clause-steps g c = rw c.in-Makes.is (c.make.ensures.steps c.args.hyps.now.items)
+
+pub returns-in-Makes-clause-most : goal.returns-in-Makes-clause-most
+returns-in-Makes-clause-most g c = c.make.ensures.most
+
+pub returns-in-Keeps-clause-grows : goal.returns-in-Keeps-clause-grows
+returns-in-Keeps-clause-grows g c = c.keep.ensures.grows
+
+pub returns-in-Keeps-clause-ids : goal.returns-in-Keeps-clause-ids
+returns-in-Keeps-clause-ids g c = c.keep.ensures.ids
+
+pub returns-in-Keeps-clause-few : goal.returns-in-Keeps-clause-few
+returns-in-Keeps-clause-few g c = c.keep.ensures.few
+
+pub returns-in-Keeps-clause-row : goal.returns-in-Keeps-clause-row
+returns-in-Keeps-clause-row g c at = rw c.in-Keeps.is (c.keep.ensures.row at)
+
+pub returns-in-Keeps-clause-never : goal.returns-in-Keeps-clause-never
+returns-in-Keeps-clause-never g c = rw c.in-Keeps.is c.keep.ensures.never
+
+pub returns-in-Keeps-clause-steps : goal.returns-in-Keeps-clause-steps
+returns-in-Keeps-clause-steps g c =
+    let st = state_at c.args.store.now c.args.heap.now.items c.args.stack.now.items c.args.hyps.now.items in
+    rw c.in-Keeps.is (unless-mem c.keep.result (no-more _ _ (keeping-steps strict (tables_of c.args.earlier.now) c.in-Keeps.keeping c.args.value st)))
+
+pub returns-in-Converts-clause-grows : goal.returns-in-Converts-clause-grows
+returns-in-Converts-clause-grows g c = on-ok c.convert.result (grows-not _ c.args.store.now c.requires.over)
+
+pub returns-in-Converts-clause-ids : goal.returns-in-Converts-clause-ids
+returns-in-Converts-clause-ids g c = on_ok_weaker c.convert.result (λ ids. (ids.0, ids.1, c.requires.hyps)) c.convert.ensures.ids
+
+pub returns-in-Converts-clause-few : goal.returns-in-Converts-clause-few
+returns-in-Converts-clause-few g c = on-ok c.convert.result c.requires.few
+
+pub returns-in-Converts-clause-row : goal.returns-in-Converts-clause-row
+returns-in-Converts-clause-row g c at = rw c.in-Converts.is (c.convert.ensures.row at c.args.value c.args.hyps.now.items)
+
+pub returns-in-Converts-clause-never : goal.returns-in-Converts-clause-never
+returns-in-Converts-clause-never g c = rw c.in-Converts.is (c.convert.ensures.never c.args.value c.args.hyps.now.items)
+
+pub returns-in-Converts-clause-steps : goal.returns-in-Converts-clause-steps
+returns-in-Converts-clause-steps g c = rw c.in-Converts.is (c.convert.ensures.steps c.args.value c.args.hyps.now.items)
+
+pub returns-in-Converts-clause-most : goal.returns-in-Converts-clause-most
+returns-in-Converts-clause-most g c = c.convert.ensures.most
+
+-- ---- what the calls ask
+
+pub make-requires-clause-over : goal.make-requires-clause-over
+make-requires-clause-over g c = c.requires.over
+
+pub make-requires-clause-heap : goal.make-requires-clause-heap
+make-requires-clause-heap g c = c.requires.heap
+
+pub make-requires-clause-stack : goal.make-requires-clause-stack
+make-requires-clause-stack g c = c.requires.stack
+
+pub keep-requires-clause-over : goal.keep-requires-clause-over
+keep-requires-clause-over g c = c.requires.over
+
+pub keep-requires-clause-heap : goal.keep-requires-clause-heap
+keep-requires-clause-heap g c = c.requires.heap
+
+pub keep-requires-clause-stack : goal.keep-requires-clause-stack
+keep-requires-clause-stack g c = c.requires.stack
+
+pub keep-requires-clause-hyps : goal.keep-requires-clause-hyps
+keep-requires-clause-hyps g c = c.requires.hyps
+
+pub keep-requires-clause-few : goal.keep-requires-clause-few
+keep-requires-clause-few g c = c.requires.few
+
+pub convert-requires-clause-over : goal.convert-requires-clause-over
+convert-requires-clause-over g c = c.requires.over
+
+pub convert-requires-clause-heap : goal.convert-requires-clause-heap
+convert-requires-clause-heap g c = c.requires.heap
+
+pub convert-requires-clause-stack : goal.convert-requires-clause-stack
+convert-requires-clause-stack g c = c.requires.stack
+
+pub returns-in-Keeps-clause-most : goal.returns-in-Keeps-clause-most
+returns-in-Keeps-clause-most g c = omega arith

@@ -103,3 +103,35 @@ returns-clause-steps g c heap =
     let m = is-ending strict (tables_of E) h st _ _ last ends in
     let own = own-matching h st kind s c.own_stream-stream.result.now c.first_ids.new.ids.items c.in-Ok.target c.own_proofs.new.items.items c.own_stream-stream.ensures.stream (ap (trees_at s) (c.in-Ok-first_ids.ensures ∙ ap first_ids c.own_arity.ensures.params) ∙ first-trees s _ c.requires.params) (ap (items_at s) c.in-Ok-own_proofs.ensures ∙ own-items s kind c.args.hyps.now) in
     unless-more c.run_own.result _ _ _ _ c.run_own.ensures.steps (end-steps strict (tables_of E) h st _ m ∙ sym (ap (λ n. unify_steps strict (signatures_of E) s.context n) own))
+
+-- ---- what the calls ask
+
+pub check_target-requires-clause-context : goal.check_target-requires-clause-context
+check_target-requires-clause-context g c = c.requires.context
+
+pub check_target-requires-clause-over : goal.check_target-requires-clause-over
+check_target-requires-clause-over g c = c.requires.over
+
+pub check_target-requires-clause-row : goal.check_target-requires-clause-row
+check_target-requires-clause-row g c = c.requires.row
+
+pub check_target-requires-clause-mode : goal.check_target-requires-clause-mode
+check_target-requires-clause-mode g c = c.requires.mode
+
+pub last_item-requires : goal.last_item-requires
+last_item-requires g c = c.requires.stack
+
+pub check_target-requires-clause-target : goal.check_target-requires-clause-target
+check_target-requires-clause-target g c = c.in-Ok.ensures.ids
+
+pub own_arity-requires : goal.own_arity-requires
+own_arity-requires g c = c.requires.row
+
+pub own_stream-stream-requires : goal.own_stream-stream-requires
+own_stream-stream-requires g c = c.requires.row
+
+pub run_own-requires-clause-over : goal.run_own-requires-clause-over
+run_own-requires-clause-over g c = c.requires.over
+
+pub run_own-requires-clause-target : goal.run_own-requires-clause-target
+run_own-requires-clause-target g c = c.in-Ok.ensures.ids

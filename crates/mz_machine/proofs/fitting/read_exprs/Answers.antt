@@ -1,6 +1,7 @@
 use Rattle.std.proofs.Common.{◌≡◌, ◌≤◌, suc, ◌∷◌, List, Ok, drop, length, sym, ap, ◌∙◌, arith, add-one}
 use Rattle.std.proofs.lemmas.List.{append-nil}
 use Rattle.std.proofs.lemmas.Option.{slice_get-get_or}
+use Rattle.std.proofs.lemmas.Result.{err_from_is_err_and}
 use Rattle.mz_general.proofs.Offered.{drop-past}
 use Rattle.mz_store.specs.declared.item.Id.{Id}
 use Rattle.mz_store.specs.declared.item.Item.{Item as Kept}
@@ -8,6 +9,7 @@ use Rattle.mz_store.specs.declared.item.Item.TheVariants.{Expr}
 use Rattle.mz_earlier.proofs.Offered.{next-at}
 use Rattle.mz_machine.specs.OverStore.{exprs_of}
 use Rattle.mz_machine.proofs.ReadExprs.{after, after-none, after-one, other-item}
+use Rattle.mz_machine.proofs.HandedOn.{memory-stops}
 use Rattle.mz_machine.proofs.fitting.read_exprs.Goals as goal
 
 pub items-init : goal.items-init
@@ -34,3 +36,8 @@ returns c =
     sym c.items.invariant
     ∙ ap (λ (xs : List Kept). after c.items.ids.items (exprs_of xs)) (drop-past c.args.items.now c.items.item-index past)
     ∙ ap (λ (is : List Id). Ok is) (append-nil c.items.ids.items)
+
+pub returns-in_err-push : goal.returns-in_err-push
+returns-in_err-push c =
+    let p = err_from_is_err_and c.from_residual.result c.from_residual.ensures.1 in
+    rw (p.1, p.2) (memory-stops _ _ c.in_err-push.ensures.err)

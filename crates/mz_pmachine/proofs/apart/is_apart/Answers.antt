@@ -4,7 +4,7 @@ use Rattle.std.proofs.lemmas.Option.{slice_get-get_or}
 use Rattle.mz_general.proofs.Offered.{slice_get-some}
 use Rattle.mz_logic.specs.Words.{word_bound, word_deps}
 use Rattle.mz_logic.specs.declared.word.Word.{Word}
-use Rattle.mz_nodes.specs.Numbering.{tree_of, vars_of}
+use Rattle.mz_punify.specs.Numbering.{tree_of, vars_of}
 use Rattle.mz_punify.specs.Stored.{trees_at}
 use Rattle.mz_punify.proofs.Offered.{is-in-at, length-trees, tree-at}
 use Rattle.mz_unification.proofs.Offered.{some_is}

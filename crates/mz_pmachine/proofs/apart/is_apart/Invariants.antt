@@ -1,6 +1,6 @@
 use Rattle.std.proofs.Common.{◌≡◌, Some, drop, slice_get}
 use Rattle.mz_logic.specs.declared.word.Word.{Word}
-use Rattle.mz_nodes.specs.Numbering.{tree_of}
+use Rattle.mz_punify.specs.Numbering.{tree_of}
 use Rattle.mz_punify.specs.Stored.{trees_at}
 use Rattle.mz_layout.specs.Rows.{params_of}
 use Rattle.mz_earlier.proofs.Offered.{Decides}

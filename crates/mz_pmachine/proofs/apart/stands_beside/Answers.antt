@@ -1,4 +1,4 @@
-use Rattle.mz_nodes.specs.Numbering.{tree_of, vars_of}
+use Rattle.mz_punify.specs.Numbering.{tree_of, vars_of}
 use Rattle.mz_earlier.proofs.Offered.{apart-words}
 use Rattle.mz_pmachine.proofs.apart.stands_beside.Goals as goal
 

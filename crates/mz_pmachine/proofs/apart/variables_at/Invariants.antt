@@ -1,5 +1,5 @@
 use Rattle.mz_store.specs.declared.item.Id.{Id}
-use Rattle.mz_nodes.specs.Numbering.{vars_of}
+use Rattle.mz_punify.specs.Numbering.{vars_of}
 use Rattle.mz_earlier.proofs.Offered.{AmongFirst}
 use Rattle.mz_pmachine.proofs.apart.variables_at.Given as goal
 

@@ -5,7 +5,7 @@ use Rattle.mz_numbered.specs.Numbered.{portable}
 use Rattle.mz_unification.proofs.Offered.{further}
 use Rattle.mz_earlier.proofs.Offered.{at-first, cut-whole, long-whole, end-whole, end-refused, end-many, refused-whole, refused-many, goes-on, ends-there, goes-further}
 use Rattle.mz_pmachine.proofs.BodyRunning.{itself, goes, row-over, steps-over, most-over, end-answer, end-counts, stop-answer, stop-counts}
-use Rattle.mz_machine.proofs.Offered.{more-steps, within-steps}
+use Rattle.mz_machine.proofs.Offered.{more-steps, place-fits, within-steps}
 use Rattle.mz_pmachine.proofs.body.run.Goals as goal
 
 pub commands-init : goal.commands-init
@@ -39,6 +39,22 @@ returns-then-next-bytes-clause-steps g c =
     let ahead = further c.args.bytes.now c.commands.at cmd read c.commands.invariant.in_range in
     let more = goes-further c.args.bytes.now c.commands.at cmd.len (λ whole. c.if-next-bytes.true (ap (λ n. c.commands.at + n) c.from.ensures ∙ sym whole)) ahead.1 in
     (long-whole on cmd read c.if-cmd-eq-END.true more).1
+
+pub returns-in_default-clause-most : goal.returns-in_default-clause-most
+returns-in_default-clause-most g c =
+    let u = machine_of c.args.setting.now c.args.parts.now in
+    within-steps c.args.steps.now c.commands.steps c.commands.at (length c.args.bytes.now) (length u.file) c.commands.invariant.most c.commands.invariant.in_range
+
+pub returns-then-next-bytes-clause-most : goal.returns-then-next-bytes-clause-most
+returns-then-next-bytes-clause-most g c =
+    let u = machine_of c.args.setting.now c.args.parts.now in
+    within-steps c.args.steps.now c.commands.steps c.commands.at (length c.args.bytes.now) (length u.file) c.commands.invariant.most c.commands.invariant.in_range
+
+pub overflow_add-next : goal.overflow_add-next
+overflow_add-next g c =
+    let cmd = c.in-Ok.cmd in
+    let ahead = further c.args.bytes.now c.commands.at cmd (sym c.in-Ok.ensures.computed) c.commands.invariant.in_range in
+    rw c.from.ensures (record { fits = place-fits c.args.from (c.commands.at + cmd.len) (length c.args.bytes.now) 4294967296 ahead.1 c.requires.within })
 
 pub returns-then-cmd-eq-END-clause-run : goal.returns-then-cmd-eq-END-clause-run
 returns-then-cmd-eq-END-clause-run g c =

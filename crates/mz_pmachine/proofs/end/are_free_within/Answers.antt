@@ -1,7 +1,7 @@
 use Rattle.std.proofs.Common.{subst}
 use Rattle.mz_store.specs.Bits.{Tells, bound_vars}
 use Rattle.mz_store.specs.Sharing.{IsTold}
-use Rattle.mz_nodes.specs.Numbering.{sort_of, tree_of}
+use Rattle.mz_punify.specs.Numbering.{sort_of, tree_of}
 use Rattle.mz_earlier.specs.Before.{signatures_of}
 use Rattle.mz_earlier.proofs.Offered.{free-test}
 use Rattle.mz_pmachine.proofs.end.are_free_within.Goals as goal

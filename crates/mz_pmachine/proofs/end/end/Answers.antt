@@ -1,5 +1,5 @@
 use Rattle.std.proofs.Common.{◌∙◌, ap, sym, subst, refl}
-use Rattle.mz_nodes.specs.Numbering.{expr_of, AreIn}
+use Rattle.mz_punify.specs.Numbering.{expr_of, AreIn}
 use Rattle.mz_punify.specs.Stored.{items_at, exprs_at, AreItemsIn}
 use Rattle.mz_unification.specs.UnifyMachine.{unify, unify_steps}
 use Rattle.mz_earlier.specs.OwnRow.{first_ids, heading_by, kind_of}
@@ -97,3 +97,32 @@ returns-clause-steps g c heap =
     let m = is-ending portable (tables_of E) h st _ _ last ends in
     let own = own-matching h st kind s c.own_stream-stream.result.now c.first_ids.new.ids.items c.in-Ok.target c.own_proofs.new.items.items c.own_stream-stream.ensures.stream (ap (exprs_at s) (c.in-Ok-first_ids.ensures ∙ ap first_ids c.own_arity.ensures.params) ∙ first-exprs s _ c.requires.params) (ap (items_at s) c.in-Ok-own_proofs.ensures ∙ own-items s kind c.args.hyps.now) in
     unless-more c.run_own.result _ _ _ _ c.run_own.ensures.steps (end-steps portable (tables_of E) h st _ m ∙ sym (ap (λ n. unify_steps portable (signatures_of E) s.context n) own))
+
+-- ---- what the calls ask
+
+pub check_target-requires-clause-context : goal.check_target-requires-clause-context
+check_target-requires-clause-context g c = c.requires.context
+
+pub check_target-requires-clause-over : goal.check_target-requires-clause-over
+check_target-requires-clause-over g c = c.requires.over
+
+pub check_target-requires-clause-row : goal.check_target-requires-clause-row
+check_target-requires-clause-row g c = c.requires.row
+
+pub last_item-requires : goal.last_item-requires
+last_item-requires g c = c.requires.stack
+
+pub check_target-requires-clause-target : goal.check_target-requires-clause-target
+check_target-requires-clause-target g c = c.in-Ok.ensures.ids
+
+pub own_arity-requires : goal.own_arity-requires
+own_arity-requires g c = c.requires.row
+
+pub own_stream-stream-requires : goal.own_stream-stream-requires
+own_stream-stream-requires g c = c.requires.row
+
+pub run_own-requires-clause-over : goal.run_own-requires-clause-over
+run_own-requires-clause-over g c = c.requires.over
+
+pub run_own-requires-clause-target : goal.run_own-requires-clause-target
+run_own-requires-clause-target g c = c.in-Ok.ensures.ids

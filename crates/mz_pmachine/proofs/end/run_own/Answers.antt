@@ -1,5 +1,5 @@
 use Rattle.std.proofs.Common.{sym, subst}
-use Rattle.mz_nodes.specs.Numbering.{IsOver}
+use Rattle.mz_punify.specs.Numbering.{IsOver}
 use Rattle.mz_earlier.proofs.Offered.{signatures-before}
 use Rattle.mz_machine.proofs.Offered.{own-run, own-steps}
 use Rattle.mz_pmachine.proofs.end.run_own.Goals as goal

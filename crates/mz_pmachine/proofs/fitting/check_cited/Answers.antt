@@ -1,5 +1,6 @@
 use Rattle.std.proofs.Common.{◌<◌, ◌≤◌, ◌+◌, ◌++◌, List, ℕ, drop, length, refl, sym, ap, ◌∙◌, arith, add-one}
 use Rattle.std.proofs.lemmas.Option.{slice_get-get_or}
+use Rattle.std.proofs.lemmas.Result.{err_from_is_err_and}
 use Rattle.mz_logic.specs.Words.{bound_places}
 use Rattle.mz_punify.specs.Stored.{trees_at}
 use Rattle.mz_punify.proofs.Offered.{is-in-at, length-trees, tree-at}
@@ -7,6 +8,7 @@ use Rattle.mz_earlier.specs.Before.{signatures_of}
 use Rattle.mz_earlier.proofs.Offered.{places-take, places-skip, places-all}
 use Rattle.mz_layout.specs.Rows.{params_of}
 use Rattle.mz_machine.proofs.Offered.{fit-end, fit-step}
+use Rattle.mz_machine.proofs.Offered.{memory-stops}
 use Rattle.mz_pmachine.proofs.fitting.check_cited.Goals as goal
 use Rattle.mz_pmachine.proofs.fitting.check_cited.Goals.{then-bound+in_ok-push, else-bound}
 
@@ -55,3 +57,11 @@ pub returns-clause-places : goal.returns-clause-places
 returns-clause-places c =
     let ws = params_of c.args.earlier.now.file c.args.row in
     places-all ws c.operands.j c.operands.places.items (bound_places 0 ws) (omega (arith, c.arity_of-j-end.ensures, c.operands-test.false)) c.operands.invariant.1
+
+pub returns-in_err-push-clause-fit : goal.returns-in_err-push-clause-fit
+returns-in_err-push-clause-fit c =
+    let p = err_from_is_err_and c.from_residual.result c.from_residual.ensures.1 in
+    rw (p.1, p.2) (memory-stops _ _ c.in_err-push.ensures.err)
+
+pub returns-in_err-push-clause-places : goal.returns-in_err-push-clause-places
+returns-in_err-push-clause-places c = rw (err_from_is_err_and c.from_residual.result c.from_residual.ensures.1).1 tt

@@ -1,6 +1,6 @@
 use Rattle.std.proofs.Common.{◌∙◌, ◌≡◌, true, sym, ap}
 use Rattle.std.specs.Prelude.{◌==◌}
-use Rattle.mz_nodes.specs.Numbering.{expr_of}
+use Rattle.mz_punify.specs.Numbering.{expr_of}
 use Rattle.mz_punify.proofs.StoredIds.{stack-empty, alone}
 use Rattle.mz_unification.specs.UnifyMachine.{is_empty, next_hypothesis}
 use Rattle.mz_unify.specs.Stored.{mode_of}

@@ -1,5 +1,5 @@
 use Rattle.std.proofs.Common.{◌∙◌, ◌≡◌, true, false, sym}
-use Rattle.mz_nodes.specs.Numbering.{expr_of}
+use Rattle.mz_punify.specs.Numbering.{expr_of}
 use Rattle.mz_punify.proofs.VariableWords.{not-bound, other-sort, fresh-is-word}
 use Rattle.mz_punify.proofs.rows.is_fresh.Goals as goal
 use Rattle.mz_punify.proofs.rows.is_fresh.Goals.{then-is_bound, else-is_bound}

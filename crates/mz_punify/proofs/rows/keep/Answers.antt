@@ -1,4 +1,4 @@
-use Rattle.mz_nodes.specs.Numbering.{expr_of}
+use Rattle.mz_punify.specs.Numbering.{expr_of}
 use Rattle.mz_punify.proofs.VariableWords.{tells-push}
 use Rattle.mz_punify.proofs.rows.keep.Goals as goal
 

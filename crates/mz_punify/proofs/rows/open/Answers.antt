@@ -1,6 +1,6 @@
 use Rattle.std.proofs.Common.{◌≡◌, ◌++◌, Some, ◌∙◌, sym}
 use Rattle.std.specs.Prelude.{reverse}
-use Rattle.mz_nodes.specs.Numbering.{expr_of, head_of}
+use Rattle.mz_punify.specs.Numbering.{expr_of, head_of}
 use Rattle.mz_punify.specs.Stored.{stack_at}
 use Rattle.mz_punify.proofs.StoredIds.{are-in-both, are-in-reverse, put-there}
 use Rattle.mz_unify.proofs.Offered.{term-none, save-none, term-other, save-other, term-row, save-row, heads-differ, heads-same}

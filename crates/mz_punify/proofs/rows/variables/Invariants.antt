@@ -1,7 +1,7 @@
 use Rattle.std.proofs.Common.{List, map, take}
 use Rattle.mz_logic.specs.Signature.{Signature}
 use Rattle.mz_numbered.specs.Numbered.{tree_of}
-use Rattle.mz_nodes.specs.Numbering.{IsOver}
+use Rattle.mz_punify.specs.Numbering.{IsOver}
 use Rattle.mz_punify.specs.Stored.{exprs_at}
 use Rattle.mz_unify.specs.Rows.{TellsAny}
 use Rattle.mz_punify.proofs.rows.variables.Given as goal

@@ -1,7 +1,7 @@
 use Rattle.std.proofs.Common.{◌≡◌, ℕ, ◌+◌, ◌-◌, ◌≤◌, List, length, map}
 use Rattle.mz_logic.specs.Signature.{Signature}
 use Rattle.mz_numbered.specs.Numbered.{Numbered, tree_of, portable}
-use Rattle.mz_nodes.specs.Numbering.{AreIn, IsOver}
+use Rattle.mz_punify.specs.Numbering.{AreIn, IsOver}
 use Rattle.mz_unify.specs.Stored.{mode_of, AreLeft}
 use Rattle.mz_unify.specs.Rows.{TellsAny}
 use Rattle.mz_punify.specs.Stored.{exprs_at, AreItemsIn}

@@ -21,10 +21,14 @@ pub returns-then-is_of-clause-found : goal.returns-then-is_of-clause-found
 returns-then-is_of-clause-found c = IfOk-weaker c.share.result _ _ (λ deps same types is found. found) c.share.ensures
 
 pub returns-clause-deps : goal.returns-clause-deps
-returns-clause-deps c = λ types is found. c.in_ok-deps.ensures ∙ ap (λ ds. dep_places 0 (map variable c.args.params.now) (map lexeme ds)) c.deref.ensures.value
+returns-clause-deps c = IfOk-weaker c.share-2.result _ _
+    (λ deps same types is found. same ∙ c.in_ok-places_among.ensures ∙ ap (λ ds. dep_places 0 (map variable c.args.params.now) (map lexeme ds)) c.deref.ensures.value)
+    c.share-2.ensures
 
 pub returns-clause-found : goal.returns-clause-found
-returns-clause-found c = λ types is found g t own told.
+returns-clause-found c =
     let ps = map variable c.args.params.now in
-    c.in_ok-shared.ensures ∙ c.in_ok-deps.ensures ∙ ap (λ ds. dep_places 0 ps (map lexeme ds)) c.deref.ensures.value
-    ∙ ap (λ (u : TypeText). dep_places 0 ps u.deps) (one_at (in-group types c.args.variable.now g own is) told)
+    IfOk-weaker c.share-2.result _ _
+    (λ deps same types is found g t own told. c.in_ok-places_among.ensures ∙ ap (λ ds. dep_places 0 ps (map lexeme ds)) c.deref.ensures.value
+    ∙ ap (λ (u : TypeText). dep_places 0 ps u.deps) (one_at (in-group types c.args.variable.now g own is) told))
+    c.share-2.ensures

@@ -1,4 +1,4 @@
-use Rattle.std.proofs.Common.{subst}
+use Rattle.std.proofs.Common.{refl, subst}
 use Rattle.std.specs.Prelude.{map, string_bytes}
 use Rattle.mz_tool.specs.Request.{Request, SameButPut, name_put}
 use Rattle.mz_tool.specs.Asked.{request}
@@ -52,3 +52,6 @@ pub returns-in-Some-clause-sound : goal.returns-in-Some-clause-sound
 returns-in-Some-clause-sound g c = λ told asked asks done.
     let P : Request → Type 0 = λ r. IsProved (g.F.Folder.file c.args.folder.now) r in
     subst P (one-request (map string_bytes c.args.words.now) (request c.in-Some.command) asked c.in-Some.ensures.asked asks) (c.answer.ensures.sound told done)
+
+pub returns-in-None-clause-only_usage : goal.returns-in-None-clause-only_usage
+returns-in-None-clause-only_usage g c = λ none. refl

@@ -1,9 +1,10 @@
-use Rattle.std.proofs.Common.{◌<◌, ◌+◌, drop, arith, length}
+use Rattle.std.proofs.Common.{◌<◌, ◌+◌, drop, arith, length, subst, sym}
+use Rattle.mz_checks.proofs.Offered.{Decides}
 use Rattle.mz_sexpr.specs.Number.{first, rest}
 use Rattle.mz_logic.specs.Declaration.{signatures}
 use Rattle.mz_forms.specs.ConvView.{conversion, conversions}
 use Rattle.mz_typing.specs.Rules.{side_rules, own_side_rules}
-use Rattle.mz_typing.proofs.Judging.{handed_on, left_fails}
+use Rattle.mz_typing.proofs.Judging.{handed_on, left_fails, left_step}
 use Rattle.mz_typing.proofs.Steps.{sides_cut, no_sides_left}
 use Rattle.mz_typing.proofs.convs.check_sides.Goals as goal
 
@@ -22,3 +23,21 @@ returns-in_err-check_side c =
     (sides_cut sigs ctx c.as_slice-items.result.now c.loop-i.i c.index-items-i.result c.loop-i-test.true c.index-items-i.is
     c.args.params.now c.index-params-i.result (let n : c.loop-i.i < length c.args.params.now = omega (arith, c.loop-i.invariant.within) in n) c.index-params-i.is c.loop-i.left)
     c.loop-i.invariant.decides c.in_err-check_side.ensures)
+
+pub loop-i-preserved : goal.loop-i-preserved
+loop-i-preserved c =
+    let sigs = signatures c.args.env.now in
+    let ctx = c.args.ctx.now in
+    let i = c.loop-i.i in
+    let items = c.as_slice-items.result.now in
+    let params = c.args.params.now in
+    let whole = side_rules sigs ctx c.args.convs.now c.args.nodes.now params in
+    let n : i < length params = omega (arith, c.loop-i.invariant.within) in
+    record {
+      decides = subst (λ ns. Decides (side_rules sigs ctx (conversions (drop (i + 1) items)) ns (drop (i + 1) params)) whole) (sym c.rest-left.ensures)
+          (left_step (side_rules sigs ctx (conversions (drop i items)) c.loop-i.left (drop i params)) (own_side_rules sigs ctx (conversion c.index-items-i.result) (first c.loop-i.left) c.index-params-i.result)
+          (side_rules sigs ctx (conversions (drop (i + 1) items)) (rest c.loop-i.left) (drop (i + 1) params)) whole
+          (sides_cut sigs ctx items i c.index-items-i.result c.loop-i-test.true c.index-items-i.is params c.index-params-i.result n c.index-params-i.is c.loop-i.left)
+          c.loop-i.invariant.decides c.in_ok-check_side.ensures);
+      within = omega (arith, n);
+    }

@@ -1,4 +1,5 @@
 use Rattle.std.proofs.Common.{ap, ◌*◌}
+use Rattle.std.proofs.lemmas.Result.{on_ok_weaker}
 use Rattle.mz_logic.specs.Tree.{size}
 use Rattle.mz_store.specs.Sharing.{tree_of}
 use Rattle.mz_unification.specs.Profile.{expr}
@@ -14,5 +15,6 @@ run-requires-clause-can c =
     (leaving o (expr (tree_of o.store c.args.id.0)) (5 * size (tree_of o.store c.args.id.0)), expr_owed c.args.self.now.before.env.now o c.args.self.now.shared.store _ _ _ _ _ c.args.id.0 (to_do c.args.self.now.tasks.items) _ _ (ap to_do w.0.1) c.in_ok-add.ensures w.0.2 w.1 w.0.0)
 
 pub returns-clause-does : goal.returns-clause-does
-returns-clause-does c = λ o w. c.in_ok-run.ensures.does (leaving o (expr (tree_of o.store c.args.id.0)) (5 * size (tree_of o.store c.args.id.0)))
-    (expr_owed c.args.self.now.before.env.now o c.args.self.now.shared.store _ _ _ _ _ c.args.id.0 (to_do c.args.self.now.tasks.items) _ _ (ap to_do w.0.1) c.in_ok-add.ensures w.0.2 w.1 w.0.0)
+returns-clause-does c = on_ok_weaker c.run.result (λ does o w. does (leaving o (expr (tree_of o.store c.args.id.0)) (5 * size (tree_of o.store c.args.id.0)))
+    (expr_owed c.args.self.now.before.env.now o c.args.self.now.shared.store _ _ _ _ _ c.args.id.0 (to_do c.args.self.now.tasks.items) _ _ (ap to_do w.0.1) c.in_ok-add.ensures w.0.2 w.1 w.0.0))
+    c.run.ensures.does

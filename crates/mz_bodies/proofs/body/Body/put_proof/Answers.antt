@@ -1,4 +1,5 @@
 use Rattle.std.proofs.Common.{ap, [], ◌*◌}
+use Rattle.std.proofs.lemmas.Result.{on_ok_weaker}
 use Rattle.mz_bodies.specs.Weights.{proof_weight}
 use Rattle.mz_forms.specs.ProofView.{proof_view}
 use Rattle.mz_unification.specs.Profile.{proof}
@@ -17,5 +18,9 @@ run-requires-clause-can c =
     )
 
 pub returns-clause-does : goal.returns-clause-does
-returns-clause-does c = λ o w. c.in_ok-run.ensures.does (spending (leaving o (proof (proved c.args.self.now.before.env.now o.hyps [] (proof_view c.args.stated.now))) (6 * proof_weight c.args.self.now.before.env.now (proof_view c.args.stated.now))) (proof_view c.args.stated.now))
-    (proof_owed c.args.self.now.before.env.now o c.args.self.now.shared.store _ _ _ _ _ (proof_view c.args.stated.now) (to_do c.args.self.now.tasks.items) _ _ (ap to_do w.0.1) c.in_ok-add.ensures w.0.2 w.1 w.2 w.0.0)
+returns-clause-does c = on_ok_weaker c.run.result
+    (λ does o w. does (spending (leaving o (proof (proved c.args.self.now.before.env.now o.hyps [] (proof_view c.args.stated.now)))
+    (6 * proof_weight c.args.self.now.before.env.now (proof_view c.args.stated.now))) (proof_view c.args.stated.now))
+    (proof_owed c.args.self.now.before.env.now o c.args.self.now.shared.store _ _ _ _ _ (proof_view c.args.stated.now) (to_do c.args.self.now.tasks.items) _ _ (ap to_do w.0.1)
+    c.in_ok-add.ensures w.0.2 w.1 w.2 w.0.0))
+    c.run.ensures.does

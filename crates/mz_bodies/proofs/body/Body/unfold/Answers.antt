@@ -1,13 +1,14 @@
-use Rattle.std.proofs.Common.{ℕ, ◌<◌, ◌+◌, ◌∷◌, List, length, sym, ap, ◌∙◌, subst, slice_index_or}
-use Rattle.mz_cmd.specs.declared.code.ProofCode.TheVariants as code
+use Rattle.std.proofs.Common.{ℕ, ◌<◌, ◌+◌, List, length, sym, ap, ◌∙◌, subst, slice_index_or}
+use Rattle.std.proofs.lemmas.Result.{on_ok_weaker}
 use Rattle.mz_logic.specs.Signature.{Signature}
 use Rattle.mz_logic.specs.DeclView.{term_view}
 use Rattle.mz_logic.specs.Tree.{app, listed, instance, followed_by, variables}
 use Rattle.mz_logic.specs.View.{tree}
 use Rattle.mz_forms.specs.ConvView.{conversion}
-use Rattle.mz_store.specs.Sharing.{trees_of}
+use Rattle.mz_store.specs.Sharing.{AreIn, trees_of}
+use Rattle.mz_shared.specs.Variables.{IsShared}
 use Rattle.mz_shared.specs.Instances.{InReach, AreSorted}
-use Rattle.mz_bodies.specs.Owes.{push, give, to_do}
+use Rattle.mz_bodies.specs.Owes.{to_do}
 use Rattle.mz_shared.proofs.Offered.{fits_sorted, grows_on, in_grown, tree_grown, are_in_grown, trees_grown}
 use Rattle.mz_bodies.proofs.Growing.{many_ids, shared_as, vars_as}
 use Rattle.mz_bodies.proofs.Paying.{body_found, fresh_below, unfold_reach, left_sorted, unfolded_sorted, sorted_as, unfold_done, unfold_cost}
@@ -54,7 +55,7 @@ instance-requires-clause-sorted c =
     (unfolded_sorted env c.args.self.now.shared.store.context c.args.number c.args.es.now c.args.vars.now (conversion c.args.part.now) can.0 can.1 can.2.0)
 
 pub returns-clause-does : goal.returns-clause-does
-returns-clause-does c = λ o d.
+returns-clause-does c = on_ok_weaker c.add_unfolding.result (λ tasks-are o d.
     let s₁ = c.ids.new.self.store in
     let s₂ = c.app.new.self.store in
     let s₃ = c.instance.new.self.store in
@@ -69,17 +70,16 @@ returns-clause-does c = λ o d.
     ∙ ap (λ es. followed_by es (variables c.args.vars.now)) (trees_grown s₁ s₂ g₂ c.in_ok-operands.operands.items c.in_ok-operands.ensures.ids ∙ c.in_ok-operands.ensures.trees))
     ∙ ap (instance (followed_by c.args.es.now (variables c.args.vars.now)))
     (sym (body_found env c.args.number (term_view c.in-Some.term.now) (tree c.in-Some-body.body.now) c.in-Some.ensures.term c.in-Some-body.ensures)) in
-    let tasks-are = c.in_ok-add-4.ensures ∙ ap (λ z. push c.in_ok-left.left.0 ∷ z) (c.in_ok-add-3.ensures ∙ ap (λ z. push c.in_ok-unfolded.unfolded.0 ∷ z)
-    (c.in_ok-add-2.ensures ∙ ap (λ z. give code.Unfold 0 ∷ z) c.in_ok-add.ensures)) in
     let v-is = c.in_ok-unfolded.ensures.variables ∙ c.in_ok-left.ensures.variables ∙ c.in_ok-operands.ensures.variables in
     vars_as _ o s₃ _ _ _ _ _ _ _ _ v-is
     (unfold_done env o _ s₃ gr _ _ _ _ _ c.args.number c.args.es.now c.args.vars.now (conversion c.args.part.now) c.in_ok-left.left.0 c.in_ok-unfolded.unfolded.0
-    (to_do c.args.self.now.tasks.items) (to_do c.add-4.new.tasks.items) _ tasks-are
+    (to_do c.args.self.now.tasks.items) (to_do c.add_unfolding.new.tasks.items) _ tasks-are
     (shared_as env _ s₃ _ _ c.requires.before.1 v-is c.in_ok-unfolded.ensures.shared)
-    (in_grown s₂ s₃ g₃ c.in_ok-left.left.0 c.in_ok-left.ensures.holds.0, left-is) (c.in_ok-unfolded.ensures.holds.0, unfolded-is) d)
+    (in_grown s₂ s₃ g₃ c.in_ok-left.left.0 c.in_ok-left.ensures.holds.0, left-is) (c.in_ok-unfolded.ensures.holds.0, unfolded-is) d))
+    c.add_unfolding.ensures
 
 pub returns-clause-less : goal.returns-clause-less
-returns-clause-less c =
+returns-clause-less c = on_ok_weaker c.add_unfolding.result (λ tasks-are.
     let s₁ = c.ids.new.self.store in
     let s₂ = c.app.new.self.store in
     let s₃ = c.instance.new.self.store in
@@ -94,8 +94,25 @@ returns-clause-less c =
     ∙ ap (λ es. followed_by es (variables c.args.vars.now)) (trees_grown s₁ s₂ g₂ c.in_ok-operands.operands.items c.in_ok-operands.ensures.ids ∙ c.in_ok-operands.ensures.trees))
     ∙ ap (instance (followed_by c.args.es.now (variables c.args.vars.now)))
     (sym (body_found env c.args.number (term_view c.in-Some.term.now) (tree c.in-Some-body.body.now) c.in-Some.ensures.term c.in-Some-body.ensures)) in
-    let tasks-are = c.in_ok-add-4.ensures ∙ ap (λ z. push c.in_ok-left.left.0 ∷ z) (c.in_ok-add-3.ensures ∙ ap (λ z. push c.in_ok-unfolded.unfolded.0 ∷ z)
-    (c.in_ok-add-2.ensures ∙ ap (λ z. give code.Unfold 0 ∷ z) c.in_ok-add.ensures)) in
     unfold_cost env c.requires.can.0 c.args.self.now.shared.store s₃ gr c.args.self.now.shared.variables.items c.args.self.now.heap.places.items c.args.self.now.heap.len c.args.self.now.hyps.items
     c.args.self.now.cells.cells.items c.args.number c.args.es.now c.args.vars.now (conversion c.args.part.now) c.in_ok-left.left.0 c.in_ok-unfolded.unfolded.0
-    (to_do c.args.self.now.tasks.items) (to_do c.add-4.new.tasks.items) c.args.self.now.out.items tasks-are left-is unfolded-is c.requires.can.1
+    (to_do c.args.self.now.tasks.items) (to_do c.add_unfolding.new.tasks.items) c.args.self.now.out.items tasks-are left-is unfolded-is c.requires.can.1)
+    c.add_unfolding.ensures
+
+pub ids-requires-clause-shared : goal.ids-requires-clause-shared
+ids-requires-clause-shared c = subst (λ sigs. IsShared sigs c.args.self.now.shared.store c.args.self.now.shared.variables.items) (sym c.requires.before.1) c.requires.can.1.shared
+
+pub app-requires-clause-ids : goal.app-requires-clause-ids
+app-requires-clause-ids c = subst (AreIn c.ids.new.self.store) (sym c.deref.ensures.value) c.in_ok-operands.ensures.ids
+
+pub app-requires-clause-shared : goal.app-requires-clause-shared
+app-requires-clause-shared c = c.in_ok-operands.ensures.shared
+
+pub push_variables-requires-clause-sigs : goal.push_variables-requires-clause-sigs
+push_variables-requires-clause-sigs c = (_, c.in_ok-left.ensures.shared)
+
+pub instance-requires-clause-ids : goal.instance-requires-clause-ids
+instance-requires-clause-ids c = subst (AreIn c.app.new.self.store) (sym c.deref-2.ensures.value) c.in_ok-push_variables.ensures.ids
+
+pub instance-requires-clause-shared : goal.instance-requires-clause-shared
+instance-requires-clause-shared c = c.in_ok-left.ensures.shared

@@ -1,4 +1,4 @@
-use Rattle.std.proofs.Common.{◌≡◌, ◌∙◌, ◌+◌, ◌++◌, Err, ap, sym, subst}
+use Rattle.std.proofs.Common.{◌≡◌, ◌∙◌, ◌+◌, ◌++◌, Err, ap, sym, subst, arith}
 use Rattle.std.proofs.lemmas.Result.{err_from_is_err_and}
 use Rattle.mz_cmd.specs.declared.code.ProofCode.TheVariants as code
 use Rattle.mz_soundness.specs.ProofMachine.{proof_row}
@@ -113,3 +113,41 @@ returns-in_err-through-clause-steps g c n st ctx is =
     let p = err_from_is_err_and c.from_residual.result c.from_residual.ensures.1 in
     rw (p.1, p.2) (stopped-through c.unify_in.result _ _ (λ d. c.unify_in.new.steps ≡ c.args.steps.now + row_steps strict (tables_of E) code.Unfold n st) c.in_err-through.field-0.0 c.in_err-through.ensures c.unify_in.ensures.steps
     (λ place d many. so-many _ _ _ _ many (unfold-steps strict _ st _ _ _ m n ∙ sym (same-count E s st.ctx ctx t l c.in-Ok.items.0 _ _ _ c.stream_of_term-stream.ensures.stream are c.clear-2.ensures.items))))
+
+pub returns-in_err-through-clause-ids : goal.returns-in_err-through-clause-ids
+returns-in_err-through-clause-ids g c = rw (err_from_is_err_and c.from_residual.result c.from_residual.ensures.1).1 tt
+
+pub returns-in_err-through-clause-most : goal.returns-in_err-through-clause-most
+returns-in_err-through-clause-most g c = omega (arith, c.unify_in.ensures.most, c.stream_of_term-stream.ensures.within)
+
+pub returns-clause-most : goal.returns-clause-most
+returns-clause-most g c = omega (arith, c.unify_in.ensures.most, c.stream_of_term-stream.ensures.within)
+
+-- ---- what the calls ask
+
+pub pop_unfolding-requires : goal.pop_unfolding-requires
+pop_unfolding-requires g c = c.requires.stack
+
+pub head-requires : goal.head-requires
+head-requires g c = c.in-Ok.ensures.ids.1
+
+pub args-requires : goal.args-requires
+args-requires g c = c.in-Ok.ensures.ids.1
+
+pub unify_in-requires-clause-target : goal.unify_in-requires-clause-target
+unify_in-requires-clause-target g c = c.in-Ok.ensures.ids.0
+
+pub unify_in-requires-clause-stream : goal.unify_in-requires-clause-stream
+unify_in-requires-clause-stream g c = c.stream_of_term-stream.ensures.fits
+
+pub returns-in-Err-clause-ids : goal.returns-in-Err-clause-ids
+returns-in-Err-clause-ids g c = tt
+
+pub returns-in_default-clause-ids : goal.returns-in_default-clause-ids
+returns-in_default-clause-ids g c = tt
+
+pub returns-then-not-has_body-clause-ids : goal.returns-then-not-has_body-clause-ids
+returns-then-not-has_body-clause-ids g c = tt
+
+pub returns-in_default-extend_from_slice-clause-ids : goal.returns-in_default-extend_from_slice-clause-ids
+returns-in_default-extend_from_slice-clause-ids g c = tt

@@ -1,6 +1,5 @@
 use Rattle.std.proofs.Common.{◌∙◌, Some, refl, sym, ap, subst}
 use Rattle.std.specs.Prelude.{slice_get}
-use Rattle.std.proofs.lemmas.Result.{err_from_is_err_and}
 use Rattle.mz_store.specs.Sharing.{tree_of}
 use Rattle.mz_unification.specs.Profile.{conversion}
 use Rattle.mz_unify.specs.Stored.{item_at, IsItemIn}
@@ -29,16 +28,12 @@ pay-requires-clause-right c =
     (subst (IsItemIn c.args.store.now) c.in-Some-conversion_of.ensures.some
     (item-in-at c.args.store.now c.args.heap.now c.args.place c.in-Some.item c.requires.heap (sym c.kept_at.ensures ∙ c.in-Some.is))).1
 
-pub returns-in_err-pay-clause-row : goal.returns-in_err-pay-clause-row
-returns-in_err-pay-clause-row c tables at st heap is =
-    let p = err_from_is_err_and c.from_residual.result c.from_residual.ensures.1 in
-    rw (p.1, p.2)
-    (conv-ref-row strict tables at c.args.place st (conversion (tree_of c.args.store.now c.in-Some-conversion_of.left.0) (tree_of c.args.store.now c.in-Some-conversion_of.right.0))
-    (ap (λ xs. slice_get xs c.args.place) heap ∙ item-at-heap c.args.store.now c.args.heap.now c.args.place c.in-Some.item (sym c.kept_at.ensures ∙ c.in-Some.is)
-    ∙ ap (λ x. Some (item_at c.args.store.now x)) c.in-Some-conversion_of.ensures.some) refl ∙ c.in_err-pay.ensures.row st is)
+pub returns-clause-ids : goal.returns-clause-ids
+returns-clause-ids c = c.pay.ensures.ids
 
 pub returns-clause-row : goal.returns-clause-row
 returns-clause-row c tables at st heap is =
-    conv-ref-row strict tables at c.args.place st (conversion (tree_of c.args.store.now c.in-Some-conversion_of.left.0) (tree_of c.args.store.now c.in-Some-conversion_of.right.0))
+    rw (conv-ref-row strict tables at c.args.place st (conversion (tree_of c.args.store.now c.in-Some-conversion_of.left.0) (tree_of c.args.store.now c.in-Some-conversion_of.right.0))
     (ap (λ xs. slice_get xs c.args.place) heap ∙ item-at-heap c.args.store.now c.args.heap.now c.args.place c.in-Some.item (sym c.kept_at.ensures ∙ c.in-Some.is)
-    ∙ ap (λ x. Some (item_at c.args.store.now x)) c.in-Some-conversion_of.ensures.some) refl ∙ c.in_ok-pay.ensures.row st is
+    ∙ ap (λ x. Some (item_at c.args.store.now x)) c.in-Some-conversion_of.ensures.some) refl)
+    (c.pay.ensures.row st is)

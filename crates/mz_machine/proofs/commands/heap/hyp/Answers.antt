@@ -24,3 +24,14 @@ returns-else-is_provable-clause-row c at n st ctx is =
     hyp-other strict (tables_of c.args.earlier.now) at n st _ _ (ap pop_expr is ∙ c.in_ok-claim.ensures.taken)
     (subst (λ x. has_provable_sort strict (tables_of c.args.earlier.now) x (tree_of c.args.store.now c.in_ok-claim.claim.0) ≡ false) (sym ctx)
     (provable strict c.args.earlier.now c.args.store.now.context _ c.sort_of.result false (c.sort_of.ensures.sort _ c.requires.over) (sym c.is_provable.ensures ∙ c.if-is_provable.false)))
+
+-- ---- what the calls ask
+
+pub pop_expr-requires : goal.pop_expr-requires
+pop_expr-requires c = c.requires.stack
+
+pub sort_of-requires : goal.sort_of-requires
+sort_of-requires c = c.in_ok-claim.ensures.ids.0
+
+pub returns-then-is_provable-clause-ids : goal.returns-then-is_provable-clause-ids
+returns-then-is_provable-clause-ids c = c.in_ok-claim.ensures.ids

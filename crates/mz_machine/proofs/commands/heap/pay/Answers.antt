@@ -1,13 +1,11 @@
-use Rattle.std.proofs.Common.{◌≡◌, ◌∙◌, true, false, refl, sym, ap}
+use Rattle.std.proofs.Common.{◌∙◌, refl, sym, ap}
 use Rattle.mz_store.specs.Sharing.{tree_of}
 use Rattle.mz_soundness.specs.Premises.{pop_obligation}
+use Rattle.mz_machine.proofs.Converting.{true-false}
 use Rattle.mz_machine.proofs.RowResults.{pay-left, pay-right, pay-row}
 use Rattle.mz_unify.proofs.Offered.{of-trees}
 use Rattle.mz_machine.proofs.commands.heap.pay.Goals.{else-same-via-then-same+else-same-2, else-same-via-else-same}
 use Rattle.mz_machine.proofs.commands.heap.pay.Goals as goal
-
-true-false : true ≡ false → ⊥
-true-false e = cc
 
 pub returns-then-same-2-clause-row : goal.returns-then-same-2-clause-row
 returns-then-same-2-clause-row c st is =
@@ -23,3 +21,8 @@ returns-else-same-clause-row c st is = elim c.else-same.branch [
       pay-left of-trees st (tree_of c.args.store.now c.args.left.0) (tree_of c.args.store.now c.args.right.0) _ _ _ (ap pop_obligation is ∙ c.in_ok-owed_left.ensures.taken)
       (λ same. true-false (sym (w.if-same.ensures.trees.1 same)))
 ]
+
+-- ---- what the calls ask
+
+pub pop_obligation-requires : goal.pop_obligation-requires
+pop_obligation-requires c = c.requires.stack

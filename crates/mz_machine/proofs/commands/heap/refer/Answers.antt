@@ -1,6 +1,5 @@
 use Rattle.std.proofs.Common.{◌∙◌, sym, ap}
 use Rattle.std.specs.Prelude.{slice_get}
-use Rattle.std.proofs.lemmas.Result.{err_from_is_err_and}
 use Rattle.mz_unify.specs.Stored.{item_at}
 use Rattle.mz_machine.proofs.Popping.{item-in-at, item-at-heap, no-item-at-heap}
 use Rattle.mz_machine.proofs.RowResults.{ref-none, ref-row}
@@ -14,19 +13,11 @@ returns-in_default-clause-row c tables at st heap is =
 pub refer_to-requires-clause-item : goal.refer_to-requires-clause-item
 refer_to-requires-clause-item c = item-in-at c.args.store.now c.args.heap.now c.args.place c.in-Some.item c.requires.heap (sym c.kept_at.ensures ∙ c.in-Some.is)
 
-pub returns-in_err-refer_to-clause-row : goal.returns-in_err-refer_to-clause-row
-returns-in_err-refer_to-clause-row c tables at st heap is =
-    let p = err_from_is_err_and c.from_residual.result c.from_residual.ensures.1 in
-    rw (
-      p.1,
-      p.2,
-      ref-row strict tables at c.args.place st (item_at c.args.store.now c.in-Some.item)
-          (ap (λ xs. slice_get xs c.args.place) heap ∙ item-at-heap c.args.store.now c.args.heap.now c.args.place c.in-Some.item (sym c.kept_at.ensures ∙ c.in-Some.is)),
-    )
-    (c.in_err-refer_to.ensures.row st is)
+pub returns-clause-ids : goal.returns-clause-ids
+returns-clause-ids c = c.refer_to.ensures.ids
 
 pub returns-clause-row : goal.returns-clause-row
 returns-clause-row c tables at st heap is =
-    ref-row strict tables at c.args.place st (item_at c.args.store.now c.in-Some.item)
-    (ap (λ xs. slice_get xs c.args.place) heap ∙ item-at-heap c.args.store.now c.args.heap.now c.args.place c.in-Some.item (sym c.kept_at.ensures ∙ c.in-Some.is))
-    ∙ c.in_ok-refer_to.ensures.row st is
+    rw (ref-row strict tables at c.args.place st (item_at c.args.store.now c.in-Some.item)
+    (ap (λ xs. slice_get xs c.args.place) heap ∙ item-at-heap c.args.store.now c.args.heap.now c.args.place c.in-Some.item (sym c.kept_at.ensures ∙ c.in-Some.is)))
+    (c.refer_to.ensures.row st is)

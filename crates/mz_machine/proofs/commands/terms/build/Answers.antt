@@ -74,3 +74,11 @@ returns-clause-built c at st ctx is =
     (takes-its-own c.args.earlier.now c.args.t st _ c.arity_of.result _ c.arity_of.ensures is c.in_ok-pop_operands.ensures.taken)
     (subst (λ x. operands_fit (signatures_of c.args.earlier.now) x (trees_at c.args.store.now c.pop_operands.new.operands.items) (binders_of (term_row c.args.earlier.now.file c.args.t).words.params) ≡ Ok tt) (sym ctx)
     (subst (λ ids. operands_fit (signatures_of c.args.earlier.now) c.args.store.now.context (trees_at c.args.store.now ids) (binders_of (term_row c.args.earlier.now.file c.args.t).words.params) ≡ Ok tt) c.deref.ensures.value c.in_default.ensures)))
+
+-- ---- what the calls ask
+
+pub pop_operands-requires : goal.pop_operands-requires
+pop_operands-requires c = c.requires.stack
+
+pub check_operands-requires-clause-over : goal.check_operands-requires-clause-over
+check_operands-requires-clause-over c = c.requires.over

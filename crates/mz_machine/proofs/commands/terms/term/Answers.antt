@@ -37,3 +37,11 @@ pub returns-clause-saved : goal.returns-clause-saved
 returns-clause-saved c at st ctx is =
     rw (c.in_ok-push.ensures.ok, items-push c.build.new.store c.build.new.stack.items (Expr c.in_ok-made.made))
     (term-save-of strict (tables_of c.args.earlier.now) at c.args.t st _ (c.in_ok-made.ensures.built at st ctx is))
+
+-- ---- what the calls ask
+
+pub build-requires-clause-over : goal.build-requires-clause-over
+build-requires-clause-over c = c.requires.over
+
+pub build-requires-clause-stack : goal.build-requires-clause-stack
+build-requires-clause-stack c = c.requires.stack

@@ -1,9 +1,10 @@
 use Rattle.std.proofs.Common.{◌∙◌, ap, sym}
 use Rattle.mz_punify.specs.Stored.{items_at}
 use Rattle.mz_unify.proofs.Offered.{heads-differ, heads-same}
+use Rattle.mz_numbered.specs.Numbered.{portable}
 use Rattle.mz_soundness.specs.Premises.{pop_obligation}
 use Rattle.mz_punify.proofs.Offered.{of-numbered}
-use Rattle.mz_machine.proofs.Offered.{cong-variable, cong-other, cong-row, gives-stack}
+use Rattle.mz_machine.proofs.Offered.{cong-unowed, cong-variable, cong-other, cong-row, gives-stack}
 use Rattle.mz_pmachine.proofs.Converting.{operand-exprs}
 use Rattle.mz_pmachine.proofs.commands.conversions.cong.Goals as goal
 
@@ -23,3 +24,35 @@ returns-clause-row c tables at n st is =
     (cong-row of-numbered tables at n st _ _ _ (ap pop_obligation is ∙ c.in-Ok.ensures.taken) c.in-Some.term h i)
     (rw (← operand-exprs c.args.nodes.now c.args-2.result.now _ c.args-2.ensures.exprs, ← operand-exprs c.args.nodes.now c.args-3.result.now _ c.args-3.ensures.exprs) c.push_sides.ensures.sides)
     c.push_sides.ensures.err
+
+-- ---- what the calls ask
+
+pub pop_obligation-requires : goal.pop_obligation-requires
+pop_obligation-requires c = c.requires
+
+pub head-requires : goal.head-requires
+head-requires c = c.in-Ok.ensures.ids.0
+
+pub head-requires-2 : goal.head-requires-2
+head-requires-2 c = c.in-Ok.ensures.ids.1
+
+pub args-requires : goal.args-requires
+args-requires c = c.in-Ok.ensures.ids.0
+
+pub args-requires-2 : goal.args-requires-2
+args-requires-2 c = c.in-Ok.ensures.ids.1
+
+pub push_sides-requires-clause-stack : goal.push_sides-requires-clause-stack
+push_sides-requires-clause-stack c = c.in-Ok.ensures.ids.2
+
+pub push_sides-requires-clause-lefts : goal.push_sides-requires-clause-lefts
+push_sides-requires-clause-lefts c = c.args-2.ensures.ids
+
+pub push_sides-requires-clause-rights : goal.push_sides-requires-clause-rights
+push_sides-requires-clause-rights c = c.args-3.ensures.ids
+
+pub returns-clause-ids : goal.returns-clause-ids
+returns-clause-ids c = c.push_sides.ensures.ids
+
+pub returns-in-Err-clause-row : goal.returns-in-Err-clause-row
+returns-in-Err-clause-row c tables at n st is = cong-unowed portable tables at n st _ (ap pop_obligation is ∙ c.in-Err.ensures.taken)

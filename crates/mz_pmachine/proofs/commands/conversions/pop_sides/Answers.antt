@@ -19,3 +19,11 @@ returns-then-same-clause-taken c = sides-same _ _ _ c.in_ok-middle.ensures.taken
 
 pub returns-else-same-clause-taken : goal.returns-else-same-clause-taken
 returns-else-same-clause-taken c = sides-other _ _ _ c.in_ok-middle.ensures.taken _ _ _ c.in_ok-left.ensures.taken (λ same. true-false (sym (c.if-same.ensures.1 same)))
+
+-- ---- what the calls ask
+
+pub pop_expr-requires : goal.pop_expr-requires
+pop_expr-requires c = c.requires
+
+pub pop_obligation-requires : goal.pop_obligation-requires
+pop_obligation-requires c = c.in_ok-middle.ensures.ids.1

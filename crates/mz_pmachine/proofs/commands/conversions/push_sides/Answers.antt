@@ -1,7 +1,7 @@
 use Rattle.std.proofs.Common.{◌-◌, ◌∷◌, length, get_or, sym, ap, ◌∙◌, arith}
 use Rattle.mz_punify.specs.Stored.{items_at}
 use Rattle.std.proofs.lemmas.Option.{slice_get-get_or}
-use Rattle.mz_nodes.specs.Numbering.{expr_of}
+use Rattle.mz_punify.specs.Numbering.{expr_of}
 use Rattle.mz_store.specs.declared.item.Id.{Id}
 use Rattle.mz_unification.specs.Profile.{obligation}
 use Rattle.mz_punify.proofs.Offered.{items-push, is-in-at}

@@ -1,7 +1,7 @@
 use Rattle.std.proofs.Common.{◌≡◌, ◌∙◌, ◌∷◌, [], ◌++◌, ◌<◌, ◌≤◌, length, sym, ap, arith, lt-ltb, le-ltb}
 use Rattle.mz_numbered.specs.Numbered.{a_variable}
 use Rattle.mz_store.specs.Sharing.{dummy_binder}
-use Rattle.mz_nodes.specs.Numbering.{expr_of}
+use Rattle.mz_punify.specs.Numbering.{expr_of}
 use Rattle.mz_unification.specs.Spells.{dummy_of}
 use Rattle.mz_soundness.specs.Premises.{bound_count}
 use Rattle.mz_earlier.specs.Before.{tables_of}

@@ -3,8 +3,8 @@ use Rattle.std.proofs.lemmas.Result.{err_from_is_err_and}
 use Rattle.mz_logic.specs.Words.{binders_of}
 use Rattle.mz_layout.specs.Tables.{term_row}
 use Rattle.mz_store.specs.Sharing.{CanTake}
-use Rattle.mz_nodes.specs.Numbering.{expr_of, exprs_of}
-use Rattle.mz_nodes.specs.Numbering.{trees_of as trees_in}
+use Rattle.mz_punify.specs.Numbering.{expr_of, exprs_of}
+use Rattle.mz_punify.specs.Numbering.{trees_of as trees_in}
 use Rattle.mz_punify.proofs.Offered.{from-exprs}
 use Rattle.mz_punify.specs.Stored.{exprs_at, trees_at}
 use Rattle.mz_numbered.specs.Numbered.{an_application, operands_from, tree_of, portable}
@@ -76,3 +76,11 @@ returns-clause-built c st ctx is =
 
 pub returns-clause-next : goal.returns-clause-next
 returns-clause-next c = omega (arith, c.in-Ok.ensures.next)
+
+-- ---- what the calls ask
+
+pub pop_operands-requires : goal.pop_operands-requires
+pop_operands-requires c = c.requires.stack
+
+pub check_operands-requires-clause-over : goal.check_operands-requires-clause-over
+check_operands-requires-clause-over c = c.requires.over

@@ -53,3 +53,32 @@ returns-clause-taken c st ctx is =
     (omega (arith, c.len.ensures, c.args.stack.now.ok.0, c.if-len-arity.false)) _ _ c.in-Ok.ensures.taken _ _ c.in_ok-pop_operands.ensures.taken c.args.nodes.now.context ctx
     (subst (λ (ids : List Id). operands_fit (signatures_of c.args.earlier.now) c.args.nodes.now.context (trees_at c.args.nodes.now ids) (binders_of (thm_row c.args.earlier.now.file c.args.t).params) ≡ Ok tt) c.deref.ensures.value c.in_ok-check_cited.ensures.fit)
     (subst (λ (ids : List Id). are_apart c.args.nodes.now.context (trees_at c.args.nodes.now ids) (binders_of (thm_row c.args.earlier.now.file c.args.t).params) ≡ true) c.deref-2.ensures.value (sym c.are_apart.ensures ∙ c.if-not-are_apart.false))
+
+pub returns-in_err-pop_operands-clause-there : goal.returns-in_err-pop_operands-clause-there
+returns-in_err-pop_operands-clause-there c = rw (err_from_is_err_and c.from_residual.result c.from_residual.ensures.1).1 tt
+
+pub returns-in_err-pop_operands-clause-ids : goal.returns-in_err-pop_operands-clause-ids
+returns-in_err-pop_operands-clause-ids c = rw (err_from_is_err_and c.from_residual.result c.from_residual.ensures.1).1 tt
+
+pub returns-in_err-check_cited-clause-there : goal.returns-in_err-check_cited-clause-there
+returns-in_err-check_cited-clause-there c = rw (err_from_is_err_and c.from_residual-in_err-check_cited.result c.from_residual-in_err-check_cited.ensures.1).1 tt
+
+pub returns-in_err-check_cited-clause-ids : goal.returns-in_err-check_cited-clause-ids
+returns-in_err-check_cited-clause-ids c = rw (err_from_is_err_and c.from_residual-in_err-check_cited.result c.from_residual-in_err-check_cited.ensures.1).1 tt
+
+-- ---- what the calls ask
+
+pub pop_expr-requires : goal.pop_expr-requires
+pop_expr-requires c = c.requires.stack
+
+pub pop_operands-requires : goal.pop_operands-requires
+pop_operands-requires c = c.in-Ok.ensures.ids.1
+
+pub check_cited-requires-clause-over : goal.check_cited-requires-clause-over
+check_cited-requires-clause-over c = c.requires.over
+
+pub are_apart-requires-clause-over : goal.are_apart-requires-clause-over
+are_apart-requires-clause-over c = c.requires.over
+
+pub returns-clause-ids : goal.returns-clause-ids
+returns-clause-ids c = (c.in-Ok.ensures.ids.0, c.in_ok-pop_operands.ensures.ids.0, c.in_ok-pop_operands.ensures.ids.1)

@@ -36,3 +36,11 @@ pub returns-clause-saved : goal.returns-clause-saved
 returns-clause-saved c st ctx is =
     rw (c.in_ok-push.ensures.ok, items-push c.build.new.nodes c.build.new.stack.items (Expr c.in_ok-made.made))
     (term-save-of portable (tables_of c.args.earlier.now) c.args.at c.args.t st _ (c.in_ok-made.ensures.built st ctx is))
+
+-- ---- what the calls ask
+
+pub build-requires-clause-over : goal.build-requires-clause-over
+build-requires-clause-over c = c.requires.over
+
+pub build-requires-clause-stack : goal.build-requires-clause-stack
+build-requires-clause-stack c = c.requires.stack

@@ -1,7 +1,7 @@
-use Rattle.std.proofs.Common.{◌≡◌, ◌+◌, ◌∙◌, ◌++◌, ◌∷◌, [], Err, Ok, sym, ap, subst}
+use Rattle.std.proofs.Common.{◌≡◌, ◌+◌, ◌∙◌, ◌++◌, ◌∷◌, [], Err, Ok, sym, ap, subst, arith}
 use Rattle.std.proofs.lemmas.Result.{err_from_is_err_and}
 use Rattle.mz_cmd.specs.declared.code.ProofCode.TheVariants as code
-use Rattle.mz_nodes.specs.Numbering.{IsOver, expr_of}
+use Rattle.mz_punify.specs.Numbering.{IsOver, expr_of}
 use Rattle.mz_store.specs.declared.item.Item.TheVariants.{Proof}
 use Rattle.mz_numbered.specs.Numbered.{portable}
 use Rattle.mz_unification.specs.Profile.{proof}
@@ -14,6 +14,7 @@ use Rattle.mz_pmachine.specs.OverNodes.{with_stack}
 use Rattle.mz_earlier.proofs.Offered.{signatures-before}
 use Rattle.mz_machine.proofs.Offered.{thm-stopped, thm-save-stopped, thm-stopped-steps, thm-refused, thm-save-refused, thm-row, thm-save-row, thm-steps, no-more, so-many, stops-as}
 use Rattle.mz_pmachine.proofs.Citing.{cited-run, cited-count}
+use Rattle.mz_machine.proofs.Offered.{memory-stops, memory-unless}
 use Rattle.mz_pmachine.proofs.commands.terms.thm.Goals as goal
 
 pub returns-in_err-target-clause-plain : goal.returns-in_err-target-clause-plain
@@ -79,3 +80,58 @@ returns-clause-saved g c at st ctx is =
 
 pub returns-clause-steps : goal.returns-clause-steps
 returns-clause-steps g c st ctx is = so-many _ _ _ _ (went-through c.unify_in.result _ _ _ c.in_ok-through.ensures c.unify_in.ensures.steps).1 (thm-steps portable (tables_of c.args.earlier.now) c.args.t st _ (c.in_ok-target.ensures.taken st ctx is) ∙ cited-count c.args.earlier.now c.args.nodes.now st ctx c.args.t c.stream_of_thm-stream.result.now c.stream_of_thm-stream.ensures.stream c.take_citation.new.spare.operands.items c.in_ok-target.target c.take_citation.new.stack.items)
+
+-- ---- what stops it behind the stream
+
+pub returns-in_err-push-clause-plain : goal.returns-in_err-push-clause-plain
+returns-in_err-push-clause-plain g c at st ctx is =
+    let p = err_from_is_err_and c.from_residual-in_err-push.result c.from_residual-in_err-push.ensures.1 in
+    rw (p.1, p.2) (memory-stops _ _ c.in_err-push.ensures.err)
+
+pub returns-in_err-push-clause-saved : goal.returns-in_err-push-clause-saved
+returns-in_err-push-clause-saved g c at st ctx is =
+    let p = err_from_is_err_and c.from_residual-in_err-push.result c.from_residual-in_err-push.ensures.1 in
+    rw (p.1, p.2) (memory-stops _ _ c.in_err-push.ensures.err)
+
+pub returns-in_err-push-clause-steps : goal.returns-in_err-push-clause-steps
+returns-in_err-push-clause-steps g c st ctx is =
+    let p = err_from_is_err_and c.from_residual-in_err-push.result c.from_residual-in_err-push.ensures.1 in
+    rw (p.1, p.2) (memory-unless _ _ c.in_err-push.ensures.err)
+
+pub returns-in_err-target-clause-ids : goal.returns-in_err-target-clause-ids
+returns-in_err-target-clause-ids g c = rw (err_from_is_err_and c.from_residual.result c.from_residual.ensures.1).1 tt
+
+pub returns-in_err-through-clause-ids : goal.returns-in_err-through-clause-ids
+returns-in_err-through-clause-ids g c = rw (err_from_is_err_and c.from_residual-in_err-through.result c.from_residual-in_err-through.ensures.1).1 tt
+
+pub returns-in_err-push-clause-ids : goal.returns-in_err-push-clause-ids
+returns-in_err-push-clause-ids g c = rw (err_from_is_err_and c.from_residual-in_err-push.result c.from_residual-in_err-push.ensures.1).1 tt
+
+pub returns-in_err-through-clause-most : goal.returns-in_err-through-clause-most
+returns-in_err-through-clause-most g c = omega (arith, c.unify_in.ensures.most, c.stream_of_thm-stream.ensures.within)
+
+pub returns-in_err-push-clause-most : goal.returns-in_err-push-clause-most
+returns-in_err-push-clause-most g c = omega (arith, c.unify_in.ensures.most, c.stream_of_thm-stream.ensures.within)
+
+pub returns-clause-most : goal.returns-clause-most
+returns-clause-most g c = omega (arith, c.unify_in.ensures.most, c.stream_of_thm-stream.ensures.within)
+
+-- ---- what the calls ask
+
+pub take_citation-requires-clause-over : goal.take_citation-requires-clause-over
+take_citation-requires-clause-over g c = c.requires.over
+
+pub take_citation-requires-clause-stack : goal.take_citation-requires-clause-stack
+take_citation-requires-clause-stack g c = c.requires.stack
+
+pub unify_in-requires-clause-heap : goal.unify_in-requires-clause-heap
+unify_in-requires-clause-heap g c = c.in_ok-target.ensures.ids.1
+
+pub unify_in-requires-clause-target : goal.unify_in-requires-clause-target
+unify_in-requires-clause-target g c = c.in_ok-target.ensures.ids.0
+
+pub unify_in-requires-clause-hyps : goal.unify_in-requires-clause-hyps
+unify_in-requires-clause-hyps g c = c.in_ok-target.ensures.ids.2
+
+pub unify_in-requires-clause-stream : goal.unify_in-requires-clause-stream
+unify_in-requires-clause-stream g c = c.stream_of_thm-stream.ensures.fits

@@ -40,10 +40,10 @@ returns-clause-answer c =
     let σ = state c.args.self.now in
     let n = c.args.notation.now in
     let s = notation n in
-    let scope = c.in-Ok.ensures (view s).variables (view s).types (view s).result c.requires.parts in
-    let result_type = c.in-Ok-result_of.ensures (view s).variables (view s).types (view s).result c.requires.parts in
+    let scope = c.in-Ok-scope_of.ensures (view s).variables (view s).types (view s).result c.requires.parts in
+    let result_type = c.in-Ok.ensures (view s).variables (view s).types (view s).result c.requires.parts in
     let all = map literal n.literals.items ++ literal n.last ∷ [] in
-    let g : General = record { term = c.term_number-term.result; names = c.in-Ok.scope.names; binders = c.in-Ok.scope.binders; result = c.in-Ok-result_of.result_type; text = c.deref.result.now; literals = c.deref-2.result.now; tail = c.args.tail } in
+    let g : General = record { term = c.term_number-term.result; names = c.in-Ok-scope_of.scope.names; binders = c.in-Ok-scope_of.scope.binders; result = c.in-Ok.result_type; text = c.deref.result.now; literals = c.deref-2.result.now; tail = c.args.tail } in
     let are : AreLiterals c.deref.result.now all c.deref-2.result.now =
     subst (λ x. AreLiterals x all c.deref-2.result.now) (sym c.deref.ensures.value) (subst (λ y. AreLiterals c.args.literals.now.text.items all y) (sym c.deref-2.ensures.value) c.requires.literals) in
     general-answer σ (head n.head) (type_text n.result) (map literal n.literals.items) (literal n.last) (option_map tail n.tail) g
@@ -54,10 +54,10 @@ returns-clause-after c =
     let σ = state c.args.self.now in
     let n = c.args.notation.now in
     let s = notation n in
-    let scope = c.in-Ok.ensures (view s).variables (view s).types (view s).result c.requires.parts in
-    let result_type = c.in-Ok-result_of.ensures (view s).variables (view s).types (view s).result c.requires.parts in
+    let scope = c.in-Ok-scope_of.ensures (view s).variables (view s).types (view s).result c.requires.parts in
+    let result_type = c.in-Ok.ensures (view s).variables (view s).types (view s).result c.requires.parts in
     let all = map literal n.literals.items ++ literal n.last ∷ [] in
-    let g : General = record { term = c.term_number-term.result; names = c.in-Ok.scope.names; binders = c.in-Ok.scope.binders; result = c.in-Ok-result_of.result_type; text = c.deref.result.now; literals = c.deref-2.result.now; tail = c.args.tail } in
+    let g : General = record { term = c.term_number-term.result; names = c.in-Ok-scope_of.scope.names; binders = c.in-Ok-scope_of.scope.binders; result = c.in-Ok.result_type; text = c.deref.result.now; literals = c.deref-2.result.now; tail = c.args.tail } in
     let are : AreLiterals c.deref.result.now all c.deref-2.result.now =
     subst (λ x. AreLiterals x all c.deref-2.result.now) (sym c.deref.ensures.value) (subst (λ y. AreLiterals c.args.literals.now.text.items all y) (sym c.deref-2.ensures.value) c.requires.literals) in
     general-after σ (head n.head) (type_text n.result) (map literal n.literals.items) (literal n.last) (option_map tail n.tail) g

@@ -3,8 +3,38 @@ use Rattle.std.specs.HashMap.{get, get_key, ContainsKey, IsUnchanged}
 use Rattle.std.specs.Map.{lookup}
 use Rattle.std.specs.HashMap.Entry.{IsEntryFor, MatchEntry, entry_map_ref, entry_key, entry_value}
 use Rattle.mz_store.proofs.OverTerms.{on-err}
-use Rattle.mz_store.proofs.Placing.{placed-kept, placed-new, left-kept, left-same, none-holds, found-placed, missing-fresh}
+use Rattle.mz_store.proofs.Placing.{placed-kept, placed-new, left-kept, left-same, none-holds, found-placed, missing-fresh, chain-here}
 use Rattle.mz_store.proofs.store.Store.find_or_add.Goals as goal
+
+pub find-there-requires : goal.find-there-requires
+find-there-requires g c =
+    chain-here c.self.inside.factor c.self.inside.expressions (get nat_eq c.self.inside.newest) c.args.t c.args.args.now
+    c.deref-in-Occupied.result.now c.deref.result.now (Some c.get.result.now) c.print_of.result
+    c.self.invariant c.deref-in-Occupied.ensures.value c.deref.ensures.value c.print_of.ensures (sym c.get.ensures ∙ ap entry_value (sym c.in-Occupied.is) ∙ c.in_ok-place.ensures.value)
+
+pub add-requires-clause-kept : goal.add-requires-clause-kept
+add-requires-clause-kept g c = c.self.invariant.0
+
+pub add-requires-clause-over : goal.add-requires-clause-over
+add-requires-clause-over g c = rw c.self.view_is c.requires.over
+
+pub add-requires-clause-ids : goal.add-requires-clause-ids
+add-requires-clause-ids g c = rw c.self.view_is c.requires.ids
+
+pub add-requires-clause-fit : goal.add-requires-clause-fit
+add-requires-clause-fit g c = rw c.self.view_is c.requires.fit
+
+pub add-requires-in-Vacant-clause-kept : goal.add-requires-in-Vacant-clause-kept
+add-requires-in-Vacant-clause-kept g c = c.self.invariant.0
+
+pub add-requires-in-Vacant-clause-over : goal.add-requires-in-Vacant-clause-over
+add-requires-in-Vacant-clause-over g c = rw c.self.view_is c.requires.over
+
+pub add-requires-in-Vacant-clause-ids : goal.add-requires-in-Vacant-clause-ids
+add-requires-in-Vacant-clause-ids g c = rw c.self.view_is c.requires.ids
+
+pub add-requires-in-Vacant-clause-fit : goal.add-requires-in-Vacant-clause-fit
+add-requires-in-Vacant-clause-fit g c = rw c.self.view_is c.requires.fit
 
 pub returns-in-Some-clause-ok : goal.returns-in-Some-clause-ok
 returns-in-Some-clause-ok g c =

@@ -1,10 +1,11 @@
-use Rattle.std.proofs.Common.{◌+◌, drop, sym, subst, length}
+use Rattle.std.proofs.Common.{◌+◌, ◌∙◌, ap, arith, drop, sym, subst, length}
 use Rattle.mz_checks.specs.Checks.{AllHold}
 use Rattle.mz_checks.proofs.Offered.{Decides}
 use Rattle.mz_sexpr.specs.Number.{first, rest}
 use Rattle.mz_sexpr.specs.Node.{place}
-use Rattle.mz_logic.specs.Conversions.{unfold_conv}
+use Rattle.mz_logic.specs.Conversions.{sym_conv, unfold_conv}
 use Rattle.mz_logic.specs.Declaration.{signatures}
+use Rattle.mz_forms.specs.ConvCode.{conv_steps}
 use Rattle.mz_forms.specs.ConvView.{conversion, conversions}
 use Rattle.mz_forms.specs.Stops.{Stops}
 use Rattle.mz_typing.specs.Answers.{Judged}
@@ -30,11 +31,7 @@ check_cong-check_cong_sides-requires t c =
 
 pub check_conv-returns-in-Unfold : goal.check_conv-returns-in-Unfold
 check_conv-returns-in-Unfold t c =
-    let env = c.args.self.now.env.now in
-    let ctx = c.args.self.now.ctx.now in
-    let n = first c.args.nodes.now in
-    subst (λ x. Judged c.check_unfold.result (conv_rules env ctx (conversion x) n)) (sym c.in-Unfold.is)
-    (subst (λ d. Judged c.check_unfold.result (conv_rules env ctx (unfold_conv c.in-Unfold.t c.in-Unfold.es c.in-Unfold.vars d) n)) c.get-in-Unfold.ensures c.check_unfold.ensures)
+    step.judged_as (ap conversion c.in-Unfold.is ∙ ap (unfold_conv c.in-Unfold.t c.in-Unfold.es c.in-Unfold.vars) (sym c.get-in-Unfold.ensures)) _ _ _ _ c.check_unfold.ensures
 
 pub check_unfold-returns-in_err-check_part_exprs : goal.check_unfold-returns-in_err-check_part_exprs
 check_unfold-returns-in_err-check_part_exprs t c =
@@ -86,3 +83,42 @@ check_convs-loop-conv-preserved t c =
       there = step.convs_there_cut (length (signatures env)) (length ctx) items c.loop-conv.conv-index c.conv-item.result c.loop-conv-test.true c.conv-item.is c.loop-conv.invariant.there;
       small = (convs_size_step items c.loop-conv.conv-index c.conv-item.result c.loop-conv-test.true c.conv-item.is _ c.loop-conv.invariant.small).1;
     }
+
+pub check_cong-returns : goal.check_cong-returns
+check_cong-returns t c = c.check_cong_sides.ensures
+
+pub check_sym-returns : goal.check_sym-returns
+check_sym-returns t c =
+    subst (λ m. Judged c.check_conv.result (conv_rules c.args.self.now.env.now c.args.self.now.ctx.now (conversion c.args.conv.now) m)) c.part.ensures c.check_conv.ensures
+
+pub check_unfold-returns : goal.check_unfold-returns
+check_unfold-returns t c = c.check_unfolded.ensures
+
+pub check_conv-returns-in-Refl : goal.check_conv-returns-in-Refl
+check_conv-returns-in-Refl t c = step.judged_as (ap conversion c.in-Refl.is) _ _ _ _ c.check_refl.ensures
+
+pub check_conv-returns-in-Gap : goal.check_conv-returns-in-Gap
+check_conv-returns-in-Gap t c = step.judged_as (ap conversion c.in-Gap.is) _ _ _ _ c.check_gap_conv.ensures
+
+pub check_conv-returns-in-Cong : goal.check_conv-returns-in-Cong
+check_conv-returns-in-Cong t c = step.judged_as (ap conversion c.in-Cong.is) _ _ _ _ c.check_cong.ensures
+
+pub check_conv-returns-in-Sym : goal.check_conv-returns-in-Sym
+check_conv-returns-in-Sym t c = step.judged_as (ap conversion c.in-Sym.is ∙ ap sym_conv (sym c.get.ensures)) _ _ _ _ c.check_sym.ensures
+
+pub check_conv-check_cong-requires : goal.check_conv-check_cong-requires
+check_conv-check_cong-requires t c =
+    let sizes = ap (λ x. conv_steps (conversion x)) c.in-Cong.is in
+    (omega (arith, sizes), (step.there_as (ap conversion c.in-Cong.is) _ _ c.requires).1)
+
+pub check_conv-check_sym-requires : goal.check_conv-check_sym-requires
+check_conv-check_sym-requires t c =
+    let is = ap conversion c.in-Sym.is ∙ ap sym_conv (sym c.get.ensures) in
+    let sizes = ap conv_steps is in
+    (omega (arith, sizes), step.there_as is _ _ c.requires)
+
+pub check_conv-check_unfold-requires : goal.check_conv-check_unfold-requires
+check_conv-check_unfold-requires t c =
+    let is = ap conversion c.in-Unfold.is ∙ ap (unfold_conv c.in-Unfold.t c.in-Unfold.es c.in-Unfold.vars) (sym c.get-in-Unfold.ensures) in
+    let sizes = ap conv_steps is in
+    (omega (arith, sizes), (step.there_as is _ _ c.requires).2)

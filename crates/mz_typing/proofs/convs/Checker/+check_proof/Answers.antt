@@ -1,4 +1,5 @@
-use Rattle.std.proofs.Common.{◌≡◌, ◌+◌, true≢false, drop, take, sym, ap, ◌∙◌, subst, length, arith}
+use Rattle.std.proofs.Common.{◌≡◌, ◌<◌, ◌+◌, suc, true≢false, drop, take, sym, ap, ◌∙◌, subst, refl, length, arith}
+use Rattle.std.specs.Prelude.{OnOk}
 use Rattle.std.proofs.lemmas.List.{drop_all}
 use Rattle.std.proofs.lemmas.Result.{on_ok_weaker}
 use Rattle.mz_checks.specs.Checks.{AllHold, ◌>>◌}
@@ -10,10 +11,10 @@ use Rattle.mz_logic.specs.Declaration.{signatures, assertions}
 use Rattle.mz_logic.specs.View.{tree}
 use Rattle.mz_forms.specs.ConvView.{conversion}
 use Rattle.mz_forms.specs.Proof.{by_citation, by_conv, by_let}
+use Rattle.mz_forms.specs.ProofCode.{proof_steps}
 use Rattle.mz_forms.specs.ProofView.{proof_view, proofs_view}
 use Rattle.mz_forms.specs.Stops.{Stops}
 use Rattle.mz_forms.specs.declared.fault.Stop.TheVariants.{Mem}
-use Rattle.mz_typing.specs.Answers.{Judged}
 use Rattle.mz_typing.specs.Claims.{claim_trees}
 use Rattle.mz_typing.specs.Names.{ProofThere, ProofsThere}
 use Rattle.mz_typing.specs.Parts.{part, after}
@@ -406,22 +407,97 @@ check_let-returns-clause-same t c =
     ∙ ap (λ k. take k c.name_claim.new.lets.items) (visible ∙ ap length (sym same)) ∙ c.in_ok-name_claim.ensures.visible ∙ same
 
 pub check_proof-returns-in-Cite-clause-judged : goal.check_proof-returns-in-Cite-clause-judged
-check_proof-returns-in-Cite-clause-judged t c =
-    let env = c.args.self.now.env.now in
-    let ctx = c.args.self.now.ctx.now in
-    let hyps = c.args.self.now.hyps.now in
-    let lets = claim_trees c.args.lets.now.items in
-    let n = first c.args.nodes.now in
-    subst (λ x. Judged c.check_citation.result (proof_rules env ctx hyps lets (proof_view x) n)) (sym c.in-Cite.is) c.check_citation.ensures.judged
+check_proof-returns-in-Cite-clause-judged t c = step.judged_as (ap proof_view c.in-Cite.is) _ _ _ _ _ _ c.check_citation.ensures.judged
 
 pub check_proof-returns-in-Conv-clause-judged : goal.check_proof-returns-in-Conv-clause-judged
 check_proof-returns-in-Conv-clause-judged t c =
+    step.judged_as (step.conv_is c.args.proof.now c.in-Conv.e c.in-Conv.conv c.in-Conv.proof _ _ c.in-Conv.is c.get.ensures c.get-in-Conv.ensures) _ _ _ _ _ _ c.check_conversion.ensures.judged
+
+pub check_proof-returns-in-Hyp-clause-judged : goal.check_proof-returns-in-Hyp-clause-judged
+check_proof-returns-in-Hyp-clause-judged t c = step.judged_as (ap proof_view c.in-Hyp.is) _ _ _ _ _ _ c.claim_hyp.ensures.stops
+
+pub check_proof-returns-in-Hyp-clause-claims : goal.check_proof-returns-in-Hyp-clause-claims
+check_proof-returns-in-Hyp-clause-claims t c = step.claims_as (ap proof_view c.in-Hyp.is) _
+    c.args.self.now.env.now c.args.self.now.hyps.now (claim_trees c.args.lets.now.items) _ _ c.claim_hyp.ensures.claims
+
+pub check_proof-returns-in-Hyp-clause-same : goal.check_proof-returns-in-Hyp-clause-same
+check_proof-returns-in-Hyp-clause-same t c = on_ok_weaker c.claim_hyp.result (λ _. refl) c.claim_hyp.ensures.claims
+
+pub check_proof-returns-in-Name-clause-judged : goal.check_proof-returns-in-Name-clause-judged
+check_proof-returns-in-Name-clause-judged t c = step.judged_as (ap proof_view c.in-Name.is) _ _ _ _ _ _ c.claim_let.ensures.stops
+
+pub check_proof-returns-in-Name-clause-claims : goal.check_proof-returns-in-Name-clause-claims
+check_proof-returns-in-Name-clause-claims t c = step.claims_as (ap proof_view c.in-Name.is) _
+    c.args.self.now.env.now c.args.self.now.hyps.now (claim_trees c.args.lets.now.items) _ _
+    (subst (λ ls. OnOk c.claim_let.result (claim_trees c.claim_let.new.claims.items ≡ with_fact (claim_trees c.args.claims.now.items) (operand (claim_trees ls) c.in-Name.i)))
+    c.deref.ensures.value c.claim_let.ensures.claims)
+
+pub check_proof-returns-in-Name-clause-same : goal.check_proof-returns-in-Name-clause-same
+check_proof-returns-in-Name-clause-same t c = on_ok_weaker c.claim_let.result (λ _. refl) c.claim_let.ensures.claims
+
+pub check_proof-returns-in-Gap-clause-judged : goal.check_proof-returns-in-Gap-clause-judged
+check_proof-returns-in-Gap-clause-judged t c = step.judged_as (ap proof_view c.in-Gap.is) _ _ _ _ _ _ c.check_gap.ensures.judged
+
+pub check_proof-returns-in-Gap-clause-claims : goal.check_proof-returns-in-Gap-clause-claims
+check_proof-returns-in-Gap-clause-claims t c = step.claims_as (ap proof_view c.in-Gap.is) _
+    c.args.self.now.env.now c.args.self.now.hyps.now (claim_trees c.args.lets.now.items) _ _ c.check_gap.ensures.claims
+
+pub check_proof-returns-in-Gap-clause-same : goal.check_proof-returns-in-Gap-clause-same
+check_proof-returns-in-Gap-clause-same t c = on_ok_weaker c.check_gap.result (λ _. refl) c.check_gap.ensures.claims
+
+pub check_proof-claim_hyp-requires : goal.check_proof-claim_hyp-requires
+check_proof-claim_hyp-requires t c = step.there_as (ap proof_view c.in-Hyp.is) _ _ _ _ _ c.requires
+
+pub check_proof-claim_let-requires : goal.check_proof-claim_let-requires
+check_proof-claim_let-requires t c = subst (λ ls. c.in-Name.i < length ls) (sym c.deref.ensures.value) (step.there_as (ap proof_view c.in-Name.is) _ _ _ _ _ c.requires)
+
+pub check_proof-check_citation-requires : goal.check_proof-check_citation-requires
+check_proof-check_citation-requires t c =
+    let sizes = ap (λ x. proof_steps (proof_view x)) c.in-Cite.is in
+    let there = step.there_as (ap proof_view c.in-Cite.is) _ _ _ _ _ c.requires in
+    (omega (arith, sizes), (there.0, (there.1, there.2)))
+
+pub check_proof-returns-in-Cite-clause-claims : goal.check_proof-returns-in-Cite-clause-claims
+check_proof-returns-in-Cite-clause-claims t c = step.claims_as (ap proof_view c.in-Cite.is) _
+    c.args.self.now.env.now c.args.self.now.hyps.now (claim_trees c.args.lets.now.items) _ _ c.check_citation.ensures.claims
+
+pub check_proof-returns-in-Cite-clause-same : goal.check_proof-returns-in-Cite-clause-same
+check_proof-returns-in-Cite-clause-same t c = c.check_citation.ensures.same
+
+pub check_proof-check_conversion-requires : goal.check_proof-check_conversion-requires
+check_proof-check_conversion-requires t c =
+    let is = step.conv_is c.args.proof.now c.in-Conv.e c.in-Conv.conv c.in-Conv.proof _ _ c.in-Conv.is c.get.ensures c.get-in-Conv.ensures in
+    let sizes = ap proof_steps is in
+    let there = step.there_as is _ _ _ _ _ c.requires in
+    (omega (arith, sizes), (there.1, there.2))
+
+pub check_proof-returns-in-Conv-clause-claims : goal.check_proof-returns-in-Conv-clause-claims
+check_proof-returns-in-Conv-clause-claims t c = step.claims_as (ap proof_view c.in-Conv.is) _
+    c.args.self.now.env.now c.args.self.now.hyps.now (claim_trees c.args.lets.now.items) _ _ c.check_conversion.ensures.claims
+
+pub check_proof-returns-in-Conv-clause-same : goal.check_proof-returns-in-Conv-clause-same
+check_proof-returns-in-Conv-clause-same t c = c.check_conversion.ensures.same
+
+pub check_proof-check_let-requires : goal.check_proof-check_let-requires
+check_proof-check_let-requires t c =
+    let is = step.let_is c.args.proof.now c.in-Let.first c.in-Let.second _ _ c.in-Let.is c.get-in-Let.ensures c.get-in-Let-2.ensures in
+    let sizes = ap proof_steps is in
+    let there = step.there_as is _ _ _ _ _ c.requires in
+    let more : suc (length c.args.lets.now.items) ≡ length c.args.lets.now.items + 1 = omega arith in
     let env = c.args.self.now.env.now in
-    let ctx = c.args.self.now.ctx.now in
     let hyps = c.args.self.now.hyps.now in
-    let lets = claim_trees c.args.lets.now.items in
-    let n = first c.args.nodes.now in
-    subst (λ x. Judged c.check_conversion.result (proof_rules env ctx hyps lets (proof_view x) n)) (sym c.in-Conv.is)
-    (subst (λ q. Judged c.check_conversion.result (proof_rules env ctx hyps lets (by_conv (tree c.in-Conv.e) c.in-Conv.conv q) n)) c.get-in-Conv.ensures
-    (subst (λ z. Judged c.check_conversion.result (proof_rules env ctx hyps lets (by_conv (tree c.in-Conv.e) z (proof_view c.get-in-Conv.result.now)) n)) c.get.ensures
-    c.check_conversion.ensures.judged))
+    let q = proof_view c.get-in-Let-2.result.now in
+    let second = subst (λ k. ProofThere (length (signatures env)) (length c.args.self.now.ctx.now) (length (assertions env)) (length (listed hyps)) k q) more there.1 in
+    (omega (arith, sizes), (there.0, second))
+
+pub check_proof-returns-in-Let-clause-judged : goal.check_proof-returns-in-Let-clause-judged
+check_proof-returns-in-Let-clause-judged t c =
+    step.judged_as (step.let_is c.args.proof.now c.in-Let.first c.in-Let.second _ _ c.in-Let.is c.get-in-Let.ensures c.get-in-Let-2.ensures) _ _ _ _ _ _ c.check_let.ensures.judged
+
+pub check_proof-returns-in-Let-clause-claims : goal.check_proof-returns-in-Let-clause-claims
+check_proof-returns-in-Let-clause-claims t c =
+    step.claims_as (step.let_is c.args.proof.now c.in-Let.first c.in-Let.second _ _ c.in-Let.is c.get-in-Let.ensures c.get-in-Let-2.ensures) _
+    c.args.self.now.env.now c.args.self.now.hyps.now (claim_trees c.args.lets.now.items) _ _ c.check_let.ensures.claims
+
+pub check_proof-returns-in-Let-clause-same : goal.check_proof-returns-in-Let-clause-same
+check_proof-returns-in-Let-clause-same t c = c.check_let.ensures.same

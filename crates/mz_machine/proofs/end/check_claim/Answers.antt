@@ -1,0 +1,28 @@
+use Rattle.std.proofs.Common.{◌∙◌, true, false, sym, ap}
+use Rattle.mz_store.specs.Sharing.{tree_of}
+use Rattle.mz_unification.specs.Profile.{strict}
+use Rattle.mz_soundness.specs.MachineState.{is_axiom}
+use Rattle.mz_soundness.specs.ProofMachine.{has_provable_sort}
+use Rattle.mz_earlier.specs.Before.{tables_of}
+use Rattle.mz_earlier.specs.OwnRow.{heading_by}
+use Rattle.mz_machine.proofs.EndRows.{claim-ends, claim-other}
+use Rattle.mz_machine.proofs.RowResults.{provable}
+use Rattle.mz_machine.proofs.end.check_claim.Goals as goal
+
+pub returns-then-is_provable : goal.returns-then-is_provable
+returns-then-is_provable c st ctx =
+    let E = c.args.earlier.now in
+    let s = c.args.store.now in
+    let e = tree_of s c.args.target.0 in
+    claim-ends strict (tables_of E) (heading_by E.file c.args.row is_axiom) st e
+    (ap (λ bs. has_provable_sort strict (tables_of E) bs e) ctx ∙ provable strict E s.context e c.sort_of.result true (c.sort_of.ensures.sort _ c.requires.over)
+    (sym c.is_provable.ensures ∙ c.if-is_provable.true))
+
+pub returns-else-is_provable : goal.returns-else-is_provable
+returns-else-is_provable c st ctx =
+    let E = c.args.earlier.now in
+    let s = c.args.store.now in
+    let e = tree_of s c.args.target.0 in
+    claim-other strict (tables_of E) (heading_by E.file c.args.row is_axiom) st e
+    (ap (λ bs. has_provable_sort strict (tables_of E) bs e) ctx ∙ provable strict E s.context e c.sort_of.result false (c.sort_of.ensures.sort _ c.requires.over)
+    (sym c.is_provable.ensures ∙ c.if-is_provable.false))

@@ -1,7 +1,0 @@
-use Rattle.std.proofs.Common.{◌∙◌, ap, sym}
-use Rattle.mz_nodes.specs.Entering.{no_expressions}
-use Rattle.mz_nodes.proofs.Growing.{mode-of}
-use Rattle.mz_nodes.proofs.nodes.Nodes.mode.Goals as goal
-
-pub returns : goal.returns
-returns c = sym (mode-of (no_expressions c.self.inside.mode) c.self.inside.nodes.items) ∙ ap (λ s. s.mode) c.self.view_is

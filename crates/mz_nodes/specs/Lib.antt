@@ -1,5 +1,0 @@
-pub mod Numbering
-pub mod Entering
-pub mod ExprCode
-pub mod Codes
-pub mod Kept

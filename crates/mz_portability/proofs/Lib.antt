@@ -1,5 +1,0 @@
-pub mod BodiesByAddress
-pub mod StatementsByAddress
-pub mod FilesByAddress
-pub mod AcceptedByAddress
-pub mod Offered

@@ -1,0 +1,96 @@
+use Rattle.std.proofs.Common.{◌∙◌, List, [], ◌∷◌, map, Err, ap, sym, subst}
+use Rattle.std.proofs.lemmas.Result.{err_from_is_err_and}
+use Rattle.mz_checks.specs.Checks.{AllHold, FailsFirst, retold}
+use Rattle.mz_grammar.specs.Code.{lexeme}
+use Rattle.mz_grammar.specs.Reading.{OnFault}
+use Rattle.mz_logic.specs.Declaration.{defined}
+use Rattle.mz_logic.specs.View.{tree}
+use Rattle.mz_logic.specs.declared.binder.Binder.{Binder}
+use Rattle.mz_notation.specs.Notation.{Variables}
+use Rattle.mz_math.specs.Formula.{Reader, IsFormula, formula_checks}
+use Rattle.mz_math.specs.declared.formula.Wanted.TheVariants.{Sort as of_sort}
+use Rattle.mz_spec.specs.Answers.{JudgesOrMem}
+use Rattle.mz_variables.specs.Code.{AreGrouped, variable}
+use Rattle.mz_spec.specs.Entries.{state}
+use Rattle.mz_spec.specs.Formulas.{inner, told}
+use Rattle.mz_spec.specs.Rules.{body_rules}
+use Rattle.mz_spec.specs.State.{binder_of, sort_number}
+use Rattle.mz_variables.specs.View.{Variable, body, params_of}
+use Rattle.mz_spec.proofs.Judged.{few-sorts}
+use Rattle.mz_spec.proofs.Loops.{test-in, test-out}
+use Rattle.mz_spec.proofs.Sorted.{body-sorted}
+use Rattle.mz_spec.proofs.Bodied.{body-halt, body-holds, body-fails, covers-all, all-covers, scope-names}
+use Rattle.mz_spec.proofs.state.State.body_in.Goals as goal
+
+pub returns-in_err-body-clause-judged : goal.returns-in_err-body-clause-judged
+returns-in_err-body-clause-judged c = λ vs ts t parts same tokens are.
+    let σ = state c.args.self.now in
+    let l = lexeme c.args.math in
+    let halt = c.in_err-body.field-0.0 in
+    let scope = c.requires.scope vs ts (t ∷ []) parts in
+    let sort = ap (λ r. r.sort) same in
+    let reads : Variables → Reader = λ x. record { env = σ.env; table = σ.table; scope = x } in
+    let p = err_from_is_err_and c.from_residual.result c.from_residual.ensures.1 in
+    subst (λ r. JudgesOrMem r (body_rules σ c.args.place vs (body l t ∷ []) tokens)) (sym (p.1 ∙ ap Err p.2))
+    (body-halt σ c.args.place vs l t tokens are halt
+    (λ ps cut. subst (λ x. OnFault halt (FailsFirst (retold (told l) (formula_checks (reads x) (of_sort (sort_number σ t)) (inner l) ps)))) scope
+    (subst (λ s. OnFault halt (FailsFirst (retold (told l) (formula_checks (reads c.args.scope.now) (of_sort s) (inner l) ps)))) sort (c.in_err-body.ensures.judged ps cut))))
+
+pub admits_free_variables-requires : goal.admits_free_variables-requires
+admits_free_variables-requires c =
+    let r : Reader = record { env = c.args.self.now.env; table = c.args.self.now.notations; scope = c.args.scope.now } in
+    record { sorted = (c.args.result_type.now.sort, body-sorted r c.requires.kept.coercions c.args.result_type.now.sort (inner (lexeme c.args.math)) (tree c.in_ok-body.body) c.in_ok-body.ensures.meant) }
+
+pub returns-then-not-has-clause-judged : goal.returns-then-not-has-clause-judged
+returns-then-not-has-clause-judged c = λ vs ts t parts same tokens are.
+    let σ = state c.args.self.now in
+    let l = lexeme c.args.math in
+    let e = tree c.in_ok-body.body in
+    let scope = c.requires.scope vs ts (t ∷ []) parts in
+    let sort = ap (λ r. r.sort) same in
+    let reads : Variables → Reader = λ x. record { env = σ.env; table = σ.table; scope = x } in
+    body-fails σ c.args.place vs l t tokens are
+    (λ ps cut. subst (λ x. AllHold (retold (told l) (formula_checks (reads x) (of_sort (sort_number σ t)) (inner l) ps))) scope
+    (subst (λ s. AllHold (retold (told l) (formula_checks (reads c.args.scope.now) (of_sort s) (inner l) ps))) sort (c.in_ok-body.ensures.judged ps cut)))
+    e
+    (subst (λ x. IsFormula (reads x) (of_sort (sort_number σ t)) (inner l) e) scope (subst (λ s. IsFormula (reads c.args.scope.now) (of_sort s) (inner l) e) sort c.in_ok-body.ensures.meant))
+    c.requires.kept.table (scope-names σ c.args.parts.now vs ts (t ∷ []) parts c.requires.names)
+    (λ free. test-out c.in_ok-has.has c.in_ok-has.ensures c.if-not-has.true (all-covers σ vs t e c.args.scope.now c.args.result_type.now scope same free))
+
+pub binders_of-requires-clause-few : goal.binders_of-requires-clause-few
+binders_of-requires-clause-few c = few-sorts (state c.args.self.now) c.requires.kept c.requires.few
+
+pub binders_of-requires-clause-grouped : goal.binders_of-requires-clause-grouped
+binders_of-requires-clause-grouped c = subst AreGrouped (sym c.deref-2.ensures.value) c.requires.parts.3.grouped_dummies
+
+pub returns-clause-judged : goal.returns-clause-judged
+returns-clause-judged c = λ vs ts t parts same tokens are.
+    let σ = state c.args.self.now in
+    let l = lexeme c.args.math in
+    let e = tree c.in_ok-body.body in
+    let scope = c.requires.scope vs ts (t ∷ []) parts in
+    let sort = ap (λ r. r.sort) same in
+    let reads : Variables → Reader = λ x. record { env = σ.env; table = σ.table; scope = x } in
+    body-holds σ c.args.place vs l t tokens are
+    (λ ps cut. subst (λ x. AllHold (retold (told l) (formula_checks (reads x) (of_sort (sort_number σ t)) (inner l) ps))) scope
+    (subst (λ s. AllHold (retold (told l) (formula_checks (reads c.args.scope.now) (of_sort s) (inner l) ps))) sort (c.in_ok-body.ensures.judged ps cut)))
+    e
+    (subst (λ x. IsFormula (reads x) (of_sort (sort_number σ t)) (inner l) e) scope (subst (λ s. IsFormula (reads c.args.scope.now) (of_sort s) (inner l) e) sort c.in_ok-body.ensures.meant))
+    (covers-all σ vs t e c.args.scope.now c.args.result_type.now scope same (test-in c.in_ok-has.has c.in_ok-has.ensures c.if-not-has.false))
+
+pub returns-clause-form : goal.returns-clause-form
+returns-clause-form c = λ vs ts t parts same.
+    let σ = state c.args.self.now in
+    let l = lexeme c.args.math in
+    let e = tree c.in_ok-body.body in
+    let scope = c.requires.scope vs ts (t ∷ []) parts in
+    let sort = ap (λ r. r.sort) same in
+    let reads : Variables → Reader = λ x. record { env = σ.env; table = σ.table; scope = x } in
+    let of : List Variable → List Variable → List Binder = λ ps ds. map (binder_of σ ps) ds in
+    let dummies = c.in_ok-dummies.ensures
+    ∙ ap (λ ps. of ps (map variable c.deref-2.result.now)) (ap (map variable) c.deref.ensures.value ∙ parts.params)
+    ∙ ap (of (params_of vs)) (ap (map variable) c.deref-2.ensures.value ∙ parts.dummies) in (
+      e,
+      subst (λ x. IsFormula (reads x) (of_sort (sort_number σ t)) (inner l) e) scope (subst (λ s. IsFormula (reads c.args.scope.now) (of_sort s) (inner l) e) sort c.in_ok-body.ensures.meant),
+      ap (λ ds. defined ds e) dummies,
+    )

@@ -1,4 +1,0 @@
-mod Telling
-mod Marking
-mod Going
-mod Starting

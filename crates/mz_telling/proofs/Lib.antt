@@ -1,4 +1,0 @@
-mod Adding
-mod Lists
-mod Statements
-mod Standing

@@ -1,4 +1,0 @@
-pub mod Adding
-pub mod Hypotheses
-pub mod Naming
-pub mod Telling

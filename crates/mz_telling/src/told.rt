@@ -1,6 +1,0 @@
-/// A statement that is told: the number of its phrase, and its weight, or the largest number where it weighs more.
-#[derive(Clone, Copy)]
-pub struct Told {
-    pub phrase: usize,
-    pub weight: u128,
-}
