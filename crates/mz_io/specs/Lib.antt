@@ -1,3 +1,5 @@
+pub mod Calls
+pub mod Noted
 pub mod Outside
 pub mod Plan
 pub mod Memory

@@ -29,6 +29,7 @@ pub record SameContents (old new : MemFolder) : Type 0 where
 
 -- what is told of the trait calls stays
 pub record SameCalls (old new : MemFolder) : Type 0 where
+  pub log : new.log ≡ old.log
   pub plan : SamePlan old.plan new.plan
   pub faults : new.faults ≡ old.faults
   pub put_faults : new.put_faults ≡ old.put_faults

@@ -26,5 +26,6 @@ pub record SameContents (old new : MemSink) : Type 0 where
 
 -- what is told of the trait calls stays
 pub record SameCalls (old new : MemSink) : Type 0 where
+  pub log : new.log ≡ old.log
   pub plan : SamePlan old.plan new.plan
   pub faults : new.faults ≡ old.faults

@@ -1,6 +1,8 @@
-//! The files of the system: a thin adapter, which tells nothing of content.
-ghost use Rattle.std.specs.Prelude.{◌≡◌};
+//! The files of the system: a thin adapter, which tells its calls, and nothing of content.
+ghost use Rattle.std.specs.Prelude.{◌≡◌, ◌≤◌, [], length, IfOk};
+ghost use Rattle.mz_io.specs.Outside.{HasCause};
 
+use crate::log::{Log, Note};
 use crate::{Failed, Folder};
 use std::fs::{self, File, OpenFile};
 use std::io::{self, ErrorKind, Read, Write};
@@ -15,6 +17,7 @@ pub struct DiskFolder<R: Files + Alloc> {
     started: Option<R::File>,
     faults: u64,
     put_faults: u64,
+    log: Log,
 }
 
 impl<R: Files + Alloc> DiskFolder<R> {
@@ -22,12 +25,53 @@ impl<R: Files + Alloc> DiskFolder<R> {
     pub fn new(rt: R) -> DiskFolder<R>
         ensures faults { result.faults ≡ 0 }
         ensures put_faults { result.put_faults ≡ 0 }
+        ensures calls { result.log.calls ≡ [] }
     {
         DiskFolder {
             rt,
             started: None,
             faults: 0,
             put_faults: 0,
+            log: Log::new(),
+        }
+    }
+
+    /// Has the system open the file, or counts a fault.
+    fn open(&mut self, name: &str) -> Result<(), Failed>
+        ensures cause { HasCause self.old.faults self.new.faults result }
+        ensures put_faults { self.new.put_faults ≡ self.old.put_faults }
+        ensures log { self.new.log ≡ self.old.log }
+    {
+        match fs::open(&self.rt, name) {
+            Ok(file) => {
+                self.started = Some(file);
+                Ok(())
+            }
+            Err(_) => {
+                self.started = None;
+                self.faults = self.faults.saturating_add(1);
+                Err(Failed)
+            }
+        }
+    }
+
+    /// Has the system read from the started file, or counts a fault.
+    fn read(&mut self, buf: &mut [u8]) -> Result<usize, Failed>
+        ensures bound { IfOk result (λ n. n ≤ length buf.new) }
+        ensures cause { HasCause self.old.faults self.new.faults result }
+        ensures put_faults { self.new.put_faults ≡ self.old.put_faults }
+        ensures log { self.new.log ≡ self.old.log }
+    {
+        let Some(file) = &mut self.started else {
+            return Ok(0);
+        };
+        match file.read(buf) {
+            Ok(count) => Ok(count),
+            Err(_) => {
+                self.started = None;
+                self.faults = self.faults.saturating_add(1);
+                Err(Failed)
+            }
         }
     }
 }
@@ -90,6 +134,8 @@ fn put_whole<R: Files + Alloc>(rt: &R, name: &str, bytes: &[u8]) -> io::Result<(
 impl<R: Files + Alloc> Folder for DiskFolder<R> {
     ghost use Rattle.std.specs.Prelude.{[], None};
 
+    ghost calls = { λ folder. folder.log.calls };
+
     ghost told = { ⊥ };
 
     ghost file = { λ _ _. None };
@@ -107,36 +153,25 @@ impl<R: Files + Alloc> Folder for DiskFolder<R> {
     ghost clear_tells = { λ d clear. clear };
 
     fn start(&mut self, name: &str) -> Result<(), Failed> {
-        match fs::open(&self.rt, name) {
-            Ok(file) => {
-                self.started = Some(file);
-                Ok(())
-            }
-            Err(_) => {
-                self.started = None;
-                self.faults = self.faults.saturating_add(1);
-                Err(Failed)
-            }
-        }
+        let done = self.open(name);
+        self.log.note(&Note::Start(name, done.is_ok()));
+        done
     }
 
     fn pull(&mut self, buf: &mut [u8]) -> Result<usize, Failed> {
-        let Some(file) = &mut self.started else {
-            return Ok(0);
-        };
-        match file.read(buf) {
-            Ok(count) => Ok(count),
-            Err(_) => {
-                self.started = None;
-                self.faults = self.faults.saturating_add(1);
-                Err(Failed)
-            }
+        let done = self.read(buf);
+        match done {
+            Ok(count) => self.log.note(&Note::Pull(buf.len(), &buf[..count])),
+            Err(_) => self.log.note(&Note::PullFails),
         }
+        done
     }
 
     fn put(&mut self, name: &str, bytes: &[u8]) -> Result<(), Failed> {
         self.started = None;
-        match put_whole(&self.rt, name, bytes) {
+        let done = put_whole(&self.rt, name, bytes);
+        self.log.note(&Note::Put(name, bytes, done.is_ok()));
+        match done {
             Ok(()) => Ok(()),
             Err(_) => {
                 self.put_faults = self.put_faults.saturating_add(1);

@@ -1,5 +1,6 @@
 //! A folder of files, as the program sees it.
-ghost use Rattle.std.specs.Prelude.{◌≡◌, ◌≤◌, List, [], ℕ, length, Option, Some, IsSome, OnOk, OnErr, IfOk, is_ok, if◌then◌else◌};
+ghost use Rattle.std.specs.Prelude.{◌≡◌, ◌≤◌, ◌++◌, ◌∷◌, List, [], ℕ, length, Option, Some, IsSome, OnOk, OnErr, IfOk, is_ok, if◌then◌else◌};
+ghost use Rattle.mz_io.specs.Calls.{Call, starts, puts, pulled};
 ghost use Rattle.mz_io.specs.Outside.{HasCause, SameFiles, SameOthers, Pulls, Rooms, HasRoom, serves, without_first};
 
 use thiserror::Error;
@@ -11,9 +12,12 @@ pub struct Failed;
 
 /// A folder of files, read from the front one at a time and written whole.
 ///
-/// What its files hold is told by a folder in memory, and isn't by one of the system. So is whether
+/// Each folder tells the calls that were made on it, with their answers. What its files hold is told by a folder in memory, and isn't by one of the system. So is whether
 /// a coming call is listed to fail, and what rooms are made: then the causes of a failure are known.
 pub trait Folder {
+    /// The calls so far, with their answers: a log that each call makes longer by itself.
+    ghost calls: { Self → List Call };
+
     /// That the folder tells what its files hold.
     ghost told: { Type 0 };
 
@@ -37,6 +41,7 @@ pub trait Folder {
 
     /// Starts to read a file from its front. A name that isn't there is a failure.
     fn start(&mut self, name: &str) -> Result<(), Failed>
+        ensures logged { calls self.new ≡ calls self.old ++ starts name.now (is_ok result) ∷ [] }
         ensures started { told → OnOk result (file self.old name.now ≡ Some (left self.new)) }
         ensures stopped { told → OnErr result (left self.new ≡ []) }
         ensures files { told → SameFiles (file self.old) (file self.new) }
@@ -54,6 +59,7 @@ pub trait Folder {
     /// only at the end, where nothing is started, or into an empty buffer. After a failure nothing
     /// is started.
     fn pull(&mut self, buf: &mut [u8]) -> Result<usize, Failed>
+        ensures logged { calls self.new ≡ calls self.old ++ pulled result buf.new ∷ [] }
         ensures bound { IfOk result (λ n. n ≤ length buf.new) }
         ensures bytes { told → Pulls (left self.old) (left self.new) result buf.new }
         ensures files { told → SameFiles (file self.old) (file self.new) }
@@ -70,6 +76,7 @@ pub trait Folder {
     /// Writes a whole file, in place of one that is there. Nothing is started then. After a failure
     /// nothing is told of the file of this name.
     fn put(&mut self, name: &str, bytes: &[u8]) -> Result<(), Failed>
+        ensures logged { calls self.new ≡ calls self.old ++ puts name.now bytes.now (is_ok result) ∷ [] }
         ensures put { told → OnOk result (file self.new name.now ≡ Some bytes.now) }
         ensures others { told → SameOthers name.now (file self.old) (file self.new) }
         ensures stopped { told → left self.new ≡ [] }

@@ -8,6 +8,7 @@
 mod disk_folder;
 mod entry;
 mod folder;
+mod log;
 mod memory_folder;
 mod memory_sink;
 mod plan;

@@ -2,6 +2,7 @@
 ghost use Rattle.std.specs.Prelude.{◌≡◌, ◌≤◌, ◌+◌, ◌<◌, ◌++◌, ◌∷◌, [], ℕ, Some, OnOk, OnErr, option_copied, vec_len, vec_capacity};
 
 use crate::entry::{Entry, copy_front, left, place_of, store};
+use crate::log::{Log, Note};
 use crate::plan::Plan;
 use crate::room::Room;
 use crate::rooms::serving_place;
@@ -23,6 +24,7 @@ pub struct MemFolder {
     plan: Plan,
     faults: u64,
     put_faults: u64,
+    log: Log,
     // Each room can become a file without more memory.
     ghost spare: { vec_len files + vec_len rooms ≤ vec_capacity files },
 }
@@ -41,6 +43,7 @@ impl MemFolder {
         ensures listed { result.plan.listed.items ≡ [] }
         ensures faults { result.faults ≡ 0 }
         ensures put_faults { result.put_faults ≡ 0 }
+        ensures log { result.log.calls ≡ [] }
     {
         MemFolder {
             alloc,
@@ -51,6 +54,7 @@ impl MemFolder {
             plan: Plan::new(alloc),
             faults: 0,
             put_faults: 0,
+            log: Log::new(),
         }
     }
 
@@ -114,10 +118,13 @@ impl MemFolder {
 }
 
 impl Folder for MemFolder {
+    ghost use Rattle.mz_io.specs.Calls.{starts, puts, pulled};
     ghost use Rattle.std.specs.Prelude.{⊤, ◌↔◌, ◌⊎◌, length, IsErr, IsNone, IsSome, IfOk, is_ok, if◌then◌else◌};
     ghost use Rattle.mz_io.specs.Outside.{HasCause, SameFiles, SameOthers, Pulls, HasRoom, serves, without_first};
     ghost use Rattle.mz_io.specs.MemFolder.{file as file_in, left as left_in, rooms as rooms_in, NextIsListed};
     ghost use Rattle.mz_io.specs.Plan.{IsClear, CountsCall};
+
+    ghost calls = { λ folder. folder.log.calls };
 
     ghost told = { ⊤ };
 
@@ -136,6 +143,8 @@ impl Folder for MemFolder {
     ghost clear_tells = { λ folder clear. tt };
 
     fn start(&mut self, name: &str) -> Result<(), Failed>
+        ensures logged { self.new.log.calls ≡ self.old.log.calls ++ starts name.now (is_ok result) ∷ [] }
+
         // It fails exactly where the call is listed, or no file has the name.
         ensures fails { IsErr result ↔ (NextIsListed self.old ⊎ IsNone (file_in self.old name.now)) }
         ensures calls { CountsCall self.old.plan self.new.plan }
@@ -155,12 +164,16 @@ impl Folder for MemFolder {
         if fails || self.started.is_none() {
             self.started = None;
             self.faults = self.faults.saturating_add(1);
+            self.log.note(&Note::Start(name, false));
             return Err(Failed);
         }
+        self.log.note(&Note::Start(name, true));
         Ok(())
     }
 
     fn pull(&mut self, buf: &mut [u8]) -> Result<usize, Failed>
+        ensures logged { self.new.log.calls ≡ self.old.log.calls ++ pulled result buf.new ∷ [] }
+
         // It fails exactly where the call is listed.
         ensures fails { IsErr result ↔ NextIsListed self.old }
         ensures calls { CountsCall self.old.plan self.new.plan }
@@ -177,14 +190,18 @@ impl Folder for MemFolder {
         if self.plan.fails_next() {
             self.started = None;
             self.faults = self.faults.saturating_add(1);
+            self.log.note(&Note::PullFails);
             return Err(Failed);
         }
         let taken = copy_front(left(&self.files, self.started, self.offset), buf);
         self.offset = self.offset.saturating_add(taken);
+        self.log.note(&Note::Pull(buf.len(), &buf[..taken]));
         Ok(taken)
     }
 
     fn put(&mut self, name: &str, bytes: &[u8]) -> Result<(), Failed>
+        ensures logged { self.new.log.calls ≡ self.old.log.calls ++ puts name.now bytes.now (is_ok result) ∷ [] }
+
         // It fails exactly where the call is listed, or no room of the name holds the bytes.
         ensures fails { IsErr result ↔ (NextIsListed self.old ⊎ (HasRoom (rooms_in self.old) name.now (length bytes.now) → ⊥)) }
         ensures calls { CountsCall self.old.plan self.new.plan }
@@ -206,10 +223,12 @@ impl Folder for MemFolder {
             Some(i) if !fails => {
                 let room = self.rooms.remove(i);
                 store(&mut self.files, room.filled(bytes));
+                self.log.note(&Note::Put(name, bytes, true));
                 Ok(())
             }
             _ => {
                 self.put_faults = self.put_faults.saturating_add(1);
+                self.log.note(&Note::Put(name, bytes, false));
                 Err(Failed)
             }
         }

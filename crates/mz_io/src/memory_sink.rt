@@ -1,6 +1,7 @@
 //! A sink in memory, whose calls fail as listed: what the program prints in its tests.
 ghost use Rattle.std.specs.Prelude.{◌≡◌, ◌≤◌, ◌+◌, ◌-◌, ◌<◌, ◌^◌, ◌++◌, ◌∷◌, [], ℕ, OnOk, OnErr, IfOk, length, vec_len, vec_capacity};
 
+use crate::log::{Log, Note};
 use crate::plan::Plan;
 use crate::{Failed, Sink};
 use std::alloc::{AllocError, Global};
@@ -16,6 +17,7 @@ pub struct MemSink {
     most: usize,
     plan: Plan,
     faults: u64,
+    log: Log,
     // What room is left needs no more memory.
     ghost spare: { vec_len bytes + room ≤ vec_capacity bytes },
     ghost takes: { 0 < most },
@@ -32,6 +34,7 @@ impl MemSink {
         ensures calls { IfOk result (λ sink. sink.plan.calls ≡ 0) }
         ensures listed { IfOk result (λ sink. sink.plan.listed.items ≡ []) }
         ensures faults { IfOk result (λ sink. sink.faults ≡ 0) }
+        ensures log { IfOk result (λ sink. sink.log.calls ≡ []) }
     {
         let bytes = Vec::with_capacity(alloc, room as usize)?;
         Ok(MemSink {
@@ -40,6 +43,7 @@ impl MemSink {
             most: usize::MAX,
             plan: Plan::new(alloc),
             faults: 0,
+            log: Log::new(),
         })
     }
 
@@ -74,10 +78,13 @@ impl MemSink {
 }
 
 impl Sink for MemSink {
+    ghost use Rattle.mz_io.specs.Calls.{written as write_of};
     ghost use Rattle.std.specs.Prelude.{⊤, ◌↔◌, ◌⊎◌, min, IsErr};
     ghost use Rattle.mz_io.specs.Outside.{HasCause, Appends};
     ghost use Rattle.mz_io.specs.MemSink.{written as written_in, room as room_in, most as most_in, NextIsListed};
     ghost use Rattle.mz_io.specs.Plan.{IsClear, CountsCall};
+
+    ghost calls = { λ sink. sink.log.calls };
 
     ghost told = { ⊤ };
 
@@ -90,6 +97,8 @@ impl Sink for MemSink {
     ghost room = { room_in };
 
     fn write(&mut self, piece: &[u8]) -> Result<usize, Failed>
+        ensures logged { self.new.log.calls ≡ self.old.log.calls ++ write_of result piece.now ∷ [] }
+
         // It fails exactly where the call is listed, or no room is left for a piece that isn't empty.
         ensures fails { IsErr result ↔ (NextIsListed self.old ⊎ ((0 < length piece.now) × (room_in self.old ≡ 0))) }
         ensures calls { CountsCall self.old.plan self.new.plan }
@@ -108,11 +117,13 @@ impl Sink for MemSink {
         let count = piece.len().min(self.room).min(self.most);
         if fails || (count == 0 && !piece.is_empty()) {
             self.faults = self.faults.saturating_add(1);
+            self.log.note(&Note::WriteFails(piece));
             return Err(Failed);
         }
         match self.bytes.extend_from_slice(&piece[..count]) {
             Ok(()) => {
                 self.room -= count;
+                self.log.note(&Note::Write(&piece[..count]));
                 Ok(count)
             }
             Err(_) => unreachable!(),

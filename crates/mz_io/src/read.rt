@@ -1,7 +1,8 @@
 //! Reading a whole file, up to a limit.
-ghost use Rattle.std.specs.Prelude.{◌≡◌, ◌≤◌, Some, IsSome, length};
+ghost use Rattle.std.specs.Prelude.{◌≡◌, ◌≤◌, ◌∷◌, List, ℕ, true, Some, IsSome, length};
+ghost use Rattle.mz_io.specs.Calls.{Grows, starts};
 ghost use Rattle.mz_io.specs.Outside.{Rose, SameFiles};
-ghost use Rattle.mz_io.specs.Read.{IfBytes, OnTooLong, OnFault, IsLonger};
+ghost use Rattle.mz_io.specs.Read.{IfBytes, OnTooLong, OnFault, IsLonger, IsReading};
 
 use crate::Folder;
 use std::alloc::Global;
@@ -21,6 +22,10 @@ pub enum Read {
 
 /// Reads a whole file of at most `limit` bytes.
 pub fn read_bounded<F: Folder>(alloc: Global, folder: &mut F, name: &str, limit: u64) -> Read
+    // The file is started and pulled from, up to the first failure, the limit or the end, and the bytes
+    // are those that came.
+    ensures log { Grows (F.calls folder.old) (F.calls folder.new) (IsReading limit name.now result) }
+
     // A file within the limit is read whole, and a longer one never is.
     ensures bytes { F.told → IfBytes result (λ bytes. F.file folder.old name.now ≡ Some bytes) }
     ensures within { IfBytes result (λ bytes. length bytes ≤ limit) }
@@ -45,6 +50,7 @@ pub fn read_bounded<F: Folder>(alloc: Global, folder: &mut F, name: &str, limit:
 
 /// Reads what is left of the started file.
 fn read_started<F: Folder>(alloc: Global, folder: &mut F, limit: u64) -> Read
+    ensures log { (name : List ℕ) → Grows (F.calls folder.old) (F.calls folder.new) (λ more. IsReading limit name result (starts name true ∷ more)) }
     ensures bytes { F.told → IfBytes result (λ bytes. F.left folder.old ≡ bytes) }
     ensures within { IfBytes result (λ bytes. length bytes ≤ limit) }
     ensures too_long { F.told → OnTooLong result (IsLonger limit (Some (F.left folder.old))) }

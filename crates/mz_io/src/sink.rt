@@ -1,11 +1,17 @@
 //! A sink for what the program writes.
-ghost use Rattle.std.specs.Prelude.{◌≡◌, ◌≤◌, ◌<◌, ◌+◌, List, ℕ, length, IfOk};
+ghost use Rattle.std.specs.Prelude.{◌≡◌, ◌≤◌, ◌<◌, ◌+◌, ◌++◌, ◌∷◌, List, [], ℕ, length, IfOk};
+ghost use Rattle.mz_io.specs.Calls.{Call, written as write_of};
 ghost use Rattle.mz_io.specs.Outside.{HasCause, Appends};
 
 use crate::Failed;
 
 /// A sink of bytes, as the program sees it: standard output, or one in memory.
+///
+/// Each sink tells the calls that were made on it, with their answers.
 pub trait Sink {
+    /// The calls so far, with their answers: a log that each call makes longer by itself.
+    ghost calls: { Self → List Call };
+
     /// That the sink tells what was written.
     ghost told: { Type 0 };
 
@@ -23,6 +29,7 @@ pub trait Sink {
 
     /// Writes a front of the piece, and says how much of it: something, unless the piece is empty.
     fn write(&mut self, piece: &[u8]) -> Result<usize, Failed>
+        ensures logged { calls self.new ≡ calls self.old ++ write_of result piece.now ∷ [] }
         ensures bound { IfOk result (λ n. n ≤ length piece.now) }
         ensures some { IfOk result (λ n. 0 < length piece.now → 0 < n) }
         ensures bytes { told → Appends (written self.old) (written self.new) result piece.now }

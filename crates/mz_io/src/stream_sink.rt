@@ -1,6 +1,7 @@
-//! The output of the system: a thin adapter, which tells nothing of content.
-ghost use Rattle.std.specs.Prelude.{◌≡◌, ◌≤◌, ◌<◌, length, IfSome};
+//! The output of the system: a thin adapter, which tells its calls, and nothing of content.
+ghost use Rattle.std.specs.Prelude.{◌≡◌, ◌≤◌, ◌<◌, [], length, IfSome};
 
+use crate::log::{Log, Note};
 use crate::{Failed, Sink};
 use std::io::Write;
 
@@ -12,14 +13,20 @@ use std::io::Write;
 pub struct StdSink<W: Write> {
     inner: W,
     faults: u64,
+    log: Log,
 }
 
 impl<W: Write> StdSink<W> {
     /// The stream as a sink.
     pub fn new(inner: W) -> StdSink<W>
-        ensures { result.faults ≡ 0 }
+        ensures faults { result.faults ≡ 0 }
+        ensures calls { result.log.calls ≡ [] }
     {
-        StdSink { inner, faults: 0 }
+        StdSink {
+            inner,
+            faults: 0,
+            log: Log::new(),
+        }
     }
 
     /// Writes a front of the piece and flushes it; `None` where either fails, or nothing is taken.
@@ -27,6 +34,7 @@ impl<W: Write> StdSink<W> {
         ensures bound { IfSome result (λ n. n ≤ length piece.now) }
         ensures some { IfSome result (λ n. 0 < length piece.now → 0 < n) }
         ensures faults { self.new.faults ≡ self.old.faults }
+        ensures log { self.new.log ≡ self.old.log }
     {
         let Ok(count) = self.inner.write(piece) else {
             return None;
@@ -44,6 +52,8 @@ impl<W: Write> StdSink<W> {
 impl<W: Write> Sink for StdSink<W> {
     ghost use Rattle.std.specs.Prelude.{[]};
 
+    ghost calls = { λ sink. sink.log.calls };
+
     ghost told = { ⊥ };
 
     ghost written = { λ _. [] };
@@ -56,8 +66,12 @@ impl<W: Write> Sink for StdSink<W> {
 
     fn write(&mut self, piece: &[u8]) -> Result<usize, Failed> {
         match self.write_some(piece) {
-            Some(count) => Ok(count),
+            Some(count) => {
+                self.log.note(&Note::Write(&piece[..count]));
+                Ok(count)
+            }
             None => {
+                self.log.note(&Note::WriteFails(piece));
                 self.faults = self.faults.saturating_add(1);
                 Err(Failed)
             }

@@ -1,5 +1,6 @@
 //! Writing a whole text to a sink.
 ghost use Rattle.std.specs.Prelude.{◌≡◌, ◌≤◌, ◌+◌, ◌++◌, length, OnOk, OnErr};
+ghost use Rattle.mz_io.specs.Calls.{Grows, IsWriting};
 ghost use Rattle.mz_io.specs.Outside.{HasCause, AppendsPrefix};
 
 use crate::{Failed, Sink};
@@ -7,6 +8,9 @@ use crate::{Failed, Sink};
 /// Writes all of the text, in as many calls as the sink takes. After a failure a prefix of the text
 /// is written.
 pub fn write_whole<O: Sink>(out: &mut O, text: &[u8]) -> Result<(), Failed>
+    // The text is handed over whole, or up to a failure, after which nothing is.
+    ensures log { Grows (O.calls out.old) (O.calls out.new) (IsWriting result text.now) }
+
     ensures whole { O.told → OnOk result (O.written out.new ≡ O.written out.old ++ text.now) }
     ensures prefix { O.told → OnErr result (AppendsPrefix (O.written out.old) (O.written out.new) text.now) }
 

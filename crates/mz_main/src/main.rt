@@ -1,12 +1,16 @@
 //! The program `mz`: its words, and the folder and the output of the system.
 #![tactic(auto)]
 
-use mz_io::{DiskFolder, StdSink};
+ghost use Rattle.std.specs.Prelude.{map, string_bytes};
+ghost use Rattle.mz_tool.specs.Called.{IsRun};
+
+use mz_io::{DiskFolder, Folder, Sink, StdSink};
 use mz_tool::{Seed, Status, run};
 use std::alloc::Global;
+use std::io::Write;
 use std::process::ExitCode;
 use std::random::RandomSource;
-use std::rt::Env;
+use std::rt::{Env, Files};
 use std::{env, io};
 
 /// The words after the program's name.
@@ -27,12 +31,33 @@ fn seed_of(rt: &impl RandomSource) -> Seed {
     }
 }
 
+/// The run over the files of the system and a stream, with the logs of the calls on both: these are all of them.
+fn run_on_system<R: Files + Alloc, W: Write>(
+    rt: R,
+    alloc: Global,
+    seed: Seed,
+    words: &[String],
+    stream: W,
+) -> (Status, DiskFolder<R>, StdSink<W>)
+    ensures { IsRun (map string_bytes words.now) result.0 (⟦<DiskFolder<R> as Folder>⟧.calls result.1) (⟦<StdSink<W> as Sink>⟧.calls result.2) }
+{
+    let mut folder = DiskFolder::new(rt);
+    let mut out = StdSink::new(stream);
+    let status = run(alloc, seed, words, &mut folder, &mut out);
+    (status, folder, out)
+}
+
 fn main(rt: HostRuntime) -> ExitCode {
     let status = match words_of(&rt) {
         Ok(words) => {
-            let mut folder = DiskFolder::new(&rt);
-            let mut out = StdSink::new(io::writer(&rt));
-            run(rt.alloc(), seed_of(&rt), &words, &mut folder, &mut out)
+            let (status, _folder, _out) = run_on_system(
+                &rt,
+                rt.alloc(),
+                seed_of(&rt),
+                &words,
+                io::writer(&rt),
+            );
+            status
         }
         Err(error) if error.kind() == io::ErrorKind::OutOfMemory => Status::Memory,
         Err(_) => Status::Usage,

@@ -3,6 +3,8 @@ use Rattle.std.proofs.Common.{◌≡◌, ◌≤◌, ◌<◌, ◌+◌, ◌++◌, 
 use Rattle.std.proofs.lemmas.List.{take_at, take-append-drop}
 use Rattle.mz_checks.specs.Checks.{AllHold}
 use Rattle.mz_cmd.specs.Codes.{statement_byte}
+use Rattle.mz_io.specs.Calls.{Call, Grows, IsWritten, IsCut}
+use Rattle.mz_io.proofs.Logs.{grows-both, written-both, cut-after}
 use Rattle.mz_io.specs.Outside.{AppendsPrefix}
 use Rattle.mz_layout.specs.Layout.{Layout}
 use Rattle.mz_layout.proofs.Offered.{head-ahead}
@@ -10,6 +12,7 @@ use Rattle.mz_show.specs.declared.place.Place.{Place}
 use Rattle.mz_show.specs.Statements.{Statement, Stands, first_place, after, statement_checks, statement_text}
 use Rattle.mz_show.specs.Listing.{Chain, chain_text, EndsAt, IsListed}
 use Rattle.mz_show.specs.Answers.{IsWithin}
+use Rattle.mz_show.specs.Asked.{IsBegunText}
 use Rattle.mz_show.proofs.Statements.{head-there}
 use Rattle.mz_show.proofs.OneListing.{Rest, rest-some, chain-snoc, chain-append, text-append}
 
@@ -39,10 +42,11 @@ pub record Front (file front : List ℕ) : Type 0 where
 
 -- ---- progress: what was written before the statement at a place
 
-pub record Progress (file : List ℕ) (told clear_before clear : Type 0) (before now : List ℕ) (room_before room faults_before faults : ℕ) (place : Place) : Type 0 where
+pub record Progress (file : List ℕ) (told clear_before clear : Type 0) (before now : List ℕ) (room_before room faults_before faults : ℕ) (calls_before calls : List Call) (place : Place) : Type 0 where
   pub within : IsWithin file place
   pub statements : List Statement
   pub chain : Chain file (first_place file) statements place
+  pub log : Grows calls_before calls (IsWritten (chain_text file (first_place file) statements))
   pub bytes : told → now ≡ before ++ chain_text file (first_place file) statements
   pub room_left : clear_before → room + length (chain_text file (first_place file) statements) ≡ room_before
   pub later : faults_before ≤ faults
@@ -112,15 +116,22 @@ module _ (file : List ℕ) (layout : Layout file) where
         parts = f.parts ∙ ap (λ part. (front ++ part) ++ f.rest) (sym (take-append-drop w.0 more)) ∙ simp append_assoc;
       }) all
 
+  -- a front of what the file is listed with was written, and then a piece was cut short
+  pub cut-short : (front more : List ℕ) (before now later : List Call) → (f : Front file (front ++ more)) → Grows before now (IsWritten front) → Grows now later (IsCut more) →
+      Grows before later (IsCut f.text)
+  cut-short front more before now later f one two =
+      grows-both before now later (IsWritten front) (IsCut more) (IsCut f.text) one two
+      (λ first second w c. cut-after front more f.text f.rest first second f.parts w c)
+
   -- a statement's lines were written
-  pub progress-more : (told clear_before clear clear_after : Type 0) (before now later : List ℕ) (room_before room room_after faults_before faults faults_after : ℕ)
+  pub progress-more : (told clear_before clear clear_after : Type 0) (before now later : List ℕ) (room_before room room_after faults_before faults faults_after : ℕ) (calls_before calls calls_after : List Call)
       (place : Place) (s : Statement) (to : Place) (piece : List ℕ) →
-      Progress file told clear_before clear before now room_before room faults_before faults place →
+      Progress file told clear_before clear before now room_before room faults_before faults calls_before calls place →
       Stands file place s → AllHold (statement_checks file place s) → piece ≡ statement_text file place s → to ≡ after place s →
-      (told → later ≡ now ++ piece) → (clear → room_after + length piece ≡ room) → faults ≤ faults_after → (clear → clear_after) →
+      Grows calls calls_after (IsWritten piece) → (told → later ≡ now ++ piece) → (clear → room_after + length piece ≡ room) → faults ≤ faults_after → (clear → clear_after) →
       (clear → length piece ≤ room → faults_after ≡ faults) →
-      Progress file told clear_before clear_after before later room_before room_after faults_before faults_after to
-  progress-more told clear_before clear clear_after before now later room_before room room_after faults_before faults faults_after place s to piece p stands all text_is to_is wrote left rise stays full =
+      Progress file told clear_before clear_after before later room_before room_after faults_before faults_after calls_before calls_after to
+  progress-more told clear_before clear clear_after before now later room_before room room_after faults_before faults faults_after calls_before calls calls_after place s to piece p stands all text_is to_is log wrote left rise stays full =
       let front : List ℕ = chain_text file (first_place file) p.statements in
       let longer : chain_text file (first_place file) (p.statements ++ s ∷ []) ≡ front ++ piece =
       one-more-text p.statements place s p.chain ∙ ap (λ more. front ++ more) (sym text_is) in
@@ -129,6 +140,8 @@ module _ (file : List ℕ) (layout : Layout file) where
         within = (steps-on file place s to p.within stands to_is).within;
         statements = p.statements ++ s ∷ [];
         chain = subst (λ (q : Place). Chain file (first_place file) (p.statements ++ s ∷ []) q) (sym to_is) (chain-snoc file (first_place file) p.statements place s p.chain stands all);
+        log = grows-both calls_before calls calls_after _ _ (IsWritten (chain_text file (first_place file) (p.statements ++ s ∷ []))) p.log log
+            (λ first second one two. subst (λ text. IsWritten text (first ++ second)) (sym longer) (written-both front piece first second one two));
         bytes = λ t. wrote t ∙ ap (λ x. x ++ piece) (p.bytes t) ∙ append_assoc before front piece ∙ ap (λ x. before ++ x) (sym longer);
         room_left = λ c. (let a = left (p.stays_clear c) in let b = p.room_left c in omega (arith, a, b, ap length longer ∙ length-append front piece));
         later = omega (arith, p.later, rise);

@@ -3,3 +3,4 @@ pub mod Streams
 pub mod Statements
 pub mod Listing
 pub mod Answers
+pub mod Asked

@@ -1,3 +1,4 @@
+pub mod Called
 mod Requests
 mod Sizes
 mod StatedBodies

@@ -9,3 +9,4 @@ pub mod Decompiled
 pub mod Asked
 pub mod Reported
 pub mod Ending
+pub mod Called

@@ -1,6 +1,8 @@
 // The files that a command reads.
 ghost use Rattle.std.specs.Prelude.{◌≡◌, ◌∷◌, [], length};
+ghost use Rattle.mz_io.specs.Calls.{Grows};
 ghost use Rattle.mz_io.specs.Outside.{Rose, SameFiles};
+ghost use Rattle.mz_tool.specs.Called.{IsReadingAll};
 ghost use Rattle.mz_tool.specs.Request.{Hold, AreThere, BeginsLonger, HasLonger};
 ghost use Rattle.mz_tool.specs.Inputs.{names_of, AreWithin, IfRead, OnLonger, OnReadFault};
 
@@ -38,6 +40,7 @@ pub enum ReadAll {
 
 /// Reads one file whole.
 fn read_one<F: Folder>(alloc: Global, limit: u64, name: &str, folder: &mut F) -> ReadAll
+    ensures log { Grows (F.calls folder.old) (F.calls folder.new) (IsReadingAll limit (name.now ∷ []) result) }
     ensures contents { F.told → IfRead result (λ contents. Hold (F.file folder.old) (name.now ∷ []) contents) }
     ensures count { IfRead result (λ contents. length contents ≡ 1) }
     ensures within { IfRead result (λ contents. AreWithin limit contents) }
@@ -66,6 +69,7 @@ fn read_two<F: Folder>(
     second: &str,
     folder: &mut F,
 ) -> ReadAll
+    ensures log { Grows (F.calls folder.old) (F.calls folder.new) (IsReadingAll limit (first.now ∷ second.now ∷ []) result) }
     ensures contents { F.told → IfRead result (λ contents. Hold (F.file folder.old) (first.now ∷ second.now ∷ []) contents) }
     ensures count { IfRead result (λ contents. length contents ≡ 2) }
     ensures within { IfRead result (λ contents. AreWithin limit contents) }
@@ -96,6 +100,7 @@ impl<'a> Inputs<'a> {
     /// Reads them, whole, each of at most `limit` bytes. After one that isn't read no further one is
     /// looked for.
     pub fn read<F: Folder>(self, alloc: Global, limit: u64, folder: &mut F) -> ReadAll
+        ensures log { Grows (F.calls folder.old) (F.calls folder.new) (IsReadingAll limit (names_of self.entry) result) }
         ensures contents { F.told → IfRead result (λ contents. Hold (F.file folder.old) (names_of self.entry) contents) }
         ensures count { IfRead result (λ contents. length contents ≡ length (names_of self.entry)) }
         ensures within { IfRead result (λ contents. AreWithin limit contents) }

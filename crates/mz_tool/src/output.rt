@@ -1,5 +1,7 @@
 // The file that a command puts.
-ghost use Rattle.std.specs.Prelude.{◌≡◌, ◌≤◌, ℕ, List, Some, None, length, OnOk};
+ghost use Rattle.std.specs.Prelude.{◌≡◌, ◌≤◌, ℕ, List, Some, None, length, OnOk, is_ok};
+ghost use Rattle.mz_io.specs.Calls.{Grows, IsPutting};
+ghost use Rattle.mz_tool.specs.Called.{IsPutFault};
 ghost use Rattle.mz_io.specs.Outside.{HasCause, HasRoom};
 ghost use Rattle.mz_wording.specs.Wording.{longest};
 ghost use Rattle.mz_tool.specs.Request.{IsPut, SameButPut};
@@ -23,6 +25,8 @@ pub enum Put {
 
 /// Puts the file, where there are a name and bytes.
 pub fn put_file<F: Folder>(name: Output, put: &Put, folder: &mut F) -> Result<(), Failed>
+    ensures log { Grows (F.calls folder.old) (F.calls folder.new) (IsPutting (is_ok result) (name_of name.entry) (bytes_of put.now)) }
+    ensures fails { IsPutFault result (name_of name.entry) (bytes_of put.now) }
     ensures put { F.told → OnOk result (IsPut (name_of name.entry) (bytes_of put.now) (F.file folder.old) (F.file folder.new)) }
     ensures others { F.told → SameButPut (name_of name.entry) (F.file folder.old) (F.file folder.new) }
     ensures cause { HasCause (F.put_faults folder.old) (F.put_faults folder.new) result }

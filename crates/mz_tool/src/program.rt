@@ -1,6 +1,8 @@
 // The program, over any folder and sink.
 ghost use Rattle.std.specs.Prelude.{◌≡◌, ◌≤◌, ◌<◌, ◌^◌, ◌++◌, ◌⊎◌, ℕ, List, [], Option, Some, None, length, map, string_bytes};
+ghost use Rattle.mz_io.specs.Calls.{Call};
 ghost use Rattle.mz_io.specs.Outside.{Rose, HasRoom, SameFiles, AppendsPrefix};
+ghost use Rattle.mz_tool.specs.Called.{IsRun, IsRunOf};
 ghost use Rattle.mz_wording.specs.Wording.{longest};
 ghost use Rattle.mz_tool.specs.Request.{Request, Asks, names_read, name_put, IsPut, SameButPut, AreReadable, AreThere, BeginsLonger, HasLong, HasLonger};
 ghost use Rattle.mz_tool.specs.Run.{IsYes, IsNo, IsAnswer, IsListedFor, IsProved, IsQuiet, IsShow, MayPut};
@@ -25,6 +27,11 @@ pub fn run<F: Folder, O: Sink>(
     folder: &mut F,
     out: &mut O,
 ) -> Status
+    // Over any folder and any sink: all calls that the run makes on them, with what these answered, and what it
+    // answers over the bytes that came.
+    ensures log { (calls : List Call) × (written : List Call) × (F.calls folder.new ≡ F.calls folder.old ++ calls) × (O.calls out.new ≡ O.calls out.old ++ written)
+        × IsRun (map string_bytes words.now) result calls written }
+
     // The answer is that of the definitions for the files that the words name; its file is put, and its text is
     // written.
     ensures done { F.told → result ≡ Status.Done → (asked : Request) × Asks (map string_bytes words.now) asked
@@ -103,6 +110,8 @@ pub fn answer<F: Folder, O: Sink>(
     out: &mut O,
 ) -> Status
     requires limit { limit < 2 ^ 32 }
+    ensures log { (calls : List Call) × (written : List Call) × (F.calls folder.new ≡ F.calls folder.old ++ calls) × (O.calls out.new ≡ O.calls out.old ++ written)
+        × IsRunOf limit (request command.entry) result calls written }
     ensures done { F.told → result ≡ Status.Done → (put : Option (List ℕ)) × (text : List ℕ) × IsYes (F.file folder.old) (request command.entry) put text
         × IsPut (name_put (request command.entry)) put (F.file folder.old) (F.file folder.new) × (O.told → O.written out.new ≡ O.written out.old ++ text) }
     ensures refused { F.told → result ≡ Status.Refused → (text : List ℕ) × IsNo (F.file folder.old) (request command.entry) text × (O.told → O.written out.new ≡ O.written out.old ++ text) }

@@ -1,6 +1,8 @@
 // The command `show`.
 ghost use Rattle.std.specs.Prelude.{◌≡◌, ◌≤◌, ◌<◌, ◌++◌, ◌⊎◌, ◌^◌, ℕ, List, Option, Some, None, length, IfOk};
+ghost use Rattle.mz_io.specs.Calls.{Call, Grows};
 ghost use Rattle.mz_io.specs.Outside.{Rose, HasRoom, SameFiles, AppendsPrefix};
+ghost use Rattle.mz_tool.specs.Called.{IsRunOf, IsReporting};
 ghost use Rattle.mz_files.specs.RefusalLine.{refusal_line as refusal_text};
 ghost use Rattle.mz_wording.specs.Wording.{longest};
 ghost use Rattle.mz_tool.specs.Request.{show as show_file, AreThere, BeginsLonger, HasLonger, names_read, name_put, IsPut, SameButPut};
@@ -23,6 +25,8 @@ pub fn show<F: Folder, O: Sink>(
     out: &mut O,
 ) -> Status
     requires limit { limit < 2 ^ 32 }
+    ensures log { (calls : List Call) × (written : List Call) × (F.calls folder.new ≡ F.calls folder.old ++ calls) × (O.calls out.new ≡ O.calls out.old ++ written)
+        × IsRunOf limit (show_file bin_name.now) result calls written }
     ensures done { F.told → result ≡ Status.Done → (put : Option (List ℕ)) × (text : List ℕ) × IsYes (F.file folder.old) (show_file bin_name.now) put text
         × IsPut (name_put (show_file bin_name.now)) put (F.file folder.old) (F.file folder.new) × (O.told → O.written out.new ≡ O.written out.old ++ text) }
     ensures refused { F.told → result ≡ Status.Refused → (text : List ℕ) × IsNo (F.file folder.old) (show_file bin_name.now) text × (O.told → O.written out.new ≡ O.written out.old ++ text) }
@@ -65,6 +69,7 @@ pub fn show<F: Folder, O: Sink>(
 
 /// Writes the line of a refusal.
 fn report_refusal<O: Sink>(alloc: Global, refusal: &Refusal, out: &mut O) -> Status
+    ensures log { Grows (O.calls out.old) (O.calls out.new) (IsReporting result (refusal_text refusal.now)) }
     ensures refused { result ≡ Status.Refused → O.told → O.written out.new ≡ O.written out.old ++ refusal_text refusal.now }
     ensures ends { IsReported result }
     ensures not_done { result ≡ Status.Done → ⊥ }

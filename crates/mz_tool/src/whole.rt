@@ -1,6 +1,8 @@
 // Commands that answer at once, over the whole contents of their files.
 ghost use Rattle.std.specs.Prelude.{◌≡◌, ◌≤◌, ◌<◌, ◌++◌, ◌^◌, ◌≢◌, ℕ, List, [], Option, Some, None, length};
+ghost use Rattle.mz_io.specs.Calls.{Call, Grows};
 ghost use Rattle.mz_io.specs.Outside.{Rose, HasRoom, SameFiles, AppendsPrefix};
+ghost use Rattle.mz_tool.specs.Called.{IsRunOf, IsWritingAnswer};
 ghost use Rattle.mz_wording.specs.Wording.{longest};
 ghost use Rattle.mz_tool.specs.Request.{AreThere, BeginsLonger, HasLonger, names_read, name_put, IsPut, SameButPut};
 ghost use Rattle.mz_tool.specs.Run.{IsYes, IsNo, IsAnswer, IsProved, IsQuiet, IsShow, MayPut};
@@ -27,6 +29,8 @@ pub fn answer_whole<F: Folder, O: Sink>(
 ) -> Status
     requires limit { limit < 2 ^ 32 }
     requires whole { IsShow (request command) → ⊥ }
+    ensures log { (calls : List Call) × (written : List Call) × (F.calls folder.new ≡ F.calls folder.old ++ calls) × (O.calls out.new ≡ O.calls out.old ++ written)
+        × IsRunOf limit (request command.entry) result calls written }
     ensures done { F.told → result ≡ Status.Done → (put : Option (List ℕ)) × (text : List ℕ) × IsYes (F.file folder.old) (request command.entry) put text
         × IsPut (name_put (request command.entry)) put (F.file folder.old) (F.file folder.new) × (O.told → O.written out.new ≡ O.written out.old ++ text) }
     ensures refused { F.told → result ≡ Status.Refused → (text : List ℕ) × IsNo (F.file folder.old) (request command.entry) text × (O.told → O.written out.new ≡ O.written out.old ++ text) }
@@ -74,6 +78,7 @@ pub fn answer_whole<F: Folder, O: Sink>(
 /// Writes an answer's text, after which the run ends with this status.
 fn write_answer<O: Sink>(text: &[u8], status: Status, out: &mut O) -> Status
     requires { status ≢ Status.OutFault }
+    ensures log { Grows (O.calls out.old) (O.calls out.new) (IsWritingAnswer status result text.now) }
     ensures whole { (result ≡ Status.OutFault → ⊥) → (result ≡ status) × (O.told → O.written out.new ≡ O.written out.old ++ text.now) }
     ensures prefix { O.told → result ≡ Status.OutFault → AppendsPrefix (O.written out.old) (O.written out.new) text.now }
     ensures out_fault { result ≡ Status.OutFault → Rose (O.faults out.old) (O.faults out.new) }

@@ -1,11 +1,12 @@
 use Rattle.std.proofs.Common.{◌∙◌, arith}
-use Rattle.mz_io.proofs.Written.{written_more, length-rest}
+use Rattle.mz_io.proofs.Written.{written_more, length-rest, written_grows}
 use Rattle.mz_io.proofs.write.write_whole.Goals as goal
 
 pub loop-done-preserved : goal.loop-done-preserved
 loop-done-preserved g c =
     let wrote = c.in_ok-done.ensures in
     record {
+      log = written_grows _ _ _ c.args.text.now c.loop-done.done c.in_ok-done.field-0 c.loop-done.invariant.log wrote.logged;
       within = omega (arith, wrote.bound);
       front = λ told. written_more _ _ _ c.args.text.now c.loop-done.done c.in_ok-done.field-0 (c.loop-done.invariant.front told) (wrote.bytes told);
       later = omega (arith, wrote.cause.later);

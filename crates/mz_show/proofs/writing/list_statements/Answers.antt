@@ -1,9 +1,11 @@
-use Rattle.std.proofs.Common.{◌≡◌, ◌≤◌, ◌++◌, ◌∙◌, ℕ, List, length, codes, refl, sym, ap, subst, inr, arith, append_assoc}
+use Rattle.std.proofs.Common.{rules, [], add-zero, append-nil, ◌≡◌, ◌≤◌, ◌++◌, ◌∙◌, ℕ, List, length, codes, refl, sym, ap, subst, inr, arith, append_assoc}
 use Rattle.mz_cmd.specs.declared.rule.Refusal.{Refusal}
+use Rattle.mz_io.specs.Calls.{Grows, IsWritten, IsCut}
+use Rattle.mz_io.proofs.Logs.{grows-none, grows-both, written-none, written-both}
 use Rattle.mz_io.specs.Outside.{AppendsPrefix}
 use Rattle.mz_show.specs.Statements.{first_place, statement_text}
 use Rattle.mz_show.specs.Listing.{chain_text, StopsAt}
-use Rattle.mz_show.proofs.Progress.{front-written, more-written, has-room, front-so_far, front-one_more, front-end, steps-on, progress-more}
+use Rattle.mz_show.proofs.Progress.{front-written, more-written, has-room, front-so_far, front-one_more, front-end, cut-short, steps-on, progress-more}
 use Rattle.mz_show.proofs.writing.list_statements.Goals as goal
 
 pub returns-in_default-clause-prefix : goal.returns-in_default-clause-prefix
@@ -102,5 +104,58 @@ statements-preserved g c =
     c.deref.ensures.value ∙ n.3 ∙ ap (λ front. front ++ statement_text c.args.mmb.now c.statements.place n.0) c.new-text.ensures.items in
     progress-more c.args.mmb.now c.proof_at.ensures.binary.layout g.O.Sink.told _ (g.O.Sink.is_clear c.statements.out) _ (g.O.Sink.written c.args.out.now) (g.O.Sink.written c.statements.out) (g.O.Sink.written c.write_whole.new.out)
     (g.O.Sink.room c.args.out.now) (g.O.Sink.room c.statements.out) (g.O.Sink.room c.write_whole.new.out) (g.O.Sink.faults c.args.out.now) (g.O.Sink.faults c.statements.out) (g.O.Sink.faults c.write_whole.new.out)
+    (g.O.Sink.calls c.args.out.now) (g.O.Sink.calls c.statements.out) (g.O.Sink.calls c.write_whole.new.out)
     c.statements.place n.0 c.in-Statement.after c.deref.result.now c.statements.invariant n.1 n.2 piece n.4
-    c.in-Ok.ensures.whole c.in-Ok.ensures.lessens c.in-Ok.ensures.cause.later c.in-Ok.ensures.stays_clear c.in-Ok.ensures.only_full
+    c.in-Ok.ensures.log c.in-Ok.ensures.whole c.in-Ok.ensures.lessens c.in-Ok.ensures.cause.later c.in-Ok.ensures.stays_clear c.in-Ok.ensures.only_full
+
+pub statements-init : goal.statements-init
+statements-init g c = record {
+  within = search rules;
+  statements = [];
+  chain = search rules;
+  log = grows-none (g.O.Sink.calls c.args.out.now) (IsWritten []) written-none;
+  bytes = λ told. sym (append-nil (g.O.Sink.written c.args.out.now));
+  room_left = λ clear. add-zero (g.O.Sink.room c.args.out.now);
+  later = search rules;
+  stays_clear = λ clear. clear;
+  only_full = λ clear fits. refl;
+}
+
+-- what was written of the file is a front of its listing, and what came last was cut short
+pub returns-in_default-clause-log : goal.returns-in_default-clause-log
+returns-in_default-clause-log g c =
+    let n = c.in-Statement.ensures in
+    let piece : c.deref.result.now ≡ statement_text c.args.mmb.now c.statements.place n.0 =
+    c.deref.ensures.value ∙ n.3 ∙ ap (λ front. front ++ statement_text c.args.mmb.now c.statements.place n.0) c.new-text.ensures.items in
+    let f = front-one_more c.args.mmb.now c.proof_at.ensures.binary.layout c.statements.invariant.statements c.statements.place n.0 c.statements.invariant.chain n.1 n.2 in
+    let cut = cut-short c.args.mmb.now c.proof_at.ensures.binary.layout (chain_text c.args.mmb.now (first_place c.args.mmb.now) c.statements.invariant.statements) (statement_text c.args.mmb.now c.statements.place n.0)
+    (g.O.Sink.calls c.args.out.now) (g.O.Sink.calls c.statements.out) (g.O.Sink.calls c.write_whole.new.out) f c.statements.invariant.log
+    (subst (λ (text : List ℕ). Grows (g.O.Sink.calls c.statements.out) (g.O.Sink.calls c.write_whole.new.out) (IsCut text)) piece c.in_default.ensures.log) in
+    (cut.0, cut.1, (f.text, f.listed, cut.2))
+
+pub returns-in_default-write_whole-clause-log : goal.returns-in_default-write_whole-clause-log
+returns-in_default-write_whole-clause-log g c =
+    let f = front-end c.args.mmb.now c.proof_at.ensures.binary.layout c.statements.invariant.statements c.statements.place c.statements.invariant.chain c.in-End.ensures in
+    let cut = cut-short c.args.mmb.now c.proof_at.ensures.binary.layout (chain_text c.args.mmb.now (first_place c.args.mmb.now) c.statements.invariant.statements) (codes "end\n")
+    (g.O.Sink.calls c.args.out.now) (g.O.Sink.calls c.statements.out) (g.O.Sink.calls c.write_whole-in-End.new.out) f c.statements.invariant.log c.in_default-write_whole.ensures.log in
+    (cut.0, cut.1, (f.text, f.listed, cut.2))
+
+pub returns-in-End-clause-log : goal.returns-in-End-clause-log
+returns-in-End-clause-log g c =
+    let text = chain_text c.args.mmb.now (first_place c.args.mmb.now) c.statements.invariant.statements in
+    let both = grows-both (g.O.Sink.calls c.args.out.now) (g.O.Sink.calls c.statements.out) (g.O.Sink.calls c.write_whole-in-End.new.out)
+    (IsWritten text) (IsWritten (codes "end\n")) (IsWritten (text ++ codes "end\n")) c.statements.invariant.log c.in-Ok-write_whole.ensures.log (written-both text (codes "end\n")) in (
+      both.0,
+      both.1,
+      (
+        text ++ codes "end\n",
+        record { layout = c.proof_at.ensures.binary.layout; statements = c.statements.invariant.statements; last = c.statements.place; chain = c.statements.invariant.chain; ends = c.in-End.ensures; text_is = refl },
+        both.2,
+      ),
+    )
+
+pub returns-in-Mem-clause-log : goal.returns-in-Mem-clause-log
+returns-in-Mem-clause-log g c =
+    let f = front-so_far c.args.mmb.now c.proof_at.ensures.binary.layout c.statements.invariant.statements c.statements.place c.statements.invariant.chain in
+    let log = c.statements.invariant.log in
+    (log.0, log.1, (f.text, f.listed, record { front = chain_text c.args.mmb.now (first_place c.args.mmb.now) c.statements.invariant.statements; rest = f.rest; text_is = f.parts; written = log.2 }))

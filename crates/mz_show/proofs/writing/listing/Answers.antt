@@ -3,6 +3,7 @@ use Rattle.mz_checks.proofs.Offered.{all_hold-excludes}
 use Rattle.mz_cmd.specs.declared.rule.Refusal.{Refusal}
 use Rattle.mz_layout.specs.Layout.{layout_checks}
 use Rattle.mz_show.specs.Listing.{IsListing, IsListedUpTo, IsListed, IsNoBinary}
+use Rattle.mz_io.proofs.Logs.{written-none}
 use Rattle.mz_show.proofs.OneListing.{listing-excludes}
 use Rattle.mz_show.proofs.writing.listing.Goals as goal
 
@@ -43,3 +44,13 @@ returns-in-Err-clause-refused g c = λ refusal is.
 pub returns-in-Err-clause-listed : goal.returns-in-Err-clause-listed
 returns-in-Err-clause-listed g c = λ text refusal l is.
     all_hold-excludes (layout_checks c.args.file.now) (c.in-Err.refusal.at, c.in-Err.refusal.rule) l.layout c.in-Err.ensures.1
+
+pub returns-in-Ok-clause-listing : goal.returns-in-Ok-clause-listing
+returns-in-Ok-clause-listing g c = λ is.
+    let d = c.list_statements.ensures.listing is in
+    (d.0, subst (λ (file : List ℕ). IsListing file d.0) c.in-Ok.ensures.0 d.1, d.2)
+
+pub returns-in-Err-clause-log : goal.returns-in-Err-clause-log
+returns-in-Err-clause-log g c =
+    let none : IsNoBinary c.args.file.now [] c.in-Err.refusal = record { number = c.in-Err.ensures.0; fails = c.in-Err.ensures.1; text_is = refl } in
+    ([], sym (append-nil (g.O.Sink.calls c.args.out.now)), ([], inl none, written-none))

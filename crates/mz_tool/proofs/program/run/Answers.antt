@@ -1,4 +1,4 @@
-use Rattle.std.proofs.Common.{refl, subst}
+use Rattle.std.proofs.Common.{[], append-nil, refl, sym, subst, inr}
 use Rattle.std.specs.Prelude.{map, string_bytes}
 use Rattle.mz_tool.specs.Request.{Request, SameButPut, name_put}
 use Rattle.mz_tool.specs.Asked.{request}
@@ -55,3 +55,7 @@ returns-in-Some-clause-sound g c = λ told asked asks done.
 
 pub returns-in-None-clause-only_usage : goal.returns-in-None-clause-only_usage
 returns-in-None-clause-only_usage g c = λ none. refl
+
+pub returns-in-None-clause-log : goal.returns-in-None-clause-log
+returns-in-None-clause-log g c =
+    ([], [], sym (append-nil (g.F.Folder.calls c.args.folder.now)), sym (append-nil (g.O.Sink.calls c.args.out.now)), inr (c.in-None.ensures.usage, refl, refl, refl))

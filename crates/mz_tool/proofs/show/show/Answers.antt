@@ -1,6 +1,12 @@
-use Rattle.std.proofs.Common.{inl, inr, ◌≡◌, ◌∙◌, ◌≤◌, ◌++◌, ◌+◌, ap, refl, length, append_assoc, arith, [], ◌∷◌, None}
+use Rattle.std.proofs.Common.{subst, sym, inl, inr, ◌≡◌, ◌∙◌, ◌≤◌, ◌++◌, ◌+◌, ap, refl, length, append_assoc, arith, [], ◌∷◌, None}
 use Rattle.std.proofs.lemmas.List.{length-append}
 use Rattle.mz_files.specs.RefusalLine.{refusal_line as refusal_text}
+use Rattle.mz_io.specs.Calls.{IsWritten}
+use Rattle.mz_io.proofs.Logs.{grows-both}
+use Rattle.mz_show.specs.Listing.{IsListing, IsListedUpTo, IsListed}
+use Rattle.mz_tool.specs.Request.{show as show_file}
+use Rattle.mz_tool.specs.Called.{IsRunOf, IsReporting}
+use Rattle.mz_tool.proofs.Called.{one-is_read, read-and_nothing_put, listing-is_cut, ends-in_report}
 use Rattle.mz_tool.proofs.Listed.{listing-is_yes, listed-is_no, listed-is_listed, prefix-of_answer, room-of_listed, prefix-further, rose-later, whole-prefix, listing-of_yes, listed-of_no}
 use Rattle.mz_tool.proofs.show.show.Goals as goal
 
@@ -80,3 +86,61 @@ returns-clause-only_full g c = λ told clear fits.
 
 pub returns-in-Done-clause-sound : goal.returns-in-Done-clause-sound
 returns-in-Done-clause-sound g c = λ told is. (c.in-Bytes.bytes.items ∷ [], (c.in-Bytes.ensures.bytes told, tt), tt)
+
+pub returns-in-Done-clause-log : goal.returns-in-Done-clause-log
+returns-in-Done-clause-log g c =
+    let reads = c.in-Bytes.ensures.log in
+    let writes = c.in-Done.ensures.log in (
+      reads.0,
+      writes.0,
+      reads.1,
+      writes.1,
+      (
+        c.in-Bytes.bytes.items ∷ [],
+        None,
+        writes.2.0,
+        (refl, subst (λ file. IsListing file writes.2.0) c.deref.ensures.value writes.2.1),
+        λ other (listed, refusal, upto, is). c.in-Done.ensures.stopped listed refusal (subst (λ file. IsListedUpTo file listed refusal) (sym c.deref.ensures.value) upto) refl,
+        tt,
+        read-and_nothing_put (c.args.bin_name.now ∷ []) (c.in-Bytes.bytes.items ∷ []) None reads.0 (one-is_read c.args.bin_name.now c.in-Bytes.bytes.items reads.0 reads.2),
+        writes.2.2,
+      ),
+    )
+
+pub returns-in-Refused-clause-log : goal.returns-in-Refused-clause-log
+returns-in-Refused-clause-log g c =
+    let reads = c.in-Bytes.ensures.log in
+    let writes = c.in-Refused.ensures.log in
+    let upto = subst (λ file. IsListedUpTo file writes.2.0 c.in-Refused.refusal) c.deref.ensures.value writes.2.1 in
+    let both = grows-both _ _ _ (IsWritten writes.2.0) (IsReporting c.report_refusal.result (refusal_text c.in-Refused.refusal)) (λ more. IsRunOf c.args.limit (show_file c.args.bin_name.now) c.report_refusal.result reads.0 more)
+    (writes.0, writes.1, writes.2.2) c.report_refusal.ensures.log
+    (λ first second w v. ends-in_report c.args.limit c.args.bin_name.now c.in-Bytes.bytes.items writes.2.0 c.in-Refused.refusal c.report_refusal.result reads.0 first second reads.2 upto
+    (λ put other (none, listing). c.in-Refused.ensures.listed other c.in-Refused.refusal (subst (λ file. IsListing file other) (sym c.deref.ensures.value) listing) refl) w v) in
+    (reads.0, both.0, reads.1, both.1, both.2)
+
+pub returns-in-Fault-listing-clause-log : goal.returns-in-Fault-listing-clause-log
+returns-in-Fault-listing-clause-log g c =
+    let reads = c.in-Bytes.ensures.log in
+    let writes = c.in-Fault-listing.ensures.log in
+    let listed = subst (λ file. IsListed file writes.2.0) c.deref.ensures.value writes.2.1 in
+    let cut = listing-is_cut c.args.bin_name.now c.in-Bytes.bytes.items writes.2.0 writes.0 listed writes.2.2 in (
+      reads.0,
+      writes.0,
+      reads.1,
+      writes.1,
+      (
+        c.in-Bytes.bytes.items ∷ [],
+        None,
+        cut.0,
+        cut.1,
+        read-and_nothing_put (c.args.bin_name.now ∷ []) (c.in-Bytes.bytes.items ∷ []) None reads.0 (one-is_read c.args.bin_name.now c.in-Bytes.bytes.items reads.0 reads.2),
+        cut.2,
+      ),
+    )
+
+pub returns-clause-log : goal.returns-clause-log
+returns-clause-log g c =
+    let reads = c.in-Bytes.ensures.log in
+    let writes = c.in-Mem-listing.ensures.log in
+    let listed = subst (λ file. IsListed file writes.2.0) c.deref.ensures.value writes.2.1 in
+    (reads.0, writes.0, reads.1, writes.1, inr (c.in-Bytes.bytes.items ∷ [], writes.2.0, one-is_read c.args.bin_name.now c.in-Bytes.bytes.items reads.0 reads.2, listed, writes.2.2))

@@ -1,0 +1,26 @@
+-- A value of no bytes is made, at the empty list.
+use Rattle.mz_io.proofs.LogSteps.{[], ◌∷◌, refl, proved, Val, vstruct, vcons, vnil, raw, ◌$◌, ◌∵◌, !, qed, done, keep, join, suffices, enter, returns, no_more, and_then, agg, alloc_all, pass_all, free_all, look_at, get, sets, pure_i, nothing, on_entry, says, ends_at}
+use Rattle.mz_io.specs.declared.log.Log.{Log}
+use Rattle.mz_io.specs.contracts.log.Log.{the_row as R}
+use Rattle.mz_io.specs.contracts.log.Log.new as f
+use Rattle.mz_io.proofs.log.Log.new.Statement.{statement}
+use Rattle.mz_io.proofs.log.Log.new.Code as code
+
+abbrev token : Val
+token = vstruct (vcons (vstruct vnil) vnil)
+
+abbrev empty : Log
+empty = record { marker = record {}; calls = [] }
+
+pub new_spec : {M : Type 1} → statement M
+new_spec 𝓤 𝓛 𝓜 𝓡 wired =
+    let c = f.clauses 𝓛 𝓜.mem 𝓡.returns in
+    proved 𝓛 f.ended tt c 𝓜 𝓡 tt f.Key.name code.function (code.unfolded 𝓤 𝓛.H 𝓜 𝓡 wired) (λ κs. tt) (λ κs. tt) (λ κs qs bounds a g are.
+    qed 𝓛 (raw (on_entry 𝓛 f.signature κs qs a tt) ∷ raw ((c κs a).requires g) ∷ []) ∵ keep ! [] $
+    enter ! _ _ _ _ _ $ alloc_all ! (λ l. pass_all ! refl tt $
+    sets ! (agg ! (no_more !)) refl (tt, tt) $
+    sets ! (agg ! (and_then ! (get ! refl) (no_more !))) refl (tt, (tt, tt)) $
+    returns ! (look_at ! 0 refl) $ free_all ! refl $
+    pure_i ! (R.own_val empty (token ∷ [])) ((λ vss. (tt, ((λ uss. (tt, tt)), tt))), tt) (((vstruct vnil ∷ [], tt), (refl, ((tt, (refl, tt)), tt))), tt) $
+    suffices ! _ (ends_at 𝓛 f.ended tt c ((κs, qs, bounds, a, tt), g) token empty tt tt) $ says ! refl $
+    nothing ! $ join ! $ nothing ! $ done !))

@@ -1,0 +1,150 @@
+-- The calls on a folder or a sink, each with its answer, and what rows of them say (this project's own).
+use Rattle.std.specs.Prelude.{◌≡◌, ◌<◌, ◌++◌, ◌⊎◌, ⊤, ℕ, Bool, true, false, List, [], ◌∷◌, length, take, map, Option, Some, None, Result, Ok, Err}
+use Rattle.std.specs.List.{concat, All}
+
+-- one call, with its answer
+pub data Call : Type 0 where
+  -- the file of a name was to be started: whether it was
+  starts : (name : List ℕ) (done : Bool) → Call
+  -- so many bytes were asked for, and these came
+  pulls : (asked : ℕ) (bytes : List ℕ) → Call
+  -- bytes were asked for, and the call failed
+  pull_fails : Call
+  -- a file of a name was to be put with these bytes: whether it was
+  puts : (name bytes : List ℕ) (done : Bool) → Call
+  -- a piece was handed over, and these first bytes of it were taken
+  writes : (bytes : List ℕ) → Call
+  -- this piece was handed over, and the call failed
+  write_fails : (piece : List ℕ) → Call
+
+-- a pull into a buffer, by its answer
+abbrev pub pulled : {E : Type 0} → Result ℕ E → List ℕ → Call
+pulled (Ok n) buf = pulls (length buf) (take n buf)
+pulled (Err e) buf = pull_fails
+
+-- a piece handed over, by the answer
+abbrev pub written : {E : Type 0} → Result ℕ E → List ℕ → Call
+written (Ok n) piece = writes (take n piece)
+written (Err e) piece = write_fails piece
+
+-- the log has grown by calls of which P holds
+abbrev pub Grows : List Call → List Call → (List Call → Type 0) → Type 0
+Grows old new P = (more : List Call) × (new ≡ old ++ more) × P more
+
+-- ---- reading
+
+-- pulls that gave these pieces, of so many bytes asked for
+abbrev pub pulls_of : List (ℕ × List ℕ) → List Call
+pulls_of pieces = map (λ p. pulls p.0 p.1) pieces
+
+-- the bytes of the pieces, one after another
+abbrev pub bytes_of : List (ℕ × List ℕ) → List ℕ
+bytes_of [] = []
+bytes_of (p ∷ pieces) = p.1 ++ bytes_of pieces
+
+-- the file of this name was started, and gave these bytes, in pieces none of which is empty
+pub record IsBegun (name bytes : List ℕ) (calls : List Call) : Type 0 where
+  pub pieces : List (ℕ × List ℕ)
+  pub some : All (λ p. 0 < length p.1) pieces
+  pub bytes_are : bytes ≡ bytes_of pieces
+  pub calls_are : calls ≡ starts name true ∷ pulls_of pieces
+
+-- it was read to its end, and these are its bytes: bytes were asked for once more, and none came
+pub record IsRead (name bytes : List ℕ) (calls : List Call) : Type 0 where
+  pub front : List Call
+  pub begun : IsBegun name bytes front
+  pub asked : ℕ
+  pub some : 0 < asked
+  pub calls_are : calls ≡ front ++ pulls asked [] ∷ []
+
+-- it gave these bytes, and then a pull failed
+pub record IsBroken (name bytes : List ℕ) (calls : List Call) : Type 0 where
+  pub front : List Call
+  pub begun : IsBegun name bytes front
+  pub calls_are : calls ≡ front ++ pull_fails ∷ []
+
+-- its start failed, or a pull
+abbrev pub IsUnread : List ℕ → List Call → Type 0
+IsUnread name calls = (calls ≡ starts name false ∷ []) ⊎ ((bytes : List ℕ) × IsBroken name bytes calls)
+
+-- more bytes than the limit came
+abbrev pub IsOver : ℕ → List ℕ → List Call → Type 0
+IsOver limit name calls = (bytes : List ℕ) × IsBegun name bytes calls × (limit < length bytes)
+
+-- ---- writing
+
+-- the text was handed over and taken, in pieces
+pub record IsWritten (text : List ℕ) (calls : List Call) : Type 0 where
+  pub pieces : List (List ℕ)
+  pub text_is : text ≡ concat pieces
+  pub calls_are : calls ≡ map writes pieces
+
+-- a front of the text was taken, in pieces, and then a call failed that was handed what follows there
+pub record IsCut (text : List ℕ) (calls : List Call) : Type 0 where
+  pub front : List ℕ
+  pub taken : List Call
+  pub written : IsWritten front taken
+  pub piece : List ℕ
+  pub rest : List ℕ
+  pub text_is : text ≡ front ++ (piece ++ rest)
+  pub calls_are : calls ≡ taken ++ write_fails piece ∷ []
+
+-- what writing a text asked of the sink, by its answer
+abbrev pub IsWriting : {T E : Type 0} → Result T E → List ℕ → List Call → Type 0
+IsWriting (Ok u) text calls = IsWritten text calls
+IsWriting (Err e) text calls = IsCut text calls
+
+-- ---- a run: files are read, one may be put, and a text is written
+
+-- files of these names were read one after another, each to its end, and these are their bytes
+abbrev pub AreRead : List (List ℕ) → List (List ℕ) → List Call → Type 0
+AreRead [] [] calls = calls ≡ []
+AreRead [] (bytes ∷ rest) calls = ⊥
+AreRead (name ∷ names) [] calls = ⊥
+AreRead (name ∷ names) (bytes ∷ rest) calls = (first : List Call) × (later : List Call) × (calls ≡ first ++ later) × IsRead name bytes first × AreRead names rest later
+
+-- the files before one of these were read, and of the calls for that one P holds; no further one was looked for
+abbrev pub StopAt : (List ℕ → List Call → Type 0) → List (List ℕ) → List Call → Type 0
+StopAt P [] calls = ⊥
+StopAt P (name ∷ names) calls = P name calls
+    ⊎ ((bytes : List ℕ) × (first : List Call) × (later : List Call) × (calls ≡ first ++ later) × IsRead name bytes first × StopAt P names later)
+
+-- a file was read in part
+abbrev pub IsPartly : List ℕ → List Call → Type 0
+IsPartly name calls = (bytes : List ℕ) × IsBegun name bytes calls
+
+-- the files were read, or only a front of them
+abbrev pub AreReadOrLeft : List (List ℕ) → List Call → Type 0
+AreReadOrLeft names calls = ((contents : List (List ℕ)) × AreRead names contents calls) ⊎ StopAt IsPartly names calls
+
+-- where there are a name and bytes, the file was put once: whether it was; and else none was
+abbrev pub IsPutting : Bool → Option (List ℕ) → Option (List ℕ) → List Call → Type 0
+IsPutting done None put calls = calls ≡ []
+IsPutting done (Some name) None calls = calls ≡ []
+IsPutting done (Some name) (Some bytes) calls = calls ≡ puts name bytes done ∷ []
+
+-- files were read whole, and then one was put, where one is
+abbrev pub AreReadAndPut : List (List ℕ) → List (List ℕ) → Option (List ℕ) → Option (List ℕ) → List Call → Type 0
+AreReadAndPut names contents name put calls = (reads : List Call) × (puts : List Call) × (calls ≡ reads ++ puts) × AreRead names contents reads × IsPutting true name put puts
+
+-- files were read whole, and then one was to be put, and this failed
+abbrev pub AreReadNotPut : List (List ℕ) → List (List ℕ) → Option (List ℕ) → Option (List ℕ) → List Call → Type 0
+AreReadNotPut names contents name put calls = (out : List ℕ) × (bytes : List ℕ) × (reads : List Call) × (name ≡ Some out) × (put ≡ Some bytes)
+    × (calls ≡ reads ++ puts out bytes false ∷ []) × AreRead names contents reads
+
+-- ---- what the calls tell of files
+
+-- what was read whole under a name is what stands under it: the bytes are those that the folder gave
+abbrev pub Gives : (List ℕ → Option (List ℕ)) → List Call → Type 0
+Gives file calls = (name bytes : List ℕ) (before part after : List Call) → calls ≡ before ++ (part ++ after) → IsRead name bytes part → file name ≡ Some bytes
+
+-- the files of these names hold these bytes, in order
+abbrev pub Hold : (List ℕ → Option (List ℕ)) → List (List ℕ) → List (List ℕ) → Type 0
+Hold file [] [] = ⊤
+Hold file [] (bytes ∷ rest) = ⊥
+Hold file (name ∷ names) [] = ⊥
+Hold file (name ∷ names) (bytes ∷ rest) = (file name ≡ Some bytes) × Hold file names rest
+
+-- P, where what the calls since then gave is what these files hold
+abbrev pub IfGiven : (List ℕ → Option (List ℕ)) → List Call → List Call → Type 0 → Type 0
+IfGiven file old new P = ((calls : List Call) → new ≡ old ++ calls → Gives file calls) → P
