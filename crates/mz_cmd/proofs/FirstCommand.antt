@@ -1,6 +1,6 @@
 -- What the front of some bytes is read as, from its first byte and what follows it.
-use Rattle.std.proofs.Common.{◌≡◌, ℕ, zero, suc, ◌+◌, ◌-◌, ◌/◌, ◌%◌, ◌<◌, ◌≤◌, Bool, true, false, List, [], ◌∷◌, length, take, drop, Some, None, Ok, Err, refl, sym, arith}
-use Rattle.std.specs.Prelude.{IsTrue, slice_get}
+use Rattle.std.proofs.Common.{◌≡◌, ℕ, zero, suc, ◌+◌, ◌-◌, ◌*◌, ◌/◌, ◌%◌, ◌<◌, ◌≤◌, Bool, true, false, List, [], ◌∷◌, length, take, drop, Some, None, Ok, Err, refl, ap, arith}
+use Rattle.std.specs.Prelude.{slice_get, if◌then◌else◌}
 use Rattle.std.proofs.lemmas.Bool.{le-ltb, lt-ltb}
 use Rattle.std.proofs.lemmas.List.{take_all}
 use Rattle.byteorder.specs.Endian.{little_number}
@@ -19,23 +19,30 @@ pub nothing-read : (bytes : List ℕ) → None ≡ slice_get bytes 0 → Err Cut
 nothing-read [] e = refl
 nothing-read (byte ∷ rest) e = absurd cc
 
-pub cut-read : (bytes operand : List ℕ) (head len : ℕ) → bytes ≡ head ∷ operand → len ≡ operand_len (head / 64) → length operand < len → Err Cut ≡ first_command bytes
-cut-read bytes operand head len is e short = rw (is, ← e, lt-ltb _ _ short) refl
+pub cut-read : (bytes operand : List ℕ) (head width : ℕ) → bytes ≡ head ∷ operand → operand_len (head / 64) ≡ width → length operand < width → Err Cut ≡ first_command bytes
+cut-read bytes operand head width is w short = rw (is, w, lt-ltb _ _ short) refl
 
-not-known : (b : Bool) → (IsTrue b → IsTrue false) → b ≡ false
-not-known true h = sym (h refl)
-not-known false h = refl
+pub whole-read : (bytes operand : List ℕ) (head width value len : ℕ) → bytes ≡ head ∷ operand → operand_len (head / 64) ≡ width → width ≤ length operand → value ≡ little_number width operand → len ≡ width + 1
+    → (if is_known (head % 64) then Ok (record { code = head % 64; value = value; len = len }) else Err Unknown) ≡ first_command bytes
+whole-read bytes operand head width value len is w long v l = rw (is, w, le-ltb _ _ long, v, l) refl
 
-pub unknown-read : (bytes operand : List ℕ) (head len : ℕ) → bytes ≡ head ∷ operand → len ≡ operand_len (head / 64) → len ≤ length operand
-    → (IsTrue (is_known (head % 64)) → IsTrue false) → Err Unknown ≡ first_command bytes
-unknown-read bytes operand head len is e long none = rw (is, ← e, le-ltb _ _ long, not-known _ none) refl
+sized : (head size : ℕ) → 64 * size ≤ head → head < 64 * size + 64 → head / 64 ≡ size
+sized head size low high = omega arith
 
-pub whole-read : (bytes operand : List ℕ) (head len value width : ℕ) → bytes ≡ head ∷ operand → len ≡ operand_len (head / 64) → len ≤ length operand → IsTrue (is_known (head % 64))
-    → operand_len (head / 64) ≡ width → value ≡ little_number width operand → Ok (record { code = head % 64; value = value; len = width + 1 }) ≡ first_command bytes
-whole-read bytes operand head len value width is e long known w v = rw (is, ← e, le-ltb _ _ long, known, e, w, v) refl
+pub width-0 : (head : ℕ) → head < 64 → operand_len (head / 64) ≡ 0
+width-0 head h = ap operand_len (sized head 0 (omega arith) (omega arith))
 
-pub widest : (size : ℕ) → 2 < size → operand_len size ≡ 4
+pub width-1 : (head : ℕ) → 64 ≤ head → head < 128 → operand_len (head / 64) ≡ 1
+width-1 head l h = ap operand_len (sized head 1 (omega arith) (omega arith))
+
+pub width-2 : (head : ℕ) → 128 ≤ head → head < 192 → operand_len (head / 64) ≡ 2
+width-2 head l h = ap operand_len (sized head 2 (omega arith) (omega arith))
+
+widest : (size : ℕ) → 2 < size → operand_len size ≡ 4
 widest zero h = absurd (omega arith)
 widest (suc zero) h = absurd (omega arith)
 widest (suc (suc zero)) h = absurd (omega arith)
 widest (suc (suc (suc size))) h = refl
+
+pub width-4 : (head : ℕ) → 192 ≤ head → operand_len (head / 64) ≡ 4
+width-4 head l = widest (head / 64) (omega arith)

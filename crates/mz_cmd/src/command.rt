@@ -1,8 +1,8 @@
 // Commands and their spellings.
-ghost use Rattle.std.specs.Prelude.{◌≡◌, ◌≤◌, ◌++◌, ◌^◌, ◌<◌, [], ℕ, List, length, drop, IsTrue, OnOk, OnErr, Ok, ◌↔◌};
+ghost use Rattle.std.specs.Prelude.{◌≡◌, ◌≤◌, ◌++◌, ◌^◌, ◌<◌, [], ℕ, List, length, drop, IsTrue, OnOk, OnErr, Ok, Err, ◌↔◌, if◌then◌else◌};
 ghost use Rattle.mz_checks.specs.Checks.{Judges};
 ghost use Rattle.mz_cmd.specs.Codes.{is_known};
-ghost use Rattle.mz_cmd.specs.Spelling.{Spells, operand_len, shortest};
+ghost use Rattle.mz_cmd.specs.Spelling.{Spells, shortest};
 ghost use Rattle.mz_cmd.specs.Reading.{StandsAt, command_checks, first_command, command_at};
 
 use crate::code::is_known_code;
@@ -40,44 +40,52 @@ const TWO_BYTES: u8 = 0x80;
 
 const FOUR_BYTES: u8 = 0xC0;
 
-// How many bytes an operand of this size has.
-fn operand_bytes(size: u8) -> usize
-    ensures { result ≡ operand_len size }
+// The command with this code, operand and length, if the format has one with its code.
+#[inline(always)]
+fn spelled(code: u8, value: u32, len: u8) -> Result<Cmd, CmdFault>
+    ensures { result ≡ (if is_known code then Ok (record { code = code; value = value; len = len }) else Err CmdFault.Unknown) }
 {
-    match size {
-        0 => 0,
-        1 => 1,
-        2 => 2,
-        _ => 4,
-    }
-}
-
-// The command at the front, in any of its spellings.
-fn first_cmd(bytes: &[u8]) -> Result<Cmd, CmdFault>
-    ensures { result ≡ first_command bytes.now }
-{
-    let Some(head) = bytes.first() else {
-        return Err(CmdFault::Cut);
-    };
-    let (code, size) = (head % 64, head / 64);
-    let operand = &bytes[1..];
-    if operand.len() < operand_bytes(size) {
-        return Err(CmdFault::Cut);
-    }
     if !is_known_code(code) {
         return Err(CmdFault::Unknown);
     }
-    let (value, len) = match size {
-        0 => (0, 1),
-        1 => (u32::from(operand[0]), 2),
-        2 => (u32::from(LittleEndian::read_u16(operand)), 3),
-        _ => (LittleEndian::read_u32(operand), 5),
-    };
     Ok(Cmd { code, value, len })
+}
+
+// The command at the front, in any of its spellings.
+#[inline(always)]
+fn first_cmd(bytes: &[u8]) -> Result<Cmd, CmdFault>
+    ensures { result ≡ first_command bytes.now }
+{
+    let Some(first) = bytes.first() else {
+        return Err(CmdFault::Cut);
+    };
+    let head = *first;
+    let code = head % 64;
+    if head < ONE_BYTE {
+        return spelled(code, 0, 1);
+    }
+    let operand = &bytes[1..];
+    if head < TWO_BYTES {
+        if operand.len() < 1 {
+            return Err(CmdFault::Cut);
+        }
+        return spelled(code, u32::from(operand[0]), 2);
+    }
+    if head < FOUR_BYTES {
+        if operand.len() < 2 {
+            return Err(CmdFault::Cut);
+        }
+        return spelled(code, u32::from(LittleEndian::read_u16(operand)), 3);
+    }
+    if operand.len() < 4 {
+        return Err(CmdFault::Cut);
+    }
+    spelled(code, LittleEndian::read_u32(operand), 5)
 }
 
 /// The command at a place, in any of its spellings. A command that isn't whole before the end of
 /// the bytes is `Cut`, whatever its code.
+#[inline(always)]
 pub fn cmd_at(bytes: &[u8], pos: u32) -> Result<Cmd, CmdFault>
     requires { pos ≤ length bytes.now }
     ensures stands { (c : Cmd) → (result ≡ Ok c) ↔ StandsAt bytes.now pos c }
