@@ -15,6 +15,7 @@ const HALF: u64 = 0x1_0000_0000;
 ///
 /// It is the factor that is drawn by chance: with a known one, operands can be chosen that have one
 /// print whatever it begins with.
+#[inline(always)]
 pub(crate) fn print_of(factor: u64, head: u32, operands: &[Id]) -> u64
     ensures { result ≡ print_of factor head operands.now }
 {
@@ -28,6 +29,7 @@ pub(crate) fn print_of(factor: u64, head: u32, operands: &[Id]) -> u64
 /// A print with one id more. The upper half is added to the lower one, so that terms of one print
 /// can't be found by sums alone.
 #[tactic(auto, unfolding(crate::specs::Prints::mixed))]
+#[inline(always)]
 fn mixed(factor: u64, print: u64, id: u64) -> u64
     ensures { result ≡ mixed factor print id }
 {
@@ -36,6 +38,7 @@ fn mixed(factor: u64, print: u64, id: u64) -> u64
 }
 
 #[tactic(auto, unfolding(crate::specs::Prints::spread))]
+#[inline(always)]
 fn spread(factor: u64, print: u64, id: u64) -> u64
     ensures { result ≡ spread factor print id }
 {
@@ -44,6 +47,7 @@ fn spread(factor: u64, print: u64, id: u64) -> u64
 
 /// The id of the term `head` over these operands, if there is one. `newest` is the last expression
 /// with their print.
+#[inline(always)]
 pub(crate) fn find(
     nodes: &[Node],
     operands: &[Id],
@@ -70,6 +74,7 @@ pub(crate) fn find(
     }
 }
 
+#[inline(always)]
 fn part(ids: &[Id], from: usize, to: usize) -> &[Id]
     requires order { from ≤ to }
     requires within { to ≤ length ids.now }
@@ -78,6 +83,7 @@ fn part(ids: &[Id], from: usize, to: usize) -> &[Id]
     &ids[from..to]
 }
 
+#[inline(always)]
 fn are_same(a: &[Id], b: &[Id]) -> bool
     ensures { IsTrue result ↔ (a.now ≡ b.now) }
 {

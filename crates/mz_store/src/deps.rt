@@ -21,6 +21,7 @@ use std::alloc::{AllocError, Global};
 /// # Errors
 ///
 /// Where there is no memory.
+#[inline(always)]
 pub fn deps_of_term<T: Terms>(
     alloc: Global,
     store: &Expressions,
@@ -41,6 +42,7 @@ pub fn deps_of_term<T: Terms>(
 }
 
 /// The variables of all operands.
+#[inline(always)]
 fn all_deps(store: &Expressions, args: &[Id]) -> u64
     requires kept { AreKept store.now }
     requires ids { AreIn (shared_by store.now) args.now }

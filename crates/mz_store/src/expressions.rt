@@ -1,6 +1,7 @@
 //! The expressions of a store, without the table by which they are found: the table may be lent while
 //! they grow.
-ghost use Rattle.std.specs.Prelude.{ℕ, ◌≡◌, IfOk, OnOk, OnErr, List, length};
+ghost use Rattle.std.specs.Prelude.{ℕ, ◌≡◌, ◌++◌, IfOk, OnOk, OnErr, List, length};
+ghost use Rattle.mz_store.specs.declared.item.Id.{Id};
 ghost use Rattle.mz_logic.specs.Signature.{Signature};
 ghost use Rattle.mz_logic.specs.Words.{signatures_of};
 ghost use Rattle.mz_store.specs.Bits.{Tells, bound_vars};
@@ -25,6 +26,7 @@ pub struct Expressions {
 
 impl Expressions {
     /// The word of the expression's variables.
+    #[inline(always)]
     pub fn deps(&self, id: Id) -> u64
         requires kept { AreKept self.now }
         requires inside { IsIn (shared_by self.now) id.0 }
@@ -40,6 +42,7 @@ impl Expressions {
     /// # Errors
     ///
     /// Where there is no memory. The same expressions are there then.
+    #[inline(always)]
     pub fn add<T: Terms>(
         &mut self,
         alloc: Global,
@@ -58,7 +61,7 @@ impl Expressions {
     {
         let deps = deps_of_term(alloc, self, terms, t, args)?;
         let from = self.operands.len();
-        self.operands.extend_from_slice(args)?;
+        put_all(&mut self.operands, args)?;
         let made = Application {
             head: t,
             from,
@@ -73,4 +76,21 @@ impl Expressions {
         })?;
         Ok(id)
     }
+}
+
+/// Puts these at the end, one after another: of the few operands of a term that takes less than a copy
+/// of a slice, which is a call.
+///
+/// # Errors
+///
+/// Where there is no memory. Some of them may be there then.
+#[inline(always)]
+fn put_all(ids: &mut Vec<Id>, more: &[Id]) -> Result<(), AllocError>
+    ensures ok { OnOk result (ids.new.items ≡ ids.old.items ++ more.now) }
+    ensures err { OnErr result ((some : List Id) × (ids.new.items ≡ ids.old.items ++ some)) }
+{
+    'more: for id in more {
+        ids.push(*id)?;
+    }
+    Ok(())
 }

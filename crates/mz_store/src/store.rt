@@ -126,6 +126,7 @@ impl Store {
     }
 
     /// Adds a variable, whose word must say exactly what a variable after the present ones is.
+    #[inline(always)]
     fn enter(&mut self, sort: u32, deps: u64, bound: bool) -> Result<(), AllocError>
         requires { IsVariableWord (length (bound_vars self.old.context)) deps bound }
         ensures ok { OnOk result (self.new ≡ entered self.old (record { sort = sort; deps = deps; form = variable bound })) }
@@ -170,6 +171,7 @@ impl Store {
     /// # Errors
     ///
     /// Where there is no memory. The store is unchanged then.
+    #[inline(always)]
     pub fn app<T: Terms>(&mut self, terms: &T, t: u32, args: &[Id]) -> Result<Id, AllocError>
         requires over { IsOver (signatures_of (T.all_terms terms.now)) self.old }
         requires ids { AreIn self.old args.now }
@@ -185,6 +187,7 @@ impl Store {
     }
 
     /// The id of the term `t` over these expressions. The table is asked once, whether it is there or not.
+    #[inline(always)]
     fn find_or_add<T: Terms>(&mut self, terms: &T, t: u32, args: &[Id]) -> Result<Id, AllocError>
         requires over { IsOver (signatures_of (T.all_terms terms.now)) self.old }
         requires ids { AreIn self.old args.now }
@@ -232,6 +235,7 @@ impl Store {
     }
 
     /// Whether two expressions are the same.
+    #[inline(always)]
     pub fn same(&self, a: Id, b: Id) -> bool
         requires left { IsIn self.now a.0 }
         requires right { IsIn self.now b.0 }
@@ -244,6 +248,7 @@ impl Store {
     }
 
     /// The expression's sort.
+    #[inline(always)]
     pub fn sort_of(&self, id: Id) -> u32
         requires { IsIn self.now id.0 }
         ensures kept { result ≡ sort_of self.now id.0 }
@@ -254,6 +259,7 @@ impl Store {
 
     /// The word of the expression's variables: bit k is set exactly where the k-th bound variable is
     /// among all its variables, or among the free ones, as `begin` was told.
+    #[inline(always)]
     pub fn deps(&self, id: Id) -> u64
         requires { IsIn self.now id.0 }
         ensures kept { result ≡ deps_of self.now id.0 }
@@ -263,6 +269,7 @@ impl Store {
     }
 
     /// Whether the expression is a bound variable.
+    #[inline(always)]
     pub fn is_bound(&self, id: Id) -> bool
         requires { IsIn self.now id.0 }
         ensures { IsTrue result ↔ IsBoundVar self.now.context (tree_of self.now id.0) }
@@ -274,6 +281,7 @@ impl Store {
     }
 
     /// The number of the term that the expression is an application of, and `None` for a variable.
+    #[inline(always)]
     pub fn head(&self, id: Id) -> Option<u32>
         requires { IsIn self.now id.0 }
         ensures { result ≡ head_of (tree_of self.now id.0) }
@@ -285,6 +293,7 @@ impl Store {
     }
 
     /// The operands of the expression, none for a variable.
+    #[inline(always)]
     pub fn args(&self, id: Id) -> &[Id]
         requires { IsIn self.now id.0 }
         ensures ids { AreIn self.now result.now }
