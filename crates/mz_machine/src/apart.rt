@@ -22,6 +22,7 @@ use mz_store::{Id, Store};
 /// parameters stand at these places.
 ///
 /// Each is compared with those of the bound parameters alone, of which a row has few.
+#[inline(always)]
 pub(crate) fn are_apart(
     earlier: &Earlier,
     row: Row,
@@ -39,6 +40,10 @@ pub(crate) fn are_apart(
     ensures { result ≡ are_apart store.now.context (trees_at store.now operands.now) (binders_of (params_of earlier.now.file row)) }
 {
     let all = variables_at(store, operands, bound);
+    if all == 0 {
+        // no bound parameter, as of most rows
+        return true;
+    }
     'operands: for i in 0..earlier.arity_of(row) {
         if !is_apart(earlier, row, store, operands, bound, all, i) {
             return false;
@@ -48,6 +53,7 @@ pub(crate) fn are_apart(
 }
 
 /// The word of the variables of the operands at these places.
+#[inline(always)]
 fn variables_at(store: &Store, operands: &[Id], places: &[u32]) -> u64
     requires ids { AreIn store.now operands.now }
     requires within { (k p : ℕ) → slice_get places.now k ≡ Some p → p < length operands.now }
