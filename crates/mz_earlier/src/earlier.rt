@@ -41,6 +41,7 @@ impl<'a> Earlier<'a> {
     }
 
     /// How many axioms and theorems there are.
+    #[inline(always)]
     pub fn thms(&self) -> u32
         ensures rows { result ≡ self.now.rows.thms }
         ensures within { result ≤ thm_count self.now.file }
@@ -49,6 +50,7 @@ impl<'a> Earlier<'a> {
     }
 
     /// How many parameters the row has.
+    #[inline(always)]
     pub fn arity_of(&self, row: Row) -> u32
         requires { IsBefore self.now row }
         ensures { result ≡ length (params_of self.now.file row) }
@@ -57,6 +59,7 @@ impl<'a> Earlier<'a> {
     }
 
     /// The word of the row's j-th parameter.
+    #[inline(always)]
     pub fn word_of(&self, row: Row, j: u32) -> Word
         requires row { IsBefore self.now row }
         requires place { j < length (params_of self.now.file row) }
@@ -66,6 +69,7 @@ impl<'a> Earlier<'a> {
     }
 
     /// The axiom's or theorem's unify stream, from its first byte to the file's end.
+    #[inline(always)]
     pub fn stream_of_thm(&self, i: u32) -> &'a [u8]
         requires { i < self.now.rows.thms }
         ensures stream { result.now ≡ drop (thm_row self.now.file i).stream_at self.now.file }
@@ -173,6 +177,7 @@ impl<'a> Terms for Earlier<'a> {
         self.mmb.mods(s)
     }
 
+    #[inline(always)]
     fn terms(&self) -> u32
         ensures all { result ≡ length (words_before self.now) }
         ensures rows { result ≡ self.now.rows.terms }
@@ -180,6 +185,7 @@ impl<'a> Terms for Earlier<'a> {
         self.rows.terms
     }
 
+    #[inline(always)]
     fn arity(&self, t: u32) -> u32
         requires { t < length (words_before self.now) }
         ensures all { result ≡ length (term_at (words_before self.now) t).params }
@@ -188,6 +194,7 @@ impl<'a> Terms for Earlier<'a> {
         self.mmb.arity(t)
     }
 
+    #[inline(always)]
     fn param(&self, t: u32, i: u32) -> Word
         requires term { t < length (words_before self.now) }
         requires place { i < length (term_at (words_before self.now) t).params }
@@ -197,6 +204,7 @@ impl<'a> Terms for Earlier<'a> {
         self.mmb.param(t, i)
     }
 
+    #[inline(always)]
     fn result(&self, t: u32) -> Word
         requires { t < length (words_before self.now) }
         ensures all { result ≡ (term_at (words_before self.now) t).result }

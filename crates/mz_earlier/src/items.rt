@@ -5,6 +5,7 @@ ghost use Rattle.mz_earlier.specs.Items.{is_owed};
 use mz_store::Item;
 
 /// The top item.
+#[inline(always)]
 pub fn top(stack: &[Item]) -> Option<Item>
     ensures { result ≡ slice_get stack.now (length stack.now - 1) }
 {
@@ -12,6 +13,7 @@ pub fn top(stack: &[Item]) -> Option<Item>
 }
 
 /// The item at a place of the heap.
+#[inline(always)]
 pub fn kept_at(heap: &[Item], place: u32) -> Option<Item>
     ensures { result ≡ slice_get heap.now place }
 {
@@ -19,6 +21,7 @@ pub fn kept_at(heap: &[Item], place: u32) -> Option<Item>
 }
 
 /// Whether something is still to be shown.
+#[inline(always)]
 pub fn is_obligation(item: Item) -> bool
     ensures { result ≡ is_owed item }
 {
@@ -29,6 +32,7 @@ pub fn is_obligation(item: Item) -> bool
 }
 
 /// Puts an item at the end, where there is room.
+#[inline(always)]
 pub fn put_back(items: &mut Vec<Item>, item: Item)
     requires room { vec_len items.old < vec_capacity items.old }
     ensures items { items.new.items ≡ items.old.items ++ item ∷ [] }

@@ -5,6 +5,7 @@ ghost use Rattle.mz_logic.specs.Words.{word_bound, word_deps};
 use mz_logic::Word;
 
 /// The bits of the bound parameters on which a parameter depends, none of a bound one.
+#[inline(always)]
 pub fn dependencies(word: Word) -> u64
     ensures { result ≡ (if word_bound word then 0 else word_deps word) }
 {
@@ -13,6 +14,7 @@ pub fn dependencies(word: Word) -> u64
 
 /// Whether the i-th operand may hold the variable of the j-th: it is the same one, or the i-th parameter
 /// depends on the j-th, which comes before it and whose bit is the lowest.
+#[inline(always)]
 pub fn may_meet(i: u32, j: u32, bits: u64) -> bool
     ensures { result ≡ (i == j || (nat_lt j i && bits % 2 == 1)) }
 {

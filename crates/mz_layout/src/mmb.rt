@@ -83,6 +83,7 @@ impl<'a> Mmb<'a> {
     }
 
     /// How many parameters the axiom or theorem has.
+    #[inline(always)]
     pub fn thm_arity(&self, i: u32) -> u32
         requires { i < thm_count self.now }
         ensures { result ≡ length (thm_row self.now i).params }
@@ -91,6 +92,7 @@ impl<'a> Mmb<'a> {
     }
 
     /// The word of the axiom's or theorem's j-th parameter.
+    #[inline(always)]
     pub fn thm_param(&self, i: u32, j: u32) -> Word
         requires row { i < thm_count self.now }
         requires place { j < length (thm_row self.now i).params }
@@ -109,6 +111,7 @@ impl<'a> Mmb<'a> {
     }
 
     /// The axiom's or theorem's unify stream: its place, in bytes, and the rest of the file from there.
+    #[inline(always)]
     pub fn unify_of_thm(&self, i: u32) -> (u32, &'a [u8])
         requires { i < thm_count self.now }
         ensures place { result.0 ≡ (thm_row self.now i).stream_at }
@@ -144,6 +147,7 @@ impl<'a> Mmb<'a> {
         records::after_words(self.file, self.term_record(t), 1)
     }
 
+    #[inline(always)]
     fn term_record(&self, t: u32) -> u32
         requires { t < term_count self.now }
         ensures place { result ≡ term_record self.now t }
@@ -153,6 +157,7 @@ impl<'a> Mmb<'a> {
         u32_at(self.file, 16) + 8 * t
     }
 
+    #[inline(always)]
     fn thm_record(&self, i: u32) -> u32
         requires { i < thm_count self.now }
         ensures place { result ≡ thm_record self.now i }
@@ -194,6 +199,7 @@ impl<'a> Terms for Mmb<'a> {
         u32_at(self.file, 8)
     }
 
+    #[inline(always)]
     fn arity(&self, t: u32) -> u32
         requires { t < length (term_words self.now) }
         ensures all { result ≡ length (term_at (term_words self.now) t).params }
@@ -202,6 +208,7 @@ impl<'a> Terms for Mmb<'a> {
         records::arity(self.file, self.term_record(t))
     }
 
+    #[inline(always)]
     fn param(&self, t: u32, i: u32) -> Word
         requires term { t < length (term_words self.now) }
         requires place { i < length (term_at (term_words self.now) t).params }
@@ -211,6 +218,7 @@ impl<'a> Terms for Mmb<'a> {
         records::word(self.file, self.term_record(t), 1, i)
     }
 
+    #[inline(always)]
     fn result(&self, t: u32) -> Word
         requires { t < length (term_words self.now) }
         ensures all { result ≡ (term_at (term_words self.now) t).result }

@@ -7,6 +7,7 @@ use crate::bytes::{u16_at, u32_at, u64_at};
 use mz_logic::Word;
 
 /// How many parameters the row has.
+#[inline(always)]
 pub fn arity(file: &[u8], row: u32) -> u32
     requires { row + 8 ≤ length file.now }
     ensures { result ≡ param_count file.now row }
@@ -15,6 +16,7 @@ pub fn arity(file: &[u8], row: u32) -> u32
 }
 
 /// The place of the row's i-th word; past its words, of what follows them.
+#[inline(always)]
 pub fn word_place(file: &[u8], row: u32, further: u32, i: u32) -> u32
     requires row { row + 8 ≤ length file.now }
     requires words { HoldsWords file.now further row }
@@ -27,6 +29,7 @@ pub fn word_place(file: &[u8], row: u32, further: u32, i: u32) -> u32
 }
 
 /// The row's i-th word.
+#[inline(always)]
 pub fn word(file: &[u8], row: u32, further: u32, i: u32) -> Word
     requires row { row + 8 ≤ length file.now }
     requires words { HoldsWords file.now further row }
@@ -38,6 +41,7 @@ pub fn word(file: &[u8], row: u32, further: u32, i: u32) -> Word
 }
 
 /// What follows the row's words: its place, and the rest of the file from there.
+#[inline(always)]
 pub fn after_words<'a>(file: &'a [u8], row: u32, further: u32) -> (u32, &'a [u8])
     requires row { row + 8 ≤ length file.now }
     requires words { HoldsWords file.now further row }

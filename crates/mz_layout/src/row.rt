@@ -16,6 +16,7 @@ pub enum Row {
 
 impl Row {
     /// How many parameters the row has.
+    #[inline(always)]
     pub fn arity(self, mmb: &Mmb) -> u32
         requires { IsRow mmb.now self }
         ensures { result ≡ length (params_of mmb.now self) }
@@ -27,6 +28,7 @@ impl Row {
     }
 
     /// The word of the parameter at a place.
+    #[inline(always)]
     pub fn param(self, mmb: &Mmb, place: u32) -> Word
         requires row { IsRow mmb.now self }
         requires place { place < length (params_of mmb.now self) }

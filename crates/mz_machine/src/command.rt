@@ -27,6 +27,7 @@ pub(crate) enum Command {
 }
 
 /// Whether the command stands in such bodies.
+#[inline(always)]
 fn stands_in(kind: BodyKind, code: ProofCode) -> bool
     ensures { result ≡ stands_in strict (kind_of kind) code }
 {
@@ -42,6 +43,7 @@ fn stands_in(kind: BodyKind, code: ProofCode) -> bool
 }
 
 /// The command with the code.
+#[inline(always)]
 fn command_of(code: ProofCode) -> Command
     ensures { code_of result ≡ code }
 {
@@ -67,6 +69,7 @@ fn command_of(code: ProofCode) -> Command
 }
 
 /// The command with a code other than END's, if it is one of such bodies.
+#[inline(always)]
 pub(crate) fn decoded(kind: BodyKind, code: u8) -> Option<Command>
     requires { code ≡ 0 → ⊥ }
     ensures some { IfSome result (λ c. (value : ℕ) → body_command strict (kind_of kind) code value ≡ Some (proves (code_of c) value)) }

@@ -32,6 +32,7 @@ use std::sync::ledger::Ledger;
 use terms::{term, thm};
 
 /// Executes a command that makes an expression or a proof.
+#[inline(always)]
 fn make<L: Ledger>(
     earlier: &Earlier,
     command: Making,
@@ -73,6 +74,7 @@ fn make<L: Ledger>(
 }
 
 /// Executes a command over the heap.
+#[inline(always)]
 fn keep(
     earlier: &Earlier,
     command: Keeping,
@@ -179,6 +181,7 @@ fn convert<L: Ledger>(
 }
 
 /// Executes a command by the published table: a gap is refused.
+#[inline(always)]
 pub(crate) fn execute<L: Ledger>(
     earlier: &Earlier,
     command: Command,

@@ -20,6 +20,7 @@ use mz_store::{Id, Item, Store};
 use mz_unify::{Stop, push};
 
 /// Takes so many expressions from the stack, of which the last is on top; the list becomes these.
+#[inline(always)]
 pub(crate) fn pop_operands(
     store: &Store,
     count: u32,
@@ -45,6 +46,7 @@ pub(crate) fn pop_operands(
 /// # Errors
 ///
 /// Where an item is no expression, or there is no memory.
+#[inline(always)]
 pub fn read_exprs(items: &[Item], ids: &mut Vec<Id>) -> Result<(), Stop>
     ensures { Gives (exprs_of items.now) result (λ _. ids.new.items) }
 {
@@ -59,6 +61,7 @@ pub fn read_exprs(items: &[Item], ids: &mut Vec<Id>) -> Result<(), Stop>
 }
 
 /// Whether an operand has its parameter's sort, and for a bound parameter is a bound variable.
+#[inline(always)]
 fn check_operand(store: &Store, word: Word, id: Id) -> Result<(), K>
     requires { IsIn store.now id.0 }
     ensures { (sigs : List Signature) (p : Binder) → IsOver sigs store.now → p.sort ≡ word_sort word → p.bound ≡ word_bound word → GivesRule (operands_fit sigs store.now.context (tree_of store.now id.0 ∷ []) (p ∷ [])) result (λ _. tt) }
@@ -73,6 +76,7 @@ fn check_operand(store: &Store, word: Word, id: Id) -> Result<(), K>
 }
 
 /// Whether each operand fits its parameter.
+#[inline(always)]
 pub(crate) fn check_operands(
     earlier: &Earlier,
     row: Row,
@@ -92,6 +96,7 @@ pub(crate) fn check_operands(
 }
 
 /// Whether each operand fits its parameter; the list becomes the places of the bound parameters.
+#[inline(always)]
 pub(crate) fn check_cited(
     earlier: &Earlier,
     row: Row,

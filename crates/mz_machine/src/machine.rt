@@ -214,6 +214,7 @@ impl<'a> Setting<'a> {
     }
 
     /// Executes a command other than END on the parts, which are in place, and counts its steps.
+    #[inline(always)]
     pub(crate) fn advance<L: Ledger>(
         &self,
         parts: &mut Parts,
@@ -274,6 +275,7 @@ impl<'a> Setting<'a> {
 
 /// Executes a command other than END, if it stands in bodies of the kind, and counts its steps. A
 /// draft's gap is let through.
+#[inline(always)]
 fn obey<L: Ledger>(
     earlier: &Earlier,
     mode: Mode,
@@ -315,12 +317,14 @@ fn obey<L: Ledger>(
 }
 
 /// Whether the command is a gap that is let through.
+#[inline(always)]
 fn leaves_gap(mode: Mode, command: Command) -> bool
     ensures { result ≡ (gaps_of mode && is_sorry (Some (code_of command))) }
 {
     mode.allows_gaps() && is_gap(command)
 }
 
+#[inline(always)]
 fn is_gap(command: Command) -> bool
     ensures { result ≡ is_sorry (Some (code_of command)) }
 {
@@ -331,6 +335,7 @@ fn is_gap(command: Command) -> bool
 }
 
 /// Whether a gap was left before, or the command with this code leaves one.
+#[inline(always)]
 fn has_gap(before: bool, code: u8) -> bool
     ensures { result ≡ (before || is_sorry (proof_code code)) }
 {
@@ -338,6 +343,7 @@ fn has_gap(before: bool, code: u8) -> bool
 }
 
 /// Whether the command with this code leaves a gap.
+#[inline(always)]
 fn is_sorry(code: u8) -> bool
     ensures { result ≡ is_sorry (proof_code code) }
 {

@@ -25,6 +25,7 @@ pub(crate) fn pop(store: &Store, stack: &mut Vec<Item>) -> Result<Item, K>
 }
 
 /// Takes an expression from the top.
+#[inline(always)]
 pub(crate) fn pop_expr(store: &Store, stack: &mut Vec<Item>) -> Result<Id, K>
     requires { AreItemsIn store.now stack.old.items }
     ensures ids { IfOk result (λ id. IsIn store.now id.0 × AreItemsIn store.now stack.new.items) }
@@ -40,6 +41,7 @@ pub(crate) fn pop_expr(store: &Store, stack: &mut Vec<Item>) -> Result<Id, K>
 }
 
 /// Takes a proof from the top.
+#[inline(always)]
 pub(crate) fn pop_proof(store: &Store, stack: &mut Vec<Item>) -> Result<Id, K>
     requires { AreItemsIn store.now stack.old.items }
     ensures ids { IfOk result (λ id. IsIn store.now id.0 × AreItemsIn store.now stack.new.items) }
@@ -85,6 +87,7 @@ pub(crate) fn pop_conversion(store: &Store, stack: &mut Vec<Item>) -> Result<(Id
 }
 
 /// The sides of a conversion.
+#[inline(always)]
 pub(crate) fn conversion_of(item: Item) -> Option<(Id, Id)>
     ensures some { IfSome result (λ sides. item ≡ Conversion sides.0 sides.1) }
     ensures none { IfNone result ((s : Sharing) → is_conversion (item_at s item) ≡ false) }

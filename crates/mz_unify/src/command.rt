@@ -27,6 +27,7 @@ pub enum Command {
 
 /// The command, if it is one of such a stream: dummies are met only in definitions, hypotheses only in
 /// assertions.
+#[inline(always)]
 pub fn decoded(mode: UnifyMode, cmd: Cmd) -> Option<Command>
     ensures some { IfSome result (λ c. unify_command (kind_of (mode_of mode)) cmd.code cmd.value ≡ Some (command_of c)) }
     ensures none { IfNone result (unify_command (kind_of (mode_of mode)) cmd.code cmd.value ≡ None) }

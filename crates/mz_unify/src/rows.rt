@@ -32,6 +32,7 @@ fn variables(store: &Store, ids: &[Id]) -> u64
 
 /// The word of the variables of the operands, from which a definition's dummies are kept apart. Other
 /// streams have no dummies.
+#[inline(always)]
 pub(crate) fn kept_apart(store: &Store, mode: UnifyMode, operands: &[Id]) -> u64
     requires ids { AreIn store.now operands.now }
     requires told { TellsAllOf store.now operands.now }
@@ -44,6 +45,7 @@ pub(crate) fn kept_apart(store: &Store, mode: UnifyMode, operands: &[Id]) -> u64
 }
 
 /// Takes the top target.
+#[inline(always)]
 fn take_top(store: &Store, targets: &mut Vec<Id>) -> Option<Id>
     requires { AreIn store.now targets.old.items }
     ensures ids { IfSome result (λ id. IsIn store.now id.0 × AreIn store.now targets.new.items) }
@@ -56,6 +58,7 @@ fn take_top(store: &Store, targets: &mut Vec<Id>) -> Option<Id>
 }
 
 /// Takes an application of the term from the top, and puts its operands there.
+#[inline(always)]
 fn open(store: &Store, term: u32, targets: &mut Vec<Id>) -> Result<Id, Stop>
     requires { AreIn store.now targets.old.items }
     ensures ids { IfOk result (λ id. IsIn store.now id.0 × AreIn store.now targets.new.items) }
@@ -73,6 +76,7 @@ fn open(store: &Store, term: u32, targets: &mut Vec<Id>) -> Result<Id, Stop>
 }
 
 /// Takes the top, which is what stands at a place of the heap.
+#[inline(always)]
 fn refer(store: &Store, place: u32, heap: &[Id], targets: &mut Vec<Id>) -> Result<(), Stop>
     requires heap { AreIn store.now heap.now }
     requires targets { AreIn store.now targets.old.items }
@@ -92,6 +96,7 @@ fn refer(store: &Store, place: u32, heap: &[Id], targets: &mut Vec<Id>) -> Resul
 }
 
 /// Whether the expression is a bound variable of the sort, in V of nothing whose variables the word tells.
+#[inline(always)]
 fn is_fresh(store: &Store, sort: u32, id: Id, apart: u64) -> bool
     requires { IsIn store.now id.0 }
     ensures { (sigs : List Signature) (es : List Tree) → IsOver sigs store.now → TellsAny store.now.context apart es → result ≡ is_fresh strict sigs store.now.context sort (tree_of store.now id.0) es }
@@ -127,6 +132,7 @@ fn no_hypothesis(mode: UnifyMode) -> K
 }
 
 /// Takes the next hypothesis, a proof.
+#[inline(always)]
 fn take_hypothesis(store: &Store, mode: UnifyMode, hyps: &mut Vec<Item>) -> Result<Id, K>
     requires { AreItemsIn store.now hyps.old.items }
     ensures ids { IfOk result (λ id. IsIn store.now id.0 × AreItemsIn store.now hyps.new.items) }
@@ -143,6 +149,7 @@ fn take_hypothesis(store: &Store, mode: UnifyMode, hyps: &mut Vec<Item>) -> Resu
 }
 
 /// Makes the next hypothesis the target.
+#[inline(always)]
 fn hypothesis(
     store: &Store,
     mode: UnifyMode,
@@ -167,6 +174,7 @@ fn hypothesis(
 }
 
 /// Whether no hypothesis is left that must be taken.
+#[inline(always)]
 fn nothing_left(store: &Store, mode: UnifyMode, hyps: &[Item]) -> bool
     ensures { result ≡ nothing_left (mode_of mode) (items_at store.now hyps.now) }
 {
@@ -177,6 +185,7 @@ fn nothing_left(store: &Store, mode: UnifyMode, hyps: &[Item]) -> bool
 }
 
 /// Ends the stream: no targets are left, nor at an assertion's own end hypotheses.
+#[inline(always)]
 fn end(store: &Store, mode: UnifyMode, targets: &[Id], hyps: &[Item]) -> Result<(), Stop>
     ensures { (sigs : List Signature) (st : UnifyState Tree) → st.targets ≡ stack_at store.now targets.now → st.items ≡ items_at store.now hyps.now → IsRow (unify_row strict sigs store.now.context (mode_of mode) u_end st) result (λ _. st) }
 {
@@ -190,6 +199,7 @@ fn end(store: &Store, mode: UnifyMode, targets: &[Id], hyps: &[Item]) -> Result<
 }
 
 /// Executes a command, which stands in streams of the mode.
+#[inline(always)]
 pub(crate) fn step(
     store: &Store,
     mode: UnifyMode,

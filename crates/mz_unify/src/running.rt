@@ -100,6 +100,7 @@ pub fn unify_in<T: Terms, L: Ledger>(
 }
 
 /// Runs a stream on these targets, the top one last.
+#[inline(always)]
 fn run<L: Ledger>(
     stream: &[u8],
     mode: UnifyMode,

@@ -30,6 +30,7 @@ impl From<K> for Stop {
 /// # Errors
 ///
 /// Where there is no memory.
+#[inline(always)]
 pub fn push<T: Drop>(items: &mut Vec<T>, item: T) -> Result<(), Stop>
     ensures ok { OnOk result (items.new.items ≡ items.old.items ++ item ∷ []) }
     ensures err { MatchResult result (λ _. ⊤) (λ stop. StopsBy stop (λ _. ⊥)) }
@@ -45,6 +46,7 @@ pub fn push<T: Drop>(items: &mut Vec<T>, item: T) -> Result<(), Stop>
 /// # Errors
 ///
 /// Where there is no memory.
+#[inline(always)]
 pub fn push_operands(targets: &mut Vec<Id>, operands: &[Id]) -> Result<(), Stop>
     ensures ok { OnOk result (targets.new.items ≡ targets.old.items ++ reverse operands.now) }
     ensures err { MatchResult result (λ _. ⊤) (λ stop. StopsBy stop (λ _. ⊥)) }

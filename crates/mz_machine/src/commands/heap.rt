@@ -38,6 +38,7 @@ fn pay(store: &Store, left: Id, right: Id, stack: &mut Vec<Item>) -> Result<(), 
 }
 
 /// Pushes an item of the heap; a conversion pays the obligation on top instead.
+#[inline(always)]
 fn refer_to(store: &Store, item: Item, stack: &mut Vec<Item>) -> Result<(), Stop>
     requires item { IsItemIn store.now item }
     requires stack { AreItemsIn store.now stack.old.items }
@@ -53,6 +54,7 @@ fn refer_to(store: &Store, item: Item, stack: &mut Vec<Item>) -> Result<(), Stop
 
 /// Pushes what stands at a place of the heap; a conversion pays the obligation on top instead, and
 /// takes no memory.
+#[inline(always)]
 pub(crate) fn refer(
     store: &Store,
     place: u32,

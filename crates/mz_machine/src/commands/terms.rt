@@ -26,6 +26,7 @@ use mz_unify::{Stop, UnifyMode, push, unify_in};
 use std::sync::ledger::Ledger;
 
 /// Makes the application of a term to the operands on top, which it takes.
+#[inline(always)]
 fn build(
     earlier: &Earlier,
     t: u32,
@@ -113,6 +114,7 @@ pub(crate) fn thm<L: Ledger>(
 
 /// What a citation takes: the expression on top, and for the list of operands those below it, which fit
 /// their parameters and are apart.
+#[inline(always)]
 fn take_citation(
     earlier: &Earlier,
     t: u32,
