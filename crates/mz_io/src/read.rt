@@ -63,7 +63,7 @@ fn read_started<F: Folder>(alloc: Global, folder: &mut F, limit: u64) -> Read
     ensures rooms { F.is_clear folder.old → F.rooms folder.new ≡ F.rooms folder.old }
 {
     let mut bytes = Vec::new(alloc);
-    let mut chunk = [0u8; 1024];
+    let mut chunk = [0u8; 16384];
     'pulls: loop {
         match folder.pull(&mut chunk) {
             Err(_) => return Read::Fault,
