@@ -1,5 +1,5 @@
 // The codes of commands, in the low six bits of a command's first byte.
-ghost use Rattle.std.specs.Prelude.{◌≡◌, ◌↔◌, ℕ, IsTrue, Some};
+ghost use Rattle.std.specs.Prelude.{◌≡◌, ◌↔◌, ◌<◌, ℕ, IsTrue, Some};
 ghost use Rattle.mz_cmd.specs.Codes.{is_known, statement_byte, proof_byte, unify_byte, statement_code, proof_code, unify_code};
 
 use thiserror::Error;
@@ -156,17 +156,26 @@ impl TryFrom<u8> for UnifyCode {
 }
 
 /// Whether some command of the format has this code.
-#[inline(always)]
 pub fn is_known_code(code: u8) -> bool
     ensures { IsTrue result ↔ IsTrue (is_known code) }
 {
-    // one match, which is one test of a bit: this is asked at each command
-    match code {
-        END | 0x02 | 0x04 | 0x05 | 0x06 | LOCAL_AXIOM | LOCAL_SORT | 0x0D | 0x0E => true,
-        0x10 | 0x11 | 0x12 | 0x13 | 0x14 | 0x15 | 0x16 | 0x17 | 0x18 | 0x19 | 0x1A => true,
-        0x1B | 0x1C | 0x1D | 0x1E | 0x1F | 0x20 | 0x30 | 0x31 | 0x32 | 0x33 | 0x36 => true,
-        _ => false,
-    }
+    matches!(code, END | LOCAL_AXIOM | LOCAL_SORT)
+        || StatementCode::try_from(code).is_ok()
+        || ProofCode::try_from(code).is_ok()
+        || UnifyCode::try_from(code).is_ok()
+}
+
+/// The codes that some command of the format has, a bit for each.
+const KNOWN: u64 = 0x004F_0001_FFFF_7475;
+
+/// The same of the six bits that a first byte has for its code, by one test of a bit: it is asked at
+/// each command.
+#[inline(always)]
+pub(crate) fn is_known_bit(code: u8) -> bool
+    requires { code < 64 }
+    ensures { result ≡ is_known code }
+{
+    (KNOWN >> code) & 1 == 1
 }
 
 /// Each code is the one that its byte is read as.

@@ -5,7 +5,7 @@ ghost use Rattle.mz_cmd.specs.Codes.{is_known};
 ghost use Rattle.mz_cmd.specs.Spelling.{Spells, shortest};
 ghost use Rattle.mz_cmd.specs.Reading.{StandsAt, command_checks, first_command, command_at};
 
-use crate::code::is_known_code;
+use crate::code::is_known_bit;
 use byteorder::{ByteOrder, LittleEndian};
 use std::alloc::AllocError;
 use thiserror::Error;
@@ -43,9 +43,10 @@ const FOUR_BYTES: u8 = 0xC0;
 // The command with this code, operand and length, if the format has one with its code.
 #[inline(always)]
 fn spelled(code: u8, value: u32, len: u8) -> Result<Cmd, CmdFault>
+    requires { code < 64 }
     ensures { result ≡ (if is_known code then Ok (record { code = code; value = value; len = len }) else Err CmdFault.Unknown) }
 {
-    if !is_known_code(code) {
+    if !is_known_bit(code) {
         return Err(CmdFault::Unknown);
     }
     Ok(Cmd { code, value, len })
