@@ -1,6 +1,6 @@
 //! The rows before a statement.
 ghost use Rattle.std.specs.Prelude.{◌≡◌, ◌≤◌, ◌<◌, ◌^◌, length, drop, Some, slice_get};
-ghost use Rattle.mz_layout.specs.Rows.{params_of};
+ghost use Rattle.mz_layout.specs.Rows.{params_of, words_at_of};
 ghost use Rattle.mz_layout.specs.Tables.{mods_of, term_row, thm_row, sort_count, term_count, thm_count};
 ghost use Rattle.mz_earlier.specs.Before.{words_before, sorts_before, AreWithin};
 ghost use Rattle.mz_earlier.specs.OperandRows.{IsBefore};
@@ -66,6 +66,26 @@ impl<'a> Earlier<'a> {
         ensures { slice_get (params_of self.now.file row) j ≡ Some result }
     {
         row.param(self.mmb, j)
+    }
+
+    /// Where the words of the row's parameters begin in the file, in bytes.
+    #[inline(always)]
+    pub fn words_at(&self, row: Row) -> u32
+        requires { IsBefore self.now row }
+        ensures { result ≡ words_at_of self.now.file row }
+    {
+        row.words_at(self.mmb)
+    }
+
+    /// The word of the row's j-th parameter, from there.
+    #[inline(always)]
+    pub fn word_from(&self, row: Row, first: u32, j: u32) -> Word
+        requires row { IsBefore self.now row }
+        requires first { first ≡ words_at_of self.now.file row }
+        requires place { j < length (params_of self.now.file row) }
+        ensures { slice_get (params_of self.now.file row) j ≡ Some result }
+    {
+        row.param_from(self.mmb, first, j)
     }
 
     /// The axiom's or theorem's unify stream, from its first byte to the file's end.

@@ -101,6 +101,37 @@ impl<'a> Mmb<'a> {
         records::word(self.file, self.thm_record(i), 0, j)
     }
 
+    /// Where the words of the axiom's or theorem's parameters begin, in bytes.
+    #[inline(always)]
+    pub fn thm_words_at(&self, i: u32) -> u32
+        requires { i < thm_count self.now }
+        ensures { result ≡ (thm_row self.now i).words_at }
+    {
+        records::word_place(self.file, self.thm_record(i), 0, 0)
+    }
+
+    /// The word of its j-th parameter, from there.
+    #[inline(always)]
+    pub fn thm_param_from(&self, i: u32, first: u32, j: u32) -> Word
+        requires row { i < thm_count self.now }
+        requires first { first ≡ (thm_row self.now i).words_at }
+        requires place { j < length (thm_row self.now i).params }
+        ensures { slice_get (thm_row self.now i).params j ≡ Some result }
+    {
+        records::word_from(self.file, self.thm_record(i), first, 0, j)
+    }
+
+    /// The word of the term's j-th parameter, from where its words begin.
+    #[inline(always)]
+    pub fn term_param_from(&self, t: u32, first: u32, j: u32) -> Word
+        requires row { t < term_count self.now }
+        requires first { first ≡ (term_row self.now t).words_at }
+        requires place { j < length (term_row self.now t).words.params }
+        ensures { slice_get (term_row self.now t).words.params j ≡ Some result }
+    {
+        records::word_from(self.file, self.term_record(t), first, 1, j)
+    }
+
     /// The place of that word, in bytes.
     pub fn thm_param_at(&self, i: u32, j: u32) -> u32
         requires row { i < thm_count self.now }

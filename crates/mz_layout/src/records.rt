@@ -40,6 +40,21 @@ pub fn word(file: &[u8], row: u32, further: u32, i: u32) -> Word
     Word(u64_at(file, word_place(file, row, further, i)))
 }
 
+/// The same, where the first word's place is known: the words of a row are read one after another.
+#[inline(always)]
+pub fn word_from(file: &[u8], row: u32, first: u32, further: u32, i: u32) -> Word
+    requires row { row + 8 ≤ length file.now }
+    requires words { HoldsWords file.now further row }
+    requires fits { length file.now < 2 ^ 32 }
+    requires first { first ≡ words_at file.now row }
+    requires place { i < param_count file.now row + further }
+    ensures { result ≡ word_at file.now row i }
+{
+    // The row is named by what is asked alone.
+    let _ = row;
+    Word(u64_at(file, first + 8 * i))
+}
+
 /// What follows the row's words: its place, and the rest of the file from there.
 #[inline(always)]
 pub fn after_words<'a>(file: &'a [u8], row: u32, further: u32) -> (u32, &'a [u8])

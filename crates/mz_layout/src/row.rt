@@ -40,6 +40,32 @@ impl Row {
         }
     }
 
+    /// Where the words of its parameters begin in the file, in bytes.
+    #[inline(always)]
+    pub fn words_at(self, mmb: &Mmb) -> u32
+        requires { IsRow mmb.now self }
+        ensures { result ≡ words_at_of mmb.now self }
+    {
+        match self {
+            Row::Term(term) => mmb.term_word_at(term, 0),
+            Row::Thm(thm) => mmb.thm_words_at(thm),
+        }
+    }
+
+    /// The word of the parameter at a place, from where they begin.
+    #[inline(always)]
+    pub fn param_from(self, mmb: &Mmb, first: u32, place: u32) -> Word
+        requires row { IsRow mmb.now self }
+        requires first { first ≡ words_at_of mmb.now self }
+        requires place { place < length (params_of mmb.now self) }
+        ensures { slice_get (params_of mmb.now self) place ≡ Some result }
+    {
+        match self {
+            Row::Term(term) => mmb.term_param_from(term, first, place),
+            Row::Thm(thm) => mmb.thm_param_from(thm, first, place),
+        }
+    }
+
     /// Where that word stands in the file, in bytes.
     pub fn param_at(self, mmb: &Mmb, place: u32) -> u32
         requires row { IsRow mmb.now self }

@@ -89,8 +89,10 @@ pub(crate) fn check_operands(
     requires many { length operands.now ≡ length (params_of earlier.now.file row) }
     ensures { GivesRule (operands_fit (signatures_of earlier.now) store.now.context (trees_at store.now operands.now) (binders_of (params_of earlier.now.file row))) result (λ _. tt) }
 {
+    let first = earlier.words_at(row);
     'operands: for j in 0..earlier.arity_of(row) {
-        check_operand(store, earlier.word_of(row, j), operands[j as usize])?;
+        let word = earlier.word_from(row, first, j);
+        check_operand(store, word, operands[j as usize])?;
     }
     Ok(())
 }
@@ -112,8 +114,9 @@ pub(crate) fn check_cited(
     ensures places { OnOk result (places.new.items ≡ bound_places 0 (params_of earlier.now.file row)) }
 {
     places.clear();
+    let first = earlier.words_at(row);
     'operands: for j in 0..earlier.arity_of(row) {
-        let word = earlier.word_of(row, j);
+        let word = earlier.word_from(row, first, j);
         if let Err(rule) = check_operand(store, word, operands[j as usize]) {
             return Err(Stop::Rule(rule));
         }

@@ -27,8 +27,8 @@ pub returns-in-Err-clause-fit : goal.returns-in-Err-clause-fit
 returns-in-Err-clause-fit c =
     let here : c.operands.j < length c.args.operands.now = omega (arith, c.requires.many, c.arity_of-j-end.ensures, c.operands-test.true) in
     sym c.operands.invariant.0
-    ∙ fit-step (signatures_of c.args.earlier.now) c.args.store.now.context (trees_at c.args.store.now c.args.operands.now) (params_of c.args.earlier.now.file c.args.row) c.operands.j _ c.word_of-word.result _
-    (tree-at c.args.store.now c.args.operands.now c.operands.j _ (slice_get-get_or _ _ _ here)) c.word_of-word.ensures (λ q s b. c.in-Err.ensures (signatures_of c.args.earlier.now) q c.requires.over s b)
+    ∙ fit-step (signatures_of c.args.earlier.now) c.args.store.now.context (trees_at c.args.store.now c.args.operands.now) (params_of c.args.earlier.now.file c.args.row) c.operands.j _ c.word_from-word.result _
+    (tree-at c.args.store.now c.args.operands.now c.operands.j _ (slice_get-get_or _ _ _ here)) c.word_from-word.ensures (λ q s b. c.in-Err.ensures (signatures_of c.args.earlier.now) q c.requires.over s b)
 
 pub operands-preserved : goal.operands-preserved
 operands-preserved c =
@@ -36,17 +36,17 @@ operands-preserved c =
     let here : c.operands.j < length c.args.operands.now = omega (arith, c.requires.many, c.arity_of-j-end.ensures, c.operands-test.true) in
     let rest = bound_places (c.operands.j + 1) (drop (c.operands.j + 1) ws) in (
       rw (add-one c.operands.j)
-          (sym (fit-step (signatures_of c.args.earlier.now) c.args.store.now.context (trees_at c.args.store.now c.args.operands.now) ws c.operands.j _ c.word_of-word.result _
-          (tree-at c.args.store.now c.args.operands.now c.operands.j _ (slice_get-get_or _ _ _ here)) c.word_of-word.ensures (λ q s b. c.in_default.ensures (signatures_of c.args.earlier.now) q c.requires.over s b)) ∙ c.operands.invariant.0),
+          (sym (fit-step (signatures_of c.args.earlier.now) c.args.store.now.context (trees_at c.args.store.now c.args.operands.now) ws c.operands.j _ c.word_from-word.result _
+          (tree-at c.args.store.now c.args.operands.now c.operands.j _ (slice_get-get_or _ _ _ here)) c.word_from-word.ensures (λ q s b. c.in_default.ensures (signatures_of c.args.earlier.now) q c.requires.over s b)) ∙ c.operands.invariant.0),
       elim c.if-bound.branch [
         | then-bound+in_ok-push r ↦
             ap (λ b. b.items ++ rest) r.places-is ∙ ap (λ (ps : List ℕ). ps ++ rest) r.in_ok-push.ensures.ok
             ∙ rw (add-one c.operands.j)
-            (places-take ws c.operands.j c.word_of-word.result c.word_of-word.ensures c.operands.places.items (bound_places 0 ws) c.operands.invariant.1 (sym c.bound.ensures ∙ r.if-bound.true))
+            (places-take ws c.operands.j c.word_from-word.result c.word_from-word.ensures c.operands.places.items (bound_places 0 ws) c.operands.invariant.1 (sym c.bound.ensures ∙ r.if-bound.true))
         | else-bound r ↦
             ap (λ b. b.items ++ rest) r.places-is
             ∙ rw (add-one c.operands.j)
-            (places-skip ws c.operands.j c.word_of-word.result c.word_of-word.ensures c.operands.places.items (bound_places 0 ws) c.operands.invariant.1 (sym c.bound.ensures ∙ r.if-bound.false))
+            (places-skip ws c.operands.j c.word_from-word.result c.word_from-word.ensures c.operands.places.items (bound_places 0 ws) c.operands.invariant.1 (sym c.bound.ensures ∙ r.if-bound.false))
       ],
     )
 
