@@ -3,6 +3,7 @@ ghost use Rattle.std.specs.Prelude.{◌≡◌, ◌⊎◌, ◌<◌, ◌≤◌, �
 ghost use Rattle.mz_layout.specs.Layout.{Layout};
 ghost use Rattle.mz_spec.specs.Spec.{SpecMakes};
 ghost use Rattle.mz_match.specs.Drafts.{IsJudged, places_past};
+ghost use Rattle.mz_verdicts.specs.Headline.{Proves};
 ghost use Rattle.mz_verdicts.specs.Verdict.{AcceptsWith, AcceptsWithBy, FirstRefusal, FirstRefusalBy, IsSoundIfAccepted, IsVerdict, IsVerdictBy, Ticks, TicksBy};
 
 use crate::matching::Matching;
@@ -31,6 +32,7 @@ pub fn verify_bytes<L: Ledger>(
     ensures verdict { IsVerdict spec.now bin.now result }
     ensures accepted { (counts : Counts) → AcceptsWith spec.now bin.now counts → (result ≡ Verdict.Accepted counts) ⊎ (result ≡ Verdict.Mem) }
     ensures refused { (verdict : Verdict) → FirstRefusal spec.now bin.now verdict → (result ≡ verdict) ⊎ (result ≡ Verdict.Mem) }
+    ensures headline { (counts : Counts) → result ≡ Verdict.Accepted counts → Proves spec.now }
     ensures sound { IsSoundIfAccepted spec.now bin.now result }
     ensures steps { Ticks bin.now steps.old steps.new result }
     ensures bound { steps.new ≤ steps.old + (length bin.now * length bin.now + length bin.now) }

@@ -1,5 +1,6 @@
 pub mod Called
 mod Requests
+mod Promised
 mod Sizes
 mod StatedBodies
 mod StatedLists

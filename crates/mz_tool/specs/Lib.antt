@@ -4,6 +4,7 @@ pub mod Inputs
 pub mod Judging
 pub mod Outcomes
 pub mod Run
+pub mod Promise
 pub mod Specified
 pub mod Decompiled
 pub mod Asked

@@ -5,6 +5,7 @@ ghost use Rattle.mz_io.specs.Outside.{Rose, HasRoom, SameFiles, AppendsPrefix};
 ghost use Rattle.mz_tool.specs.Called.{IsRun, IsRunOf};
 ghost use Rattle.mz_wording.specs.Wording.{longest};
 ghost use Rattle.mz_tool.specs.Request.{Request, Asks, names_read, name_put, IsPut, SameButPut, AreReadable, AreThere, BeginsLonger, HasLong, HasLonger};
+ghost use Rattle.mz_tool.specs.Promise.{IsPromised};
 ghost use Rattle.mz_tool.specs.Run.{IsYes, IsNo, IsAnswer, IsListedFor, IsProved, IsQuiet, IsShow, MayPut};
 ghost use Rattle.mz_tool.specs.Asked.{request};
 
@@ -40,7 +41,11 @@ pub fn run<F: Folder, O: Sink>(
     ensures refused { F.told → result ≡ Status.Refused → (asked : Request) × Asks (map string_bytes words.now) asked
         × ((text : List ℕ) × IsNo (F.file folder.old) asked text × (O.told → O.written out.new ≡ O.written out.old ++ text)) }
 
-    // What is accepted is proved: each theorem of the specification ends a legal front of the binary's statements, and
+    // What is accepted is proved: this speaks of the specification alone, and rests on the logic and on what a
+    // specification declares, but on no definition of binaries.
+    ensures headline { F.told → (asked : Request) → Asks (map string_bytes words.now) asked → result ≡ Status.Done → IsPromised (F.file folder.old) asked }
+
+    // The same of the binary: each theorem of the specification ends a legal front of the binary's statements, and
     // rests on the specification's axioms before it alone. With `draft` this is so of what rests on no gap: it is
     // derived without gaps, and from no theorem that rests on one.
     ensures sound { F.told → (asked : Request) → Asks (map string_bytes words.now) asked → result ≡ Status.Done → IsProved (F.file folder.old) asked }

@@ -6,5 +6,6 @@ pub mod Spelled
 pub mod OneVerdict
 pub mod ProvingTheorems
 pub mod AcceptedSound
+pub mod Grounded
 pub mod SomeVerdict
 pub mod Offered

@@ -1,5 +1,5 @@
 -- What crates above may use of these proofs; all else is this crate's own, and may change.
-pub use Rattle.mz_verdicts.proofs.AcceptedSound.{accepted-sound}
+pub use Rattle.mz_verdicts.proofs.AcceptedSound.{accepted-proves, accepted-sound, sound-proves}
 pub use Rattle.mz_verdicts.proofs.Lists.{count-take, drop-entry, drop-further, drop-past, kinds-total, leaves-local, leaves-nothing, leaves-public, length-declarations, length-env, partner-there, publics-append, publics-local, publics-public, term_rows-append}
 pub use Rattle.mz_verdicts.proofs.OneVerdict.{accepted-excludes, counts-one, excludes, refusal-one, refusal-says, verdict-says}
 pub use Rattle.mz_verdicts.proofs.OwnBodies.{own_pairs, paired-own, pairs-own}

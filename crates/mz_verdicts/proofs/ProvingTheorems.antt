@@ -1,5 +1,5 @@
 -- Where a legal list of statements agrees with the declarations, each theorem among these is proved by it.
-use Rattle.std.proofs.Common.{◌≡◌, ◌∙◌, ℕ, zero, suc, Bool, true, false, List, [], ◌∷◌, ◌++◌, take, Some, refl, sym, ap, subst, append_assoc}
+use Rattle.std.proofs.Common.{◌≡◌, ◌∙◌, ℕ, zero, suc, Bool, true, false, List, [], ◌∷◌, ◌++◌, take, Some, refl, sym, ap, ap₂, subst, append_assoc}
 use Rattle.std.specs.Prelude.{if◌then◌else◌, slice_get}
 use Rattle.std.proofs.lemmas.List.{append-nil}
 use Rattle.mz_checks.specs.Checks.{AllHold}
@@ -9,7 +9,8 @@ use Rattle.mz_logic.specs.LegalLists.{Statement, gap_free, MayBeLocal, LegalAfte
 use Rattle.mz_logic.proofs.Offered.{legal_at, legal_list_is_closed}
 use Rattle.mz_verdicts.specs.declared.kind.Kind.TheVariants as kinds
 use Rattle.mz_verdicts.specs.Match.{Partner, partner_of, publics_after, publics, kind_of, kind_of_form, match_checks, Agrees}
-use Rattle.mz_verdicts.specs.Proved.{AxiomsAreDeclared, TheoremsAreProved}
+use Rattle.mz_verdicts.specs.Headline.{AxiomsAreDeclared, stated}
+use Rattle.mz_verdicts.specs.Proved.{TheoremsAreProved}
 use Rattle.mz_verdicts.proofs.Lists.{publics-append, publics-public}
 
 -- ---- fronts
@@ -134,19 +135,18 @@ theorems-proved ds ss legal agrees i a at theorem =
     let (before, last, after, front, holds, fewer, more) = found [] ss ds i (assertion_decl a) agrees at in
     let kind : kinds.Theorem ≡ kind_of last.decl = ap (λ (b : Bool). if b then kinds.Axiom else kinds.Theorem) (sym theorem) ∙ holds.1.0 in
     let (proved, says, is_theorem) = theorem-of-kind last.decl kind in
+    let is : last ≡ stated proved = ap₂ (λ (l : Bool) (d : Declaration). record { is_local = l; decl = d }) holds.0 says in
     let whole : Legal (before ++ last ∷ after) = subst Legal front legal in
     record {
-      before = before;
-      last = last;
-      after = after;
-      proved = proved;
-      front = front;
-      last_is = says;
-      is_public = holds.0;
-      is_theorem = is_theorem;
-      same = holds.1;
-      legal = legal-front gap_free [] (before ++ last ∷ []) after (subst Legal (sym (append_assoc before (last ∷ []) after)) whole);
-      agrees = more;
-      axioms = axioms-declared (take i ds) before (legal-front gap_free [] before (last ∷ after) whole) fewer;
-      closed = legal_list_is_closed ss legal before after last proved front says is_theorem;
+      follows = record {
+        before = before;
+        proved = proved;
+        after = after;
+        among = subst (λ (s : Statement). ss ≡ before ++ s ∷ after) is front;
+        same = subst (λ (s : Statement). AllHold (match_checks (assertion_decl a) (partner_of before s))) is holds.1;
+        axioms = axioms-declared (take i ds) before (legal-front gap_free [] before (last ∷ after) whole) fewer;
+        closed = legal_list_is_closed ss legal before after last proved front says is_theorem;
+      };
+      legal = subst (λ (s : Statement). Legal (before ++ s ∷ [])) is (legal-front gap_free [] (before ++ last ∷ []) after (subst Legal (sym (append_assoc before (last ∷ []) after)) whole));
+      agrees = subst (λ (s : Statement). Agrees (take (suc i) ds) (publics (before ++ s ∷ []))) is more;
     }

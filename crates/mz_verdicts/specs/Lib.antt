@@ -1,6 +1,7 @@
 pub mod Trees
 pub mod Comparing
 pub mod Match
+pub mod Headline
 pub mod Proved
 pub mod Lines
 pub mod Verdict

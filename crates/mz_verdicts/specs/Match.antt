@@ -1,5 +1,5 @@
--- The match: the declarations of a specification beside the public statements of a binary, in order (mm0.md: a proof
--- file declares what its specification does, in its order, and may have more of its own; the order of rules is this
+-- The match: the declarations of a specification beside the public ones of a list of statements, in order (mm0.md: what
+-- proves a specification declares what it does, in its order, and may have more of its own; the order of rules is this
 -- project's own).
 use Rattle.std.specs.Prelude.{◌≡◌, ◌+◌, ◌++◌, ⊤, ℕ, List, [], ◌∷◌, length, Bool, true, false, ◌==◌, if◌then◌else◌}
 use Rattle.mz_checks.specs.Checks.{Checks, nothing, demand, ◌>>◌, AllHold}
@@ -73,7 +73,7 @@ is_kind k l = number_of k == number_of l
 abbrev pub signature_checks : Signature → Signature → Checks M
 signature_checks d e = demand rules.Binders (d.params ≡ e.params) >> demand rules.Result (d.result ≡ e.result)
 
--- where the specification gives a body, the binary has one, the same after n parameters up to the names of dummies
+-- where the specification gives a body, the partner has one, the same after n parameters up to the names of dummies
 abbrev pub form_checks : List ℕ → ℕ → Form → Form → Checks M
 form_checks rows n (defined ds body) (defined es other) = demand rules.Body (SameBody rows n ds es body other)
 form_checks rows n (defined ds body) g = demand rules.Body ⊥

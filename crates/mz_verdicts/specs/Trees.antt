@@ -1,5 +1,5 @@
--- When an expression of a specification and one of a binary are the same: the specification numbers the public terms
--- alone, the binary all of them (mm0.md, section on definitions; the numbering follows from the .mmb format).
+-- When an expression of a specification and one of a list of statements are the same: the specification numbers the public
+-- terms alone, the list all of them (mm0.md, section on definitions; that terms go by numbers is the .mmb format's).
 use Rattle.std.specs.Prelude.{◌≡◌, ◌<◌, ◌+◌, ◌⊎◌, ⊤, ℕ, List, Option, Some, slice_get}
 use Rattle.mz_logic.specs.Tree.{Tree, Trees, var, app, none, more}
 use Rattle.mz_logic.specs.declared.binder.Binder.{Binder}

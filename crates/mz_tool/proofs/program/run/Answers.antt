@@ -3,7 +3,9 @@ use Rattle.std.specs.Prelude.{map, string_bytes}
 use Rattle.mz_tool.specs.Request.{Request, SameButPut, name_put}
 use Rattle.mz_tool.specs.Asked.{request}
 use Rattle.mz_tool.specs.Run.{IsYes, IsNo, IsProved}
+use Rattle.mz_tool.specs.Promise.{IsPromised}
 use Rattle.mz_tool.proofs.Requests.{one-request}
+use Rattle.mz_tool.proofs.Promised.{promised}
 use Rattle.mz_tool.proofs.program.run.Goals as goal
 
 pub returns-in-Some-clause-done : goal.returns-in-Some-clause-done
@@ -52,6 +54,12 @@ pub returns-in-Some-clause-sound : goal.returns-in-Some-clause-sound
 returns-in-Some-clause-sound g c = λ told asked asks done.
     let P : Request → Type 0 = λ r. IsProved (g.F.Folder.file c.args.folder.now) r in
     subst P (one-request (map string_bytes c.args.words.now) (request c.in-Some.command) asked c.in-Some.ensures.asked asks) (c.answer.ensures.sound told done)
+
+pub returns-in-Some-clause-headline : goal.returns-in-Some-clause-headline
+returns-in-Some-clause-headline g c = λ told asked asks done.
+    let P : Request → Type 0 = λ r. IsPromised (g.F.Folder.file c.args.folder.now) r in
+    subst P (one-request (map string_bytes c.args.words.now) (request c.in-Some.command) asked c.in-Some.ensures.asked asks)
+    (promised (g.F.Folder.file c.args.folder.now) (request c.in-Some.command) (c.answer.ensures.sound told done))
 
 pub returns-in-None-clause-only_usage : goal.returns-in-None-clause-only_usage
 returns-in-None-clause-only_usage g c = λ none. refl
