@@ -18,10 +18,13 @@ use Rattle.mz_bodies.specs.declared.task.Task.{Task as Coded}
 use Rattle.mz_bodies.specs.Stages.{HasDummiesBehind, Begins}
 use Rattle.mz_bodies.proofs.Building.{nothing_built, none_of}
 use Rattle.mz_bodies.proofs.Using.{using_begun}
+use Rattle.mz_bodies.proofs.Heaps.{kept_at_first}
+use Rattle.mz_bodies.specs.Writing.{variables_below, at_first}
+use Rattle.mz_bodies.specs.Writers.{IsKept}
 use Rattle.mz_shared.proofs.Offered.{grows_self, variable_id}
 use Rattle.mz_steps.proofs.Offered.{has-place as meets, own-below, own-item-at}
 
-heap_long : (j : ℕ) (ps : List Binder) → length (map expr (variables_from j ps)) ≡ length ps
+pub heap_long : (j : ℕ) (ps : List Binder) → length (map expr (variables_from j ps)) ≡ length ps
 heap_long j [] = refl
 heap_long j (p ∷ ps) = ap suc (heap_long (suc j) ps)
 
@@ -77,6 +80,11 @@ module _ (env : List Declaration) (o : Job) (s : Sharing) (vars : List Id) (plac
     fresh = (tt, λ j one. absurd (none_of j one));
     uses = λ u. using_begun u (o.uses u) (begins.4 u);
     short = omega arith;
+    writing = record {
+      here = at_first o.params;
+      kept = subst (λ (m : ℕ). IsKept s places n [] [] (record { heap = variables_below m; lets = 0 })) (sym many) (kept_at_first s places n variable_held where_is all);
+      comes = sym begins.5;
+    };
   }
 
   pub begun_as : (len : ℕ) (hps : List ℕ) (cells : List Cell) (ts : List Coded) (bs : List ℕ) → len ≡ n → hps ≡ [] → cells ≡ [] → ts ≡ [] → bs ≡ []

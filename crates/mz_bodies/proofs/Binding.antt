@@ -26,6 +26,8 @@ use Rattle.mz_bodies.specs.Making.{IsFresh}
 use Rattle.mz_bodies.proofs.Shortening.{outside_new, clear_opened, waits_opened, begun_there}
 use Rattle.mz_bodies.proofs.Using.{part_uses_more, comes_opened}
 use Rattle.mz_bodies.proofs.Standing.{proving}
+use Rattle.mz_bodies.proofs.Heaps.{none_or_some}
+use Rattle.mz_bodies.proofs.Writers.{writing_opened}
 use Rattle.mz_bodies.proofs.Moves.{claims_more, part_more, outer_claims_more, claim_more, owes_opened, left_opened}
 
 place_within : (cs : List Cell) (c p : ℕ) → place_at cs c ≡ Some p → c < length cs
@@ -52,12 +54,12 @@ module _ (env : List Declaration) (o : Job) (s : Sharing) (vars : List Id) (plac
 
   new_claims : in_sight (claims env o.hyps (parts cells ++ record { proof = p; outer = chain } ∷ [])) (Some n)
       ≡ in_sight (claims env o.hyps (parts cells)) chain ++ proved env o.hyps (in_sight (claims env o.hyps (parts cells)) chain) p ∷ []
-  new_claims = sight_new Tree (proved env o.hyps) (parts cells) (record { proof = p; outer = chain }) n n-parts
+  new_claims = sight_new Tree (λ n. proved env o.hyps) (parts cells) (record { proof = p; outer = chain }) n n-parts
 
   pub bind_cost : left env s (parts cells') ts' < cost env (in_sight (let_costs env (parts cells)) chain) (by_let p q) + left env s (parts cells) us
   bind_cost =
       let a = ap (left env s (parts cells')) ts-is ∙ ap (λ (z : List Part). left env s z (prove q (Some n) ∷ us)) parts-are in
-      let b = ap (λ (L : List ℕ). cost env L q) (sight_new ℕ (cost env) (parts cells) (record { proof = p; outer = chain }) n n-parts) in
+      let b = ap (λ (L : List ℕ). cost env L q) (sight_new ℕ (λ n. cost env) (parts cells) (record { proof = p; outer = chain }) n n-parts) in
       let d = left_opened o.gaps env s.context o.hyps s (parts cells) (record { proof = p; outer = chain }) outers us g.owes.0 o.goal g.owes.2 in
       omega (arith, a, b, d)
 
@@ -83,6 +85,12 @@ module _ (env : List Declaration) (o : Job) (s : Sharing) (vars : List Id) (plac
           (sym (part_more o.gaps env s.context o.hyps s (parts cells) (record { proof = p; outer = chain }) outers c lt'))
           (subst (λ (L : List Tree). IsSound o.gaps env s.context o.hyps L (part_at (parts cells) c).proof)
           (sym (outer_claims_more o.gaps env s.context o.hyps s (parts cells) (record { proof = p; outer = chain }) outers c lt')) (g.lets.sound c (omega (arith, l, lt')))))
+    ]
+
+    places_same : (c : ℕ) → place_at cells' c ≡ place_at cells c
+    places_same c = elim (none_or_some (place_at cells' c)) [
+      | inl none ↦ elim (none_or_some (place_at cells c)) [ inl none' ↦ none ∙ sym none' | inr (r, at) ↦ kept c (place_within cells c r at) ]
+      | inr (r, at) ↦ at ∙ sym (placed c r at)
     ]
 
     pub bind_done : IsGoing env o s vars places len hps cells' ts' bs
@@ -116,7 +124,7 @@ module _ (env : List Declaration) (o : Job) (s : Sharing) (vars : List Id) (plac
             (subst (ComesTo u (o.uses u) (parts cells ++ record { proof = p; outer = chain } ∷ []) (commands_use u g.commands)) (sym ts-is) (
               tt,
               subst (λ (L : List Bool). ComesTo u (o.uses u) (parts cells ++ record { proof = p; outer = chain } ∷ []) (uses u L q || commands_use u g.commands) us)
-                  (sym (sight_new Bool (uses u) (parts cells) (record { proof = p; outer = chain }) n n-parts))
+                  (sym (sight_new Bool (λ n. uses u) (parts cells) (record { proof = p; outer = chain }) n n-parts))
                   (comes_opened u (parts cells) (record { proof = p; outer = chain }) outers o.gaps env s.context o.hyps s (o.uses u)
                   (task_uses u (parts cells) (prove (by_let p q) chain) || commands_use u g.commands) us g.owes.0 o.goal g.owes.2 (g.uses u).comes.1),
             ));
@@ -125,6 +133,7 @@ module _ (env : List Declaration) (o : Job) (s : Sharing) (vars : List Id) (plac
           let a = waits_opened env (begun us) (place_at cells) (place_at cells') (parts cells) (record { proof = p; outer = chain }) (λ k lt. kept k (omega (arith, l, lt))) in
           let b = ap (waits env (begun us) (place_at cells') 0) parts-are in
           let c = ap (λ (z : List Task). still env s cells' z) ts-is in omega (arith, h, a, b, c));
+      writing = writing_opened o.gaps env o.hyps s places len hps cells cells' p q chain n us ts' g.commands o.whole g.owes.0 o.goal g.owes.2 parts-are many n-is n-parts ts-is places_same g.writing;
       may_do = inl (proving o (prove (by_let p q) chain) us (λ h. h) g.may_do);
       owes = subst (λ (z : List Part). Owes o.gaps env s.context o.hyps s z g.work.stack ts' o.goal) (sym parts-are)
           (subst (λ (ts : List Task). Owes o.gaps env s.context o.hyps s (parts cells ++ record { proof = p; outer = chain } ∷ []) g.work.stack ts o.goal) (sym ts-is) (

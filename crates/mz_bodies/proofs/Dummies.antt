@@ -15,7 +15,7 @@ use Rattle.mz_unification.specs.Profile.{Item, expr}
 use Rattle.mz_unification.specs.Spells.{dummy_of}
 use Rattle.mz_steps.specs.Works.{Work}
 use Rattle.mz_steps.specs.Steps.{Step, command_bytes}
-use Rattle.std.proofs.lemmas.Option.{slice_get_within}
+use Rattle.std.proofs.lemmas.Option.{get_or_from_slice_get, slice_get_within}
 use Rattle.mz_shared.specs.Places.{place_of}
 use Rattle.mz_shared.proofs.Offered.{is_var, variable_id}
 use Rattle.mz_bodies.specs.Owes.{Task, push, Owes}
@@ -28,6 +28,9 @@ use Rattle.mz_bodies.proofs.Shortening.{command_short}
 use Rattle.mz_bodies.proofs.Using.{using_last}
 use Rattle.mz_bodies.proofs.Standing.{may_last, may_rest}
 use Rattle.mz_bodies.proofs.Moves.{more_written, size_some}
+use Rattle.mz_bodies.specs.Writing.{expression}
+use Rattle.mz_bodies.proofs.Heaps.{expr_kept}
+use Rattle.mz_bodies.proofs.Writers.{writing_on, dummy_written}
 
 pub get_one : (vars : List Id) (x : ℕ) (a b : Id) → slice_get vars x ≡ Some a → slice_get vars x ≡ Some b → a ≡ b
 get_one vars x a b p q = ap (λ (z : Option Id). from z) (sym p ∙ q)
@@ -88,6 +91,9 @@ module _ (env : List Declaration) (o : Job) (s : Sharing) (vars : List Id) (plac
         fresh = (g.fresh.0.1, put_new s places places' i len at others us g.fresh.0.0 g.fresh.1);
         uses = λ u. using_last u (o.uses u) cells g.commands code.Dummy sort (push i ∷ us) us (g.uses u).comes.1 (g.uses u);
         short = (let h = g.short in let a = ap length is ∙ length-append bs (command_bytes (code.Dummy, sort)) in let b = command_short code.Dummy sort in let c = size_some (tree_of s i) in omega (arith, h, a, b, c));
+        writing = writing_on env s places len hps cells g.commands o.whole (push i ∷ us) g.writing places' len' hps cells us code.Dummy sort (record { heap = expression e ∷ g.writing.here.heap; lets = g.writing.here.lets })
+            (expr_kept s places len hps cells g.writing.here g.writing.kept i len' places' once g.owes.1.0 at others len-is)
+            (dummy_written env s places len hps cells g.writing.here g.writing.kept us once i g.owes.1.0 fresh x sort v.1 (ap (λ (c : Binder). c.sort) (get_or_from_slice_get s.context x h.0 _ h.1) ∙ h.2));
         owes = subst (λ (z : List (Item Tree)). Owes o.gaps env s.context o.hyps s (parts cells) z us o.goal) g.owes.1.1 g.owes.2;
       }
     where

@@ -30,7 +30,9 @@ use Rattle.mz_bodies.specs.Weights.{proof_weight}
 use Rattle.mz_bodies.proofs.Shortening.{command_one}
 use Rattle.mz_bodies.specs.Uses.{Use, uses, commands_use, IsBodyUsing}
 use Rattle.mz_bodies.specs.Using.{ComesTo}
-use Rattle.mz_bodies.specs.Stages.{job, Begins, Rests, leaving, to_use, spending, assuming, Assumes, AssumesAll}
+use Rattle.mz_bodies.specs.Stages.{job, Begins, Rests, leaving, to_use, spending, writing_too, assuming, with_hyps, Assumes, AssumesAll}
+use Rattle.mz_bodies.specs.Writing.{hypothesis, Writing, Written, Writer, and_then, nothing, keeping, write_expr, write_proof, write_hyp, write_hyps}
+use Rattle.mz_bodies.specs.Writers.{write_tasks, behind, IsWriting}
 use Rattle.mz_bodies.specs.declared.body.Before.{Before}
 use Rattle.mz_bodies.specs.declared.body.Body.{Body}
 use Rattle.mz_bodies.specs.declared.cells.Cell.{Cell}
@@ -42,6 +44,8 @@ use Rattle.mz_bodies.proofs.Saving.{places_kept}
 use Rattle.mz_bodies.proofs.Standing.{may_last}
 use Rattle.mz_bodies.proofs.Using.{using_last}
 use Rattle.mz_bodies.proofs.Moves.{more_written, size_some}
+use Rattle.mz_bodies.proofs.Heaps.{then_nothing, and_nothing, and_assoc, hyp_kept}
+use Rattle.mz_bodies.proofs.Writers.{writing_ended, writing_more, writing_put, hyps_next}
 
 -- ---- lists
 
@@ -61,11 +65,11 @@ take_whole A (x ∷ xs) (suc k) is = ap (λ (zs : List A). x ∷ zs) (take_whole
 
 module _ (env : List Declaration) (o : Job) (s : Sharing) (vars : List Id) (places : List (Option ℕ)) (len : ℕ) (hps : List ℕ) (cells : List Cell) where
   -- other tasks, which lead to another stack
-  aimed : (x : Item Tree) (n : ℕ) (f : Use → Bool) (ts us : List Task) (bs : List ℕ) (g : IsGoing env o s vars places len hps cells ts bs)
-      → MayDo o us → Owes o.gaps env s.context o.hyps s (parts cells) g.work.stack us (x ∷ []) → IsClear (parts cells) us → IsFresh s places us
+  aimed : (x : Item Tree) (n : ℕ) (f : Use → Bool) (r : Writer) (ts us : List Task) (bs : List ℕ) (g : IsGoing env o s vars places len hps cells ts bs)
+      → ts ≡ [] → MayDo o us → Owes o.gaps env s.context o.hyps s (parts cells) g.work.stack us (x ∷ []) → IsClear (parts cells) us → IsFresh s places us
       → ((u : Use) → ComesTo u (f u) (parts cells) (commands_use u g.commands) us) → still env s cells us ≤ still env s cells ts + n
-      → IsGoing env (to_use (leaving o x n) f) s vars places len hps cells us bs
-  aimed x n f ts us bs g may owes clear fresh comes within = record {
+      → ((w : Writing) → write_tasks env s.context s (parts cells) us w ≡ r w) → IsGoing env (writing_too (to_use (leaving o x n) f) r) s vars places len hps cells us bs
+  aimed x n f r ts us bs g ts-is may owes clear fresh comes within writes = record {
     commands = g.commands;
     work = g.work;
     has_built = g.has_built;
@@ -84,6 +88,7 @@ module _ (env : List Declaration) (o : Job) (s : Sharing) (vars : List Id) (plac
     fresh = fresh;
     uses = λ u. record { placed = (g.uses u).placed; comes = comes u };
     short = (let h = g.short in omega (arith, h, within));
+    writing = writing_more env s places len hps cells g.commands o.whole ts ts-is g.writing us r writes;
   }
 
   empty : (ts : List Task) (bs : List ℕ) (g : IsGoing env o s vars places len hps cells ts bs) → ts ≡ [] → o.goal ≡ [] → g.work.stack ≡ []
@@ -93,32 +98,40 @@ module _ (env : List Declaration) (o : Job) (s : Sharing) (vars : List Id) (plac
   so_far ts bs g u is = subst (ComesTo u (o.uses u) (parts cells) (commands_use u g.commands)) is (g.uses u).comes
 
   pub expr_owed : (i : ℕ) (ts ts' : List Task) (bs : List ℕ) → ts ≡ [] → ts' ≡ push i ∷ ts → o.goal ≡ [] → IsIn o.store i
-      → IsGoing env o s vars places len hps cells ts bs → IsGoing env (leaving o (expr (tree_of o.store i)) (5 * size (tree_of o.store i))) s vars places len hps cells ts' bs
+      → IsGoing env o s vars places len hps cells ts bs
+      → IsGoing env (writing_too (leaving o (expr (tree_of o.store i)) (5 * size (tree_of o.store i))) (write_expr o.store.context (tree_of o.store i))) s vars places len hps cells ts' bs
   expr_owed i ts ts' bs ts-is is goal-is inside g =
-      subst (λ (us : List Task). IsGoing env (leaving o (expr (tree_of o.store i)) (5 * size (tree_of o.store i))) s vars places len hps cells us bs) (sym (is ∙ ap (λ (us : List Task). push i ∷ us) ts-is))
-      (aimed (expr (tree_of o.store i)) (5 * size (tree_of o.store i)) o.uses ts (push i ∷ []) bs g (inr (tt, tt)) (
+      subst (λ (us : List Task). IsGoing env (writing_too (leaving o (expr (tree_of o.store i)) (5 * size (tree_of o.store i))) (write_expr o.store.context (tree_of o.store i))) s vars places len hps cells us bs)
+      (sym (is ∙ ap (λ (us : List Task). push i ∷ us) ts-is))
+      (aimed (expr (tree_of o.store i)) (5 * size (tree_of o.store i)) o.uses (write_expr o.store.context (tree_of o.store i)) ts (push i ∷ []) bs g ts-is (inr (tt, tt)) (
         expr (tree_of s i) ∷ g.work.stack,
         (in_grown o.store s g.grew i inside, refl),
         ap (λ (e : Tree). expr e ∷ g.work.stack) (tree_grown o.store s g.grew i inside) ∙ ap (λ (xs : List (Item Tree)). expr (tree_of o.store i) ∷ xs) (empty ts bs g ts-is goal-is),
       )
-      ((λ c b no. no), tt) (((λ j one. absurd (none_of j one)), tt), λ j one. absurd (none_of j one)) (λ u. (tt, so_far ts bs g u ts-is)) (let a = ap size (tree_grown o.store s g.grew i inside) in let b = ap (still env s cells) ts-is in omega (arith, a, b)))
+      ((λ c b no. no), tt) (((λ j one. absurd (none_of j one)), tt), λ j one. absurd (none_of j one)) (λ u. (tt, so_far ts bs g u ts-is)) (let a = ap size (tree_grown o.store s g.grew i inside) in let b = ap (still env s cells) ts-is in omega (arith, a, b))
+      (λ w. then_nothing (write_expr s.context (tree_of s i)) w ∙ ap (λ (ctx : List Binder). write_expr ctx (tree_of s i) w) g.grew.0
+      ∙ ap (λ (e : Tree). write_expr o.store.context e w) (tree_grown o.store s g.grew i inside)))
 
   pub proof_owed : (p : Proof) (ts ts' : List Task) (bs : List ℕ) → ts ≡ [] → ts' ≡ prove p None ∷ ts → o.goal ≡ [] → MayProve o → IsSound o.gaps env o.store.context o.hyps [] p
-      → IsGoing env o s vars places len hps cells ts bs → IsGoing env (spending (leaving o (proof (proved env o.hyps [] p)) (6 * proof_weight env p)) p) s vars places len hps cells ts' bs
+      → IsGoing env o s vars places len hps cells ts bs
+      → IsGoing env (writing_too (spending (leaving o (proof (proved env o.hyps [] p)) (6 * proof_weight env p)) p) (write_proof env o.store.context [] p)) s vars places len hps cells ts' bs
   proof_owed p ts ts' bs ts-is is goal-is may sound g =
-      subst (λ (us : List Task). IsGoing env (spending (leaving o (proof (proved env o.hyps [] p)) (6 * proof_weight env p)) p) s vars places len hps cells us bs) (sym (is ∙ ap (λ (us : List Task). prove p None ∷ us) ts-is))
-      (aimed (proof (proved env o.hyps [] p)) (6 * proof_weight env p) (λ u. uses u [] p || o.uses u) ts (prove p None ∷ []) bs g (inl may) (
+      subst (λ (us : List Task). IsGoing env (writing_too (spending (leaving o (proof (proved env o.hyps [] p)) (6 * proof_weight env p)) p) (write_proof env o.store.context [] p)) s vars places len hps cells us bs)
+      (sym (is ∙ ap (λ (us : List Task). prove p None ∷ us) ts-is))
+      (aimed (proof (proved env o.hyps [] p)) (6 * proof_weight env p) (λ u. uses u [] p || o.uses u) (write_proof env o.store.context [] p) ts (prove p None ∷ []) bs g ts-is (inl may) (
         proof (proved env o.hyps [] p) ∷ g.work.stack,
         (tt, subst (λ (ctx : List Binder). IsSound o.gaps env ctx o.hyps [] p) (sym g.grew.0) sound, refl),
         ap (λ (xs : List (Item Tree)). proof (proved env o.hyps [] p) ∷ xs) (empty ts bs g ts-is goal-is),
       )
-      ((λ c b no. no), tt) ((none_of, tt), λ j one. absurd (none_of j one)) (λ u. (tt, ap (λ (b : Bool). uses u [] p || b) (so_far ts bs g u ts-is))) (let b = ap (still env s cells) ts-is in omega (arith, b)))
+      ((λ c b no. no), tt) ((none_of, tt), λ j one. absurd (none_of j one)) (λ u. (tt, ap (λ (b : Bool). uses u [] p || b) (so_far ts bs g u ts-is))) (let b = ap (still env s cells) ts-is in omega (arith, b))
+      (λ w. then_nothing (write_proof env s.context [] p) w ∙ ap (λ (ctx : List Binder). write_proof env ctx [] p w) g.grew.0))
 
   -- an expression that is left becomes a hypothesis
   pub hyp_assumed : (e : Tree) (places' : List (Option ℕ)) (len' : ℕ) (hps' : List ℕ) (ts : List Task) (bs bs' : List ℕ) → ts ≡ [] → stands_in (plain o.gaps) o.kind code.Hyp ≡ true
       → slice_get o.hyps o.count ≡ Some e → HasProvable env o.store.context e → o.goal ≡ []
       → places' ≡ places → len' ≡ len + 1 → hps' ≡ hps ++ len ∷ [] → bs' ≡ bs ++ command_bytes (code.Hyp, 0)
-      → IsGoing env (leaving o (expr e) (5 * size e)) s vars places len hps cells ts bs → IsGoing env (assuming o (o.count + 1) (6 * size e)) s vars places' len' hps' cells ts bs'
+      → IsGoing env (writing_too (leaving o (expr e) (5 * size e)) (write_expr o.store.context e)) s vars places len hps cells ts bs
+      → IsGoing env (writing_too (assuming o (o.count + 1) (6 * size e)) (write_hyp o.store.context o.count e)) s vars places' len' hps' cells ts bs'
   hyp_assumed e places' len' hps' ts bs bs' ts-is stand at provable goal-is places-are len-is hps-are is g =
       let stack-is : g.work.stack ≡ expr e ∷ [] = subst (λ (us : List Task). Owes o.gaps env s.context o.hyps s (parts cells) g.work.stack us (expr e ∷ [])) ts-is g.owes in
       let next : Work = record { met = g.work.met; heap = g.work.heap ++ proof e ∷ []; stack = []; hyps = g.work.hyps ++ e ∷ [] } in
@@ -129,7 +142,7 @@ module _ (env : List Declaration) (o : Job) (s : Sharing) (vars : List Id) (plac
         work = next;
         has_built = nothing_more o.gaps env o.params s places places' g.commands g.work next code.Hyp 0 (λ x h. subst (λ (z : List (Option ℕ)). HasPlace s z x) (sym places-are) h) refl step g.has_built refl;
         may_stand = may_last o.gaps o.kind g.commands code.Hyp 0 g.may_stand (stand, omega arith);
-        written = is ∙ more_written env (leaving o (expr e) (5 * size e)) s vars places len hps cells ts bs g code.Hyp 0;
+        written = is ∙ more_written env (writing_too (leaving o (expr e) (5 * size e)) (write_expr o.store.context e)) s vars places len hps cells ts bs g code.Hyp 0;
         assumed = (let k-is : suc o.count ≡ o.count + 1 = omega arith in
             ap (λ (es : List Tree). es ++ e ∷ []) g.assumed ∙ sym (take_next Tree o.hyps o.count e at) ∙ ap (λ (k : ℕ). take k o.hyps) k-is);
         counted = ap length hps-are ∙ length-append hps (len ∷ []) ∙ ap (λ (k : ℕ). k + 1) g.counted;
@@ -154,11 +167,15 @@ module _ (env : List Declaration) (o : Job) (s : Sharing) (vars : List Id) (plac
         fresh = subst (IsFresh s places') (sym ts-is) (tt, λ j one. absurd (none_of j one));
         uses = λ u. using_last u (o.uses u) cells g.commands code.Hyp 0 ts ts (g.uses u).comes (g.uses u);
         short = (let h = g.short in let a = ap length is ∙ length-append bs (command_bytes (code.Hyp, 0)) in let b = command_one code.Hyp in let c = size_some e in omega (arith, h, a, b, c));
+        writing = subst (λ (z : List (Option ℕ)). IsWriting env s z len' hps' cells ts (g.commands ++ (code.Hyp, 0) ∷ []) (and_then o.whole (write_hyp o.store.context o.count e))) (sym places-are)
+            (subst (IsWriting env s places len' hps' cells ts (g.commands ++ (code.Hyp, 0) ∷ [])) (and_assoc o.whole (write_expr o.store.context e) (keeping code.Hyp 0 (hypothesis o.count)))
+            (writing_put env s places len hps cells g.commands (and_then o.whole (write_expr o.store.context e)) ts ts-is g.writing places len' hps' code.Hyp 0 (hypothesis o.count)
+            (hyp_kept s places len hps cells g.writing.here g.writing.kept o.count len' hps' (sym g.counted) hps-are len-is)));
       }
 
 -- as many hypotheses, under another number
 module _ (env : List Declaration) (o : Job) (s : Sharing) (vars : List Id) (places : List (Option ℕ)) (len : ℕ) (hps : List ℕ) (cells : List Cell) where
-  pub recounted : (n : ℕ) (ts : List Task) (bs : List ℕ) → n ≡ o.count → IsGoing env o s vars places len hps cells ts bs → IsGoing env (assuming o n 0) s vars places len hps cells ts bs
+  pub recounted : (n : ℕ) (ts : List Task) (bs : List ℕ) → n ≡ o.count → IsGoing env o s vars places len hps cells ts bs → IsGoing env (writing_too (assuming o n 0) nothing) s vars places len hps cells ts bs
   recounted n ts bs is g = record {
     commands = g.commands;
     work = g.work;
@@ -178,6 +195,7 @@ module _ (env : List Declaration) (o : Job) (s : Sharing) (vars : List Id) (plac
     fresh = g.fresh;
     uses = g.uses;
     short = (let h = g.short in omega (arith, h));
+    writing = subst (IsWriting env s places len hps cells ts g.commands) (sym (and_nothing o.whole)) g.writing;
   }
 
 -- one more hypothesis, whose bytes are counted with those before it
@@ -190,16 +208,21 @@ sizes_next s is k d lt = (let e : suc k ≡ k + 1 = omega arith in ap (λ (n : �
     next (j ∷ js) (suc i) h = (let r = next js i (omega (arith, h)) in omega (arith, r))
 
 pub rests_next : (o : Job) (b : Body) (is : List Id) (k : ℕ) (d : Id) → k < length is
-    → Rests (assuming (assuming o k (6 * trees_size (trees_of o.store (take k is)))) (k + 1) (6 * size (tree_of o.store (get_or is k d).0))) b
-    → Rests (assuming o (k + 1) (6 * trees_size (trees_of o.store (take (k + 1) is)))) b
+    → Rests (writing_too (assuming (with_hyps o k (take k is)) (k + 1) (6 * size (tree_of o.store (get_or is k d).0))) (write_hyp o.store.context k (tree_of o.store (get_or is k d).0))) b
+    → Rests (with_hyps o (k + 1) (take (k + 1) is)) b
 rests_next o b is k d lt rests =
     let sum : (o.budget + 6 * trees_size (trees_of o.store (take k is))) + 6 * size (tree_of o.store (get_or is k d).0) ≡ o.budget + 6 * trees_size (trees_of o.store (take (k + 1) is)) =
     (let a = sizes_next o.store is k d lt in omega (arith, a)) in
-    subst (λ (n : ℕ). Rests (record o { count = k + 1; budget = n }) b) sum rests
+    let e : Tree = tree_of o.store (get_or is k d).0 in
+    let hyps : Writer = write_hyps o.store.context 0 (listed (trees_of o.store (take k is))) in
+    let all : Writer = write_hyps o.store.context 0 (listed (trees_of o.store (take (k + 1) is))) in
+    let one : Writer = write_hyp o.store.context k e in
+    let whole : and_then (and_then o.whole hyps) one ≡ and_then o.whole all = and_assoc o.whole hyps one ∙ ap (behind o.whole.commands) (sym (hyps_next o.store.context o.store d is k o.whole.after lt)) in
+    subst (λ (r : Written). Rests (record o { count = k + 1; budget = o.budget + 6 * trees_size (trees_of o.store (take (k + 1) is)); whole = r }) b) whole
+    (subst (λ (n : ℕ). Rests (record o { count = k + 1; budget = n; whole = and_then (and_then o.whole hyps) one }) b) sum rests)
 
-pub rests_all : (o : Job) (b : Body) (is : List Id) (k : ℕ) → k ≡ length is → Rests (assuming o k (6 * trees_size (trees_of o.store (take k is)))) b → Rests (assuming o (length is) (6 * trees_size (trees_of o.store is))) b
-rests_all o b is k k-is rests = subst (λ (n : ℕ). Rests (assuming o n (6 * trees_size (trees_of o.store is))) b) k-is
-    (subst (λ (js : List Id). Rests (assuming o k (6 * trees_size (trees_of o.store js))) b) (take_whole Id is k k-is) rests)
+pub rests_all : (o : Job) (b : Body) (is : List Id) (k : ℕ) → k ≡ length is → Rests (with_hyps o k (take k is)) b → Rests (with_hyps o (length is) is) b
+rests_all o b is k k-is rests = subst (λ (n : ℕ). Rests (with_hyps o n is) b) k-is (subst (λ (js : List Id). Rests (with_hyps o k js) b) (take_whole Id is k k-is) rests)
 
 in_at : (s : Sharing) (is : List Id) (k : ℕ) (d : Id) → AreIn s is → k < length is → IsIn s (get_or is k d).0
 in_at s [] k d inside lt = absurd (omega (arith, lt))
@@ -215,8 +238,8 @@ pub provable_as : (b b' : Before) (ctx : List Binder) (e : Tree) → b' ≡ b �
 provable_as b b' ctx e is h = subst (λ (z : Before). HasProvable z.env.now ctx e) (sym is) h
 
 -- the next of the hypotheses
-pub next_hyp : (o : Job) (b b' : Body) (is : List Id) (k n : ℕ) (d : Id) → b'.before ≡ b.before → AssumesAll o b is → k < length is → Rests (assuming o k n) b' → Assumes (assuming o k n) b' (get_or is k d).0
-next_hyp o b b' is k n d same all lt rests =
+pub next_hyp : (o : Job) (b b' : Body) (is js : List Id) (k : ℕ) (d : Id) → b'.before ≡ b.before → AssumesAll o b is → k < length is → Rests (with_hyps o k js) b' → Assumes (with_hyps o k js) b' (get_or is k d).0
+next_hyp o b b' is js k d same all lt rests =
     let at : slice_get o.hyps k ≡ Some (tree_of o.store (get_or is k d).0) = ap (λ (es : List Tree). slice_get es k) all.trees ∙ tree_at o.store is k d lt in
     ((rests, in_at o.store is k d all.inside lt), all.stand, at, provable_as b.before b'.before o.store.context (tree_of o.store (get_or is k d).0) same (all.provable k (tree_of o.store (get_or is k d).0) at))
 
@@ -251,6 +274,11 @@ module _ (env : List Declaration) (o : Job) (s : Sharing) (vars : List Id) (plac
         λ u. subst (ComesTo u (o.uses u) (parts cells) (commands_use u g.commands)) ts-is (g.uses u).comes,
       )
 
+  -- it is what was to be written
+  pub ended_written : (ts : List Task) (bs bs' : List ℕ) → ts ≡ [] → bs' ≡ bs ++ 0 ∷ [] → IsGoing env o s vars places len hps cells ts bs → bs' ≡ spelled_body o.whole.commands
+  ended_written ts bs bs' ts-is is g =
+      is ∙ ap (λ (z : List ℕ). z ++ 0 ∷ []) (g.written ∙ ap spelled (writing_ended env s places len hps cells g.commands o.whole ts ts-is g.writing)) ∙ sym (spelled_end o.whole.commands)
+
   -- and it isn't longer than it may be
   pub ended_short : (ts : List Task) (bs bs' : List ℕ) → bs' ≡ bs ++ 0 ∷ [] → IsGoing env o s vars places len hps cells ts bs → length bs' ≤ o.budget + 1
   ended_short ts bs bs' is g = (let h = g.short in let a = ap length is ∙ length-append bs (0 ∷ []) in omega (arith, h, a))
@@ -267,7 +295,7 @@ uses_as gaps env kind ps ds e hyps bs f f' same h = (h.0, λ u. h.1 u ∙ same u
 
 -- over the first of the variables
 pub first_begins : (gaps : Bool) (kind : Kind) (s : Sharing) (hyps : List Tree) (n : ℕ) → n ≤ length s.context → Begins (job gaps kind (take n s.context) s hyps) s n
-first_begins gaps kind s hyps n le = (take_long Binder s.context n le, refl, refl, refl, λ u. refl)
+first_begins gaps kind s hyps n le = (take_long Binder s.context n le, refl, refl, refl, (λ u. refl), refl)
 
 pub body_as : (gaps : Bool) (b b' : Before) (kind : Kind) (ps ds : List Binder) (e : Tree) (hyps : List Tree) (bs : List ℕ) (f : Use → Bool) → b' ≡ b
     → IsBodyUsing gaps b'.env.now kind ps ds e hyps bs f → IsBodyUsing gaps b.env.now kind ps ds e hyps bs f

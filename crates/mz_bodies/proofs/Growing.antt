@@ -37,6 +37,10 @@ use Rattle.mz_bodies.specs.Lengths.{waits}
 use Rattle.mz_bodies.specs.Sight.{place_at}
 use Rattle.mz_bodies.proofs.Shortening.{command_short, command_one, bytes_grown, pushes_bytes, pushes_begun, pushes_clear}
 use Rattle.mz_bodies.proofs.Standing.{proving}
+use Rattle.mz_bodies.specs.Writing.{◌>>◌, command, write_expr, write_exprs, write_payment}
+use Rattle.mz_bodies.specs.Writers.{write_task, write_tasks}
+use Rattle.mz_bodies.proofs.Heaps.{then_assoc}
+use Rattle.mz_bodies.proofs.Writers.{then_assoc3, then_assoc4, writing_grown, operands_written}
 use Rattle.mz_bodies.proofs.Moves.{owes_grown, left_grown, pushes_owe, pushes_cost, at_last, replaced}
 
 pub many_ids : (s : Sharing) (is : List Id) → length is ≡ length (listed (trees_of s is))
@@ -69,6 +73,7 @@ module _ (env : List Declaration) (o : Job) (s s' : Sharing) (gr : Grows s s') (
     fresh = (rising_grown o.gaps env s.context o.hyps s s' gr (parts cells) ts g.work.stack o.goal g.owes g.fresh.0, g.fresh.1);
     uses = g.uses;
     short = (let a = bytes_grown o.gaps env s.context o.hyps s s' gr (parts cells) ts g.work.stack o.goal g.owes in let h = g.short in omega (arith, a, h));
+    writing = writing_grown o.gaps env o.hyps s s' gr places len hps cells ts g.commands o.whole g.work.stack o.goal g.owes g.writing;
     owes = subst (λ (ctx : List Binder). Owes o.gaps env ctx o.hyps s' (parts cells) g.work.stack ts o.goal) (sym gr.0)
         (owes_grown o.gaps env s.context o.hyps s s' gr (parts cells) ts g.work.stack o.goal g.owes);
   }
@@ -77,7 +82,7 @@ module _ (env : List Declaration) (o : Job) (s s' : Sharing) (gr : Grows s s') (
   rest_cost t us bs g = left_grown o.gaps env s.context o.hyps s s' gr (parts cells) us g.owes.0 o.goal g.owes.2
 
 -- the command of a citation
-thm_step : (gaps : Bool) (env : List Declaration) (ctx : List Binder) (T : ℕ) (es : Trees) (hs : List Tree) (rest items : List (Item Tree)) (e : Tree) → IsCitable env ctx T es hs
+pub thm_step : (gaps : Bool) (env : List Declaration) (ctx : List Binder) (T : ℕ) (es : Trees) (hs : List Tree) (rest items : List (Item Tree)) (e : Tree) → IsCitable env ctx T es hs
     → e ≡ instance es (conclusion_of env T) → items ≡ map proof (reverse hs) ++ rest → (w : Work) → w.stack ≡ expr e ∷ above (listed es) items → Step gaps env ctx w code.Thm T (stacked w (proof e ∷ rest))
 thm_step gaps env ctx T es hs rest items e (a, at, fits, apart, hs-is, reach, sorted) e-is items-is w w-is =
     let back = trees_of-listed es in
@@ -121,7 +126,9 @@ module _ (env : List Declaration) (o : Job) (s s' : Sharing) (gr : Grows s s') (
       (pushes_fresh s' places is (push i ∷ give code.Thm T ∷ us) (λ j one. absurd (g.fresh.0.0 j one)) (((λ j one. absurd (g.fresh.0.0 j one)), (g.fresh.0.0, g.fresh.0.1)), g.fresh.1))
       (λ u. pushes_come u (o.uses u) (parts cells) (commands_use u g.commands) is (push i ∷ give code.Thm T ∷ us) (tt, (tt, (g.uses u).comes.1)))
       (let a = pushes_bytes env s' is (push i ∷ give code.Thm T ∷ us) in let b = ap trees_size trees in let c = ap size i-is in let d = command_short code.Thm T in
-      let f = ap (λ (cs : List ℕ). waits env cs (place_at cells) 0 (parts cells)) (pushes_begun is (push i ∷ give code.Thm T ∷ us)) in omega (arith, a, b, c, d, f)))
+      let f = ap (λ (cs : List ℕ). waits env cs (place_at cells) 0 (parts cells)) (pushes_begun is (push i ∷ give code.Thm T ∷ us)) in omega (arith, a, b, c, d, f))
+      (operands_written env s'.context s' (parts cells) es (instance es (conclusion_of env T)) is i (give code.Thm T ∷ us) g.writing.here trees i-is
+      ∙ sym (then_assoc3 (write_exprs s'.context es) (write_expr s'.context (instance es (conclusion_of env T))) (command code.Thm T) (write_tasks env s'.context s' (parts cells) us) g.writing.here)))
 
   pub cite_cost : (T : ℕ) (es : Trees) (is : List Id) (i : ℕ) (us ts' : List Task) (bs : List ℕ) → trees_of s' is ≡ es
       → tree_of s' i ≡ instance es (conclusion_of env T) → ts' ≡ pushes is ++ push i ∷ give code.Thm T ∷ us
@@ -171,7 +178,10 @@ module _ (env : List Declaration) (o : Job) (s s' : Sharing) (gr : Grows s s') (
           ),
         ),
       ))
-      (let a = ap size i-is in let b = command_one code.Conv in omega (arith, a, b)))
+      (let a = ap size i-is in let b = command_one code.Conv in omega (arith, a, b))
+      (ap (λ (z : Tree). (write_expr s'.context z >> write_tasks env s'.context s' (parts cells) (prove p chain ∷ give code.Conv 0 ∷ pay c ∷ us)) g.writing.here) i-is
+      ∙ sym (then_assoc4 (write_expr s'.context e) (write_task env s'.context s' (parts cells) (prove p chain)) (command code.Conv 0) (write_payment env s'.context c)
+      (write_tasks env s'.context s' (parts cells) us) g.writing.here)))
 
   pub convert_cost : (e : Tree) (c : Conversion) (p : Proof) (chain : Option ℕ) (i : ℕ) (us ts' : List Task) (bs : List ℕ) → tree_of s' i ≡ e
       → ts' ≡ push i ∷ prove p chain ∷ give code.Conv 0 ∷ pay c ∷ us
@@ -202,7 +212,9 @@ module _ (env : List Declaration) (o : Job) (s s' : Sharing) (gr : Grows s s') (
       ) ((λ c b no. no), ((λ c b no. no), g.clear.1))
       (((λ j one. absurd (g.fresh.0.0 j one)), (g.fresh.0.0, g.fresh.0.1)), g.fresh.1)
       (λ u. (tt, (tt, (g.uses u).comes.1)))
-      (let a = ap size i-is in let b = command_one code.Sorry in omega (arith, a, b)))
+      (let a = ap size i-is in let b = command_one code.Sorry in omega (arith, a, b))
+      (ap (λ (z : Tree). (write_expr s'.context z >> write_tasks env s'.context s' (parts cells) (give code.Sorry 0 ∷ us)) g.writing.here) i-is
+      ∙ sym (then_assoc (write_expr s'.context e) (command code.Sorry 0) (write_tasks env s'.context s' (parts cells) us) g.writing.here)))
 
   pub gap_cost : (e : Tree) (chain : Option ℕ) (i : ℕ) (us ts' : List Task) (bs : List ℕ) → tree_of s' i ≡ e → ts' ≡ push i ∷ give code.Sorry 0 ∷ us
       → IsGoing env o s vars places len hps cells (prove (by_gap e) chain ∷ us) bs

@@ -27,6 +27,9 @@ use Rattle.mz_bodies.proofs.Shortening.{command_short}
 use Rattle.mz_bodies.proofs.Using.{using_last}
 use Rattle.mz_bodies.proofs.Standing.{may_last, may_rest}
 use Rattle.mz_bodies.proofs.Moves.{more_written}
+use Rattle.mz_bodies.specs.Writing.{expression}
+use Rattle.mz_bodies.proofs.Heaps.{expr_kept}
+use Rattle.mz_bodies.proofs.Writers.{writing_on, made_written}
 
 pub some_is : (a b : ℕ) → ◌≡◌ {A = Option ℕ} (Some a) (Some b) → a ≡ b
 some_is a b e = ap get_some e
@@ -103,5 +106,8 @@ module _ (env : List Declaration) (o : Job) (s : Sharing) (vars : List Id) (plac
         fresh = (let rest = rest_fresh s places (make i) us g.fresh in (rest.0, put_new s places places' i len at others us g.fresh.0.0 rest.1));
         uses = λ u. using_last u (o.uses u) cells g.commands code.TermSave t (make i ∷ us) us (g.uses u).comes.1 (g.uses u);
         short = (let h = g.short in let a = ap length is ∙ length-append bs (command_bytes (code.TermSave, t)) in let b = command_short code.TermSave t in omega (arith, h, a, b));
+        writing = writing_on env s places len hps cells g.commands o.whole (make i ∷ us) g.writing places' len' hps cells us code.TermSave t (record { heap = expression e ∷ g.writing.here.heap; lets = g.writing.here.lets })
+            (expr_kept s places len hps cells g.writing.here g.writing.kept i len' places' once inside at others len-is)
+            (made_written env s places len hps cells g.writing.here g.writing.kept us i t head);
         owes = subst (λ (z : List (Item Tree)). Owes o.gaps env s.context o.hyps s (parts cells) z us o.goal) g.owes.1.5 g.owes.2;
       }

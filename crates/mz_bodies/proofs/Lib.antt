@@ -1,5 +1,7 @@
 mod Ways
 mod Scoping
+mod Heaps
+mod Writers
 pub mod Lists
 mod Standing
 mod Building
@@ -13,6 +15,8 @@ mod Binding
 mod Dummies
 mod Beginning
 mod Ends
+mod Running
+mod WorkedExamples
 pub mod Paying
 mod Shortening
 pub mod Using

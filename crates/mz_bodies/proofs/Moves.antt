@@ -7,7 +7,7 @@ use Rattle.mz_cmd.specs.declared.code.ProofCode.TheVariants as code
 use Rattle.mz_logic.specs.Tree.{Tree, Trees, var, app, none, listed, size, trees_size}
 use Rattle.mz_logic.specs.Declaration.{Declaration}
 use Rattle.mz_logic.specs.declared.binder.Binder.{Binder}
-use Rattle.mz_store.specs.Sharing.{Sharing, AreIn, tree_of, trees_of, head_of, operands_of}
+use Rattle.mz_store.specs.Sharing.{Sharing, IsIn, AreIn, tree_of, trees_of, head_of, operands_of}
 use Rattle.mz_store.specs.declared.item.Id.{Id}
 use Rattle.mz_unification.specs.Profile.{Item, expr, proof}
 use Rattle.mz_forms.specs.Proof.{Proof, Proofs, by_hyp, by_citation, no_proofs, more_proofs}
@@ -37,6 +37,10 @@ use Rattle.mz_bodies.proofs.Shortening.{command_short, pushes_bytes, pushes_begu
 use Rattle.mz_bodies.proofs.Lists.{rest_whole}
 use Rattle.mz_bodies.proofs.Standing.{MayBe, may_last, proving, may_rest, may_push, may_be}
 use Rattle.mz_bodies.proofs.Scoping.{sight_more, there_more}
+use Rattle.mz_bodies.specs.Writing.{◌>>◌, command, write_proof, write_proofs}
+use Rattle.mz_bodies.specs.Writers.{let_writers, write_task, write_tasks}
+use Rattle.mz_bodies.proofs.Heaps.{then_assoc}
+use Rattle.mz_bodies.proofs.Writers.{writing_others, writing_given, place_written, parts_written, hyp_written}
 use Rattle.mz_bodies.proofs.Using.{or_assoc, or_turn, using_others, using_last, pushes_come}
 
 pub spelled_last : (cs : List (ProofCode × ℕ)) (c : ProofCode × ℕ) → spelled (cs ++ c ∷ []) ≡ spelled cs ++ command_bytes c
@@ -116,7 +120,7 @@ module _ (gaps : Bool) (env : List Declaration) (ctx : List Binder) (hyps : List
   there_opened o h = there_more (length ps) (length (ps ++ p ∷ [])) o (omega (arith, more_parts)) h
 
   pub claims_more : (o : Option ℕ) → IsThere (length ps) o → in_sight (claims env hyps (ps ++ p ∷ [])) o ≡ in_sight (claims env hyps ps) o
-  claims_more o h = sight_more Tree (proved env hyps) ps p o h
+  claims_more o h = sight_more Tree (λ n. proved env hyps) ps p o h
 
   pub part_more : (c : ℕ) → c < length ps → part_at (ps ++ p ∷ []) c ≡ part_at ps c
   part_more c lt = get_or_append_left ps (p ∷ []) _ c lt
@@ -153,8 +157,8 @@ module _ (gaps : Bool) (env : List Declaration) (ctx : List Binder) (hyps : List
   owes_opened (t ∷ ts) xs goal (ys, turns, h) = (ys, turns_opened t xs ys turns, owes_opened ts ys goal h)
 
   cost_opened : (t : Task) (xs ys : List (Item Tree)) → Turns gaps env ctx hyps s ps t xs ys → task_cost env s (ps ++ p ∷ []) t ≡ task_cost env s ps t
-  cost_opened (prove q chain) xs ys h = ap (λ (L : List ℕ). cost env L q) (sight_more ℕ (cost env) ps p chain h.0)
-  cost_opened (prove_all qs chain) xs ys h = ap (λ (L : List ℕ). costs env L qs) (sight_more ℕ (cost env) ps p chain h.0)
+  cost_opened (prove q chain) xs ys h = ap (λ (L : List ℕ). cost env L q) (sight_more ℕ (λ n. cost env) ps p chain h.0)
+  cost_opened (prove_all qs chain) xs ys h = ap (λ (L : List ℕ). costs env L qs) (sight_more ℕ (λ n. cost env) ps p chain h.0)
   cost_opened (cite T es) xs ys h = refl
   cost_opened (push i) xs ys h = refl
   cost_opened (make i) xs ys h = refl
@@ -174,8 +178,9 @@ module _ (env : List Declaration) (o : Job) (s : Sharing) (vars : List Id) (plac
   pub replaced : (ts us : List Task) (bytes : List ℕ) (g : IsGoing env o s vars places len hps cells ts bytes)
       → MayDo o us → Owes o.gaps env s.context o.hyps s (parts cells) g.work.stack us o.goal → IsClear (parts cells) us → IsFresh s places us
       → ((u : Use) → ComesTo u (o.uses u) (parts cells) (commands_use u g.commands) us) → still env s cells us ≤ still env s cells ts
+      → write_tasks env s.context s (parts cells) us g.writing.here ≡ write_tasks env s.context s (parts cells) ts g.writing.here
       → IsGoing env o s vars places len hps cells us bytes
-  replaced ts us bytes g may owes clear fresh comes less = record {
+  replaced ts us bytes g may owes clear fresh comes less same = record {
     commands = g.commands;
     work = g.work;
     has_built = g.has_built;
@@ -194,6 +199,7 @@ module _ (env : List Declaration) (o : Job) (s : Sharing) (vars : List Id) (plac
     fresh = fresh;
     uses = λ u. using_others u (o.uses u) cells (commands_use u g.commands) (commands_use u g.commands) ts us (λ is. is) (comes u) (g.uses u);
     short = (let h = g.short in omega (arith, h, less));
+    writing = writing_others env s places len hps cells g.commands o.whole ts g.writing us same;
   }
 
   pub more_written : (ts : List Task) (bytes : List ℕ) (g : IsGoing env o s vars places len hps cells ts bytes) (c : ProofCode) (v : ℕ)
@@ -204,8 +210,9 @@ module _ (env : List Declaration) (o : Job) (s : Sharing) (vars : List Id) (plac
   pub given : (ts us : List Task) (bytes : List ℕ) (g : IsGoing env o s vars places len hps cells ts bytes) (c : ProofCode) (v : ℕ) (ys : List (Item Tree))
       → IsGiven c v → Step o.gaps env s.context g.work c v (stacked g.work ys) → MayBe o.gaps o.kind c v → MayDo o us → Owes o.gaps env s.context o.hyps s (parts cells) ys us o.goal
       → IsClear (parts cells) us → IsFresh s places us
-      → ((u : Use) → ComesTo u (o.uses u) (parts cells) (command_uses u c v || commands_use u g.commands) us) → length (command_bytes (c, v)) + still env s cells us ≤ still env s cells ts → IsGoing env o s vars places len hps cells us (bytes ++ command_bytes (c, v))
-  given ts us bytes g c v ys is step may may_do owes clear fresh comes less = record {
+      → ((u : Use) → ComesTo u (o.uses u) (parts cells) (command_uses u c v || commands_use u g.commands) us) → length (command_bytes (c, v)) + still env s cells us ≤ still env s cells ts
+      → write_tasks env s.context s (parts cells) ts g.writing.here ≡ (command c v >> write_tasks env s.context s (parts cells) us) g.writing.here → IsGoing env o s vars places len hps cells us (bytes ++ command_bytes (c, v))
+  given ts us bytes g c v ys is step may may_do owes clear fresh comes less same = record {
     commands = g.commands ++ (c, v) ∷ [];
     work = stacked g.work ys;
     has_built = nothing_more o.gaps env o.params s places places g.commands g.work (stacked g.work ys) c v (λ e h. h) is.0 step g.has_built (is.1 (stacked g.work ys));
@@ -224,24 +231,27 @@ module _ (env : List Declaration) (o : Job) (s : Sharing) (vars : List Id) (plac
     fresh = fresh;
     uses = λ u. using_last u (o.uses u) cells g.commands c v ts us (comes u) (g.uses u);
     short = (let h = g.short in let l = length-append bytes (command_bytes (c, v)) in omega (arith, h, l, less));
+    writing = writing_given env s places len hps cells g.commands o.whole ts g.writing us c v same;
   }
 
   -- a reference to an item of the heap
   pub referred : (us : List Task) (bytes : List ℕ) (t : Task) (g : IsGoing env o s vars places len hps cells (t ∷ us) bytes) (p : ℕ) (e : Tree)
       → slice_get g.work.heap p ≡ Some (proof e) → (g.owes.0 ≡ proof e ∷ g.work.stack) → p < 2 ^ 32 → begun (t ∷ us) ≡ begun us
       → ((u : Use) → ComesTo u (o.uses u) (parts cells) (commands_use u g.commands) us) → 5 ≤ task_bytes env s t
+      → write_tasks env s.context s (parts cells) (t ∷ us) g.writing.here ≡ (command code.Ref p >> write_tasks env s.context s (parts cells) us) g.writing.here
       → IsGoing env o s vars places len hps cells us (bytes ++ command_bytes (code.Ref, p))
-  referred us bytes t g p e at is small same comes five = given (t ∷ us) us bytes g code.Ref p (proof e ∷ g.work.stack) (tt, λ w. refl) (proof e, at, refl) (refl, small) (may_rest o t us g.may_do)
+  referred us bytes t g p e at is small same comes five writes = given (t ∷ us) us bytes g code.Ref p (proof e ∷ g.work.stack) (tt, λ w. refl) (proof e, at, refl) (refl, small) (may_rest o t us g.may_do)
       (subst (λ (z : List (Item Tree)). Owes o.gaps env s.context o.hyps s (parts cells) z us o.goal) is g.owes.2)
-      g.clear.1 (rest_fresh s places t us g.fresh) comes (let a = command_short code.Ref p in let b = ap (λ (cs : List ℕ). waits env cs (place_at cells) 0 (parts cells)) same in omega (arith, a, b, five))
+      g.clear.1 (rest_fresh s places t us g.fresh) comes (let a = command_short code.Ref p in let b = ap (λ (cs : List ℕ). waits env cs (place_at cells) 0 (parts cells)) same in omega (arith, a, b, five)) writes
 
   pub referred_expr : (us : List Task) (bytes : List ℕ) (t : Task) (g : IsGoing env o s vars places len hps cells (t ∷ us) bytes) (p : ℕ) (e : Tree)
       → slice_get g.work.heap p ≡ Some (expr e) → (g.owes.0 ≡ expr e ∷ g.work.stack) → p < 2 ^ 32 → begun (t ∷ us) ≡ begun us
       → ((u : Use) → ComesTo u (o.uses u) (parts cells) (commands_use u g.commands) us) → 5 ≤ task_bytes env s t
+      → write_tasks env s.context s (parts cells) (t ∷ us) g.writing.here ≡ (command code.Ref p >> write_tasks env s.context s (parts cells) us) g.writing.here
       → IsGoing env o s vars places len hps cells us (bytes ++ command_bytes (code.Ref, p))
-  referred_expr us bytes t g p e at is small same comes five = given (t ∷ us) us bytes g code.Ref p (expr e ∷ g.work.stack) (tt, λ w. refl) (expr e, at, refl) (refl, small) (may_rest o t us g.may_do)
+  referred_expr us bytes t g p e at is small same comes five writes = given (t ∷ us) us bytes g code.Ref p (expr e ∷ g.work.stack) (tt, λ w. refl) (expr e, at, refl) (refl, small) (may_rest o t us g.may_do)
       (subst (λ (z : List (Item Tree)). Owes o.gaps env s.context o.hyps s (parts cells) z us o.goal) is g.owes.2)
-      g.clear.1 (rest_fresh s places t us g.fresh) comes (let a = command_short code.Ref p in let b = ap (λ (cs : List ℕ). waits env cs (place_at cells) 0 (parts cells)) same in omega (arith, a, b, five))
+      g.clear.1 (rest_fresh s places t us g.fresh) comes (let a = command_short code.Ref p in let b = ap (λ (cs : List ℕ). waits env cs (place_at cells) 0 (parts cells)) same in omega (arith, a, b, five)) writes
 
 pub no_proofs_left : (ps : List Code) → length ps < 1 → proofs_view ps ≡ no_proofs
 no_proofs_left [] lt = refl
@@ -262,18 +272,19 @@ module _ (env : List Declaration) (o : Job) (s : Sharing) (vars : List Id) (plac
       → IsGoing env o s vars places len hps cells us bs'
   give_done c v us bs bs' is small g = at_last us us (bs ++ command_bytes (c, v)) bs' refl is
       (given env o s vars places len hps cells (give c v ∷ us) us bs g c v g.owes.0 g.owes.1.0 (g.owes.1.1 g.work refl)
-      (may_be o c v (proving o (give c v) us (λ h. h) g.may_do) small) (may_rest o (give c v) us g.may_do) g.owes.2 g.clear.1 (rest_fresh s places (give c v) us g.fresh) (λ u. (g.uses u).comes.1) (omega arith))
+      (may_be o c v (proving o (give c v) us (λ h. h) g.may_do) small) (may_rest o (give c v) us g.may_do) g.owes.2 g.clear.1 (rest_fresh s places (give c v) us g.fresh) (λ u. (g.uses u).comes.1) (omega arith) refl)
 
   -- an expression that has a place
   pub push_there : (i p : ℕ) (us : List Task) (bs bs' : List ℕ) → place_of places i ≡ Some p → bs' ≡ bs ++ command_bytes (code.Ref, p) → p < 2 ^ 32 → IsGoing env o s vars places len hps cells (push i ∷ us) bs
       → IsGoing env o s vars places len hps cells us bs'
   push_there i p us bs bs' at is small g = at_last us us (bs ++ command_bytes (code.Ref, p)) bs' refl is
-      (referred_expr env o s vars places len hps cells us bs (push i) g p (tree_of s i) (g.there.expressions i p at).1 g.owes.1.1 small refl (λ u. (g.uses u).comes.1) (let a = size_some (tree_of s i) in omega (arith, a)))
+      (referred_expr env o s vars places len hps cells us bs (push i) g p (tree_of s i) (g.there.expressions i p at).1 g.owes.1.1 small refl (λ u. (g.uses u).comes.1) (let a = size_some (tree_of s i) in omega (arith, a))
+      (place_written env s places len hps cells g.writing.here g.writing.kept us i p at))
 
   -- an expression that is to be made
-  pub push_parts : (i : ℕ) (t : ℕ) (is : List Id) (us ts' : List Task) (bs : List ℕ) → Some t ≡ head_of (tree_of s i) → place_of places i ≡ None → AreIn s is → trees_of s is ≡ operands_of (tree_of s i)
+  pub push_parts : (i : ℕ) (t : ℕ) (is : List Id) (us ts' : List Task) (bs : List ℕ) → ((j k : ℕ) → IsIn s j → IsIn s k → tree_of s j ≡ tree_of s k → j ≡ k) → Some t ≡ head_of (tree_of s i) → place_of places i ≡ None → AreIn s is → trees_of s is ≡ operands_of (tree_of s i)
       → ts' ≡ pushes is ++ make i ∷ us → IsGoing env o s vars places len hps cells (push i ∷ us) bs → IsGoing env o s vars places len hps cells ts' bs
-  push_parts i t is us ts' bs head none-yet inside trees ts-is g = at_last (pushes is ++ make i ∷ us) ts' bs bs ts-is refl
+  push_parts i t is us ts' bs once head none-yet inside trees ts-is g = at_last (pushes is ++ make i ∷ us) ts' bs bs ts-is refl
       (replaced env o s vars places len hps cells (push i ∷ us) (pushes is ++ make i ∷ us) bs g (may_push o is i i us g.may_do)
       (pushes_owe o.gaps env s.context o.hyps s (parts cells) is g.work.stack (make i ∷ us) o.goal inside
       (g.owes.0, (g.owes.1.0, t, sym head, g.work.stack, ap (λ (z : Trees). above (listed z) g.work.stack) trees, g.owes.1.1), g.owes.2))
@@ -281,7 +292,8 @@ module _ (env : List Declaration) (o : Job) (s : Sharing) (vars : List Id) (plac
       (parts_fresh s places i is us (let a = ap trees_size trees in let b = size_head t (tree_of s i) head in omega (arith, a, b)) none-yet g.fresh)
       (λ u. pushes_come u (o.uses u) (parts cells) (commands_use u g.commands) is (make i ∷ us) (tt, (g.uses u).comes.1))
       (let a = pushes_bytes env s is (make i ∷ us) in let b = ap trees_size trees in let c = size_head t (tree_of s i) head in
-      let d = ap (λ (cs : List ℕ). waits env cs (place_at cells) 0 (parts cells)) (pushes_begun is (make i ∷ us)) in omega (arith, a, b, c, d)))
+      let d = ap (λ (cs : List ℕ). waits env cs (place_at cells) 0 (parts cells)) (pushes_begun is (make i ∷ us)) in omega (arith, a, b, c, d))
+      (parts_written env s places len hps cells g.writing.here g.writing.kept us once i g.owes.1.0 none-yet t is head trees))
 
   pub hyp_there : (i p : ℕ) (chain : Option ℕ) (us : List Task) (bs bs' : List ℕ) → slice_get hps i ≡ Some p → bs' ≡ bs ++ command_bytes (code.Ref, p) → p < 2 ^ 32
       → IsGoing env o s vars places len hps cells (prove (by_hyp i) chain ∷ us) bs → IsGoing env o s vars places len hps cells us bs'
@@ -289,7 +301,8 @@ module _ (env : List Declaration) (o : Job) (s : Sharing) (vars : List Id) (plac
       let h = g.there.hypotheses i p at in
       let same : h.0 ≡ claim_at o.hyps i = sym (get_or_from_slice_get o.hyps i h.0 (app 0 none) h.1) in
       at_last us us (bs ++ command_bytes (code.Ref, p)) bs' refl is
-      (referred env o s vars places len hps cells us bs (prove (by_hyp i) chain) g p (claim_at o.hyps i) (h.2 ∙ ap (λ (e : Tree). Some (proof e)) same) g.owes.1.2 small refl (λ u. (g.uses u).comes.1) (omega arith))
+      (referred env o s vars places len hps cells us bs (prove (by_hyp i) chain) g p (claim_at o.hyps i) (h.2 ∙ ap (λ (e : Tree). Some (proof e)) same) g.owes.1.2 small refl (λ u. (g.uses u).comes.1) (omega arith)
+      (hyp_written env s places len hps cells g.writing.here g.writing.kept us i p chain at))
 
   pub hyp_within : (i : ℕ) (chain : Option ℕ) (us : List Task) (bs : List ℕ) → IsGoing env o s vars places len hps cells (prove (by_hyp i) chain ∷ us) bs → i < length hps
   hyp_within i chain us bs g = (let may = proving o (prove (by_hyp i) chain) us (λ h. h) g.may_do in let n = may.1 in let m = g.counted in let lt = g.owes.1.1 in omega (arith, n, m, lt))
@@ -309,12 +322,14 @@ module _ (env : List Declaration) (o : Job) (s : Sharing) (vars : List Id) (plac
           subst (λ (b : Bool). ComesTo u (o.uses u) (parts cells) b us)
               (or_assoc (is_assertion u T) (some_use u (in_sight (let_uses u (parts cells)) chain) qs) (commands_use u g.commands)) (g.uses u).comes.1,
         ),
-      )) (omega arith))
+      )) (omega arith)
+      (sym (then_assoc (write_proofs env s.context (in_sight (let_writers env s.context (parts cells)) chain) qs) (write_task env s.context s (parts cells) (cite T es))
+      (write_tasks env s.context s (parts cells) us) g.writing.here)))
 
   pub none_proved : (chain : Option ℕ) (us : List Task) (bs : List ℕ) → IsGoing env o s vars places len hps cells (prove_all no_proofs chain ∷ us) bs → IsGoing env o s vars places len hps cells us bs
   none_proved chain us bs g = replaced env o s vars places len hps cells (prove_all no_proofs chain ∷ us) us bs g (may_rest o (prove_all no_proofs chain) us g.may_do)
       (subst (λ (z : List (Item Tree)). Owes o.gaps env s.context o.hyps s (parts cells) z us o.goal) g.owes.1.2 g.owes.2)
-      g.clear.1 (rest_fresh s places (prove_all no_proofs chain) us g.fresh) (λ u. (g.uses u).comes.1) (omega arith)
+      g.clear.1 (rest_fresh s places (prove_all no_proofs chain) us g.fresh) (λ u. (g.uses u).comes.1) (omega arith) refl
 
   pub more_proved : (p : Proof) (qs : Proofs) (chain : Option ℕ) (us ts' : List Task) (bs : List ℕ) → ts' ≡ prove p chain ∷ prove_all qs chain ∷ us
       → IsGoing env o s vars places len hps cells (prove_all (more_proofs p qs) chain ∷ us) bs → IsGoing env o s vars places len hps cells ts' bs
@@ -339,7 +354,9 @@ module _ (env : List Declaration) (o : Job) (s : Sharing) (vars : List Id) (plac
           subst (λ (b : Bool). ComesTo u (o.uses u) (parts cells) b us)
               (or_turn (uses u (in_sight (let_uses u (parts cells)) chain) p) (some_use u (in_sight (let_uses u (parts cells)) chain) qs) (commands_use u g.commands)) (g.uses u).comes.1,
         ),
-      )) (omega arith))
+      )) (omega arith)
+      (sym (then_assoc (write_proof env s.context (in_sight (let_writers env s.context (parts cells)) chain) p) (write_proofs env s.context (in_sight (let_writers env s.context (parts cells)) chain) qs)
+      (write_tasks env s.context s (parts cells) us) g.writing.here)))
 
 pub parts_cost : (env : List Declaration) (s : Sharing) (ps : List Part) (i t : ℕ) (is : List Id) (us ts' : List Task) → Some t ≡ head_of (tree_of s i)
     → trees_of s is ≡ operands_of (tree_of s i) → ts' ≡ pushes is ++ make i ∷ us → left env s ps ts' < 2 * size (tree_of s i) + left env s ps us

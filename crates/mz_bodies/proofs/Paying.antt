@@ -39,6 +39,10 @@ use Rattle.mz_bodies.proofs.Using.{or_turn}
 use Rattle.mz_shared.proofs.Offered.{reach_of_sort}
 use Rattle.mz_bodies.proofs.Moves.{at_last, replaced, given}
 use Rattle.mz_bodies.proofs.Growing.{grown, rest_cost}
+use Rattle.mz_bodies.specs.Writing.{◌>>◌, command, write_expr, write_payment, write_payments}
+use Rattle.mz_bodies.specs.Writers.{write_tasks}
+use Rattle.mz_bodies.proofs.Heaps.{then_assoc}
+use Rattle.mz_bodies.proofs.Writers.{then_assoc4}
 
 -- ---- a definition's body
 
@@ -80,7 +84,7 @@ unfold_reach env ctx t es ys c l r n legal (_, _, _, (d, dummies, body, is, fits
     subst (λ (e : Tree). InReach n e) (sym (body_is env t d dummies body is))
     (subst (λ (k : ℕ). InReach k body) (omega (arith, a, b, c, n-is)) (reach_of_sort (signatures env) (d.signature.params ++ dummies) body d.signature.result.sort right.0))
 
-between_sorted : (env : List Declaration) (ctx : List Binder) (c : Conversion) (l r : Tree) → Between env ctx c l r → IsSorted env ctx l
+pub between_sorted : (env : List Declaration) (ctx : List Binder) (c : Conversion) (l r : Tree) → Between env ctx c l r → IsSorted env ctx l
 between_sorted env ctx (refl_conv e) l r h = h.0
 between_sorted env ctx (sym_conv c) l r h = h.0
 between_sorted env ctx (cong_conv t cs) l r h = h.0
@@ -98,7 +102,7 @@ unfolded_sorted env ctx t es ys c l r (_, _, _, (d, dummies, body, is, _, _, bet
 
 -- ---- the command of an unfolding
 
-unfold_step : (gaps : Bool) (env : List Declaration) (ctx : List Binder) (t : ℕ) (es : Trees) (ys : List ℕ) (d : Term) (dummies : List Binder) (body e r : Tree) (rest : List (Item Tree))
+pub unfold_step : (gaps : Bool) (env : List Declaration) (ctx : List Binder) (t : ℕ) (es : Trees) (ys : List ℕ) (d : Term) (dummies : List Binder) (body e r : Tree) (rest : List (Item Tree))
     → IsDefined env t d dummies body → AreFresh ctx es ys dummies → e ≡ instance (followed_by es (variables ys)) body
     → (w : Work) → w.stack ≡ expr e ∷ expr (app t es) ∷ obligation (app t es) r ∷ rest → Step gaps env ctx w code.Unfold 0 (stacked w (obligation e r ∷ rest))
 unfold_step gaps env ctx t es ys d dummies body e r rest is fresh e-is w w-is =
@@ -143,7 +147,12 @@ module _ (env : List Declaration) (o : Job) (s s' : Sharing) (gr : Grows s s') (
       ) ((λ c b no. no), ((λ c b no. no), ((λ c b no. no), ((λ c b no. no), g.clear.1))))
       (((λ k one. absurd (g.fresh.0.0 k one)), ((λ k one. absurd (g.fresh.0.0 k one)), (g.fresh.0.0, (g.fresh.0.0, g.fresh.0.1)))), g.fresh.1)
       (λ u. (tt, (tt, (tt, (tt, (g.uses u).comes.1)))))
-      (let a = ap size i-is in let b = ap size j-is in let d = command_one code.Unfold in omega (arith, a, b, d)))
+      (let a = ap size i-is in let b = ap size j-is in let d = command_one code.Unfold in omega (arith, a, b, d))
+      (let f = write_tasks env s'.context s' (parts cells) us in
+      let x = instance (followed_by es (variables ys)) (body_at env t) in
+      ap (λ (z : Tree). (write_expr s'.context z >> write_expr s'.context (tree_of s' j) >> command code.Unfold 0 >> write_payment env s'.context c >> f) g.writing.here) i-is
+      ∙ ap (λ (z : Tree). (write_expr s'.context (app t es) >> write_expr s'.context z >> command code.Unfold 0 >> write_payment env s'.context c >> f) g.writing.here) j-is
+      ∙ sym (then_assoc4 (write_expr s'.context (app t es)) (write_expr s'.context x) (command code.Unfold 0) (write_payment env s'.context c) f g.writing.here)))
 
   pub unfold_cost : tree_of s' i ≡ app t es → tree_of s' j ≡ instance (followed_by es (variables ys)) (body_at env t)
       → IsGoing env o s vars places len hps cells (pay (unfold_conv t es ys c) ∷ us) bs
@@ -166,7 +175,7 @@ module _ (env : List Declaration) (o : Job) (s : Sharing) (vars : List Id) (plac
       at_last env o s vars places len hps cells us us (bs ++ command_bytes (code.Refl, 0)) bs' refl is
       (given env o s vars places len hps cells (pay (refl_conv e) ∷ us) us bs g code.Refl 0 rest (refl, λ w. refl)
       (e, rest, g.owes.1.3 ∙ ap (λ (z : Tree). obligation z g.owes.1.1 ∷ rest) b.2 ∙ ap (λ (z : Tree). obligation e z ∷ rest) b.3, refl)
-      (may_be o code.Refl 0 may (omega arith)) (inl may) g.owes.2 g.clear.1 (g.fresh.0.1, g.fresh.1) (λ u. (g.uses u).comes.1) (let a = command_one code.Refl in omega (arith, a)))
+      (may_be o code.Refl 0 may (omega arith)) (inl may) g.owes.2 g.clear.1 (g.fresh.0.1, g.fresh.1) (λ u. (g.uses u).comes.1) (let a = command_one code.Refl in omega (arith, a)) refl)
 
   pub sym_paid : (c : Conversion) (ts' : List Task) → ts' ≡ pay c ∷ us → bs' ≡ bs ++ command_bytes (code.Symm, 0)
       → IsGoing env o s vars places len hps cells (pay (sym_conv c) ∷ us) bs → IsGoing env o s vars places len hps cells ts' bs'
@@ -177,7 +186,8 @@ module _ (env : List Declaration) (o : Job) (s : Sharing) (vars : List Id) (plac
       let may = proving o (pay (sym_conv c)) us (λ h. h) g.may_do in
       at_last env o s vars places len hps cells (pay c ∷ us) ts' (bs ++ command_bytes (code.Symm, 0)) bs' ts-is is
       (given env o s vars places len hps cells (pay (sym_conv c) ∷ us) (pay c ∷ us) bs g code.Symm 0 (obligation r l ∷ rest) (refl, λ w. refl)
-      (l, r, rest, g.owes.1.3, refl) (may_be o code.Symm 0 may (omega arith)) (inl may) (rest, (r, l, (g.owes.1.2.0.2, g.owes.1.2.1), refl), g.owes.2) ((λ c b no. no), g.clear.1) ((g.fresh.0.0, g.fresh.0.1), g.fresh.1) (λ u. (tt, (g.uses u).comes.1)) (let a = command_one code.Symm in omega (arith, a)))
+      (l, r, rest, g.owes.1.3, refl) (may_be o code.Symm 0 may (omega arith)) (inl may) (rest, (r, l, (g.owes.1.2.0.2, g.owes.1.2.1), refl), g.owes.2) ((λ c b no. no), g.clear.1) ((g.fresh.0.0, g.fresh.0.1), g.fresh.1) (λ u. (tt, (g.uses u).comes.1)) (let a = command_one code.Symm in omega (arith, a))
+      (then_assoc (command code.Symm 0) (write_payment env s.context c) (write_tasks env s.context s (parts cells) us) g.writing.here))
 
   pub cong_paid : (t : ℕ) (cs : Conversions) (ts' : List Task) → ts' ≡ pay_all cs ∷ us → bs' ≡ bs ++ command_bytes (code.Cong, 0)
       → IsGoing env o s vars places len hps cells (pay (cong_conv t cs) ∷ us) bs → IsGoing env o s vars places len hps cells ts' bs'
@@ -189,7 +199,8 @@ module _ (env : List Declaration) (o : Job) (s : Sharing) (vars : List Id) (plac
       at_last env o s vars places len hps cells (pay_all cs ∷ us) ts' (bs ++ command_bytes (code.Cong, 0)) bs' ts-is is
       (given env o s vars places len hps cells (pay (cong_conv t cs) ∷ us) (pay_all cs ∷ us) bs g code.Cong 0 (sides (listed u.0) (listed u.1) rest) (refl, λ w. refl)
       (t, u.0, u.1, rest, g.owes.1.3 ∙ ap (λ (z : Tree). obligation z r ∷ rest) u.2 ∙ ap (λ (z : Tree). obligation (app t u.0) z ∷ rest) u.3, refl)
-      (may_be o code.Cong 0 may (omega arith)) (inl may) (rest, (u.0, u.1, (u.4, g.owes.1.2.1), refl), g.owes.2) ((λ c b no. no), g.clear.1) ((g.fresh.0.0, g.fresh.0.1), g.fresh.1) (λ u. (tt, (g.uses u).comes.1)) (let a = command_one code.Cong in omega (arith, a)))
+      (may_be o code.Cong 0 may (omega arith)) (inl may) (rest, (u.0, u.1, (u.4, g.owes.1.2.1), refl), g.owes.2) ((λ c b no. no), g.clear.1) ((g.fresh.0.0, g.fresh.0.1), g.fresh.1) (λ u. (tt, (g.uses u).comes.1)) (let a = command_one code.Cong in omega (arith, a))
+      (then_assoc (command code.Cong 0) (write_payments env s.context cs) (write_tasks env s.context s (parts cells) us) g.writing.here))
 
   pub gap_paid : (a b : Tree) → bs' ≡ bs ++ command_bytes (code.Sorry, 0) → IsGoing env o s vars places len hps cells (pay (gap_conv a b) ∷ us) bs → IsGoing env o s vars places len hps cells us bs'
   gap_paid a b is g =
@@ -199,7 +210,7 @@ module _ (env : List Declaration) (o : Job) (s : Sharing) (vars : List Id) (plac
       at_last env o s vars places len hps cells us us (bs ++ command_bytes (code.Sorry, 0)) bs' refl is
       (given env o s vars places len hps cells (pay (gap_conv a b) ∷ us) us bs g code.Sorry 0 rest (refl, λ w. refl)
       (g.owes.1.2.1, inr (g.owes.1.0, g.owes.1.1, rest, h.0, g.owes.1.3, h.1, h.2, refl))
-      (may_be o code.Sorry 0 may (omega arith)) (inl may) g.owes.2 g.clear.1 (g.fresh.0.1, g.fresh.1) (λ u. (g.uses u).comes.1) (let a = command_one code.Sorry in omega (arith, a)))
+      (may_be o code.Sorry 0 may (omega arith)) (inl may) g.owes.2 g.clear.1 (g.fresh.0.1, g.fresh.1) (λ u. (g.uses u).comes.1) (let a = command_one code.Sorry in omega (arith, a)) refl)
 
 -- ---- the conversions of operands
 
@@ -230,7 +241,7 @@ module _ (env : List Declaration) (o : Job) (s : Sharing) (vars : List Id) (plac
   pub none_paid : IsGoing env o s vars places len hps cells (pay_all no_convs ∷ us) bs → IsGoing env o s vars places len hps cells us bs
   none_paid g = replaced env o s vars places len hps cells (pay_all no_convs ∷ us) us bs g (may_rest o (pay_all no_convs) us g.may_do)
       (subst (λ (z : List (Item Tree)). Owes o.gaps env s.context o.hyps s (parts cells) z us o.goal) (none_owed env s.context g.owes.1.0 g.owes.1.1 g.work.stack g.owes.0 g.owes.1.2.0 g.owes.1.3) g.owes.2)
-      g.clear.1 (rest_fresh s places (pay_all no_convs) us g.fresh) (λ u. (g.uses u).comes.1) (omega arith)
+      g.clear.1 (rest_fresh s places (pay_all no_convs) us g.fresh) (λ u. (g.uses u).comes.1) (omega arith) refl
 
   pub more_paid : (c : Conversion) (cs : Conversions) (ts' : List Task) → ts' ≡ pay c ∷ pay_all cs ∷ us
       → IsGoing env o s vars places len hps cells (pay_all (more_convs c cs) ∷ us) bs → IsGoing env o s vars places len hps cells ts' bs
@@ -239,7 +250,8 @@ module _ (env : List Declaration) (o : Job) (s : Sharing) (vars : List Id) (plac
       at_last env o s vars places len hps cells (pay c ∷ pay_all cs ∷ us) ts' bs bs is refl
       (replaced env o s vars places len hps cells (pay_all (more_convs c cs) ∷ us) (pay c ∷ pay_all cs ∷ us) bs g (inl (proving o (pay_all (more_convs c cs)) us (λ h. h) g.may_do))
       (f.0, f.1, (g.owes.0, (f.2, f.3, f.4, f.5), g.owes.2)) ((λ d b no. no), ((λ d b no. no), g.clear.1)) ((g.fresh.0.0, (g.fresh.0.0, g.fresh.0.1)), g.fresh.1)
-      (λ u. (tt, (tt, subst (λ (b : Bool). ComesTo u (o.uses u) (parts cells) b us) (or_turn (conv_uses u c) (convs_use u cs) (commands_use u g.commands)) (g.uses u).comes.1))) (omega arith))
+      (λ u. (tt, (tt, subst (λ (b : Bool). ComesTo u (o.uses u) (parts cells) b us) (or_turn (conv_uses u c) (convs_use u cs) (commands_use u g.commands)) (g.uses u).comes.1))) (omega arith)
+      (sym (then_assoc (write_payment env s.context c) (write_payments env s.context cs) (write_tasks env s.context s (parts cells) us) g.writing.here)))
 
 -- ---- what is sorted, under other names
 

@@ -30,6 +30,10 @@ use Rattle.mz_bodies.proofs.Shortening.{command_one, waits_saved}
 use Rattle.mz_bodies.proofs.Using.{uses_last, using_saved}
 use Rattle.mz_bodies.proofs.Standing.{may_last, may_rest}
 use Rattle.mz_bodies.proofs.Moves.{more_written}
+use Rattle.mz_bodies.specs.Writing.{first_part, ◌>>◌, keeping}
+use Rattle.mz_bodies.specs.Writers.{write_tasks, IsWriting}
+use Rattle.mz_bodies.proofs.Heaps.{part_kept}
+use Rattle.mz_bodies.proofs.Writers.{writing_on}
 
 pub places_kept : (env : List Declaration) (n : ℕ) (hyps : List Tree) (s : Sharing) (vars : List Id) (places : List (Option ℕ)) (hps : List ℕ) (met : List ℕ) (heap : List (Item Tree)) (y : Item Tree)
     → PlacesRight env n hyps s vars places hps met heap → PlacesRight env n hyps s vars places hps met (heap ++ y ∷ [])
@@ -88,6 +92,10 @@ module _ (env : List Declaration) (o : Job) (s : Sharing) (vars : List Id) (plac
         short = (let h = g.short in let a = ap length is ∙ length-append bs (command_bytes (code.Save, 0)) in let b = command_one code.Save in
             let w = waits_saved env (begun us) (place_at cells) (place_at cells') c len (parts cells) at others in
             let d = ap (waits env (begun us) (place_at cells') 0) parts-are in omega (arith, h, a, b, w, d));
+        writing = subst (λ (z : List (Option ℕ)). IsWriting env s z len' hps cells' us (g.commands ++ (code.Save, 0) ∷ []) o.whole) (sym places-are)
+            (writing_on env s places len hps cells g.commands o.whole (save c ∷ us) g.writing places len' hps cells' us code.Save 0 (record { heap = first_part c ∷ g.writing.here.heap; lets = g.writing.here.lets })
+            (part_kept s places len hps cells g.writing.here g.writing.kept c len' cells' many at others len-is)
+            (ap (λ (ps : List Part). (keeping code.Save 0 (first_part c) >> write_tasks env s.context s ps us) g.writing.here) (sym parts-are)));
         owes = subst (λ (ps : List Part). Owes o.gaps env s.context o.hyps s ps g.work.stack us o.goal) (sym parts-are)
             (subst (λ (z : List (Item Tree)). Owes o.gaps env s.context o.hyps s (parts cells) z us o.goal) g.owes.1.3 g.owes.2);
       }

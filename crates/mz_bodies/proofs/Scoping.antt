@@ -13,17 +13,20 @@ get_last A [] y z (suc k) is = absurd (omega (arith, is))
 get_last A (x ∷ xs) y z zero is = absurd (omega (arith, is))
 get_last A (x ∷ xs) y z (suc k) is = get_last A xs y z k (omega (arith, is))
 
-module _ (A : Type 0) (f : List A → Proof → A) where
-  after_last : (t : List (List A)) (ps : List Part) (p : Part) → scopes_after f t (ps ++ p ∷ []) ≡ scopes_after f t ps ++ row_of f (scopes_after f t ps) p ∷ []
-  after_last t [] p = refl
-  after_last t (q ∷ ps) p = after_last (t ++ row_of f t q ∷ []) ps p
+module _ (A : Type 0) (f : ℕ → List A → Proof → A) where
+  one_row : (t : List (List A)) (q : Part) → length (t ++ row_of f (length t) t q ∷ []) ≡ length t + 1
+  one_row t q = length-append t (row_of f (length t) t q ∷ [])
 
-  pub scopes_last : (ps : List Part) (p : Part) → scopes f (ps ++ p ∷ []) ≡ scopes f ps ++ row_of f (scopes f ps) p ∷ []
+  after_last : (t : List (List A)) (ps : List Part) (p : Part) → scopes_after f t (ps ++ p ∷ []) ≡ scopes_after f t ps ++ row_of f (length (scopes_after f t ps)) (scopes_after f t ps) p ∷ []
+  after_last t [] p = refl
+  after_last t (q ∷ ps) p = after_last (t ++ row_of f (length t) t q ∷ []) ps p
+
+  pub scopes_last : (ps : List Part) (p : Part) → scopes f (ps ++ p ∷ []) ≡ scopes f ps ++ row_of f (length (scopes f ps)) (scopes f ps) p ∷ []
   scopes_last ps p = after_last [] ps p
 
   after_long : (t : List (List A)) (ps : List Part) → length (scopes_after f t ps) ≡ length t + length ps
   after_long t [] = omega arith
-  after_long t (q ∷ ps) = after_long (t ++ row_of f t q ∷ []) ps ∙ (let l : length (t ++ row_of f t q ∷ []) ≡ length t + 1 = length-append t (row_of f t q ∷ []) in omega (arith, l))
+  after_long t (q ∷ ps) = after_long (t ++ row_of f (length t) t q ∷ []) ps ∙ (let l = one_row t q in omega (arith, l))
 
   pub scopes_long : (ps : List Part) → length (scopes f ps) ≡ length ps
   scopes_long ps = (let l = after_long [] ps in omega (arith, l))
@@ -31,47 +34,53 @@ module _ (A : Type 0) (f : List A → Proof → A) where
   after_stays : (t : List (List A)) (ps : List Part) (c : ℕ) → c < length t → get_or (scopes_after f t ps) c [] ≡ get_or t c []
   after_stays t [] c lt = refl
   after_stays t (q ∷ ps) c lt =
-      after_stays (t ++ row_of f t q ∷ []) ps c (let l : length (t ++ row_of f t q ∷ []) ≡ length t + 1 = length-append t (row_of f t q ∷ []) in omega (arith, l, lt))
-      ∙ get_or_append_left t (row_of f t q ∷ []) [] c lt
+      after_stays (t ++ row_of f (length t) t q ∷ []) ps c (let l = one_row t q in omega (arith, l, lt))
+      ∙ get_or_append_left t (row_of f (length t) t q ∷ []) [] c lt
 
   sight_stays : (t : List (List A)) (ps : List Part) (o : Option ℕ) → IsThere (length t) o → in_sight (scopes_after f t ps) o ≡ in_sight t o
   sight_stays t ps None lt = refl
   sight_stays t ps (Some c) lt = after_stays t ps c lt
 
-  row_stays : (t : List (List A)) (ps : List Part) (p : Part) → IsThere (length t) p.outer → row_of f (scopes_after f t ps) p ≡ row_of f t p
-  row_stays t ps p there = ap (λ (z : List A). z ++ f z p.proof ∷ []) (sight_stays t ps p.outer there)
+  row_stays : (t : List (List A)) (ps : List Part) (n : ℕ) (p : Part) → IsThere (length t) p.outer → row_of f n (scopes_after f t ps) p ≡ row_of f n t p
+  row_stays t ps n p there = ap (λ (z : List A). z ++ f n z p.proof ∷ []) (sight_stays t ps p.outer there)
 
   after_row : (t : List (List A)) (ps : List Part) (j : ℕ) → j < length ps → IsThere (length t + j) (part_at ps j).outer
-      → get_or (scopes_after f t ps) (length t + j) [] ≡ row_of f (scopes_after f t ps) (part_at ps j)
+      → get_or (scopes_after f t ps) (length t + j) [] ≡ row_of f (length t + j) (scopes_after f t ps) (part_at ps j)
   after_row t [] j lt there = absurd (omega (arith, lt))
   after_row t (q ∷ ps) zero lt there =
-      let l : length (t ++ row_of f t q ∷ []) ≡ length t + 1 = length-append t (row_of f t q ∷ []) in
-      let there' : IsThere (length t) q.outer = subst (λ (n : ℕ). IsThere n q.outer) (omega arith) there in
-      after_stays (t ++ row_of f t q ∷ []) ps (length t + 0) (omega (arith, l))
-      ∙ get_last (List A) t (row_of f t q) [] (length t + 0) (omega arith)
-      ∙ sym (row_stays t (q ∷ ps) q there')
+      let l = one_row t q in
+      let n-is : length t ≡ length t + 0 = omega arith in
+      let there' : IsThere (length t) q.outer = subst (λ (n : ℕ). IsThere n q.outer) (sym n-is) there in
+      after_stays (t ++ row_of f (length t) t q ∷ []) ps (length t + 0) (omega (arith, l))
+      ∙ get_last (List A) t (row_of f (length t) t q) [] (length t + 0) (omega arith)
+      ∙ sym (row_stays t (q ∷ ps) (length t) q there')
+      ∙ ap (λ (n : ℕ). row_of f n (scopes_after f t (q ∷ ps)) q) n-is
   after_row t (q ∷ ps) (suc j) lt there =
-      let l : length (t ++ row_of f t q ∷ []) ≡ length t + 1 = length-append t (row_of f t q ∷ []) in
-      let e : length (t ++ row_of f t q ∷ []) + j ≡ length t + suc j = omega (arith, l) in
-      ap (λ (n : ℕ). get_or (scopes_after f (t ++ row_of f t q ∷ []) ps) n []) (sym e)
-      ∙ after_row (t ++ row_of f t q ∷ []) ps j (omega (arith, lt)) (subst (λ (n : ℕ). IsThere n (part_at ps j).outer) (sym e) there)
+      let l = one_row t q in
+      let e : length (t ++ row_of f (length t) t q ∷ []) + j ≡ length t + suc j = omega (arith, l) in
+      ap (λ (n : ℕ). get_or (scopes_after f (t ++ row_of f (length t) t q ∷ []) ps) n []) (sym e)
+      ∙ after_row (t ++ row_of f (length t) t q ∷ []) ps j (omega (arith, lt)) (subst (λ (n : ℕ). IsThere n (part_at ps j).outer) (sym e) there)
+      ∙ ap (λ (n : ℕ). row_of f n (scopes_after f t (q ∷ ps)) (part_at ps j)) e
 
   -- the row of a cell
-  pub sight_row : (ps : List Part) (c : ℕ) → c < length ps → IsThere c (part_at ps c).outer → in_sight (scopes f ps) (Some c) ≡ row_of f (scopes f ps) (part_at ps c)
+  pub sight_row : (ps : List Part) (c : ℕ) → c < length ps → IsThere c (part_at ps c).outer → in_sight (scopes f ps) (Some c) ≡ row_of f c (scopes f ps) (part_at ps c)
   sight_row ps c lt there =
-      ap (λ (n : ℕ). get_or (scopes f ps) n []) (omega arith) ∙ after_row [] ps c lt (subst (λ (n : ℕ). IsThere n (part_at ps c).outer) (omega arith) there)
+      let e : c ≡ 0 + c = omega arith in
+      ap (λ (n : ℕ). get_or (scopes f ps) n []) e ∙ after_row [] ps c lt (subst (λ (n : ℕ). IsThere n (part_at ps c).outer) e there)
+      ∙ ap (λ (n : ℕ). row_of f n (scopes f ps) (part_at ps c)) (sym e)
 
   -- one cell more changes nothing for those before it
   pub sight_more : (ps : List Part) (p : Part) (o : Option ℕ) → IsThere (length ps) o → in_sight (scopes f (ps ++ p ∷ [])) o ≡ in_sight (scopes f ps) o
   sight_more ps p None there = refl
   sight_more ps p (Some c) lt =
       ap (λ (t : List (List A)). get_or t c []) (scopes_last ps p)
-      ∙ get_or_append_left (scopes f ps) (row_of f (scopes f ps) p ∷ []) [] c (let l = scopes_long ps in omega (arith, l, lt))
+      ∙ get_or_append_left (scopes f ps) (row_of f (length (scopes f ps)) (scopes f ps) p ∷ []) [] c (let l = scopes_long ps in omega (arith, l, lt))
 
-  pub sight_new : (ps : List Part) (p : Part) (c : ℕ) → c ≡ length ps → in_sight (scopes f (ps ++ p ∷ [])) (Some c) ≡ row_of f (scopes f ps) p
+  pub sight_new : (ps : List Part) (p : Part) (c : ℕ) → c ≡ length ps → in_sight (scopes f (ps ++ p ∷ [])) (Some c) ≡ row_of f c (scopes f ps) p
   sight_new ps p c is =
       ap (λ (t : List (List A)). get_or t c []) (scopes_last ps p)
-      ∙ get_last (List A) (scopes f ps) (row_of f (scopes f ps) p) [] c (let l = scopes_long ps in omega (arith, l, is))
+      ∙ get_last (List A) (scopes f ps) (row_of f (length (scopes f ps)) (scopes f ps) p) [] c (let l = scopes_long ps in omega (arith, l, is))
+      ∙ ap (λ (n : ℕ). row_of f n (scopes f ps) p) (scopes_long ps ∙ sym is)
 
 -- ---- cells
 
@@ -112,8 +121,8 @@ sight_inside ls c k d right lt (out c0 o k0 d0 e v) =
     let r : IsRightAt ls c (Some o) = subst (IsRightAt ls c) e (right c lt) in
     sight_inside ls o k d right (omega (arith, lt, r.0)) v
 
-module _ (A : Type 0) (f : List A → Proof → A) (cs : List Cell) (right : AreRight (links cs)) where
-  row : (c : ℕ) → c < length cs → in_sight (scopes f (parts cs)) (Some c) ≡ row_of f (scopes f (parts cs)) (part_at (parts cs) c)
+module _ (A : Type 0) (f : ℕ → List A → Proof → A) (cs : List Cell) (right : AreRight (links cs)) where
+  row : (c : ℕ) → c < length cs → in_sight (scopes f (parts cs)) (Some c) ≡ row_of f c (scopes f (parts cs)) (part_at (parts cs) c)
   row c lt = sight_row A f (parts cs) c (let l = parts_long cs in omega (arith, l, lt)) (outer_there cs c right lt)
 
   row_long : (xs : List A) (x : A) → length (xs ++ x ∷ []) ≡ length xs + 1
@@ -137,7 +146,7 @@ module _ (A : Type 0) (f : List A → Proof → A) (cs : List Cell) (right : Are
 
   -- what a name stands for
   pub named : (c k d : ℕ) (z : A) → c < length cs → InSight (links cs) c k d
-      → get_or (in_sight (scopes f (parts cs)) (Some c)) k z ≡ f (in_sight (scopes f (parts cs)) (part_at (parts cs) d).outer) (part_at (parts cs) d).proof
+      → get_or (in_sight (scopes f (parts cs)) (Some c)) k z ≡ f d (in_sight (scopes f (parts cs)) (part_at (parts cs) d).outer) (part_at (parts cs) d).proof
   named c k d z lt (here c0 k0 e) =
       let l = long c lt in
       let l' = ap length (row c lt) ∙ row_long (in_sight (scopes f (parts cs)) (part_at (parts cs) c).outer) _ in
@@ -149,6 +158,6 @@ module _ (A : Type 0) (f : List A → Proof → A) (cs : List Cell) (right : Are
       let l = long o o-lt in
       let i = sight_depth (links cs) o k d right (let l = links_long cs in omega (arith, l, o-lt)) v in
       ap (λ (xs : List A). get_or xs k z) (row c lt)
-      ∙ ap (λ (b : Option ℕ). get_or (in_sight (scopes f (parts cs)) b ++ f (in_sight (scopes f (parts cs)) b) (part_at (parts cs) c).proof ∷ []) k z) (outer_same cs c lt ∙ e)
+      ∙ ap (λ (b : Option ℕ). get_or (in_sight (scopes f (parts cs)) b ++ f c (in_sight (scopes f (parts cs)) b) (part_at (parts cs) c).proof ∷ []) k z) (outer_same cs c lt ∙ e)
       ∙ get_or_append_left (in_sight (scopes f (parts cs)) (Some o)) _ z k (omega (arith, l, i))
       ∙ named o k d z o-lt v

@@ -21,7 +21,7 @@ may_last gaps kind [] c v may is = (is.0, is.1, tt)
 may_last gaps kind (d ∷ cs) c v may is = (may.0, may.1, may_last gaps kind cs c v may.2 is)
 
 -- every command may stand in a theorem's body
-in_theorem : (gaps : Bool) (c : ProofCode) → stands_in (plain gaps) is_theorem c ≡ true
+pub in_theorem : (gaps : Bool) (c : ProofCode) → stands_in (plain gaps) is_theorem c ≡ true
 in_theorem gaps code.Term = refl
 in_theorem gaps code.TermSave = refl
 in_theorem gaps code.Ref = refl

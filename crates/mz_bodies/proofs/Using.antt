@@ -85,7 +85,7 @@ using_saved u whole cells cells' used c us parts-are others h = record {
 
 module _ (u : Use) (ps : List Part) (p : Part) (outers : (c : ℕ) → c < length ps → IsThere c (part_at ps c).outer) where
   lets_more : (o : Option ℕ) → IsThere (length ps) o → in_sight (let_uses u (ps ++ p ∷ [])) o ≡ in_sight (let_uses u ps) o
-  lets_more o there = sight_more Bool (uses u) ps p o there
+  lets_more o there = sight_more Bool (λ n. uses u) ps p o there
 
   pub part_uses_more : (c : ℕ) → c < length ps → part_uses u (ps ++ p ∷ []) c ≡ part_uses u ps c
   part_uses_more c lt =

@@ -28,13 +28,15 @@ use Rattle.mz_bodies.specs.Lengths.{tasks_bytes, begun, waits, IsClear}
 use Rattle.mz_bodies.specs.Making.{IsFresh}
 use Rattle.mz_bodies.specs.Uses.{Use, commands_use}
 use Rattle.mz_bodies.specs.Using.{IsUsing}
+use Rattle.mz_bodies.specs.Writing.{Written}
+use Rattle.mz_bodies.specs.Writers.{IsWriting}
 use Rattle.mz_bodies.specs.declared.cells.Cell.{Cell}
 use Rattle.mz_bodies.specs.declared.body.Before.{Before}
 use Rattle.mz_bodies.specs.declared.body.Body.{Body}
 
 -- what a body is to make: in a statement of this kind, over these parameters and the expressions that are
 -- kept at first, from these hypotheses, of which so many are assumed, with so many bytes at the most, this stack;
--- gaps are let through or not, and this is what is to be used
+-- gaps are let through or not, and this is what is to be used, and what is to be written
 pub record Job : Type 0 where
   pub gaps : Bool
   pub kind : Kind
@@ -44,6 +46,7 @@ pub record Job : Type 0 where
   pub count : ℕ
   pub budget : ℕ
   pub uses : Use → Bool
+  pub whole : Written
   pub goal : List (Item Tree)
 
 -- the lets' parts are sound, and where one has a place its proof stands there
@@ -111,6 +114,7 @@ pub record IsGoing (env : List Declaration) (o : Job) (s : Sharing) (vars : List
   pub fresh : IsFresh s places tasks
   pub uses : (u : Use) → IsUsing u (o.uses u) cells (commands_use u commands) tasks
   pub short : length bytes + still env s cells tasks ≤ o.budget
+  pub writing : IsWriting env s places len hyp_places cells tasks commands o.whole
 
 -- the declarations before a statement, and their words
 abbrev pub IsAfter : Before → Type 0

@@ -49,14 +49,14 @@ to_do ts = reverse (map task_view ts)
 
 -- what the lets prove that are in sight of each cell, itself counted
 abbrev pub claims : List Declaration → List Tree → List Part → List (List Tree)
-claims env hyps ps = scopes (proved env hyps) ps
+claims env hyps ps = scopes (λ n. proved env hyps) ps
 
 -- what the c-th cell's part proves
 abbrev pub claim_of : List Declaration → List Tree → List Part → ℕ → Tree
 claim_of env hyps ps c = proved env hyps (in_sight (claims env hyps ps) (part_at ps c).outer) (part_at ps c).proof
 
 abbrev pub let_costs : List Declaration → List Part → List (List ℕ)
-let_costs env ps = scopes (cost env) ps
+let_costs env ps = scopes (λ n. cost env) ps
 
 -- the command is written in its one way, and builds nothing
 abbrev pub IsGiven : ProofCode → ℕ → Type 0

@@ -1,7 +1,7 @@
 -- The stages of a body: its beginning, a hypothesis, an expression, a proof, and its end.
-use Rattle.std.specs.Prelude.{ℕ, ◌≡◌, ◌≤◌, ◌+◌, Bool, true, false, ◌||◌, List, [], ◌∷◌, length, slice_get, Some}
+use Rattle.std.specs.Prelude.{ℕ, ◌≡◌, ◌≤◌, ◌+◌, ◌*◌, Bool, true, false, ◌||◌, List, [], ◌∷◌, length, slice_get, Some}
 use Rattle.mz_cmd.specs.declared.code.ProofCode.TheVariants as code
-use Rattle.mz_logic.specs.Tree.{Tree, listed}
+use Rattle.mz_logic.specs.Tree.{Tree, listed, trees_size}
 use Rattle.mz_logic.specs.Declaration.{Declaration, sorts, signatures}
 use Rattle.mz_logic.specs.Modifiers.{MayBeDummySort}
 use Rattle.mz_logic.specs.Sorts.{HasProvable}
@@ -16,6 +16,7 @@ use Rattle.mz_forms.specs.Proof.{Proof}
 use Rattle.mz_bodies.specs.Claims.{IsSound}
 use Rattle.mz_shared.specs.Variables.{IsShared}
 use Rattle.mz_bodies.specs.Uses.{Use, uses}
+use Rattle.mz_bodies.specs.Writing.{Written, Writer, and_then, at_first, write_hyps}
 use Rattle.mz_bodies.specs.Going.{Job, MayProve, Does}
 use Rattle.mz_bodies.specs.declared.body.Body.{Body}
 
@@ -26,13 +27,17 @@ pub record HasDummiesBehind (env : List Declaration) (n : ℕ) (s : Sharing) (va
   pub many : n ≤ length s.context
   pub dummies : (x : ℕ) (b : Binder) → slice_get s.context x ≡ Some b → n ≤ x → (b ≡ dummy_of b.sort) × MayBeDummySort (sorts env) b.sort
 
--- nothing is assumed or used, and nothing is to be left
+-- nothing is written, and the parameters are in the heap
+abbrev pub unwritten : List Binder → Written
+unwritten params = record { commands = []; after = at_first params }
+
+-- nothing is assumed, used or written, and nothing is to be left
 abbrev pub job : Bool → Kind → List Binder → Sharing → List Tree → Job
-job gaps kind params s hyps = record { gaps = gaps; kind = kind; params = params; store = s; hyps = hyps; count = 0; budget = 0; uses = λ u. false; goal = [] }
+job gaps kind params s hyps = record { gaps = gaps; kind = kind; params = params; store = s; hyps = hyps; count = 0; budget = 0; uses = λ u. false; whole = unwritten params; goal = [] }
 
 -- a job over these expressions and so many parameters, of which nothing is made yet
 abbrev pub Begins : Job → Sharing → ℕ → Type 0
-Begins o s n = (length o.params ≡ n) × (o.store ≡ s) × (o.count ≡ 0) × (o.goal ≡ []) × ((u : Use) → o.uses u ≡ false)
+Begins o s n = (length o.params ≡ n) × (o.store ≡ s) × (o.count ≡ 0) × (o.goal ≡ []) × ((u : Use) → o.uses u ≡ false) × (o.whole ≡ unwritten o.params)
 
 -- what was owed is made, and the stack is empty
 abbrev pub Rests : Job → Body → Type 0
@@ -50,9 +55,17 @@ to_use o f = record o { uses = f }
 abbrev pub spending : Job → Proof → Job
 spending o p = to_use o (λ u. uses u [] p || o.uses u)
 
+-- this is to be written behind what was
+abbrev pub writing_too : Job → Writer → Job
+writing_too o f = record o { whole = and_then o.whole f }
+
 -- so many hypotheses are assumed, for so many bytes more
 abbrev pub assuming : Job → ℕ → ℕ → Job
 assuming o n bytes = record o { count = n; budget = o.budget + bytes }
+
+-- the first n hypotheses, of these ids, are assumed
+abbrev pub with_hyps : Job → ℕ → List Id → Job
+with_hyps o n is = writing_too (assuming o n (6 * trees_size (trees_of o.store is))) (write_hyps o.store.context 0 (listed (trees_of o.store is)))
 
 -- the i-th expression is to be left
 abbrev pub Writes : Job → Body → ℕ → Type 0

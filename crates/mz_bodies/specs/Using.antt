@@ -8,7 +8,7 @@ use Rattle.mz_bodies.specs.declared.cells.Cell.{Cell}
 
 -- whether the lets use it that are in sight of each cell, itself counted
 abbrev pub let_uses : Use → List Part → List (List Bool)
-let_uses u ps = scopes (uses u) ps
+let_uses u ps = scopes (λ n. uses u) ps
 
 -- the c-th cell's part uses it
 abbrev pub part_uses : Use → List Part → ℕ → Bool

@@ -6,15 +6,16 @@ ghost use Rattle.mz_logic.specs.View.{tree};
 ghost use Rattle.mz_forms.specs.ConvView.{conversion, conversions};
 ghost use Rattle.mz_forms.specs.Proof.{by_name, by_conv, by_let, by_gap};
 ghost use Rattle.mz_forms.specs.ProofView.{proof_view, proofs_view};
-ghost use Rattle.mz_logic.specs.Tree.{size, trees_size};
-ghost use Rattle.mz_store.specs.Sharing.{head_of, tree_of, trees_of};
+ghost use Rattle.mz_logic.specs.Tree.{size};
+ghost use Rattle.mz_store.specs.Sharing.{head_of, tree_of};
 ghost use Rattle.mz_bodies.specs.Weights.{proof_weight};
 ghost use Rattle.mz_steps.specs.Steps.{command_bytes};
 ghost use Rattle.mz_bodies.specs.Owes.{prove, prove_all, cite, push, make, pay, pay_all, give, save, task_view, to_do};
 ghost use Rattle.mz_shared.specs.Places.{place_of};
 ghost use Rattle.mz_bodies.specs.Pushing.{pushes};
 ghost use Rattle.mz_bodies.specs.Going.{Job, IsAfter, Does, steps_left};
-ghost use Rattle.mz_bodies.specs.Stages.{HasDummiesBehind, Begins, Rests, leaving, spending, assuming, Writes, Assumes, AssumesAll, Proves};
+ghost use Rattle.mz_bodies.specs.Stages.{HasDummiesBehind, Begins, Rests, leaving, spending, writing_too, assuming, with_hyps, Writes, Assumes, AssumesAll, Proves};
+ghost use Rattle.mz_bodies.specs.Writing.{write_expr, write_hyp, write_proof};
 ghost use Rattle.mz_bodies.specs.Claims.{proved};
 ghost use Rattle.mz_unification.specs.Profile.{expr, proof};
 
@@ -160,7 +161,8 @@ impl<'t> Body<'t> {
     pub fn put_expr(&mut self, id: Id) -> Result<(), Mem>
         requires before { IsAfter self.old.before }
         requires can { (o : Job) × Writes o self.old id.0 }
-        ensures does { OnOk result ((o : Job) → Writes o self.old id.0 → Does (leaving o (expr (tree_of o.store id.0)) (5 * size (tree_of o.store id.0))) self.new []) }
+        ensures does { OnOk result ((o : Job) → Writes o self.old id.0
+            → Does (writing_too (leaving o (expr (tree_of o.store id.0)) (5 * size (tree_of o.store id.0))) (write_expr o.store.context (tree_of o.store id.0))) self.new []) }
         ensures done { OnOk result (self.new.tasks.items ≡ []) }
         ensures same { OnOk result (self.new.before ≡ self.old.before) }
     {
@@ -172,7 +174,8 @@ impl<'t> Body<'t> {
     fn put_hyp(&mut self, id: Id) -> Result<(), Mem>
         requires before { IsAfter self.old.before }
         requires can { (o : Job) × Assumes o self.old id.0 }
-        ensures does { OnOk result ((o : Job) → Assumes o self.old id.0 → Rests (assuming o (o.count + 1) (6 * size (tree_of o.store id.0))) self.new) }
+        ensures does { OnOk result ((o : Job) → Assumes o self.old id.0
+            → Rests (writing_too (assuming o (o.count + 1) (6 * size (tree_of o.store id.0))) (write_hyp o.store.context o.count (tree_of o.store id.0))) self.new) }
         ensures same { OnOk result (self.new.before ≡ self.old.before) }
     {
         self.put_expr(id)?;
@@ -186,7 +189,8 @@ impl<'t> Body<'t> {
     pub fn put_hyps(&mut self, ids: &[Id]) -> Result<(), Mem>
         requires before { IsAfter self.old.before }
         requires can { (o : Job) × AssumesAll o self.old ids.now }
-        ensures does { OnOk result ((o : Job) → AssumesAll o self.old ids.now → Rests (assuming o (length ids.now) (6 * trees_size (trees_of o.store ids.now))) self.new) }
+        ensures does { OnOk result ((o : Job) → AssumesAll o self.old ids.now
+            → Rests (with_hyps o (length ids.now) ids.now) self.new) }
         ensures same { OnOk result (self.new.before ≡ self.old.before) }
     {
         for id in ids {
@@ -199,7 +203,9 @@ impl<'t> Body<'t> {
     pub fn put_proof(&mut self, stated: &'t Proof) -> Result<(), Mem>
         requires before { IsAfter self.old.before }
         requires can { (o : Job) × Proves o self.old (proof_view stated.now) }
-        ensures does { OnOk result ((o : Job) → Proves o self.old (proof_view stated.now) → Does (spending (leaving o (proof (proved self.old.before.env.now o.hyps [] (proof_view stated.now))) (6 * proof_weight self.old.before.env.now (proof_view stated.now))) (proof_view stated.now)) self.new []) }
+        ensures does { OnOk result ((o : Job) → Proves o self.old (proof_view stated.now)
+            → Does (writing_too (spending (leaving o (proof (proved self.old.before.env.now o.hyps [] (proof_view stated.now))) (6 * proof_weight self.old.before.env.now (proof_view stated.now))) (proof_view stated.now))
+            (write_proof self.old.before.env.now o.store.context [] (proof_view stated.now))) self.new []) }
         ensures done { OnOk result (self.new.tasks.items ≡ []) }
         ensures same { OnOk result (self.new.before ≡ self.old.before) }
     {
@@ -268,6 +274,7 @@ impl<'t> Body<'t> {
         ensures less { OnOk result (steps_left self.new [] < steps_left self.old (push id.0 ∷ [])) }
         ensures same { OnOk result (self.new.before ≡ self.old.before) }
     {
+        self.shared.store.once();
         if let Some(place) = self.heap.place(id) {
             put(&mut self.out, ProofCode::Ref, place)?;
             return Ok(());

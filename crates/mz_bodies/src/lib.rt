@@ -4,8 +4,10 @@
 
 mod body;
 mod cells;
+mod laws;
 mod statement;
 mod task;
 
 pub use body::Before;
+pub use laws::bodies_are_written;
 pub use statement::{axiom_body, definition_body, theorem_body};

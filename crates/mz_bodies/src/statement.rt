@@ -13,6 +13,8 @@ ghost use Rattle.mz_bodies.specs.Going.{IsAfter};
 ghost use Rattle.mz_bodies.specs.Stages.{HasDummiesBehind};
 ghost use Rattle.mz_bodies.specs.Weights.{proof_weight};
 ghost use Rattle.mz_bodies.specs.Uses.{uses, IsBodyUsing};
+ghost use Rattle.mz_bodies.specs.Writing.{definition_written, axiom_written, theorem_written};
+ghost use Rattle.mz_steps.specs.Endings.{spelled_body};
 
 use crate::body::{Before, Body};
 use mz_cmd::Mem;
@@ -41,6 +43,8 @@ pub fn definition_body(
     requires inside { IsIn shared.store body.0 }
     ensures body { IfOk result (λ b. (gaps : Bool) (ps ds : List BinderOf) → shared.store.context ≡ ps ++ ds → length ps ≡ params
         → IsSharedBody gaps before.entry.env.now is_definition ps ds (tree_of shared.store body.0) [] b.items) }
+    ensures written { IfOk result (λ b. (ps ds : List BinderOf) → shared.store.context ≡ ps ++ ds → length ps ≡ params
+        → b.items ≡ spelled_body (definition_written ps ds (tree_of shared.store body.0)).commands) }
     ensures short { IfOk result (λ b. length b.items ≤ 6 * size (tree_of shared.store body.0) + 1) }
 {
     let mut written = Body::new(alloc, before, shared, params)?;
@@ -70,6 +74,8 @@ pub fn axiom_body(
     requires provable { AreProvable before.env.now shared.store.context (trees_of shared.store hyps.now) }
     ensures body { IfOk result (λ b. (gaps : Bool) (ps ds : List BinderOf) → shared.store.context ≡ ps ++ ds → length ps ≡ params
         → IsSharedBody gaps before.entry.env.now is_axiom ps ds (tree_of shared.store conclusion.0) (listed (trees_of shared.store hyps.now)) b.items) }
+    ensures written { IfOk result (λ b. (ps ds : List BinderOf) → shared.store.context ≡ ps ++ ds → length ps ≡ params
+        → b.items ≡ spelled_body (axiom_written ps ds (listed (trees_of shared.store hyps.now)) (tree_of shared.store conclusion.0)).commands) }
     ensures short { IfOk result (λ b. length b.items ≤ 6 * (trees_size (trees_of shared.store hyps.now) + size (tree_of shared.store conclusion.0)) + 1) }
 {
     let mut written = Body::new(alloc, before, shared, params)?;
@@ -107,6 +113,8 @@ pub fn theorem_body(
         → (ps ds : List BinderOf) → shared.store.context ≡ ps ++ ds → length ps ≡ params
         → IsBodyUsing gaps before.entry.env.now is_theorem ps ds (proved before.entry.env.now (listed (trees_of shared.store hyps.now)) [] (proof_view proof.now))
         (listed (trees_of shared.store hyps.now)) b.items (λ u. uses u [] (proof_view proof.now))) }
+    ensures written { IfOk result (λ b. (ps ds : List BinderOf) → shared.store.context ≡ ps ++ ds → length ps ≡ params
+        → b.items ≡ spelled_body (theorem_written before.entry.env.now ps ds (listed (trees_of shared.store hyps.now)) (proof_view proof.now)).commands) }
     ensures short { IfOk result (λ b. length b.items ≤ 6 * (trees_size (trees_of shared.store hyps.now) + proof_weight before.entry.env.now (proof_view proof.now)) + 1) }
 {
     let mut written = Body::new(alloc, before, shared, params)?;

@@ -1,5 +1,5 @@
 -- A text without gaps is compiled alike in both modes.
-use Rattle.std.proofs.Common.{◌≡◌, ◌≤◌, Bool, true, false, List, ℕ, length, sym, subst}
+use Rattle.std.proofs.Common.{◌≡◌, ◌≤◌, ◌∙◌, Bool, true, false, List, ℕ, length, sym, subst}
 use Rattle.std.specs.Prelude.{◌↔◌}
 use Rattle.mz_logic.specs.LegalLists.{Statement as Marked, LegalBy, allowed_with}
 use Rattle.mz_layout.specs.Normal.{file_of}
@@ -45,7 +45,7 @@ draft_too ss bytes legal b =
     let gapped = subst (λ (bs : List ℕ). (T : ℕ) → GappedIn bs b.good.made T ↔ IsGappedIn (proofs_of ss) T) b.written.file b.good.gapped in
     subst (IsBinaryOf true ss) (sym b.written.file)
     (binary_of true ss p made b.written.fit legal says (subst (λ (ts : List Marked). (T : ℕ) → GappedIn (file_of p) ts T ↔ IsGappedIn (proofs_of ss) T) same gapped)
-    (subst (λ (bs : List ℕ). length bs ≤ byte_bound ss) b.written.file b.written.short))
+    (subst (λ (bs : List ℕ). length bs ≤ byte_bound ss) b.written.file b.written.short) (sym b.written.file ∙ b.compiled))
 
 pub compile_alike : ((gaps : Bool) (text : List ℕ) → IsTypedOrFaulty gaps text) → (text : List ℕ) → ModesCompileAlike text
 compile_alike typed_or_faulty text = record {

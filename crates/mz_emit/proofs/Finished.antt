@@ -19,7 +19,7 @@ use Rattle.mz_writing.proofs.Offered.{written-gapped, files-good, files-spell, w
 use Rattle.mz_accepting.proofs.Offered.{files-accepted}
 use Rattle.mz_accepting.proofs.Offered.{accepted-by-address}
 use Rattle.mz_emit.specs.Compiling.{IsBinaryOf}
-use Rattle.mz_emit.specs.Emitting.{HasWritten}
+use Rattle.mz_emit.specs.Emitting.{compiled_file, HasWritten}
 use Rattle.mz_emit.specs.Gapped.{proofs_of, IsGappedIn}
 use Rattle.mz_emit.proofs.Following.{short_enough}
 use Rattle.mz_emit.proofs.Gapped.{gapped_same}
@@ -35,8 +35,8 @@ sorts_counted (s ∷ ss) =
 -- what is written within the format's bounds of legal statements, has their gapped theorems, and is short enough, is their
 -- binary
 pub binary_of : (gaps : Bool) (ss : List Statement) (p : Parts) (made : List Marked) → Fit p → LegalBy (allowed_with gaps) (marked ss) → IsWrittenAs gaps p (marked ss) made
-    → ((T : ℕ) → GappedIn (file_of p) made T ↔ IsGappedIn (proofs_of ss) T) → length (file_of p) ≤ byte_bound ss → IsBinaryOf gaps ss (file_of p)
-binary_of gaps ss p made fit legal says gapped short = record {
+    → ((T : ℕ) → GappedIn (file_of p) made T ↔ IsGappedIn (proofs_of ss) T) → length (file_of p) ≤ byte_bound ss → file_of p ≡ compiled_file ss → IsBinaryOf gaps ss (file_of p)
+binary_of gaps ss p made fit legal says gapped short compiled = record {
   written = record { parts = p; made = made; fit = fit; says = says; file = refl; short = short };
   good = record {
     made = made;
@@ -48,6 +48,7 @@ binary_of gaps ss p made fit legal says gapped short = record {
   accepted = λ spec ds is_spec agrees. files-accepted gaps p (marked ss) made fit legal says spec ds is_spec agrees;
   by_address = λ finished spec ds is_spec agrees.
       accepted-by-address p (marked ss) made fit (subst (λ (g : Bool). LegalBy (allowed_with g) (marked ss)) finished legal) (subst (λ (g : Bool). IsWrittenAs g p (marked ss) made) finished says) spec ds is_spec agrees;
+  compiled = compiled;
 }
 
 module _ (gaps : Bool) (ss : List Statement) (p : Parts) (h : HasWritten gaps ss p) (legal : LegalAsStated gaps ss) (within : IsWithinLimits ss) where
@@ -72,4 +73,4 @@ module _ (gaps : Bool) (ss : List Statement) (p : Parts) (h : HasWritten gaps ss
   pub is_binary : (bytes : List ℕ) → bytes ≡ file_of p → Fit p → IsBinaryOf gaps ss bytes
   is_binary bytes is fit =
       subst (IsBinaryOf gaps ss) (sym is)
-      (binary_of gaps ss p (list_spelled (marked ss)) fit (stated_is_legal gaps ss legal) h.says (gapped_there fit) (omega (arith, bounded, file-length p)))
+      (binary_of gaps ss p (list_spelled (marked ss)) fit (stated_is_legal gaps ss legal) h.says (gapped_there fit) (omega (arith, bounded, file-length p)) (ap file_of h.parts))

@@ -81,7 +81,7 @@ module _ (gaps : Bool) (b : List Statement) (s : Statement) (follows : MayFollow
         let kind = subst (λ n. ((n ≡ 0x05) ⊎ (n ≡ 0x0D)) × (s.is_local ≡ is_local_code n)) (sym code_is) (definition_kind s.is_local) in
         next (subst (HasWritten gaps (b ++ s ∷ [])) (sym writer)
         (definition_next gaps b e.writer rows.written s sg dummies body code stream bytes is kind (term_words gaps b s follows sg (defined dummies body) is).say
-        (same_form gaps b s follows sg dummies body (definition_can gaps b s follows sg dummies body is)) says))
+        (same_form gaps b s follows sg dummies body (definition_can gaps b s follows sg dummies body is)) says code_is))
         (same ∙ sym (append-nil e.table.sorts.items) ∙ ap (λ d. e.table.sorts.items ++ sorts (d ∷ [])) (sym is))
         (grew ∙ ap (λ d. table_of e ++ signatures (d ∷ [])) (sym is))
 
@@ -94,7 +94,7 @@ module _ (gaps : Bool) (b : List Statement) (s : Statement) (follows : MayFollow
         next (subst (HasWritten gaps (b ++ s ∷ [])) (sym writer)
         (assertion_next gaps b e.writer rows.written s a s.dummies code stream bytes is kind
         (words-say-params (sorts (declared b)) a.params (thm_words gaps b s follows a is))
-        (λ i d at. (each_from_all IsDummy s.dummies can.ready.dummies_are i d at).1) says))
+        (λ i d at. (each_from_all IsDummy s.dummies can.ready.dummies_are i d at).1) says code_is refl))
         (ap (λ (t : Table). t.sorts.items) same ∙ sym (append-nil e.table.sorts.items) ∙ ap (λ d. e.table.sorts.items ++ sorts (d ∷ [])) (sym is))
         (ap (λ (t : Table). signatures_of (map words_of_row t.terms.items)) same ∙ sym (append-nil (table_of e)) ∙ ap (λ d. table_of e ++ signatures (d ∷ [])) (sym is))
 

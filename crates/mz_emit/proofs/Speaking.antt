@@ -36,7 +36,7 @@ use Rattle.mz_bodies.specs.Stages.{HasDummiesBehind}
 use Rattle.mz_emit.proofs.Saying.{few_nodes}
 use Rattle.mz_emit.proofs.Using.{used_as_stated}
 use Rattle.mz_emit.specs.Gapped.{SaysItsUses}
-use Rattle.mz_emit.specs.Emitting.{AreReady, CanBeDefined, CanBeAsserted, SaysDefinition, SaysAssertion, IsProvedBy, IsSoundIfStated, body_weight, MakesBody}
+use Rattle.mz_emit.specs.Emitting.{AreReady, CanBeDefined, CanBeAsserted, SaysDefinition, SaysAssertion, IsProvedBy, IsSoundIfStated, body_weight, MakesBody, definition_body_of, assertion_body_of}
 
 -- ---- counts of bound variables
 
@@ -96,8 +96,9 @@ held_after s s' i e grows (inside, holds) = tree_grown s s' grows i inside ∙ h
 -- ---- definitions
 
 pub definition_says : (env : List Declaration) (ps ds : List Binder) (e t : Tree) (stream bytes : List ℕ) → CanBeDefined env ps ds e → t ≡ e
-    → stream ≡ stream_of (definition_written ps ds t).commands → ((gaps : Bool) → IsSharedBody gaps env is_definition ps ds t [] bytes) → length bytes ≤ 6 * size t + 1 → SaysDefinition env ps ds e stream bytes
-definition_says env ps ds e t stream bytes can is spelled makes short = record {
+    → stream ≡ stream_of (definition_written ps ds t).commands → ((gaps : Bool) → IsSharedBody gaps env is_definition ps ds t [] bytes) → length bytes ≤ 6 * size t + 1 → bytes ≡ definition_body_of ps ds t
+    → SaysDefinition env ps ds e stream bytes
+definition_says env ps ds e t stream bytes can is spelled makes short body = record {
   text =
       let short_ones = definitions-short (signatures env) ps ds e can.ready.small can.sorted can.short in
       let same : stream_of (definition_written ps ds e).commands ≡ stream = ap (λ x. stream_of (definition_written ps ds x).commands) (sym is) ∙ sym spelled in
@@ -113,6 +114,8 @@ definition_says env ps ds e t stream bytes can is spelled makes short = record {
       let stream_short = definitions-bounded (signatures env) ps ds e can.ready.small can.sorted in
       let same : length stream ≡ length (stream_of (definition_written ps ds e).commands) = ap length spelled ∙ ap (λ x. length (stream_of (definition_written ps ds x).commands)) is in
       omega (arith, stream_short, same, short, ap size is);
+  stream_is = spelled ∙ ap (λ x. stream_of (definition_written ps ds x).commands) is;
+  body_is = body ∙ ap (definition_body_of ps ds) is;
 }
 
 -- ---- axioms and theorems
@@ -178,8 +181,8 @@ module _ (env : List Declaration) (a : Assertion) (ds : List Binder) (can : CanB
 
   pub assertion_says : (gaps : Bool) (q : Option Proof) (t : Tree) (hs : Trees) (stream bytes : List ℕ) → IsProvedBy gaps env (a.params ++ ds) a q → t ≡ a.conclusion → hs ≡ a.hyps
       → stream ≡ stream_of (assertion_written a.params hs t).commands → MakesBody gaps env q a.params ds t (listed hs) bytes
-      → length bytes ≤ 6 * (trees_size hs + size t + body_weight env q) + 1 → SaysAssertion gaps env a ds q stream bytes
-  assertion_says gaps q t hs stream bytes by t_is hs_is spelled makes short = record {
+      → length bytes ≤ 6 * (trees_size hs + size t + body_weight env q) + 1 → bytes ≡ assertion_body_of env a.params ds (listed hs) t q → SaysAssertion gaps env a ds q stream bytes
+  assertion_says gaps q t hs stream bytes by t_is hs_is spelled makes short body = record {
     text =
         let sorted = all_sorted env a.params a.hyps can.hyps in
         let small = small_front (signatures env) a.params ds can.ready.small in
@@ -202,4 +205,6 @@ module _ (env : List Declaration) (a : Assertion) (ds : List Binder) (can : CanB
         let same : length stream ≡ length (stream_of (assertion_written a.params a.hyps a.conclusion).commands)
         = ap length spelled ∙ ap (λ x. length (stream_of (assertion_written a.params hs x).commands)) t_is ∙ ap (λ x. length (stream_of (assertion_written a.params x a.conclusion).commands)) hs_is in
         omega (arith, stream_short, same, short, few_nodes a.hyps, ap size t_is, ap trees_size hs_is);
+    stream_is = spelled ∙ ap (λ x. stream_of (assertion_written a.params hs x).commands) t_is ∙ ap (λ x. stream_of (assertion_written a.params x a.conclusion).commands) hs_is;
+    body_is = body ∙ ap (λ x. assertion_body_of env a.params ds (listed hs) x q) t_is ∙ ap (λ x. assertion_body_of env a.params ds (listed x) a.conclusion q) hs_is;
   }

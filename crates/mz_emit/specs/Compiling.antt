@@ -18,6 +18,7 @@ use Rattle.mz_type.specs.Weight.{Passed, Passes, IsWithinLimits, byte_bound}
 use Rattle.mz_steps.specs.SameLists.{IsSameList}
 use Rattle.mz_writing.specs.Writing.{IsWrittenAs}
 use Rattle.mz_emit.specs.Gapped.{proofs_of, IsGappedIn}
+use Rattle.mz_emit.specs.Emitting.{compiled_file}
 use Rattle.mz_emit.specs.Limits.{limit, over}
 use Rattle.mz_emit.specs.declared.compiled.Compiled.{Compiled}
 use Rattle.mz_emit.specs.declared.compiled.Compiled.TheVariants as answers
@@ -51,12 +52,14 @@ pub record IsGoodFor (gaps : Bool) (ss : List Statement) (bytes : List ℕ) : Ty
 abbrev pub IsAccepted : Standard → List Statement → List ℕ → Type 0
 IsAccepted standard ss bytes = (spec : List ℕ) (ds : List Declaration) → SpecOf spec ds → Agrees ds (publics (marked ss)) → AcceptsBy standard spec bytes
 
--- It is accepted by the published table, with gaps as a draft; and that of a finished text by address too.
+-- It is accepted by the published table, with gaps as a draft; and that of a finished text by address too. It is the file
+-- that is a function of the statements.
 pub record IsBinaryOf (gaps : Bool) (ss : List Statement) (bytes : List ℕ) : Type 0 where
   pub written : IsWritten gaps ss bytes
   pub good : IsGoodFor gaps ss bytes
   pub accepted : IsAccepted (by_table gaps) ss bytes
   pub by_address : gaps ≡ false → IsAccepted Portable ss bytes
+  pub compiled : bytes ≡ compiled_file ss
 
 -- ---- the answers
 

@@ -10,7 +10,7 @@ use Rattle.mz_logic.specs.Words.{signatures_of}
 use Rattle.mz_logic.specs.WordsWritten.{CanBeWords, words_of, result_word}
 use Rattle.mz_logic.specs.declared.binder.Binder.{Binder}
 use Rattle.mz_logic.specs.declared.binder.SortMods.{SortMods}
-use Rattle.mz_layout.specs.Normal.{Row, Written, Parts, row_of_term, row_of_thm}
+use Rattle.mz_layout.specs.Normal.{Row, Written, Parts, no_parts, row_of_term, row_of_thm, file_of}
 use Rattle.mz_layout.specs.NormalLaws.{rows_cost, statements_cost}
 use Rattle.mz_unification.specs.Sorted.{Sorted}
 use Rattle.mz_unification.specs.Streams.{of_assertion, of_definition}
@@ -28,7 +28,9 @@ use Rattle.mz_steps.specs.SharedBodies.{IsSharedBody}
 use Rattle.mz_streams.specs.Laws.{IsSmall}
 use Rattle.mz_streams.specs.SharedTexts.{IsSharedText}
 use Rattle.mz_streams.specs.SpelledLists.{list_spelled}
-use Rattle.mz_streams.specs.Writing.{body_spelled, dummies_spelled}
+use Rattle.mz_streams.specs.Writing.{stream_of, body_spelled, dummies_spelled, assertion_written as assertion_streamed, definition_written as definition_streamed}
+use Rattle.mz_steps.specs.Endings.{spelled_body}
+use Rattle.mz_bodies.specs.Writing.{definition_written, axiom_written, theorem_written}
 use Rattle.mz_writing.specs.Writing.{SaySignature, IsWrittenAs}
 use Rattle.mz_shared.specs.Rows.{words_of_row}
 use Rattle.mz_bodies.specs.Claims.{IsSound, proved}
@@ -127,12 +129,57 @@ assertion_code true is_local = 0x02
 assertion_code false true = 0x0E
 assertion_code false false = 0x06
 
+-- ---- what is written of a text, as a function of its statements
+
+abbrev pub definition_stream_of : List Binder → List Binder → Tree → List ℕ
+definition_stream_of params dummies e = stream_of (definition_streamed params dummies e).commands
+
+abbrev pub definition_body_of : List Binder → List Binder → Tree → List ℕ
+definition_body_of params dummies e = spelled_body (definition_written params dummies e).commands
+
+abbrev pub assertion_stream_of : Assertion → List ℕ
+assertion_stream_of a = stream_of (assertion_streamed a.params a.hyps a.conclusion).commands
+
+-- the body of an axiom, or of a theorem with this proof
+abbrev pub assertion_body_of : List Declaration → List Binder → List Binder → List Tree → Tree → Option Proof → List ℕ
+assertion_body_of env params dummies hyps e None = spelled_body (axiom_written params dummies hyps e).commands
+assertion_body_of env params dummies hyps e (Some p) = spelled_body (theorem_written env params dummies hyps p).commands
+
+-- a term more; a text has none whose body is left open
+abbrev pub with_form : Parts → Bool → Signature → Form → Parts
+with_form p is_local sg plain_form = with_term p (term_row sg None) (record { code = 0x05; body = [] })
+with_form p is_local sg abstract_form = p
+with_form p is_local sg (defined dummies e) =
+    with_term p (term_row sg (Some (definition_stream_of sg.params dummies e))) (record { code = definition_code is_local; body = definition_body_of sg.params dummies e })
+
+-- a statement more, local or not, with these dummies and this proof, after env
+abbrev pub with_declaration : List Declaration → Parts → Bool → List Binder → Option Proof → Declaration → Parts
+with_declaration env p is_local dummies q (sort_decl m) = with_sort p m.0
+with_declaration env p is_local dummies q (term_decl t) = with_form p is_local t.signature t.form
+with_declaration env p is_local dummies q (assertion_decl a) =
+    with_thm p (thm_row a (assertion_stream_of a)) (record { code = assertion_code a.is_axiom is_local; body = assertion_body_of env a.params dummies (listed a.hyps) a.conclusion q })
+
+abbrev pub parts_after : List Declaration → Parts → List Statement → Parts
+parts_after env p [] = p
+parts_after env p (s ∷ ss) = parts_after (env ++ s.decl ∷ []) (with_declaration env p s.is_local s.dummies s.proof s.decl) ss
+
+abbrev pub compiled_parts : List Statement → Parts
+compiled_parts ss = parts_after [] no_parts ss
+
+-- the file that the statements are compiled to
+abbrev pub compiled_file : List Statement → List ℕ
+compiled_file ss = file_of (compiled_parts ss)
+
+-- ---- what that says
+
 -- the stream spells the definition, and the body makes it, in which no gap can stand; both share what they build, and
 -- are in proportion to it
 pub record SaysDefinition (env : List Declaration) (params dummies : List Binder) (e : Tree) (stream body : List ℕ) : Type 0 where
   pub text : IsSharedText of_definition (signatures env) params stream none (body_spelled params dummies e) (dummies_spelled params dummies e)
   pub makes : (gaps : Bool) → IsSharedBody gaps env is_definition params dummies e [] body
   pub short : length stream + length body ≤ 11 * size e + 2
+  pub stream_is : stream ≡ definition_stream_of params dummies e
+  pub body_is : body ≡ definition_body_of params dummies e
 
 -- the stated proof, if there is one, is sound and proves the assertion, which else is an axiom
 abbrev pub IsProvedBy : Bool → List Declaration → List Binder → Assertion → Option Proof → Type 0
@@ -162,6 +209,8 @@ pub record SaysAssertion (gaps : Bool) (env : List Declaration) (a : Assertion) 
   pub makes : IsSharedBody gaps env (kind_of a.is_axiom) a.params dummies a.conclusion (listed a.hyps) body
   pub uses : SaysItsUses a.is_axiom stated body
   pub short : length stream + length body ≤ 16 * (trees_size a.hyps + size a.conclusion + body_weight env stated) + 2
+  pub stream_is : stream ≡ assertion_stream_of a
+  pub body_is : body ≡ assertion_body_of env a.params dummies (listed a.hyps) a.conclusion stated
 
 -- ---- all that is written, with gaps or without
 
@@ -174,6 +223,7 @@ pub record HasWritten (gaps : Bool) (ss : List Statement) (p : Parts) : Type 0 w
   pub says : IsWrittenAs gaps p (marked ss) (list_spelled (marked ss))
   pub uses : SayTheirUses ss p.statements
   pub short : cost_of p ≤ 32 * weight_of ss
+  pub parts : p ≡ compiled_parts ss
 
 -- the signatures of the terms so far
 abbrev pub table_of : Emitter → List Signature

@@ -25,7 +25,7 @@ ghost use Rattle.mz_soundness.specs.Premises.{bound_count as bound_in};
 ghost use Rattle.mz_shared.specs.Rows.{words_of_row};
 ghost use Rattle.mz_bodies.specs.Stages.{HasDummiesBehind};
 ghost use Rattle.mz_emit.specs.Emitting;
-ghost use Rattle.mz_emit.specs.Emitting.{CanBeNext, WritesNext, EmitsNext, MayFollow, CanBeDefined, CanBeAsserted, HasWords, table_of, term_row, thm_row, SaysDefinition, SaysAssertion, IsProvedBy, IsSoundIfStated, MakesBody, body_weight, HasEmitted, with_sort, with_term, with_thm};
+ghost use Rattle.mz_emit.specs.Emitting.{CanBeNext, WritesNext, EmitsNext, MayFollow, CanBeDefined, CanBeAsserted, HasWords, table_of, term_row, thm_row, SaysDefinition, SaysAssertion, IsProvedBy, IsSoundIfStated, MakesBody, body_weight, assertion_body_of, HasEmitted, with_sort, with_term, with_thm};
 
 use crate::statement::{assertion_stream, definition_stream};
 use mz_bodies::{Before, axiom_body, definition_body, theorem_body};
@@ -318,6 +318,8 @@ impl Emitter {
         ensures body { IfOk result (λ b. (gaps : Bool) → IsSoundIfStated gaps self.now.env shared.store.context (listed (trees_of shared.store hyps.now)) (stated proof.entry)
             → (ps ds : List BinderOf) → shared.store.context ≡ ps ++ ds → length ps ≡ params
             → MakesBody gaps self.now.env (stated proof.entry) ps ds (tree_of shared.store conclusion.0) (listed (trees_of shared.store hyps.now)) b.items) }
+        ensures written { IfOk result (λ b. (ps ds : List BinderOf) → shared.store.context ≡ ps ++ ds → length ps ≡ params
+            → b.items ≡ assertion_body_of self.now.env ps ds (listed (trees_of shared.store hyps.now)) (tree_of shared.store conclusion.0) (stated proof.entry)) }
         ensures short { IfOk result (λ b. length b.items
             ≤ 6 * (trees_size (trees_of shared.store hyps.now) + size (tree_of shared.store conclusion.0) + body_weight self.now.env (stated proof.entry)) + 1) }
     {

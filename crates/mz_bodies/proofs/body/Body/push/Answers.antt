@@ -13,7 +13,7 @@ pub returns-in-Some-clause-less : goal.returns-in-Some-clause-less
 returns-in-Some-clause-less c = (let a = size_some (tree_of c.args.self.now.shared.store c.args.id.0) in omega (arith, a))
 
 pub returns-in_ok-push_turned-in-Some-head-clause-does : goal.returns-in_ok-push_turned-in-Some-head-clause-does
-returns-in_ok-push_turned-in-Some-head-clause-does c = λ o d. push_parts _ o _ _ _ _ _ _ c.args.id.0 c.in-Some-head.field-0 c.args-in-Some-head.result.now _ _ _ c.in-Some-head.ensures (sym c.in_default.ensures)
+returns-in_ok-push_turned-in-Some-head-clause-does c = λ o d. push_parts _ o _ _ _ _ _ _ c.args.id.0 c.in-Some-head.field-0 c.args-in-Some-head.result.now _ _ _ c.once.ensures c.in-Some-head.ensures (sym c.in_default.ensures)
     c.args-in-Some-head.ensures.ids c.args-in-Some-head.ensures.trees
     (c.in_ok-push_turned-in-Some-head.ensures ∙ ap (λ z. pushes c.args-in-Some-head.result.now ++ z) c.in_ok-add-in-Some-head.ensures) d
 

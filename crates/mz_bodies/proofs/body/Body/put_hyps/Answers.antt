@@ -1,8 +1,6 @@
-use Rattle.std.proofs.Common.{◌≡◌, ◌*◌, length, take, refl, sym, ◌∙◌, subst, arith}
-use Rattle.mz_logic.specs.Tree.{trees_size}
-use Rattle.mz_store.specs.Sharing.{trees_of}
+use Rattle.std.proofs.Common.{◌≡◌, length, take, refl, sym, ◌∙◌, subst, arith}
 use Rattle.mz_bodies.specs.Going.{IsAfter}
-use Rattle.mz_bodies.specs.Stages.{assuming}
+use Rattle.mz_bodies.specs.Stages.{with_hyps}
 use Rattle.mz_bodies.proofs.Ends.{recounted, next_hyp, rests_next, rests_all}
 use Rattle.mz_bodies.proofs.body.Body.put_hyps.Goals as goal
 
@@ -15,19 +13,19 @@ put_hyp-requires-clause-before c = subst IsAfter (sym c.loop-id.invariant.0) c.r
 pub put_hyp-requires-clause-can : goal.put_hyp-requires-clause-can
 put_hyp-requires-clause-can c =
     let o = c.requires.can.0 in
-    let n = 6 * trees_size (trees_of o.store (take c.loop-id.id-index c.args.ids.now)) in (
-      assuming o c.loop-id.id-index n,
-      next_hyp o c.args.self.now c.loop-id.self c.args.ids.now c.loop-id.id-index n _ c.loop-id.invariant.0 c.requires.can.1 c.loop-id-test.true (c.loop-id.invariant.1 o c.requires.can.1),
+    let js = take c.loop-id.id-index c.args.ids.now in (
+      with_hyps o c.loop-id.id-index js,
+      next_hyp o c.args.self.now c.loop-id.self c.args.ids.now js c.loop-id.id-index _ c.loop-id.invariant.0 c.requires.can.1 c.loop-id-test.true (c.loop-id.invariant.1 o c.requires.can.1),
     )
 
 pub loop-id-preserved : goal.loop-id-preserved
 loop-id-preserved c = (
   c.in_ok-put_hyp.ensures.same ∙ c.loop-id.invariant.0,
   λ o all.
-      let n = 6 * trees_size (trees_of o.store (take c.loop-id.id-index c.args.ids.now)) in
+      let js = take c.loop-id.id-index c.args.ids.now in
       rests_next o c.put_hyp.new.self c.args.ids.now c.loop-id.id-index _ c.loop-id-test.true
-      (c.in_ok-put_hyp.ensures.does (assuming o c.loop-id.id-index n)
-      (next_hyp o c.args.self.now c.loop-id.self c.args.ids.now c.loop-id.id-index n _ c.loop-id.invariant.0 all c.loop-id-test.true (c.loop-id.invariant.1 o all))),
+      (c.in_ok-put_hyp.ensures.does (with_hyps o c.loop-id.id-index js)
+      (next_hyp o c.args.self.now c.loop-id.self c.args.ids.now js c.loop-id.id-index _ c.loop-id.invariant.0 all c.loop-id-test.true (c.loop-id.invariant.1 o all))),
 )
 
 pub returns-clause-does : goal.returns-clause-does

@@ -15,7 +15,7 @@ use Rattle.mz_earlier.proofs.Offered.{binders_many}
 use Rattle.mz_typing.specs.Answers.{stated}
 use Rattle.mz_shared.specs.Instances.{AreSorted}
 use Rattle.mz_shared.specs.Variables.{IsShared}
-use Rattle.mz_emit.specs.Emitting.{MakesBody, body_weight}
+use Rattle.mz_emit.specs.Emitting.{MakesBody, assertion_body_of, body_weight}
 use Rattle.mz_emit.proofs.Speaking.{few_bound, has_params, dummies_behind, few_words, held_after, conclusion_sorted, hyps_sorted, conclusion_reach, hyps_reach, hyps_provable, sound_there, assertion_says}
 use Rattle.mz_emit.proofs.emitter.Emitter.asserted.Goals as goal
 
@@ -100,3 +100,5 @@ returns c = λ gaps by.
     (subst (λ (ids : List Id). MakesBody gaps c.args.self.now.env (stated c.args.proof) (assertion_view c.args.thm.now).params c.args.dummies.now (tree_of c.hyp_ids.new.self.store c.in_ok-conclusion.conclusion.0) (listed (trees_of c.hyp_ids.new.self.store ids)) c.in_ok-body.body.items) same body)
     (subst (λ (ids : List Id). length c.in_ok-body.body.items
     ≤ 6 * (trees_size (trees_of c.hyp_ids.new.self.store ids) + size (tree_of c.hyp_ids.new.self.store c.in_ok-conclusion.conclusion.0) + body_weight c.args.self.now.env (stated c.args.proof)) + 1) same c.in_ok-body.ensures.short)
+    (subst (λ (ids : List Id). c.in_ok-body.body.items ≡ assertion_body_of c.args.self.now.env (assertion_view c.args.thm.now).params c.args.dummies.now (listed (trees_of c.hyp_ids.new.self.store ids)) (tree_of c.hyp_ids.new.self.store c.in_ok-conclusion.conclusion.0) (stated c.args.proof)) same
+    (c.in_ok-body.ensures.written (assertion_view c.args.thm.now).params c.args.dummies.now is many))

@@ -46,3 +46,4 @@ returns c =
     definition_says c.args.self.now.env (binders_of c.args.words.now.params.items) c.args.dummies.now (tree c.args.body.now) (tree_of c.id.new.self.store c.in_ok-id.id.0)
     c.in_ok-stream.stream.items c.in_ok-body.body.items c.requires.can c.in_ok-id.ensures.holds.1
     (stream (binders_of c.args.words.now.params.items) c.args.dummies.now is many) (λ gaps. body gaps (binders_of c.args.words.now.params.items) c.args.dummies.now is many) c.in_ok-body.ensures.short
+    (c.in_ok-body.ensures.written (binders_of c.args.words.now.params.items) c.args.dummies.now is many)
